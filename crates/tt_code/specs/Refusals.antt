@@ -1,0 +1,47 @@
+-- Why a program is refused, by numbers, and outcomes that may be refused. (Own: the numbers are this product's.)
+use Rattle.std.specs.Prelude.{◌≡◌, ℕ, Bool, true, false, Option, None, Some, Result, Ok, Err}
+use Rattle.tt_code.specs.declared.reason.Reason.{Reason}
+use Rattle.tt_code.specs.declared.reason.Reason.TheVariants as reason
+
+abbrev pub number_of : Reason → ℕ
+number_of reason.CannotCut = 20
+number_of reason.Structure = 21
+number_of reason.ProgramTooLong = 22
+number_of reason.Opcode = 23
+number_of reason.InstructionDefinition = 24
+number_of reason.Recursion = 25
+number_of reason.Underflow = 26
+number_of reason.Overflow = 27
+number_of reason.UnknownOperand = 28
+number_of reason.Cvt = 29
+number_of reason.Storage = 30
+number_of reason.Function = 31
+number_of reason.Point = 32
+number_of reason.Zone = 33
+number_of reason.Contour = 34
+number_of reason.Target = 35
+number_of reason.Count = 36
+number_of reason.Definition = 37
+number_of reason.DepthMismatch = 38
+number_of reason.TooManyContexts = 39
+number_of reason.NeverEnds = 40
+number_of reason.MissingPoint = 41
+number_of reason.NotCovered = 42
+
+-- a value, or the reason of the first test that fails
+abbrev pub Tested : Type 0 → Type 0
+Tested A = Result A Reason
+
+-- one test after the other: the first that fails decides
+infixl 10 ◌>>=◌
+abbrev pub ◌>>=◌ : {A B : Type 0} → Tested A → (A → Tested B) → Tested B
+(Ok x) >>= f = f x
+(Err r) >>= f = Err r
+
+abbrev pub holds_or : Bool → Reason → Tested (Unit {0})
+holds_or true r = Ok tt
+holds_or false r = Err r
+
+abbrev pub some_or : {A : Type 0} → Option A → Reason → Tested A
+some_or None r = Err r
+some_or (Some x) r = Ok x
