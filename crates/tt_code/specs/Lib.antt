@@ -1,3 +1,13 @@
 pub mod Refusals
 pub mod Table
 pub mod Entries
+pub mod Cut
+pub mod Structure
+pub mod Settings
+pub mod States
+pub mod Operands
+pub mod Changes
+pub mod Computing
+pub mod Control
+pub mod Runs
+pub mod Fonts

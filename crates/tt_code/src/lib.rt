@@ -4,10 +4,12 @@
 
 pub mod kinds;
 pub mod limits;
+pub mod machine;
 pub mod reason;
 pub mod table;
 
 pub use kinds::Effect;
-pub use limits::{Frame, Graphics, Limits};
+pub use limits::Limits;
+pub use machine::{Body, Frame, Graphics};
 pub use reason::Reason;
 pub use table::{effect, name};

@@ -1,0 +1,106 @@
+-- Where IF, ELSE and FDEF lead, and to which body an instruction belongs, as functions on a cut. (Apple TrueType Reference
+-- Manual, "Managing the flow of control", IF, ELSE and EIF, and "Defining and using functions and instructions", FDEF,
+-- IDEF and ENDF.)
+use Rattle.std.specs.Prelude.{ℕ, zero, suc, ◌+◌, List, [], ◌∷◌, Option, None, Some, Bool, true, false, length, nat_eq, if◌then◌else◌}
+use Rattle.tt_code.specs.Cut.{Instruction}
+use Rattle.tt_code.specs.declared.machine.Body.{Body}
+use Rattle.tt_code.specs.declared.machine.Body.TheVariants as body
+
+-- what an instruction is for a program's structure
+pub data Word : Type 0 where
+  If : Word
+  Else : Word
+  Eif : Word
+  Fdef : Word
+  Idef : Word
+  Endf : Word
+  Other : Word
+
+abbrev pub word_of : ℕ → Word
+word_of code =
+    if nat_eq code 0x58 then If
+    else if nat_eq code 0x1b then Else
+    else if nat_eq code 0x59 then Eif
+    else if nat_eq code 0x2c then Fdef
+    else if nat_eq code 0x89 then Idef
+    else if nat_eq code 0x2d then Endf
+    else Other
+
+unfoldable pub word : Instruction → Word
+word [] = Other
+word (code ∷ rest) = word_of code
+
+abbrev pub is_word : Word → Word → Bool
+is_word If If = true
+is_word Else Else = true
+is_word Eif Eif = true
+is_word Fdef Fdef = true
+is_word Idef Idef = true
+is_word Endf Endf = true
+is_word Other Other = true
+is_word _ _ = false
+
+-- Looking for the instruction that ends what an opening one began, while so many IFs are open inside: None where this is
+-- it, else how many are open behind it. An IF ends at its ELSE or EIF, an ELSE at its EIF, a definition at its ENDF.
+abbrev pub still_open : Word → Word → ℕ → Option ℕ
+still_open If If inside = Some (suc inside)
+still_open If Else zero = None
+still_open If Else (suc inside) = Some (suc inside)
+still_open If Eif zero = None
+still_open If Eif (suc inside) = Some inside
+still_open If _ inside = Some inside
+still_open Else If inside = Some (suc inside)
+still_open Else Eif zero = None
+still_open Else Eif (suc inside) = Some inside
+still_open Else _ inside = Some inside
+still_open _ Endf inside = None
+still_open _ _ inside = Some inside
+
+-- the offset behind the end of what the opening instruction began, in the instructions from an offset on
+abbrev pub behind_end : Word → List Instruction → ℕ → ℕ → Option ℕ
+behind_end opener [] offset inside = None
+behind_end opener (i ∷ is) offset inside = elim (still_open opener (word i) inside) [
+  | None ↦ Some (offset + length i)
+  | Some more ↦ behind_end opener is (offset + length i) more
+]
+
+-- where the opening instruction leads that stands at an offset, in the instructions from another offset on
+abbrev pub leads_from : ℕ → Word → List Instruction → ℕ → Option ℕ
+leads_from start opener [] offset = None
+leads_from start opener (i ∷ is) offset =
+    if nat_eq start offset
+    then (if is_word opener (word i) then behind_end opener is (start + length i) 0 else None)
+    else leads_from (start + length i) opener is offset
+
+abbrev pub leads : Word → List Instruction → ℕ → Option ℕ
+leads opener is offset = leads_from 0 opener is offset
+
+-- where an IF goes on 0: behind its ELSE, or without one behind its EIF
+abbrev pub after_if : List Instruction → ℕ → Option ℕ
+after_if = leads If
+
+-- where an ELSE goes that is reached: behind its EIF
+abbrev pub after_else : List Instruction → ℕ → Option ℕ
+after_else = leads Else
+
+-- where an FDEF goes: behind its ENDF
+abbrev pub after_fdef : List Instruction → ℕ → Option ℕ
+after_fdef = leads Fdef
+
+-- the body of what stands behind an instruction of a body, where the instruction ends at an offset
+abbrev pub body_behind : Body → Word → ℕ → Body
+body_behind here Fdef next = body.Function next
+body_behind here Idef next = body.Instruction next
+body_behind here Endf next = body.Main
+body_behind here _ next = here
+
+-- the body of the instruction at an offset, in instructions from another offset on that begin in a body
+abbrev pub body_from : Body → ℕ → List Instruction → ℕ → Option Body
+body_from here start [] offset = None
+body_from here start (i ∷ is) offset =
+    if nat_eq start offset then Some here
+    else body_from (body_behind here (word i) (start + length i)) (start + length i) is offset
+
+-- the body of the instruction that starts at the offset
+abbrev pub body_at : List Instruction → ℕ → Option Body
+body_at is offset = body_from body.Main 0 is offset

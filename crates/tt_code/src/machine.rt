@@ -1,0 +1,39 @@
+//! What the hint machine keeps beside its stack.
+
+/// A call that hasn't returned.
+#[derive(Clone, Copy, Debug, PartialEq, Eq)]
+pub struct Frame {
+    /// The function's body: its offset in the font program, or 2^31 more than its offset in the CVT program.
+    pub body: u32,
+    /// The offset of the CALL or LOOPCALL.
+    pub call: u32,
+    /// Which turn runs, from 1.
+    pub turn: u32,
+    /// How many turns there are: 1 for CALL.
+    pub count: u32,
+}
+
+/// The part of the graphics state that decides which points, zones and counts are in range: over numbers and zones
+/// where a machine runs, over what is known of them elsewhere.
+#[derive(Clone, Copy, Debug, PartialEq, Eq)]
+pub struct Graphics<N, Z> {
+    pub rp0: N,
+    pub rp1: N,
+    pub rp2: N,
+    pub zp0: Z,
+    pub zp1: Z,
+    pub zp2: Z,
+    /// The loop number, that SLOOP sets.
+    pub loop_number: N,
+}
+
+/// To which part of a program an instruction belongs.
+#[derive(Clone, Copy, Debug, PartialEq, Eq)]
+pub enum Body {
+    /// Outside all definitions, FDEF and IDEF themselves included.
+    Main,
+    /// Behind an FDEF, up to and with its ENDF; the offset of the body's first instruction names it.
+    Function(u32),
+    /// Behind an IDEF, up to and with its ENDF, by the offset of the first instruction. No function has this body.
+    Instruction(u32),
+}
