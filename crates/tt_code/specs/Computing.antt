@@ -1,8 +1,9 @@
 -- The instructions that push data, move the stack's elements, or compute. (Apple TrueType Reference Manual, "Pushing data
 -- onto the interpreter stack", "Managing the stack", "Logical functions", "Arithmetic and math instructions".)
-use Rattle.std.specs.Prelude.{ℕ, zero, suc, ◌+◌, ◌*◌, ℤ, pos, negsuc, ◌+ℤ◌, ◌-ℤ◌, neg_ℤ, int_lt, int_le, List, [], ◌∷◌, Result, Ok, Err, Bool, true, false, not, ◌&&◌, ◌||◌, length, map, drop, nat_lt, remove, if◌then◌else◌}
+use Rattle.std.specs.Prelude.{ℕ, zero, suc, ◌+◌, ◌*◌, ℤ, pos, negsuc, ◌+ℤ◌, ◌-ℤ◌, neg_ℤ, int_lt, int_le, List, [], ◌∷◌, Result, Ok, Err, Bool, true, false, not, ◌&&◌, ◌||◌, length, map, nat_lt, remove, if◌then◌else◌}
 use Rattle.tt_code.specs.Refusals.{Tested, ◌>>=◌}
 use Rattle.tt_code.specs.States.{Machine, Value, Exactly, Anything, Outcome, leaves, is_number, is_true}
+use Rattle.tt_code.specs.Cut.{data_behind}
 use Rattle.tt_code.specs.Operands.{top}
 use Rattle.tt_code.specs.declared.reason.Reason.TheVariants as reason
 use Rattle.tt_code.specs.declared.kinds.Push.{Push}
@@ -21,18 +22,18 @@ abbrev pub words : List ℕ → List ℤ
 words (high ∷ low ∷ rest) = word_number high low ∷ words rest
 words _ = []
 
--- the numbers that stand behind the code of a push instruction
+-- the numbers that the data of a push instruction spell
 abbrev pub numbers_in : Push → List ℕ → List ℤ
-numbers_in CountedBytes rest = map pos (drop 1 rest)
-numbers_in CountedWords rest = words (drop 1 rest)
-numbers_in (Bytes n) rest = map pos rest
-numbers_in (Words n) rest = words rest
+numbers_in CountedBytes bytes = map pos bytes
+numbers_in CountedWords bytes = words bytes
+numbers_in (Bytes n) bytes = map pos bytes
+numbers_in (Words n) bytes = words bytes
 
 abbrev pub exactly : List ℤ → List Value
 exactly zs = map Exactly zs
 
 abbrev pub pushed : Push → Machine → List ℕ → Outcome
-pushed push m rest = leaves m m.stack (exactly (numbers_in push rest))
+pushed push m rest = leaves m m.stack (exactly (numbers_in push (data_behind push rest)))
 
 -- Stack instructions. For CINDEX and MINDEX the index counts from 1, the top once the index is taken; an index below 1 is a
 -- bad count, one above the depth an underflow (own).

@@ -1,8 +1,9 @@
 -- Programs cut into instructions. A program is a list of bytes, an instruction the list of its bytes. (Apple TrueType
 -- Reference Manual, "Instructions", the push instructions: only they are longer than one byte.)
-use Rattle.std.specs.Prelude.{◌≡◌, ℕ, zero, suc, ◌+◌, ◌*◌, ◌-◌, ◌<◌, ◌≤◌, List, [], ◌∷◌, ◌++◌, Option, None, Some, length, nat_lt, if◌then◌else◌}
+use Rattle.std.specs.Prelude.{◌≡◌, ℕ, zero, suc, ◌+◌, ◌*◌, ◌-◌, ◌<◌, ◌≤◌, List, [], ◌∷◌, ◌++◌, Option, None, Some, length, drop, nat_lt, if◌then◌else◌}
 use Rattle.std.specs.List.{concat, AllByRecursion}
 use Rattle.tt_code.specs.Table.{Meaning, NoEntry, Plain, Pushes, Stack, Computes, Controls, effect_of}
+use Rattle.tt_code.specs.declared.kinds.Push.{Push}
 use Rattle.tt_code.specs.declared.kinds.Push.TheVariants.{CountedBytes, CountedWords, Bytes, Words}
 
 abbrev pub Instruction : Type 0
@@ -26,6 +27,30 @@ data_length (Controls op) rest = Some 0
 abbrev pub IsInstruction : List ℕ → Type 0
 IsInstruction [] = ⊥
 IsInstruction (code ∷ rest) = data_length (effect_of code) rest ≡ Some (length rest)
+
+-- the data of a push instruction, among the bytes behind its code: all of them but a count byte
+abbrev pub data_behind : Push → List ℕ → List ℕ
+data_behind CountedBytes rest = drop 1 rest
+data_behind CountedWords rest = drop 1 rest
+data_behind (Bytes n) rest = rest
+data_behind (Words n) rest = rest
+
+abbrev pub data_in : Meaning → List ℕ → List ℕ
+data_in (Pushes push) rest = data_behind push rest
+data_in NoEntry rest = []
+data_in (Plain lists) rest = []
+data_in (Stack op) rest = []
+data_in (Computes op) rest = []
+data_in (Controls op) rest = []
+
+-- an instruction's code, and its data: those of a push, else none
+abbrev pub code_of : Instruction → Option ℕ
+code_of [] = None
+code_of (code ∷ rest) = Some code
+
+abbrev pub data_of : Instruction → List ℕ
+data_of [] = []
+data_of (code ∷ rest) = data_in (effect_of code) rest
 
 -- how many bytes the instructions have, which is the offset of what comes behind them
 abbrev pub size : List Instruction → ℕ

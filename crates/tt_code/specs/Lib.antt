@@ -2,6 +2,7 @@ pub mod Refusals
 pub mod Table
 pub mod Entries
 pub mod Cut
+pub mod Laid
 pub mod Structure
 pub mod Settings
 pub mod States

@@ -1,0 +1,70 @@
+//! One instruction of a program.
+
+ghost use Rattle.std.specs.Prelude.{◌≡◌, ℕ, List, Some, length};
+ghost use Rattle.tt_code.specs.Cut.{code_of, data_of};
+ghost use Rattle.tt_code.specs.Laid.{IsHeld};
+
+use crate::kinds::{Effect, Push};
+use crate::table::effect;
+use std::marker::Model;
+
+/// An instruction: its code, and behind it the data of a push instruction. Contracts see its bytes.
+#[derive(Drop)]
+pub struct Instr<'a> {
+    bytes: &'a [u8],
+}
+
+impl<'a> Model for Instr<'a> {
+    ghost Value = { List ℕ };
+
+    ghost view = { λ i. i.bytes.now };
+
+    ghost invariant = { λ i. IsHeld i.bytes.now };
+}
+
+impl<'a> Instr<'a> {
+    /// The instruction of these bytes.
+    pub(crate) fn new(bytes: &'a [u8]) -> Self
+        requires { IsHeld bytes.now }
+        ensures { result ≡ bytes.entry.now }
+    {
+        Instr { bytes }
+    }
+
+    /// The instruction's code.
+    pub fn code(&self) -> u8
+        ensures { code_of self.now ≡ Some result }
+    {
+        match self.bytes {
+            [] => unreachable!(),
+            [code, ..] => *code,
+        }
+    }
+
+    /// How many bytes the instruction has.
+    pub fn len(&self) -> u32
+        ensures { result ≡ length self.now }
+    {
+        self.bytes.len() as u32
+    }
+
+    /// All bytes of the instruction.
+    pub fn bytes(&self) -> &'a [u8]
+        ensures { result.now ≡ self.now }
+    {
+        self.bytes
+    }
+
+    /// What a push instruction pushes, as bytes or words of two bytes; empty for every other one.
+    pub fn data(&self) -> &'a [u8]
+        ensures { result.now ≡ data_of self.now }
+    {
+        match self.bytes {
+            [code, rest @ ..] => match effect(*code) {
+                Effect::Push(Push::CountedBytes | Push::CountedWords) => &rest[1..],
+                _ => rest,
+            },
+            [] => unreachable!(),
+        }
+    }
+}
