@@ -1,0 +1,4 @@
+pub mod ActLemmas
+pub mod PlaceLemmas
+pub mod RunLemmas
+pub mod JudgeLemmas

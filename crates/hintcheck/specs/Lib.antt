@@ -1,0 +1,6 @@
+pub mod Maxp
+pub mod Covered
+pub mod Straight
+pub mod Bare
+pub mod Verdicts
+pub mod Judging

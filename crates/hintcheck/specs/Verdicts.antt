@@ -1,0 +1,9 @@
+-- Verdicts as contracts see them.
+use Rattle.std.specs.Prelude.{ℕ, List}
+use Rattle.hintcheck.specs.declared.verdict.Refused.{Refused}
+
+pub record Judgement : Type 0 where
+  -- how many programs there are
+  pub programs : ℕ
+  -- those that are refused, in their order
+  pub refused : List Refused

@@ -1,0 +1,107 @@
+//! What is said of a font's programs.
+
+ghost use Rattle.std.specs.Prelude.{◌≡◌, ◌↔◌, [], IsTrue};
+ghost use Rattle.hintcheck.specs.Verdicts.{Judgement};
+
+use std::fmt;
+use std::marker::Model;
+use tt_code::Reason;
+
+/// A program of a font.
+#[derive(Clone, Copy, Debug, PartialEq, Eq)]
+pub enum Name {
+    /// The font program, `fpgm`.
+    Font,
+    /// The CVT program, `prep`.
+    Cvt,
+    /// The program of the glyph with this number.
+    Glyph(u16),
+}
+
+impl fmt::Display for Name {
+    fn fmt<W: fmt::Write>(&self, f: &mut fmt::Formatter<W>) -> fmt::Result {
+        match self {
+            Name::Font => f.write_str("f"),
+            Name::Cvt => f.write_str("p"),
+            Name::Glyph(id) => write!(f, "g{id}"),
+        }
+    }
+}
+
+/// An offset in a program.
+#[derive(Clone, Copy, Debug, PartialEq, Eq)]
+pub struct Place {
+    /// The program in which the offset stands: of a function's instruction the one in which its body stands.
+    pub program: Name,
+    pub offset: u32,
+}
+
+impl fmt::Display for Place {
+    fn fmt<W: fmt::Write>(&self, f: &mut fmt::Formatter<W>) -> fmt::Result {
+        write!(f, "{}:{}", self.program, self.offset)
+    }
+}
+
+/// A program that is refused, where and why.
+#[derive(Clone, Copy, Debug, PartialEq, Eq)]
+pub struct Refused {
+    pub program: Name,
+    pub place: Place,
+    pub reason: Reason,
+}
+
+impl fmt::Display for Refused {
+    fn fmt<W: fmt::Write>(&self, f: &mut fmt::Formatter<W>) -> fmt::Result {
+        write!(
+            f,
+            "refused {} at {}: {} {}",
+            self.program,
+            self.place,
+            self.reason.number(),
+            self.reason
+        )
+    }
+}
+
+/// How many programs were looked at, and which of them are refused, in their order.
+#[derive(Drop)]
+pub struct Verdict {
+    programs: u32,
+    refused: Vec<Refused>,
+}
+
+impl Model for Verdict {
+    ghost Value = { Judgement };
+
+    ghost view = { λ v. record { programs = v.programs; refused = v.refused.items } };
+}
+
+impl Verdict {
+    /// A verdict on so many programs, of which these are refused.
+    pub(crate) fn new(programs: u32, refused: Vec<Refused>) -> Self
+        ensures { result ≡ record { programs = programs; refused = refused.items } }
+    {
+        Verdict { programs, refused }
+    }
+
+    /// How many programs there are.
+    pub fn programs(&self) -> u32
+        ensures { result ≡ self.now.programs }
+    {
+        self.programs
+    }
+
+    /// The refused programs, in their order.
+    pub fn refused(&self) -> &[Refused]
+        ensures { result.now ≡ self.now.refused }
+    {
+        &self.refused
+    }
+
+    /// Is no program refused?
+    pub fn accepted(&self) -> bool
+        ensures { IsTrue result ↔ (self.now.refused ≡ []) }
+    {
+        self.refused.is_empty()
+    }
+}
