@@ -1,20 +1,23 @@
 -- What each line of the instruction table says, seen on one instruction by itself. Stacks have their top first.
-use Rattle.std.proofs.Common.{◌≡◌, ℕ, List, [], ◌∷◌, map, refl}
-use Rattle.std.specs.Prelude.{ℤ, pos, negsuc}
+use Rattle.std.proofs.Common.{[], ◌∷◌, refl}
+use Rattle.std.specs.Prelude.{pos, negsuc}
+use Rattle.tt_code.specs.Entries.{codes_from}
 use Rattle.tt_code.specs.Settings.{Zero, One}
 use Rattle.tt_code.specs.declared.reason.Reason.TheVariants as reason
-use Rattle.tt_code.proofs.Running.{performed, usual_limits, zones, untouched, goes_on_with, each_does, each_leaves, each_takes, each_faults, each_faults_by}
+use Rattle.tt_code.proofs.Running.{performed, usual_limits, zones, goes_on_with, each_does, each_leaves, each_leaves_by, each_takes, each_faults, each_faults_by}
 
 -- Instructions that take nothing.
 settings_of_vectors_and_rounding_change_nothing :
-    each_takes (0x00 ∷ 0x01 ∷ 0x02 ∷ 0x03 ∷ 0x04 ∷ 0x05 ∷ 0x0e ∷ 0x18 ∷ 0x19 ∷ 0x30 ∷ 0x31 ∷ 0x3d ∷ 0x4d ∷ 0x4e ∷ 0x59 ∷ 0x7a
-      ∷ 0x7c ∷ 0x7d ∷ []) (zones One One One) (pos 5 ∷ []) (pos 5 ∷ [])
+    each_takes
+      (0x00 ∷ 0x01 ∷ 0x02 ∷ 0x03 ∷ 0x04 ∷ 0x05 ∷ 0x0e ∷ 0x18 ∷ 0x19 ∷ 0x30 ∷ 0x31 ∷ 0x3d ∷ 0x4d ∷ 0x4e ∷ 0x59 ∷ 0x7a ∷ 0x7c
+       ∷ 0x7d ∷ []) (zones One One One) (pos 5 ∷ []) (pos 5 ∷ [])
 unfolding performed
 settings_of_vectors_and_rounding_change_nothing = refl
 
 settings_of_vectors_and_rounding_need_no_element :
-    each_takes (0x00 ∷ 0x01 ∷ 0x02 ∷ 0x03 ∷ 0x04 ∷ 0x05 ∷ 0x0e ∷ 0x18 ∷ 0x19 ∷ 0x30 ∷ 0x31 ∷ 0x3d ∷ 0x4d ∷ 0x4e ∷ 0x59 ∷ 0x7a
-      ∷ 0x7c ∷ 0x7d ∷ []) (zones Zero Zero Zero) [] []
+    each_takes
+      (0x00 ∷ 0x01 ∷ 0x02 ∷ 0x03 ∷ 0x04 ∷ 0x05 ∷ 0x0e ∷ 0x18 ∷ 0x19 ∷ 0x30 ∷ 0x31 ∷ 0x3d ∷ 0x4d ∷ 0x4e ∷ 0x59 ∷ 0x7a ∷ 0x7c
+       ∷ 0x7d ∷ []) (zones Zero Zero Zero) [] []
 unfolding performed
 settings_of_vectors_and_rounding_need_no_element = refl
 
@@ -34,14 +37,14 @@ sizes_are_measured = refl
 
 -- Instructions that take any numbers.
 settings_take_any_number :
-    each_takes (0x1a ∷ 0x1d ∷ 0x1e ∷ 0x1f ∷ 0x4f ∷ 0x5e ∷ 0x5f ∷ 0x76 ∷ 0x77 ∷ 0x7e ∷ 0x7f ∷ 0x85 ∷ 0x8d ∷ []) (zones One One
-      One) (negsuc 0 ∷ pos 6 ∷ []) (pos 6 ∷ [])
+    each_takes (0x1a ∷ 0x1d ∷ 0x1e ∷ 0x1f ∷ 0x4f ∷ 0x5e ∷ 0x5f ∷ 0x76 ∷ 0x77 ∷ 0x7e ∷ 0x7f ∷ 0x85 ∷ 0x8d ∷ [])
+      (zones One One One) (negsuc 0 ∷ pos 6 ∷ []) (pos 6 ∷ [])
 unfolding performed
 settings_take_any_number = refl
 
 settings_need_a_number :
-    each_faults (0x1a ∷ 0x1d ∷ 0x1e ∷ 0x1f ∷ 0x4f ∷ 0x5e ∷ 0x5f ∷ 0x76 ∷ 0x77 ∷ 0x7e ∷ 0x7f ∷ 0x85 ∷ 0x8d ∷ []) (zones One One
-      One) ([] ∷ []) reason.Underflow
+    each_faults (0x1a ∷ 0x1d ∷ 0x1e ∷ 0x1f ∷ 0x4f ∷ 0x5e ∷ 0x5f ∷ 0x76 ∷ 0x77 ∷ 0x7e ∷ 0x7f ∷ 0x85 ∷ 0x8d ∷ [])
+      (zones One One One) ([] ∷ []) reason.Underflow
 unfolding performed
 settings_need_a_number = refl
 
@@ -56,14 +59,14 @@ unfolding performed
 vectors_from_the_stack_need_two_numbers = refl
 
 roundings_take_a_number_and_push_any :
-    each_takes (0x56 ∷ 0x57 ∷ 0x66 ∷ 0x67 ∷ 0x68 ∷ 0x69 ∷ 0x6a ∷ 0x6b ∷ 0x6c ∷ 0x6d ∷ 0x6e ∷ 0x6f ∷ 0x88 ∷ []) (zones One One
-      One) (negsuc 0 ∷ pos 6 ∷ []) (pos 7 ∷ pos 6 ∷ [])
+    each_takes (0x56 ∷ 0x57 ∷ 0x66 ∷ 0x67 ∷ 0x68 ∷ 0x69 ∷ 0x6a ∷ 0x6b ∷ 0x6c ∷ 0x6d ∷ 0x6e ∷ 0x6f ∷ 0x88 ∷ [])
+      (zones One One One) (negsuc 0 ∷ pos 6 ∷ []) (pos 7 ∷ pos 6 ∷ [])
 unfolding performed
 roundings_take_a_number_and_push_any = refl
 
 roundings_need_a_number :
-    each_faults (0x56 ∷ 0x57 ∷ 0x66 ∷ 0x67 ∷ 0x68 ∷ 0x69 ∷ 0x6a ∷ 0x6b ∷ 0x6c ∷ 0x6d ∷ 0x6e ∷ 0x6f ∷ 0x88 ∷ []) (zones One One
-      One) ([] ∷ []) reason.Underflow
+    each_faults (0x56 ∷ 0x57 ∷ 0x66 ∷ 0x67 ∷ 0x68 ∷ 0x69 ∷ 0x6a ∷ 0x6b ∷ 0x6c ∷ 0x6d ∷ 0x6e ∷ 0x6f ∷ 0x88 ∷ [])
+      (zones One One One) ([] ∷ []) reason.Underflow
 unfolding performed
 roundings_need_a_number = refl
 
@@ -84,14 +87,14 @@ unfolding performed
 lines_take_two_points_of_zp1_and_zp2 = refl
 
 lines_test_both_points_in_zp1 :
-    each_faults (0x06 ∷ 0x07 ∷ 0x08 ∷ 0x09 ∷ 0x86 ∷ 0x87 ∷ []) (zones Zero One Zero) ((pos 8 ∷ pos 0 ∷ []) ∷ (pos 0 ∷ pos 8 ∷
-      []) ∷ (negsuc 0 ∷ pos 0 ∷ []) ∷ []) reason.Point
+    each_faults (0x06 ∷ 0x07 ∷ 0x08 ∷ 0x09 ∷ 0x86 ∷ 0x87 ∷ []) (zones Zero One Zero)
+      ((pos 8 ∷ pos 0 ∷ []) ∷ (pos 0 ∷ pos 8 ∷ []) ∷ (negsuc 0 ∷ pos 0 ∷ []) ∷ []) reason.Point
 unfolding performed
 lines_test_both_points_in_zp1 = refl
 
 lines_test_both_points_in_zp2 :
-    each_faults (0x06 ∷ 0x07 ∷ 0x08 ∷ 0x09 ∷ 0x86 ∷ 0x87 ∷ []) (zones Zero Zero One) ((pos 8 ∷ pos 0 ∷ []) ∷ (pos 0 ∷ pos 8 ∷
-      []) ∷ (pos 8 ∷ []) ∷ []) reason.Point
+    each_faults (0x06 ∷ 0x07 ∷ 0x08 ∷ 0x09 ∷ 0x86 ∷ 0x87 ∷ []) (zones Zero Zero One)
+      ((pos 8 ∷ pos 0 ∷ []) ∷ (pos 0 ∷ pos 8 ∷ []) ∷ (pos 8 ∷ []) ∷ []) reason.Point
 unfolding performed
 lines_test_both_points_in_zp2 = refl
 
@@ -155,14 +158,14 @@ unfolding performed
 isect_takes_a_point_of_zp2_last = refl
 
 isect_tests_two_points_in_zp0 :
-    each_faults (0x0f ∷ []) (zones One Zero Zero) ((pos 8 ∷ pos 0 ∷ pos 0 ∷ pos 0 ∷ pos 0 ∷ []) ∷ (pos 0 ∷ pos 8 ∷ pos 0 ∷ pos
-      0 ∷ pos 0 ∷ []) ∷ []) reason.Point
+    each_faults (0x0f ∷ []) (zones One Zero Zero)
+      ((pos 8 ∷ pos 0 ∷ pos 0 ∷ pos 0 ∷ pos 0 ∷ []) ∷ (pos 0 ∷ pos 8 ∷ pos 0 ∷ pos 0 ∷ pos 0 ∷ []) ∷ []) reason.Point
 unfolding performed
 isect_tests_two_points_in_zp0 = refl
 
 isect_tests_two_points_in_zp1 :
-    each_faults (0x0f ∷ []) (zones Zero One Zero) ((pos 0 ∷ pos 0 ∷ pos 8 ∷ pos 0 ∷ pos 0 ∷ []) ∷ (pos 0 ∷ pos 0 ∷ pos 0 ∷ pos
-      8 ∷ pos 0 ∷ []) ∷ []) reason.Point
+    each_faults (0x0f ∷ []) (zones Zero One Zero)
+      ((pos 0 ∷ pos 0 ∷ pos 8 ∷ pos 0 ∷ pos 0 ∷ []) ∷ (pos 0 ∷ pos 0 ∷ pos 0 ∷ pos 8 ∷ pos 0 ∷ []) ∷ []) reason.Point
 unfolding performed
 isect_tests_two_points_in_zp1 = refl
 
@@ -172,27 +175,28 @@ unfolding performed
 isect_tests_a_point_in_zp2 = refl
 
 isect_needs_five_points :
-    each_faults (0x0f ∷ []) (zones Zero Zero Zero) ([] ∷ (pos 0 ∷ []) ∷ (pos 0 ∷ pos 0 ∷ []) ∷ (pos 0 ∷ pos 0 ∷ pos 0 ∷ []) ∷
-      (pos 0 ∷ pos 0 ∷ pos 0 ∷ pos 0 ∷ []) ∷ []) reason.Underflow
+    each_faults (0x0f ∷ []) (zones Zero Zero Zero)
+      ([] ∷ (pos 0 ∷ []) ∷ (pos 0 ∷ pos 0 ∷ []) ∷ (pos 0 ∷ pos 0 ∷ pos 0 ∷ []) ∷ (pos 0 ∷ pos 0 ∷ pos 0 ∷ pos 0 ∷ []) ∷ [])
+      reason.Underflow
 unfolding performed
 isect_needs_five_points = refl
 
 -- Reference points, zone pointers and the loop number.
 srp0_sets_its_reference_point_unchecked :
-    each_leaves (0x10 ∷ []) ((zones One One One)) (negsuc 0 ∷ pos 6 ∷ []) (pos 6 ∷ []) (record (zones One One One) { rp0 =
-      negsuc 0 })
+    each_leaves (0x10 ∷ []) (zones One One One) (negsuc 0 ∷ pos 6 ∷ []) (pos 6 ∷ [])
+      (record (zones One One One) { rp0 = negsuc 0 })
 unfolding performed
 srp0_sets_its_reference_point_unchecked = refl
 
 srp1_sets_its_reference_point_unchecked :
-    each_leaves (0x11 ∷ []) ((zones One One One)) (negsuc 0 ∷ pos 6 ∷ []) (pos 6 ∷ []) (record (zones One One One) { rp1 =
-      negsuc 0 })
+    each_leaves (0x11 ∷ []) (zones One One One) (negsuc 0 ∷ pos 6 ∷ []) (pos 6 ∷ [])
+      (record (zones One One One) { rp1 = negsuc 0 })
 unfolding performed
 srp1_sets_its_reference_point_unchecked = refl
 
 srp2_sets_its_reference_point_unchecked :
-    each_leaves (0x12 ∷ []) ((zones One One One)) (negsuc 0 ∷ pos 6 ∷ []) (pos 6 ∷ []) (record (zones One One One) { rp2 =
-      negsuc 0 })
+    each_leaves (0x12 ∷ []) (zones One One One) (negsuc 0 ∷ pos 6 ∷ []) (pos 6 ∷ [])
+      (record (zones One One One) { rp2 = negsuc 0 })
 unfolding performed
 srp2_sets_its_reference_point_unchecked = refl
 
@@ -201,35 +205,35 @@ unfolding performed
 reference_points_need_a_number = refl
 
 szp0_sets_its_pointer_to_the_twilight_zone :
-    each_leaves (0x13 ∷ []) ((zones One One One)) (pos 0 ∷ pos 6 ∷ []) (pos 6 ∷ []) (record (zones One One One) { zp0 = Zero })
+    each_leaves (0x13 ∷ []) (zones One One One) (pos 0 ∷ pos 6 ∷ []) (pos 6 ∷ []) (record (zones One One One) { zp0 = Zero })
 unfolding performed
 szp0_sets_its_pointer_to_the_twilight_zone = refl
 
 szp0_sets_its_pointer_to_the_glyph_zone :
-    each_leaves (0x13 ∷ []) ((zones Zero Zero Zero)) (pos 1 ∷ pos 6 ∷ []) (pos 6 ∷ []) (record (zones Zero Zero Zero) { zp0 =
-      One })
+    each_leaves (0x13 ∷ []) (zones Zero Zero Zero) (pos 1 ∷ pos 6 ∷ []) (pos 6 ∷ [])
+      (record (zones Zero Zero Zero) { zp0 = One })
 unfolding performed
 szp0_sets_its_pointer_to_the_glyph_zone = refl
 
 szp1_sets_its_pointer_to_the_twilight_zone :
-    each_leaves (0x14 ∷ []) ((zones One One One)) (pos 0 ∷ pos 6 ∷ []) (pos 6 ∷ []) (record (zones One One One) { zp1 = Zero })
+    each_leaves (0x14 ∷ []) (zones One One One) (pos 0 ∷ pos 6 ∷ []) (pos 6 ∷ []) (record (zones One One One) { zp1 = Zero })
 unfolding performed
 szp1_sets_its_pointer_to_the_twilight_zone = refl
 
 szp1_sets_its_pointer_to_the_glyph_zone :
-    each_leaves (0x14 ∷ []) ((zones Zero Zero Zero)) (pos 1 ∷ pos 6 ∷ []) (pos 6 ∷ []) (record (zones Zero Zero Zero) { zp1 =
-      One })
+    each_leaves (0x14 ∷ []) (zones Zero Zero Zero) (pos 1 ∷ pos 6 ∷ []) (pos 6 ∷ [])
+      (record (zones Zero Zero Zero) { zp1 = One })
 unfolding performed
 szp1_sets_its_pointer_to_the_glyph_zone = refl
 
 szp2_sets_its_pointer_to_the_twilight_zone :
-    each_leaves (0x15 ∷ []) ((zones One One One)) (pos 0 ∷ pos 6 ∷ []) (pos 6 ∷ []) (record (zones One One One) { zp2 = Zero })
+    each_leaves (0x15 ∷ []) (zones One One One) (pos 0 ∷ pos 6 ∷ []) (pos 6 ∷ []) (record (zones One One One) { zp2 = Zero })
 unfolding performed
 szp2_sets_its_pointer_to_the_twilight_zone = refl
 
 szp2_sets_its_pointer_to_the_glyph_zone :
-    each_leaves (0x15 ∷ []) ((zones Zero Zero Zero)) (pos 1 ∷ pos 6 ∷ []) (pos 6 ∷ []) (record (zones Zero Zero Zero) { zp2 =
-      One })
+    each_leaves (0x15 ∷ []) (zones Zero Zero Zero) (pos 1 ∷ pos 6 ∷ []) (pos 6 ∷ [])
+      (record (zones Zero Zero Zero) { zp2 = One })
 unfolding performed
 szp2_sets_its_pointer_to_the_glyph_zone = refl
 
@@ -253,8 +257,8 @@ unfolding performed
 zone_pointers_need_a_zone = refl
 
 sloop_sets_the_loop_number_unchecked :
-    each_leaves (0x17 ∷ []) ((zones One One One)) (negsuc 0 ∷ pos 6 ∷ []) (pos 6 ∷ []) (record (zones One One One) {
-      loop_number = negsuc 0 })
+    each_leaves (0x17 ∷ []) (zones One One One) (negsuc 0 ∷ pos 6 ∷ []) (pos 6 ∷ [])
+      (record (zones One One One) { loop_number = negsuc 0 })
 unfolding performed
 sloop_sets_the_loop_number_unchecked = refl
 
@@ -276,8 +280,8 @@ unfolding performed
 utp_needs_a_point = refl
 
 mdap_sets_two_reference_points :
-    each_leaves (0x2e ∷ 0x2f ∷ []) ((zones Zero One One)) (pos 11 ∷ pos 6 ∷ []) (pos 6 ∷ []) (record (zones Zero One One) {
-      rp0 = pos 11; rp1 = pos 11 })
+    each_leaves (0x2e ∷ 0x2f ∷ []) (zones Zero One One) (pos 11 ∷ pos 6 ∷ []) (pos 6 ∷ [])
+      (record (zones Zero One One) { rp0 = pos 11; rp1 = pos 11 })
 unfolding performed
 mdap_sets_two_reference_points = refl
 
@@ -291,14 +295,14 @@ unfolding performed
 mdap_needs_a_point = refl
 
 miap_sets_two_reference_points :
-    each_leaves (0x3e ∷ 0x3f ∷ []) ((zones Zero One One)) (pos 9 ∷ pos 11 ∷ pos 6 ∷ []) (pos 6 ∷ []) (record (zones Zero One
-      One) { rp0 = pos 11; rp1 = pos 11 })
+    each_leaves (0x3e ∷ 0x3f ∷ []) (zones Zero One One) (pos 9 ∷ pos 11 ∷ pos 6 ∷ []) (pos 6 ∷ [])
+      (record (zones Zero One One) { rp0 = pos 11; rp1 = pos 11 })
 unfolding performed
 miap_sets_two_reference_points = refl
 
 miap_tests_its_control_value_first :
-    each_faults (0x3e ∷ 0x3f ∷ []) (zones One Zero Zero) ((pos 10 ∷ pos 8 ∷ []) ∷ (pos 10 ∷ []) ∷ (negsuc 0 ∷ pos 8 ∷ []) ∷
-      []) reason.Cvt
+    each_faults (0x3e ∷ 0x3f ∷ []) (zones One Zero Zero)
+      ((pos 10 ∷ pos 8 ∷ []) ∷ (pos 10 ∷ []) ∷ (negsuc 0 ∷ pos 8 ∷ []) ∷ []) reason.Cvt
 unfolding performed
 miap_tests_its_control_value_first = refl
 
@@ -314,26 +318,26 @@ miap_needs_a_control_value_and_a_point = refl
 
 -- Points, contours and zones that are shifted by a reference point.
 shp_uses_rp2_in_zp1 :
-    each_leaves (0x32 ∷ []) ((record (zones One One Zero) { rp2 = pos 7 })) (pos 11 ∷ pos 10 ∷ pos 6 ∷ []) (pos 6 ∷ [])
+    each_leaves (0x32 ∷ []) (record (zones One One Zero) { rp2 = pos 7 }) (pos 11 ∷ pos 10 ∷ pos 6 ∷ []) (pos 6 ∷ [])
       (record (record (zones One One Zero) { rp2 = pos 7 }) { loop_number = pos 1 })
 unfolding performed
 shp_uses_rp2_in_zp1 = refl
 
 shp_tests_rp2_in_zp1_behind_its_points :
-    each_faults (0x32 ∷ []) (record (zones Zero One Zero) { rp0 = pos 0; rp1 = pos 0; rp2 = pos 8 }) ((pos 11 ∷ pos 10 ∷ []) ∷
-      []) reason.Point
+    each_faults (0x32 ∷ []) (record (zones Zero One Zero) { rp0 = pos 0; rp1 = pos 0; rp2 = pos 8 })
+      ((pos 11 ∷ pos 10 ∷ []) ∷ []) reason.Point
 unfolding performed
 shp_tests_rp2_in_zp1_behind_its_points = refl
 
 shp_takes_its_points_before_it_tests_rp2 :
-    each_faults (0x32 ∷ []) (record (zones Zero One Zero) { rp0 = pos 0; rp1 = pos 0; rp2 = pos 8 }) ([] ∷ (pos 11 ∷ []) ∷ [])
-      reason.Underflow
+    each_faults (0x32 ∷ []) (record (zones Zero One Zero) { rp0 = pos 0; rp1 = pos 0; rp2 = pos 8 })
+      ([] ∷ (pos 11 ∷ []) ∷ []) reason.Underflow
 unfolding performed
 shp_takes_its_points_before_it_tests_rp2 = refl
 
 shp_by_rp2_tests_its_points_in_zp2 :
-    each_faults (0x32 ∷ []) (record (zones Zero Zero One) { rp2 = pos 0 }) ((pos 8 ∷ pos 0 ∷ []) ∷ (pos 0 ∷ pos 8 ∷ []) ∷
-      (negsuc 0 ∷ pos 0 ∷ []) ∷ []) reason.Point
+    each_faults (0x32 ∷ []) (record (zones Zero Zero One) { rp2 = pos 0 })
+      ((pos 8 ∷ pos 0 ∷ []) ∷ (pos 0 ∷ pos 8 ∷ []) ∷ (negsuc 0 ∷ pos 0 ∷ []) ∷ []) reason.Point
 unfolding performed
 shp_by_rp2_tests_its_points_in_zp2 = refl
 
@@ -343,7 +347,7 @@ unfolding performed
 shp_by_rp2_refuses_a_negative_loop_number_first = refl
 
 shp_by_rp2_takes_no_point_for_loop_number_zero :
-    each_leaves (0x32 ∷ []) ((record (zones One One One) { rp2 = pos 7; loop_number = pos 0 })) (pos 6 ∷ []) (pos 6 ∷ [])
+    each_leaves (0x32 ∷ []) (record (zones One One One) { rp2 = pos 7; loop_number = pos 0 }) (pos 6 ∷ []) (pos 6 ∷ [])
       (record (record (zones One One One) { rp2 = pos 7; loop_number = pos 0 }) { loop_number = pos 1 })
 unfolding performed
 shp_by_rp2_takes_no_point_for_loop_number_zero = refl
@@ -354,26 +358,26 @@ unfolding performed
 shp_tests_rp2_for_loop_number_zero_too = refl
 
 shp_uses_rp1_in_zp0 :
-    each_leaves (0x33 ∷ []) ((record (zones One One Zero) { rp1 = pos 7 })) (pos 11 ∷ pos 10 ∷ pos 6 ∷ []) (pos 6 ∷ [])
+    each_leaves (0x33 ∷ []) (record (zones One One Zero) { rp1 = pos 7 }) (pos 11 ∷ pos 10 ∷ pos 6 ∷ []) (pos 6 ∷ [])
       (record (record (zones One One Zero) { rp1 = pos 7 }) { loop_number = pos 1 })
 unfolding performed
 shp_uses_rp1_in_zp0 = refl
 
 shp_tests_rp1_in_zp0_behind_its_points :
-    each_faults (0x33 ∷ []) (record (zones One Zero Zero) { rp0 = pos 0; rp1 = pos 8; rp2 = pos 0 }) ((pos 11 ∷ pos 10 ∷ []) ∷
-      []) reason.Point
+    each_faults (0x33 ∷ []) (record (zones One Zero Zero) { rp0 = pos 0; rp1 = pos 8; rp2 = pos 0 })
+      ((pos 11 ∷ pos 10 ∷ []) ∷ []) reason.Point
 unfolding performed
 shp_tests_rp1_in_zp0_behind_its_points = refl
 
 shp_takes_its_points_before_it_tests_rp1 :
-    each_faults (0x33 ∷ []) (record (zones One Zero Zero) { rp0 = pos 0; rp1 = pos 8; rp2 = pos 0 }) ([] ∷ (pos 11 ∷ []) ∷ [])
-      reason.Underflow
+    each_faults (0x33 ∷ []) (record (zones One Zero Zero) { rp0 = pos 0; rp1 = pos 8; rp2 = pos 0 })
+      ([] ∷ (pos 11 ∷ []) ∷ []) reason.Underflow
 unfolding performed
 shp_takes_its_points_before_it_tests_rp1 = refl
 
 shp_by_rp1_tests_its_points_in_zp2 :
-    each_faults (0x33 ∷ []) (record (zones Zero Zero One) { rp1 = pos 0 }) ((pos 8 ∷ pos 0 ∷ []) ∷ (pos 0 ∷ pos 8 ∷ []) ∷
-      (negsuc 0 ∷ pos 0 ∷ []) ∷ []) reason.Point
+    each_faults (0x33 ∷ []) (record (zones Zero Zero One) { rp1 = pos 0 })
+      ((pos 8 ∷ pos 0 ∷ []) ∷ (pos 0 ∷ pos 8 ∷ []) ∷ (negsuc 0 ∷ pos 0 ∷ []) ∷ []) reason.Point
 unfolding performed
 shp_by_rp1_tests_its_points_in_zp2 = refl
 
@@ -383,7 +387,7 @@ unfolding performed
 shp_by_rp1_refuses_a_negative_loop_number_first = refl
 
 shp_by_rp1_takes_no_point_for_loop_number_zero :
-    each_leaves (0x33 ∷ []) ((record (zones One One One) { rp1 = pos 7; loop_number = pos 0 })) (pos 6 ∷ []) (pos 6 ∷ [])
+    each_leaves (0x33 ∷ []) (record (zones One One One) { rp1 = pos 7; loop_number = pos 0 }) (pos 6 ∷ []) (pos 6 ∷ [])
       (record (record (zones One One One) { rp1 = pos 7; loop_number = pos 0 }) { loop_number = pos 1 })
 unfolding performed
 shp_by_rp1_takes_no_point_for_loop_number_zero = refl
@@ -466,14 +470,14 @@ unfolding performed
 shz_by_rp2_takes_the_twilight_zone = refl
 
 shz_by_rp2_refuses_other_zones_first :
-    each_faults (0x36 ∷ []) (record (zones Zero One Zero) { rp0 = pos 0; rp1 = pos 0; rp2 = pos 8 }) ((pos 2 ∷ []) ∷ (negsuc 0
-      ∷ []) ∷ []) reason.Zone
+    each_faults (0x36 ∷ []) (record (zones Zero One Zero) { rp0 = pos 0; rp1 = pos 0; rp2 = pos 8 })
+      ((pos 2 ∷ []) ∷ (negsuc 0 ∷ []) ∷ []) reason.Zone
 unfolding performed
 shz_by_rp2_refuses_other_zones_first = refl
 
 shz_tests_rp2_in_zp1_behind_its_zone :
-    each_faults (0x36 ∷ []) (record (zones Zero One Zero) { rp0 = pos 0; rp1 = pos 0; rp2 = pos 8 }) ((pos 0 ∷ []) ∷ (pos 1 ∷
-      []) ∷ []) reason.Point
+    each_faults (0x36 ∷ []) (record (zones Zero One Zero) { rp0 = pos 0; rp1 = pos 0; rp2 = pos 8 })
+      ((pos 0 ∷ []) ∷ (pos 1 ∷ []) ∷ []) reason.Point
 unfolding performed
 shz_tests_rp2_in_zp1_behind_its_zone = refl
 
@@ -493,14 +497,14 @@ unfolding performed
 shz_by_rp1_takes_the_twilight_zone = refl
 
 shz_by_rp1_refuses_other_zones_first :
-    each_faults (0x37 ∷ []) (record (zones One Zero Zero) { rp0 = pos 0; rp1 = pos 8; rp2 = pos 0 }) ((pos 2 ∷ []) ∷ (negsuc 0
-      ∷ []) ∷ []) reason.Zone
+    each_faults (0x37 ∷ []) (record (zones One Zero Zero) { rp0 = pos 0; rp1 = pos 8; rp2 = pos 0 })
+      ((pos 2 ∷ []) ∷ (negsuc 0 ∷ []) ∷ []) reason.Zone
 unfolding performed
 shz_by_rp1_refuses_other_zones_first = refl
 
 shz_tests_rp1_in_zp0_behind_its_zone :
-    each_faults (0x37 ∷ []) (record (zones One Zero Zero) { rp0 = pos 0; rp1 = pos 8; rp2 = pos 0 }) ((pos 0 ∷ []) ∷ (pos 1 ∷
-      []) ∷ []) reason.Point
+    each_faults (0x37 ∷ []) (record (zones One Zero Zero) { rp0 = pos 0; rp1 = pos 8; rp2 = pos 0 })
+      ((pos 0 ∷ []) ∷ (pos 1 ∷ []) ∷ []) reason.Point
 unfolding performed
 shz_tests_rp1_in_zp0_behind_its_zone = refl
 
@@ -510,8 +514,8 @@ unfolding performed
 shz_needs_a_zone_before_it_tests_rp1 = refl
 
 shpix_takes_a_distance_and_points_of_zp2 :
-    each_leaves (0x38 ∷ []) ((zones One One Zero)) (negsuc 0 ∷ pos 11 ∷ pos 10 ∷ pos 6 ∷ []) (pos 6 ∷ []) (record (zones One
-      One Zero) { loop_number = pos 1 })
+    each_leaves (0x38 ∷ []) (zones One One Zero) (negsuc 0 ∷ pos 11 ∷ pos 10 ∷ pos 6 ∷ []) (pos 6 ∷ [])
+      (record (zones One One Zero) { loop_number = pos 1 })
 unfolding performed
 shpix_takes_a_distance_and_points_of_zp2 = refl
 
@@ -527,8 +531,8 @@ unfolding performed
 shpix_takes_its_distance_before_it_tests_the_loop_number = refl
 
 shpix_refuses_a_negative_loop_number :
-    each_faults (0x38 ∷ []) (record (zones One One One) { loop_number = negsuc 0 }) ((pos 0 ∷ []) ∷ (pos 0 ∷ pos 8 ∷ []) ∷ [])
-      reason.Count
+    each_faults (0x38 ∷ []) (record (zones One One One) { loop_number = negsuc 0 })
+      ((pos 0 ∷ []) ∷ (pos 0 ∷ pos 8 ∷ []) ∷ []) reason.Count
 unfolding performed
 shpix_refuses_a_negative_loop_number = refl
 
@@ -539,32 +543,32 @@ shpix_needs_a_distance_and_points = refl
 
 -- Points that are moved between or along reference points.
 ip_uses_rp1_in_zp0_and_rp2_in_zp1 :
-    each_leaves (0x39 ∷ []) ((record (zones Zero One Zero) { rp1 = pos 11; rp2 = pos 7 })) (pos 11 ∷ pos 10 ∷ pos 6 ∷ []) (pos
-      6 ∷ []) (record (record (zones Zero One Zero) { rp1 = pos 11; rp2 = pos 7 }) { loop_number = pos 1 })
+    each_leaves (0x39 ∷ []) (record (zones Zero One Zero) { rp1 = pos 11; rp2 = pos 7 }) (pos 11 ∷ pos 10 ∷ pos 6 ∷ [])
+      (pos 6 ∷ []) (record (record (zones Zero One Zero) { rp1 = pos 11; rp2 = pos 7 }) { loop_number = pos 1 })
 unfolding performed
 ip_uses_rp1_in_zp0_and_rp2_in_zp1 = refl
 
 ip_uses_two_zones :
-    each_leaves (0x39 ∷ []) ((record (zones One Zero Zero) { rp1 = pos 7; rp2 = pos 11 })) (pos 11 ∷ pos 10 ∷ pos 6 ∷ []) (pos
-      6 ∷ []) (record (record (zones One Zero Zero) { rp1 = pos 7; rp2 = pos 11 }) { loop_number = pos 1 })
+    each_leaves (0x39 ∷ []) (record (zones One Zero Zero) { rp1 = pos 7; rp2 = pos 11 }) (pos 11 ∷ pos 10 ∷ pos 6 ∷ [])
+      (pos 6 ∷ []) (record (record (zones One Zero Zero) { rp1 = pos 7; rp2 = pos 11 }) { loop_number = pos 1 })
 unfolding performed
 ip_uses_two_zones = refl
 
 ip_tests_rp1_in_zp0 :
-    each_faults (0x39 ∷ []) (record (zones One Zero Zero) { rp0 = pos 0; rp1 = pos 8; rp2 = pos 0 }) ((pos 11 ∷ pos 10 ∷ []) ∷
-      []) reason.Point
+    each_faults (0x39 ∷ []) (record (zones One Zero Zero) { rp0 = pos 0; rp1 = pos 8; rp2 = pos 0 })
+      ((pos 11 ∷ pos 10 ∷ []) ∷ []) reason.Point
 unfolding performed
 ip_tests_rp1_in_zp0 = refl
 
 ip_tests_rp2_in_zp1 :
-    each_faults (0x39 ∷ []) (record (zones Zero One Zero) { rp0 = pos 0; rp1 = pos 0; rp2 = pos 8 }) ((pos 11 ∷ pos 10 ∷ []) ∷
-      []) reason.Point
+    each_faults (0x39 ∷ []) (record (zones Zero One Zero) { rp0 = pos 0; rp1 = pos 0; rp2 = pos 8 })
+      ((pos 11 ∷ pos 10 ∷ []) ∷ []) reason.Point
 unfolding performed
 ip_tests_rp2_in_zp1 = refl
 
 ip_tests_its_points_in_zp2 :
-    each_faults (0x39 ∷ []) (record (zones Zero Zero One) { rp1 = pos 0; rp2 = pos 0 }) ((pos 8 ∷ pos 0 ∷ []) ∷ (pos 0 ∷ pos 8
-      ∷ []) ∷ []) reason.Point
+    each_faults (0x39 ∷ []) (record (zones Zero Zero One) { rp1 = pos 0; rp2 = pos 0 })
+      ((pos 8 ∷ pos 0 ∷ []) ∷ (pos 0 ∷ pos 8 ∷ []) ∷ []) reason.Point
 unfolding performed
 ip_tests_its_points_in_zp2 = refl
 
@@ -579,26 +583,26 @@ unfolding performed
 ip_refuses_a_negative_loop_number_first = refl
 
 msirp_leaves_rp0 :
-    each_leaves (0x3a ∷ []) ((record (zones Zero One Zero) { rp0 = pos 11 })) (negsuc 0 ∷ pos 7 ∷ pos 6 ∷ []) (pos 6 ∷ [])
+    each_leaves (0x3a ∷ []) (record (zones Zero One Zero) { rp0 = pos 11 }) (negsuc 0 ∷ pos 7 ∷ pos 6 ∷ []) (pos 6 ∷ [])
       (record (record (zones Zero One Zero) { rp0 = pos 11 }) { rp1 = pos 11; rp2 = pos 7 })
 unfolding performed
 msirp_leaves_rp0 = refl
 
 msirp_takes_a_point_of_zp1 :
-    each_leaves (0x3a ∷ []) ((record (zones One Zero One) { rp0 = pos 7 })) (negsuc 0 ∷ pos 11 ∷ pos 6 ∷ []) (pos 6 ∷ [])
+    each_leaves (0x3a ∷ []) (record (zones One Zero One) { rp0 = pos 7 }) (negsuc 0 ∷ pos 11 ∷ pos 6 ∷ []) (pos 6 ∷ [])
       (record (record (zones One Zero One) { rp0 = pos 7 }) { rp1 = pos 7; rp2 = pos 11 })
 unfolding performed
 msirp_takes_a_point_of_zp1 = refl
 
 msirp_tests_its_point_in_zp1 :
-    each_faults (0x3a ∷ []) (record (zones Zero One Zero) { rp0 = pos 0 }) ((pos 0 ∷ pos 8 ∷ []) ∷ (pos 0 ∷ negsuc 0 ∷ []) ∷
-      []) reason.Point
+    each_faults (0x3a ∷ []) (record (zones Zero One Zero) { rp0 = pos 0 })
+      ((pos 0 ∷ pos 8 ∷ []) ∷ (pos 0 ∷ negsuc 0 ∷ []) ∷ []) reason.Point
 unfolding performed
 msirp_tests_its_point_in_zp1 = refl
 
 msirp_tests_the_old_rp0_in_zp0 :
-    each_faults (0x3a ∷ []) (record (zones One Zero Zero) { rp0 = pos 8; rp1 = pos 0; rp2 = pos 0 }) ((pos 0 ∷ pos 0 ∷ []) ∷
-      []) reason.Point
+    each_faults (0x3a ∷ []) (record (zones One Zero Zero) { rp0 = pos 8; rp1 = pos 0; rp2 = pos 0 })
+      ((pos 0 ∷ pos 0 ∷ []) ∷ []) reason.Point
 unfolding performed
 msirp_tests_the_old_rp0_in_zp0 = refl
 
@@ -607,26 +611,26 @@ unfolding performed
 msirp_needs_a_distance_and_a_point = refl
 
 msirp_with_rp0_sets_it_to_its_point :
-    each_leaves (0x3b ∷ []) ((record (zones Zero One Zero) { rp0 = pos 11 })) (negsuc 0 ∷ pos 7 ∷ pos 6 ∷ []) (pos 6 ∷ [])
+    each_leaves (0x3b ∷ []) (record (zones Zero One Zero) { rp0 = pos 11 }) (negsuc 0 ∷ pos 7 ∷ pos 6 ∷ []) (pos 6 ∷ [])
       (record (record (zones Zero One Zero) { rp0 = pos 11 }) { rp1 = pos 11; rp2 = pos 7; rp0 = pos 7 })
 unfolding performed
 msirp_with_rp0_sets_it_to_its_point = refl
 
 msirp_with_rp0_takes_a_point_of_zp1 :
-    each_leaves (0x3b ∷ []) ((record (zones One Zero One) { rp0 = pos 7 })) (negsuc 0 ∷ pos 11 ∷ pos 6 ∷ []) (pos 6 ∷ [])
+    each_leaves (0x3b ∷ []) (record (zones One Zero One) { rp0 = pos 7 }) (negsuc 0 ∷ pos 11 ∷ pos 6 ∷ []) (pos 6 ∷ [])
       (record (record (zones One Zero One) { rp0 = pos 7 }) { rp1 = pos 7; rp2 = pos 11; rp0 = pos 11 })
 unfolding performed
 msirp_with_rp0_takes_a_point_of_zp1 = refl
 
 msirp_with_rp0_tests_its_point_in_zp1 :
-    each_faults (0x3b ∷ []) (record (zones Zero One Zero) { rp0 = pos 0 }) ((pos 0 ∷ pos 8 ∷ []) ∷ (pos 0 ∷ negsuc 0 ∷ []) ∷
-      []) reason.Point
+    each_faults (0x3b ∷ []) (record (zones Zero One Zero) { rp0 = pos 0 })
+      ((pos 0 ∷ pos 8 ∷ []) ∷ (pos 0 ∷ negsuc 0 ∷ []) ∷ []) reason.Point
 unfolding performed
 msirp_with_rp0_tests_its_point_in_zp1 = refl
 
 msirp_with_rp0_tests_the_old_rp0_in_zp0 :
-    each_faults (0x3b ∷ []) (record (zones One Zero Zero) { rp0 = pos 8; rp1 = pos 0; rp2 = pos 0 }) ((pos 0 ∷ pos 0 ∷ []) ∷
-      []) reason.Point
+    each_faults (0x3b ∷ []) (record (zones One Zero Zero) { rp0 = pos 8; rp1 = pos 0; rp2 = pos 0 })
+      ((pos 0 ∷ pos 0 ∷ []) ∷ []) reason.Point
 unfolding performed
 msirp_with_rp0_tests_the_old_rp0_in_zp0 = refl
 
@@ -636,20 +640,20 @@ unfolding performed
 msirp_with_rp0_needs_a_distance_and_a_point = refl
 
 alignrp_uses_rp0_in_zp0 :
-    each_leaves (0x3c ∷ []) ((record (zones One Zero One) { rp0 = pos 7 })) (pos 11 ∷ pos 10 ∷ pos 6 ∷ []) (pos 6 ∷ [])
+    each_leaves (0x3c ∷ []) (record (zones One Zero One) { rp0 = pos 7 }) (pos 11 ∷ pos 10 ∷ pos 6 ∷ []) (pos 6 ∷ [])
       (record (record (zones One Zero One) { rp0 = pos 7 }) { loop_number = pos 1 })
 unfolding performed
 alignrp_uses_rp0_in_zp0 = refl
 
 alignrp_tests_its_points_in_zp1 :
-    each_faults (0x3c ∷ []) (record (zones Zero One Zero) { rp0 = pos 0 }) ((pos 8 ∷ pos 0 ∷ []) ∷ (pos 0 ∷ pos 8 ∷ []) ∷ [])
-      reason.Point
+    each_faults (0x3c ∷ []) (record (zones Zero One Zero) { rp0 = pos 0 })
+      ((pos 8 ∷ pos 0 ∷ []) ∷ (pos 0 ∷ pos 8 ∷ []) ∷ []) reason.Point
 unfolding performed
 alignrp_tests_its_points_in_zp1 = refl
 
 alignrp_tests_rp0_in_zp0 :
-    each_faults (0x3c ∷ []) (record (zones One Zero Zero) { rp0 = pos 8; rp1 = pos 0; rp2 = pos 0 }) ((pos 11 ∷ pos 10 ∷ []) ∷
-      []) reason.Point
+    each_faults (0x3c ∷ []) (record (zones One Zero Zero) { rp0 = pos 8; rp1 = pos 0; rp2 = pos 0 })
+      ((pos 11 ∷ pos 10 ∷ []) ∷ []) reason.Point
 unfolding performed
 alignrp_tests_rp0_in_zp0 = refl
 
@@ -664,155 +668,142 @@ unfolding performed
 alignrp_refuses_a_negative_loop_number_first = refl
 
 mdrp_uses_rp0_in_zp0 :
-    each_leaves (0xc0 ∷ 0xc1 ∷ 0xc2 ∷ 0xc3 ∷ 0xc4 ∷ 0xc5 ∷ 0xc6 ∷ 0xc7 ∷ 0xc8 ∷ 0xc9 ∷ 0xca ∷ 0xcb ∷ 0xcc ∷ 0xcd ∷ 0xce ∷ 0xcf
-      ∷ []) ((record (zones Zero One Zero) { rp0 = pos 11 })) (pos 7 ∷ pos 6 ∷ []) (pos 6 ∷ []) (record (record (zones Zero One
-      Zero) { rp0 = pos 11 }) { rp1 = pos 11; rp2 = pos 7 })
+    each_leaves (codes_from 0xc0 16) (record (zones Zero One Zero) { rp0 = pos 11 }) (pos 7 ∷ pos 6 ∷ []) (pos 6 ∷ [])
+      (record (record (zones Zero One Zero) { rp0 = pos 11 }) { rp1 = pos 11; rp2 = pos 7 })
 unfolding performed
 mdrp_uses_rp0_in_zp0 = refl
 
 mdrp_takes_a_point_of_zp1 :
-    each_leaves (0xc0 ∷ 0xc1 ∷ 0xc2 ∷ 0xc3 ∷ 0xc4 ∷ 0xc5 ∷ 0xc6 ∷ 0xc7 ∷ 0xc8 ∷ 0xc9 ∷ 0xca ∷ 0xcb ∷ 0xcc ∷ 0xcd ∷ 0xce ∷ 0xcf
-      ∷ []) ((record (zones One Zero One) { rp0 = pos 7 })) (pos 11 ∷ pos 6 ∷ []) (pos 6 ∷ []) (record (record (zones One Zero
-      One) { rp0 = pos 7 }) { rp1 = pos 7; rp2 = pos 11 })
+    each_leaves (codes_from 0xc0 16) (record (zones One Zero One) { rp0 = pos 7 }) (pos 11 ∷ pos 6 ∷ []) (pos 6 ∷ [])
+      (record (record (zones One Zero One) { rp0 = pos 7 }) { rp1 = pos 7; rp2 = pos 11 })
 unfolding performed
 mdrp_takes_a_point_of_zp1 = refl
 
 mdrp_tests_its_point_in_zp1 :
-    each_faults (0xc0 ∷ 0xc1 ∷ 0xc2 ∷ 0xc3 ∷ 0xc4 ∷ 0xc5 ∷ 0xc6 ∷ 0xc7 ∷ 0xc8 ∷ 0xc9 ∷ 0xca ∷ 0xcb ∷ 0xcc ∷ 0xcd ∷ 0xce ∷ 0xcf
-      ∷ []) (record (zones Zero One Zero) { rp0 = pos 0 }) ((pos 8 ∷ []) ∷ (negsuc 0 ∷ []) ∷ []) reason.Point
+    each_faults (codes_from 0xc0 16) (record (zones Zero One Zero) { rp0 = pos 0 }) ((pos 8 ∷ []) ∷ (negsuc 0 ∷ []) ∷ [])
+      reason.Point
 unfolding performed
 mdrp_tests_its_point_in_zp1 = refl
 
 mdrp_tests_the_old_rp0_in_zp0 :
-    each_faults (0xc0 ∷ 0xc1 ∷ 0xc2 ∷ 0xc3 ∷ 0xc4 ∷ 0xc5 ∷ 0xc6 ∷ 0xc7 ∷ 0xc8 ∷ 0xc9 ∷ 0xca ∷ 0xcb ∷ 0xcc ∷ 0xcd ∷ 0xce ∷ 0xcf
-      ∷ []) (record (zones One Zero Zero) { rp0 = pos 8; rp1 = pos 0; rp2 = pos 0 }) ((pos 0 ∷ []) ∷ []) reason.Point
+    each_faults (codes_from 0xc0 16) (record (zones One Zero Zero) { rp0 = pos 8; rp1 = pos 0; rp2 = pos 0 })
+      ((pos 0 ∷ []) ∷ []) reason.Point
 unfolding performed
 mdrp_tests_the_old_rp0_in_zp0 = refl
 
-mdrp_needs_a_point_before_it_tests_rp0 :
-    each_faults (0xc0 ∷ 0xc1 ∷ 0xc2 ∷ 0xc3 ∷ 0xc4 ∷ 0xc5 ∷ 0xc6 ∷ 0xc7 ∷ 0xc8 ∷ 0xc9 ∷ 0xca ∷ 0xcb ∷ 0xcc ∷ 0xcd ∷ 0xce ∷ 0xcf
-      ∷ []) (zones One One One) ([] ∷ []) reason.Underflow
+mdrp_needs_a_point_before_it_tests_rp0 : each_faults (codes_from 0xc0 16) (zones One One One) ([] ∷ []) reason.Underflow
 unfolding performed
 mdrp_needs_a_point_before_it_tests_rp0 = refl
 
 mdrp_with_rp0_uses_rp0_in_zp0 :
-    each_leaves (0xd0 ∷ 0xd1 ∷ 0xd2 ∷ 0xd3 ∷ 0xd4 ∷ 0xd5 ∷ 0xd6 ∷ 0xd7 ∷ 0xd8 ∷ 0xd9 ∷ 0xda ∷ 0xdb ∷ 0xdc ∷ 0xdd ∷ 0xde ∷ 0xdf
-      ∷ []) ((record (zones Zero One Zero) { rp0 = pos 11 })) (pos 7 ∷ pos 6 ∷ []) (pos 6 ∷ []) (record (record (zones Zero One
-      Zero) { rp0 = pos 11 }) { rp1 = pos 11; rp2 = pos 7; rp0 = pos 7 })
+    each_leaves (codes_from 0xd0 16) (record (zones Zero One Zero) { rp0 = pos 11 }) (pos 7 ∷ pos 6 ∷ []) (pos 6 ∷ [])
+      (record (record (zones Zero One Zero) { rp0 = pos 11 }) { rp1 = pos 11; rp2 = pos 7; rp0 = pos 7 })
 unfolding performed
 mdrp_with_rp0_uses_rp0_in_zp0 = refl
 
 mdrp_with_rp0_takes_a_point_of_zp1 :
-    each_leaves (0xd0 ∷ 0xd1 ∷ 0xd2 ∷ 0xd3 ∷ 0xd4 ∷ 0xd5 ∷ 0xd6 ∷ 0xd7 ∷ 0xd8 ∷ 0xd9 ∷ 0xda ∷ 0xdb ∷ 0xdc ∷ 0xdd ∷ 0xde ∷ 0xdf
-      ∷ []) ((record (zones One Zero One) { rp0 = pos 7 })) (pos 11 ∷ pos 6 ∷ []) (pos 6 ∷ []) (record (record (zones One Zero
-      One) { rp0 = pos 7 }) { rp1 = pos 7; rp2 = pos 11; rp0 = pos 11 })
+    each_leaves (codes_from 0xd0 16) (record (zones One Zero One) { rp0 = pos 7 }) (pos 11 ∷ pos 6 ∷ []) (pos 6 ∷ [])
+      (record (record (zones One Zero One) { rp0 = pos 7 }) { rp1 = pos 7; rp2 = pos 11; rp0 = pos 11 })
 unfolding performed
 mdrp_with_rp0_takes_a_point_of_zp1 = refl
 
 mdrp_with_rp0_tests_its_point_in_zp1 :
-    each_faults (0xd0 ∷ 0xd1 ∷ 0xd2 ∷ 0xd3 ∷ 0xd4 ∷ 0xd5 ∷ 0xd6 ∷ 0xd7 ∷ 0xd8 ∷ 0xd9 ∷ 0xda ∷ 0xdb ∷ 0xdc ∷ 0xdd ∷ 0xde ∷ 0xdf
-      ∷ []) (record (zones Zero One Zero) { rp0 = pos 0 }) ((pos 8 ∷ []) ∷ (negsuc 0 ∷ []) ∷ []) reason.Point
+    each_faults (codes_from 0xd0 16) (record (zones Zero One Zero) { rp0 = pos 0 }) ((pos 8 ∷ []) ∷ (negsuc 0 ∷ []) ∷ [])
+      reason.Point
 unfolding performed
 mdrp_with_rp0_tests_its_point_in_zp1 = refl
 
 mdrp_with_rp0_tests_the_old_rp0_in_zp0 :
-    each_faults (0xd0 ∷ 0xd1 ∷ 0xd2 ∷ 0xd3 ∷ 0xd4 ∷ 0xd5 ∷ 0xd6 ∷ 0xd7 ∷ 0xd8 ∷ 0xd9 ∷ 0xda ∷ 0xdb ∷ 0xdc ∷ 0xdd ∷ 0xde ∷ 0xdf
-      ∷ []) (record (zones One Zero Zero) { rp0 = pos 8; rp1 = pos 0; rp2 = pos 0 }) ((pos 0 ∷ []) ∷ []) reason.Point
+    each_faults (codes_from 0xd0 16) (record (zones One Zero Zero) { rp0 = pos 8; rp1 = pos 0; rp2 = pos 0 })
+      ((pos 0 ∷ []) ∷ []) reason.Point
 unfolding performed
 mdrp_with_rp0_tests_the_old_rp0_in_zp0 = refl
 
 mdrp_with_rp0_needs_a_point_before_it_tests_rp0 :
-    each_faults (0xd0 ∷ 0xd1 ∷ 0xd2 ∷ 0xd3 ∷ 0xd4 ∷ 0xd5 ∷ 0xd6 ∷ 0xd7 ∷ 0xd8 ∷ 0xd9 ∷ 0xda ∷ 0xdb ∷ 0xdc ∷ 0xdd ∷ 0xde ∷ 0xdf
-      ∷ []) (zones One One One) ([] ∷ []) reason.Underflow
+    each_faults (codes_from 0xd0 16) (zones One One One) ([] ∷ []) reason.Underflow
 unfolding performed
 mdrp_with_rp0_needs_a_point_before_it_tests_rp0 = refl
 
 mirp_uses_rp0_in_zp0 :
-    each_leaves (0xe0 ∷ 0xe1 ∷ 0xe2 ∷ 0xe3 ∷ 0xe4 ∷ 0xe5 ∷ 0xe6 ∷ 0xe7 ∷ 0xe8 ∷ 0xe9 ∷ 0xea ∷ 0xeb ∷ 0xec ∷ 0xed ∷ 0xee ∷ 0xef
-      ∷ []) ((record (zones Zero One Zero) { rp0 = pos 11 })) (pos 9 ∷ pos 7 ∷ pos 6 ∷ []) (pos 6 ∷ []) (record (record (zones
-      Zero One Zero) { rp0 = pos 11 }) { rp1 = pos 11; rp2 = pos 7 })
+    each_leaves (codes_from 0xe0 16) (record (zones Zero One Zero) { rp0 = pos 11 }) (pos 9 ∷ pos 7 ∷ pos 6 ∷ [])
+      (pos 6 ∷ []) (record (record (zones Zero One Zero) { rp0 = pos 11 }) { rp1 = pos 11; rp2 = pos 7 })
 unfolding performed
 mirp_uses_rp0_in_zp0 = refl
 
 mirp_takes_a_point_of_zp1 :
-    each_leaves (0xe0 ∷ 0xe1 ∷ 0xe2 ∷ 0xe3 ∷ 0xe4 ∷ 0xe5 ∷ 0xe6 ∷ 0xe7 ∷ 0xe8 ∷ 0xe9 ∷ 0xea ∷ 0xeb ∷ 0xec ∷ 0xed ∷ 0xee ∷ 0xef
-      ∷ []) ((record (zones One Zero One) { rp0 = pos 7 })) (pos 9 ∷ pos 11 ∷ pos 6 ∷ []) (pos 6 ∷ []) (record (record (zones
-      One Zero One) { rp0 = pos 7 }) { rp1 = pos 7; rp2 = pos 11 })
+    each_leaves (codes_from 0xe0 16) (record (zones One Zero One) { rp0 = pos 7 }) (pos 9 ∷ pos 11 ∷ pos 6 ∷ [])
+      (pos 6 ∷ []) (record (record (zones One Zero One) { rp0 = pos 7 }) { rp1 = pos 7; rp2 = pos 11 })
 unfolding performed
 mirp_takes_a_point_of_zp1 = refl
 
 mirp_tests_its_control_value_first :
-    each_faults (0xe0 ∷ 0xe1 ∷ 0xe2 ∷ 0xe3 ∷ 0xe4 ∷ 0xe5 ∷ 0xe6 ∷ 0xe7 ∷ 0xe8 ∷ 0xe9 ∷ 0xea ∷ 0xeb ∷ 0xec ∷ 0xed ∷ 0xee ∷ 0xef
-      ∷ []) (zones One One One) ((pos 10 ∷ pos 8 ∷ []) ∷ (pos 10 ∷ []) ∷ (negsuc 0 ∷ pos 8 ∷ []) ∷ []) reason.Cvt
+    each_faults (codes_from 0xe0 16) (zones One One One)
+      ((pos 10 ∷ pos 8 ∷ []) ∷ (pos 10 ∷ []) ∷ (negsuc 0 ∷ pos 8 ∷ []) ∷ []) reason.Cvt
 unfolding performed
 mirp_tests_its_control_value_first = refl
 
 mirp_tests_its_point_in_zp1 :
-    each_faults (0xe0 ∷ 0xe1 ∷ 0xe2 ∷ 0xe3 ∷ 0xe4 ∷ 0xe5 ∷ 0xe6 ∷ 0xe7 ∷ 0xe8 ∷ 0xe9 ∷ 0xea ∷ 0xeb ∷ 0xec ∷ 0xed ∷ 0xee ∷ 0xef
-      ∷ []) (record (zones Zero One Zero) { rp0 = pos 0 }) ((pos 9 ∷ pos 8 ∷ []) ∷ (pos 0 ∷ negsuc 0 ∷ []) ∷ []) reason.Point
+    each_faults (codes_from 0xe0 16) (record (zones Zero One Zero) { rp0 = pos 0 })
+      ((pos 9 ∷ pos 8 ∷ []) ∷ (pos 0 ∷ negsuc 0 ∷ []) ∷ []) reason.Point
 unfolding performed
 mirp_tests_its_point_in_zp1 = refl
 
 mirp_tests_the_old_rp0_in_zp0 :
-    each_faults (0xe0 ∷ 0xe1 ∷ 0xe2 ∷ 0xe3 ∷ 0xe4 ∷ 0xe5 ∷ 0xe6 ∷ 0xe7 ∷ 0xe8 ∷ 0xe9 ∷ 0xea ∷ 0xeb ∷ 0xec ∷ 0xed ∷ 0xee ∷ 0xef
-      ∷ []) (record (zones One Zero Zero) { rp0 = pos 8; rp1 = pos 0; rp2 = pos 0 }) ((pos 9 ∷ pos 0 ∷ []) ∷ []) reason.Point
+    each_faults (codes_from 0xe0 16) (record (zones One Zero Zero) { rp0 = pos 8; rp1 = pos 0; rp2 = pos 0 })
+      ((pos 9 ∷ pos 0 ∷ []) ∷ []) reason.Point
 unfolding performed
 mirp_tests_the_old_rp0_in_zp0 = refl
 
 mirp_needs_a_control_value_and_a_point :
-    each_faults (0xe0 ∷ 0xe1 ∷ 0xe2 ∷ 0xe3 ∷ 0xe4 ∷ 0xe5 ∷ 0xe6 ∷ 0xe7 ∷ 0xe8 ∷ 0xe9 ∷ 0xea ∷ 0xeb ∷ 0xec ∷ 0xed ∷ 0xee ∷ 0xef
-      ∷ []) (zones One One One) ([] ∷ (pos 9 ∷ []) ∷ []) reason.Underflow
+    each_faults (codes_from 0xe0 16) (zones One One One) ([] ∷ (pos 9 ∷ []) ∷ []) reason.Underflow
 unfolding performed
 mirp_needs_a_control_value_and_a_point = refl
 
 mirp_with_rp0_uses_rp0_in_zp0 :
-    each_leaves (0xf0 ∷ 0xf1 ∷ 0xf2 ∷ 0xf3 ∷ 0xf4 ∷ 0xf5 ∷ 0xf6 ∷ 0xf7 ∷ 0xf8 ∷ 0xf9 ∷ 0xfa ∷ 0xfb ∷ 0xfc ∷ 0xfd ∷ 0xfe ∷ 0xff
-      ∷ []) ((record (zones Zero One Zero) { rp0 = pos 11 })) (pos 9 ∷ pos 7 ∷ pos 6 ∷ []) (pos 6 ∷ []) (record (record (zones
-      Zero One Zero) { rp0 = pos 11 }) { rp1 = pos 11; rp2 = pos 7; rp0 = pos 7 })
+    each_leaves (codes_from 0xf0 16) (record (zones Zero One Zero) { rp0 = pos 11 }) (pos 9 ∷ pos 7 ∷ pos 6 ∷ [])
+      (pos 6 ∷ []) (record (record (zones Zero One Zero) { rp0 = pos 11 }) { rp1 = pos 11; rp2 = pos 7; rp0 = pos 7 })
 unfolding performed
 mirp_with_rp0_uses_rp0_in_zp0 = refl
 
 mirp_with_rp0_takes_a_point_of_zp1 :
-    each_leaves (0xf0 ∷ 0xf1 ∷ 0xf2 ∷ 0xf3 ∷ 0xf4 ∷ 0xf5 ∷ 0xf6 ∷ 0xf7 ∷ 0xf8 ∷ 0xf9 ∷ 0xfa ∷ 0xfb ∷ 0xfc ∷ 0xfd ∷ 0xfe ∷ 0xff
-      ∷ []) ((record (zones One Zero One) { rp0 = pos 7 })) (pos 9 ∷ pos 11 ∷ pos 6 ∷ []) (pos 6 ∷ []) (record (record (zones
-      One Zero One) { rp0 = pos 7 }) { rp1 = pos 7; rp2 = pos 11; rp0 = pos 11 })
+    each_leaves (codes_from 0xf0 16) (record (zones One Zero One) { rp0 = pos 7 }) (pos 9 ∷ pos 11 ∷ pos 6 ∷ [])
+      (pos 6 ∷ []) (record (record (zones One Zero One) { rp0 = pos 7 }) { rp1 = pos 7; rp2 = pos 11; rp0 = pos 11 })
 unfolding performed
 mirp_with_rp0_takes_a_point_of_zp1 = refl
 
 mirp_with_rp0_tests_its_control_value_first :
-    each_faults (0xf0 ∷ 0xf1 ∷ 0xf2 ∷ 0xf3 ∷ 0xf4 ∷ 0xf5 ∷ 0xf6 ∷ 0xf7 ∷ 0xf8 ∷ 0xf9 ∷ 0xfa ∷ 0xfb ∷ 0xfc ∷ 0xfd ∷ 0xfe ∷ 0xff
-      ∷ []) (zones One One One) ((pos 10 ∷ pos 8 ∷ []) ∷ (pos 10 ∷ []) ∷ (negsuc 0 ∷ pos 8 ∷ []) ∷ []) reason.Cvt
+    each_faults (codes_from 0xf0 16) (zones One One One)
+      ((pos 10 ∷ pos 8 ∷ []) ∷ (pos 10 ∷ []) ∷ (negsuc 0 ∷ pos 8 ∷ []) ∷ []) reason.Cvt
 unfolding performed
 mirp_with_rp0_tests_its_control_value_first = refl
 
 mirp_with_rp0_tests_its_point_in_zp1 :
-    each_faults (0xf0 ∷ 0xf1 ∷ 0xf2 ∷ 0xf3 ∷ 0xf4 ∷ 0xf5 ∷ 0xf6 ∷ 0xf7 ∷ 0xf8 ∷ 0xf9 ∷ 0xfa ∷ 0xfb ∷ 0xfc ∷ 0xfd ∷ 0xfe ∷ 0xff
-      ∷ []) (record (zones Zero One Zero) { rp0 = pos 0 }) ((pos 9 ∷ pos 8 ∷ []) ∷ (pos 0 ∷ negsuc 0 ∷ []) ∷ []) reason.Point
+    each_faults (codes_from 0xf0 16) (record (zones Zero One Zero) { rp0 = pos 0 })
+      ((pos 9 ∷ pos 8 ∷ []) ∷ (pos 0 ∷ negsuc 0 ∷ []) ∷ []) reason.Point
 unfolding performed
 mirp_with_rp0_tests_its_point_in_zp1 = refl
 
 mirp_with_rp0_tests_the_old_rp0_in_zp0 :
-    each_faults (0xf0 ∷ 0xf1 ∷ 0xf2 ∷ 0xf3 ∷ 0xf4 ∷ 0xf5 ∷ 0xf6 ∷ 0xf7 ∷ 0xf8 ∷ 0xf9 ∷ 0xfa ∷ 0xfb ∷ 0xfc ∷ 0xfd ∷ 0xfe ∷ 0xff
-      ∷ []) (record (zones One Zero Zero) { rp0 = pos 8; rp1 = pos 0; rp2 = pos 0 }) ((pos 9 ∷ pos 0 ∷ []) ∷ []) reason.Point
+    each_faults (codes_from 0xf0 16) (record (zones One Zero Zero) { rp0 = pos 8; rp1 = pos 0; rp2 = pos 0 })
+      ((pos 9 ∷ pos 0 ∷ []) ∷ []) reason.Point
 unfolding performed
 mirp_with_rp0_tests_the_old_rp0_in_zp0 = refl
 
 mirp_with_rp0_needs_a_control_value_and_a_point :
-    each_faults (0xf0 ∷ 0xf1 ∷ 0xf2 ∷ 0xf3 ∷ 0xf4 ∷ 0xf5 ∷ 0xf6 ∷ 0xf7 ∷ 0xf8 ∷ 0xf9 ∷ 0xfa ∷ 0xfb ∷ 0xfc ∷ 0xfd ∷ 0xfe ∷ 0xff
-      ∷ []) (zones One One One) ([] ∷ (pos 9 ∷ []) ∷ []) reason.Underflow
+    each_faults (codes_from 0xf0 16) (zones One One One) ([] ∷ (pos 9 ∷ []) ∷ []) reason.Underflow
 unfolding performed
 mirp_with_rp0_needs_a_control_value_and_a_point = refl
 
 -- Storage and control values.
 ws_stores_the_number_on_top_in_the_cell_below :
-    each_does (0x42 ∷ []) (zones One One One) (negsuc 0 ∷ pos 3 ∷ pos 6 ∷ []) (goes_on_with (pos 6 ∷ []) (zones One One One)
-      (pos 100 ∷ pos 101 ∷ pos 102 ∷ negsuc 0 ∷ []))
+    each_does (0x42 ∷ []) (zones One One One) (negsuc 0 ∷ pos 3 ∷ pos 6 ∷ [])
+      (goes_on_with (pos 6 ∷ []) (zones One One One) (pos 100 ∷ pos 101 ∷ pos 102 ∷ negsuc 0 ∷ []))
 unfolding performed
 ws_stores_the_number_on_top_in_the_cell_below = refl
 
 ws_stores_in_the_cell_that_is_named :
-    each_does (0x42 ∷ []) (zones One One One) (pos 3 ∷ pos 1 ∷ pos 6 ∷ []) (goes_on_with (pos 6 ∷ []) (zones One One One) (pos
-      100 ∷ pos 3 ∷ pos 102 ∷ pos 103 ∷ []))
+    each_does (0x42 ∷ []) (zones One One One) (pos 3 ∷ pos 1 ∷ pos 6 ∷ [])
+      (goes_on_with (pos 6 ∷ []) (zones One One One) (pos 100 ∷ pos 3 ∷ pos 102 ∷ pos 103 ∷ []))
 unfolding performed
 ws_stores_in_the_cell_that_is_named = refl
 
@@ -894,8 +885,8 @@ scfs_needs_a_number_and_a_point = refl
 
 -- Deltas: a count, and as many pairs.
 deltap_takes_pairs_of_a_point_of_zp0_and_a_number :
-    each_takes (0x5d ∷ 0x71 ∷ 0x72 ∷ []) (zones Zero One One) (pos 2 ∷ pos 11 ∷ negsuc 0 ∷ pos 10 ∷ pos 99 ∷ pos 6 ∷ []) (pos
-      6 ∷ [])
+    each_takes (0x5d ∷ 0x71 ∷ 0x72 ∷ []) (zones Zero One One) (pos 2 ∷ pos 11 ∷ negsuc 0 ∷ pos 10 ∷ pos 99 ∷ pos 6 ∷ [])
+      (pos 6 ∷ [])
 unfolding performed
 deltap_takes_pairs_of_a_point_of_zp0_and_a_number = refl
 
@@ -905,8 +896,8 @@ unfolding performed
 deltap_by_zero_takes_its_count_alone = refl
 
 deltap_tests_its_points_in_zp0 :
-    each_faults (0x5d ∷ 0x71 ∷ 0x72 ∷ []) (zones One Zero Zero) ((pos 1 ∷ pos 8 ∷ pos 0 ∷ []) ∷ (pos 2 ∷ pos 0 ∷ pos 99 ∷ pos
-      8 ∷ pos 0 ∷ []) ∷ (pos 1 ∷ pos 8 ∷ []) ∷ []) reason.Point
+    each_faults (0x5d ∷ 0x71 ∷ 0x72 ∷ []) (zones One Zero Zero)
+      ((pos 1 ∷ pos 8 ∷ pos 0 ∷ []) ∷ (pos 2 ∷ pos 0 ∷ pos 99 ∷ pos 8 ∷ pos 0 ∷ []) ∷ (pos 1 ∷ pos 8 ∷ []) ∷ []) reason.Point
 unfolding performed
 deltap_tests_its_points_in_zp0 = refl
 
@@ -917,14 +908,15 @@ unfolding performed
 deltap_refuses_a_negative_count = refl
 
 deltap_needs_a_count_and_pairs :
-    each_faults (0x5d ∷ 0x71 ∷ 0x72 ∷ []) (zones One One One) ([] ∷ (pos 1 ∷ []) ∷ (pos 1 ∷ pos 0 ∷ []) ∷ (pos 2 ∷ pos 0 ∷ pos
-      0 ∷ []) ∷ (pos 2 ∷ pos 0 ∷ pos 0 ∷ pos 0 ∷ []) ∷ []) reason.Underflow
+    each_faults (0x5d ∷ 0x71 ∷ 0x72 ∷ []) (zones One One One)
+      ([] ∷ (pos 1 ∷ []) ∷ (pos 1 ∷ pos 0 ∷ []) ∷ (pos 2 ∷ pos 0 ∷ pos 0 ∷ []) ∷ (pos 2 ∷ pos 0 ∷ pos 0 ∷ pos 0 ∷ []) ∷ [])
+      reason.Underflow
 unfolding performed
 deltap_needs_a_count_and_pairs = refl
 
 deltac_takes_pairs_of_a_control_value_and_a_number :
-    each_takes (0x73 ∷ 0x74 ∷ 0x75 ∷ []) (zones Zero Zero Zero) (pos 2 ∷ pos 9 ∷ negsuc 0 ∷ pos 8 ∷ pos 99 ∷ pos 6 ∷ []) (pos
-      6 ∷ [])
+    each_takes (0x73 ∷ 0x74 ∷ 0x75 ∷ []) (zones Zero Zero Zero) (pos 2 ∷ pos 9 ∷ negsuc 0 ∷ pos 8 ∷ pos 99 ∷ pos 6 ∷ [])
+      (pos 6 ∷ [])
 unfolding performed
 deltac_takes_pairs_of_a_control_value_and_a_number = refl
 
@@ -934,8 +926,9 @@ unfolding performed
 deltac_by_zero_takes_its_count_alone = refl
 
 deltac_tests_its_control_values :
-    each_faults (0x73 ∷ 0x74 ∷ 0x75 ∷ []) (zones One One One) ((pos 1 ∷ pos 10 ∷ pos 0 ∷ []) ∷ (pos 2 ∷ pos 0 ∷ pos 99 ∷ pos
-      10 ∷ pos 0 ∷ []) ∷ (pos 1 ∷ negsuc 0 ∷ []) ∷ []) reason.Cvt
+    each_faults (0x73 ∷ 0x74 ∷ 0x75 ∷ []) (zones One One One)
+      ((pos 1 ∷ pos 10 ∷ pos 0 ∷ []) ∷ (pos 2 ∷ pos 0 ∷ pos 99 ∷ pos 10 ∷ pos 0 ∷ []) ∷ (pos 1 ∷ negsuc 0 ∷ []) ∷ [])
+      reason.Cvt
 unfolding performed
 deltac_tests_its_control_values = refl
 
@@ -946,15 +939,16 @@ unfolding performed
 deltac_refuses_a_negative_count = refl
 
 deltac_needs_a_count_and_pairs :
-    each_faults (0x73 ∷ 0x74 ∷ 0x75 ∷ []) (zones One One One) ([] ∷ (pos 1 ∷ []) ∷ (pos 1 ∷ pos 0 ∷ []) ∷ (pos 2 ∷ pos 0 ∷ pos
-      0 ∷ []) ∷ (pos 2 ∷ pos 0 ∷ pos 0 ∷ pos 0 ∷ []) ∷ []) reason.Underflow
+    each_faults (0x73 ∷ 0x74 ∷ 0x75 ∷ []) (zones One One One)
+      ([] ∷ (pos 1 ∷ []) ∷ (pos 1 ∷ pos 0 ∷ []) ∷ (pos 2 ∷ pos 0 ∷ pos 0 ∷ []) ∷ (pos 2 ∷ pos 0 ∷ pos 0 ∷ pos 0 ∷ []) ∷ [])
+      reason.Underflow
 unfolding performed
 deltac_needs_a_count_and_pairs = refl
 
 -- Points whose flags are changed: of the glyph zone and of the zone of zp0.
 flippt_takes_points_of_the_glyph_zone :
-    each_leaves (0x80 ∷ []) ((zones One Zero Zero)) (pos 7 ∷ pos 6 ∷ pos 5 ∷ []) (pos 5 ∷ []) (record (zones One Zero Zero) {
-      loop_number = pos 1 })
+    each_leaves (0x80 ∷ []) (zones One Zero Zero) (pos 7 ∷ pos 6 ∷ pos 5 ∷ []) (pos 5 ∷ [])
+      (record (zones One Zero Zero) { loop_number = pos 1 })
 unfolding performed
 flippt_takes_points_of_the_glyph_zone = refl
 
@@ -968,11 +962,11 @@ flippt_tests_its_points_in_zp0_too :
 unfolding performed
 flippt_tests_its_points_in_zp0_too = refl
 
-flippt_leaves_other_zones_alone :
-    performed usual_limits (zones One Zero Zero) (pos 7 ∷ pos 6 ∷ pos 5 ∷ []) 0x80 ≡ goes_on_with (pos 5 ∷ []) (record (zones
-      One Zero Zero) { loop_number = pos 1 }) untouched
+flippt_tests_no_other_zone :
+    each_leaves_by usual_limits (0x80 ∷ []) (zones One Zero Zero) (pos 7 ∷ pos 6 ∷ pos 5 ∷ []) (pos 5 ∷ [])
+      (record (zones One Zero Zero) { loop_number = pos 1 })
 unfolding performed
-flippt_leaves_other_zones_alone = refl
+flippt_tests_no_other_zone = refl
 
 flippt_refuses_a_negative_loop_number_first :
     each_faults (0x80 ∷ []) (record (zones One One One) { loop_number = negsuc 0 }) ([] ∷ (pos 8 ∷ []) ∷ []) reason.Count
@@ -999,11 +993,11 @@ fliprg_tests_both_points_in_zp0_too :
 unfolding performed
 fliprg_tests_both_points_in_zp0_too = refl
 
-fliprg_leaves_other_zones_alone :
-    map (performed usual_limits (zones One Zero Zero) (pos 7 ∷ pos 6 ∷ pos 5 ∷ [])) (0x81 ∷ 0x82 ∷ []) ≡ map (λ (code : ℕ).
-      goes_on_with (pos 5 ∷ []) (zones One Zero Zero) untouched) (0x81 ∷ 0x82 ∷ [])
+fliprg_tests_no_other_zone :
+    each_leaves_by usual_limits (0x81 ∷ 0x82 ∷ []) (zones One Zero Zero) (pos 7 ∷ pos 6 ∷ pos 5 ∷ []) (pos 5 ∷ [])
+      (zones One Zero Zero)
 unfolding performed
-fliprg_leaves_other_zones_alone = refl
+fliprg_tests_no_other_zone = refl
 
 fliprg_needs_two_points : each_faults (0x81 ∷ 0x82 ∷ []) (zones One One One) ([] ∷ (pos 0 ∷ []) ∷ []) reason.Underflow
 unfolding performed
@@ -1011,9 +1005,8 @@ fliprg_needs_two_points = refl
 
 -- The other codes.
 other_codes_have_no_entry :
-    each_faults (0x28 ∷ 0x7b ∷ 0x83 ∷ 0x84 ∷ 0x8f ∷ 0x90 ∷ 0x91 ∷ 0x92 ∷ 0x93 ∷ 0x94 ∷ 0x95 ∷ 0x96 ∷ 0x97 ∷ 0x98 ∷ 0x99 ∷ 0x9a
-      ∷ 0x9b ∷ 0x9c ∷ 0x9d ∷ 0x9e ∷ 0x9f ∷ 0xa0 ∷ 0xa1 ∷ 0xa2 ∷ 0xa3 ∷ 0xa4 ∷ 0xa5 ∷ 0xa6 ∷ 0xa7 ∷ 0xa8 ∷ 0xa9 ∷ 0xaa ∷ 0xab ∷
-      0xac ∷ 0xad ∷ 0xae ∷ 0xaf ∷ []) (zones One One One) ([] ∷ (pos 1 ∷ pos 2 ∷ pos 3 ∷ []) ∷ []) reason.Opcode
+    each_faults (0x28 ∷ 0x7b ∷ 0x83 ∷ 0x84 ∷ 0x8f ∷ codes_from 0x90 32) (zones One One One)
+      ([] ∷ (pos 1 ∷ pos 2 ∷ pos 3 ∷ []) ∷ []) reason.Opcode
 unfolding performed
 other_codes_have_no_entry = refl
 

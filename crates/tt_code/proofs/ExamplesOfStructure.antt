@@ -1,5 +1,5 @@
 -- Where IF, ELSE and FDEF lead in worked programs, and to which body an instruction belongs.
-use Rattle.std.proofs.Common.{◌≡◌, ℕ, List, [], ◌∷◌, None, Some, refl}
+use Rattle.std.proofs.Common.{◌≡◌, [], ◌∷◌, None, Some, refl}
 use Rattle.tt_code.specs.declared.machine.Body.TheVariants as body
 use Rattle.tt_code.proofs.Running.{structure, if_leads, else_leads, definition_leads, body_of_offset, instruction_of_offset}
 

@@ -1,8 +1,8 @@
 -- Running programs on the machine's definitions, so that worked examples can be computed. Where any number may be pushed one
 -- number is taken, mostly 7, and cell i of the storage area holds 100 + i at the start.
-use Rattle.std.proofs.Common.{◌≡◌, ℕ, zero, suc, ◌+◌, List, [], ◌∷◌, Option, None, Some, Result, Ok, Err, take, drop}
-use Rattle.std.specs.Prelude.{ℤ, pos, negsuc, Bool, true, false, map, option_map, nat_lt, if◌then◌else◌}
-use Rattle.tt_code.specs.Refusals.{Tested, ◌>>=◌}
+use Rattle.std.proofs.Common.{◌≡◌, ℕ, zero, suc, ◌+◌, List, [], ◌∷◌, Option, None, Some, Ok, Err, take, drop}
+use Rattle.std.specs.Prelude.{ℤ, pos, negsuc, true, false, map, option_map, nat_lt, if◌then◌else◌}
+use Rattle.tt_code.specs.Refusals.{Tested}
 use Rattle.tt_code.specs.Table.{effect_of, name_of}
 use Rattle.tt_code.specs.Cut.{Instruction, data_length, instruction_at}
 use Rattle.tt_code.specs.Structure.{word, after_if, after_else, after_fdef, body_at}
@@ -177,7 +177,10 @@ before g stack = record (start []) { stack = stack; registers = record (start []
 
 unfoldable pub performed : Limits → Graphics ℤ ZoneNumber → List ℤ → ℕ → Tested Seen
 unfolding outcome effect_of word
-performed limits g stack code = elim (outcome (alone limits code) (before g stack)) [ Ok o ↦ Ok (seen (left_by o (λ i. pos 7))) | Err r ↦ Err r ]
+performed limits g stack code = elim (outcome (alone limits code) (before g stack)) [
+  | Ok o ↦ Ok (seen (left_by o (λ i. pos 7)))
+  | Err r ↦ Err r
+]
 
 -- The glyph zone has 8 points, the twilight zone 12.
 abbrev pub wide_twilight : Limits
@@ -196,12 +199,18 @@ abbrev pub goes_on_with : List ℤ → Graphics ℤ ZoneNumber → List ℤ → 
 goes_on_with stack g cells = Ok (record { offset = 1; stack = stack; graphics = g; cells = cells })
 
 -- what each of these codes does, on a graphics state and a stack
+abbrev pub each_does_by : Limits → List ℕ → Graphics ℤ ZoneNumber → List ℤ → Tested Seen → Type 0
+each_does_by limits codes g stack result = map (performed limits g stack) codes ≡ map (λ (code : ℕ). result) codes
+
 abbrev pub each_does : List ℕ → Graphics ℤ ZoneNumber → List ℤ → Tested Seen → Type 0
-each_does codes g stack result = map (performed wide_twilight g stack) codes ≡ map (λ (code : ℕ). result) codes
+each_does = each_does_by wide_twilight
 
 -- it leaves this stack and this graphics state
+abbrev pub each_leaves_by : Limits → List ℕ → Graphics ℤ ZoneNumber → List ℤ → List ℤ → Graphics ℤ ZoneNumber → Type 0
+each_leaves_by limits codes g stack left h = each_does_by limits codes g stack (goes_on_with left h untouched)
+
 abbrev pub each_leaves : List ℕ → Graphics ℤ ZoneNumber → List ℤ → List ℤ → Graphics ℤ ZoneNumber → Type 0
-each_leaves codes g stack left h = each_does codes g stack (goes_on_with left h untouched)
+each_leaves = each_leaves_by wide_twilight
 
 -- it leaves this stack, and all else as it was
 abbrev pub each_takes : List ℕ → Graphics ℤ ZoneNumber → List ℤ → List ℤ → Type 0
@@ -210,10 +219,11 @@ each_takes codes g stack left = each_leaves codes g stack left g
 -- each of these codes is refused so, on each of these stacks
 abbrev pub each_faults_by : Limits → List ℕ → Graphics ℤ ZoneNumber → List (List ℤ) → Reason → Type 0
 each_faults_by limits codes g stacks r =
-    map (λ (stack : List ℤ). map (performed limits g stack) codes) stacks ≡ map (λ (stack : List ℤ). map (λ (code : ℕ). Err r) codes) stacks
+    map (λ (stack : List ℤ). map (performed limits g stack) codes) stacks
+    ≡ map (λ (stack : List ℤ). map (λ (code : ℕ). Err r) codes) stacks
 
 abbrev pub each_faults : List ℕ → Graphics ℤ ZoneNumber → List (List ℤ) → Reason → Type 0
-each_faults codes g stacks r = each_faults_by wide_twilight codes g stacks r
+each_faults = each_faults_by wide_twilight
 
 -- what one code leaves on the stack, of each of these stacks
 abbrev pub each_stack_leaves : ℕ → List (List ℤ × List ℤ) → Type 0
