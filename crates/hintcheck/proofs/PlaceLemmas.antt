@@ -6,7 +6,9 @@ use Rattle.std.specs.Prelude.{nat_lt, if◌then◌else◌}
 use Rattle.std.specs.List.{AllByRecursion}
 use Rattle.tt_code.specs.Table.{effect_of}
 use Rattle.tt_code.specs.Cut.{Instruction, instruction_at, size, code_of}
-use Rattle.tt_code.specs.Structure.{Word, If, Else, Eif, Fdef, Idef, Endf, Other, word, word_of, body_at, body_from, body_behind}
+use Rattle.tt_code.specs.declared.word.Word.{Word}
+use Rattle.tt_code.specs.declared.word.Word.TheVariants.{If, Else, Eif, Fdef, Idef, Endf, Other}
+use Rattle.tt_code.specs.Structure.{word, word_of, body_at, body_from, body_behind}
 use Rattle.tt_code.specs.declared.machine.Body.{Body}
 use Rattle.tt_code.specs.declared.machine.Body.TheVariants as body
 use Rattle.hintcheck.specs.Covered.{is_covered, IsCovered}

@@ -6,7 +6,7 @@ use Rattle.std.proofs.lemmas.List.{append_assoc, append-nil, reverse-append}
 use Rattle.std.specs.Prelude.{ℤ, pos, reverse, nat_lt, if◌then◌else◌}
 use Rattle.std.specs.List.{AllByRecursion}
 use Rattle.tt_code.specs.Cut.{Instruction, instruction_at, size, code_of}
-use Rattle.tt_code.specs.Structure.{Word, If, Else, Eif, Fdef, Idef, Endf, Other, word, word_of, body_at, body_from, body_behind}
+use Rattle.tt_code.specs.Structure.{body_at}
 use Rattle.tt_code.specs.Settings.{Setting, ZoneNumber, is_body, starts_in_body}
 use Rattle.tt_code.specs.States.{Machine, Value, Outcome, Registers, IsNumber, Exactly, default_graphics}
 use Rattle.tt_code.specs.Computing.{exactly}

@@ -4,6 +4,7 @@ pub mod Entries
 pub mod Cut
 pub mod Laid
 pub mod Structure
+pub mod Grammar
 pub mod Settings
 pub mod States
 pub mod Operands

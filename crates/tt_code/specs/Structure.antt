@@ -3,19 +3,12 @@
 -- IDEF and ENDF.)
 use Rattle.std.specs.Prelude.{ℕ, zero, suc, ◌+◌, List, [], ◌∷◌, Option, None, Some, Bool, true, false, length, nat_eq, if◌then◌else◌}
 use Rattle.tt_code.specs.Cut.{Instruction}
+use Rattle.tt_code.specs.declared.word.Word.{Word}
+use Rattle.tt_code.specs.declared.word.Word.TheVariants.{If, Else, Eif, Fdef, Idef, Endf, Other}
 use Rattle.tt_code.specs.declared.machine.Body.{Body}
 use Rattle.tt_code.specs.declared.machine.Body.TheVariants as body
 
--- what an instruction is for a program's structure
-pub data Word : Type 0 where
-  If : Word
-  Else : Word
-  Eif : Word
-  Fdef : Word
-  Idef : Word
-  Endf : Word
-  Other : Word
-
+-- what an instruction is for a program's structure, by its code
 abbrev pub word_of : ℕ → Word
 word_of code =
     if nat_eq code 0x58 then If

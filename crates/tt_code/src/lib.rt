@@ -10,6 +10,7 @@ pub mod machine;
 pub mod program;
 pub mod reason;
 pub mod table;
+pub mod word;
 
 pub use fault::CodeFault;
 pub use instr::Instr;

@@ -1,0 +1,110 @@
+-- The structure of programs: how IF, ELSE and EIF, FDEF, IDEF and ENDF nest, which of them belong together, and the bodies
+-- that they make. (Apple TrueType Reference Manual, "Managing the flow of control", IF, ELSE and EIF; "Defining and using
+-- functions and instructions", FDEF, IDEF and ENDF.) A program is given as the list of its instructions, and an offset is
+-- the size of the instructions before it.
+use Rattle.std.specs.Prelude.{◌≡◌, ◌⊎◌, ℕ, ◌+◌, ◌<◌, List, [], ◌∷◌, ◌++◌, Bool, true, false, length}
+use Rattle.std.specs.List.{AllByRecursion}
+use Rattle.tt_code.specs.Cut.{Instruction, IsInstruction, size}
+use Rattle.tt_code.specs.Structure.{word}
+use Rattle.tt_code.specs.declared.word.Word.{Word}
+use Rattle.tt_code.specs.declared.word.Word.TheVariants.{If, Else, Eif, Fdef, Idef, Endf, Other}
+use Rattle.tt_code.specs.declared.machine.Body.{Body}
+use Rattle.tt_code.specs.declared.machine.Body.TheVariants as body
+
+-- FDEF and IDEF begin definitions
+abbrev pub IsDefinition : Word → Type 0
+IsDefinition Fdef = Unit {0}
+IsDefinition Idef = Unit {0}
+IsDefinition _ = ⊥
+
+-- The grammar of nesting. A list is a sequence of items: any other instruction; IF, a list and EIF; IF, a list, ELSE, a list and
+-- EIF; and, outside all definitions, FDEF or IDEF, a list inside it, and ENDF.
+pub data IsList : (inside : Bool) → List Instruction → Type 0 where
+  none : {inside : Bool} → IsList inside []
+  plain : {inside : Bool} {i : Instruction} {rest : List Instruction} →
+      word i ≡ Other → IsList inside rest → IsList inside (i ∷ rest)
+  if_eif : {inside : Bool} {i : Instruction} {yes : List Instruction} (e : Instruction) {rest : List Instruction} →
+      word i ≡ If → IsList inside yes → word e ≡ Eif → IsList inside rest → IsList inside (i ∷ (yes ++ (e ∷ rest)))
+  if_else_eif : {inside : Bool} {i : Instruction} {yes : List Instruction} (l : Instruction) {otherwise : List Instruction} (e : Instruction) {rest : List Instruction} →
+      word i ≡ If → IsList inside yes → word l ≡ Else → IsList inside otherwise → word e ≡ Eif → IsList inside rest
+      → IsList inside (i ∷ (yes ++ (l ∷ (otherwise ++ (e ∷ rest)))))
+  definition : {d : Instruction} {defined : List Instruction} (e : Instruction) {rest : List Instruction} →
+      IsDefinition (word d) → IsList true defined → word e ≡ Endf → IsList false rest → IsList false (d ∷ (defined ++ (e ∷ rest)))
+
+-- a program is structured if it is a list outside all definitions
+abbrev pub IsStructured : List Instruction → Type 0
+IsStructured is = IsList false is
+
+-- some list of the grammar begins so
+abbrev pub CanGoOn : List Instruction → Type 0
+CanGoOn is = (rest : List Instruction) × AllByRecursion IsInstruction rest × IsStructured (is ++ rest)
+
+-- The fault of a program that isn't structured: the first instruction such that no list of the grammar begins with the program
+-- up to and with it; or, if there is none, the program's end, where something is left open. (Own: the fault's place.)
+
+pub record BreaksAt (is : List Instruction) (at : ℕ) : Type 0 where
+  pub before : List Instruction
+  pub i : Instruction
+  pub after : List Instruction
+  pub whole : is ≡ before ++ (i ∷ after)
+  pub can_go_on : CanGoOn before
+  pub cannot : CanGoOn (before ++ (i ∷ [])) → ⊥
+  pub offset : size before ≡ at
+
+pub record OpenAtEnd (is : List Instruction) (at : ℕ) : Type 0 where
+  pub can_go_on : CanGoOn is
+  pub cannot : IsStructured is → ⊥
+  pub offset : size is ≡ at
+
+abbrev pub IsFault : List Instruction → ℕ → Type 0
+IsFault is at = BreaksAt is at ⊎ OpenAtEnd is at
+
+-- the instruction that stands at an offset
+pub record StandsAt (is : List Instruction) (at : ℕ) (i : Instruction) : Type 0 where
+  pub before : List Instruction
+  pub after : List Instruction
+  pub whole : is ≡ before ++ (i ∷ after)
+  pub offset : size before ≡ at
+
+-- Partners. Behind an opening instruction stands a list, and then what ends it: behind an IF its ELSE or its EIF, behind an ELSE
+-- its EIF, behind an FDEF or IDEF its ENDF. Control goes behind that one, and what a definition defines is what stands between.
+
+abbrev pub Ends : Word → Word → Type 0
+Ends If w = (w ≡ Else) ⊎ (w ≡ Eif)
+Ends Else w = w ≡ Eif
+Ends Fdef w = w ≡ Endf
+Ends Idef w = w ≡ Endf
+Ends Eif w = ⊥
+Ends Endf w = ⊥
+Ends Other w = ⊥
+
+-- what stands behind an FDEF or IDEF is inside a definition; a list that is inside one is a list outside too
+abbrev pub begins_definition : Word → Bool
+begins_definition Fdef = true
+begins_definition Idef = true
+begins_definition _ = false
+
+pub record GoesTo (opener : Word) (is : List Instruction) (at to : ℕ) : Type 0 where
+  pub before : List Instruction
+  pub i : Instruction
+  pub inner : List Instruction
+  pub e : Instruction
+  pub after : List Instruction
+  pub whole : is ≡ before ++ (i ∷ (inner ++ (e ∷ after)))
+  pub opens : word i ≡ opener
+  pub nested : IsList (begins_definition opener) inner
+  pub ends : Ends opener (word e)
+  pub from : size before ≡ at
+  pub target : size before + (length i + (size inner + length e)) ≡ to
+
+-- Bodies. What stands behind an FDEF up to and with its ENDF is the body of a function; behind an IDEF it is of none. All else is
+-- the main program's.
+
+-- the offset stands in the definition that begins at another
+abbrev pub InDefinition : Word → List Instruction → ℕ → ℕ → Type 0
+InDefinition opener is from at = (to : ℕ) × GoesTo opener is from to × (from < at) × (at < to)
+
+abbrev pub IsBodyAt : List Instruction → ℕ → Body → Type 0
+IsBodyAt is at (body.Function first) = (from : ℕ) × (first ≡ from + 1) × InDefinition Fdef is from at
+IsBodyAt is at (body.Instruction first) = (from : ℕ) × (first ≡ from + 1) × InDefinition Idef is from at
+IsBodyAt is at body.Main = ((from : ℕ) → InDefinition Fdef is from at → ⊥) × ((from : ℕ) → InDefinition Idef is from at → ⊥)
