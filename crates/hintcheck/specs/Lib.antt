@@ -4,3 +4,4 @@ pub mod Straight
 pub mod Bare
 pub mod Verdicts
 pub mod Judging
+pub mod Commands

@@ -1,0 +1,38 @@
+-- From what clap says of a parse to what the words mean.
+use Rattle.std.proofs.Common.{◌≡◌, Bool, true, false, List, Option, Some, None, codes, refl, ap, ◌∙◌, option_map}
+use Rattle.std.specs.Prelude.{◌||◌}
+use Rattle.clap.specs.Words.{App, Row, Text, is_simple, subcommand_of, takes}
+use Rattle.clap.proofs.OnLiterals.{clap_on_literals}
+use Rattle.hintcheck_words.specs.CommandLine.{hintcheck}
+use Rattle.hintcheck_words.specs.Requests.{Request, bare_request, is_taken, meaning, met, request_of}
+
+pub neither : (a b c : Bool) → a ≡ (b || c) → b ≡ false → c ≡ false → a ≡ false
+neither a b c e f g = rw (e, f, g) refl
+
+hintcheck_simple : is_simple hintcheck ≡ true
+unfolding hintcheck clap_on_literals
+hintcheck_simple = refl
+
+pub met_is : (a : App) (words : List Text) (found : Option (Text × List Row)) → a ≡ hintcheck → (is_simple a ≡ true → found ≡ subcommand_of a words) → found ≡ met words
+unfolding met
+met_is a words found same finds = finds (ap is_simple same ∙ hintcheck_simple) ∙ ap (λ (b : App). subcommand_of b words) same
+
+pub takes_is : (a : App) (words : List Text) → a ≡ hintcheck → is_taken words ≡ true → takes a words ≡ true
+unfolding is_taken
+takes_is a words same taken = ap (λ (b : App). takes b words) same ∙ taken
+
+pub option_map_map : {A B C : Type 0} (f : B → C) (g : A → B) (o : Option A) → option_map f (option_map g o) ≡ option_map (λ x. f (g x)) o
+option_map_map f g None = refl
+option_map_map f g (Some x) = refl
+
+-- the subcommand that a parse met has this name and these rows
+pub pair_is : (o : Option (Text × List Row)) (name : Text) (rows : List Row) → option_map (λ p. p.0) o ≡ Some name → option_map (λ p. p.1) o ≡ Some rows → o ≡ Some (name, rows)
+pair_is None name rows e f = absurd cc
+pair_is (Some p) name rows e f =
+    let a : p.0 ≡ name = cc in
+    let b : p.1 ≡ rows = cc in
+    rw (← a, ← b) refl
+
+pub means_bare : (words : List Text) (name : Text) (rows : List Row) (asked : Request) → met words ≡ Some (name, rows) → name ≡ codes "bare" → asked ≡ bare_request rows → meaning words ≡ Some asked
+unfolding meaning request_of
+means_bare words name rows asked found named same = rw (found, named, same) refl

@@ -1,0 +1,19 @@
+use Rattle.std.proofs.Common.{rules, ap, ap₂, codes, ◌≡◌, ◌∙◌}
+use Rattle.std.proofs.lemmas.Result.{IfOk-weaker}
+use Rattle.clap.specs.Simple.{app_of_fields}
+use Rattle.clap.specs.Words.{rule_of, with_rule}
+use Rattle.hintcheck_words.specs.CommandLine.{needed, needed_number, optional}
+use Rattle.hintcheck_words.proofs.words.bare_command.Goals as goal
+
+pub returns : goal.returns
+returns c =
+    let maxp_is : rule_of c.needed.result ≡ needed (codes "MAXP") = search rules in
+    let cvt_is : rule_of c.needed_number.result ≡ needed_number (codes "CVT") = search rules in
+    let points_is : rule_of c.needed_number-2.result ≡ needed_number (codes "POINTS") = search rules in
+    let contours_is : rule_of c.needed_number-3.result ≡ needed_number (codes "CONTOURS") = search rules in
+    let program_is : rule_of c.help.result ≡ optional (codes "PROGRAM") = search rules in
+    IfOk-weaker c.arg-5.result _ _ (λ r h. h.shape (search rules) ∙ ap₂ with_rule
+    (c.in_ok-arg-4.ensures.shape (search rules) ∙ ap₂ with_rule
+    (c.in_ok-arg-3.ensures.shape (search rules) ∙ ap₂ with_rule
+    (c.in_ok-arg-2.ensures.shape (search rules) ∙ ap₂ with_rule
+    (c.in_ok-arg.ensures.shape (search rules) ∙ ap₂ with_rule (ap app_of_fields c.about.ensures ∙ c.new.ensures.app) maxp_is) cvt_is) points_is) contours_is) program_is) c.arg-5.ensures

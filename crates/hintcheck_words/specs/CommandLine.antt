@@ -1,0 +1,29 @@
+-- The command line, in clap's words:
+--     hintcheck bare MAXP CVT POINTS CONTOURS [PROGRAM]
+use Rattle.std.specs.Prelude.{codes, true, pos, Some}
+use Rattle.clap.specs.Words.{App, Rule, Text, new_app, new_rule, with_rule, with_subcommand}
+use Rattle.clap.specs.declared.builder.value_parser.ValueParser.TheVariants as parser
+
+-- an argument that may be left out, one that must be given, and one that must be a number of 16 bits
+abbrev pub optional : Text → Rule
+optional id = new_rule id
+
+abbrev pub needed : Text → Rule
+needed id = record (new_rule id) { required = true }
+
+abbrev pub needed_number : Text → Rule
+needed_number id = record (needed id) { parser = Some (parser.Signed (pos 0) (pos 65535)) }
+
+abbrev pub bare : App
+bare = with_rule (with_rule (with_rule (with_rule (with_rule (new_app (codes "bare"))
+    (needed (codes "MAXP"))) (needed_number (codes "CVT"))) (needed_number (codes "POINTS")))
+    (needed_number (codes "CONTOURS"))) (optional (codes "PROGRAM"))
+
+-- the program, which is told a subcommand always
+abbrev pub program : App
+program = record (new_app (codes "hintcheck")) {
+  top = record (new_app (codes "hintcheck")).top { subcommand_required = true };
+}
+
+unfoldable pub hintcheck : App
+hintcheck = with_subcommand program bare.top

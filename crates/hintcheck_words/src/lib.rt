@@ -1,0 +1,10 @@
+//! The words of the command line: what they ask for, and the bytes that a hexadecimal word spells.
+#![tactic(auto)]
+
+mod hex_words;
+#[cfg(test)]
+mod tests;
+mod words;
+
+pub use hex_words::{WordFault, word_bytes};
+pub use words::{Task, TaskFault, read_words};

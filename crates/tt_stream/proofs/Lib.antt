@@ -1,0 +1,3 @@
+pub mod Written
+pub mod Windows
+pub mod Printed

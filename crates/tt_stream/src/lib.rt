@@ -1,0 +1,163 @@
+//! Readers and writers whose failed calls are counted. Contracts alone see the count.
+#![tactic(auto)]
+
+ghost use Rattle.std.specs.Prelude.{◌≡◌, ℕ, ◌+◌, ◌<◌, ◌≤◌, List, Option, length, IfOk, OnErr, OnOk};
+ghost use Rattle.std.specs.Io.{ReadsAtMost, WritesAtMost};
+ghost use Rattle.std.specs.Io.KnownBytes.{ReadConsumes, WriteAppends, Appends};
+ghost use Rattle.tt_stream.specs.Streams.{AppendsBeginning, AppendsBeginningOfText, AppendsText, CountsFailure, CountsPrintFailure, Tally};
+
+#[cfg(test)]
+mod tests;
+mod text;
+
+use std::fmt::Display;
+use std::io::{Read, Write};
+use std::marker::Model;
+use std::sync::ledger::{Blank, Book, Ledger, Share};
+pub use text::{PrintFailed, print};
+use thiserror::Error;
+
+/// A read failed.
+#[derive(Clone, Copy, Debug, PartialEq, Eq, Error)]
+#[error("read")]
+pub struct ReadFailed;
+
+/// A write failed, or took no byte where there was one.
+#[derive(Clone, Copy, Debug, PartialEq, Eq, Error)]
+#[error("write")]
+pub struct WriteFailed;
+
+/// What bytes are read from.
+pub trait Source {
+    /// The bytes that are left, where they are known.
+    ghost remaining: { Self → Option (List ℕ) };
+
+    /// How many calls have failed.
+    ghost failures: { Self → ℕ };
+
+    /// Reads some bytes into the front of `buf` and answers how many: 0 only at the end, or where
+    /// `buf` has no room.
+    fn read(&mut self, buf: &mut [u8]) -> Result<usize, ReadFailed>
+        ensures bound { ReadsAtMost result buf.new }
+        ensures bytes { ReadConsumes (remaining self.old) (remaining self.new) result buf.new }
+        ensures failures { CountsFailure result (failures self.old) (failures self.new) };
+}
+
+/// What bytes are written to.
+pub trait Sink {
+    /// The bytes that it holds, where they are known.
+    ghost contents: { Self → Option (List ℕ) };
+
+    /// How many calls have failed.
+    ghost failures: { Self → ℕ };
+
+    /// Takes some bytes from the front of `buf`, one at least where there is one, and answers how
+    /// many, or fails and takes none.
+    fn write(&mut self, buf: &[u8]) -> Result<usize, WriteFailed>
+        ensures bound { WritesAtMost result buf.now }
+        ensures progress { IfOk result (λ n. 0 < length buf.now → 0 < n) }
+        ensures bytes { WriteAppends (contents self.old) (contents self.new) result buf.now }
+        ensures failures { CountsFailure result (failures self.old) (failures self.new) };
+
+    /// What `write!` and `writeln!` call: writes the text, or a beginning of it, with no memory.
+    final fn write_fmt<D: Display + Drop>(&mut self, text: D) -> Result<(), PrintFailed>
+    where
+        Self: Sized,
+        ensures written { OnOk result (AppendsText (D.output text) (contents self.old) (contents self.new)) }
+        ensures beginning { OnErr result (AppendsBeginningOfText (D.output text) (contents self.old) (contents self.new)) }
+        ensures failures { CountsPrintFailure result (failures self.old) (failures self.new) }
+    {
+        print(self, &text)
+    }
+}
+
+/// A reader or a writer of std whose failed calls are counted. The counter has no bytes.
+#[derive(Drop)]
+pub struct Counted<T, L: Ledger> {
+    inner: T,
+    failures: Book<L>,
+    share: Share<L>,
+}
+
+impl<T, L: Ledger> Model for Counted<T, L> {
+    ghost Value = { Tally T };
+
+    ghost view = { λ c. record { inner = c.inner; failures = c.failures.total } };
+
+    ghost invariant = { λ c. 0 < c.share.parts };
+}
+
+impl<T, L: Ledger> Counted<T, L> {
+    /// The reader or writer, with no call that has failed yet, over a ledger of its own.
+    pub fn new(inner: T, blank: Blank) -> Self
+        requires name { blank.name ≡ L.name }
+        requires parts { blank.parts ≡ L.parts }
+        requires some { 0 < blank.parts }
+        ensures inner { result.inner ≡ inner }
+        ensures failures { result.failures ≡ 0 }
+    {
+        let (failures, share) = blank.open::<L>();
+        Counted {
+            inner,
+            failures,
+            share,
+        }
+    }
+
+    /// The reader or writer again.
+    pub fn into_inner(self) -> T
+        ensures { result ≡ self.inner }
+    {
+        let Counted {
+            inner,
+            failures: _,
+            share: _,
+        } = self;
+        inner
+    }
+}
+
+impl<R: Read, L: Ledger> Source for Counted<R, L> {
+    ghost remaining = { λ c. R.remaining c.inner };
+
+    ghost failures = { λ c. c.failures };
+
+    fn read(&mut self, buf: &mut [u8]) -> Result<usize, ReadFailed> {
+        match self.inner.read(buf) {
+            Ok(count) => Ok(count),
+            Err(_) => {
+                self.failures.add(&mut self.share, 1);
+                Err(ReadFailed)
+            }
+        }
+    }
+}
+
+impl<W: Write, L: Ledger> Sink for Counted<W, L> {
+    ghost contents = { λ c. W.contents c.inner };
+
+    ghost failures = { λ c. c.failures };
+
+    fn write(&mut self, buf: &[u8]) -> Result<usize, WriteFailed> {
+        match self.inner.write(buf) {
+            Ok(count) if count > 0 || buf.is_empty() => Ok(count),
+            _ => {
+                self.failures.add(&mut self.share, 1);
+                Err(WriteFailed)
+            }
+        }
+    }
+}
+
+/// Writes all of the bytes, or a beginning of them.
+pub fn write_all<W: Sink>(sink: &mut W, bytes: &[u8]) -> Result<(), WriteFailed>
+    ensures written { OnOk result (Appends (W.contents sink.old) (W.contents sink.new) bytes.now) }
+    ensures beginning { OnErr result (AppendsBeginning (W.contents sink.old) (W.contents sink.new) bytes.now) }
+    ensures failures { CountsFailure result (W.failures sink.old) (W.failures sink.new) }
+{
+    let mut at = 0;
+    while at < bytes.len() {
+        at += sink.write(&bytes[at..])?;
+    }
+    Ok(())
+}
