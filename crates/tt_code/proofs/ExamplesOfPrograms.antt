@@ -285,6 +285,18 @@ if_needs_a_number : refused_at 0 reason.Underflow (0x58 ∷ 0x59 ∷ [])
 unfolding answer
 if_needs_a_number = refl
 
+if_takes_its_number_where_it_goes_on : refused_at 4 reason.Underflow (0xb0 ∷ 0x01 ∷ 0x58 ∷ 0x59 ∷ 0x21 ∷ [])
+unfolding answer
+if_takes_its_number_where_it_goes_on = refl
+
+if_takes_its_number_where_it_leads_elsewhere : refused_at 4 reason.Underflow (0xb0 ∷ 0x00 ∷ 0x58 ∷ 0x59 ∷ 0x21 ∷ [])
+unfolding answer
+if_takes_its_number_where_it_leads_elsewhere = refl
+
+else_takes_nothing : accepted (0xb1 ∷ 0x05 ∷ 0x01 ∷ 0x58 ∷ 0x1b ∷ 0x59 ∷ 0x21 ∷ [])
+unfolding answer
+else_takes_nothing = refl
+
 else_leads_behind_its_eif : accepted (0xb0 ∷ 0x01 ∷ 0x58 ∷ 0x18 ∷ 0x1b ∷ 0x28 ∷ 0x59 ∷ 0x18 ∷ [])
 unfolding answer
 else_leads_behind_its_eif = refl
@@ -381,6 +393,35 @@ a_jump_behind_an_else_runs_it = refl
 a_jump_needs_an_offset : refused_at 0 reason.Underflow (0x1c ∷ [])
 unfolding answer
 a_jump_needs_an_offset = refl
+
+a_jump_takes_its_offset : refused_at 3 reason.Underflow (0xb0 ∷ 0x01 ∷ 0x1c ∷ 0x21 ∷ [])
+unfolding answer
+a_jump_takes_its_offset = refl
+
+a_jump_leaves_the_stack_below_its_offset : accepted (0xb1 ∷ 0x05 ∷ 0x01 ∷ 0x1c ∷ 0x21 ∷ [])
+unfolding answer
+a_jump_leaves_the_stack_below_its_offset = refl
+
+jrot_takes_two_numbers_where_it_jumps : refused_at 4 reason.Underflow (0xb1 ∷ 0x01 ∷ 0x01 ∷ 0x78 ∷ 0x21 ∷ [])
+unfolding answer
+jrot_takes_two_numbers_where_it_jumps = refl
+
+jrot_takes_two_numbers_where_it_goes_on : refused_at 4 reason.Underflow (0xb1 ∷ 0x01 ∷ 0x00 ∷ 0x78 ∷ 0x21 ∷ [])
+unfolding answer
+jrot_takes_two_numbers_where_it_goes_on = refl
+
+jrof_takes_two_numbers_where_it_jumps : refused_at 4 reason.Underflow (0xb1 ∷ 0x01 ∷ 0x00 ∷ 0x79 ∷ 0x21 ∷ [])
+unfolding answer
+jrof_takes_two_numbers_where_it_jumps = refl
+
+jrof_takes_two_numbers_where_it_goes_on : refused_at 4 reason.Underflow (0xb1 ∷ 0x01 ∷ 0x01 ∷ 0x79 ∷ 0x21 ∷ [])
+unfolding answer
+jrof_takes_two_numbers_where_it_goes_on = refl
+
+jumps_leave_the_stack_below_their_two_numbers :
+    accepted (0xb5 ∷ 0x05 ∷ 0x06 ∷ 0x01 ∷ 0x01 ∷ 0x01 ∷ 0x00 ∷ 0x78 ∷ 0x79 ∷ 0x21 ∷ 0x21 ∷ [])
+unfolding answer
+jumps_leave_the_stack_below_their_two_numbers = refl
 
 jrot_jumps_where_the_number_is_true : accepted (0xb1 ∷ 0x02 ∷ 0x01 ∷ 0x78 ∷ 0x28 ∷ [])
 unfolding answer
