@@ -3,7 +3,7 @@ use Rattle.std.proofs.Common.{◌≡◌, [], ◌∷◌, Some, refl}
 use Rattle.std.specs.Prelude.{pos, negsuc}
 use Rattle.tt_code.specs.Settings.{One}
 use Rattle.tt_code.specs.declared.reason.Reason.TheVariants as reason
-use Rattle.tt_code.proofs.Running.{computed, lowest, highest, usual_limits, zones, ends_with, each_stack_leaves, each_faults, each_faults_by, frames_at_fault, functions_left}
+use Rattle.tt_code.proofs.Running.{computed, lowest, highest, usual_limits, zones, untouched, seen_at_end, ends_with, each_stack_leaves, each_faults, each_faults_by, frames_at_fault, functions_left}
 
 -- Pushed bytes are unsigned, and the last one is on top.
 pushb_pushes_one_byte : ends_with (0xb0 ∷ 0xfa ∷ []) (pos 250 ∷ [])
@@ -358,6 +358,17 @@ operations_on_two_need_two = refl
 operations_on_one_need_one : each_faults (0x64 ∷ 0x65 ∷ 0x5c ∷ []) (zones One One One) ([] ∷ []) reason.Underflow
 unfolding computed
 operations_on_one_need_one = refl
+
+-- Programs start with the default graphics state.
+programs_start_with_the_default_graphics_state :
+    seen_at_end [] ≡ Some (record {
+      offset = 0;
+      stack = [];
+      graphics = record { rp0 = pos 0; rp1 = pos 0; rp2 = pos 0; zp0 = One; zp1 = One; zp2 = One; loop_number = pos 1 };
+      cells = untouched;
+    })
+unfolding computed
+programs_start_with_the_default_graphics_state = refl
 
 -- Functions share the frames of a machine: the innermost first.
 a_turn_is_counted_in_its_frame :
