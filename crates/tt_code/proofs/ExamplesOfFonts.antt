@@ -11,7 +11,7 @@ a_function_pops_what_the_glyph_program_pushed = refl
 
 a_fault_in_a_function_stands_in_the_font_program :
     font_answers (0xb0 ∷ 0x00 ∷ 0x2c ∷ 0x21 ∷ 0x2d ∷ []) [] (0xb0 ∷ 0x00 ∷ 0x2b ∷ [])
-      (Refused InGlyph InFont 3 reason.Underflow)
+    (Refused InGlyph InFont 3 reason.Underflow)
 unfolding answer
 a_fault_in_a_function_stands_in_the_font_program = refl
 
@@ -22,7 +22,7 @@ a_loopcall_pops_once_in_each_turn = refl
 
 a_loopcall_has_one_turn_too_many :
     font_answers (0xb0 ∷ 0x00 ∷ 0x2c ∷ 0x21 ∷ 0x2d ∷ []) [] (0xb4 ∷ 0x01 ∷ 0x02 ∷ 0x03 ∷ 0x04 ∷ 0x00 ∷ 0x2a ∷ [])
-      (Refused InGlyph InFont 3 reason.Underflow)
+    (Refused InGlyph InFont 3 reason.Underflow)
 unfolding answer
 a_loopcall_has_one_turn_too_many = refl
 
@@ -43,13 +43,13 @@ a_loopcall_by_a_negative_count_calls_nothing = refl
 
 a_loopcall_by_zero_takes_its_two_numbers :
     font_answers (0xb0 ∷ 0x00 ∷ 0x2c ∷ 0x21 ∷ 0x2d ∷ []) [] (0xb1 ∷ 0x00 ∷ 0x00 ∷ 0x2a ∷ 0x21 ∷ [])
-      (Refused InGlyph InGlyph 4 reason.Underflow)
+    (Refused InGlyph InGlyph 4 reason.Underflow)
 unfolding answer
 a_loopcall_by_zero_takes_its_two_numbers = refl
 
 a_loopcall_by_a_negative_count_takes_its_two_numbers :
     font_answers (0xb0 ∷ 0x00 ∷ 0x2c ∷ 0x21 ∷ 0x2d ∷ []) [] (0xb9 ∷ 0xff ∷ 0xff ∷ 0x00 ∷ 0x00 ∷ 0x2a ∷ 0x21 ∷ [])
-      (Refused InGlyph InGlyph 6 reason.Underflow)
+    (Refused InGlyph InGlyph 6 reason.Underflow)
 unfolding answer
 a_loopcall_by_a_negative_count_takes_its_two_numbers = refl
 
@@ -60,19 +60,19 @@ a_loopcall_leaves_the_stack_below_its_two_numbers = refl
 
 a_loopcall_needs_a_count :
     font_answers (0xb0 ∷ 0x00 ∷ 0x2c ∷ 0x21 ∷ 0x2d ∷ []) [] (0xb0 ∷ 0x00 ∷ 0x2a ∷ [])
-      (Refused InGlyph InGlyph 2 reason.Underflow)
+    (Refused InGlyph InGlyph 2 reason.Underflow)
 unfolding answer
 a_loopcall_needs_a_count = refl
 
 a_loopcall_tests_an_undefined_function_before_its_count :
     font_answers (0xb0 ∷ 0x00 ∷ 0x2c ∷ 0x21 ∷ 0x2d ∷ []) [] (0xb0 ∷ 0x01 ∷ 0x2a ∷ [])
-      (Refused InGlyph InGlyph 2 reason.Function)
+    (Refused InGlyph InGlyph 2 reason.Function)
 unfolding answer
 a_loopcall_tests_an_undefined_function_before_its_count = refl
 
 turns_of_an_empty_function_do_nothing :
     font_answers (0xb0 ∷ 0x00 ∷ 0x2c ∷ 0x2d ∷ []) [] (0xb1 ∷ 0x14 ∷ 0x00 ∷ 0x2a ∷ 0x21 ∷ [])
-      (Refused InGlyph InGlyph 4 reason.Underflow)
+    (Refused InGlyph InGlyph 4 reason.Underflow)
 unfolding answer
 turns_of_an_empty_function_do_nothing = refl
 
@@ -83,7 +83,7 @@ control_goes_on_behind_a_call = refl
 
 control_goes_on_behind_a_loopcall :
     font_answers (0xb0 ∷ 0x00 ∷ 0x2c ∷ 0x2d ∷ []) [] (0xb1 ∷ 0x02 ∷ 0x00 ∷ 0x2a ∷ 0x28 ∷ [])
-      (Refused InGlyph InGlyph 4 reason.Opcode)
+    (Refused InGlyph InGlyph 4 reason.Opcode)
 unfolding answer
 control_goes_on_behind_a_loopcall = refl
 
@@ -94,43 +94,43 @@ a_recursion_has_no_fault_of_its_own = refl
 
 a_function_calls_another :
     font_answers (0xb0 ∷ 0x00 ∷ 0x2c ∷ 0x21 ∷ 0x2d ∷ 0xb0 ∷ 0x01 ∷ 0x2c ∷ 0xb0 ∷ 0x00 ∷ 0x2b ∷ 0x21 ∷ 0x2d ∷ []) []
-      (0xb2 ∷ 0x05 ∷ 0x06 ∷ 0x01 ∷ 0x2b ∷ []) Accepted
+    (0xb2 ∷ 0x05 ∷ 0x06 ∷ 0x01 ∷ 0x2b ∷ []) Accepted
 unfolding answer
 a_function_calls_another = refl
 
 a_fault_behind_an_inner_call :
     font_answers (0xb0 ∷ 0x00 ∷ 0x2c ∷ 0x21 ∷ 0x2d ∷ 0xb0 ∷ 0x01 ∷ 0x2c ∷ 0xb0 ∷ 0x00 ∷ 0x2b ∷ 0x21 ∷ 0x2d ∷ []) []
-      (0xb1 ∷ 0x06 ∷ 0x01 ∷ 0x2b ∷ []) (Refused InGlyph InFont 11 reason.Underflow)
+    (0xb1 ∷ 0x06 ∷ 0x01 ∷ 0x2b ∷ []) (Refused InGlyph InFont 11 reason.Underflow)
 unfolding answer
 a_fault_behind_an_inner_call = refl
 
 a_function_leaves_reference_points_behind :
     font_answers (0xb0 ∷ 0x00 ∷ 0x2c ∷ 0xb0 ∷ 0x03 ∷ 0x10 ∷ 0x2d ∷ []) [] (0xb0 ∷ 0x00 ∷ 0x2b ∷ 0xb0 ∷ 0x00 ∷ 0xc0 ∷ [])
-      Accepted
+    Accepted
 unfolding answer
 a_function_leaves_reference_points_behind = refl
 
 a_function_leaves_a_bad_reference_point_behind :
     font_answers (0xb0 ∷ 0x00 ∷ 0x2c ∷ 0xb0 ∷ 0x09 ∷ 0x10 ∷ 0x2d ∷ []) [] (0xb0 ∷ 0x00 ∷ 0x2b ∷ 0xb0 ∷ 0x00 ∷ 0xc0 ∷ [])
-      (Refused InGlyph InGlyph 5 reason.Point)
+    (Refused InGlyph InGlyph 5 reason.Point)
 unfolding answer
 a_function_leaves_a_bad_reference_point_behind = refl
 
 a_function_leaves_a_stored_number_behind :
     font_answers (0xb0 ∷ 0x00 ∷ 0x2c ∷ 0xb1 ∷ 0x01 ∷ 0x03 ∷ 0x42 ∷ 0x2d ∷ []) []
-      (0xb0 ∷ 0x00 ∷ 0x2b ∷ 0xb0 ∷ 0x01 ∷ 0x43 ∷ 0x2e ∷ []) Accepted
+    (0xb0 ∷ 0x00 ∷ 0x2b ∷ 0xb0 ∷ 0x01 ∷ 0x43 ∷ 0x2e ∷ []) Accepted
 unfolding answer
 a_function_leaves_a_stored_number_behind = refl
 
 a_body_may_hold_an_if :
     font_answers (0xb0 ∷ 0x00 ∷ 0x2c ∷ 0x58 ∷ 0x21 ∷ 0x1b ∷ 0x28 ∷ 0x59 ∷ 0x2d ∷ []) []
-      (0xb2 ∷ 0x05 ∷ 0x01 ∷ 0x00 ∷ 0x2b ∷ []) Accepted
+    (0xb2 ∷ 0x05 ∷ 0x01 ∷ 0x00 ∷ 0x2b ∷ []) Accepted
 unfolding answer
 a_body_may_hold_an_if = refl
 
 a_body_may_hold_an_else :
     font_answers (0xb0 ∷ 0x00 ∷ 0x2c ∷ 0x58 ∷ 0x28 ∷ 0x1b ∷ 0x21 ∷ 0x59 ∷ 0x2d ∷ []) []
-      (0xb2 ∷ 0x05 ∷ 0x00 ∷ 0x00 ∷ 0x2b ∷ []) Accepted
+    (0xb2 ∷ 0x05 ∷ 0x00 ∷ 0x00 ∷ 0x2b ∷ []) Accepted
 unfolding answer
 a_body_may_hold_an_else = refl
 
@@ -142,19 +142,19 @@ a_jump_inside_a_function = refl
 
 a_jump_to_the_end_of_a_function_is_refused_there :
     font_answers (0xb0 ∷ 0x00 ∷ 0x2c ∷ 0xb0 ∷ 0x02 ∷ 0x1c ∷ 0x2d ∷ []) [] (0xb0 ∷ 0x00 ∷ 0x2b ∷ [])
-      (Refused InGlyph InFont 5 reason.Target)
+    (Refused InGlyph InFont 5 reason.Target)
 unfolding answer
 a_jump_to_the_end_of_a_function_is_refused_there = refl
 
 a_jump_from_a_function_to_its_definition :
     font_answers (0xb0 ∷ 0x00 ∷ 0x2c ∷ 0xb8 ∷ 0xff ∷ 0xfc ∷ 0x1c ∷ 0x2d ∷ []) [] (0xb0 ∷ 0x00 ∷ 0x2b ∷ [])
-      (Refused InGlyph InFont 6 reason.Target)
+    (Refused InGlyph InFont 6 reason.Target)
 unfolding answer
 a_jump_from_a_function_to_its_definition = refl
 
 a_jump_from_a_function_into_another :
     font_answers (0xb0 ∷ 0x00 ∷ 0x2c ∷ 0xb0 ∷ 0x05 ∷ 0x1c ∷ 0x2d ∷ 0xb0 ∷ 0x01 ∷ 0x2c ∷ 0x2d ∷ []) []
-      (0xb0 ∷ 0x00 ∷ 0x2b ∷ []) (Refused InGlyph InFont 5 reason.Target)
+    (0xb0 ∷ 0x00 ∷ 0x2b ∷ []) (Refused InGlyph InFont 5 reason.Target)
 unfolding answer
 a_jump_from_a_function_into_another = refl
 
@@ -175,7 +175,7 @@ a_jump_from_the_main_program_to_a_definition = refl
 
 a_jump_over_a_definition :
     font_answers (0xb0 ∷ 0x05 ∷ 0x1c ∷ 0xb0 ∷ 0x00 ∷ 0x2c ∷ 0x2d ∷ []) [] (0xb0 ∷ 0x00 ∷ 0x2b ∷ [])
-      (Refused InGlyph InGlyph 2 reason.Function)
+    (Refused InGlyph InGlyph 2 reason.Function)
 unfolding answer
 a_jump_over_a_definition = refl
 
@@ -197,13 +197,13 @@ the_cvt_program_replaces_a_function = refl
 
 the_cvt_program_keeps_other_functions :
     font_answers (0xb0 ∷ 0x00 ∷ 0x2c ∷ 0x21 ∷ 0x2d ∷ []) (0xb0 ∷ 0x01 ∷ 0x2c ∷ 0x2d ∷ []) (0xb0 ∷ 0x00 ∷ 0x2b ∷ [])
-      (Refused InGlyph InFont 3 reason.Underflow)
+    (Refused InGlyph InFont 3 reason.Underflow)
 unfolding answer
 the_cvt_program_keeps_other_functions = refl
 
 the_cvt_program_may_replace_a_function :
     font_answers_to_any (0xb0 ∷ 0x00 ∷ 0x2c ∷ 0x21 ∷ 0x2d ∷ []) (0x4b ∷ 0x58 ∷ 0xb0 ∷ 0x00 ∷ 0x2c ∷ 0x2d ∷ 0x59 ∷ [])
-      (0xb0 ∷ 0x00 ∷ 0x2b ∷ []) (Refused InGlyph InFont 3 reason.Underflow) Accepted Accepted Accepted
+    (0xb0 ∷ 0x00 ∷ 0x2b ∷ []) (Refused InGlyph InFont 3 reason.Underflow) Accepted Accepted Accepted
 unfolding answer
 the_cvt_program_may_replace_a_function = refl
 
@@ -214,13 +214,13 @@ a_second_definition_replaces_the_first = refl
 
 the_second_definition_counts :
     font_answers (0xb0 ∷ 0x00 ∷ 0x2c ∷ 0x2d ∷ 0xb0 ∷ 0x00 ∷ 0x2c ∷ 0x21 ∷ 0x2d ∷ []) [] (0xb0 ∷ 0x00 ∷ 0x2b ∷ [])
-      (Refused InGlyph InFont 7 reason.Underflow)
+    (Refused InGlyph InFont 7 reason.Underflow)
 unfolding answer
 the_second_definition_counts = refl
 
 a_definition_in_an_if_that_is_not_taken :
     font_answers (0xb0 ∷ 0x00 ∷ 0x58 ∷ 0xb0 ∷ 0x00 ∷ 0x2c ∷ 0x2d ∷ 0x59 ∷ []) [] (0xb0 ∷ 0x00 ∷ 0x2b ∷ [])
-      (Refused InGlyph InGlyph 2 reason.Function)
+    (Refused InGlyph InGlyph 2 reason.Function)
 unfolding answer
 a_definition_in_an_if_that_is_not_taken = refl
 
@@ -259,25 +259,25 @@ the_font_program_calls_its_own_function = refl
 
 the_cvt_program_calls_a_function_of_the_font_program :
     font_answers (0xb0 ∷ 0x00 ∷ 0x2c ∷ 0x21 ∷ 0x2d ∷ []) (0xb1 ∷ 0x05 ∷ 0x00 ∷ 0x2b ∷ 0xb0 ∷ 0x00 ∷ 0x2b ∷ []) []
-      (Refused InCvt InFont 3 reason.Underflow)
+    (Refused InCvt InFont 3 reason.Underflow)
 unfolding answer
 the_cvt_program_calls_a_function_of_the_font_program = refl
 
 a_function_of_the_cvt_program_calls_one_of_the_font_program :
     font_answers (0xb0 ∷ 0x00 ∷ 0x2c ∷ 0x21 ∷ 0x2d ∷ []) (0xb0 ∷ 0x01 ∷ 0x2c ∷ 0xb0 ∷ 0x00 ∷ 0x2b ∷ 0x28 ∷ 0x2d ∷ [])
-      (0xb1 ∷ 0x05 ∷ 0x01 ∷ 0x2b ∷ []) (Refused InGlyph InCvt 6 reason.Opcode)
+    (0xb1 ∷ 0x05 ∷ 0x01 ∷ 0x2b ∷ []) (Refused InGlyph InCvt 6 reason.Opcode)
 unfolding answer
 a_function_of_the_cvt_program_calls_one_of_the_font_program = refl
 
 a_function_of_the_font_program_calls_one_of_the_cvt_program :
     font_answers (0xb0 ∷ 0x00 ∷ 0x2c ∷ 0xb0 ∷ 0x01 ∷ 0x2b ∷ 0x28 ∷ 0x2d ∷ []) (0x18 ∷ 0xb0 ∷ 0x01 ∷ 0x2c ∷ 0x2d ∷ [])
-      (0xb0 ∷ 0x00 ∷ 0x2b ∷ []) (Refused InGlyph InFont 6 reason.Opcode)
+    (0xb0 ∷ 0x00 ∷ 0x2b ∷ []) (Refused InGlyph InFont 6 reason.Opcode)
 unfolding answer
 a_function_of_the_font_program_calls_one_of_the_cvt_program = refl
 
 a_loop_of_calls_through_both_programs :
     font_answers (0xb0 ∷ 0x00 ∷ 0x2c ∷ 0xb0 ∷ 0x01 ∷ 0x2b ∷ 0x21 ∷ 0x2d ∷ []) (0xb0 ∷ 0x01 ∷ 0x2c ∷ 0x21 ∷ 0x2d ∷ [])
-      (0xb4 ∷ 0x01 ∷ 0x02 ∷ 0x03 ∷ 0x02 ∷ 0x00 ∷ 0x2a ∷ []) (Refused InGlyph InFont 6 reason.Underflow)
+    (0xb4 ∷ 0x01 ∷ 0x02 ∷ 0x03 ∷ 0x02 ∷ 0x00 ∷ 0x2a ∷ []) (Refused InGlyph InFont 6 reason.Underflow)
 unfolding answer
 a_loop_of_calls_through_both_programs = refl
 

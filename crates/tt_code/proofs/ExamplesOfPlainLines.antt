@@ -9,15 +9,15 @@ use Rattle.tt_code.proofs.Running.{performed, usual_limits, zones, goes_on_with,
 -- Instructions that take nothing.
 settings_of_vectors_and_rounding_change_nothing :
     each_takes
-      (0x00 ∷ 0x01 ∷ 0x02 ∷ 0x03 ∷ 0x04 ∷ 0x05 ∷ 0x0e ∷ 0x18 ∷ 0x19 ∷ 0x30 ∷ 0x31 ∷ 0x3d ∷ 0x4d ∷ 0x4e ∷ 0x59 ∷ 0x7a ∷ 0x7c
-       ∷ 0x7d ∷ []) (zones One One One) (pos 5 ∷ []) (pos 5 ∷ [])
+    (0x00 ∷ 0x01 ∷ 0x02 ∷ 0x03 ∷ 0x04 ∷ 0x05 ∷ 0x0e ∷ 0x18 ∷ 0x19 ∷ 0x30 ∷ 0x31 ∷ 0x3d ∷ 0x4d ∷ 0x4e ∷ 0x59 ∷ 0x7a ∷ 0x7c
+    ∷ 0x7d ∷ []) (zones One One One) (pos 5 ∷ []) (pos 5 ∷ [])
 unfolding performed
 settings_of_vectors_and_rounding_change_nothing = refl
 
 settings_of_vectors_and_rounding_need_no_element :
     each_takes
-      (0x00 ∷ 0x01 ∷ 0x02 ∷ 0x03 ∷ 0x04 ∷ 0x05 ∷ 0x0e ∷ 0x18 ∷ 0x19 ∷ 0x30 ∷ 0x31 ∷ 0x3d ∷ 0x4d ∷ 0x4e ∷ 0x59 ∷ 0x7a ∷ 0x7c
-       ∷ 0x7d ∷ []) (zones Zero Zero Zero) [] []
+    (0x00 ∷ 0x01 ∷ 0x02 ∷ 0x03 ∷ 0x04 ∷ 0x05 ∷ 0x0e ∷ 0x18 ∷ 0x19 ∷ 0x30 ∷ 0x31 ∷ 0x3d ∷ 0x4d ∷ 0x4e ∷ 0x59 ∷ 0x7a ∷ 0x7c
+    ∷ 0x7d ∷ []) (zones Zero Zero Zero) [] []
 unfolding performed
 settings_of_vectors_and_rounding_need_no_element = refl
 
@@ -27,7 +27,7 @@ vectors_are_two_numbers_pushed = refl
 
 vectors_are_two_numbers_on_the_stack :
     each_faults (0x0c ∷ 0x0d ∷ []) (zones One One One) ((pos 1 ∷ pos 2 ∷ pos 3 ∷ pos 4 ∷ pos 5 ∷ pos 6 ∷ pos 8 ∷ []) ∷ [])
-      reason.Overflow
+    reason.Overflow
 unfolding performed
 vectors_are_two_numbers_on_the_stack = refl
 
@@ -38,13 +38,13 @@ sizes_are_measured = refl
 -- Instructions that take any numbers.
 settings_take_any_number :
     each_takes (0x1a ∷ 0x1d ∷ 0x1e ∷ 0x1f ∷ 0x4f ∷ 0x5e ∷ 0x5f ∷ 0x76 ∷ 0x77 ∷ 0x7e ∷ 0x7f ∷ 0x85 ∷ 0x8d ∷ [])
-      (zones One One One) (negsuc 0 ∷ pos 6 ∷ []) (pos 6 ∷ [])
+    (zones One One One) (negsuc 0 ∷ pos 6 ∷ []) (pos 6 ∷ [])
 unfolding performed
 settings_take_any_number = refl
 
 settings_need_a_number :
     each_faults (0x1a ∷ 0x1d ∷ 0x1e ∷ 0x1f ∷ 0x4f ∷ 0x5e ∷ 0x5f ∷ 0x76 ∷ 0x77 ∷ 0x7e ∷ 0x7f ∷ 0x85 ∷ 0x8d ∷ [])
-      (zones One One One) ([] ∷ []) reason.Underflow
+    (zones One One One) ([] ∷ []) reason.Underflow
 unfolding performed
 settings_need_a_number = refl
 
@@ -60,13 +60,13 @@ vectors_from_the_stack_need_two_numbers = refl
 
 roundings_take_a_number_and_push_any :
     each_takes (0x56 ∷ 0x57 ∷ 0x66 ∷ 0x67 ∷ 0x68 ∷ 0x69 ∷ 0x6a ∷ 0x6b ∷ 0x6c ∷ 0x6d ∷ 0x6e ∷ 0x6f ∷ 0x88 ∷ [])
-      (zones One One One) (negsuc 0 ∷ pos 6 ∷ []) (pos 7 ∷ pos 6 ∷ [])
+    (zones One One One) (negsuc 0 ∷ pos 6 ∷ []) (pos 7 ∷ pos 6 ∷ [])
 unfolding performed
 roundings_take_a_number_and_push_any = refl
 
 roundings_need_a_number :
     each_faults (0x56 ∷ 0x57 ∷ 0x66 ∷ 0x67 ∷ 0x68 ∷ 0x69 ∷ 0x6a ∷ 0x6b ∷ 0x6c ∷ 0x6d ∷ 0x6e ∷ 0x6f ∷ 0x88 ∷ [])
-      (zones One One One) ([] ∷ []) reason.Underflow
+    (zones One One One) ([] ∷ []) reason.Underflow
 unfolding performed
 roundings_need_a_number = refl
 
@@ -88,13 +88,13 @@ lines_take_two_points_of_zp1_and_zp2 = refl
 
 lines_test_both_points_in_zp1 :
     each_faults (0x06 ∷ 0x07 ∷ 0x08 ∷ 0x09 ∷ 0x86 ∷ 0x87 ∷ []) (zones Zero One Zero)
-      ((pos 8 ∷ pos 0 ∷ []) ∷ (pos 0 ∷ pos 8 ∷ []) ∷ (negsuc 0 ∷ pos 0 ∷ []) ∷ []) reason.Point
+    ((pos 8 ∷ pos 0 ∷ []) ∷ (pos 0 ∷ pos 8 ∷ []) ∷ (negsuc 0 ∷ pos 0 ∷ []) ∷ []) reason.Point
 unfolding performed
 lines_test_both_points_in_zp1 = refl
 
 lines_test_both_points_in_zp2 :
     each_faults (0x06 ∷ 0x07 ∷ 0x08 ∷ 0x09 ∷ 0x86 ∷ 0x87 ∷ []) (zones Zero Zero One)
-      ((pos 8 ∷ pos 0 ∷ []) ∷ (pos 0 ∷ pos 8 ∷ []) ∷ (pos 8 ∷ []) ∷ []) reason.Point
+    ((pos 8 ∷ pos 0 ∷ []) ∷ (pos 0 ∷ pos 8 ∷ []) ∷ (pos 8 ∷ []) ∷ []) reason.Point
 unfolding performed
 lines_test_both_points_in_zp2 = refl
 
@@ -159,13 +159,13 @@ isect_takes_a_point_of_zp2_last = refl
 
 isect_tests_two_points_in_zp0 :
     each_faults (0x0f ∷ []) (zones One Zero Zero)
-      ((pos 8 ∷ pos 0 ∷ pos 0 ∷ pos 0 ∷ pos 0 ∷ []) ∷ (pos 0 ∷ pos 8 ∷ pos 0 ∷ pos 0 ∷ pos 0 ∷ []) ∷ []) reason.Point
+    ((pos 8 ∷ pos 0 ∷ pos 0 ∷ pos 0 ∷ pos 0 ∷ []) ∷ (pos 0 ∷ pos 8 ∷ pos 0 ∷ pos 0 ∷ pos 0 ∷ []) ∷ []) reason.Point
 unfolding performed
 isect_tests_two_points_in_zp0 = refl
 
 isect_tests_two_points_in_zp1 :
     each_faults (0x0f ∷ []) (zones Zero One Zero)
-      ((pos 0 ∷ pos 0 ∷ pos 8 ∷ pos 0 ∷ pos 0 ∷ []) ∷ (pos 0 ∷ pos 0 ∷ pos 0 ∷ pos 8 ∷ pos 0 ∷ []) ∷ []) reason.Point
+    ((pos 0 ∷ pos 0 ∷ pos 8 ∷ pos 0 ∷ pos 0 ∷ []) ∷ (pos 0 ∷ pos 0 ∷ pos 0 ∷ pos 8 ∷ pos 0 ∷ []) ∷ []) reason.Point
 unfolding performed
 isect_tests_two_points_in_zp1 = refl
 
@@ -176,27 +176,27 @@ isect_tests_a_point_in_zp2 = refl
 
 isect_needs_five_points :
     each_faults (0x0f ∷ []) (zones Zero Zero Zero)
-      ([] ∷ (pos 0 ∷ []) ∷ (pos 0 ∷ pos 0 ∷ []) ∷ (pos 0 ∷ pos 0 ∷ pos 0 ∷ []) ∷ (pos 0 ∷ pos 0 ∷ pos 0 ∷ pos 0 ∷ []) ∷ [])
-      reason.Underflow
+    ([] ∷ (pos 0 ∷ []) ∷ (pos 0 ∷ pos 0 ∷ []) ∷ (pos 0 ∷ pos 0 ∷ pos 0 ∷ []) ∷ (pos 0 ∷ pos 0 ∷ pos 0 ∷ pos 0 ∷ []) ∷ [])
+    reason.Underflow
 unfolding performed
 isect_needs_five_points = refl
 
 -- Reference points, zone pointers and the loop number.
 srp0_sets_its_reference_point_unchecked :
     each_leaves (0x10 ∷ []) (zones One One One) (negsuc 0 ∷ pos 6 ∷ []) (pos 6 ∷ [])
-      (record (zones One One One) { rp0 = negsuc 0 })
+    (record (zones One One One) { rp0 = negsuc 0 })
 unfolding performed
 srp0_sets_its_reference_point_unchecked = refl
 
 srp1_sets_its_reference_point_unchecked :
     each_leaves (0x11 ∷ []) (zones One One One) (negsuc 0 ∷ pos 6 ∷ []) (pos 6 ∷ [])
-      (record (zones One One One) { rp1 = negsuc 0 })
+    (record (zones One One One) { rp1 = negsuc 0 })
 unfolding performed
 srp1_sets_its_reference_point_unchecked = refl
 
 srp2_sets_its_reference_point_unchecked :
     each_leaves (0x12 ∷ []) (zones One One One) (negsuc 0 ∷ pos 6 ∷ []) (pos 6 ∷ [])
-      (record (zones One One One) { rp2 = negsuc 0 })
+    (record (zones One One One) { rp2 = negsuc 0 })
 unfolding performed
 srp2_sets_its_reference_point_unchecked = refl
 
@@ -211,7 +211,7 @@ szp0_sets_its_pointer_to_the_twilight_zone = refl
 
 szp0_sets_its_pointer_to_the_glyph_zone :
     each_leaves (0x13 ∷ []) (zones Zero Zero Zero) (pos 1 ∷ pos 6 ∷ []) (pos 6 ∷ [])
-      (record (zones Zero Zero Zero) { zp0 = One })
+    (record (zones Zero Zero Zero) { zp0 = One })
 unfolding performed
 szp0_sets_its_pointer_to_the_glyph_zone = refl
 
@@ -222,7 +222,7 @@ szp1_sets_its_pointer_to_the_twilight_zone = refl
 
 szp1_sets_its_pointer_to_the_glyph_zone :
     each_leaves (0x14 ∷ []) (zones Zero Zero Zero) (pos 1 ∷ pos 6 ∷ []) (pos 6 ∷ [])
-      (record (zones Zero Zero Zero) { zp1 = One })
+    (record (zones Zero Zero Zero) { zp1 = One })
 unfolding performed
 szp1_sets_its_pointer_to_the_glyph_zone = refl
 
@@ -233,7 +233,7 @@ szp2_sets_its_pointer_to_the_twilight_zone = refl
 
 szp2_sets_its_pointer_to_the_glyph_zone :
     each_leaves (0x15 ∷ []) (zones Zero Zero Zero) (pos 1 ∷ pos 6 ∷ []) (pos 6 ∷ [])
-      (record (zones Zero Zero Zero) { zp2 = One })
+    (record (zones Zero Zero Zero) { zp2 = One })
 unfolding performed
 szp2_sets_its_pointer_to_the_glyph_zone = refl
 
@@ -258,7 +258,7 @@ zone_pointers_need_a_zone = refl
 
 sloop_sets_the_loop_number_unchecked :
     each_leaves (0x17 ∷ []) (zones One One One) (negsuc 0 ∷ pos 6 ∷ []) (pos 6 ∷ [])
-      (record (zones One One One) { loop_number = negsuc 0 })
+    (record (zones One One One) { loop_number = negsuc 0 })
 unfolding performed
 sloop_sets_the_loop_number_unchecked = refl
 
@@ -281,7 +281,7 @@ utp_needs_a_point = refl
 
 mdap_sets_two_reference_points :
     each_leaves (0x2e ∷ 0x2f ∷ []) (zones Zero One One) (pos 11 ∷ pos 6 ∷ []) (pos 6 ∷ [])
-      (record (zones Zero One One) { rp0 = pos 11; rp1 = pos 11 })
+    (record (zones Zero One One) { rp0 = pos 11; rp1 = pos 11 })
 unfolding performed
 mdap_sets_two_reference_points = refl
 
@@ -296,13 +296,13 @@ mdap_needs_a_point = refl
 
 miap_sets_two_reference_points :
     each_leaves (0x3e ∷ 0x3f ∷ []) (zones Zero One One) (pos 9 ∷ pos 11 ∷ pos 6 ∷ []) (pos 6 ∷ [])
-      (record (zones Zero One One) { rp0 = pos 11; rp1 = pos 11 })
+    (record (zones Zero One One) { rp0 = pos 11; rp1 = pos 11 })
 unfolding performed
 miap_sets_two_reference_points = refl
 
 miap_tests_its_control_value_first :
     each_faults (0x3e ∷ 0x3f ∷ []) (zones One Zero Zero)
-      ((pos 10 ∷ pos 8 ∷ []) ∷ (pos 10 ∷ []) ∷ (negsuc 0 ∷ pos 8 ∷ []) ∷ []) reason.Cvt
+    ((pos 10 ∷ pos 8 ∷ []) ∷ (pos 10 ∷ []) ∷ (negsuc 0 ∷ pos 8 ∷ []) ∷ []) reason.Cvt
 unfolding performed
 miap_tests_its_control_value_first = refl
 
@@ -319,25 +319,25 @@ miap_needs_a_control_value_and_a_point = refl
 -- Points, contours and zones that are shifted by a reference point.
 shp_uses_rp2_in_zp1 :
     each_leaves (0x32 ∷ []) (record (zones One One Zero) { rp2 = pos 7 }) (pos 11 ∷ pos 10 ∷ pos 6 ∷ []) (pos 6 ∷ [])
-      (record (record (zones One One Zero) { rp2 = pos 7 }) { loop_number = pos 1 })
+    (record (record (zones One One Zero) { rp2 = pos 7 }) { loop_number = pos 1 })
 unfolding performed
 shp_uses_rp2_in_zp1 = refl
 
 shp_tests_rp2_in_zp1_behind_its_points :
     each_faults (0x32 ∷ []) (record (zones Zero One Zero) { rp0 = pos 0; rp1 = pos 0; rp2 = pos 8 })
-      ((pos 11 ∷ pos 10 ∷ []) ∷ []) reason.Point
+    ((pos 11 ∷ pos 10 ∷ []) ∷ []) reason.Point
 unfolding performed
 shp_tests_rp2_in_zp1_behind_its_points = refl
 
 shp_takes_its_points_before_it_tests_rp2 :
     each_faults (0x32 ∷ []) (record (zones Zero One Zero) { rp0 = pos 0; rp1 = pos 0; rp2 = pos 8 })
-      ([] ∷ (pos 11 ∷ []) ∷ []) reason.Underflow
+    ([] ∷ (pos 11 ∷ []) ∷ []) reason.Underflow
 unfolding performed
 shp_takes_its_points_before_it_tests_rp2 = refl
 
 shp_by_rp2_tests_its_points_in_zp2 :
     each_faults (0x32 ∷ []) (record (zones Zero Zero One) { rp2 = pos 0 })
-      ((pos 8 ∷ pos 0 ∷ []) ∷ (pos 0 ∷ pos 8 ∷ []) ∷ (negsuc 0 ∷ pos 0 ∷ []) ∷ []) reason.Point
+    ((pos 8 ∷ pos 0 ∷ []) ∷ (pos 0 ∷ pos 8 ∷ []) ∷ (negsuc 0 ∷ pos 0 ∷ []) ∷ []) reason.Point
 unfolding performed
 shp_by_rp2_tests_its_points_in_zp2 = refl
 
@@ -348,7 +348,7 @@ shp_by_rp2_refuses_a_negative_loop_number_first = refl
 
 shp_by_rp2_takes_no_point_for_loop_number_zero :
     each_leaves (0x32 ∷ []) (record (zones One One One) { rp2 = pos 7; loop_number = pos 0 }) (pos 6 ∷ []) (pos 6 ∷ [])
-      (record (record (zones One One One) { rp2 = pos 7; loop_number = pos 0 }) { loop_number = pos 1 })
+    (record (record (zones One One One) { rp2 = pos 7; loop_number = pos 0 }) { loop_number = pos 1 })
 unfolding performed
 shp_by_rp2_takes_no_point_for_loop_number_zero = refl
 
@@ -359,25 +359,25 @@ shp_tests_rp2_for_loop_number_zero_too = refl
 
 shp_uses_rp1_in_zp0 :
     each_leaves (0x33 ∷ []) (record (zones One One Zero) { rp1 = pos 7 }) (pos 11 ∷ pos 10 ∷ pos 6 ∷ []) (pos 6 ∷ [])
-      (record (record (zones One One Zero) { rp1 = pos 7 }) { loop_number = pos 1 })
+    (record (record (zones One One Zero) { rp1 = pos 7 }) { loop_number = pos 1 })
 unfolding performed
 shp_uses_rp1_in_zp0 = refl
 
 shp_tests_rp1_in_zp0_behind_its_points :
     each_faults (0x33 ∷ []) (record (zones One Zero Zero) { rp0 = pos 0; rp1 = pos 8; rp2 = pos 0 })
-      ((pos 11 ∷ pos 10 ∷ []) ∷ []) reason.Point
+    ((pos 11 ∷ pos 10 ∷ []) ∷ []) reason.Point
 unfolding performed
 shp_tests_rp1_in_zp0_behind_its_points = refl
 
 shp_takes_its_points_before_it_tests_rp1 :
     each_faults (0x33 ∷ []) (record (zones One Zero Zero) { rp0 = pos 0; rp1 = pos 8; rp2 = pos 0 })
-      ([] ∷ (pos 11 ∷ []) ∷ []) reason.Underflow
+    ([] ∷ (pos 11 ∷ []) ∷ []) reason.Underflow
 unfolding performed
 shp_takes_its_points_before_it_tests_rp1 = refl
 
 shp_by_rp1_tests_its_points_in_zp2 :
     each_faults (0x33 ∷ []) (record (zones Zero Zero One) { rp1 = pos 0 })
-      ((pos 8 ∷ pos 0 ∷ []) ∷ (pos 0 ∷ pos 8 ∷ []) ∷ (negsuc 0 ∷ pos 0 ∷ []) ∷ []) reason.Point
+    ((pos 8 ∷ pos 0 ∷ []) ∷ (pos 0 ∷ pos 8 ∷ []) ∷ (negsuc 0 ∷ pos 0 ∷ []) ∷ []) reason.Point
 unfolding performed
 shp_by_rp1_tests_its_points_in_zp2 = refl
 
@@ -388,7 +388,7 @@ shp_by_rp1_refuses_a_negative_loop_number_first = refl
 
 shp_by_rp1_takes_no_point_for_loop_number_zero :
     each_leaves (0x33 ∷ []) (record (zones One One One) { rp1 = pos 7; loop_number = pos 0 }) (pos 6 ∷ []) (pos 6 ∷ [])
-      (record (record (zones One One One) { rp1 = pos 7; loop_number = pos 0 }) { loop_number = pos 1 })
+    (record (record (zones One One One) { rp1 = pos 7; loop_number = pos 0 }) { loop_number = pos 1 })
 unfolding performed
 shp_by_rp1_takes_no_point_for_loop_number_zero = refl
 
@@ -419,7 +419,7 @@ shc_by_rp2_refuses_a_second_contour_of_the_twilight_zone = refl
 
 shc_tests_rp2_in_zp1_behind_its_contour :
     each_faults (0x34 ∷ []) (record (zones Zero One Zero) { rp0 = pos 0; rp1 = pos 0; rp2 = pos 8 }) ((pos 0 ∷ []) ∷ [])
-      reason.Point
+    reason.Point
 unfolding performed
 shc_tests_rp2_in_zp1_behind_its_contour = refl
 
@@ -450,7 +450,7 @@ shc_by_rp1_refuses_a_second_contour_of_the_twilight_zone = refl
 
 shc_tests_rp1_in_zp0_behind_its_contour :
     each_faults (0x35 ∷ []) (record (zones One Zero Zero) { rp0 = pos 0; rp1 = pos 8; rp2 = pos 0 }) ((pos 0 ∷ []) ∷ [])
-      reason.Point
+    reason.Point
 unfolding performed
 shc_tests_rp1_in_zp0_behind_its_contour = refl
 
@@ -471,13 +471,13 @@ shz_by_rp2_takes_the_twilight_zone = refl
 
 shz_by_rp2_refuses_other_zones_first :
     each_faults (0x36 ∷ []) (record (zones Zero One Zero) { rp0 = pos 0; rp1 = pos 0; rp2 = pos 8 })
-      ((pos 2 ∷ []) ∷ (negsuc 0 ∷ []) ∷ []) reason.Zone
+    ((pos 2 ∷ []) ∷ (negsuc 0 ∷ []) ∷ []) reason.Zone
 unfolding performed
 shz_by_rp2_refuses_other_zones_first = refl
 
 shz_tests_rp2_in_zp1_behind_its_zone :
     each_faults (0x36 ∷ []) (record (zones Zero One Zero) { rp0 = pos 0; rp1 = pos 0; rp2 = pos 8 })
-      ((pos 0 ∷ []) ∷ (pos 1 ∷ []) ∷ []) reason.Point
+    ((pos 0 ∷ []) ∷ (pos 1 ∷ []) ∷ []) reason.Point
 unfolding performed
 shz_tests_rp2_in_zp1_behind_its_zone = refl
 
@@ -498,13 +498,13 @@ shz_by_rp1_takes_the_twilight_zone = refl
 
 shz_by_rp1_refuses_other_zones_first :
     each_faults (0x37 ∷ []) (record (zones One Zero Zero) { rp0 = pos 0; rp1 = pos 8; rp2 = pos 0 })
-      ((pos 2 ∷ []) ∷ (negsuc 0 ∷ []) ∷ []) reason.Zone
+    ((pos 2 ∷ []) ∷ (negsuc 0 ∷ []) ∷ []) reason.Zone
 unfolding performed
 shz_by_rp1_refuses_other_zones_first = refl
 
 shz_tests_rp1_in_zp0_behind_its_zone :
     each_faults (0x37 ∷ []) (record (zones One Zero Zero) { rp0 = pos 0; rp1 = pos 8; rp2 = pos 0 })
-      ((pos 0 ∷ []) ∷ (pos 1 ∷ []) ∷ []) reason.Point
+    ((pos 0 ∷ []) ∷ (pos 1 ∷ []) ∷ []) reason.Point
 unfolding performed
 shz_tests_rp1_in_zp0_behind_its_zone = refl
 
@@ -515,13 +515,13 @@ shz_needs_a_zone_before_it_tests_rp1 = refl
 
 shpix_takes_a_distance_and_points_of_zp2 :
     each_leaves (0x38 ∷ []) (zones One One Zero) (negsuc 0 ∷ pos 11 ∷ pos 10 ∷ pos 6 ∷ []) (pos 6 ∷ [])
-      (record (zones One One Zero) { loop_number = pos 1 })
+    (record (zones One One Zero) { loop_number = pos 1 })
 unfolding performed
 shpix_takes_a_distance_and_points_of_zp2 = refl
 
 shpix_tests_its_points_in_zp2 :
     each_faults (0x38 ∷ []) (zones Zero Zero One) ((pos 0 ∷ pos 8 ∷ pos 0 ∷ []) ∷ (pos 0 ∷ pos 0 ∷ pos 8 ∷ []) ∷ [])
-      reason.Point
+    reason.Point
 unfolding performed
 shpix_tests_its_points_in_zp2 = refl
 
@@ -532,7 +532,7 @@ shpix_takes_its_distance_before_it_tests_the_loop_number = refl
 
 shpix_refuses_a_negative_loop_number :
     each_faults (0x38 ∷ []) (record (zones One One One) { loop_number = negsuc 0 })
-      ((pos 0 ∷ []) ∷ (pos 0 ∷ pos 8 ∷ []) ∷ []) reason.Count
+    ((pos 0 ∷ []) ∷ (pos 0 ∷ pos 8 ∷ []) ∷ []) reason.Count
 unfolding performed
 shpix_refuses_a_negative_loop_number = refl
 
@@ -544,31 +544,31 @@ shpix_needs_a_distance_and_points = refl
 -- Points that are moved between or along reference points.
 ip_uses_rp1_in_zp0_and_rp2_in_zp1 :
     each_leaves (0x39 ∷ []) (record (zones Zero One Zero) { rp1 = pos 11; rp2 = pos 7 }) (pos 11 ∷ pos 10 ∷ pos 6 ∷ [])
-      (pos 6 ∷ []) (record (record (zones Zero One Zero) { rp1 = pos 11; rp2 = pos 7 }) { loop_number = pos 1 })
+    (pos 6 ∷ []) (record (record (zones Zero One Zero) { rp1 = pos 11; rp2 = pos 7 }) { loop_number = pos 1 })
 unfolding performed
 ip_uses_rp1_in_zp0_and_rp2_in_zp1 = refl
 
 ip_uses_two_zones :
     each_leaves (0x39 ∷ []) (record (zones One Zero Zero) { rp1 = pos 7; rp2 = pos 11 }) (pos 11 ∷ pos 10 ∷ pos 6 ∷ [])
-      (pos 6 ∷ []) (record (record (zones One Zero Zero) { rp1 = pos 7; rp2 = pos 11 }) { loop_number = pos 1 })
+    (pos 6 ∷ []) (record (record (zones One Zero Zero) { rp1 = pos 7; rp2 = pos 11 }) { loop_number = pos 1 })
 unfolding performed
 ip_uses_two_zones = refl
 
 ip_tests_rp1_in_zp0 :
     each_faults (0x39 ∷ []) (record (zones One Zero Zero) { rp0 = pos 0; rp1 = pos 8; rp2 = pos 0 })
-      ((pos 11 ∷ pos 10 ∷ []) ∷ []) reason.Point
+    ((pos 11 ∷ pos 10 ∷ []) ∷ []) reason.Point
 unfolding performed
 ip_tests_rp1_in_zp0 = refl
 
 ip_tests_rp2_in_zp1 :
     each_faults (0x39 ∷ []) (record (zones Zero One Zero) { rp0 = pos 0; rp1 = pos 0; rp2 = pos 8 })
-      ((pos 11 ∷ pos 10 ∷ []) ∷ []) reason.Point
+    ((pos 11 ∷ pos 10 ∷ []) ∷ []) reason.Point
 unfolding performed
 ip_tests_rp2_in_zp1 = refl
 
 ip_tests_its_points_in_zp2 :
     each_faults (0x39 ∷ []) (record (zones Zero Zero One) { rp1 = pos 0; rp2 = pos 0 })
-      ((pos 8 ∷ pos 0 ∷ []) ∷ (pos 0 ∷ pos 8 ∷ []) ∷ []) reason.Point
+    ((pos 8 ∷ pos 0 ∷ []) ∷ (pos 0 ∷ pos 8 ∷ []) ∷ []) reason.Point
 unfolding performed
 ip_tests_its_points_in_zp2 = refl
 
@@ -584,25 +584,25 @@ ip_refuses_a_negative_loop_number_first = refl
 
 msirp_leaves_rp0 :
     each_leaves (0x3a ∷ []) (record (zones Zero One Zero) { rp0 = pos 11 }) (negsuc 0 ∷ pos 7 ∷ pos 6 ∷ []) (pos 6 ∷ [])
-      (record (record (zones Zero One Zero) { rp0 = pos 11 }) { rp1 = pos 11; rp2 = pos 7 })
+    (record (record (zones Zero One Zero) { rp0 = pos 11 }) { rp1 = pos 11; rp2 = pos 7 })
 unfolding performed
 msirp_leaves_rp0 = refl
 
 msirp_takes_a_point_of_zp1 :
     each_leaves (0x3a ∷ []) (record (zones One Zero One) { rp0 = pos 7 }) (negsuc 0 ∷ pos 11 ∷ pos 6 ∷ []) (pos 6 ∷ [])
-      (record (record (zones One Zero One) { rp0 = pos 7 }) { rp1 = pos 7; rp2 = pos 11 })
+    (record (record (zones One Zero One) { rp0 = pos 7 }) { rp1 = pos 7; rp2 = pos 11 })
 unfolding performed
 msirp_takes_a_point_of_zp1 = refl
 
 msirp_tests_its_point_in_zp1 :
     each_faults (0x3a ∷ []) (record (zones Zero One Zero) { rp0 = pos 0 })
-      ((pos 0 ∷ pos 8 ∷ []) ∷ (pos 0 ∷ negsuc 0 ∷ []) ∷ []) reason.Point
+    ((pos 0 ∷ pos 8 ∷ []) ∷ (pos 0 ∷ negsuc 0 ∷ []) ∷ []) reason.Point
 unfolding performed
 msirp_tests_its_point_in_zp1 = refl
 
 msirp_tests_the_old_rp0_in_zp0 :
     each_faults (0x3a ∷ []) (record (zones One Zero Zero) { rp0 = pos 8; rp1 = pos 0; rp2 = pos 0 })
-      ((pos 0 ∷ pos 0 ∷ []) ∷ []) reason.Point
+    ((pos 0 ∷ pos 0 ∷ []) ∷ []) reason.Point
 unfolding performed
 msirp_tests_the_old_rp0_in_zp0 = refl
 
@@ -612,25 +612,25 @@ msirp_needs_a_distance_and_a_point = refl
 
 msirp_with_rp0_sets_it_to_its_point :
     each_leaves (0x3b ∷ []) (record (zones Zero One Zero) { rp0 = pos 11 }) (negsuc 0 ∷ pos 7 ∷ pos 6 ∷ []) (pos 6 ∷ [])
-      (record (record (zones Zero One Zero) { rp0 = pos 11 }) { rp1 = pos 11; rp2 = pos 7; rp0 = pos 7 })
+    (record (record (zones Zero One Zero) { rp0 = pos 11 }) { rp1 = pos 11; rp2 = pos 7; rp0 = pos 7 })
 unfolding performed
 msirp_with_rp0_sets_it_to_its_point = refl
 
 msirp_with_rp0_takes_a_point_of_zp1 :
     each_leaves (0x3b ∷ []) (record (zones One Zero One) { rp0 = pos 7 }) (negsuc 0 ∷ pos 11 ∷ pos 6 ∷ []) (pos 6 ∷ [])
-      (record (record (zones One Zero One) { rp0 = pos 7 }) { rp1 = pos 7; rp2 = pos 11; rp0 = pos 11 })
+    (record (record (zones One Zero One) { rp0 = pos 7 }) { rp1 = pos 7; rp2 = pos 11; rp0 = pos 11 })
 unfolding performed
 msirp_with_rp0_takes_a_point_of_zp1 = refl
 
 msirp_with_rp0_tests_its_point_in_zp1 :
     each_faults (0x3b ∷ []) (record (zones Zero One Zero) { rp0 = pos 0 })
-      ((pos 0 ∷ pos 8 ∷ []) ∷ (pos 0 ∷ negsuc 0 ∷ []) ∷ []) reason.Point
+    ((pos 0 ∷ pos 8 ∷ []) ∷ (pos 0 ∷ negsuc 0 ∷ []) ∷ []) reason.Point
 unfolding performed
 msirp_with_rp0_tests_its_point_in_zp1 = refl
 
 msirp_with_rp0_tests_the_old_rp0_in_zp0 :
     each_faults (0x3b ∷ []) (record (zones One Zero Zero) { rp0 = pos 8; rp1 = pos 0; rp2 = pos 0 })
-      ((pos 0 ∷ pos 0 ∷ []) ∷ []) reason.Point
+    ((pos 0 ∷ pos 0 ∷ []) ∷ []) reason.Point
 unfolding performed
 msirp_with_rp0_tests_the_old_rp0_in_zp0 = refl
 
@@ -641,19 +641,19 @@ msirp_with_rp0_needs_a_distance_and_a_point = refl
 
 alignrp_uses_rp0_in_zp0 :
     each_leaves (0x3c ∷ []) (record (zones One Zero One) { rp0 = pos 7 }) (pos 11 ∷ pos 10 ∷ pos 6 ∷ []) (pos 6 ∷ [])
-      (record (record (zones One Zero One) { rp0 = pos 7 }) { loop_number = pos 1 })
+    (record (record (zones One Zero One) { rp0 = pos 7 }) { loop_number = pos 1 })
 unfolding performed
 alignrp_uses_rp0_in_zp0 = refl
 
 alignrp_tests_its_points_in_zp1 :
     each_faults (0x3c ∷ []) (record (zones Zero One Zero) { rp0 = pos 0 })
-      ((pos 8 ∷ pos 0 ∷ []) ∷ (pos 0 ∷ pos 8 ∷ []) ∷ []) reason.Point
+    ((pos 8 ∷ pos 0 ∷ []) ∷ (pos 0 ∷ pos 8 ∷ []) ∷ []) reason.Point
 unfolding performed
 alignrp_tests_its_points_in_zp1 = refl
 
 alignrp_tests_rp0_in_zp0 :
     each_faults (0x3c ∷ []) (record (zones One Zero Zero) { rp0 = pos 8; rp1 = pos 0; rp2 = pos 0 })
-      ((pos 11 ∷ pos 10 ∷ []) ∷ []) reason.Point
+    ((pos 11 ∷ pos 10 ∷ []) ∷ []) reason.Point
 unfolding performed
 alignrp_tests_rp0_in_zp0 = refl
 
@@ -669,25 +669,25 @@ alignrp_refuses_a_negative_loop_number_first = refl
 
 mdrp_uses_rp0_in_zp0 :
     each_leaves (codes_from 0xc0 16) (record (zones Zero One Zero) { rp0 = pos 11 }) (pos 7 ∷ pos 6 ∷ []) (pos 6 ∷ [])
-      (record (record (zones Zero One Zero) { rp0 = pos 11 }) { rp1 = pos 11; rp2 = pos 7 })
+    (record (record (zones Zero One Zero) { rp0 = pos 11 }) { rp1 = pos 11; rp2 = pos 7 })
 unfolding performed
 mdrp_uses_rp0_in_zp0 = refl
 
 mdrp_takes_a_point_of_zp1 :
     each_leaves (codes_from 0xc0 16) (record (zones One Zero One) { rp0 = pos 7 }) (pos 11 ∷ pos 6 ∷ []) (pos 6 ∷ [])
-      (record (record (zones One Zero One) { rp0 = pos 7 }) { rp1 = pos 7; rp2 = pos 11 })
+    (record (record (zones One Zero One) { rp0 = pos 7 }) { rp1 = pos 7; rp2 = pos 11 })
 unfolding performed
 mdrp_takes_a_point_of_zp1 = refl
 
 mdrp_tests_its_point_in_zp1 :
     each_faults (codes_from 0xc0 16) (record (zones Zero One Zero) { rp0 = pos 0 }) ((pos 8 ∷ []) ∷ (negsuc 0 ∷ []) ∷ [])
-      reason.Point
+    reason.Point
 unfolding performed
 mdrp_tests_its_point_in_zp1 = refl
 
 mdrp_tests_the_old_rp0_in_zp0 :
     each_faults (codes_from 0xc0 16) (record (zones One Zero Zero) { rp0 = pos 8; rp1 = pos 0; rp2 = pos 0 })
-      ((pos 0 ∷ []) ∷ []) reason.Point
+    ((pos 0 ∷ []) ∷ []) reason.Point
 unfolding performed
 mdrp_tests_the_old_rp0_in_zp0 = refl
 
@@ -697,25 +697,25 @@ mdrp_needs_a_point_before_it_tests_rp0 = refl
 
 mdrp_with_rp0_uses_rp0_in_zp0 :
     each_leaves (codes_from 0xd0 16) (record (zones Zero One Zero) { rp0 = pos 11 }) (pos 7 ∷ pos 6 ∷ []) (pos 6 ∷ [])
-      (record (record (zones Zero One Zero) { rp0 = pos 11 }) { rp1 = pos 11; rp2 = pos 7; rp0 = pos 7 })
+    (record (record (zones Zero One Zero) { rp0 = pos 11 }) { rp1 = pos 11; rp2 = pos 7; rp0 = pos 7 })
 unfolding performed
 mdrp_with_rp0_uses_rp0_in_zp0 = refl
 
 mdrp_with_rp0_takes_a_point_of_zp1 :
     each_leaves (codes_from 0xd0 16) (record (zones One Zero One) { rp0 = pos 7 }) (pos 11 ∷ pos 6 ∷ []) (pos 6 ∷ [])
-      (record (record (zones One Zero One) { rp0 = pos 7 }) { rp1 = pos 7; rp2 = pos 11; rp0 = pos 11 })
+    (record (record (zones One Zero One) { rp0 = pos 7 }) { rp1 = pos 7; rp2 = pos 11; rp0 = pos 11 })
 unfolding performed
 mdrp_with_rp0_takes_a_point_of_zp1 = refl
 
 mdrp_with_rp0_tests_its_point_in_zp1 :
     each_faults (codes_from 0xd0 16) (record (zones Zero One Zero) { rp0 = pos 0 }) ((pos 8 ∷ []) ∷ (negsuc 0 ∷ []) ∷ [])
-      reason.Point
+    reason.Point
 unfolding performed
 mdrp_with_rp0_tests_its_point_in_zp1 = refl
 
 mdrp_with_rp0_tests_the_old_rp0_in_zp0 :
     each_faults (codes_from 0xd0 16) (record (zones One Zero Zero) { rp0 = pos 8; rp1 = pos 0; rp2 = pos 0 })
-      ((pos 0 ∷ []) ∷ []) reason.Point
+    ((pos 0 ∷ []) ∷ []) reason.Point
 unfolding performed
 mdrp_with_rp0_tests_the_old_rp0_in_zp0 = refl
 
@@ -726,31 +726,31 @@ mdrp_with_rp0_needs_a_point_before_it_tests_rp0 = refl
 
 mirp_uses_rp0_in_zp0 :
     each_leaves (codes_from 0xe0 16) (record (zones Zero One Zero) { rp0 = pos 11 }) (pos 9 ∷ pos 7 ∷ pos 6 ∷ [])
-      (pos 6 ∷ []) (record (record (zones Zero One Zero) { rp0 = pos 11 }) { rp1 = pos 11; rp2 = pos 7 })
+    (pos 6 ∷ []) (record (record (zones Zero One Zero) { rp0 = pos 11 }) { rp1 = pos 11; rp2 = pos 7 })
 unfolding performed
 mirp_uses_rp0_in_zp0 = refl
 
 mirp_takes_a_point_of_zp1 :
     each_leaves (codes_from 0xe0 16) (record (zones One Zero One) { rp0 = pos 7 }) (pos 9 ∷ pos 11 ∷ pos 6 ∷ [])
-      (pos 6 ∷ []) (record (record (zones One Zero One) { rp0 = pos 7 }) { rp1 = pos 7; rp2 = pos 11 })
+    (pos 6 ∷ []) (record (record (zones One Zero One) { rp0 = pos 7 }) { rp1 = pos 7; rp2 = pos 11 })
 unfolding performed
 mirp_takes_a_point_of_zp1 = refl
 
 mirp_tests_its_control_value_first :
     each_faults (codes_from 0xe0 16) (zones One One One)
-      ((pos 10 ∷ pos 8 ∷ []) ∷ (pos 10 ∷ []) ∷ (negsuc 0 ∷ pos 8 ∷ []) ∷ []) reason.Cvt
+    ((pos 10 ∷ pos 8 ∷ []) ∷ (pos 10 ∷ []) ∷ (negsuc 0 ∷ pos 8 ∷ []) ∷ []) reason.Cvt
 unfolding performed
 mirp_tests_its_control_value_first = refl
 
 mirp_tests_its_point_in_zp1 :
     each_faults (codes_from 0xe0 16) (record (zones Zero One Zero) { rp0 = pos 0 })
-      ((pos 9 ∷ pos 8 ∷ []) ∷ (pos 0 ∷ negsuc 0 ∷ []) ∷ []) reason.Point
+    ((pos 9 ∷ pos 8 ∷ []) ∷ (pos 0 ∷ negsuc 0 ∷ []) ∷ []) reason.Point
 unfolding performed
 mirp_tests_its_point_in_zp1 = refl
 
 mirp_tests_the_old_rp0_in_zp0 :
     each_faults (codes_from 0xe0 16) (record (zones One Zero Zero) { rp0 = pos 8; rp1 = pos 0; rp2 = pos 0 })
-      ((pos 9 ∷ pos 0 ∷ []) ∷ []) reason.Point
+    ((pos 9 ∷ pos 0 ∷ []) ∷ []) reason.Point
 unfolding performed
 mirp_tests_the_old_rp0_in_zp0 = refl
 
@@ -761,31 +761,31 @@ mirp_needs_a_control_value_and_a_point = refl
 
 mirp_with_rp0_uses_rp0_in_zp0 :
     each_leaves (codes_from 0xf0 16) (record (zones Zero One Zero) { rp0 = pos 11 }) (pos 9 ∷ pos 7 ∷ pos 6 ∷ [])
-      (pos 6 ∷ []) (record (record (zones Zero One Zero) { rp0 = pos 11 }) { rp1 = pos 11; rp2 = pos 7; rp0 = pos 7 })
+    (pos 6 ∷ []) (record (record (zones Zero One Zero) { rp0 = pos 11 }) { rp1 = pos 11; rp2 = pos 7; rp0 = pos 7 })
 unfolding performed
 mirp_with_rp0_uses_rp0_in_zp0 = refl
 
 mirp_with_rp0_takes_a_point_of_zp1 :
     each_leaves (codes_from 0xf0 16) (record (zones One Zero One) { rp0 = pos 7 }) (pos 9 ∷ pos 11 ∷ pos 6 ∷ [])
-      (pos 6 ∷ []) (record (record (zones One Zero One) { rp0 = pos 7 }) { rp1 = pos 7; rp2 = pos 11; rp0 = pos 11 })
+    (pos 6 ∷ []) (record (record (zones One Zero One) { rp0 = pos 7 }) { rp1 = pos 7; rp2 = pos 11; rp0 = pos 11 })
 unfolding performed
 mirp_with_rp0_takes_a_point_of_zp1 = refl
 
 mirp_with_rp0_tests_its_control_value_first :
     each_faults (codes_from 0xf0 16) (zones One One One)
-      ((pos 10 ∷ pos 8 ∷ []) ∷ (pos 10 ∷ []) ∷ (negsuc 0 ∷ pos 8 ∷ []) ∷ []) reason.Cvt
+    ((pos 10 ∷ pos 8 ∷ []) ∷ (pos 10 ∷ []) ∷ (negsuc 0 ∷ pos 8 ∷ []) ∷ []) reason.Cvt
 unfolding performed
 mirp_with_rp0_tests_its_control_value_first = refl
 
 mirp_with_rp0_tests_its_point_in_zp1 :
     each_faults (codes_from 0xf0 16) (record (zones Zero One Zero) { rp0 = pos 0 })
-      ((pos 9 ∷ pos 8 ∷ []) ∷ (pos 0 ∷ negsuc 0 ∷ []) ∷ []) reason.Point
+    ((pos 9 ∷ pos 8 ∷ []) ∷ (pos 0 ∷ negsuc 0 ∷ []) ∷ []) reason.Point
 unfolding performed
 mirp_with_rp0_tests_its_point_in_zp1 = refl
 
 mirp_with_rp0_tests_the_old_rp0_in_zp0 :
     each_faults (codes_from 0xf0 16) (record (zones One Zero Zero) { rp0 = pos 8; rp1 = pos 0; rp2 = pos 0 })
-      ((pos 9 ∷ pos 0 ∷ []) ∷ []) reason.Point
+    ((pos 9 ∷ pos 0 ∷ []) ∷ []) reason.Point
 unfolding performed
 mirp_with_rp0_tests_the_old_rp0_in_zp0 = refl
 
@@ -797,13 +797,13 @@ mirp_with_rp0_needs_a_control_value_and_a_point = refl
 -- Storage and control values.
 ws_stores_the_number_on_top_in_the_cell_below :
     each_does (0x42 ∷ []) (zones One One One) (negsuc 0 ∷ pos 3 ∷ pos 6 ∷ [])
-      (goes_on_with (pos 6 ∷ []) (zones One One One) (pos 100 ∷ pos 101 ∷ pos 102 ∷ negsuc 0 ∷ []))
+    (goes_on_with (pos 6 ∷ []) (zones One One One) (pos 100 ∷ pos 101 ∷ pos 102 ∷ negsuc 0 ∷ []))
 unfolding performed
 ws_stores_the_number_on_top_in_the_cell_below = refl
 
 ws_stores_in_the_cell_that_is_named :
     each_does (0x42 ∷ []) (zones One One One) (pos 3 ∷ pos 1 ∷ pos 6 ∷ [])
-      (goes_on_with (pos 6 ∷ []) (zones One One One) (pos 100 ∷ pos 3 ∷ pos 102 ∷ pos 103 ∷ []))
+    (goes_on_with (pos 6 ∷ []) (zones One One One) (pos 100 ∷ pos 3 ∷ pos 102 ∷ pos 103 ∷ []))
 unfolding performed
 ws_stores_in_the_cell_that_is_named = refl
 
@@ -886,7 +886,7 @@ scfs_needs_a_number_and_a_point = refl
 -- Deltas: a count, and as many pairs.
 deltap_takes_pairs_of_a_point_of_zp0_and_a_number :
     each_takes (0x5d ∷ 0x71 ∷ 0x72 ∷ []) (zones Zero One One) (pos 2 ∷ pos 11 ∷ negsuc 0 ∷ pos 10 ∷ pos 99 ∷ pos 6 ∷ [])
-      (pos 6 ∷ [])
+    (pos 6 ∷ [])
 unfolding performed
 deltap_takes_pairs_of_a_point_of_zp0_and_a_number = refl
 
@@ -897,26 +897,26 @@ deltap_by_zero_takes_its_count_alone = refl
 
 deltap_tests_its_points_in_zp0 :
     each_faults (0x5d ∷ 0x71 ∷ 0x72 ∷ []) (zones One Zero Zero)
-      ((pos 1 ∷ pos 8 ∷ pos 0 ∷ []) ∷ (pos 2 ∷ pos 0 ∷ pos 99 ∷ pos 8 ∷ pos 0 ∷ []) ∷ (pos 1 ∷ pos 8 ∷ []) ∷ []) reason.Point
+    ((pos 1 ∷ pos 8 ∷ pos 0 ∷ []) ∷ (pos 2 ∷ pos 0 ∷ pos 99 ∷ pos 8 ∷ pos 0 ∷ []) ∷ (pos 1 ∷ pos 8 ∷ []) ∷ []) reason.Point
 unfolding performed
 deltap_tests_its_points_in_zp0 = refl
 
 deltap_refuses_a_negative_count :
     each_faults (0x5d ∷ 0x71 ∷ 0x72 ∷ []) (zones One One One) ((negsuc 0 ∷ []) ∷ (negsuc 0 ∷ pos 0 ∷ pos 0 ∷ []) ∷ [])
-      reason.Count
+    reason.Count
 unfolding performed
 deltap_refuses_a_negative_count = refl
 
 deltap_needs_a_count_and_pairs :
     each_faults (0x5d ∷ 0x71 ∷ 0x72 ∷ []) (zones One One One)
-      ([] ∷ (pos 1 ∷ []) ∷ (pos 1 ∷ pos 0 ∷ []) ∷ (pos 2 ∷ pos 0 ∷ pos 0 ∷ []) ∷ (pos 2 ∷ pos 0 ∷ pos 0 ∷ pos 0 ∷ []) ∷ [])
-      reason.Underflow
+    ([] ∷ (pos 1 ∷ []) ∷ (pos 1 ∷ pos 0 ∷ []) ∷ (pos 2 ∷ pos 0 ∷ pos 0 ∷ []) ∷ (pos 2 ∷ pos 0 ∷ pos 0 ∷ pos 0 ∷ []) ∷ [])
+    reason.Underflow
 unfolding performed
 deltap_needs_a_count_and_pairs = refl
 
 deltac_takes_pairs_of_a_control_value_and_a_number :
     each_takes (0x73 ∷ 0x74 ∷ 0x75 ∷ []) (zones Zero Zero Zero) (pos 2 ∷ pos 9 ∷ negsuc 0 ∷ pos 8 ∷ pos 99 ∷ pos 6 ∷ [])
-      (pos 6 ∷ [])
+    (pos 6 ∷ [])
 unfolding performed
 deltac_takes_pairs_of_a_control_value_and_a_number = refl
 
@@ -927,28 +927,28 @@ deltac_by_zero_takes_its_count_alone = refl
 
 deltac_tests_its_control_values :
     each_faults (0x73 ∷ 0x74 ∷ 0x75 ∷ []) (zones One One One)
-      ((pos 1 ∷ pos 10 ∷ pos 0 ∷ []) ∷ (pos 2 ∷ pos 0 ∷ pos 99 ∷ pos 10 ∷ pos 0 ∷ []) ∷ (pos 1 ∷ negsuc 0 ∷ []) ∷ [])
-      reason.Cvt
+    ((pos 1 ∷ pos 10 ∷ pos 0 ∷ []) ∷ (pos 2 ∷ pos 0 ∷ pos 99 ∷ pos 10 ∷ pos 0 ∷ []) ∷ (pos 1 ∷ negsuc 0 ∷ []) ∷ [])
+    reason.Cvt
 unfolding performed
 deltac_tests_its_control_values = refl
 
 deltac_refuses_a_negative_count :
     each_faults (0x73 ∷ 0x74 ∷ 0x75 ∷ []) (zones One One One) ((negsuc 0 ∷ []) ∷ (negsuc 0 ∷ pos 0 ∷ pos 0 ∷ []) ∷ [])
-      reason.Count
+    reason.Count
 unfolding performed
 deltac_refuses_a_negative_count = refl
 
 deltac_needs_a_count_and_pairs :
     each_faults (0x73 ∷ 0x74 ∷ 0x75 ∷ []) (zones One One One)
-      ([] ∷ (pos 1 ∷ []) ∷ (pos 1 ∷ pos 0 ∷ []) ∷ (pos 2 ∷ pos 0 ∷ pos 0 ∷ []) ∷ (pos 2 ∷ pos 0 ∷ pos 0 ∷ pos 0 ∷ []) ∷ [])
-      reason.Underflow
+    ([] ∷ (pos 1 ∷ []) ∷ (pos 1 ∷ pos 0 ∷ []) ∷ (pos 2 ∷ pos 0 ∷ pos 0 ∷ []) ∷ (pos 2 ∷ pos 0 ∷ pos 0 ∷ pos 0 ∷ []) ∷ [])
+    reason.Underflow
 unfolding performed
 deltac_needs_a_count_and_pairs = refl
 
 -- Points whose flags are changed: of the glyph zone and of the zone of zp0.
 flippt_takes_points_of_the_glyph_zone :
     each_leaves (0x80 ∷ []) (zones One Zero Zero) (pos 7 ∷ pos 6 ∷ pos 5 ∷ []) (pos 5 ∷ [])
-      (record (zones One Zero Zero) { loop_number = pos 1 })
+    (record (zones One Zero Zero) { loop_number = pos 1 })
 unfolding performed
 flippt_takes_points_of_the_glyph_zone = refl
 
@@ -964,7 +964,7 @@ flippt_tests_its_points_in_zp0_too = refl
 
 flippt_tests_no_other_zone :
     each_leaves_by usual_limits (0x80 ∷ []) (zones One Zero Zero) (pos 7 ∷ pos 6 ∷ pos 5 ∷ []) (pos 5 ∷ [])
-      (record (zones One Zero Zero) { loop_number = pos 1 })
+    (record (zones One Zero Zero) { loop_number = pos 1 })
 unfolding performed
 flippt_tests_no_other_zone = refl
 
@@ -989,13 +989,13 @@ fliprg_tests_both_points_in_the_glyph_zone = refl
 
 fliprg_tests_both_points_in_zp0_too :
     each_faults_by usual_limits (0x81 ∷ 0x82 ∷ []) (zones Zero One One) ((pos 4 ∷ pos 0 ∷ []) ∷ (pos 0 ∷ pos 4 ∷ []) ∷ [])
-      reason.Point
+    reason.Point
 unfolding performed
 fliprg_tests_both_points_in_zp0_too = refl
 
 fliprg_tests_no_other_zone :
     each_leaves_by usual_limits (0x81 ∷ 0x82 ∷ []) (zones One Zero Zero) (pos 7 ∷ pos 6 ∷ pos 5 ∷ []) (pos 5 ∷ [])
-      (zones One Zero Zero)
+    (zones One Zero Zero)
 unfolding performed
 fliprg_tests_no_other_zone = refl
 
@@ -1006,7 +1006,7 @@ fliprg_needs_two_points = refl
 -- The other codes.
 other_codes_have_no_entry :
     each_faults (0x28 ∷ 0x7b ∷ 0x83 ∷ 0x84 ∷ 0x8f ∷ codes_from 0x90 32) (zones One One One)
-      ([] ∷ (pos 1 ∷ pos 2 ∷ pos 3 ∷ []) ∷ []) reason.Opcode
+    ([] ∷ (pos 1 ∷ pos 2 ∷ pos 3 ∷ []) ∷ []) reason.Opcode
 unfolding performed
 other_codes_have_no_entry = refl
 

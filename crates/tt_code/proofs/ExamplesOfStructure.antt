@@ -172,13 +172,13 @@ a_machine_may_stand_in_a_function_that_was_called = refl
 
 no_machine_may_leave_its_function_without_its_end :
     fault_at (0xb0 ∷ 0x00 ∷ 0x2c ∷ 0x18 ∷ 0x2d ∷ 0x18 ∷ []) (record { body = 3; call = 9; turn = 1; count = 1 } ∷ []) 5 ≡
-      Some reason.Target
+    Some reason.Target
 unfolding structure
 no_machine_may_leave_its_function_without_its_end = refl
 
 no_machine_may_stand_in_another_function :
     fault_at (0x2c ∷ 0x18 ∷ 0x2d ∷ 0x2c ∷ 0x18 ∷ 0x2d ∷ []) (record { body = 1; call = 9; turn = 1; count = 1 } ∷ []) 4 ≡
-      Some reason.Target
+    Some reason.Target
 unfolding structure
 no_machine_may_stand_in_another_function = refl
 

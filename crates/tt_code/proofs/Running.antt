@@ -101,8 +101,8 @@ unfolding run cut_within
 answer any limits f p glyph =
     let font = font_of limits f p in
     and_then any (font_setting font) [] (λ (a : Machine).
-      and_then any (cvt_setting font) a.functions (λ (b : Machine).
-        and_then any (glyph_setting font 4 1 (cut_of glyph)) b.functions (λ (c : Machine). Accepted)))
+    and_then any (cvt_setting font) a.functions (λ (b : Machine).
+    and_then any (glyph_setting font 4 1 (cut_of glyph)) b.functions (λ (c : Machine). Accepted)))
 
 -- Words to state answers with.
 
