@@ -41,6 +41,23 @@ a_loopcall_by_a_negative_count_calls_nothing :
 unfolding answer
 a_loopcall_by_a_negative_count_calls_nothing = refl
 
+a_loopcall_by_zero_takes_its_two_numbers :
+    font_answers (0xb0 ∷ 0x00 ∷ 0x2c ∷ 0x21 ∷ 0x2d ∷ []) [] (0xb1 ∷ 0x00 ∷ 0x00 ∷ 0x2a ∷ 0x21 ∷ [])
+    (Refused InGlyph InGlyph 4 reason.Underflow)
+unfolding answer
+a_loopcall_by_zero_takes_its_two_numbers = refl
+
+a_loopcall_by_a_negative_count_takes_its_two_numbers :
+    font_answers (0xb0 ∷ 0x00 ∷ 0x2c ∷ 0x21 ∷ 0x2d ∷ []) [] (0xb9 ∷ 0xff ∷ 0xff ∷ 0x00 ∷ 0x00 ∷ 0x2a ∷ 0x21 ∷ [])
+    (Refused InGlyph InGlyph 6 reason.Underflow)
+unfolding answer
+a_loopcall_by_a_negative_count_takes_its_two_numbers = refl
+
+a_loopcall_leaves_the_stack_below_its_two_numbers :
+    font_answers (0xb0 ∷ 0x00 ∷ 0x2c ∷ 0x21 ∷ 0x2d ∷ []) [] (0xb2 ∷ 0x05 ∷ 0x00 ∷ 0x00 ∷ 0x2a ∷ 0x21 ∷ []) Accepted
+unfolding answer
+a_loopcall_leaves_the_stack_below_its_two_numbers = refl
+
 a_loopcall_needs_a_count :
     font_answers (0xb0 ∷ 0x00 ∷ 0x2c ∷ 0x21 ∷ 0x2d ∷ []) [] (0xb0 ∷ 0x00 ∷ 0x2a ∷ [])
     (Refused InGlyph InGlyph 2 reason.Underflow)

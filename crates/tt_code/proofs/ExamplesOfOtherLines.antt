@@ -3,49 +3,50 @@ use Rattle.std.proofs.Common.{◌≡◌, [], ◌∷◌, Some, refl}
 use Rattle.std.specs.Prelude.{pos, negsuc}
 use Rattle.tt_code.specs.Settings.{One}
 use Rattle.tt_code.specs.declared.reason.Reason.TheVariants as reason
-use Rattle.tt_code.proofs.Running.{computed, lowest, highest, usual_limits, zones, ends_with, each_stack_leaves, each_faults, each_faults_by, frames_at_fault, functions_left}
+use Rattle.tt_code.proofs.Running.{computed, lowest, highest, usual_limits, zones, untouched, seen_at_end, ends_with, each_stack_leaves, each_faults, each_faults_by, frames_at_fault, functions_left}
 
--- Pushed bytes are unsigned, and the last one is on top.
-pushb_pushes_one_byte : ends_with (0xb0 ∷ 0xfa ∷ []) (pos 250 ∷ [])
+-- Pushed bytes are unsigned, and the last one is on top. What stands behind them is an instruction again.
+pushb_pushes_one_byte : ends_with (0xb0 ∷ 0xfa ∷ 0x18 ∷ []) (pos 250 ∷ [])
 unfolding computed
 pushb_pushes_one_byte = refl
 
-pushb_pushes_two_bytes : ends_with (0xb1 ∷ 0xfa ∷ 0xf9 ∷ []) (pos 249 ∷ pos 250 ∷ [])
+pushb_pushes_two_bytes : ends_with (0xb1 ∷ 0xfa ∷ 0xf9 ∷ 0x18 ∷ []) (pos 249 ∷ pos 250 ∷ [])
 unfolding computed
 pushb_pushes_two_bytes = refl
 
-pushb_pushes_three_bytes : ends_with (0xb2 ∷ 0xfa ∷ 0xf9 ∷ 0xf8 ∷ []) (pos 248 ∷ pos 249 ∷ pos 250 ∷ [])
+pushb_pushes_three_bytes : ends_with (0xb2 ∷ 0xfa ∷ 0xf9 ∷ 0xf8 ∷ 0x18 ∷ []) (pos 248 ∷ pos 249 ∷ pos 250 ∷ [])
 unfolding computed
 pushb_pushes_three_bytes = refl
 
-pushb_pushes_four_bytes : ends_with (0xb3 ∷ 0xfa ∷ 0xf9 ∷ 0xf8 ∷ 0xf7 ∷ []) (pos 247 ∷ pos 248 ∷ pos 249 ∷ pos 250 ∷ [])
+pushb_pushes_four_bytes : ends_with (0xb3 ∷ 0xfa ∷ 0xf9 ∷ 0xf8 ∷ 0xf7 ∷ 0x18 ∷ []) (pos 247 ∷ pos 248 ∷ pos 249 ∷ pos 250 ∷ [])
 unfolding computed
 pushb_pushes_four_bytes = refl
 
 pushb_pushes_five_bytes :
-    ends_with (0xb4 ∷ 0xfa ∷ 0xf9 ∷ 0xf8 ∷ 0xf7 ∷ 0xf6 ∷ []) (pos 246 ∷ pos 247 ∷ pos 248 ∷ pos 249 ∷ pos 250 ∷ [])
+    ends_with (0xb4 ∷ 0xfa ∷ 0xf9 ∷ 0xf8 ∷ 0xf7 ∷ 0xf6 ∷ 0x18 ∷ []) (pos 246 ∷ pos 247 ∷ pos 248 ∷ pos 249 ∷ pos 250 ∷ [])
 unfolding computed
 pushb_pushes_five_bytes = refl
 
 pushb_pushes_six_bytes :
-    ends_with (0xb5 ∷ 0xfa ∷ 0xf9 ∷ 0xf8 ∷ 0xf7 ∷ 0xf6 ∷ 0xf5 ∷ [])
+    ends_with (0xb5 ∷ 0xfa ∷ 0xf9 ∷ 0xf8 ∷ 0xf7 ∷ 0xf6 ∷ 0xf5 ∷ 0x18 ∷ [])
     (pos 245 ∷ pos 246 ∷ pos 247 ∷ pos 248 ∷ pos 249 ∷ pos 250 ∷ [])
 unfolding computed
 pushb_pushes_six_bytes = refl
 
 pushb_pushes_seven_bytes :
-    ends_with (0xb6 ∷ 0xfa ∷ 0xf9 ∷ 0xf8 ∷ 0xf7 ∷ 0xf6 ∷ 0xf5 ∷ 0xf4 ∷ [])
+    ends_with (0xb6 ∷ 0xfa ∷ 0xf9 ∷ 0xf8 ∷ 0xf7 ∷ 0xf6 ∷ 0xf5 ∷ 0xf4 ∷ 0x18 ∷ [])
     (pos 244 ∷ pos 245 ∷ pos 246 ∷ pos 247 ∷ pos 248 ∷ pos 249 ∷ pos 250 ∷ [])
 unfolding computed
 pushb_pushes_seven_bytes = refl
 
 pushb_pushes_eight_bytes :
-    ends_with (0xb7 ∷ 0xfa ∷ 0xf9 ∷ 0xf8 ∷ 0xf7 ∷ 0xf6 ∷ 0xf5 ∷ 0xf4 ∷ 0xf3 ∷ [])
+    ends_with (0xb7 ∷ 0xfa ∷ 0xf9 ∷ 0xf8 ∷ 0xf7 ∷ 0xf6 ∷ 0xf5 ∷ 0xf4 ∷ 0xf3 ∷ 0x18 ∷ [])
     (pos 243 ∷ pos 244 ∷ pos 245 ∷ pos 246 ∷ pos 247 ∷ pos 248 ∷ pos 249 ∷ pos 250 ∷ [])
 unfolding computed
 pushb_pushes_eight_bytes = refl
 
-npushb_pushes_as_many_bytes_as_it_counts : ends_with (0x40 ∷ 0x03 ∷ 0x01 ∷ 0xff ∷ 0x80 ∷ []) (pos 128 ∷ pos 255 ∷ pos 1 ∷ [])
+npushb_pushes_as_many_bytes_as_it_counts :
+    ends_with (0x40 ∷ 0x03 ∷ 0x01 ∷ 0xff ∷ 0x80 ∷ 0x18 ∷ []) (pos 128 ∷ pos 255 ∷ pos 1 ∷ [])
 unfolding computed
 npushb_pushes_as_many_bytes_as_it_counts = refl
 
@@ -54,37 +55,40 @@ unfolding computed
 npushb_may_push_nothing = refl
 
 -- Pushed words are signed, the high byte first.
-pushw_pushes_one_word : ends_with (0xb8 ∷ 0x01 ∷ 0x00 ∷ []) (pos 256 ∷ [])
+pushw_pushes_one_word : ends_with (0xb8 ∷ 0x01 ∷ 0x00 ∷ 0x18 ∷ 0x18 ∷ []) (pos 256 ∷ [])
 unfolding computed
 pushw_pushes_one_word = refl
 
-pushw_pushes_two_words : ends_with (0xb9 ∷ 0x01 ∷ 0x01 ∷ 0xff ∷ 0xfd ∷ []) (negsuc 2 ∷ pos 257 ∷ [])
+pushw_pushes_two_words : ends_with (0xb9 ∷ 0x01 ∷ 0x01 ∷ 0xff ∷ 0xfd ∷ 0x18 ∷ 0x18 ∷ []) (negsuc 2 ∷ pos 257 ∷ [])
 unfolding computed
 pushw_pushes_two_words = refl
 
-pushw_pushes_three_words : ends_with (0xba ∷ 0x01 ∷ 0x02 ∷ 0xff ∷ 0xfc ∷ 0x03 ∷ 0x02 ∷ []) (pos 770 ∷ negsuc 3 ∷ pos 258 ∷ [])
+pushw_pushes_three_words :
+    ends_with (0xba ∷ 0x01 ∷ 0x02 ∷ 0xff ∷ 0xfc ∷ 0x03 ∷ 0x02 ∷ 0x18 ∷ 0x18 ∷ []) (pos 770 ∷ negsuc 3 ∷ pos 258 ∷ [])
 unfolding computed
 pushw_pushes_three_words = refl
 
 pushw_pushes_four_words :
-    ends_with (0xbb ∷ 0x01 ∷ 0x03 ∷ 0xff ∷ 0xfb ∷ 0x03 ∷ 0x03 ∷ 0xff ∷ 0xfb ∷ []) (negsuc 4 ∷ pos 771 ∷ negsuc 4 ∷ pos 259 ∷ [])
+    ends_with (0xbb ∷ 0x01 ∷ 0x03 ∷ 0xff ∷ 0xfb ∷ 0x03 ∷ 0x03 ∷ 0xff ∷ 0xfb ∷ 0x18 ∷ 0x18 ∷ [])
+    (negsuc 4 ∷ pos 771 ∷ negsuc 4 ∷ pos 259 ∷ [])
 unfolding computed
 pushw_pushes_four_words = refl
 
 pushw_pushes_five_words :
-    ends_with (0xbc ∷ 0x01 ∷ 0x04 ∷ 0xff ∷ 0xfa ∷ 0x03 ∷ 0x04 ∷ 0xff ∷ 0xfa ∷ 0x05 ∷ 0x04 ∷ [])
+    ends_with (0xbc ∷ 0x01 ∷ 0x04 ∷ 0xff ∷ 0xfa ∷ 0x03 ∷ 0x04 ∷ 0xff ∷ 0xfa ∷ 0x05 ∷ 0x04 ∷ 0x18 ∷ 0x18 ∷ [])
     (pos 1284 ∷ negsuc 5 ∷ pos 772 ∷ negsuc 5 ∷ pos 260 ∷ [])
 unfolding computed
 pushw_pushes_five_words = refl
 
 pushw_pushes_six_words :
-    ends_with (0xbd ∷ 0x01 ∷ 0x05 ∷ 0xff ∷ 0xf9 ∷ 0x03 ∷ 0x05 ∷ 0xff ∷ 0xf9 ∷ 0x05 ∷ 0x05 ∷ 0xff ∷ 0xf9 ∷ [])
+    ends_with (0xbd ∷ 0x01 ∷ 0x05 ∷ 0xff ∷ 0xf9 ∷ 0x03 ∷ 0x05 ∷ 0xff ∷ 0xf9 ∷ 0x05 ∷ 0x05 ∷ 0xff ∷ 0xf9 ∷ 0x18 ∷ 0x18 ∷ [])
     (negsuc 6 ∷ pos 1285 ∷ negsuc 6 ∷ pos 773 ∷ negsuc 6 ∷ pos 261 ∷ [])
 unfolding computed
 pushw_pushes_six_words = refl
 
 pushw_pushes_seven_words :
-    ends_with (0xbe ∷ 0x01 ∷ 0x06 ∷ 0xff ∷ 0xf8 ∷ 0x03 ∷ 0x06 ∷ 0xff ∷ 0xf8 ∷ 0x05 ∷ 0x06 ∷ 0xff ∷ 0xf8 ∷ 0x07 ∷ 0x06 ∷ [])
+    ends_with
+    (0xbe ∷ 0x01 ∷ 0x06 ∷ 0xff ∷ 0xf8 ∷ 0x03 ∷ 0x06 ∷ 0xff ∷ 0xf8 ∷ 0x05 ∷ 0x06 ∷ 0xff ∷ 0xf8 ∷ 0x07 ∷ 0x06 ∷ 0x18 ∷ 0x18 ∷ [])
     (pos 1798 ∷ negsuc 7 ∷ pos 1286 ∷ negsuc 7 ∷ pos 774 ∷ negsuc 7 ∷ pos 262 ∷ [])
 unfolding computed
 pushw_pushes_seven_words = refl
@@ -92,12 +96,12 @@ pushw_pushes_seven_words = refl
 pushw_pushes_eight_words :
     ends_with
     (0xbf ∷ 0x01 ∷ 0x07 ∷ 0xff ∷ 0xf7 ∷ 0x03 ∷ 0x07 ∷ 0xff ∷ 0xf7 ∷ 0x05 ∷ 0x07 ∷ 0xff ∷ 0xf7 ∷ 0x07 ∷ 0x07 ∷ 0xff ∷ 0xf7
-    ∷ []) (negsuc 8 ∷ pos 1799 ∷ negsuc 8 ∷ pos 1287 ∷ negsuc 8 ∷ pos 775 ∷ negsuc 8 ∷ pos 263 ∷ [])
+    ∷ 0x18 ∷ 0x18 ∷ []) (negsuc 8 ∷ pos 1799 ∷ negsuc 8 ∷ pos 1287 ∷ negsuc 8 ∷ pos 775 ∷ negsuc 8 ∷ pos 263 ∷ [])
 unfolding computed
 pushw_pushes_eight_words = refl
 
 npushw_pushes_as_many_words_as_it_counts :
-    ends_with (0x41 ∷ 0x03 ∷ 0x00 ∷ 0x01 ∷ 0xff ∷ 0xff ∷ 0x80 ∷ 0x00 ∷ []) (negsuc 32767 ∷ negsuc 0 ∷ pos 1 ∷ [])
+    ends_with (0x41 ∷ 0x03 ∷ 0x00 ∷ 0x01 ∷ 0xff ∷ 0xff ∷ 0x80 ∷ 0x00 ∷ 0x18 ∷ 0x18 ∷ []) (negsuc 32767 ∷ negsuc 0 ∷ pos 1 ∷ [])
 unfolding computed
 npushw_pushes_as_many_words_as_it_counts = refl
 
@@ -105,7 +109,7 @@ npushw_may_push_nothing : ends_with (0x41 ∷ 0x00 ∷ 0xb0 ∷ 0x05 ∷ []) (po
 unfolding computed
 npushw_may_push_nothing = refl
 
-a_word_has_its_high_byte_first : ends_with (0xb9 ∷ 0x7f ∷ 0xff ∷ 0x01 ∷ 0x02 ∷ []) (pos 258 ∷ pos 32767 ∷ [])
+a_word_has_its_high_byte_first : ends_with (0xb9 ∷ 0x7f ∷ 0xff ∷ 0x01 ∷ 0x02 ∷ 0x18 ∷ 0x18 ∷ []) (pos 258 ∷ pos 32767 ∷ [])
 unfolding computed
 a_word_has_its_high_byte_first = refl
 
@@ -358,6 +362,17 @@ operations_on_two_need_two = refl
 operations_on_one_need_one : each_faults (0x64 ∷ 0x65 ∷ 0x5c ∷ []) (zones One One One) ([] ∷ []) reason.Underflow
 unfolding computed
 operations_on_one_need_one = refl
+
+-- Programs start with the default graphics state.
+programs_start_with_the_default_graphics_state :
+    seen_at_end [] ≡ Some (record {
+      offset = 0;
+      stack = [];
+      graphics = record { rp0 = pos 0; rp1 = pos 0; rp2 = pos 0; zp0 = One; zp1 = One; zp2 = One; loop_number = pos 1 };
+      cells = untouched;
+    })
+unfolding computed
+programs_start_with_the_default_graphics_state = refl
 
 -- Functions share the frames of a machine: the innermost first.
 a_turn_is_counted_in_its_frame :

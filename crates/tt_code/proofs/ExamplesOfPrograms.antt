@@ -189,6 +189,30 @@ a_negative_loop_number_is_refused_where_it_is_used : refused_at 4 reason.Count (
 unfolding answer
 a_negative_loop_number_is_refused_where_it_is_used = refl
 
+a_measured_loop_number :
+    answers_to_any (0x4b ∷ 0x17 ∷ 0xb0 ∷ 0x00 ∷ 0x33 ∷ []) Accepted (Refused InGlyph InGlyph 4 reason.Underflow)
+    (Refused InGlyph InGlyph 4 reason.Count) (Refused InGlyph InGlyph 4 reason.Underflow)
+unfolding answer
+a_measured_loop_number = refl
+
+a_point_of_both_zones_is_in_range_on_both_ways :
+    accepted_whatever_is_measured (0x4b ∷ 0x58 ∷ 0xb0 ∷ 0x00 ∷ 0x13 ∷ 0x59 ∷ 0xb0 ∷ 0x03 ∷ 0x2e ∷ [])
+unfolding answer
+a_point_of_both_zones_is_in_range_on_both_ways = refl
+
+a_point_of_the_glyph_zone_alone_is_in_range_on_one_way :
+    answers_to_any (0x4b ∷ 0x58 ∷ 0xb0 ∷ 0x00 ∷ 0x13 ∷ 0x59 ∷ 0xb0 ∷ 0x04 ∷ 0x2e ∷ []) Accepted
+    (Refused InGlyph InGlyph 8 reason.Point) (Refused InGlyph InGlyph 8 reason.Point)
+    (Refused InGlyph InGlyph 8 reason.Point)
+unfolding answer
+a_point_of_the_glyph_zone_alone_is_in_range_on_one_way = refl
+
+a_measured_zone :
+    answers_to_any (0x4b ∷ 0x13 ∷ []) Accepted (Refused InGlyph InGlyph 1 reason.Zone)
+    (Refused InGlyph InGlyph 1 reason.Zone) (Refused InGlyph InGlyph 1 reason.Zone)
+unfolding answer
+a_measured_zone = refl
+
 the_loop_number_zero_takes_no_point : accepted (0xb0 ∷ 0x00 ∷ 0x17 ∷ 0x33 ∷ [])
 unfolding answer
 the_loop_number_zero_takes_no_point = refl
@@ -207,6 +231,16 @@ a_cell_stored_on_both_ways_is_read_again :
     (0x4b ∷ 0x58 ∷ 0xb1 ∷ 0x01 ∷ 0x02 ∷ 0x42 ∷ 0x1b ∷ 0xb1 ∷ 0x01 ∷ 0x02 ∷ 0x42 ∷ 0x59 ∷ 0xb0 ∷ 0x01 ∷ 0x43 ∷ 0x2e ∷ [])
 unfolding answer
 a_cell_stored_on_both_ways_is_read_again = refl
+
+a_cell_stored_otherwise_on_the_other_way_is_read_again :
+    accepted_whatever_is_measured
+    (0x4b ∷ 0x58 ∷ 0xb1 ∷ 0x01 ∷ 0x02 ∷ 0x42 ∷ 0x1b ∷ 0xb1 ∷ 0x01 ∷ 0x03 ∷ 0x42 ∷ 0x59 ∷ 0xb0 ∷ 0x01 ∷ 0x43 ∷ 0x2e ∷ [])
+unfolding answer
+a_cell_stored_otherwise_on_the_other_way_is_read_again = refl
+
+a_cell_that_was_not_stored_may_hold_no_point : refused_at 3 reason.Point (0xb0 ∷ 0x01 ∷ 0x43 ∷ 0x2e ∷ [])
+unfolding answer
+a_cell_that_was_not_stored_may_hold_no_point = refl
 
 a_measured_number_is_stored :
     answers_to_any (0xb0 ∷ 0x01 ∷ 0x4b ∷ 0x42 ∷ 0xb0 ∷ 0x01 ∷ 0x43 ∷ 0x2e ∷ []) Accepted Accepted
@@ -284,6 +318,18 @@ if_takes_a_negative_number_as_true = refl
 if_needs_a_number : refused_at 0 reason.Underflow (0x58 ∷ 0x59 ∷ [])
 unfolding answer
 if_needs_a_number = refl
+
+if_takes_its_number_where_it_goes_on : refused_at 4 reason.Underflow (0xb0 ∷ 0x01 ∷ 0x58 ∷ 0x59 ∷ 0x21 ∷ [])
+unfolding answer
+if_takes_its_number_where_it_goes_on = refl
+
+if_takes_its_number_where_it_leads_elsewhere : refused_at 4 reason.Underflow (0xb0 ∷ 0x00 ∷ 0x58 ∷ 0x59 ∷ 0x21 ∷ [])
+unfolding answer
+if_takes_its_number_where_it_leads_elsewhere = refl
+
+else_takes_nothing : accepted (0xb1 ∷ 0x05 ∷ 0x01 ∷ 0x58 ∷ 0x1b ∷ 0x59 ∷ 0x21 ∷ [])
+unfolding answer
+else_takes_nothing = refl
 
 else_leads_behind_its_eif : accepted (0xb0 ∷ 0x01 ∷ 0x58 ∷ 0x18 ∷ 0x1b ∷ 0x28 ∷ 0x59 ∷ 0x18 ∷ [])
 unfolding answer
@@ -381,6 +427,35 @@ a_jump_behind_an_else_runs_it = refl
 a_jump_needs_an_offset : refused_at 0 reason.Underflow (0x1c ∷ [])
 unfolding answer
 a_jump_needs_an_offset = refl
+
+a_jump_takes_its_offset : refused_at 3 reason.Underflow (0xb0 ∷ 0x01 ∷ 0x1c ∷ 0x21 ∷ [])
+unfolding answer
+a_jump_takes_its_offset = refl
+
+a_jump_leaves_the_stack_below_its_offset : accepted (0xb1 ∷ 0x05 ∷ 0x01 ∷ 0x1c ∷ 0x21 ∷ [])
+unfolding answer
+a_jump_leaves_the_stack_below_its_offset = refl
+
+jrot_takes_two_numbers_where_it_jumps : refused_at 4 reason.Underflow (0xb1 ∷ 0x01 ∷ 0x01 ∷ 0x78 ∷ 0x21 ∷ [])
+unfolding answer
+jrot_takes_two_numbers_where_it_jumps = refl
+
+jrot_takes_two_numbers_where_it_goes_on : refused_at 4 reason.Underflow (0xb1 ∷ 0x01 ∷ 0x00 ∷ 0x78 ∷ 0x21 ∷ [])
+unfolding answer
+jrot_takes_two_numbers_where_it_goes_on = refl
+
+jrof_takes_two_numbers_where_it_jumps : refused_at 4 reason.Underflow (0xb1 ∷ 0x01 ∷ 0x00 ∷ 0x79 ∷ 0x21 ∷ [])
+unfolding answer
+jrof_takes_two_numbers_where_it_jumps = refl
+
+jrof_takes_two_numbers_where_it_goes_on : refused_at 4 reason.Underflow (0xb1 ∷ 0x01 ∷ 0x01 ∷ 0x79 ∷ 0x21 ∷ [])
+unfolding answer
+jrof_takes_two_numbers_where_it_goes_on = refl
+
+jumps_leave_the_stack_below_their_two_numbers :
+    accepted (0xb5 ∷ 0x05 ∷ 0x06 ∷ 0x01 ∷ 0x01 ∷ 0x01 ∷ 0x00 ∷ 0x78 ∷ 0x79 ∷ 0x21 ∷ 0x21 ∷ [])
+unfolding answer
+jumps_leave_the_stack_below_their_two_numbers = refl
 
 jrot_jumps_where_the_number_is_true : accepted (0xb1 ∷ 0x02 ∷ 0x01 ∷ 0x78 ∷ 0x28 ∷ [])
 unfolding answer
@@ -494,6 +569,10 @@ the_highest_is_at_least_any_number = refl
 and_with_zero_is_zero : accepted_whatever_is_measured (0x4b ∷ 0xb0 ∷ 0x00 ∷ 0x5a ∷ 0x58 ∷ 0x21 ∷ 0x59 ∷ [])
 unfolding answer
 and_with_zero_is_zero = refl
+
+or_with_a_true_number_is_one : accepted_whatever_is_measured (0x4b ∷ 0xb0 ∷ 0x05 ∷ 0x5b ∷ 0x58 ∷ 0x1b ∷ 0x28 ∷ 0x59 ∷ [])
+unfolding answer
+or_with_a_true_number_is_one = refl
 
 or_with_zero_is_the_other :
     answers_to_any (0x4b ∷ 0xb0 ∷ 0x00 ∷ 0x5b ∷ 0x58 ∷ 0x21 ∷ 0x59 ∷ []) Accepted

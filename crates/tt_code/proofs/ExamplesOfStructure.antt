@@ -1,7 +1,8 @@
 -- Where IF, ELSE and FDEF lead in worked programs, and to which body an instruction belongs.
 use Rattle.std.proofs.Common.{◌≡◌, [], ◌∷◌, None, Some, refl}
 use Rattle.tt_code.specs.declared.machine.Body.TheVariants as body
-use Rattle.tt_code.proofs.Running.{structure, if_leads, else_leads, definition_leads, body_of_offset, instruction_of_offset}
+use Rattle.tt_code.specs.declared.reason.Reason.TheVariants as reason
+use Rattle.tt_code.proofs.Running.{structure, if_leads, else_leads, definition_leads, body_of_offset, instruction_of_offset, fault_at}
 
 -- A definition inside an IF.
 an_if_leads_behind_its_eif : if_leads (0x58 ∷ 0x2c ∷ 0x2d ∷ 0x59 ∷ []) 0 ≡ Some 4
@@ -149,3 +150,38 @@ the_main_program_goes_on_behind_an_instruction_definition = refl
 an_instruction_definition_is_no_function_definition : definition_leads (0x89 ∷ 0x18 ∷ 0x2d ∷ 0x18 ∷ []) 0 ≡ None
 unfolding structure
 an_instruction_definition_is_no_function_definition = refl
+
+-- Where a machine may stand: at an instruction of its body.
+a_machine_may_stand_at_an_instruction : fault_at (0xb0 ∷ 0x00 ∷ 0x2c ∷ 0x18 ∷ 0x2d ∷ 0x18 ∷ []) [] 5 ≡ None
+unfolding structure
+a_machine_may_stand_at_an_instruction = refl
+
+no_machine_may_stand_in_pushed_data : fault_at (0xb0 ∷ 0x00 ∷ 0x2c ∷ 0x18 ∷ 0x2d ∷ 0x18 ∷ []) [] 1 ≡ Some reason.Target
+unfolding structure
+no_machine_may_stand_in_pushed_data = refl
+
+no_machine_may_stand_in_a_function_that_was_not_called :
+    fault_at (0xb0 ∷ 0x00 ∷ 0x2c ∷ 0x18 ∷ 0x2d ∷ 0x18 ∷ []) [] 3 ≡ Some reason.Target
+unfolding structure
+no_machine_may_stand_in_a_function_that_was_not_called = refl
+
+a_machine_may_stand_in_a_function_that_was_called :
+    fault_at (0xb0 ∷ 0x00 ∷ 0x2c ∷ 0x18 ∷ 0x2d ∷ 0x18 ∷ []) (record { body = 3; call = 9; turn = 1; count = 1 } ∷ []) 3 ≡ None
+unfolding structure
+a_machine_may_stand_in_a_function_that_was_called = refl
+
+no_machine_may_leave_its_function_without_its_end :
+    fault_at (0xb0 ∷ 0x00 ∷ 0x2c ∷ 0x18 ∷ 0x2d ∷ 0x18 ∷ []) (record { body = 3; call = 9; turn = 1; count = 1 } ∷ []) 5 ≡
+    Some reason.Target
+unfolding structure
+no_machine_may_leave_its_function_without_its_end = refl
+
+no_machine_may_stand_in_another_function :
+    fault_at (0x2c ∷ 0x18 ∷ 0x2d ∷ 0x2c ∷ 0x18 ∷ 0x2d ∷ []) (record { body = 1; call = 9; turn = 1; count = 1 } ∷ []) 4 ≡
+    Some reason.Target
+unfolding structure
+no_machine_may_stand_in_another_function = refl
+
+no_machine_may_stand_behind_the_end : fault_at (0x18 ∷ []) [] 2 ≡ Some reason.Target
+unfolding structure
+no_machine_may_stand_behind_the_end = refl

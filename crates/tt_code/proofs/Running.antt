@@ -291,7 +291,16 @@ unfoldable pub instruction_of_offset : List ℕ → ℕ → Option Instruction
 unfolding cut_within
 instruction_of_offset bytes offset = instruction_at (cut_of bytes) offset
 
+-- the fault of a font program that stands at an offset, with the empty stack
+unfoldable pub fault_at : List ℕ → List Frame → ℕ → Option Reason
+unfolding outcome cut_within word
+fault_at bytes frames offset =
+    elim (outcome (font_setting (font_of usual_limits bytes [])) (record (start []) { frames = frames; offset = offset })) [
+      | Ok o ↦ None
+      | Err r ↦ Some r
+    ]
+
 -- what the proofs about structure unfold
 unfoldable pub structure : Unit {0}
-unfolding if_leads else_leads definition_leads body_of_offset instruction_of_offset
+unfolding if_leads else_leads definition_leads body_of_offset instruction_of_offset fault_at
 structure = tt
