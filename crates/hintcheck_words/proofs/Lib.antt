@@ -1,2 +1,6 @@
+pub mod Faultless
+pub mod Line
 pub mod Meanings
+pub mod Rows
 pub mod Values
+pub mod Walks

@@ -1,10 +1,13 @@
 -- From what clap says of a parse to what the words mean.
 use Rattle.std.proofs.Common.{◌≡◌, Bool, true, false, List, Option, Some, None, codes, refl, ap, ◌∙◌, option_map}
 use Rattle.std.specs.Prelude.{◌||◌}
-use Rattle.clap.specs.Words.{App, Row, Text, is_simple, subcommand_of, takes}
+use Rattle.clap.specs.declared.parser.matches.ArgMatches.{ArgMatches}
+use Rattle.std.specs.Prelude.{is_some}
+use Rattle.std.proofs.Common.{subst, sym}
+use Rattle.clap.specs.Words.{has_subcommand, subcommand_rows_of, App, Row, Text, is_simple, subcommand_of, takes}
 use Rattle.clap.proofs.OnLiterals.{clap_on_literals}
 use Rattle.hintcheck_words.specs.CommandLine.{hintcheck}
-use Rattle.hintcheck_words.specs.Requests.{Request, bare_request, is_taken, meaning, met, request_of}
+use Rattle.hintcheck_words.specs.Requests.{HasNumbers, MeetsBare, Request, bare_request, is_taken, meaning, met, request_of}
 
 pub neither : (a b c : Bool) → a ≡ (b || c) → b ≡ false → c ≡ false → a ≡ false
 neither a b c e f g = rw (e, f, g) refl
@@ -36,3 +39,19 @@ pair_is (Some p) name rows e f =
 pub means_bare : (words : List Text) (name : Text) (rows : List Row) (asked : Request) → met words ≡ Some (name, rows) → name ≡ codes "bare" → asked ≡ bare_request rows → meaning words ≡ Some asked
 unfolding meaning request_of
 means_bare words name rows asked found named same = rw (found, named, same) refl
+
+some_mapped : {A B : Type 0} (f : A → B) (o : Option A) → is_some o ≡ true → (y : B) × (option_map f o ≡ Some y)
+some_mapped f None e = absurd cc
+some_mapped f (Some x) e = (f x, refl)
+
+pub rows_met : (m : ArgMatches) → has_subcommand m ≡ true → (p : Text × List Row) × (subcommand_rows_of m ≡ Some p)
+rows_met m e = some_mapped _ _ e
+
+pub numbers_of : (found : Option (Text × List Row)) (name : Text) (rows : List Row) → MeetsBare found → found ≡ Some (name, rows) → HasNumbers rows
+numbers_of found name rows m e =
+    let both : ◌≡◌ {A = Option (Text × List Row)} (Some (codes "bare", m.rows)) (Some (name, rows)) = sym m.met ∙ e in
+    let pair : ◌≡◌ {A = Text × List Row} (codes "bare", m.rows) (name, rows) = cc in
+    subst HasNumbers (ap (λ (p : Text × List Row). p.1) pair) m.numbers
+
+pub named_bare : (found : Option (Text × List Row)) (name : Option Text) → MeetsBare found → name ≡ option_map (λ p. p.0) found → name ≡ Some (codes "bare")
+named_bare found name m e = e ∙ ap (option_map (λ p. p.0)) m.met

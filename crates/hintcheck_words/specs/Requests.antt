@@ -1,8 +1,8 @@
 -- What the words of a command line ask for, by what clap says that a simple command's words mean.
-use Rattle.std.specs.Prelude.{ℕ, Bool, codes, List, [], Option, Some, None, unwrap_or, option_map, option_and_then, if◌then◌else◌, string_bytes}
+use Rattle.std.specs.Prelude.{◌≡◌, ℕ, Bool, codes, List, [], Option, Some, None, unwrap_or, option_map, option_and_then, pos, if◌then◌else◌, string_bytes}
 use Rattle.std.specs.Str.{bytes_eq}
 use Rattle.std.specs.Str.Parse.{digits_value, without_leading_plus}
-use Rattle.clap.specs.Words.{Row, Text, first_of, one_of, subcommand_of, takes}
+use Rattle.clap.specs.Words.{IsSignedIn, Row, Text, first_of, one_of, subcommand_of, takes, without_minus}
 use Rattle.hintcheck_words.specs.CommandLine.{hintcheck}
 use Rattle.hintcheck_words.specs.declared.words.Task.{Task}
 use Rattle.hintcheck_words.specs.declared.words.Task.TheVariants as task
@@ -23,6 +23,12 @@ number_in rows id = digits_value 10 (without_leading_plus (unwrap_or (one_of id 
 abbrev pub optional_in : List Row → Text → Option Text
 optional_in rows id = first_of id rows
 
+-- an argument got the text of a number of 16 bits, which may have a minus before a zero
+pub record HasNumber (rows : List Row) (id : Text) : Type 0 where
+  pub text : Text
+  pub found : one_of id rows ≡ Some (without_minus text)
+  pub number : IsSignedIn (pos 0) (pos 65535) text
+
 unfoldable pub bare_request : List Row → Request
 bare_request rows = bare (text_in rows (codes "MAXP")) (number_in rows (codes "CVT")) (number_in rows (codes "POINTS"))
     (number_in rows (codes "CONTOURS")) (optional_in rows (codes "PROGRAM"))
@@ -42,6 +48,18 @@ meaning words = option_and_then request_of (met words)
 -- the command line takes the words
 unfoldable pub is_taken : List Text → Bool
 is_taken words = takes hintcheck words
+
+-- the numbers of `bare` are there
+pub record HasNumbers (rows : List Row) : Type 0 where
+  pub cvt : HasNumber rows (codes "CVT")
+  pub points : HasNumber rows (codes "POINTS")
+  pub contours : HasNumber rows (codes "CONTOURS")
+
+-- the subcommand is `bare`, and its numbers are there
+pub record MeetsBare (found : Option (Text × List Row)) : Type 0 where
+  pub rows : List Row
+  pub met : found ≡ Some (codes "bare", rows)
+  pub numbers : HasNumbers rows
 
 -- a task without where its texts lie in memory
 unfoldable pub asked : Task → Request

@@ -1,7 +1,7 @@
 ghost use Rattle.std.specs.Prelude.{◌≡◌, IfErr, IfOk, IfSome, Some, true, false, map, option_map, string_bytes};
 ghost use Rattle.clap.specs.Words.{app_of, found_of, rows_of, rule_of, subcommand_rows_of};
 ghost use Rattle.hintcheck_words.specs.CommandLine.{bare, hintcheck, needed as needed_rule, needed_number as number_rule};
-ghost use Rattle.hintcheck_words.specs.Requests.{IsWantOfMemory, asked, bare_request, is_taken, meaning, met, number_in, optional_in, text_in};
+ghost use Rattle.hintcheck_words.specs.Requests.{HasNumber, HasNumbers, IsWantOfMemory, MeetsBare, asked, bare_request, is_taken, meaning, met, number_in, optional_in, text_in};
 
 use clap::error::ErrorKind;
 use clap::{Arg, ArgMatches, Command, value_parser};
@@ -100,34 +100,31 @@ fn optional_text(
     }
 }
 
-/// The number that the words give the argument. It is there, since clap has asked for it and tested
-/// it.
-fn number(values: &ArgMatches<'_>, id: &str) -> Option<u16>
-    ensures { IfSome result (λ n. n ≡ number_in (rows_of (found_of values.now)) id.now) }
+/// The number that the words give the argument.
+fn number(values: &ArgMatches<'_>, id: &str) -> u16
+    requires { HasNumber (rows_of (found_of values.now)) id.now }
+    ensures { result ≡ number_in (rows_of (found_of values.now)) id.now }
 {
-    values.get_one::<u16>(id)
+    values.get_one::<u16>(id).unwrap()
 }
 
 fn bare_task(alloc: Global, values: &ArgMatches<'_>) -> Result<Task, AllocError>
+    requires { HasNumbers (rows_of (found_of values.now)) }
     ensures { IfOk result (λ t. asked t ≡ bare_request (rows_of (found_of values.now))) }
 {
-    let maxp = text(alloc, values, "MAXP")?;
-    let cvt = number(values, "CVT").ok_or(AllocError)?;
-    let points = number(values, "POINTS").ok_or(AllocError)?;
-    let contours = number(values, "CONTOURS").ok_or(AllocError)?;
-    let program = optional_text(alloc, values, "PROGRAM")?;
     Ok(Task::Bare {
-        maxp,
-        cvt,
-        points,
-        contours,
-        program,
+        maxp: text(alloc, values, "MAXP")?,
+        cvt: number(values, "CVT"),
+        points: number(values, "POINTS"),
+        contours: number(values, "CONTOURS"),
+        program: optional_text(alloc, values, "PROGRAM")?,
     })
 }
 
 /// What the words give the arguments, and the subcommand that they name.
 fn matches_of<'a>(alloc: Global, words: &'a [&'a str]) -> Result<ArgMatches<'a>, TaskFault>
     ensures met { IfOk result (λ m. subcommand_rows_of m ≡ met (map (λ w. w.now) words.entry.now)) }
+    ensures meets { IfOk result (λ m. MeetsBare (subcommand_rows_of m)) }
     ensures refused { IfErr result (λ e. is_taken (map (λ w. w.now) words.entry.now) ≡ true → IsWantOfMemory e) }
 {
     let command = command_line(alloc)?;
@@ -150,7 +147,6 @@ pub fn read_words<'a>(alloc: Global, words: &'a [&'a str]) -> Result<Task, TaskF
     let matches = matches_of(alloc, words)?;
     match matches.subcommand() {
         Some(("bare", values)) => Ok(bare_task(alloc, values)?),
-        // Never: clap itself asks for a subcommand, and answers `help`.
-        _ => Err(TaskFault::OutOfMemory(AllocError)),
+        _ => unreachable!(),
     }
 }

@@ -4,4 +4,4 @@ use Rattle.hintcheck_words.proofs.words.bare_task.Goals as goal
 
 pub returns : goal.returns
 unfolding asked bare_request
-returns c = same_bare _ _ _ _ _ _ _ _ _ _ c.in_ok-maxp.ensures (rw c.in_ok-cvt.ensures.ok_part at c.number.ensures) (rw c.in_ok-points.ensures.ok_part at c.number-2.ensures) (rw c.in_ok-contours.ensures.ok_part at c.number-3.ensures) c.in_ok-program.ensures
+returns c = same_bare _ _ _ _ _ _ _ _ _ _ c.in_ok-text.ensures c.number.ensures c.number-2.ensures c.number-3.ensures c.in_ok-optional_text.ensures

@@ -9,13 +9,9 @@ pub returns-in_err-bare_task-in-Some-bare-default-clause-refused :
 unfolding IsWantOfMemory
 returns-in_err-bare_task-in-Some-bare-default-clause-refused c = search rules
 
-pub returns-in-Some-bare-default-clause-asked : goal.returns-in-Some-bare-default-clause-asked
-returns-in-Some-bare-default-clause-asked c =
+pub returns-clause-asked : goal.returns-clause-asked
+returns-clause-asked c =
     let arm = c.in-Some-bare-default in
     means_bare _ arm.field-0-0.now (rows_of (found_of arm.values.now)) _
     (sym c.in_ok-matches.ensures.met ∙ pair_is _ _ (rows_of (found_of arm.values.now)) (option_map_map _ _ _ ∙ sym arm.ensures.name) (sym arm.ensures.rows))
     (search rules) c.in_ok-bare_task-in-Some-bare-default.ensures
-
-pub returns-clause-refused : goal.returns-clause-refused
-unfolding IsWantOfMemory
-returns-clause-refused c = λ taken. tt
