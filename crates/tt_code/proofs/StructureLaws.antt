@@ -392,7 +392,7 @@ goes_leads opener is at to each g =
     ∙ ap Some (omega (arith, g.from, g.target))
 
 -- what is closed is a partner
-closed_goes : (opener : Word) (is before : List Instruction) (i : Instruction) (rest : List Instruction) (at : ℕ) → is ≡ before ++ (i ∷ rest) → word i ≡ opener → size before ≡ at
+pub closed_goes : (opener : Word) (is before : List Instruction) (i : Instruction) (rest : List Instruction) (at : ℕ) → is ≡ before ++ (i ∷ rest) → word i ≡ opener → size before ≡ at
     → (c : Closed opener rest) → GoesTo opener is at (at + (length i + (size c.inner + length c.e)))
 closed_goes opener is before i rest at whole opens from c = record {
   before = before;
