@@ -1,5 +1,5 @@
 -- The functions that look for partners on a cut find what the grammar says, in every program that is structured.
-use Rattle.std.proofs.Common.{◌≡◌, ◌⊎◌, inl, inr, ℕ, zero, suc, ◌+◌, ◌-◌, ◌<◌, ◌≤◌, List, [], ◌∷◌, ◌++◌, length, refl, sym, ◌∙◌, ap, subst, arith, append_assoc, Option, Some, None, Bool, true, false, add-zero}
+use Rattle.std.proofs.Common.{◌≡◌, ◌⊎◌, ◌↔◌, inl, inr, ℕ, zero, suc, ◌+◌, ◌-◌, ◌<◌, ◌≤◌, List, [], ◌∷◌, ◌++◌, length, refl, sym, ◌∙◌, ap, subst, arith, append_assoc, Some, None, Bool, true, false, add-zero}
 use Rattle.std.specs.Prelude.{nat_eq, nat_lt, if◌then◌else◌}
 use Rattle.std.specs.List.{AllByRecursion}
 use Rattle.std.proofs.lemmas.Bool.{eqb-true, eq-eqb, ne_eqb, ltb-false, le-ltb}
@@ -382,53 +382,55 @@ leads_found (i ∷ is) opener start at to h = elim (taken (nat_eq start at) _ _ 
 
 -- Control goes where the grammar says.
 
-pub goes_leads : (opener : Word) (is : List Instruction) (at to : ℕ) → AllByRecursion HasBytes is → GoesTo opener is at to → leads opener is at ≡ Some to
-goes_leads opener is at to each g =
-    let parted : AllByRecursion HasBytes (g.before ++ (g.i ∷ (g.inner ++ (g.e ∷ g.after)))) = subst (λ x. AllByRecursion HasBytes x) g.whole each in
-    let front = each_before HasBytes g.before (g.i ∷ (g.inner ++ (g.e ∷ g.after))) parted in
+pub goes_leads : {opener : Word} {is : List Instruction} {at to : ℕ} → AllByRecursion HasBytes is → GoesTo opener is at to → leads opener is at ≡ Some to
+goes_leads {opener} {is} {at} {to} each g =
+    let behind : List Instruction = g.i ∷ (g.inner ++ (g.e ∷ g.after)) in
+    let front = each_before HasBytes g.before behind (subst (λ x. AllByRecursion HasBytes x) g.whole each) in
     ap (λ x. leads opener x at) g.whole
     ∙ leads_there g.before g.i (g.inner ++ (g.e ∷ g.after)) 0 at opener front (omega (arith, g.from)) g.opens
     ∙ end_found opener g.inner g.e g.after (at + length g.i) g.nested g.ends
     ∙ ap Some (omega (arith, g.from, g.target))
 
--- what is closed is a partner
-pub closed_goes : (opener : Word) (is before : List Instruction) (i : Instruction) (rest : List Instruction) (at : ℕ) → is ≡ before ++ (i ∷ rest) → word i ≡ opener → size before ≡ at
-    → (c : Closed opener rest) → GoesTo opener is at (at + (length i + (size c.inner + length c.e)))
-closed_goes opener is before i rest at whole opens from c = record {
-  before = before;
+-- an opening instruction with its end behind it
+pub closed_goes : {opener : Word} {is : List Instruction} {at : ℕ} {i : Instruction} → (s : StandsAt is at i) → word i ≡ opener → (c : Closed opener s.after)
+    → GoesTo opener is at (at + (length i + (size c.inner + length c.e)))
+closed_goes {i = i} s opens c = record {
+  before = s.before;
   i = i;
   inner = c.inner;
   e = c.e;
   after = c.after;
-  whole = whole ∙ ap (λ x. before ++ (i ∷ x)) c.whole;
+  whole = s.whole ∙ ap (λ x. s.before ++ (i ∷ x)) c.whole;
   opens = opens;
   nested = c.nested;
   ends = c.ends;
-  from = from;
-  target = ap (λ x. x + (length i + (size c.inner + length c.e))) from;
+  from = s.offset;
+  target = ap (λ x. x + (length i + (size c.inner + length c.e))) s.offset;
 }
 
 -- every opening instruction of a structured program has its end
-pub opener_goes : (opener : Word) (is : List Instruction) (at : ℕ) (i : Instruction) → IsStructured is → Opens opener → StandsAt is at i → word i ≡ opener → (to : ℕ) × GoesTo opener is at to
-opener_goes opener is at i structured o s opens =
+pub opener_goes : {opener : Word} {is : List Instruction} {at : ℕ} {i : Instruction} → IsStructured is → Opens opener → StandsAt is at i → word i ≡ opener → (to : ℕ) × GoesTo opener is at to
+opener_goes {opener} {at = at} {i} structured o s opens =
     let c = opener_closed structured s.before i s.after s.whole opener o opens in
-    (at + (length i + (size c.inner + length c.e)), closed_goes opener is s.before i s.after at s.whole opens s.offset c)
+    (at + (length i + (size c.inner + length c.e)), closed_goes s opens c)
 
-pub opener_leads : (opener : Word) (is : List Instruction) (at : ℕ) (i : Instruction) → IsStructured is → AllByRecursion HasBytes is → Opens opener → StandsAt is at i → word i ≡ opener
+pub opener_leads : {opener : Word} {is : List Instruction} {at : ℕ} {i : Instruction} → IsStructured is → AllByRecursion HasBytes is → Opens opener → StandsAt is at i → word i ≡ opener
     → (to : ℕ) × (leads opener is at ≡ Some to)
-opener_leads opener is at i structured each o s opens =
-    let g = opener_goes opener is at i structured o s opens in
-    (g.0, goes_leads opener is at g.0 each g.1)
+opener_leads structured each o s opens = let g = opener_goes structured o s opens in (g.0, goes_leads each g.1)
 
-pub leads_goes : (opener : Word) (is : List Instruction) (at to : ℕ) → IsStructured is → Opens opener → leads opener is at ≡ Some to → GoesTo opener is at to
-leads_goes opener is at to structured o h =
+pub leads_goes : {opener : Word} {is : List Instruction} {at to : ℕ} → IsStructured is → Opens opener → leads opener is at ≡ Some to → GoesTo opener is at to
+leads_goes {opener} {is} {at} {to} structured o h =
     let f = leads_found is opener 0 at to h in
+    let s : StandsAt is at f.i = record { before = f.before; after = f.rest; whole = f.whole; offset = omega (arith, f.from) } in
     let c = opener_closed structured f.before f.i f.rest f.whole opener o f.opens in
     let there : behind_end opener f.rest (at + length f.i) zero ≡ Some (((at + length f.i) + size c.inner) + length c.e) =
     ap (λ x. behind_end opener x (at + length f.i) zero) c.whole ∙ end_found opener c.inner c.e c.after (at + length f.i) c.nested c.ends in
     let one : Some (((at + length f.i) + size c.inner) + length c.e) ≡ Some to = sym there ∙ f.ends in
     let target : ((at + length f.i) + size c.inner) + length c.e ≡ to = cc in
-    subst (λ x. GoesTo opener is at x) (omega arith) (closed_goes opener is f.before f.i f.rest at f.whole f.opens (omega (arith, f.from)) c)
+    subst (λ x. GoesTo opener is at x) (omega arith) (closed_goes s f.opens c)
+
+pub leads_iff_goes : {opener : Word} {is : List Instruction} {at to : ℕ} → IsStructured is → AllByRecursion IsInstruction is → Opens opener → (leads opener is at ≡ Some to) ↔ GoesTo opener is at to
+leads_iff_goes {is = is} structured each o = (leads_goes structured o, goes_leads (each_bytes is each))
 
 -- The instruction that starts at an offset is the one that stands there.
 
@@ -457,3 +459,35 @@ pub stands_found : (is : List Instruction) (at : ℕ) (i : Instruction) → AllB
 stands_found is at i each s =
     let parted : AllByRecursion HasBytes (s.before ++ (i ∷ s.after)) = subst (λ x. AllByRecursion HasBytes x) s.whole each in
     ap (λ x. instruction_at x at) s.whole ∙ stands_there s.before at i s.after (each_before HasBytes s.before (i ∷ s.after) parted) s.offset
+
+pub found_iff_stands : (is : List Instruction) (at : ℕ) (i : Instruction) → AllByRecursion IsInstruction is → (instruction_at is at ≡ Some i) ↔ StandsAt is at i
+found_iff_stands is at i each = (found_stands is at i, stands_found is at i (each_bytes is each))
+
+-- behind an instruction stands another one, or the program ends
+pub next_stands : (is : List Instruction) (at : ℕ) (i : Instruction) → StandsAt is at i → ((next : Instruction) × StandsAt is (at + length i) next) ⊎ (at + length i ≡ size is)
+next_stands is at i s = behind s.after s.whole
+  where
+    behind : (after : List Instruction) → is ≡ s.before ++ (i ∷ after) → ((next : Instruction) × StandsAt is (at + length i) next) ⊎ (at + length i ≡ size is)
+    behind [] whole = inr (omega (arith, s.offset, ap size whole, size-append s.before (i ∷ [])))
+    behind (next ∷ after) whole = inl (
+      next,
+      record {
+        before = s.before ++ (i ∷ []);
+        after = after;
+        whole = whole ∙ sym (append_assoc s.before (i ∷ []) (next ∷ after));
+        offset = omega (arith, s.offset, size-append s.before (i ∷ []));
+      },
+    )
+
+-- and so does where control goes
+pub target_stands : (opener : Word) (is : List Instruction) (at to : ℕ) → GoesTo opener is at to → ((next : Instruction) × StandsAt is to next) ⊎ (to ≡ size is)
+target_stands opener is at to g =
+    let front : List Instruction = g.before ++ (g.i ∷ g.inner) in
+    let end : StandsAt is (size front) g.e = record {
+      before = front;
+      after = g.after;
+      whole = g.whole ∙ sym (append_assoc g.before (g.i ∷ g.inner) (g.e ∷ g.after));
+      offset = refl;
+    } in
+    let there : size front + length g.e ≡ to = omega (arith, size-append g.before (g.i ∷ g.inner), g.target) in
+    subst (λ x. ((next : Instruction) × StandsAt is x next) ⊎ (x ≡ size is)) there (next_stands is (size front) g.e end)

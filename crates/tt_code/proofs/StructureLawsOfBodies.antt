@@ -1,9 +1,9 @@
 -- The function that looks for an instruction's body on a cut finds the one that the grammar says, in every program that is structured.
-use Rattle.std.proofs.Common.{◌≡◌, ◌⊎◌, inl, inr, ℕ, zero, suc, ◌+◌, ◌<◌, ◌≤◌, List, [], ◌∷◌, ◌++◌, length, refl, sym, ◌∙◌, ap, subst, arith, append_assoc, Option, Some, None, Bool, true, false}
+use Rattle.std.proofs.Common.{◌≡◌, ◌⊎◌, ◌↔◌, inl, inr, ℕ, ◌+◌, ◌<◌, List, [], ◌∷◌, ◌++◌, length, refl, sym, ◌∙◌, ap, subst, arith, append_assoc, Some, None, Bool, true, false}
 use Rattle.std.specs.Prelude.{nat_eq, if◌then◌else◌}
 use Rattle.std.specs.List.{AllByRecursion}
 use Rattle.std.proofs.lemmas.Bool.{eqb-true, eq-eqb, ne_eqb}
-use Rattle.tt_code.specs.Cut.{Instruction, IsInstruction, size, data_length}
+use Rattle.tt_code.specs.Cut.{Instruction, IsInstruction, size}
 use Rattle.tt_code.specs.Table.{effect_of}
 use Rattle.tt_code.specs.Structure.{word, word_of, body_behind, body_from, body_at}
 use Rattle.tt_code.specs.Grammar.{IsDefinition, IsList, none, plain, if_eif, if_else_eif, definition, IsStructured, StandsAt, Ends, begins_definition, GoesTo, InDefinition, IsBodyAt}
@@ -11,7 +11,7 @@ use Rattle.tt_code.specs.declared.word.Word.{Word}
 use Rattle.tt_code.specs.declared.word.Word.TheVariants.{If, Else, Eif, Fdef, Idef, Endf, Other}
 use Rattle.tt_code.specs.declared.machine.Body.{Body}
 use Rattle.tt_code.specs.declared.machine.Body.TheVariants as body
-use Rattle.tt_code.proofs.StructureLaws.{HasBytes, each_bytes, each_before, each_behind, each_joined, size-append, Place, earlier, same, later, place, taken, Opens, Closed, opener_closed, closed_goes}
+use Rattle.tt_code.proofs.StructureLaws.{HasBytes, each_bytes, each_before, each_behind, each_joined, size-append, earlier, same, later, place, taken, Opens, Closed, opener_closed, closed_goes}
 
 -- FDEF and IDEF have no operands.
 
@@ -146,9 +146,18 @@ record Reaches (opener : Word) (from : ℕ) (before : List Instruction) : Type 0
   starts : size outer ≡ from
   keeps : AllByRecursion Keeps part
 
-in_definition : (opener : Word) (is before : List Instruction) (i : Instruction) (rest : List Instruction) (at from : ℕ) → IsDefinition opener → is ≡ before ++ (i ∷ rest) → size before ≡ at
-    → InDefinition opener is from at → Reaches opener from before
-in_definition opener is before i rest at from d whole offset (to, g, low, high) = elim (place before i rest g.before g.i (g.inner ++ (g.e ∷ g.after)) (sym whole ∙ g.whole)) [
+is_inside : (opener : Word) → IsDefinition opener → begins_definition opener ≡ true
+is_inside Fdef d = refl
+is_inside Idef d = refl
+is_inside If d = absurd d
+is_inside Else d = absurd d
+is_inside Eif d = absurd d
+is_inside Endf d = absurd d
+is_inside Other d = absurd d
+
+reaches : {opener : Word} {is : List Instruction} {from at to : ℕ} {i : Instruction} → IsDefinition opener → (s : StandsAt is at i) → GoesTo opener is from to → from < at → at < to
+    → Reaches opener from s.before
+reaches {opener} {i = i} d s g low high = elim (place s.before i s.after g.before g.i (g.inner ++ (g.e ∷ g.after)) (sym s.whole ∙ g.whole)) [
   | earlier part p r ↦ record {
     outer = g.before;
     d = g.i;
@@ -158,49 +167,57 @@ in_definition opener is before i rest at from d whole offset (to, g, low, high) 
     starts = g.from;
     keeps = part_keeps part p r;
   }
-  | same p r s ↦ absurd (omega (arith, g.from, ap size p))
-  | later between p r ↦ absurd (omega (arith, g.from, ap size p, size-append before (i ∷ between)))
+  | same p r t ↦ absurd (omega (arith, s.offset, g.from, ap size p))
+  | later between p r ↦ absurd (omega (arith, s.offset, g.from, ap size p, size-append s.before (i ∷ between)))
 ]
   where
-    inside : (w : Word) → IsDefinition w → begins_definition w ≡ true
-    inside Fdef d = refl
-    inside Idef d = refl
-    inside If d = absurd d
-    inside Else d = absurd d
-    inside Eif d = absurd d
-    inside Endf d = absurd d
-    inside Other d = absurd d
-
     inner_keeps : AllByRecursion Keeps g.inner
-    inner_keeps = list_keeps g.nested (inside opener d)
+    inner_keeps = list_keeps g.nested (is_inside opener d)
 
-    part_keeps : (part : List Instruction) → before ≡ g.before ++ (g.i ∷ part) → g.inner ++ (g.e ∷ g.after) ≡ part ++ (i ∷ rest) → AllByRecursion Keeps part
-    part_keeps part p r = elim (place g.inner g.e g.after part i rest r) [
-      | earlier between q s ↦ each_before Keeps part (i ∷ between) (subst (λ x. AllByRecursion Keeps x) q inner_keeps)
-      | same q s t ↦ subst (λ x. AllByRecursion Keeps x) (sym q) inner_keeps
-      | later between q s ↦
-          absurd (omega (arith, g.from, g.target, ap size p, size-append g.before (g.i ∷ part), ap size q, size-append g.inner (g.e ∷ between)))
+    part_keeps : (part : List Instruction) → s.before ≡ g.before ++ (g.i ∷ part) → g.inner ++ (g.e ∷ g.after) ≡ part ++ (i ∷ s.after) → AllByRecursion Keeps part
+    part_keeps part p r = elim (place g.inner g.e g.after part i s.after r) [
+      | earlier between q t ↦ each_before Keeps part (i ∷ between) (subst (λ x. AllByRecursion Keeps x) q inner_keeps)
+      | same q t u ↦ subst (λ x. AllByRecursion Keeps x) (sym q) inner_keeps
+      | later between q t ↦
+          absurd (omega (arith, s.offset, g.from, g.target, ap size p, size-append g.before (g.i ∷ part), ap size q, size-append g.inner (g.e ∷ between)))
     ]
 
-begun_body : (here : Body) (opener : Word) (next : ℕ) → IsDefinition opener → body_behind here opener next ≡ body_behind body.Main opener next
-begun_body here Fdef next d = refl
-begun_body here Idef next d = refl
-begun_body here If next d = absurd d
-begun_body here Else next d = absurd d
-begun_body here Eif next d = absurd d
-begun_body here Endf next d = absurd d
-begun_body here Other next d = absurd d
+begun_body : (here : Body) (opener : Word) (first : ℕ) → IsDefinition opener → body_behind here opener first ≡ body_behind body.Main opener first
+begun_body here Fdef first d = refl
+begun_body here Idef first d = refl
+begun_body here If first d = absurd d
+begun_body here Else first d = absurd d
+begun_body here Eif first d = absurd d
+begun_body here Endf first d = absurd d
+begun_body here Other first d = absurd d
 
 reached_body : (opener : Word) (from : ℕ) (before : List Instruction) → IsDefinition opener → (r : Reaches opener from before)
     → body_after body.Main 0 before ≡ body_behind body.Main opener (from + length r.d)
 reached_body opener from before d r =
     let outside : Body = body_after body.Main 0 r.outer in
+    let first : ℕ = (0 + size r.outer) + length r.d in
     ap (λ x. body_after body.Main 0 x) r.whole
     ∙ after_joined r.outer (r.d ∷ r.part) body.Main 0
-    ∙ after_kept r.part (body_behind outside (word r.d) ((0 + size r.outer) + length r.d)) ((0 + size r.outer) + length r.d) r.keeps
-    ∙ ap (λ w. body_behind outside w ((0 + size r.outer) + length r.d)) r.opens
-    ∙ begun_body outside opener ((0 + size r.outer) + length r.d) d
+    ∙ after_kept r.part (body_behind outside (word r.d) first) first r.keeps
+    ∙ ap (λ w. body_behind outside w first) r.opens
+    ∙ begun_body outside opener first d
     ∙ ap (λ n. body_behind body.Main opener n) (omega (arith, r.starts))
+
+-- the instruction between the parts of a beginning is one of the program's
+parted : {is : List Instruction} {at : ℕ} {i : Instruction} (s : StandsAt is at i) (outer : List Instruction) (d : Instruction) (part : List Instruction) → s.before ≡ outer ++ (d ∷ part)
+    → is ≡ outer ++ (d ∷ (part ++ (i ∷ s.after)))
+parted {i = i} s outer d part e = s.whole ∙ ap (λ x. x ++ (i ∷ s.after)) e ∙ append_assoc outer (d ∷ part) (i ∷ s.after)
+
+each_parted : {is : List Instruction} (outer : List Instruction) (d : Instruction) (rest : List Instruction) → AllByRecursion IsInstruction is → is ≡ outer ++ (d ∷ rest)
+    → AllByRecursion IsInstruction (d ∷ rest)
+each_parted outer d rest each e = each_behind IsInstruction outer (d ∷ rest) (subst (λ x. AllByRecursion IsInstruction x) e each)
+
+definition_body : {opener : Word} {is : List Instruction} {from at : ℕ} {i : Instruction} → AllByRecursion IsInstruction is → IsDefinition opener → (s : StandsAt is at i)
+    → InDefinition opener is from at → body_after body.Main 0 s.before ≡ body_behind body.Main opener (from + 1)
+definition_body {opener} {is} {from} {i = i} each d s (to, g, low, high) =
+    let r = reaches d s g low high in
+    let there = each_parted r.outer r.d (r.part ++ (i ∷ s.after)) each (parted s r.outer r.d r.part r.whole) in
+    reached_body opener from s.before d r ∙ ap (λ n. body_behind body.Main opener (from + n)) (definition_length r.d there.0 (subst IsDefinition (sym r.opens) d))
 
 -- What has the body of a definition stands in that definition.
 
@@ -270,42 +287,43 @@ definition_opens Eif d = absurd d
 definition_opens Endf d = absurd d
 definition_opens Other d = absurd d
 
-definition_ends : (opener w : Word) → IsDefinition opener → Ends opener w → KeepsBody w → ⊥
-definition_ends Fdef w d e k = subst KeepsBody e k
-definition_ends Idef w d e k = subst KeepsBody e k
-definition_ends If w d e k = d
-definition_ends Else w d e k = d
-definition_ends Eif w d e k = d
-definition_ends Endf w d e k = d
-definition_ends Other w d e k = d
+-- what ends a definition ends the body
+ends_body : (opener w : Word) → IsDefinition opener → Ends opener w → KeepsBody w → ⊥
+ends_body Fdef w d e k = subst KeepsBody e k
+ends_body Idef w d e k = subst KeepsBody e k
+ends_body If w d e k = d
+ends_body Else w d e k = d
+ends_body Eif w d e k = d
+ends_body Endf w d e k = d
+ends_body Other w d e k = d
 
-begun_definition : (opener : Word) (is before : List Instruction) (i : Instruction) (rest : List Instruction) (at first : ℕ) → IsStructured is → AllByRecursion IsInstruction is
-    → IsDefinition opener → is ≡ before ++ (i ∷ rest) → size before ≡ at → Begun opener before 0 first → (from : ℕ) × (first ≡ from + 1) × InDefinition opener is from at
-begun_definition opener is before i rest at first structured each d whole offset b = (
+begun_definition : {opener : Word} {is : List Instruction} {at first : ℕ} {i : Instruction} → IsStructured is → AllByRecursion IsInstruction is → IsDefinition opener → (s : StandsAt is at i)
+    → Begun opener s.before 0 first → (from : ℕ) × (first ≡ from + 1) × InDefinition opener is from at
+begun_definition {opener} {is} {at} {first} {i} structured each d s b = (
   size b.outer,
   omega (arith, one_byte, b.begins),
   (
     size b.outer + (length b.d + (size closed.inner + length closed.e)),
-    closed_goes opener is b.outer b.d (b.part ++ (i ∷ rest)) (size b.outer) parted b.opens refl closed,
-    omega (arith, one_byte, offset, sizes),
-    omega (arith, offset, sizes, within),
+    closed_goes beginning b.opens closed,
+    omega (arith, one_byte, s.offset, sizes),
+    omega (arith, s.offset, sizes, within),
   ),
 )
   where
-    parted : is ≡ b.outer ++ (b.d ∷ (b.part ++ (i ∷ rest)))
-    parted = whole ∙ ap (λ x. x ++ (i ∷ rest)) b.whole ∙ append_assoc b.outer (b.d ∷ b.part) (i ∷ rest)
+    beginning : StandsAt is (size b.outer) b.d
+    beginning = record { before = b.outer; after = b.part ++ (i ∷ s.after); whole = parted s b.outer b.d b.part b.whole; offset = refl }
 
-    each_there : AllByRecursion IsInstruction (b.d ∷ (b.part ++ (i ∷ rest)))
-    each_there = each_behind IsInstruction b.outer (b.d ∷ (b.part ++ (i ∷ rest))) (subst (λ x. AllByRecursion IsInstruction x) parted each)
+    each_there : AllByRecursion IsInstruction (b.d ∷ beginning.after)
+    each_there = each_parted b.outer b.d beginning.after each beginning.whole
 
     one_byte : length b.d ≡ 1
     one_byte = definition_length b.d each_there.0 (subst IsDefinition (sym b.opens) d)
 
-    sizes : size before ≡ size b.outer + (length b.d + size b.part)
+    sizes : size s.before ≡ size b.outer + (length b.d + size b.part)
     sizes = ap size b.whole ∙ size-append b.outer (b.d ∷ b.part)
 
-    closed : Closed opener (b.part ++ (i ∷ rest))
-    closed = opener_closed structured b.outer b.d (b.part ++ (i ∷ rest)) parted opener (definition_opens opener d) b.opens
+    closed : Closed opener beginning.after
+    closed = opener_closed structured b.outer b.d beginning.after beginning.whole opener (definition_opens opener d) b.opens
 
     end_bytes : 0 < length closed.e
     end_bytes =
@@ -313,72 +331,64 @@ begun_definition opener is before i rest at first structured each d whole offset
         (each_behind HasBytes closed.inner (closed.e ∷ closed.after) all).0
 
     within : size b.part < size closed.inner + length closed.e
-    within = elim (place closed.inner closed.e closed.after b.part i rest (sym closed.whole)) [
+    within = elim (place closed.inner closed.e closed.after b.part i s.after (sym closed.whole)) [
       | earlier between p r ↦ omega (arith, end_bytes, ap size p, size-append b.part (i ∷ between))
-      | same p r s ↦ omega (arith, end_bytes, ap size p)
+      | same p r t ↦ omega (arith, end_bytes, ap size p)
       | later between p r ↦
           let kept = each_behind Keeps closed.inner (closed.e ∷ between) (subst (λ x. AllByRecursion Keeps x) p b.keeps) in
-          absurd (definition_ends opener (word closed.e) d closed.ends kept.0)
+          absurd (ends_body opener (word closed.e) d closed.ends kept.0)
     ]
 
-pub body_in_definition : (opener : Word) (is before : List Instruction) (i : Instruction) (rest : List Instruction) (at first : ℕ) → IsStructured is → AllByRecursion IsInstruction is
-    → IsDefinition opener → is ≡ before ++ (i ∷ rest) → size before ≡ at → body_after body.Main 0 before ≡ body_behind body.Main opener first
-    → (from : ℕ) × (first ≡ from + 1) × InDefinition opener is from at
-body_in_definition opener is before i rest at first structured each d whole offset h = elim (last_definition before body.Main 0 first opener d h) [
-  | inl none_there ↦ absurd (not_main opener first d none_there.0)
-  | inr b ↦ begun_definition opener is before i rest at first structured each d whole offset b
+body_definition : {opener : Word} {is : List Instruction} {at first : ℕ} {i : Instruction} → IsStructured is → AllByRecursion IsInstruction is → IsDefinition opener → (s : StandsAt is at i)
+    → body_after body.Main 0 s.before ≡ body_behind body.Main opener first → (from : ℕ) × (first ≡ from + 1) × InDefinition opener is from at
+body_definition {opener} {first = first} structured each d s h = elim (last_definition s.before body.Main 0 first opener d h) [
+  | inl outside ↦ absurd (not_main opener first d outside.0)
+  | inr b ↦ begun_definition structured each d s b
 ]
 
-pub definition_body : (opener : Word) (is before : List Instruction) (i : Instruction) (rest : List Instruction) (at from : ℕ) → AllByRecursion IsInstruction is → IsDefinition opener
-    → is ≡ before ++ (i ∷ rest) → size before ≡ at → InDefinition opener is from at → body_after body.Main 0 before ≡ body_behind body.Main opener (from + 1)
-definition_body opener is before i rest at from each d whole offset inside =
-    reached_body opener from before d r ∙ ap (λ n. body_behind body.Main opener (from + n)) (definition_length r.d each_there.0 (subst IsDefinition (sym r.opens) d))
-  where
-    r : Reaches opener from before
-    r = in_definition opener is before i rest at from d whole offset inside
+-- The body behind what stands before an instruction is the instruction's.
 
-    parted : is ≡ r.outer ++ (r.d ∷ (r.part ++ (i ∷ rest)))
-    parted = whole ∙ ap (λ x. x ++ (i ∷ rest)) r.whole ∙ append_assoc r.outer (r.d ∷ r.part) (i ∷ rest)
-
-    each_there : AllByRecursion IsInstruction (r.d ∷ (r.part ++ (i ∷ rest)))
-    each_there = each_behind IsInstruction r.outer (r.d ∷ (r.part ++ (i ∷ rest))) (subst (λ x. AllByRecursion IsInstruction x) parted each)
-
--- An instruction's body is the one that is found.
-
-not_both : (is before : List Instruction) (i : Instruction) (rest : List Instruction) (at : ℕ) → IsStructured is → AllByRecursion IsInstruction is → is ≡ before ++ (i ∷ rest) → size before ≡ at
-    → IsBodyAt is at body.Main → (b : Body) → body_after body.Main 0 before ≡ b → b ≡ body.Main
-not_both is before i rest at structured each whole offset (no_function, no_instruction) body.Main h = refl
-not_both is before i rest at structured each whole offset (no_function, no_instruction) (body.Function first) h =
-    let r = body_in_definition Fdef is before i rest at first structured each tt whole offset h in absurd (no_function r.0 r.2)
-not_both is before i rest at structured each whole offset (no_function, no_instruction) (body.Instruction first) h =
-    let r = body_in_definition Idef is before i rest at first structured each tt whole offset h in absurd (no_instruction r.0 r.2)
-
-after_is : (is before : List Instruction) (i : Instruction) (rest : List Instruction) (at : ℕ) (b : Body) → IsStructured is → AllByRecursion IsInstruction is → is ≡ before ++ (i ∷ rest) → size before ≡ at
-    → IsBodyAt is at b → body_after body.Main 0 before ≡ b
-after_is is before i rest at body.Main structured each whole offset h = not_both is before i rest at structured each whole offset h (body_after body.Main 0 before) refl
-after_is is before i rest at (body.Function first) structured each whole offset (from, first_is, inside) =
-    definition_body Fdef is before i rest at from each tt whole offset inside ∙ ap body.Function (sym first_is)
-after_is is before i rest at (body.Instruction first) structured each whole offset (from, first_is, inside) =
-    definition_body Idef is before i rest at from each tt whole offset inside ∙ ap body.Instruction (sym first_is)
-
-pub body_is : (is : List Instruction) (at : ℕ) (i : Instruction) (b : Body) → IsStructured is → AllByRecursion IsInstruction is → StandsAt is at i → IsBodyAt is at b → body_at is at ≡ Some b
-body_is is at i b structured each s h =
-    let parted : AllByRecursion HasBytes (s.before ++ (i ∷ s.after)) = subst (λ x. AllByRecursion HasBytes x) s.whole (each_bytes is each) in
-    ap (λ x. body_at x at) s.whole
-    ∙ body_there s.before i s.after body.Main 0 at (each_before HasBytes s.before (i ∷ s.after) parted) (omega (arith, s.offset))
-    ∙ ap Some (after_is is s.before i s.after at b structured each s.whole s.offset h)
-
-after_gives : (is before : List Instruction) (i : Instruction) (rest : List Instruction) (at : ℕ) (b : Body) → IsStructured is → AllByRecursion IsInstruction is → is ≡ before ++ (i ∷ rest) → size before ≡ at
-    → body_after body.Main 0 before ≡ b → IsBodyAt is at b
-after_gives is before i rest at body.Main structured each whole offset h = (
-  λ from inside. not_main Fdef (from + 1) tt (sym h ∙ definition_body Fdef is before i rest at from each tt whole offset inside),
-  λ from inside. not_main Idef (from + 1) tt (sym h ∙ definition_body Idef is before i rest at from each tt whole offset inside),
+after_is : {is : List Instruction} {at : ℕ} {i : Instruction} (b : Body) → IsStructured is → AllByRecursion IsInstruction is → (s : StandsAt is at i) → body_after body.Main 0 s.before ≡ b → IsBodyAt is at b
+after_is body.Main structured each s h = (
+  λ from inside. not_main Fdef (from + 1) tt (sym h ∙ definition_body {opener = Fdef} each tt s inside),
+  λ from inside. not_main Idef (from + 1) tt (sym h ∙ definition_body {opener = Idef} each tt s inside),
 )
-after_gives is before i rest at (body.Function first) structured each whole offset h = body_in_definition Fdef is before i rest at first structured each tt whole offset h
-after_gives is before i rest at (body.Instruction first) structured each whole offset h = body_in_definition Idef is before i rest at first structured each tt whole offset h
+after_is (body.Function first) structured each s h = body_definition {opener = Fdef} structured each tt s h
+after_is (body.Instruction first) structured each s h = body_definition {opener = Idef} structured each tt s h
+
+-- an instruction has one body
+one_body : {is : List Instruction} {at : ℕ} {i : Instruction} (b : Body) → AllByRecursion IsInstruction is → (s : StandsAt is at i) → (found : Body) → body_after body.Main 0 s.before ≡ found → IsBodyAt is at found → IsBodyAt is at b
+    → found ≡ b
+one_body body.Main each s body.Main e f h = refl
+one_body body.Main each s (body.Function first) e f h = absurd (h.0 f.0 f.2)
+one_body body.Main each s (body.Instruction first) e f h = absurd (h.1 f.0 f.2)
+one_body (body.Function first) each s found e f (from, first_is, inside) = sym e ∙ definition_body {opener = Fdef} each tt s inside ∙ ap body.Function (sym first_is)
+one_body (body.Instruction first) each s found e f (from, first_is, inside) = sym e ∙ definition_body {opener = Idef} each tt s inside ∙ ap body.Instruction (sym first_is)
+
+-- each instruction has a body
+stands_body : {is : List Instruction} {at : ℕ} {i : Instruction} → AllByRecursion IsInstruction is → (s : StandsAt is at i) → body_at is at ≡ Some (body_after body.Main 0 s.before)
+stands_body {is} {at} {i} each s =
+    let front = each_before HasBytes s.before (i ∷ s.after) (subst (λ x. AllByRecursion HasBytes x) s.whole (each_bytes is each)) in
+    ap (λ x. body_at x at) s.whole ∙ body_there s.before i s.after body.Main 0 at front (omega (arith, s.offset))
+
+pub body_there_is : {is : List Instruction} {at : ℕ} {i : Instruction} → AllByRecursion IsInstruction is → StandsAt is at i → (b : Body) × (body_at is at ≡ Some b)
+body_there_is each s = (body_after body.Main 0 s.before, stands_body each s)
+
+pub body_is : {is : List Instruction} {at : ℕ} {i : Instruction} (b : Body) → IsStructured is → AllByRecursion IsInstruction is → StandsAt is at i → IsBodyAt is at b → body_at is at ≡ Some b
+body_is b structured each s h =
+    let found : Body = body_after body.Main 0 s.before in
+    stands_body each s ∙ ap Some (one_body b each s found refl (after_is found structured each s refl) h)
+
+pub body_stands : (is : List Instruction) (at : ℕ) (b : Body) → body_at is at ≡ Some b → (i : Instruction) × StandsAt is at i
+body_stands is at b h =
+    let f = body_found is body.Main 0 at b h in
+    (f.i, record { before = f.before; after = f.rest; whole = f.whole; offset = omega (arith, f.from) })
 
 pub is_body : (is : List Instruction) (at : ℕ) (b : Body) → IsStructured is → AllByRecursion IsInstruction is → body_at is at ≡ Some b → ((i : Instruction) × StandsAt is at i) × IsBodyAt is at b
 is_body is at b structured each h =
-    let f = body_found is body.Main 0 at b h in
-    let offset : size f.before ≡ at = omega (arith, f.from) in
-    ((f.i, record { before = f.before; after = f.rest; whole = f.whole; offset = offset }), after_gives is f.before f.i f.rest at b structured each f.whole offset f.is_body)
+    let s = body_stands is at b h in
+    let one : Some (body_after body.Main 0 s.1.before) ≡ Some b = sym (stands_body each s.1) ∙ h in
+    (s, after_is b structured each s.1 (cc))
+
+pub body_iff_is : (is : List Instruction) (at : ℕ) (i : Instruction) (b : Body) → IsStructured is → AllByRecursion IsInstruction is → StandsAt is at i → (body_at is at ≡ Some b) ↔ IsBodyAt is at b
+body_iff_is is at i b structured each s = (λ h. (is_body is at b structured each h).1, body_is b structured each s)
