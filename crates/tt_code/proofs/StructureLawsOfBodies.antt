@@ -1,4 +1,4 @@
--- The function that looks for an instruction's body on a cut finds the one that the grammar says, in every program that is structured.
+-- The function that looks for the body of an instruction on a cut finds the one that the grammar says.
 use Rattle.std.proofs.Common.{◌≡◌, ◌⊎◌, ◌↔◌, inl, inr, ℕ, ◌+◌, ◌<◌, List, [], ◌∷◌, ◌++◌, length, refl, sym, ◌∙◌, ap, subst, arith, append_assoc, Some, None, Bool, true, false}
 use Rattle.std.specs.Prelude.{nat_eq, if◌then◌else◌}
 use Rattle.std.specs.List.{AllByRecursion}
@@ -371,8 +371,8 @@ stands_body {is} {at} {i} each s =
     let front = each_before HasBytes s.before (i ∷ s.after) (subst (λ x. AllByRecursion HasBytes x) s.whole (each_bytes is each)) in
     ap (λ x. body_at x at) s.whole ∙ body_there s.before i s.after body.Main 0 at front (omega (arith, s.offset))
 
-pub body_there_is : {is : List Instruction} {at : ℕ} {i : Instruction} → AllByRecursion IsInstruction is → StandsAt is at i → (b : Body) × (body_at is at ≡ Some b)
-body_there_is each s = (body_after body.Main 0 s.before, stands_body each s)
+pub has_body : {is : List Instruction} {at : ℕ} {i : Instruction} → AllByRecursion IsInstruction is → StandsAt is at i → (b : Body) × (body_at is at ≡ Some b)
+has_body each s = (body_after body.Main 0 s.before, stands_body each s)
 
 pub body_is : {is : List Instruction} {at : ℕ} {i : Instruction} (b : Body) → IsStructured is → AllByRecursion IsInstruction is → StandsAt is at i → IsBodyAt is at b → body_at is at ≡ Some b
 body_is b structured each s h =
