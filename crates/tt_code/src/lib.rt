@@ -9,6 +9,7 @@ pub mod limits;
 pub mod machine;
 pub mod program;
 pub mod reason;
+pub mod structure_laws;
 pub mod table;
 pub mod word;
 
