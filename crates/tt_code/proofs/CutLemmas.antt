@@ -1,12 +1,10 @@
 -- Instructions at the front of bytes, and what is laid over them.
-use Rattle.std.proofs.Common.{◌≡◌, ℕ, zero, suc, ◌+◌, ◌*◌, ◌-◌, ◌^◌, ◌<◌, ◌≤◌, List, [], ◌∷◌, ◌++◌, Option, None, Some, Bool, true, false, length, take, drop, replicate, get_or, refl, sym, ◌∙◌, ap, arith, rules, subst, sub-one, inl, inr, ◌⊎◌}
-use Rattle.std.specs.Prelude.{nat_lt, if◌then◌else◌}
-use Rattle.std.proofs.lemmas.List.{length-append, length-take, length-take-le, take-append-drop, append_cancel_left, append_assoc, append-nil, get_or-replicate, get_or_append_left, length-replicate}
-use Rattle.std.proofs.lemmas.List as lists
+use Rattle.std.proofs.Common.{◌≡◌, ℕ, zero, suc, ◌+◌, ◌-◌, ◌^◌, ◌<◌, ◌≤◌, List, [], ◌∷◌, ◌++◌, Option, None, Some, Bool, true, false, length, take, drop, replicate, get_or, refl, sym, ◌∙◌, ap, arith, subst, sub-one, inl, inr, ◌⊎◌}
+use Rattle.std.specs.Prelude.{nat_lt}
+use Rattle.std.proofs.lemmas.List.{length-append, take-append-drop, append_cancel_left, append_assoc, append-nil}
 use Rattle.std.proofs.Math.Seq.{take-append_seam, drop-append-add}
 use Rattle.std.proofs.Math.Nat.{sub-zero}
-use Rattle.std.proofs.lemmas.Bool.{ltb-true, ltb-false, lt-ltb, le-ltb}
-use Rattle.std.proofs.lemmas.Grind.{common_steps}
+use Rattle.std.proofs.lemmas.Bool.{lt-ltb, le-ltb}
 use Rattle.std.specs.List.{concat, AllByRecursion}
 use Rattle.tt_code.specs.Table.{Meaning, NoEntry, Plain, Pushes, Stack, Computes, Controls, effect_of}
 use Rattle.tt_code.specs.Cut.{data_length, IsInstruction, IsCut, BeginsWith, CannotBeCut, Instruction, instruction_at, size}

@@ -1,8 +1,8 @@
 -- From what was read to what the program is.
-use Rattle.std.proofs.Common.{◌≡◌, ◌⊎◌, inl, inr, ℕ, zero, suc, ◌+◌, ◌-◌, ◌<◌, ◌^◌, List, [], ◌∷◌, ◌++◌, length, refl, sym, ◌∙◌, ap, arith, append_assoc, subst, take, drop, reverse, false, true}
+use Rattle.std.proofs.Common.{◌≡◌, ◌⊎◌, inl, inr, ℕ, zero, suc, ◌+◌, ◌-◌, ◌<◌, ◌^◌, List, [], ◌∷◌, ◌++◌, length, refl, sym, ◌∙◌, ap, arith, append_assoc, subst, reverse, false}
 use Rattle.std.specs.Bool.{◌==◌}
 use Rattle.std.specs.List.{AllByRecursion, concat}
-use Rattle.std.proofs.lemmas.List.{length-append, length-reverse, append-nil, take-append-drop}
+use Rattle.std.proofs.lemmas.List.{length-append, length-reverse}
 use Rattle.tt_code.specs.declared.nest.Open.{Open}
 use Rattle.tt_code.specs.declared.machine.Body.{Body}
 use Rattle.tt_code.specs.declared.slot.Slot.{Slot}
@@ -11,10 +11,9 @@ use Rattle.tt_code.specs.declared.fault.CodeFault.TheVariants.{CannotCut, Struct
 use Rattle.tt_code.specs.Cut.{Instruction, IsInstruction, size, IsCut, BeginsWith}
 use Rattle.tt_code.specs.Faults.{IsMemory, IsMisnested}
 use Rattle.tt_code.specs.Grammar.{CanGoOn, IsStructured, IsFault}
-use Rattle.tt_code.specs.Laid.{laid}
 use Rattle.tt_code.specs.Pass.{Leaves}
 use Rattle.tt_code.specs.Slots.{IsRead, IsKept, IsTable, bodies, kept, lengths, targets}
-use Rattle.tt_code.proofs.CutLemmas.{all_more, begins_more, begun_whole, concat_more, kept_cut, one_cut, prefix_of_cut, size_is}
+use Rattle.tt_code.proofs.CutLemmas.{kept_cut, one_cut, prefix_of_cut, size_is}
 use Rattle.tt_code.proofs.NestingLemmas.{goes_on, not_structured}
 use Rattle.tt_code.proofs.SlotLemmas.{read_size}
 

@@ -1,5 +1,5 @@
 -- How the slots grow by one instruction.
-use Rattle.std.proofs.Common.{◌≡◌, ◌⊎◌, inl, inr, ℕ, zero, suc, ◌+◌, ◌-◌, ◌<◌, ◌≤◌, List, [], ◌∷◌, ◌++◌, length, refl, sym, ◌∙◌, ap, arith, append_assoc, Bool, false, subst, Option, Some, None, get_or, slice_index, set, replicate, take, map}
+use Rattle.std.proofs.Common.{◌≡◌, ◌⊎◌, inl, inr, ℕ, zero, suc, ◌+◌, ◌-◌, ◌<◌, List, [], ◌∷◌, ◌++◌, length, refl, sym, ◌∙◌, ap, arith, append_assoc, Bool, false, subst, Option, Some, None, get_or, slice_index, set, replicate, take, map}
 use Rattle.std.specs.List.{AllByRecursion}
 use Rattle.std.proofs.Common.{length-append}
 use Rattle.std.proofs.lemmas.List.{length-set, length-replicate, length-map, map-append, map-set, take_all}
@@ -14,9 +14,8 @@ use Rattle.tt_code.specs.Structure.{word, word_of}
 use Rattle.tt_code.specs.Grammar.{CanGoOn, IsList, none, plain, if_eif, if_else_eif, definition, Ends, begins_definition, GoesTo}
 use Rattle.tt_code.specs.Pass.{within, step, body_of, body_after, closed, Opened, Leaves}
 use Rattle.tt_code.specs.declared.machine.Body.{Body}
-use Rattle.tt_code.specs.Laid.{laid}
 use Rattle.tt_code.specs.Slots.{inside, body_in, target_in, lengths, bodies, targets, target_of, target_found, Opens, IsOpenAt, IsTable, IsRead}
-use Rattle.tt_code.proofs.CutLemmas.{size-append, size_more, all_more, all-append, some_bytes, laid_more}
+use Rattle.tt_code.proofs.CutLemmas.{size-append, size_more, all_more, some_bytes, laid_more}
 use Rattle.tt_code.proofs.NestingLemmas.{within-false, Leaves-step, body_step, cannot_go_on}
 
 pub weaken : {inside : Bool} {is : List Instruction} → IsList inside is → IsList false is

@@ -15,7 +15,7 @@ enum Told {
     OutOfMemory,
 }
 
-fn told(alloc: Global, bytes: &[u8]) -> Told
+fn fault_of(alloc: Global, bytes: &[u8]) -> Told
     requires { length bytes.now < 2 ^ 31 }
 {
     match Program::cut(alloc, bytes) {
@@ -42,7 +42,7 @@ fn faults(rt: HostRuntime) {
         (&[], Told::Nothing),
     ];
     for (bytes, want) in table {
-        assert_eq!(rt; told(rt.alloc(), bytes), want, "of {bytes:?}");
+        assert_eq!(rt; fault_of(rt.alloc(), bytes), want, "of {bytes:?}");
     }
 }
 

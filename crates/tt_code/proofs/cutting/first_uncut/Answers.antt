@@ -1,5 +1,5 @@
-use Rattle.std.proofs.Common.{◌≡◌, ℕ, ◌<◌, length, take, List, ◌++◌, rules, ◌∷◌, [], drop}
-use Rattle.tt_code.proofs.CutLemmas.{cannot, begins_more, begun_whole}
+use Rattle.std.proofs.Common.{◌≡◌, ◌<◌, length, take, ◌++◌, rules, ◌∷◌, [], drop}
+use Rattle.tt_code.proofs.CutLemmas.{cannot, begins_more}
 use Rattle.tt_code.proofs.cutting.first_uncut.Goals as goal
 
 pub returns-in-None-clause-uncut : goal.returns-in-None-clause-uncut

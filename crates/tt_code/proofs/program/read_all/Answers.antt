@@ -1,6 +1,5 @@
-use Rattle.std.proofs.Common.{◌≡◌, inr, ◌<◌, ◌+◌, ◌-◌, ◌^◌, ◌++◌, ◌∷◌, [], List, ℕ, Ok, true, false, length, take, drop, arith, rules, sym, ◌∙◌, ap, subst}
+use Rattle.std.proofs.Common.{◌≡◌, inr, ◌<◌, ◌++◌, ◌∷◌, [], List, ℕ, Ok, true, false, length, take, drop, arith, rules, ◌∙◌, ap, subst}
 use Rattle.std.proofs.lemmas.List.{length-take-le}
-use Rattle.tt_code.specs.Cut.{Instruction}
 use Rattle.tt_code.specs.Grammar.{CanGoOn}
 use Rattle.tt_code.proofs.CutLemmas.{begins_more}
 use Rattle.tt_code.proofs.ProgramLemmas.{breaks, cannot_stop, sizes_left}

@@ -1,4 +1,4 @@
-use Rattle.std.proofs.Common.{◌≡◌, ◌∙◌, ap}
+use Rattle.std.proofs.Common.{◌∙◌, ap}
 use Rattle.tt_code.specs.Slots.{bodies, body_found}
 use Rattle.tt_code.proofs.BodyLemmas.{body_found_is, body_none_is, body_only_is}
 use Rattle.tt_code.proofs.ProgramLemmas.{kept_each, kept_structured, kept_table}

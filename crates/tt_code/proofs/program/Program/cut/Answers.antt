@@ -1,9 +1,7 @@
-use Rattle.std.proofs.Common.{◌≡◌, ◌<◌, [], List, length, sym, ◌∙◌, ap, subst, rules}
+use Rattle.std.proofs.Common.{◌≡◌, ◌<◌, [], length, subst, rules}
 use Rattle.std.proofs.lemmas.Result.{err_from_is_err_and}
-use Rattle.tt_code.specs.Cut.{IsCut}
 use Rattle.tt_code.specs.Grammar.{IsFault}
-use Rattle.tt_code.specs.declared.nest.Open.{Open}
-use Rattle.tt_code.proofs.ProgramLemmas.{end_fault, is_pos, no_fault, no_length, only_memory, read_kept}
+use Rattle.tt_code.proofs.ProgramLemmas.{end_fault, no_fault, no_length, only_memory, read_kept}
 use Rattle.tt_code.proofs.program.Program.cut.Goals as goal
 
 pub returns-in_err-reading-clause-only : goal.returns-in_err-reading-clause-only

@@ -1,4 +1,4 @@
-use Rattle.std.proofs.Common.{◌≡◌, ℕ, List, [], ◌∷◌, refl, Some, None, Option, ◌∙◌, ap, sym, true, subst}
+use Rattle.std.proofs.Common.{◌≡◌, ℕ, [], ◌∷◌, refl, Some, ◌∙◌, ap, sym, true, subst}
 use denote.Enum.Bare.{sameb}
 use Rattle.tt_code.specs.contracts.word.Word.{the_type}
 use Rattle.tt_code.specs.declared.word.Word.{Word}
