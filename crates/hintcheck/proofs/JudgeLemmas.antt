@@ -2,6 +2,7 @@
 use Rattle.std.proofs.Common.{◌≡◌, ℕ, zero, suc, ◌<◌, ◌≤◌, List, [], ◌∷◌, Option, None, Some, Result, Ok, Err, refl, sym, ◌∙◌, ap, inl, inr, length, get_or, arith}
 use Rattle.std.specs.Prelude.{IfOk, IfNone, IfSome, All}
 use Rattle.tt_code.specs.Cut.{Instruction, IsCut, size}
+use Rattle.tt_code.specs.Grammar.{IsStructured, IsFault}
 use Rattle.tt_code.specs.Fonts.{StartsGlyphProgram}
 use Rattle.tt_code.specs.declared.reason.Reason.TheVariants as reason
 use Rattle.tt_code.proofs.CutLemmas.{size_is}
@@ -18,25 +19,31 @@ pub cut_size : (bytes : List ℕ) (is : List Instruction) → IsCut bytes is →
 cut_size bytes is cut = size_is is ∙ ap length cut.joined
 
 -- a program that can be cut, isn't too long, and whose runs never fail
-pub is_safe : (g : Glyph) (bytes : List ℕ) (is : List Instruction) → IsCut bytes is → size is ≤ g.limits.program_size
+pub is_safe : (g : Glyph) (bytes : List ℕ) (is : List Instruction) → IsCut bytes is → IsStructured is → size is ≤ g.limits.program_size
     → NeverFails (setting_of g is) (StartsGlyphProgram (font_of g)) → IsSafeAndCovered (checked_program g bytes)
-is_safe g bytes is cut short never = record {
+is_safe g bytes is cut structured short never = record {
   safe = record {
     short = omega (arith, cut_size bytes is cut);
     instructions = is;
     is_cut = cut;
+    structured = structured;
     never_faults = never_faults (setting_of g is) (StartsGlyphProgram (font_of g)) never;
   };
   never_fails = never;
 }
 
-pub has_failure : (g : Glyph) (bytes : List ℕ) (is : List Instruction) (f : Refusal) → IsCut bytes is → size is ≤ g.limits.program_size
+pub has_failure : (g : Glyph) (bytes : List ℕ) (is : List Instruction) (f : Refusal) → IsCut bytes is → IsStructured is → size is ≤ g.limits.program_size
     → FailsFirst (setting_of g is) (StartsGlyphProgram (font_of g)) f.offset f.reason → IsCause (checked_program g bytes) f.offset f.reason
-has_failure g bytes is f cut short fails = inr (inr (record { short = omega (arith, cut_size bytes is cut); instructions = is; is_cut = cut; fails = fails }))
+has_failure g bytes is f cut structured short fails =
+    inr (inr (inr (record { short = omega (arith, cut_size bytes is cut); instructions = is; is_cut = cut; structured = structured; fails = fails })))
 
-pub is_too_long : (g : Glyph) (bytes : List ℕ) (is : List Instruction) (offset : ℕ) → IsCut bytes is → g.limits.program_size < size is → offset ≡ g.limits.program_size
+pub is_too_long : (g : Glyph) (bytes : List ℕ) (is : List Instruction) (offset : ℕ) → IsCut bytes is → IsStructured is → g.limits.program_size < size is → offset ≡ g.limits.program_size
     → IsCause (checked_program g bytes) offset reason.ProgramTooLong
-is_too_long g bytes is offset cut long e = inr (inl (record { instructions = is; is_cut = cut; long = omega (arith, cut_size bytes is cut); at_limit = e; is_reason = refl }))
+is_too_long g bytes is offset cut structured long e =
+    inr (inr (inl (record { instructions = is; is_cut = cut; structured = structured; long = omega (arith, cut_size bytes is cut); at_limit = e; is_reason = refl })))
+
+pub has_no_structure : (g : Glyph) (bytes : List ℕ) (offset : ℕ) → ((is : List Instruction) × IsCut bytes is × IsFault is offset) → IsCause (checked_program g bytes) offset reason.Structure
+has_no_structure g bytes offset f = inr (inl (record { instructions = f.0; is_cut = f.1; is_fault = f.2; is_reason = refl }))
 
 -- answers that may be want of memory
 

@@ -1,6 +1,7 @@
 -- What is said of one glyph program, taken alone: the font's other programs are empty.
 use Rattle.std.specs.Prelude.{◌≡◌, ◌⊎◌, ℕ, ◌<◌, ◌≤◌, List, [], length}
 use Rattle.tt_code.specs.Cut.{Instruction, IsCut, CannotBeCut}
+use Rattle.tt_code.specs.Grammar.{IsStructured, IsFault}
 use Rattle.tt_code.specs.Runs.{NeverFaults}
 use Rattle.tt_code.specs.Fonts.{Font, glyph_setting, StartsGlyphProgram}
 use Rattle.tt_code.specs.declared.reason.Reason.{Reason}
@@ -24,12 +25,13 @@ glyph_program maxp cvt points contours bytes = record {
   bytes = bytes;
 }
 
--- The program is no longer than maxSizeOfInstructions, it can be cut, and for every number of steps and every value that is
--- measured, stored or computed, no run of the hint machine reaches a fault.
+-- The program is no longer than maxSizeOfInstructions, it can be cut, its instructions are structured, and for every number of
+-- steps and every value that is measured, stored or computed, no run of the hint machine reaches a fault.
 pub record IsSafe (g : GlyphProgram) : Type 0 where
   pub short : length g.bytes ≤ g.font.limits.program_size
   pub instructions : List Instruction
   pub is_cut : IsCut g.bytes instructions
+  pub structured : IsStructured instructions
   pub never_faults : NeverFaults (glyph_setting g.font g.points g.contours instructions) (StartsGlyphProgram g.font)
 
 -- the same, and no run reaches an instruction that the checker doesn't cover
@@ -42,9 +44,17 @@ pub record IsSafeAndCovered (g : GlyphProgram) : Type 0 where
 abbrev pub HasNoCut : GlyphProgram → ℕ → Reason → Type 0
 HasNoCut g offset r = CannotBeCut g.bytes offset × (r ≡ reason.CannotCut)
 
+-- it can be cut, and this is the fault of its structure
+pub record HasNoStructure (g : GlyphProgram) (offset : ℕ) (r : Reason) : Type 0 where
+  pub instructions : List Instruction
+  pub is_cut : IsCut g.bytes instructions
+  pub is_fault : IsFault instructions offset
+  pub is_reason : r ≡ reason.Structure
+
 pub record IsTooLong (g : GlyphProgram) (offset : ℕ) (r : Reason) : Type 0 where
   pub instructions : List Instruction
   pub is_cut : IsCut g.bytes instructions
+  pub structured : IsStructured instructions
   pub long : g.font.limits.program_size < length g.bytes
   pub at_limit : offset ≡ g.font.limits.program_size
   pub is_reason : r ≡ reason.ProgramTooLong
@@ -53,8 +63,9 @@ pub record HasFailure (g : GlyphProgram) (offset : ℕ) (r : Reason) : Type 0 wh
   pub short : length g.bytes ≤ g.font.limits.program_size
   pub instructions : List Instruction
   pub is_cut : IsCut g.bytes instructions
+  pub structured : IsStructured instructions
   pub fails : FailsFirst (glyph_setting g.font g.points g.contours instructions) (StartsGlyphProgram g.font) offset r
 
--- it cannot be cut, it is too long, or a run reaches a fault or what isn't covered
+-- it cannot be cut, it isn't structured, it is too long, or a run reaches a fault or what isn't covered
 abbrev pub IsCause : GlyphProgram → ℕ → Reason → Type 0
-IsCause g offset r = HasNoCut g offset r ⊎ (IsTooLong g offset r ⊎ HasFailure g offset r)
+IsCause g offset r = HasNoCut g offset r ⊎ (HasNoStructure g offset r ⊎ (IsTooLong g offset r ⊎ HasFailure g offset r))

@@ -24,6 +24,10 @@ fn judge(alloc: Global, glyph: &Glyph, program: &[u8]) -> Result<Option<Refusal>
             let reason = Reason::CannotCut;
             return Ok(Some(Refusal { offset, reason }));
         }
+        Err(CodeFault::Structure(offset)) => {
+            let reason = Reason::Structure;
+            return Ok(Some(Refusal { offset, reason }));
+        }
         Err(CodeFault::OutOfMemory(error)) => return Err(error),
     };
     let greatest = u32::from(glyph.limits.program_size);

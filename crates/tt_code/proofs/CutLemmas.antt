@@ -1,12 +1,10 @@
 -- Instructions at the front of bytes, and what is laid over them.
-use Rattle.std.proofs.Common.{◌≡◌, ℕ, zero, suc, ◌+◌, ◌*◌, ◌-◌, ◌^◌, ◌<◌, ◌≤◌, List, [], ◌∷◌, ◌++◌, Option, None, Some, Bool, true, false, length, take, drop, replicate, get_or, refl, sym, ◌∙◌, ap, arith, rules, subst, sub-one, inl, inr, ◌⊎◌}
-use Rattle.std.specs.Prelude.{nat_lt, if◌then◌else◌}
-use Rattle.std.proofs.lemmas.List.{length-append, length-take, length-take-le, take-append-drop, append_cancel_left, append_assoc, append-nil, get_or-replicate, get_or_append_left, length-replicate}
-use Rattle.std.proofs.lemmas.List as lists
+use Rattle.std.proofs.Common.{◌≡◌, ℕ, zero, suc, ◌+◌, ◌-◌, ◌^◌, ◌<◌, ◌≤◌, List, [], ◌∷◌, ◌++◌, Option, None, Some, Bool, true, false, length, take, drop, replicate, get_or, refl, sym, ◌∙◌, ap, arith, subst, sub-one, inl, inr, ◌⊎◌}
+use Rattle.std.specs.Prelude.{nat_lt}
+use Rattle.std.proofs.lemmas.List.{length-append, take-append-drop, append_cancel_left, append_assoc, append-nil}
 use Rattle.std.proofs.Math.Seq.{take-append_seam, drop-append-add}
 use Rattle.std.proofs.Math.Nat.{sub-zero}
-use Rattle.std.proofs.lemmas.Bool.{ltb-true, ltb-false, lt-ltb, le-ltb}
-use Rattle.std.proofs.lemmas.Grind.{common_steps}
+use Rattle.std.proofs.lemmas.Bool.{lt-ltb, le-ltb}
 use Rattle.std.specs.List.{concat, AllByRecursion}
 use Rattle.tt_code.specs.Table.{Meaning, NoEntry, Plain, Pushes, Stack, Computes, Controls, effect_of}
 use Rattle.tt_code.specs.Cut.{data_length, IsInstruction, IsCut, BeginsWith, CannotBeCut, Instruction, instruction_at, size}
@@ -206,9 +204,6 @@ begins_more bytes rest is n b p = record {
   each = all_more is (take n rest) b.each p;
 }
 
-pub lay_more : (is : List Instruction) (i ls : List ℕ) (n : ℕ) → laid is ≡ ls → length i ≡ n → laid (is ++ i ∷ []) ≡ ls ++ n ∷ replicate (n - 1) 0
-lay_more is i ls n e h = laid_more is i ∙ rw (e, h) refl
-
 -- where nothing is left, it is a cut
 pub begun_whole : (bytes rest : List ℕ) (is : List Instruction) → BeginsWith bytes is rest → rest ≡ [] → IsCut bytes is
 begun_whole bytes rest is b e = record {
@@ -221,3 +216,41 @@ pub kept_cut : (bytes ls : List ℕ) (is : List Instruction) → IsCut bytes is 
 kept_cut bytes ls is cut e h =
     let same : pieces ls bytes ≡ is = rw (← e, ← cut.joined) (pieces-laid is cut.each) in
     (record { is_cut = rw same cut; each_length = rw same e; small = h }, same)
+
+pub size-append : (xs ys : List Instruction) → size (xs ++ ys) ≡ size xs + size ys
+size-append [] ys = omega arith
+size-append (x ∷ xs) ys = omega (arith, size-append xs ys)
+
+pub size_more : (is : List Instruction) (i : Instruction) → size (is ++ (i ∷ [])) ≡ size is + length i
+size_more is i = omega (arith, size-append is (i ∷ []))
+
+pub all-append : (is js : List Instruction) → AllByRecursion IsInstruction is → AllByRecursion IsInstruction js → AllByRecursion IsInstruction (is ++ js)
+all-append [] js a b = b
+all-append (i ∷ is) js a b = (a.0, all-append is js a.1 b)
+
+-- an instruction has bytes
+pub some_bytes : (i : Instruction) → IsInstruction i → 0 < length i
+some_bytes [] h = absurd h
+some_bytes (c ∷ o) h = omega arith
+
+-- instructions that begin the bytes of a cut begin the cut
+pub prefix_of_cut : (p is : List Instruction) (left : List ℕ) → AllByRecursion IsInstruction p → AllByRecursion IsInstruction is → concat p ++ left ≡ concat is →
+    (q : List Instruction) × (is ≡ p ++ q) × AllByRecursion IsInstruction q × (left ≡ concat q)
+prefix_of_cut [] is left a b e = (is, refl, b, e)
+prefix_of_cut ([] ∷ p) is left a b e = absurd a.0
+prefix_of_cut ((c ∷ r) ∷ p) [] left a b e = cc
+prefix_of_cut ((c ∷ r) ∷ p) (y ∷ is) left a b e =
+    let f : (c ∷ r) ++ (concat p ++ left) ≡ y ++ concat is = sym (append_assoc (c ∷ r) (concat p) left) ∙ e in
+    let same : c ∷ r ≡ y = same_front (c ∷ r) y (concat p ++ left) (concat is) a.0 b.0 f in
+    let moved : (c ∷ r) ++ (concat p ++ left) ≡ (c ∷ r) ++ concat is = f ∙ ap (λ t. t ++ concat is) (sym same) in
+    let q = prefix_of_cut p is left a.1 b.1 (append_cancel_left (c ∷ r) _ _ moved) in
+    (q.0, ap (λ t. t ∷ is) (sym same) ∙ ap (λ t. (c ∷ r) ∷ t) q.1, q.2, q.3)
+
+-- a program has one cut
+pub one_cut : (bytes : List ℕ) (is js : List Instruction) → IsCut bytes is → IsCut bytes js → is ≡ js
+one_cut bytes is js c d = go (prefix_of_cut is js [] c.each d.each (append-nil (concat is) ∙ c.joined ∙ sym d.joined))
+  where
+    go : ((q : List Instruction) × (js ≡ is ++ q) × AllByRecursion IsInstruction q × ([] ≡ concat q)) → is ≡ js
+    go ([], e, a, n) = sym (append-nil is) ∙ sym e
+    go ([] ∷ q, e, a, n) = absurd a.0
+    go ((x ∷ r) ∷ q, e, a, n) = cc

@@ -1,9 +1,10 @@
 -- The functions that look for instructions and partners on a cut find what the grammar says.
-use Rattle.std.proofs.Common.{◌≡◌, ◌⊎◌, ◌↔◌, inl, inr, ℕ, zero, suc, ◌+◌, ◌-◌, ◌<◌, ◌≤◌, List, [], ◌∷◌, ◌++◌, length, refl, sym, ◌∙◌, ap, subst, arith, append_assoc, Some, None, Bool, true, false, add-zero}
-use Rattle.std.specs.Prelude.{nat_eq, nat_lt, if◌then◌else◌}
+use Rattle.std.proofs.Common.{Option, ◌≡◌, ◌⊎◌, ◌↔◌, inl, inr, ℕ, zero, suc, ◌+◌, ◌-◌, ◌<◌, ◌≤◌, List, [], ◌∷◌, ◌++◌, length, refl, sym, ◌∙◌, ap, subst, arith, append_assoc, Some, None, Bool, true, false, add-zero}
+use Rattle.std.specs.Prelude.{IfSome, nat_eq, nat_lt, if◌then◌else◌}
 use Rattle.std.specs.List.{AllByRecursion}
 use Rattle.std.proofs.lemmas.Bool.{eqb-true, eq-eqb, ne_eqb, ltb-false, le-ltb}
 use Rattle.tt_code.specs.Cut.{Instruction, IsInstruction, size, instruction_at}
+use Rattle.tt_code.specs.Slots.{Opens}
 use Rattle.tt_code.specs.Structure.{word, is_word, still_open, behind_end, leads_from, leads}
 use Rattle.tt_code.specs.Grammar.{IsDefinition, IsList, none, plain, if_eif, if_else_eif, definition, IsStructured, StandsAt, Ends, begins_definition, GoesTo}
 use Rattle.tt_code.specs.declared.word.Word.{Word}
@@ -191,13 +192,6 @@ end_found opener inner e after k l h =
     ∙ rw (ends_now opener (word e) h, behind_end) refl
 
 -- What stands behind an opening instruction: a list and its end.
-
-abbrev pub Opens : Word → Type 0
-Opens If = Unit {0}
-Opens Else = Unit {0}
-Opens Fdef = Unit {0}
-Opens Idef = Unit {0}
-Opens _ = ⊥
 
 pub record Closed (opener : Word) (rest : List Instruction) : Type 0 where
   pub inner : List Instruction
@@ -463,31 +457,12 @@ stands_found is at i each s =
 pub found_iff_stands : (is : List Instruction) (at : ℕ) (i : Instruction) → AllByRecursion IsInstruction is → (instruction_at is at ≡ Some i) ↔ StandsAt is at i
 found_iff_stands is at i each = (found_stands is at i, stands_found is at i (each_bytes is each))
 
--- behind an instruction stands another one, or the program ends
-pub next_stands : (is : List Instruction) (at : ℕ) (i : Instruction) → StandsAt is at i → ((next : Instruction) × StandsAt is (at + length i) next) ⊎ (at + length i ≡ size is)
-next_stands is at i s = behind s.after s.whole
+-- an answer that the grammar pins is that of the function
+pub leads_value : (opener : Word) (is : List Instruction) (at : ℕ) (found : Option ℕ) → IsStructured is → AllByRecursion IsInstruction is → Opens opener
+    → IfSome found (GoesTo opener is at) → ((to : ℕ) → GoesTo opener is at to → found ≡ Some to) → found ≡ leads opener is at
+leads_value opener is at (Some to) structured each opens there only = sym (goes_leads (each_bytes is each) there)
+leads_value opener is at None structured each opens there only = by_lead (leads opener is at) refl
   where
-    behind : (after : List Instruction) → is ≡ s.before ++ (i ∷ after) → ((next : Instruction) × StandsAt is (at + length i) next) ⊎ (at + length i ≡ size is)
-    behind [] whole = inr (omega (arith, s.offset, ap size whole, size-append s.before (i ∷ [])))
-    behind (next ∷ after) whole = inl (
-      next,
-      record {
-        before = s.before ++ (i ∷ []);
-        after = after;
-        whole = whole ∙ sym (append_assoc s.before (i ∷ []) (next ∷ after));
-        offset = omega (arith, s.offset, size-append s.before (i ∷ []));
-      },
-    )
-
--- and so does where control goes
-pub target_stands : (opener : Word) (is : List Instruction) (at to : ℕ) → GoesTo opener is at to → ((next : Instruction) × StandsAt is to next) ⊎ (to ≡ size is)
-target_stands opener is at to g =
-    let front : List Instruction = g.before ++ (g.i ∷ g.inner) in
-    let end : StandsAt is (size front) g.e = record {
-      before = front;
-      after = g.after;
-      whole = g.whole ∙ sym (append_assoc g.before (g.i ∷ g.inner) (g.e ∷ g.after));
-      offset = refl;
-    } in
-    let there : size front + length g.e ≡ to = omega (arith, size-append g.before (g.i ∷ g.inner), g.target) in
-    subst (λ x. ((next : Instruction) × StandsAt is x next) ⊎ (x ≡ size is)) there (next_stands is (size front) g.e end)
+    by_lead : (o : Option ℕ) → leads opener is at ≡ o → None ≡ o
+    by_lead None e = refl
+    by_lead (Some to) e = only to (leads_goes structured opens e)

@@ -1,17 +1,18 @@
 -- The function that looks for the body of an instruction on a cut finds the one that the grammar says.
-use Rattle.std.proofs.Common.{◌≡◌, ◌⊎◌, ◌↔◌, inl, inr, ℕ, ◌+◌, ◌<◌, List, [], ◌∷◌, ◌++◌, length, refl, sym, ◌∙◌, ap, subst, arith, append_assoc, Some, None, Bool, true, false}
-use Rattle.std.specs.Prelude.{nat_eq, if◌then◌else◌}
+use Rattle.std.proofs.Common.{Option, ◌≡◌, ◌⊎◌, ◌↔◌, inl, inr, ℕ, ◌+◌, ◌<◌, List, [], ◌∷◌, ◌++◌, length, refl, sym, ◌∙◌, ap, subst, arith, append_assoc, Some, None, Bool, true, false}
+use Rattle.std.specs.Prelude.{IfNone, IfSome, nat_eq, if◌then◌else◌}
 use Rattle.std.specs.List.{AllByRecursion}
 use Rattle.std.proofs.lemmas.Bool.{eqb-true, eq-eqb, ne_eqb}
 use Rattle.tt_code.specs.Cut.{Instruction, IsInstruction, size}
 use Rattle.tt_code.specs.Table.{effect_of}
+use Rattle.tt_code.specs.Slots.{Opens}
 use Rattle.tt_code.specs.Structure.{word, word_of, body_behind, body_from, body_at}
 use Rattle.tt_code.specs.Grammar.{IsDefinition, IsList, none, plain, if_eif, if_else_eif, definition, IsStructured, StandsAt, Ends, begins_definition, GoesTo, InDefinition, IsBodyAt}
 use Rattle.tt_code.specs.declared.word.Word.{Word}
 use Rattle.tt_code.specs.declared.word.Word.TheVariants.{If, Else, Eif, Fdef, Idef, Endf, Other}
 use Rattle.tt_code.specs.declared.machine.Body.{Body}
 use Rattle.tt_code.specs.declared.machine.Body.TheVariants as body
-use Rattle.tt_code.proofs.StructureLaws.{HasBytes, each_bytes, each_before, each_behind, each_joined, size-append, earlier, same, later, place, taken, Opens, Closed, opener_closed, closed_goes}
+use Rattle.tt_code.proofs.StructureLaws.{HasBytes, each_bytes, each_before, each_behind, each_joined, size-append, earlier, same, later, place, taken, Closed, opener_closed, closed_goes}
 
 -- FDEF and IDEF have no operands.
 
@@ -392,3 +393,13 @@ is_body is at b structured each h =
 
 pub body_iff_is : (is : List Instruction) (at : ℕ) (i : Instruction) (b : Body) → IsStructured is → AllByRecursion IsInstruction is → StandsAt is at i → (body_at is at ≡ Some b) ↔ IsBodyAt is at b
 body_iff_is is at i b structured each s = (λ h. (is_body is at b structured each h).1, body_is b structured each s)
+
+-- an answer that the grammar pins is that of the function
+pub body_value : (is : List Instruction) (at : ℕ) (found : Option Body) → IsStructured is → AllByRecursion IsInstruction is
+    → IfSome found (λ b. ((i : Instruction) × StandsAt is at i) × IsBodyAt is at b) → IfNone found ((i : Instruction) → StandsAt is at i → ⊥) → found ≡ body_at is at
+body_value is at (Some b) structured each there absent = sym (body_is b structured each there.0.1 there.1)
+body_value is at None structured each there absent = by_body (body_at is at) refl
+  where
+    by_body : (o : Option Body) → body_at is at ≡ o → None ≡ o
+    by_body None e = refl
+    by_body (Some b) e = let stands = body_stands is at b e in absurd (absent stands.0 stands.1)

@@ -5,6 +5,9 @@ pub mod Cut
 pub mod Laid
 pub mod Structure
 pub mod Grammar
+pub mod Pass
+pub mod Slots
+pub mod Faults
 pub mod Settings
 pub mod States
 pub mod Operands

@@ -2,14 +2,18 @@
 //! definitions.
 #![tactic(auto)]
 
+mod cutting;
 pub mod fault;
 pub mod instr;
 pub mod kinds;
+pub mod laws;
 pub mod limits;
 pub mod machine;
+mod nest;
 pub mod program;
+mod reading;
 pub mod reason;
-pub mod structure_laws;
+mod slot;
 pub mod table;
 pub mod word;
 
@@ -21,3 +25,6 @@ pub use machine::{Body, Frame, Graphics};
 pub use program::Program;
 pub use reason::Reason;
 pub use table::{effect, name};
+
+#[cfg(test)]
+mod tests;

@@ -1,105 +1,87 @@
-//! Programs cut into their instructions.
+//! Programs cut into their instructions, and their structure.
 
-ghost use Rattle.std.specs.Prelude.{◌≡◌, ℕ, ◌+◌, ◌-◌, ◌^◌, ◌<◌, ◌≤◌, List, [], ◌∷◌, ◌++◌, take, length, replicate, Err, IfOk, IfSome, IfNone, OnOk};
-ghost use Rattle.tt_code.specs.Cut.{CannotBeCut, Instruction, IsCut, IsInstruction, data_length, instruction_at, size};
-ghost use Rattle.tt_code.specs.Entries.{view};
-ghost use Rattle.tt_code.specs.Laid.{IsLaid, laid, pieces};
+ghost use Rattle.std.specs.Prelude.{◌≡◌, ℕ, ◌+◌, ◌^◌, ◌<◌, ◌≤◌, ◌⊎◌, List, length, Err, Some, IfOk, IfErr, IfSome, IfNone};
+ghost use Rattle.tt_code.specs.Cut.{CannotBeCut, Instruction, IsCut, instruction_at, size};
+ghost use Rattle.tt_code.specs.Faults.{IsMemory, IsMisnested};
+ghost use Rattle.tt_code.specs.Grammar.{GoesTo, IsBodyAt, IsFault, IsStructured, StandsAt};
+ghost use Rattle.tt_code.specs.Slots.{IsKept, IsReading, Opens, kept};
+ghost use Rattle.tt_code.specs.Structure.{body_at as body_on_cut, leads, word};
 
+use crate::cutting::{first_uncut, front_length};
 use crate::fault::CodeFault;
 use crate::instr::Instr;
-use crate::kinds::{Effect, Push};
-use crate::table::effect;
-use std::alloc::{AllocError, Global};
+use crate::machine::Body;
+use crate::reading::Reading;
+use crate::slot::{Slot, body_of, length_at, target_of};
+use crate::word::{Word, word_of_code};
+use std::alloc::Global;
 use std::marker::Model;
 
-/// How many bytes follow the code, a count byte included; None where the count byte is missing.
-fn data_length_of(effect: Effect, rest: &[u8]) -> Option<u16>
-    ensures value { result ≡ data_length (view effect) rest.now }
-    ensures small { IfSome result (λ n. n ≤ 511) }
+/// Reads the structure of a program that can be cut.
+fn read_all(alloc: Global, bytes: &[u8]) -> Result<Reading, CodeFault>
+    requires small { length bytes.now < 2 ^ 31 }
+    requires cut { (is : List Instruction) × IsCut bytes.now is }
+    ensures ok { IfOk result (λ r. (is : List Instruction) × IsCut bytes.now is × IsReading is r) }
+    ensures err { IfErr result (λ e. IsMemory e ⊎ IsMisnested bytes.now e) }
 {
-    match effect {
-        Effect::Push(Push::CountedBytes) => Some(1 + u16::from(*rest.first()?)),
-        Effect::Push(Push::CountedWords) => Some(1 + 2 * u16::from(*rest.first()?)),
-        Effect::Push(Push::Bytes(n)) => Some(u16::from(n)),
-        Effect::Push(Push::Words(n)) => Some(2 * u16::from(n)),
-        _ => Some(0),
-    }
-}
-
-/// How many bytes the instruction at the front has; None where it passes the end.
-fn front_length(bytes: &[u8]) -> Option<u16>
-    ensures found { IfSome result (λ n. (0 < n) × (n ≤ length bytes.now) × IsInstruction (take n bytes.now)) }
-    ensures none { IfNone result ((i rest : List ℕ) → IsInstruction i → i ++ rest ≡ bytes.now → ⊥) }
-{
-    let (code, rest) = bytes.split_first()?;
-    let count = data_length_of(effect(*code), rest)?;
-    if usize::from(count) <= rest.len() {
-        Some(count + 1)
-    } else {
-        None
-    }
-}
-
-/// Lays down the length of one more instruction.
-fn lay(lengths: &mut Vec<u16>, n: u16) -> Result<(), AllocError>
-    requires { 0 < n }
-    ensures { OnOk result (lengths.new.items ≡ lengths.old.items ++ n ∷ replicate (n - 1) 0) }
-{
-    lengths.push(n)?;
-    for _ in 1..n {
-        lengths.push(0)?;
-    }
-    Ok(())
-}
-
-/// The lengths of the program's instructions, laid over its bytes.
-fn lengths_of(alloc: Global, bytes: &[u8]) -> Result<Vec<u16>, CodeFault>
-    requires { length bytes.now < 2 ^ 31 }
-    ensures ok { IfOk result (λ lengths. (is : List Instruction) × IsCut bytes.now is × (laid is ≡ lengths.items)) }
-    ensures refused { (offset : ℕ) → result ≡ Err (CodeFault.CannotCut offset) → CannotBeCut bytes.now offset }
-{
-    let mut lengths = Vec::with_capacity(alloc, bytes.len()).map_err(CodeFault::OutOfMemory)?;
+    let mut reading = Reading::new(alloc, bytes.len()).map_err(CodeFault::OutOfMemory)?;
     let mut rest = bytes;
     while !rest.is_empty() {
-        match front_length(rest) {
-            None => return Err(CodeFault::CannotCut((bytes.len() - rest.len()) as u32)),
-            Some(n) => {
-                lay(&mut lengths, n).map_err(CodeFault::OutOfMemory)?;
-                let (_, after) = rest.split_at(usize::from(n));
-                rest = after;
-            }
+        let Some(n) = front_length(rest) else {
+            unreachable!()
+        };
+        let (instruction, after) = rest.split_at(usize::from(n));
+        if !reading.read(instruction).map_err(CodeFault::OutOfMemory)? {
+            return Err(CodeFault::Structure((bytes.len() - rest.len()) as u32));
         }
+        rest = after;
     }
-    Ok(lengths)
+    Ok(reading)
 }
 
-/// A program and where its instructions start. Contracts see the list of its instructions.
+/// A program, where its instructions start, and their structure. Contracts see the list of its instructions.
 #[derive(Drop)]
 pub struct Program<'a> {
     bytes: &'a [u8],
-    lengths: Vec<u16>,
+    slots: Vec<Slot>,
 }
 
 impl<'a> Model for Program<'a> {
     ghost Value = { List Instruction };
 
-    ghost view = { λ p. pieces p.lengths.items p.bytes.now };
+    ghost view = { λ p. kept p.slots.items p.bytes.now };
 
-    ghost invariant = { λ p. IsLaid p.lengths.items p.bytes.now };
+    ghost invariant = { λ p. IsKept p.slots.items p.bytes.now };
 }
 
 impl<'a> Program<'a> {
-    /// Cuts a program of at most 2^31 - 1 bytes into its instructions (Apple TrueType Reference Manual, "Instructions").
+    /// Cuts a program of at most 2^31 - 1 bytes into its instructions and finds its structure (Apple TrueType Reference
+    /// Manual, "Instructions", "Managing the flow of control", "Defining and using functions and instructions").
     ///
     /// # Errors
-    /// `CannotCut` where an instruction passes the end, with the instruction's offset; `OutOfMemory`.
+    /// `CannotCut` where an instruction passes the end, with the instruction's offset, whatever the structure is and however
+    /// little memory there is; `Structure` with the offset of the first instruction that cannot stand where it does, or with the
+    /// program's length where something is left open; `OutOfMemory`.
     pub fn cut(alloc: Global, bytes: &'a [u8]) -> Result<Program<'a>, CodeFault>
         requires { length bytes.now < 2 ^ 31 }
         ensures ok { IfOk result (λ p. IsCut bytes.entry.now p) }
+        ensures structured { IfOk result IsStructured }
         ensures refused { (offset : ℕ) → result ≡ Err (CodeFault.CannotCut offset) → CannotBeCut bytes.entry.now offset }
+        ensures unstructured { (offset : ℕ) → result ≡ Err (CodeFault.Structure offset) → (is : List Instruction) × IsCut bytes.entry.now is × IsFault is offset }
+        ensures only { (is : List Instruction) → IsCut bytes.entry.now is → IsStructured is → IfErr result IsMemory }
+        ensures memory { IfErr result (λ e. IsMemory e → (is : List Instruction) × IsCut bytes.entry.now is) }
     {
-        let lengths = lengths_of(alloc, bytes)?;
-        Ok(Program { bytes, lengths })
+        if let Some(offset) = first_uncut(bytes) {
+            return Err(CodeFault::CannotCut(offset));
+        }
+        let reading = read_all(alloc, bytes)?;
+        if !reading.stack.is_empty() {
+            return Err(CodeFault::Structure(bytes.len() as u32));
+        }
+        Ok(Program {
+            bytes,
+            slots: reading.slots,
+        })
     }
 
     /// How many bytes the program has.
@@ -113,12 +95,86 @@ impl<'a> Program<'a> {
     pub fn at(&self, offset: u32) -> Option<Instr<'a>>
         ensures value { result ≡ instruction_at self.now offset }
         ensures within { IfSome result (λ i. offset + length i ≤ size self.now) }
+        ensures found { IfSome result (StandsAt self.now offset) }
+        ensures none { IfNone result ((i : Instruction) → StandsAt self.now offset i → ⊥) }
     {
-        let start = offset as usize;
-        let n = *self.lengths.get(start)?;
+        let n = length_at(&self.slots, offset);
         if n == 0 {
             return None;
         }
+        let start = offset as usize;
         Some(Instr::new(&self.bytes[start..start + usize::from(n)]))
+    }
+
+    /// Where the slots say that control goes behind what the opening instruction at the offset opens, if one starts there.
+    fn look_up(&self, opener: Word, offset: u32) -> Option<u32>
+        requires { Opens opener }
+        ensures found { IfSome result (GoesTo opener self.now offset) }
+        ensures only { (to : ℕ) → GoesTo opener self.now offset to → result ≡ Some to }
+        ensures none { IfNone result ((i : Instruction) → StandsAt self.now offset i → word i ≡ opener → ⊥) }
+    {
+        let target = target_of(&self.slots, offset)?;
+        let instruction = self.at(offset)?;
+        if word_of_code(instruction.code()) == opener {
+            Some(target)
+        } else {
+            None
+        }
+    }
+
+    /// Where control goes behind what the opening instruction at the offset opens, if one starts there.
+    fn goes(&self, opener: Word, offset: u32) -> Option<u32>
+        requires { Opens opener }
+        ensures value { result ≡ leads opener self.now offset }
+        ensures found { IfSome result (GoesTo opener self.now offset) }
+        ensures only { (to : ℕ) → GoesTo opener self.now offset to → result ≡ Some to }
+        ensures none { IfNone result ((i : Instruction) → StandsAt self.now offset i → word i ≡ opener → ⊥) }
+    {
+        // The slots' invariant holds where they are looked at: the proof of `value` wants it here.
+        let _slots = &self.slots;
+        self.look_up(opener, offset)
+    }
+
+    /// Where the IF at the offset goes on 0: behind its ELSE, or without one behind its EIF (Apple TrueType Reference Manual,
+    /// IF). None where no IF starts at the offset.
+    pub fn after_if(&self, offset: u32) -> Option<u32>
+        ensures value { result ≡ leads Word.If self.now offset }
+        ensures found { IfSome result (GoesTo Word.If self.now offset) }
+        ensures only { (to : ℕ) → GoesTo Word.If self.now offset to → result ≡ Some to }
+        ensures none { IfNone result ((i : Instruction) → StandsAt self.now offset i → word i ≡ Word.If → ⊥) }
+    {
+        self.goes(Word::If, offset)
+    }
+
+    /// Where the ELSE at the offset goes where it is reached: behind its EIF (Apple TrueType Reference Manual, ELSE). None where no
+    /// ELSE starts at the offset.
+    pub fn after_else(&self, offset: u32) -> Option<u32>
+        ensures value { result ≡ leads Word.Else self.now offset }
+        ensures found { IfSome result (GoesTo Word.Else self.now offset) }
+        ensures only { (to : ℕ) → GoesTo Word.Else self.now offset to → result ≡ Some to }
+        ensures none { IfNone result ((i : Instruction) → StandsAt self.now offset i → word i ≡ Word.Else → ⊥) }
+    {
+        self.goes(Word::Else, offset)
+    }
+
+    /// Where the FDEF at the offset goes: behind its ENDF (Apple TrueType Reference Manual, FDEF). None where no FDEF starts at
+    /// the offset.
+    pub fn after_fdef(&self, offset: u32) -> Option<u32>
+        ensures value { result ≡ leads Word.Fdef self.now offset }
+        ensures found { IfSome result (GoesTo Word.Fdef self.now offset) }
+        ensures only { (to : ℕ) → GoesTo Word.Fdef self.now offset to → result ≡ Some to }
+        ensures none { IfNone result ((i : Instruction) → StandsAt self.now offset i → word i ≡ Word.Fdef → ⊥) }
+    {
+        self.goes(Word::Fdef, offset)
+    }
+
+    /// The body of the instruction that starts at the offset, if one does.
+    pub fn body_at(&self, offset: u32) -> Option<Body>
+        ensures value { result ≡ body_on_cut self.now offset }
+        ensures found { IfSome result (λ b. ((i : Instruction) × StandsAt self.now offset i) × IsBodyAt self.now offset b) }
+        ensures only { (i : Instruction) (b : Body) → StandsAt self.now offset i → IsBodyAt self.now offset b → result ≡ Some b }
+        ensures none { IfNone result ((i : Instruction) → StandsAt self.now offset i → ⊥) }
+    {
+        body_of(&self.slots, offset)
     }
 }

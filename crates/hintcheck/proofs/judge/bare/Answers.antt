@@ -1,9 +1,9 @@
 use Rattle.std.proofs.Common.{◌≡◌, sym, [], Result, Ok, Err, subst}
-use Rattle.std.specs.Prelude.{IfOk, MatchResult}
+use Rattle.std.specs.Prelude.{All, IfOk, MatchResult}
 use Rattle.std.specs.Result.{IsErrAnd}
 use Rattle.tt_code.specs.declared.limits.Limits.{Limits}
 use Rattle.hintcheck.specs.Bare.{IsSafeAndCovered}
-use Rattle.hintcheck.specs.Judging.{checked_program}
+use Rattle.hintcheck.specs.Judging.{IsRefusal, checked_program}
 use Rattle.hintcheck.specs.Verdicts.{Judgement}
 use Rattle.hintcheck.proofs.judge.bare.Goals as goal
 
@@ -18,4 +18,10 @@ pub returns-clause-covered : goal.returns-clause-covered
 returns-clause-covered c =
     let checked = subst (λ (l : Limits). IfOk c.verdict_of.result (λ v. v.refused ≡ [] → IsSafeAndCovered (checked_program (record { limits = l; cvt = c.args.cvt; points = c.args.points; contours = c.args.contours }) c.args.program.now)))
     c.in_ok-limits.ensures.1 c.verdict_of.ensures.covered in
+    same_answer _ _ c.verdict_of.result c.map_err.result c.map_err.ensures.cases checked
+
+pub returns-clause-refused : goal.returns-clause-refused
+returns-clause-refused c =
+    let checked = subst (λ (l : Limits). IfOk c.verdict_of.result (λ v. All (IsRefusal (checked_program (record { limits = l; cvt = c.args.cvt; points = c.args.points; contours = c.args.contours }) c.args.program.now)) v.refused))
+    c.in_ok-limits.ensures.1 c.verdict_of.ensures.refused in
     same_answer _ _ c.verdict_of.result c.map_err.result c.map_err.ensures.cases checked

@@ -2,4 +2,4 @@ use Rattle.tt_code.proofs.CutLemmas.{kept_size}
 use Rattle.tt_code.proofs.program.Program.len.Goals as goal
 
 pub returns : goal.returns
-returns c = kept_size _ _ _ c.self.invariant c.self.view_is
+returns c = kept_size _ _ _ c.self.invariant.is_laid c.self.view_is

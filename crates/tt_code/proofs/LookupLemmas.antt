@@ -1,0 +1,177 @@
+-- What the slots of a whole program say.
+use Rattle.std.proofs.Common.{◌≡◌, ◌⊎◌, inl, inr, ℕ, zero, suc, ◌-◌, ◌<◌, ◌≤◌, List, [], ◌∷◌, ◌++◌, length, refl, sym, ◌∙◌, ap, arith, subst, Option, Some, None, false, true, Bool, zero-add}
+use Rattle.std.specs.Prelude.{nat_lt}
+use Rattle.std.specs.Option.{IfSome, IfNone}
+use Rattle.std.specs.List.{AllByRecursion}
+use Rattle.std.proofs.lemmas.Bool.{le-ltb, ltb-false}
+use Rattle.tt_code.specs.declared.word.Word.{Word}
+use Rattle.tt_code.specs.declared.word.Word.TheVariants.{If, Else, Eif, Fdef, Idef, Endf, Other}
+use Rattle.tt_code.specs.declared.machine.Body.{Body}
+use Rattle.tt_code.specs.Cut.{Instruction, IsInstruction, instruction_at, size}
+use Rattle.tt_code.specs.Structure.{word}
+use Rattle.tt_code.specs.Grammar.{IsList, Ends, GoesTo, StandsAt}
+use Rattle.tt_code.specs.Pass.{step, steps}
+use Rattle.tt_code.specs.Slots.{target_found, Opens, IsTable}
+use Rattle.tt_code.proofs.CutLemmas.{found_behind, some_bytes}
+use Rattle.tt_code.proofs.NestingLemmas.{steps-append, whole_steps}
+use Rattle.tt_code.proofs.SlotLemmas.{weaken}
+
+-- Two places of one size are one.
+pub same_place : (a b c d : List Instruction) (i j : Instruction) → AllByRecursion IsInstruction (a ++ (i ∷ b)) → a ++ (i ∷ b) ≡ c ++ (j ∷ d) → size a ≡ size c →
+    (a ≡ c) × (i ≡ j) × (b ≡ d)
+same_place [] b [] d i j h e s = (refl, cc, cc)
+same_place [] b (x ∷ c) d i j h e s =
+    let q : i ≡ x = cc in
+    let n = some_bytes i h.0 in
+    let l : length i ≡ length x = ap length q in absurd (omega arith)
+same_place (x ∷ a) b [] d i j h e s = let n = some_bytes x h.0 in absurd (omega arith)
+same_place (x ∷ a) b (y ∷ c) d i j h e s =
+    let q : x ≡ y = cc in
+    let t : a ++ (i ∷ b) ≡ c ++ (j ∷ d) = cc in
+    let l : length x ≡ length y = ap length q in
+    let r = same_place a b c d i j h.1 t (omega arith) in
+    let u = r.0 in
+    (cc, r.1, r.2)
+
+-- Two beginnings of one list: equal, or one goes on in the other.
+pub compare : (x z y v : List Instruction) (e d : Instruction) → x ++ (e ∷ z) ≡ y ++ (d ∷ v) →
+    ((x ≡ y) × (e ≡ d)) ⊎ (((r : List Instruction) × (y ≡ x ++ (e ∷ r))) ⊎ ((r : List Instruction) × (x ≡ y ++ (d ∷ r))))
+compare [] z [] v e d h = inl (refl, cc)
+compare [] z (b ∷ y) v e d h = let q : e ≡ b = cc in inr (inl (y, ap (λ x. x ∷ y) (sym q)))
+compare (a ∷ x) z [] v e d h = let q : a ≡ d = cc in inr (inr (x, ap (λ y. y ∷ x) q))
+compare (a ∷ x) z (b ∷ y) v e d h =
+    let q : a ≡ b = cc in
+    let t : x ++ (e ∷ z) ≡ y ++ (d ∷ v) = cc in
+    elim (compare x z y v e d t) [
+      | inl r ↦ let u = r.0 in inl (cc, r.1)
+      | inr r ↦ elim r [
+        | inl u ↦ let w = u.1 in inr (inl (u.0, cc))
+        | inr u ↦ let w = u.1 in inr (inr (u.0, cc))
+      ]
+    ]
+
+-- a word that ends a list stands alone nowhere
+ends_stuck : (w u : Word) (k : ℕ) → Ends w u → step u k [] ≡ None
+ends_stuck If u k (inl h) = rw h refl
+ends_stuck If u k (inr h) = rw h refl
+ends_stuck Else u k h = rw h refl
+ends_stuck Fdef u k h = rw h refl
+ends_stuck Idef u k h = rw h refl
+ends_stuck Eif u k h = absurd h
+ends_stuck Endf u k h = absurd h
+ends_stuck Other u k h = absurd h
+
+pub ends_opens : (w u : Word) → Ends w u → Opens w
+ends_opens If u h = tt
+ends_opens Else u h = tt
+ends_opens Fdef u h = tt
+ends_opens Idef u h = tt
+ends_opens Eif u h = absurd h
+ends_opens Endf u h = absurd h
+ends_opens Other u h = absurd h
+
+-- No list goes on behind a list with what ends one.
+no_list_longer : (w : Word) (x y r : List Instruction) (e : Instruction) → IsList false x → IsList false y → Ends w (word e) → y ≡ x ++ (e ∷ r) → ⊥
+no_list_longer w x y r e lx ly h q =
+    let whole : steps (x ++ (e ∷ r)) 0 [] ≡ Some [] = ap (λ y. steps y 0 []) (sym q) ∙ whole_steps ly in
+    let none : steps (x ++ (e ∷ r)) 0 [] ≡ None = steps-append x (e ∷ r) 0 [] ∙ rw (whole_steps lx, zero-add, ends_stuck w (word e) (size x) h) refl in
+    cc
+
+-- An instruction leads to one place.
+pub goes_same : (is : List Instruction) (w v : Word) (k s t : ℕ) → AllByRecursion IsInstruction is → GoesTo w is k s → GoesTo v is k t → s ≡ t
+goes_same is w v k s t each g h =
+    let ok : AllByRecursion IsInstruction (g.before ++ (g.i ∷ (g.inner ++ (g.e ∷ g.after)))) = subst (λ x. AllByRecursion IsInstruction x) g.whole each in
+    let p = same_place g.before (g.inner ++ (g.e ∷ g.after)) h.before (h.inner ++ (h.e ∷ h.after)) g.i h.i ok (sym g.whole ∙ h.whole) (g.from ∙ sym h.from) in
+    elim (compare g.inner g.after h.inner h.after g.e h.e p.2) [
+      | inl r ↦
+          let a : size g.inner ≡ size h.inner = ap size r.0 in
+          let b : length g.e ≡ length h.e = ap length r.1 in
+          let c : length g.i ≡ length h.i = ap length p.1 in
+          let d : size g.before ≡ size h.before = ap size p.0 in
+          omega (arith, g.target, h.target)
+      | inr r ↦ elim r [
+        | inl u ↦ absurd (no_list_longer w g.inner h.inner u.0 g.e (weaken g.nested) (weaken h.nested) g.ends u.1)
+        | inr u ↦ absurd (no_list_longer v h.inner g.inner u.0 h.e (weaken h.nested) (weaken g.nested) h.ends u.1)
+      ]
+    ]
+
+-- an instruction stands where it starts
+pub stands_found : (is : List Instruction) → AllByRecursion IsInstruction is → (o : ℕ) (i : Instruction) → StandsAt is o i → instruction_at is o ≡ Some i
+stands_found is each o i s = go s.before is each o s.whole s.offset
+  where
+    go : (before is : List Instruction) → AllByRecursion IsInstruction is → (o : ℕ) → is ≡ before ++ (i ∷ s.after) → size before ≡ o → instruction_at is o ≡ Some i
+    go [] is each o e h = rw (e, ← h) refl
+    go (x ∷ before) is each o e h =
+        let ok : AllByRecursion IsInstruction (x ∷ (before ++ (i ∷ s.after))) = subst (λ x. AllByRecursion IsInstruction x) e each in
+        let some = some_bytes x ok.0 in
+        let rest = go before (before ++ (i ∷ s.after)) ok.1 (o - length x) refl (omega arith) in
+        rw e (behind x (before ++ (i ∷ s.after)) o (omega arith) (omega arith) rest)
+      where
+        behind : (x : Instruction) (is : List Instruction) (o : ℕ) → 0 < o → length x ≤ o → instruction_at is (o - length x) ≡ Some i → instruction_at (x ∷ is) o ≡ Some i
+        behind x is zero some h e = absurd (omega arith)
+        behind x is (suc o) some h e = rw (le-ltb (suc o) (length x) h) e
+
+-- what starts at an offset stands there
+pub found_stands : (is : List Instruction) → AllByRecursion IsInstruction is → (o : ℕ) (i : Instruction) → instruction_at is o ≡ Some i → StandsAt is o i
+found_stands [] each o i e = let wrong : None ≡ Some i = e in cc
+found_stands (x ∷ is) each zero i e = let same : x ≡ i = cc in record { before = []; after = is; whole = ap (λ y. y ∷ is) same; offset = refl }
+found_stands (x ∷ is) each (suc o) i e =
+    let s = found_stands is each.1 (suc o - length x) i (found_behind x is o i e) in
+    let past : length x ≤ suc o = reached x is o i e in
+    record { before = x ∷ s.before; after = s.after; whole = ap (λ y. x ∷ y) s.whole; offset = omega (arith, s.offset) }
+  where
+    reached : (x : Instruction) (is : List Instruction) (o : ℕ) (i : Instruction) → instruction_at (x ∷ is) (suc o) ≡ Some i → length x ≤ suc o
+    reached x is o i e = by_test (nat_lt (suc o) (length x)) refl
+      where
+        by_test : (b : Bool) → nat_lt (suc o) (length x) ≡ b → length x ≤ suc o
+        by_test true h =
+            let none : instruction_at (x ∷ is) (suc o) ≡ None = rw h refl in
+            let wrong : None ≡ Some i = sym none ∙ e in
+            cc
+        by_test false h = ltb-false (suc o) (length x) h
+
+-- two instructions that stand at one offset are one
+pub one_stands : (is : List Instruction) (k : ℕ) (i j : Instruction) → AllByRecursion IsInstruction is → StandsAt is k i → StandsAt is k j → i ≡ j
+one_stands is k i j each s t =
+    let same : Some i ≡ Some j = sym (stands_found is each k i s) ∙ stands_found is each k j t in cc
+
+-- what leads on stands there
+pub goes_stands : (w : Word) (is : List Instruction) (k t : ℕ) (g : GoesTo w is k t) → StandsAt is k g.i
+goes_stands w is k t g = record { before = g.before; after = g.inner ++ (g.e ∷ g.after); whole = g.whole; offset = g.from }
+
+-- the target that is kept of an instruction is where it goes
+pub goes_found : (is : List Instruction) (in_body : List (Option Body)) (goes : List (Option ℕ)) (k t : ℕ) (i : Instruction) → AllByRecursion IsInstruction is →
+    IsTable is [] in_body goes → StandsAt is k i → target_found goes k ≡ Some t → GoesTo (word i) is k t
+goes_found is in_body goes k t i each table stands at =
+    let g = table.target_right k t at in
+    let same : g.1.i ≡ i = one_stands is k g.1.i i each (goes_stands g.0 is k t g.1) stands in
+    subst (λ w. GoesTo w is k t) (sym g.1.opens ∙ ap word same) g.1
+
+-- an opening instruction has its target
+pub goes_there : (is : List Instruction) (in_body : List (Option Body)) (goes : List (Option ℕ)) (k : ℕ) (i : Instruction) → IsTable is [] in_body goes → StandsAt is k i →
+    Opens (word i) → (t : ℕ) × (target_found goes k ≡ Some t)
+goes_there is in_body goes k i table stands o =
+    elim (table.target_there stands.before i stands.after stands.whole o) [
+      | inl u ↦ (u.0, subst (λ x. target_found goes x ≡ Some u.0) stands.offset u.1)
+      | inr u ↦ absurd u
+    ]
+
+pub goes_only : (is : List Instruction) (in_body : List (Option Body)) (goes : List (Option ℕ)) (k t : ℕ) (w : Word) → AllByRecursion IsInstruction is →
+    IsTable is [] in_body goes → GoesTo w is k t → target_found goes k ≡ Some t
+goes_only is in_body goes k t w each table g =
+    let r = goes_there is in_body goes k g.i table (goes_stands w is k t g) (subst Opens (sym g.opens) (ends_opens w (word g.e) g.ends)) in
+    let h = table.target_right k r.0 r.1 in
+    r.1 ∙ ap Some (goes_same is h.0 w k r.0 t each h.1 g)
+
+-- what a target that was looked up says
+pub target_found_is : (is : List Instruction) (in_body : List (Option Body)) (goes : List (Option ℕ)) (k : ℕ) (i : Instruction) (w : Word) (r : Option ℕ) → AllByRecursion IsInstruction is →
+    IsTable is [] in_body goes → StandsAt is k i → word i ≡ w → r ≡ target_found goes k → IfSome r (GoesTo w is k)
+target_found_is is in_body goes k i w None each table stands same e = tt
+target_found_is is in_body goes k i w (Some t) each table stands same e = subst (λ w. GoesTo w is k t) same (goes_found is in_body goes k t i each table stands (sym e))
+
+pub target_none_is : (is : List Instruction) (in_body : List (Option Body)) (goes : List (Option ℕ)) (k : ℕ) (w : Word) (r : Option ℕ) → IsTable is [] in_body goes → Opens w →
+    r ≡ target_found goes k → IfNone r ((i : Instruction) → StandsAt is k i → word i ≡ w → ⊥)
+target_none_is is in_body goes k w None table o e = λ i stands same.
+    let t = goes_there is in_body goes k i table stands (subst Opens (sym same) o) in
+    let wrong : None ≡ Some t.0 = e ∙ t.1 in cc
+target_none_is is in_body goes k w (Some t) table o e = tt

@@ -1,0 +1,18 @@
+-- What a fault says of bytes.
+use Rattle.std.specs.Prelude.{ℕ, List}
+use Rattle.tt_code.specs.declared.fault.CodeFault.{CodeFault}
+use Rattle.tt_code.specs.declared.fault.CodeFault.TheVariants.{CannotCut, Structure, OutOfMemory}
+use Rattle.tt_code.specs.Cut.{Instruction, IsCut}
+use Rattle.tt_code.specs.Grammar.{IsFault}
+
+-- memory is wanted, which says nothing of the bytes
+abbrev pub IsMemory : CodeFault → Type 0
+IsMemory (OutOfMemory error) = Unit {0}
+IsMemory (CannotCut offset) = ⊥
+IsMemory (Structure offset) = ⊥
+
+-- the bytes can be cut, and this is the fault of their structure
+abbrev pub IsMisnested : List ℕ → CodeFault → Type 0
+IsMisnested bytes (Structure offset) = (is : List Instruction) × IsCut bytes is × IsFault is offset
+IsMisnested bytes (CannotCut offset) = ⊥
+IsMisnested bytes (OutOfMemory error) = ⊥

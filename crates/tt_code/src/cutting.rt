@@ -1,0 +1,55 @@
+//! Where one instruction ends.
+
+ghost use Rattle.std.specs.Prelude.{◌≡◌, ℕ, ◌≤◌, ◌<◌, ◌^◌, List, ◌++◌, take, length, IfSome, IfNone};
+ghost use Rattle.tt_code.specs.Cut.{CannotBeCut, Instruction, IsCut, IsInstruction, data_length};
+ghost use Rattle.tt_code.specs.Entries.{view};
+
+use crate::kinds::{Effect, Push};
+use crate::table::effect;
+
+/// How many bytes follow the code, a count byte included; None where the count byte is missing.
+fn data_length_of(effect: Effect, rest: &[u8]) -> Option<u16>
+    ensures value { result ≡ data_length (view effect) rest.now }
+    ensures small { IfSome result (λ n. n ≤ 511) }
+{
+    match effect {
+        Effect::Push(Push::CountedBytes) => Some(1 + u16::from(*rest.first()?)),
+        Effect::Push(Push::CountedWords) => Some(1 + 2 * u16::from(*rest.first()?)),
+        Effect::Push(Push::Bytes(n)) => Some(u16::from(n)),
+        Effect::Push(Push::Words(n)) => Some(2 * u16::from(n)),
+        _ => Some(0),
+    }
+}
+
+/// How many bytes the instruction at the front has; None where it passes the end.
+pub fn front_length(bytes: &[u8]) -> Option<u16>
+    ensures found { IfSome result (λ n. (0 < n) × (n ≤ length bytes.now) × IsInstruction (take n bytes.now)) }
+    ensures none { IfNone result ((i rest : List ℕ) → IsInstruction i → i ++ rest ≡ bytes.now → ⊥) }
+{
+    let (code, rest) = bytes.split_first()?;
+    let count = data_length_of(effect(*code), rest)?;
+    if usize::from(count) <= rest.len() {
+        Some(count + 1)
+    } else {
+        None
+    }
+}
+
+/// The offset of the instruction that passes the end, if there is one.
+pub fn first_uncut(bytes: &[u8]) -> Option<u32>
+    requires { length bytes.now < 2 ^ 31 }
+    ensures cut { IfNone result ((is : List Instruction) × IsCut bytes.now is) }
+    ensures uncut { IfSome result (CannotBeCut bytes.now) }
+{
+    let mut rest = bytes;
+    while !rest.is_empty() {
+        match front_length(rest) {
+            None => return Some((bytes.len() - rest.len()) as u32),
+            Some(n) => {
+                let (_, after) = rest.split_at(usize::from(n));
+                rest = after;
+            }
+        }
+    }
+    None
+}

@@ -1,0 +1,94 @@
+//! Laws of cuts, structure and bodies. The functions here do nothing: their contracts are the laws.
+
+ghost use Rattle.std.specs.Prelude.{◌≡◌, ◌⊎◌, ◌↔◌, ℕ, ◌+◌, List, Some, length};
+ghost use Rattle.std.specs.List.{AllByRecursion};
+ghost use Rattle.tt_code.specs.Cut.{CannotBeCut, Instruction, IsCut, IsInstruction, instruction_at, size};
+ghost use Rattle.tt_code.specs.Grammar.{GoesTo, IsBodyAt, IsFault, IsStructured, StandsAt};
+ghost use Rattle.tt_code.specs.Structure.{after_else, after_fdef, after_if, body_at, leads, word};
+ghost use Rattle.tt_code.specs.declared.machine.Body.{Body};
+ghost use Rattle.tt_code.specs.declared.word.Word.{Word};
+
+/// A program has at most one cut.
+pub fn one_cut()
+    ensures { (bytes : List ℕ) (is js : List Instruction) → IsCut bytes is → IsCut bytes js → is ≡ js }
+{}
+
+/// A program that cannot be cut has one fault of its cut.
+pub fn one_end_of_cut()
+    ensures { (bytes : List ℕ) (k m : ℕ) → CannotBeCut bytes k → CannotBeCut bytes m → k ≡ m }
+{}
+
+/// A program that can be cut has at most one fault of its structure.
+pub fn one_fault()
+    ensures { (bytes : List ℕ) (is : List Instruction) (k m : ℕ) → IsCut bytes is → IsFault is k → IsFault is m → k ≡ m }
+{}
+
+/// A structured program has no fault of its structure.
+pub fn structured_without_fault()
+    ensures { (bytes : List ℕ) (is : List Instruction) (k : ℕ) → IsCut bytes is → IsStructured is → IsFault is k → ⊥ }
+{}
+
+/// An instruction that opens something leads to one place.
+pub fn one_target()
+    ensures { (bytes : List ℕ) (is : List Instruction) (opener other : Word) (offset s t : ℕ) → IsCut bytes is → GoesTo opener is offset s → GoesTo other is offset t → s ≡ t }
+{}
+
+/// One instruction stands at an offset.
+pub fn one_instruction()
+    ensures { (bytes : List ℕ) (is : List Instruction) (offset : ℕ) (i j : Instruction) → IsCut bytes is → StandsAt is offset i → StandsAt is offset j → i ≡ j }
+{}
+
+/// An instruction of a structured program has one body.
+pub fn one_body()
+    ensures { (bytes : List ℕ) (is : List Instruction) (offset : ℕ) (i : Instruction) (b c : Body) → IsCut bytes is → IsStructured is → StandsAt is offset i → IsBodyAt is offset b → IsBodyAt is offset c → b ≡ c }
+{}
+
+/// Behind an instruction stands another one, or the program ends.
+pub fn next_stands()
+    ensures { (is : List Instruction) (offset : ℕ) (i : Instruction) → StandsAt is offset i → ((j : Instruction) × StandsAt is (offset + length i) j) ⊎ (offset + length i ≡ size is) }
+{}
+
+/// Where control goes stands an instruction, or the program ends.
+pub fn target_stands()
+    ensures { (is : List Instruction) (opener : Word) (offset to : ℕ) → GoesTo opener is offset to → ((j : Instruction) × StandsAt is to j) ⊎ (to ≡ size is) }
+{}
+
+/// The instruction that is found at an offset is the one that stands there.
+pub fn instructions_are_found()
+    ensures { (is : List Instruction) (at : ℕ) (i : Instruction) → AllByRecursion IsInstruction is →
+        ((instruction_at is at ≡ Some i) ↔ StandsAt is at i) }
+{}
+
+/// In a structured program IF, ELSE, FDEF and IDEF lead behind the instruction that ends what they begin.
+pub fn partners_are_found()
+    ensures of_if { (is : List Instruction) (at to : ℕ) → IsStructured is → AllByRecursion IsInstruction is →
+        ((after_if is at ≡ Some to) ↔ GoesTo Word.If is at to) }
+    ensures of_else { (is : List Instruction) (at to : ℕ) → IsStructured is → AllByRecursion IsInstruction is →
+        ((after_else is at ≡ Some to) ↔ GoesTo Word.Else is at to) }
+    ensures of_fdef { (is : List Instruction) (at to : ℕ) → IsStructured is → AllByRecursion IsInstruction is →
+        ((after_fdef is at ≡ Some to) ↔ GoesTo Word.Fdef is at to) }
+    ensures of_idef { (is : List Instruction) (at to : ℕ) → IsStructured is → AllByRecursion IsInstruction is →
+        ((leads Word.Idef is at ≡ Some to) ↔ GoesTo Word.Idef is at to) }
+{}
+
+/// In a structured program each IF, ELSE, FDEF and IDEF leads somewhere.
+pub fn partners_are_there()
+    ensures of_if { (is : List Instruction) (at : ℕ) (i : Instruction) → IsStructured is → AllByRecursion IsInstruction is →
+        StandsAt is at i → word i ≡ Word.If → (to : ℕ) × (after_if is at ≡ Some to) }
+    ensures of_else { (is : List Instruction) (at : ℕ) (i : Instruction) → IsStructured is → AllByRecursion IsInstruction is →
+        StandsAt is at i → word i ≡ Word.Else → (to : ℕ) × (after_else is at ≡ Some to) }
+    ensures of_fdef { (is : List Instruction) (at : ℕ) (i : Instruction) → IsStructured is → AllByRecursion IsInstruction is →
+        StandsAt is at i → word i ≡ Word.Fdef → (to : ℕ) × (after_fdef is at ≡ Some to) }
+    ensures of_idef { (is : List Instruction) (at : ℕ) (i : Instruction) → IsStructured is → AllByRecursion IsInstruction is →
+        StandsAt is at i → word i ≡ Word.Idef → (to : ℕ) × (leads Word.Idef is at ≡ Some to) }
+{}
+
+/// Each instruction has a body, and in a structured program it is the one in which the instruction stands.
+pub fn bodies_are_found()
+    ensures found { (is : List Instruction) (at : ℕ) (i : Instruction) (b : Body) → IsStructured is → AllByRecursion IsInstruction is →
+        StandsAt is at i → ((body_at is at ≡ Some b) ↔ IsBodyAt is at b) }
+    ensures there { (is : List Instruction) (at : ℕ) (i : Instruction) → AllByRecursion IsInstruction is →
+        StandsAt is at i → (b : Body) × (body_at is at ≡ Some b) }
+    ensures only { (is : List Instruction) (at : ℕ) (b : Body) → body_at is at ≡ Some b →
+        (i : Instruction) × StandsAt is at i }
+{}

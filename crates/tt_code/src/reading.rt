@@ -1,0 +1,61 @@
+//! The one pass over a program's instructions that finds its structure.
+
+ghost use Rattle.std.specs.Prelude.{◌≡◌, List, [], ◌∷◌, ◌++◌, ◌+◌, ◌<◌, ◌^◌, length, Ok, true, false, IfOk};
+ghost use Rattle.tt_code.specs.Cut.{Instruction, IsInstruction};
+ghost use Rattle.tt_code.specs.Grammar.{CanGoOn};
+
+use crate::machine::Body;
+use crate::nest::{Open, Turn, next_body, take_turn};
+use crate::slot::Slot;
+use crate::word::word_of_code;
+use std::alloc::{AllocError, Global};
+
+/// What is kept while a program is read.
+#[derive(Drop)]
+pub struct Reading {
+    /// What is open, the innermost last.
+    pub stack: Vec<Open>,
+    /// The body of the next instruction.
+    pub body: Body,
+    /// A slot for each byte so far.
+    pub slots: Vec<Slot>,
+}
+
+impl Reading {
+    ghost use Rattle.tt_code.specs.Slots.{IsReading};
+
+    /// Nothing is read yet, and there is room for so many bytes.
+    pub fn new(alloc: Global, size: usize) -> Result<Reading, AllocError>
+        ensures { IfOk result (IsReading []) }
+    {
+        Ok(Reading {
+            stack: Vec::new(alloc),
+            body: Body::Main,
+            slots: Vec::with_capacity(alloc, size)?,
+        })
+    }
+
+    /// Reads the next instruction, if it can stand here; says whether it can.
+    pub fn read(&mut self, instruction: &[u8]) -> Result<bool, AllocError>
+        requires whole { IsInstruction instruction.now }
+        requires short { length instruction.now < 2 ^ 16 }
+        requires fits { length self.old.slots.items + length instruction.now < 2 ^ 31 }
+        requires so_far { (p : List Instruction) × IsReading p self.old }
+        ensures stands { result ≡ Ok true → (p : List Instruction) → IsReading p self.old → IsReading (p ++ instruction.now ∷ []) self.new }
+        ensures refused { result ≡ Ok false → (p : List Instruction) → IsReading p self.old → CanGoOn (p ++ instruction.now ∷ []) → ⊥ }
+    {
+        let offset = self.slots.len() as u32;
+        let end = offset + instruction.len() as u32;
+        let word = word_of_code(instruction[0]);
+        let slot = Slot::start(instruction.len() as u16, self.body);
+        match take_turn(&mut self.stack, word, offset, self.body)? {
+            Turn::Refused => return Ok(false),
+            Turn::Passed => {}
+            Turn::Closed(opener) => self.slots[opener as usize].target = end,
+        }
+        self.body = next_body(self.body, word, offset);
+        self.slots.push(slot)?;
+        self.slots.resize(end as usize, Slot::inside())?;
+        Ok(true)
+    }
+}

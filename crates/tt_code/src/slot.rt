@@ -1,0 +1,112 @@
+//! What is kept of each byte of a program.
+
+ghost use Rattle.std.specs.Prelude.{◌≡◌, ◌<◌, Some, None, slice_index};
+ghost use Rattle.tt_code.specs.Slots.{bodies, body_found, body_in, inside, lengths, target_found, target_in, targets};
+
+use crate::machine::Body;
+
+/// The kind of body that an instruction belongs to.
+#[derive(Clone, Copy)]
+pub enum Kind {
+    Main,
+    Function,
+    Instruction,
+}
+
+/// What is kept of one byte of a program.
+#[derive(Clone, Copy)]
+pub struct Slot {
+    /// Where control goes behind what the instruction that starts here opens; 0 where it opens nothing.
+    pub target: u32,
+    /// The offset of the first instruction of its body; 0 in the main program.
+    pub first: u32,
+    /// How many bytes the instruction has; 0 where none starts.
+    pub length: u16,
+    /// The kind of its body.
+    pub kind: Kind,
+}
+
+const _: () = prove!(size_of::<Slot>() == 12);
+
+impl Slot {
+    /// A byte inside an instruction.
+    pub fn inside() -> Slot
+        ensures { result ≡ inside }
+    {
+        Slot {
+            target: 0,
+            first: 0,
+            length: 0,
+            kind: Kind::Main,
+        }
+    }
+
+    /// The first byte of an instruction of this length, in a body.
+    pub fn start(length: u16, body: Body) -> Slot
+        requires { 0 < length }
+        ensures length { result.length ≡ length }
+        ensures body { body_in result ≡ Some body }
+        ensures target { target_in result ≡ None }
+    {
+        let (kind, first) = match body {
+            Body::Main => (Kind::Main, 0),
+            Body::Function(first) => (Kind::Function, first),
+            Body::Instruction(first) => (Kind::Instruction, first),
+        };
+        Slot {
+            target: 0,
+            first,
+            length,
+            kind,
+        }
+    }
+
+    /// The body of the instruction that starts here, if one does.
+    pub fn body(self) -> Option<Body>
+        ensures { result ≡ body_in self }
+    {
+        if self.length == 0 {
+            return None;
+        }
+        Some(match self.kind {
+            Kind::Main => Body::Main,
+            Kind::Function => Body::Function(self.first),
+            Kind::Instruction => Body::Instruction(self.first),
+        })
+    }
+
+    /// Where control goes behind what the instruction opens, if it opens something.
+    pub fn target(self) -> Option<u32>
+        ensures { result ≡ target_in self }
+    {
+        if self.target == 0 {
+            None
+        } else {
+            Some(self.target)
+        }
+    }
+}
+
+/// How many bytes the instruction at the offset has; 0 where none starts.
+pub fn length_at(slots: &[Slot], offset: u32) -> u16
+    ensures { result ≡ slice_index (lengths slots.now) offset }
+{
+    match slots.get(offset as usize) {
+        Some(slot) => slot.length,
+        None => 0,
+    }
+}
+
+/// The body of the instruction at the offset, if one starts there.
+pub fn body_of(slots: &[Slot], offset: u32) -> Option<Body>
+    ensures { result ≡ body_found (bodies slots.now) offset }
+{
+    slots.get(offset as usize)?.body()
+}
+
+/// Where control goes behind what the instruction at the offset opens, if one starts there and opens something.
+pub fn target_of(slots: &[Slot], offset: u32) -> Option<u32>
+    ensures { result ≡ target_found (targets slots.now) offset }
+{
+    slots.get(offset as usize)?.target()
+}
