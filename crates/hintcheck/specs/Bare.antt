@@ -6,7 +6,7 @@ use Rattle.tt_code.specs.Runs.{NeverFaults}
 use Rattle.tt_code.specs.Fonts.{Font, glyph_setting, StartsGlyphProgram}
 use Rattle.tt_code.specs.declared.reason.Reason.{Reason}
 use Rattle.tt_code.specs.declared.reason.Reason.TheVariants as reason
-use Rattle.hintcheck.specs.Maxp.{limits_in}
+use Rattle.tt_font.specs.Maxp.{limits_of}
 use Rattle.hintcheck.specs.Covered.{NeverFails, FailsFirst}
 
 -- a glyph program with what it is checked against
@@ -19,7 +19,7 @@ pub record GlyphProgram : Type 0 where
 -- by the fields of a `maxp` table and the number of control values
 abbrev pub glyph_program : List ℕ → ℕ → ℕ → ℕ → List ℕ → GlyphProgram
 glyph_program maxp cvt points contours bytes = record {
-  font = record { limits = limits_in maxp; cvt = cvt; font_program = []; cvt_program = [] };
+  font = record { limits = limits_of maxp; cvt = cvt; font_program = []; cvt_program = [] };
   points = points;
   contours = contours;
   bytes = bytes;

@@ -2,8 +2,8 @@
 use Rattle.std.specs.Prelude.{◌≡◌, ◌≤◌, ℕ, Result, Ok, Err}
 use Rattle.hintcheck.specs.declared.commands.CommandFault.{CommandFault}
 use Rattle.hintcheck.specs.declared.commands.CommandFault.TheVariants as fault
-use Rattle.hintcheck.specs.declared.fault.FontFault.{FontFault}
-use Rattle.hintcheck.specs.declared.fault.FontFault.TheVariants as font
+use Rattle.tt_font.specs.declared.fault.FontFault.{FontFault}
+use Rattle.tt_font.specs.declared.fault.FontFault.TheVariants as font
 
 abbrev pub font_status : FontFault → ℕ
 font_status (font.OutOfMemory error) = 3

@@ -5,16 +5,15 @@ use Rattle.hintcheck.specs.Bare.{GlyphProgram, IsCause}
 use Rattle.hintcheck.specs.Straight.{font_of}
 use Rattle.hintcheck.specs.declared.pass.Glyph.{Glyph}
 use Rattle.hintcheck.specs.declared.pass.Refusal.{Refusal}
-use Rattle.hintcheck.specs.declared.fault.FontFault.{FontFault}
-use Rattle.hintcheck.specs.declared.fault.FontFault.TheVariants.{TableOutside, MaxpVersion, OutOfMemory}
+use Rattle.tt_font.specs.declared.fault.FontFault.{FontFault}
+use Rattle.tt_font.specs.declared.fault.FontFault.TheVariants.{OutOfMemory}
 use Rattle.hintcheck.specs.declared.verdict.Refused.{Refused}
 use Rattle.hintcheck.specs.declared.verdict.Name.TheVariants as name
 
 -- a growth of memory was refused
 abbrev pub IsMemory : FontFault → Type 0
-IsMemory (TableOutside tag) = ⊥
-IsMemory MaxpVersion = ⊥
 IsMemory (OutOfMemory e) = Unit {0}
+IsMemory _ = ⊥
 
 -- the only program is refused, at an offset and for a reason that is a cause
 pub record IsRefusal (g : GlyphProgram) (r : Refused) : Type 0 where

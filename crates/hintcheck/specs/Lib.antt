@@ -1,4 +1,3 @@
-pub mod Maxp
 pub mod Covered
 pub mod Straight
 pub mod Bare

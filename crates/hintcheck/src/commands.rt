@@ -5,13 +5,13 @@ ghost use Rattle.std.specs.Prelude.{◌≡◌, ◌≤◌, ◌⊎◌, IfErr, IfOk
 ghost use Rattle.tt_stream.specs.Streams.{CountsPrintFailure};
 ghost use Rattle.hintcheck.specs.Commands.{IsNoWriteFault, TellsFailure, status_of};
 
-use crate::fault::FontFault;
 use crate::judge::bare;
 use crate::verdict::{Name, Verdict};
 use hintcheck_words::{Task, TaskFault, WordFault, read_words, word_bytes};
 use std::alloc::{AllocError, Global};
 use std::fmt;
 use thiserror::Error;
+use tt_font::FontFault;
 use tt_stream::{PrintFailed, Sink};
 
 /// The exit status where every program is accepted, or help was asked for.

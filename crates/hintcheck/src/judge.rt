@@ -3,14 +3,13 @@
 ghost use Rattle.std.specs.Prelude.{◌≡◌, ◌≤◌, ◌<◌, ◌^◌, ◌⊎◌, [], All, IfErr, IfNone, IfOk, IfSome, None, OnOk, Some, Err, length};
 ghost use Rattle.hintcheck.specs.Bare.{IsCause, IsSafe, IsSafeAndCovered, glyph_program};
 ghost use Rattle.hintcheck.specs.Judging.{IsMemory, IsRefusal, checked_program, refused_list};
-ghost use Rattle.hintcheck.specs.Maxp.{maxp_fault};
+ghost use Rattle.tt_font.specs.Conditions.{maxp_fault};
 
-use crate::fault::FontFault;
-use crate::maxp::read_maxp;
 use crate::pass::{Glyph, Refusal, first_failure};
 use crate::verdict::{Name, Place, Refused, Verdict};
 use std::alloc::{AllocError, Global};
 use tt_code::{CodeFault, Program, Reason};
+use tt_font::{FontFault, read_maxp};
 
 /// Why the program of a glyph is refused, if it is.
 fn judge(alloc: Global, glyph: &Glyph, program: &[u8]) -> Result<Option<Refusal>, AllocError>

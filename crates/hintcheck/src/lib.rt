@@ -2,11 +2,9 @@
 #![tactic(auto)]
 
 mod commands;
-pub mod fault;
 pub mod judge;
 #[cfg(test)]
 mod judge_tests;
-pub mod maxp;
 mod numbers;
 mod pass;
 mod perform;
@@ -16,7 +14,6 @@ mod tests;
 pub mod verdict;
 
 pub use commands::command;
-pub use fault::{FontFault, Tag};
 pub use judge::bare;
-pub use maxp::read_maxp;
+pub use tt_font::{FontFault, Tag, read_maxp};
 pub use verdict::{Name, Place, Refused, Verdict};

@@ -1,2 +1,3 @@
+pub mod Reads
 pub mod Streams
 pub mod Windows

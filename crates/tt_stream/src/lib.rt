@@ -6,10 +6,12 @@ ghost use Rattle.std.specs.Io.{ReadsAtMost, WritesAtMost};
 ghost use Rattle.std.specs.Io.KnownBytes.{ReadConsumes, WriteAppends, Appends};
 ghost use Rattle.tt_stream.specs.Streams.{AppendsBeginning, AppendsBeginningOfText, AppendsText, CountsFailure, CountsPrintFailure, Tally};
 
+mod reads;
 #[cfg(test)]
 mod tests;
 mod text;
 
+pub use reads::{ReadFault, read_all};
 use std::fmt::Display;
 use std::io::{Read, Write};
 use std::marker::Model;

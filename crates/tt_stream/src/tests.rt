@@ -1,6 +1,7 @@
 ghost use Rattle.std.specs.Prelude.{◌≡◌, ◌<◌};
 
-use crate::{Counted, PrintFailed, ReadFailed, Sink, Source, WriteFailed, write_all};
+use crate::{Counted, PrintFailed, ReadFailed, Sink, Source, WriteFailed, read_all, write_all};
+use std::alloc::Global;
 use std::io::{ErrorKind, Write};
 use std::marker::Brand;
 use std::sync::ledger::{Blank, Ledger};
@@ -91,6 +92,58 @@ fn reads_and_writes(rt: HostRuntime) {
     assert_eq!(rt; count, Ok(3));
     assert_eq!(rt; written, Ok(()));
     assert_eq!(rt; into.as_slice(), b"abc\0".as_slice());
+}
+
+/// All bytes of a reader that gives no more than `step` at a time and fails at the end where it is
+/// told to.
+#[derive(Drop)]
+struct Steps<'a> {
+    bytes: &'a [u8],
+    step: usize,
+    fails: bool,
+}
+
+impl io::Read for Steps<'_> {
+    fn read(&mut self, buf: &mut [u8]) -> io::Result<usize> {
+        if self.bytes.is_empty() && self.fails {
+            return Err(io::Error::from(ErrorKind::UnexpectedEof));
+        }
+        let count = self.step.min(self.bytes.len()).min(buf.len());
+        let (front, rest) = self.bytes.split_at(count);
+        buf[..count].copy_from_slice(front);
+        self.bytes = rest;
+        Ok(count)
+    }
+}
+
+fn read_steps<L: Ledger>(alloc: Global, steps: Steps<'_>, blank: Blank) -> Option<Vec<u8>>
+    requires name { blank.name ≡ L.name }
+    requires parts { blank.parts ≡ L.parts }
+    requires some { 0 < blank.parts }
+{
+    let mut source = Counted::<Steps<'_>, L>::new(steps, blank);
+    read_all(alloc, &mut source).ok()
+}
+
+#[test]
+fn reads_all(rt: HostRuntime) -> Result<(), Fail> {
+    let bytes = b"ab".repeat(rt.alloc(), 5000)?;
+    for step in [1, 4095, 4096, 20_000] {
+        let steps = Steps {
+            bytes: &bytes,
+            step,
+            fails: false,
+        };
+        let all = read_steps::<Brand>(rt.alloc(), steps, Blank::new(1)).ok_or("all bytes")?;
+        assert!(rt; all.as_slice() == bytes.as_slice(), "by {step}");
+    }
+    let steps = Steps {
+        bytes: &bytes,
+        step: 100,
+        fails: true,
+    };
+    assert!(rt; read_steps::<Brand>(rt.alloc(), steps, Blank::new(1)).is_none());
+    Ok(())
 }
 
 #[test]

@@ -17,11 +17,11 @@ same_answer P Q (Err e) (Err f) m h = tt
 pub returns-clause-covered : goal.returns-clause-covered
 returns-clause-covered c =
     let checked = subst (λ (l : Limits). IfOk c.verdict_of.result (λ v. v.refused ≡ [] → IsSafeAndCovered (checked_program (record { limits = l; cvt = c.args.cvt; points = c.args.points; contours = c.args.contours }) c.args.program.now)))
-    c.in_ok-limits.ensures.1 c.verdict_of.ensures.covered in
+    c.in_ok-limits.ensures.limits c.verdict_of.ensures.covered in
     same_answer _ _ c.verdict_of.result c.map_err.result c.map_err.ensures.cases checked
 
 pub returns-clause-refused : goal.returns-clause-refused
 returns-clause-refused c =
     let checked = subst (λ (l : Limits). IfOk c.verdict_of.result (λ v. All (IsRefusal (checked_program (record { limits = l; cvt = c.args.cvt; points = c.args.points; contours = c.args.contours }) c.args.program.now)) v.refused))
-    c.in_ok-limits.ensures.1 c.verdict_of.ensures.refused in
+    c.in_ok-limits.ensures.limits c.verdict_of.ensures.refused in
     same_answer _ _ c.verdict_of.result c.map_err.result c.map_err.ensures.cases checked

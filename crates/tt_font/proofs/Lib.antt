@@ -1,0 +1,12 @@
+pub mod FirstBelow
+pub mod Placed
+pub mod ComponentLists
+pub mod WholeGlyphs
+pub mod OutlineLemmas
+pub mod Adding
+pub mod RowLemmas
+pub mod CountLemmas
+pub mod ChainSums
+pub mod ProgramLists
+pub mod ReadGlyphs
+pub mod LawProofs

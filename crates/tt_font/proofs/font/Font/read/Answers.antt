@@ -1,0 +1,28 @@
+use Rattle.std.proofs.Common.{subst, ℕ, List, map}
+use Rattle.tt_font.specs.GlyphTables.{glyphs_of}
+use Rattle.tt_font.specs.Outlines.{outlines_of}
+use Rattle.tt_font.specs.GlyphParts.{glyph_data}
+use Rattle.tt_font.specs.Files.{font_glyph_count}
+use Rattle.tt_font.specs.Reading.{ReadsGlyphs}
+use Rattle.tt_font.proofs.ReadGlyphs.{room_for_all, same_glyphs}
+use Rattle.tt_font.proofs.font.Font.read.Goals as goal
+
+pub read_glyphs-requires : goal.read_glyphs-requires
+read_glyphs-requires c = record {
+  room = room_for_all c.in_ok-tables.tables.glyphs.format c.in_ok-tables.tables.glyphs.loca.now c.in_ok-tables.tables.glyphs.glyf.now c.in_ok-tables.tables.glyphs.count
+      c.in_ok-tables.tables.glyphs.small c.in_ok-tables.ensures.few_glyphs;
+}
+
+pub returns-clause-reads : goal.returns-clause-reads
+returns-clause-reads c =
+    let count = c.in_ok-tables.ensures.glyph_count in
+    let glyphs = same_glyphs _ _ _ _ _ _ c.in_ok-tables.ensures.format c.in_ok-tables.ensures.loca c.in_ok-tables.ensures.glyf in
+    let C : ℕ → Type 0 = λ n. ReadsGlyphs n (glyphs_of c.in_ok-tables.tables.glyphs) (outlines_of n (glyphs_of c.in_ok-tables.tables.glyphs)) (map glyph_data c.in_ok-glyphs.glyphs.items) in
+    let G : (ℕ → List ℕ) → Type 0 = λ f. ReadsGlyphs (font_glyph_count c.args.bytes.now) f (outlines_of (font_glyph_count c.args.bytes.now) f) (map glyph_data c.in_ok-glyphs.glyphs.items) in
+    record {
+      limits = c.in_ok-tables.ensures.limits;
+      cvt_count = c.in_ok-tables.ensures.cvt_count;
+      fpgm = c.in_ok-tables.ensures.fpgm;
+      prep = c.in_ok-tables.ensures.prep;
+      glyphs = subst G glyphs (subst C count c.in_ok-glyphs.ensures.glyphs);
+    }

@@ -1,0 +1,6 @@
+use Rattle.tt_font.specs.GlyphTables.{outlines_in}
+use Rattle.tt_font.specs.Rounds.{RowsAre}
+use Rattle.tt_font.proofs.rounds.first_table.Given as goal
+
+abbrev pub invariant-loop-id : goal.invariant-loop-id
+invariant-loop-id l = RowsAre l.glyphs.count (outlines_in l.glyphs) 0 l.id l.table.items

@@ -1,0 +1,100 @@
+ghost use Rattle.std.specs.Prelude.{◌≡◌, ℕ, ◌+◌, ◌^◌, ◌<◌, ◌≤◌, length, is_some, IfSome, if◌then◌else◌};
+ghost use Rattle.tt_font.specs.Components.{component_size};
+
+use crate::numbers::u16_at;
+
+/// How many bytes the header of a glyph has.
+pub(crate) const HEADER: usize = 10;
+
+/// One of the glyphs of which a composite glyph is made (OpenType specification, `glyf`, "Composite glyph description").
+#[derive(Clone, Copy, Debug, PartialEq, Eq)]
+pub(crate) struct Component {
+    pub(crate) flags: u16,
+    /// The number of the component's glyph.
+    pub(crate) glyph: u16,
+    /// The place behind the component.
+    pub(crate) after: usize,
+}
+
+/// How many bytes a component has: its flags, its glyph, its arguments and its scale.
+#[tactic(auto, unfolding(crate::specs::Components::component_size))]
+fn size_of(flags: u16) -> usize
+    ensures size { result ≡ component_size flags }
+    ensures least { 6 ≤ result }
+    ensures most { result ≤ 16 }
+{
+    let arguments = if flags & 0x0001 != 0 { 4 } else { 2 };
+    let scale = if flags & 0x0008 != 0 {
+        2
+    } else if flags & 0x0040 != 0 {
+        4
+    } else if flags & 0x0080 != 0 {
+        8
+    } else {
+        0
+    };
+    4 + arguments + scale
+}
+
+impl Component {
+    ghost use Rattle.std.specs.Prelude.{◌≡◌, ℕ, ◌+◌, ◌^◌, ◌<◌, ◌≤◌, length, is_some, IfSome, if◌then◌else◌};
+    ghost use Rattle.tt_font.specs.Components.{component_at, has_more, has_instructions, components, last_of};
+
+    /// Reads the component at a place of a glyph, where its bytes are there, and counts it. Nothing else reads a component.
+    #[tactic(auto, unfolding(crate::specs::Components::component_at), using(crate::proofs::ComponentLists::size_is_least))]
+    pub(crate) fn read(glyph: &[u8], place: usize, reads: &mut u64) -> Option<Component>
+        requires place { place < 2 ^ 33 }
+        requires room { reads.old + 1 < 2 ^ 64 }
+        ensures component { result ≡ component_at place glyph.now }
+        ensures within { IfSome result (λ component. component.after ≤ length glyph.now) }
+        ensures behind { IfSome result (λ component. place < component.after) }
+        ensures counted { reads.new ≡ reads.old + (if is_some result then 1 else 0) }
+    {
+        if glyph.len() < place + 4 {
+            return None;
+        }
+        let flags = u16_at(glyph, place);
+        let after = place + size_of(flags);
+        if glyph.len() < after {
+            return None;
+        }
+        *reads += 1;
+        Some(Component {
+            flags,
+            glyph: u16_at(glyph, place + 2),
+            after,
+        })
+    }
+
+    /// Whether another component follows.
+    pub(crate) fn has_more(&self) -> bool
+        ensures { result ≡ has_more self.now.flags }
+    {
+        self.flags & 0x0020 != 0
+    }
+
+    /// Whether the program follows.
+    pub(crate) fn has_instructions(&self) -> bool
+        ensures { result ≡ has_instructions self.now.flags }
+    {
+        self.flags & 0x0100 != 0
+    }
+
+    /// The last component of a glyph, where the bytes of all are there.
+    pub(crate) fn last(glyph: &[u8], reads: &mut u64) -> Option<Component>
+        requires small { length glyph.now < 2 ^ 32 }
+        requires room { reads.old + length (components glyph.now) + 1 < 2 ^ 64 }
+        ensures last { result ≡ last_of (components glyph.now) }
+        ensures within { IfSome result (λ component. component.after ≤ length glyph.now) }
+        ensures counted { reads.new ≡ reads.old + length (components glyph.now) }
+    {
+        let mut place = HEADER;
+        while let Some(component) = Component::read(glyph, place, reads) {
+            if !component.has_more() {
+                return Some(component);
+            }
+            place = component.after;
+        }
+        None
+    }
+}

@@ -1,0 +1,111 @@
+ghost use Rattle.std.specs.Prelude.{◌≡◌, ◌==◌, ◌+◌, ◌*◌, ◌≤◌, ◌<◌, ◌^◌, length, IfOk, IfSome};
+ghost use Rattle.std.specs.Option.{option_map};
+ghost use Rattle.tt_font.specs.Numbers.{u32_at, first_below};
+ghost use Rattle.tt_font.specs.Directory.{record_count, record_place, first_record, extent, table};
+ghost use Rattle.tt_font.specs.Conditions.{Tests, directory_fault, table_fault, optional_table_fault};
+
+use crate::fault::FontFault;
+use crate::numbers::{u16_at, u32_at};
+use crate::tag::Tag;
+
+/// The directory of a font file (OpenType specification, "Table directory").
+#[derive(Clone, Copy)]
+pub(crate) struct Directory<'a> {
+    /// The whole file.
+    pub(crate) bytes: &'a [u8],
+    /// How many records the directory has.
+    pub(crate) count: u16,
+    ghost counted: { count ≡ record_count bytes.now },
+    ghost whole: { 12 + 16 * count ≤ length bytes.now },
+}
+
+/// Where a table stands in the file.
+#[derive(Clone, Copy, PartialEq, Eq)]
+pub(crate) struct Extent {
+    offset: u32,
+    len: u32,
+}
+
+/// The number of the first of some records with a tag.
+fn find_record(bytes: &[u8], count: u16, tag: u32) -> Option<u16>
+    requires { 12 + 16 * count ≤ length bytes.now }
+    ensures first { result ≡ first_record tag bytes.now count }
+    ensures below { IfSome result (λ i. i < count) }
+{
+    for i in 0..count {
+        if u32_at(bytes, 12 + 16 * usize::from(i)) == tag {
+            return Some(i);
+        }
+    }
+    None
+}
+
+impl<'a> Directory<'a> {
+    /// The directory of a file, where it is that of a font and whole.
+    #[tactic(auto, unfolding(crate::specs::Conditions::directory_fault))]
+    pub(crate) fn read(bytes: &'a [u8]) -> Result<Directory<'a>, FontFault>
+        ensures fault { Tests (directory_fault bytes.now) result }
+        ensures file { IfOk result (λ directory. directory.bytes.now ≡ bytes.now) }
+    {
+        if bytes.len() < 12 {
+            return Err(FontFault::DirectoryTruncated);
+        }
+        let version = u32_at(bytes, 0);
+        if version != 0x10000 && version != 0x7472_7565 {
+            return Err(FontFault::NotSfnt);
+        }
+        let count = u16_at(bytes, 4);
+        if bytes.len() < 12 + 16 * usize::from(count) {
+            return Err(FontFault::DirectoryTruncated);
+        }
+        Ok(Directory { bytes, count })
+    }
+
+    /// Where the first record with the tag says that its table stands.
+    #[tactic(auto, unfolding(crate::specs::Directory::extent))]
+    fn extent(&self, tag: Tag) -> Option<Extent>
+        ensures { option_map (λ e. record { offset = e.offset; len = e.len }) result ≡ extent tag self.now.bytes.now }
+    {
+        let i = find_record(self.bytes, self.count, tag.number())?;
+        let place = 12 + 16 * usize::from(i);
+        Some(Extent {
+            offset: u32_at(self.bytes, place + 8),
+            len: u32_at(self.bytes, place + 12),
+        })
+    }
+
+    /// The bytes of a table that every font has, where they are at least `least`.
+    #[tactic(auto, unfolding(crate::specs::Conditions::table_fault, crate::specs::Directory::table))]
+    pub(crate) fn required(&self, tag: Tag, least: u32) -> Result<&'a [u8], FontFault>
+        ensures fault { Tests (table_fault tag least self.now.bytes.now) result }
+        ensures table { IfOk result (λ bytes. bytes.now ≡ table tag self.now.bytes.now) }
+        ensures long { IfOk result (λ bytes. least ≤ length bytes.now) }
+        ensures fits { IfOk result (λ bytes. length bytes.now < 2 ^ 32) }
+    {
+        let Some(extent) = self.extent(tag) else {
+            return Err(FontFault::MissingTable(tag));
+        };
+        let end = extent.offset as usize + extent.len as usize;
+        if self.bytes.len() < end || extent.len < least {
+            return Err(FontFault::TableOutside(tag));
+        }
+        Ok(&self.bytes[extent.offset as usize..end])
+    }
+
+    /// The bytes of a table that a font may lack, where they are at most `most`.
+    #[tactic(auto, unfolding(crate::specs::Conditions::optional_table_fault, crate::specs::Directory::table))]
+    pub(crate) fn optional(&self, tag: Tag, most: u32) -> Result<&'a [u8], FontFault>
+        ensures fault { Tests (optional_table_fault tag most self.now.bytes.now) result }
+        ensures table { IfOk result (λ bytes. bytes.now ≡ table tag self.now.bytes.now) }
+        ensures fits { IfOk result (λ bytes. length bytes.now < 2 ^ 32) }
+    {
+        let Some(extent) = self.extent(tag) else {
+            return Ok(&[]);
+        };
+        let end = extent.offset as usize + extent.len as usize;
+        if self.bytes.len() < end || extent.len > most {
+            return Err(FontFault::TableOutside(tag));
+        }
+        Ok(&self.bytes[extent.offset as usize..end])
+    }
+}

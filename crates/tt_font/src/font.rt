@@ -1,0 +1,159 @@
+ghost use Rattle.std.specs.Prelude.{◌≡◌, ◌+◌, ◌*◌, ◌^◌, ◌<◌, ◌≤◌, map, IfOk, OnOk};
+ghost use Rattle.tt_font.specs.Glyphs.{component_total};
+ghost use Rattle.tt_font.specs.GlyphTables.{glyphs_of, outlines_in};
+ghost use Rattle.tt_font.specs.GlyphParts.{glyph_data};
+ghost use Rattle.tt_font.specs.Reading.{ReadsGlyphs};
+ghost use Rattle.tt_font.specs.Conditions.{TestsWithMemory, glyphs_fault};
+
+use crate::fault::FontFault;
+use crate::glyph_part::GlyphPart;
+use crate::glyph_table::GlyphTable;
+use crate::programs::{put_together, read_programs};
+use crate::rounds::sum_up;
+use crate::tables::Tables;
+use std::alloc::Global;
+use std::marker::Model;
+use tt_code::Limits;
+
+/// The glyphs of a font, and how often a component was read for them.
+#[tactic(auto, unfolding(crate::specs::Conditions::glyphs_fault))]
+fn read_glyphs<'a>(
+    alloc: Global,
+    glyphs: &GlyphTable<'a>,
+    reads: &mut u64,
+) -> Result<Vec<GlyphPart<'a>>, FontFault>
+    requires room { reads.old + 17 * component_total (glyphs_of glyphs.now) glyphs.now.count + 1 < 2 ^ 64 }
+    ensures fault { TestsWithMemory (glyphs_fault glyphs.now.count (glyphs_of glyphs.now) (outlines_in glyphs.now)) result }
+    ensures glyphs { IfOk result (λ parts. ReadsGlyphs glyphs.now.count (glyphs_of glyphs.now) (outlines_in glyphs.now) (map glyph_data parts.items)) }
+    ensures at_least { OnOk result (reads.old + component_total (glyphs_of glyphs.now) glyphs.now.count ≤ reads.new) }
+    ensures at_most { OnOk result (reads.new ≤ reads.old + 17 * component_total (glyphs_of glyphs.now) glyphs.now.count) }
+{
+    let programs = read_programs(alloc, glyphs, reads)?;
+    let table = sum_up(alloc, glyphs, reads)?;
+    put_together(alloc, &programs, &table, glyphs.count)
+}
+
+/// A font file, read: the limits of its programs, and its programs as slices of the file (OpenType specification, "Font tables").
+#[derive(Debug, Drop)]
+pub struct Font<'a> {
+    limits: Limits,
+    cvt_count: u32,
+    fpgm: &'a [u8],
+    prep: &'a [u8],
+    glyphs: Vec<GlyphPart<'a>>,
+    component_reads: u64,
+}
+
+impl<'a> Model for Font<'a> {
+    ghost use Rattle.std.specs.Prelude.{map, length, ◌<◌, ◌^◌};
+    ghost use Rattle.tt_font.specs.Reading.{FontData};
+    ghost use Rattle.tt_font.specs.GlyphParts.{glyph_data};
+
+    ghost Value = { FontData };
+
+    ghost view = { λ font. record {
+      limits = font.limits;
+      cvt_count = font.cvt_count;
+      fpgm = font.fpgm.now;
+      prep = font.prep.now;
+      glyphs = map glyph_data font.glyphs.items;
+      component_reads = font.component_reads;
+    } };
+
+    ghost invariant = { λ font. length font.glyphs.items < 2 ^ 16 };
+}
+
+impl<'a> Font<'a> {
+    ghost use Rattle.std.specs.Prelude.{◌≡◌, IfOk, length, slice_get};
+    ghost use Rattle.std.specs.Option.{option_map};
+    ghost use Rattle.tt_font.specs.Conditions.{TestsWithMemory};
+    ghost use Rattle.tt_font.specs.FileFaults.{font_fault};
+    ghost use Rattle.tt_font.specs.Reading.{Reads, ReadsComponents};
+    ghost use Rattle.tt_font.specs.GlyphParts.{glyph_data};
+
+    /// Reads the bytes of a font file. No glyph and no program is copied, and the memory that is taken grows with the number of
+    /// glyphs alone, once `loca` is known to have an entry for each.
+    ///
+    /// Errors: the first of these that stands, or `OutOfMemory`.
+    /// 1. Fewer than 12 bytes (`DirectoryTruncated`), the version (`NotSfnt`), fewer bytes than the records of the directory
+    ///    take (`DirectoryTruncated`).
+    /// 2. `maxp` is missing, lies outside the file or has fewer than 4 bytes, isn't of version 1.0, has fewer than 32 bytes.
+    /// 3. `head` is missing, lies outside or has fewer than 54 bytes; then `loca` and then `glyf` is missing or lies outside.
+    /// 4. `cvt `, `fpgm` or `prep` is there and lies outside, or one of the programs is longer than 2,147,483,647 bytes.
+    /// 5. The format of `loca` isn't 0 or 1 (entry 0), or an entry is missing, lies above the length of `glyf` or below the
+    ///    entry before it (the first such entry).
+    /// 6. A glyph's bytes end too early (the first such glyph).
+    /// 7. From a glyph a chain of at most 16 components leads to a number that isn't below the number of glyphs, or one of 17
+    ///    starts, or it has more than 65,535 points or contours (the first such glyph).
+    #[tactic(auto, unfolding(crate::specs::FileFaults::font_fault))]
+    pub fn read(alloc: Global, bytes: &'a [u8]) -> Result<Font<'a>, FontFault>
+        ensures fault { TestsWithMemory (font_fault bytes.now) result }
+        ensures reads { IfOk result (λ font. Reads bytes.now font) }
+        ensures components { IfOk result (λ font. ReadsComponents bytes.now font) }
+    {
+        let tables = Tables::read(bytes)?;
+        let mut component_reads = 0;
+        let glyphs = read_glyphs(alloc, &tables.glyphs, &mut component_reads)?;
+        Ok(Font {
+            limits: tables.limits,
+            cvt_count: tables.cvt_count,
+            fpgm: tables.fpgm,
+            prep: tables.prep,
+            glyphs,
+            component_reads,
+        })
+    }
+
+    /// What the font allows its programs.
+    pub fn limits(&self) -> Limits
+        ensures { result ≡ self.now.limits }
+    {
+        self.limits
+    }
+
+    /// How many control values the font has.
+    pub fn cvt_count(&self) -> u32
+        ensures { result ≡ self.now.cvt_count }
+    {
+        self.cvt_count
+    }
+
+    /// How many glyphs the font has.
+    pub fn glyph_count(&self) -> u16
+        ensures { result ≡ length self.now.glyphs }
+    {
+        self.glyphs.len() as u16
+    }
+
+    /// The font program, empty where the font has none.
+    pub fn fpgm(&self) -> &'a [u8]
+        ensures { result.now ≡ self.now.fpgm }
+    {
+        self.fpgm
+    }
+
+    /// The CVT program, empty where the font has none.
+    pub fn prep(&self) -> &'a [u8]
+        ensures { result.now ≡ self.now.prep }
+    {
+        self.prep
+    }
+
+    /// A glyph, none where the font hasn't as many.
+    pub fn glyph(&self, id: u16) -> Option<GlyphPart<'a>>
+        ensures { option_map glyph_data result ≡ slice_get self.now.glyphs id }
+    {
+        self.glyphs.get(usize::from(id)).copied()
+    }
+
+    /// How often an entry of a component list was read while the font was: at least once for each entry of each glyph, and at
+    /// most 17 times as often.
+    pub fn component_reads(&self) -> u64
+        ensures { result ≡ self.now.component_reads }
+    {
+        self.component_reads
+    }
+}
+
+#[cfg(test)]
+mod tests;

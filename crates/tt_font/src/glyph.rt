@@ -1,0 +1,110 @@
+ghost use Rattle.std.specs.Prelude.{◌≡◌, ◌+◌, ◌*◌, ◌^◌, ◌<◌, ◌≤◌, length, is_some, true, false};
+ghost use Rattle.std.specs.Option.{option_map};
+ghost use Rattle.tt_font.specs.Components.{components, last_of};
+ghost use Rattle.tt_font.specs.Glyphs.{is_composite, component_count, program_at, simple_program, composite_program, program_of, simple_points, simple_contours};
+
+use crate::component::{Component, HEADER};
+use crate::numbers::u16_at;
+
+/// numberOfContours from this value on is a negative number: the glyph is made of components.
+const COMPOSITE: u16 = 0x8000;
+
+/// The instructions at a place of a glyph, behind their length, where their bytes are there.
+#[tactic(auto, unfolding(crate::specs::Glyphs::program_at))]
+fn read_program(glyph: &[u8], place: usize) -> Option<&[u8]>
+    requires { place < 2 ^ 33 }
+    ensures { option_map (λ program. program.now) result ≡ program_at place glyph.now }
+{
+    if glyph.len() < place + 2 {
+        return None;
+    }
+    let start = place + 2;
+    let end = start + usize::from(u16_at(glyph, place));
+    if glyph.len() < end {
+        return None;
+    }
+    Some(&glyph[start..end])
+}
+
+/// The program of a simple glyph, where its bytes are there.
+fn read_simple_program(glyph: &[u8]) -> Option<&[u8]>
+    requires { 10 ≤ length glyph.now }
+    ensures { option_map (λ program. program.now) result ≡ simple_program glyph.now }
+{
+    let contours = usize::from(u16_at(glyph, 0));
+    if contours == 0 && glyph.len() == HEADER {
+        return Some(&[]);
+    }
+    read_program(glyph, HEADER + 2 * contours)
+}
+
+/// The program of a composite glyph, where its bytes are there.
+fn read_composite_program<'a>(glyph: &'a [u8], reads: &mut u64) -> Option<&'a [u8]>
+    requires small { length glyph.now < 2 ^ 32 }
+    requires room { reads.old + length (components glyph.now) + 1 < 2 ^ 64 }
+    ensures program { option_map (λ program. program.now) result ≡ composite_program glyph.now (last_of (components glyph.now)) }
+    ensures counted { reads.new ≡ reads.old + length (components glyph.now) }
+{
+    let last = Component::last(glyph, reads)?;
+    if last.has_instructions() {
+        read_program(glyph, last.after)
+    } else {
+        Some(&[])
+    }
+}
+
+/// Whether a glyph is made of components.
+pub(crate) fn is_composite(glyph: &[u8]) -> bool
+    ensures { result ≡ is_composite glyph.now }
+{
+    glyph.len() >= HEADER && u16_at(glyph, 0) >= COMPOSITE
+}
+
+/// The program of a glyph, where its bytes are there. One without data has an empty program.
+#[tactic(auto, unfolding(crate::specs::Glyphs::program_of, crate::specs::Glyphs::component_count))]
+pub(crate) fn read_glyph_program<'a>(glyph: &'a [u8], reads: &mut u64) -> Option<&'a [u8]>
+    requires small { length glyph.now < 2 ^ 32 }
+    requires room { reads.old + component_count glyph.now + 1 < 2 ^ 64 }
+    ensures program { option_map (λ program. program.now) result ≡ program_of glyph.now }
+    ensures counted { reads.new ≡ reads.old + component_count glyph.now }
+{
+    if is_composite(glyph) {
+        read_composite_program(glyph, reads)
+    } else if glyph.len() >= HEADER {
+        read_simple_program(glyph)
+    } else if glyph.is_empty() {
+        Some(&[])
+    } else {
+        None
+    }
+}
+
+/// The points of a glyph that isn't composite and whose bytes are there.
+#[tactic(auto, unfolding(crate::specs::Glyphs::simple_points), using(crate::proofs::WholeGlyphs::end_points_are_there))]
+pub(crate) fn simple_points(glyph: &[u8]) -> u32
+    requires simple { is_composite glyph.now ≡ false }
+    requires whole { is_some (program_of glyph.now) ≡ true }
+    ensures points { result ≡ simple_points glyph.now }
+    ensures most { result ≤ 65536 }
+{
+    if glyph.len() < HEADER {
+        return 0;
+    }
+    let contours = usize::from(u16_at(glyph, 0));
+    if contours == 0 {
+        return 0;
+    }
+    u32::from(u16_at(glyph, HEADER + 2 * (contours - 1))) + 1
+}
+
+/// The contours of a glyph that isn't composite.
+#[tactic(auto, unfolding(crate::specs::Glyphs::simple_contours))]
+pub(crate) fn simple_contours(glyph: &[u8]) -> u32
+    ensures contours { result ≡ simple_contours glyph.now }
+    ensures most { result ≤ 65536 }
+{
+    if glyph.len() < HEADER {
+        return 0;
+    }
+    u32::from(u16_at(glyph, 0))
+}

@@ -1,0 +1,11 @@
+ghost use Rattle.tt_font.specs.Laws.{FindsLeast, ListsComponents, StartsWays, FindsWaysOut};
+
+/// Does nothing: its contract says what the definitions mean that go step by step through a font's bytes. The least number that
+/// passes a test is the least one. The components of a glyph are the one list that follows its header. A chain of components
+/// starts, or leads out of the font, exactly if there is such a way from component to component.
+pub fn definitions_hold()
+    ensures least { FindsLeast }
+    ensures components { ListsComponents }
+    ensures chains { StartsWays }
+    ensures ways_out { FindsWaysOut }
+{}

@@ -1,0 +1,25 @@
+//! The font file: from its bytes to limits and programs.
+#![tactic(auto)]
+
+mod component;
+mod directory;
+mod fault;
+mod font;
+mod glyph;
+mod glyph_part;
+mod glyph_table;
+mod laws;
+mod maxp;
+mod numbers;
+mod programs;
+mod rounds;
+mod sums;
+mod tables;
+mod tag;
+
+pub use fault::FontFault;
+pub use font::Font;
+pub use glyph_part::GlyphPart;
+pub use laws::definitions_hold;
+pub use maxp::read_maxp;
+pub use tag::Tag;

@@ -1,0 +1,22 @@
+ghost use Rattle.std.specs.Prelude.{◌≡◌, ◌+◌, ◌≤◌, length};
+ghost use Rattle.tt_font.specs.Numbers.{u16_at, u32_at};
+
+use byteorder::{BigEndian, ByteOrder};
+
+/// The u16 at a place.
+#[tactic(auto, unfolding(crate::specs::Numbers::u16_at))]
+pub(crate) fn u16_at(bytes: &[u8], place: usize) -> u16
+    requires { place + 2 ≤ length bytes.now }
+    ensures { result ≡ u16_at place bytes.now }
+{
+    BigEndian::read_u16(&bytes[place..])
+}
+
+/// The u32 at a place.
+#[tactic(auto, unfolding(crate::specs::Numbers::u32_at))]
+pub(crate) fn u32_at(bytes: &[u8], place: usize) -> u32
+    requires { place + 4 ≤ length bytes.now }
+    ensures { result ≡ u32_at place bytes.now }
+{
+    BigEndian::read_u32(&bytes[place..])
+}

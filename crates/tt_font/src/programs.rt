@@ -1,0 +1,59 @@
+ghost use Rattle.std.specs.Prelude.{◌≡◌, ℕ, ◌+◌, ◌^◌, ◌<◌, ◌≤◌, length, map, IfOk, IfErr, alloc_error};
+ghost use Rattle.tt_font.specs.Glyphs.{component_total};
+ghost use Rattle.tt_font.specs.Rounds.{row};
+ghost use Rattle.tt_font.specs.GlyphTables.{glyphs_of};
+ghost use Rattle.tt_font.specs.GlyphParts.{glyph_data, bytes_of, ProgramsAre, PartsAre};
+ghost use Rattle.tt_font.specs.Conditions.{TestsWithMemory, glyph_fault};
+
+use crate::fault::FontFault;
+use crate::glyph::read_glyph_program;
+use crate::glyph_part::GlyphPart;
+use crate::glyph_table::GlyphTable;
+use crate::sums::Sum;
+use std::alloc::Global;
+
+/// The programs of all glyphs, or the first glyph whose bytes end too early.
+pub(crate) fn read_programs<'a>(
+    alloc: Global,
+    glyphs: &GlyphTable<'a>,
+    reads: &mut u64,
+) -> Result<Vec<&'a [u8]>, FontFault>
+    requires room { reads.old + component_total (glyphs_of glyphs.now) glyphs.now.count + 1 < 2 ^ 64 }
+    ensures fault { TestsWithMemory (glyph_fault glyphs.now.count (glyphs_of glyphs.now)) result }
+    ensures programs { IfOk result (λ programs. ProgramsAre (glyphs_of glyphs.now) glyphs.now.count (map bytes_of programs.items)) }
+    ensures counted { IfOk result (λ _. reads.new ≡ reads.old + component_total (glyphs_of glyphs.now) glyphs.now.count) }
+{
+    let mut programs = Vec::new(alloc);
+    for id in 0..glyphs.count {
+        let Some(program) = read_glyph_program(glyphs.glyph(id), reads) else {
+            return Err(FontFault::GlyphTruncated(id));
+        };
+        programs.push(program)?;
+    }
+    Ok(programs)
+}
+
+/// The glyphs, from their programs and the sums over their components.
+pub(crate) fn put_together<'a>(
+    alloc: Global,
+    programs: &[&'a [u8]],
+    table: &[Sum],
+    count: u16,
+) -> Result<Vec<GlyphPart<'a>>, FontFault>
+    requires programs { length programs.now ≡ count }
+    requires points { (id : ℕ) → id < count → (row table.now id).points ≤ 65535 }
+    requires contours { (id : ℕ) → id < count → (row table.now id).contours ≤ 65535 }
+    ensures glyphs { IfOk result (λ glyphs. PartsAre (map bytes_of programs.now) table.now count (map glyph_data glyphs.items)) }
+    ensures memory { IfErr result (λ fault. fault ≡ FontFault.OutOfMemory alloc_error) }
+{
+    let mut glyphs = Vec::new(alloc);
+    for id in 0..count {
+        let sum = Sum::of(table, id);
+        glyphs.push(GlyphPart {
+            points: sum.points as u16,
+            contours: sum.contours as u16,
+            program: programs[usize::from(id)],
+        })?;
+    }
+    Ok(glyphs)
+}

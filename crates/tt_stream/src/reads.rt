@@ -1,0 +1,60 @@
+//! Reading to the end.
+
+ghost use Rattle.std.specs.Prelude.{◌≡◌, IfOk, OnErr};
+ghost use Rattle.std.specs.Io.KnownBytes.{Consumes, IsAtEnd};
+ghost use Rattle.tt_stream.specs.Reads.{ConsumesBeginning, CountsReadFault};
+
+use crate::{ReadFailed, Source};
+use std::alloc::{AllocError, Global};
+use thiserror::Error;
+
+/// How many bytes are asked for at a time.
+const CHUNK: usize = 4096;
+
+/// Why not all bytes were read.
+#[derive(Debug, Drop, Error)]
+pub enum ReadFault {
+    /// A read failed.
+    #[error("read")]
+    Read,
+    /// Memory ran out.
+    #[error("out of memory")]
+    OutOfMemory(AllocError),
+}
+
+impl From<ReadFailed> for ReadFault {
+    ghost use Rattle.tt_stream.specs.declared.reads.ReadFault.TheVariants.{Read};
+
+    ghost from_gives = { λ _ fault. fault ≡ Read };
+
+    fn from(_failed: ReadFailed) -> ReadFault {
+        ReadFault::Read
+    }
+}
+
+impl From<AllocError> for ReadFault {
+    ghost use Rattle.tt_stream.specs.declared.reads.ReadFault.TheVariants.{OutOfMemory};
+
+    ghost from_gives = { λ error fault. fault ≡ OutOfMemory error };
+
+    fn from(error: AllocError) -> ReadFault {
+        ReadFault::OutOfMemory(error)
+    }
+}
+
+/// All bytes that are left. After a fault some beginning of them was read.
+pub fn read_all<R: Source>(alloc: Global, source: &mut R) -> Result<Vec<u8>, ReadFault>
+    ensures all { IfOk result (λ bytes. Consumes (R.remaining source.old) (R.remaining source.new) bytes.items × IsAtEnd (R.remaining source.new)) }
+    ensures beginning { OnErr result (ConsumesBeginning (R.remaining source.old) (R.remaining source.new)) }
+    ensures failures { CountsReadFault result (R.failures source.old) (R.failures source.new) }
+{
+    let mut bytes = Vec::new(alloc);
+    let mut buf = [0u8; CHUNK];
+    loop {
+        let count = source.read(&mut buf)?;
+        if count == 0 {
+            return Ok(bytes);
+        }
+        bytes.extend_from_slice(&buf[..count])?;
+    }
+}
