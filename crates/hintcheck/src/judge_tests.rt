@@ -135,3 +135,15 @@ fn faults_of_maxp(rt: HostRuntime) {
     assert_eq!(rt; fault(alloc, &LIMITS[..31]), Some(4));
     assert_eq!(rt; fault(alloc, &LIMITS), None);
 }
+
+#[test]
+fn unbalanced(rt: HostRuntime) -> Result<(), Fail> {
+    let alloc = rt.alloc();
+    assert_eq!(rt; refusal(alloc, 8, &[0x59])?, Some((0, Reason::Structure)));
+    assert_eq!(rt;
+        refusal(alloc, 8, &[0x4b, 0x58])?,
+        Some((2, Reason::Structure))
+    );
+    assert_eq!(rt; refusal(alloc, 8, &[0x89])?, Some((1, Reason::Structure)));
+    Ok(())
+}

@@ -175,6 +175,11 @@ fn prints_verdicts(rt: HostRuntime) {
             "refused g0 at g0:3: 29 cvt\nrefused: 1 of 1 programs\n",
         ),
         ("", 0, "accepted: 1 programs\n"),
+        (
+            "59",
+            1,
+            "refused g0 at g0:0: 21 structure\nrefused: 1 of 1 programs\n",
+        ),
     ];
     for (program, want, text) in cases {
         let words = ["hintcheck", "bare", LIMITS, "10", "4", "1", program];
