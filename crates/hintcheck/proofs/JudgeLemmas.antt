@@ -2,7 +2,7 @@
 use Rattle.std.proofs.Common.{◌≡◌, ℕ, zero, suc, ◌<◌, ◌≤◌, List, [], ◌∷◌, Option, None, Some, Result, Ok, Err, refl, sym, ◌∙◌, ap, inl, inr, length, get_or, arith}
 use Rattle.std.specs.Prelude.{IfOk, IfNone, IfSome, All}
 use Rattle.tt_code.specs.Cut.{Instruction, IsCut, size}
-use Rattle.tt_code.specs.Grammar.{IsStructured, IsFault}
+use Rattle.tt_code.specs.Grammar.{IsStructured}
 use Rattle.tt_code.specs.Fonts.{StartsGlyphProgram}
 use Rattle.tt_code.specs.declared.reason.Reason.TheVariants as reason
 use Rattle.tt_code.proofs.CutLemmas.{size_is}
@@ -41,9 +41,6 @@ pub is_too_long : (g : Glyph) (bytes : List ℕ) (is : List Instruction) (offset
     → IsCause (checked_program g bytes) offset reason.ProgramTooLong
 is_too_long g bytes is offset cut structured long e =
     inr (inr (inl (record { instructions = is; is_cut = cut; structured = structured; long = omega (arith, cut_size bytes is cut); at_limit = e; is_reason = refl })))
-
-pub has_no_structure : (g : Glyph) (bytes : List ℕ) (offset : ℕ) → ((is : List Instruction) × IsCut bytes is × IsFault is offset) → IsCause (checked_program g bytes) offset reason.Structure
-has_no_structure g bytes offset f = inr (inl (record { instructions = f.0; is_cut = f.1; is_fault = f.2; is_reason = refl }))
 
 -- answers that may be want of memory
 
