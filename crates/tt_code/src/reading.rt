@@ -1,6 +1,7 @@
 //! The one pass over a program's instructions that finds its structure.
 
-ghost use Rattle.std.specs.Prelude.{◌≡◌, List, [], ◌∷◌, ◌++◌, ◌+◌, ◌<◌, ◌^◌, length, Ok, true, false, IfOk};
+ghost use Rattle.std.specs.Prelude.{◌≡◌, List, [], ◌∷◌, ◌++◌, ◌+◌, ◌<◌, ◌≤◌, ◌^◌, length, Ok, true, false, IfOk};
+ghost use Rattle.std.specs.Vec.{vec_capacity};
 ghost use Rattle.tt_code.specs.Cut.{Instruction, IsInstruction};
 ghost use Rattle.tt_code.specs.Grammar.{CanGoOn};
 
@@ -26,7 +27,8 @@ impl Reading {
 
     /// Nothing is read yet, and there is room for so many bytes.
     pub fn new(alloc: Global, size: usize) -> Result<Reading, AllocError>
-        ensures { IfOk result (IsReading []) }
+        ensures start { IfOk result (IsReading []) }
+        ensures room { IfOk result (λ r. size ≤ vec_capacity r.slots) }
     {
         Ok(Reading {
             stack: Vec::new(alloc),
