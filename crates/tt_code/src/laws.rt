@@ -3,7 +3,7 @@
 ghost use Rattle.std.specs.Prelude.{◌≡◌, ◌⊎◌, ◌↔◌, ℕ, ◌+◌, List, Some, length};
 ghost use Rattle.std.specs.List.{AllByRecursion};
 ghost use Rattle.tt_code.specs.Cut.{CannotBeCut, Instruction, IsCut, IsInstruction, instruction_at, size};
-ghost use Rattle.tt_code.specs.Grammar.{GoesTo, IsBodyAt, IsFault, IsStructured, StandsAt};
+ghost use Rattle.tt_code.specs.Grammar.{Ends, GoesTo, IsBodyAt, IsFault, IsStructured, StandsAt};
 ghost use Rattle.tt_code.specs.Structure.{after_else, after_fdef, after_if, body_at, leads, word};
 ghost use Rattle.tt_code.specs.declared.machine.Body.{Body};
 ghost use Rattle.tt_code.specs.declared.word.Word.{Word};
@@ -33,6 +33,11 @@ pub fn one_target()
     ensures { (bytes : List ℕ) (is : List Instruction) (opener other : Word) (offset s t : ℕ) → IsCut bytes is → GoesTo opener is offset s → GoesTo other is offset t → s ≡ t }
 {}
 
+/// In a structured program each instruction that opens something leads somewhere.
+pub fn each_target()
+    ensures { (bytes : List ℕ) (is : List Instruction) (offset : ℕ) (i : Instruction) (e : Word) → IsCut bytes is → IsStructured is → StandsAt is offset i → Ends (word i) e → (to : ℕ) × GoesTo (word i) is offset to }
+{}
+
 /// One instruction stands at an offset.
 pub fn one_instruction()
     ensures { (bytes : List ℕ) (is : List Instruction) (offset : ℕ) (i j : Instruction) → IsCut bytes is → StandsAt is offset i → StandsAt is offset j → i ≡ j }
@@ -41,6 +46,11 @@ pub fn one_instruction()
 /// An instruction of a structured program has one body.
 pub fn one_body()
     ensures { (bytes : List ℕ) (is : List Instruction) (offset : ℕ) (i : Instruction) (b c : Body) → IsCut bytes is → IsStructured is → StandsAt is offset i → IsBodyAt is offset b → IsBodyAt is offset c → b ≡ c }
+{}
+
+/// Each instruction of a structured program has a body.
+pub fn each_body()
+    ensures { (bytes : List ℕ) (is : List Instruction) (offset : ℕ) (i : Instruction) → IsCut bytes is → IsStructured is → StandsAt is offset i → (b : Body) × IsBodyAt is offset b }
 {}
 
 /// Behind an instruction stands another one, or the program ends.
