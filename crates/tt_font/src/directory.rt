@@ -64,7 +64,8 @@ impl<'a> Directory<'a> {
     /// Where the first record with the tag says that its table stands.
     #[tactic(auto, unfolding(crate::specs::Directory::extent))]
     fn extent(&self, tag: Tag) -> Option<Extent>
-        ensures { option_map (λ e. record { offset = e.offset; len = e.len }) result ≡ extent tag self.now.bytes.now }
+        ensures { option_map (λ e. record { offset = e.offset; len = e.len }) result
+            ≡ extent tag self.now.bytes.now }
     {
         let i = find_record(self.bytes, self.count, tag.number())?;
         let place = 12 + 16 * usize::from(i);

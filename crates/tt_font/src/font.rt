@@ -1,6 +1,5 @@
 ghost use Rattle.std.specs.Prelude.{◌≡◌, ◌+◌, ◌*◌, ◌^◌, ◌<◌, ◌≤◌, map, IfOk, OnOk};
-ghost use Rattle.tt_font.specs.Glyphs.{component_total};
-ghost use Rattle.tt_font.specs.GlyphTables.{glyphs_of, outlines_in};
+ghost use Rattle.tt_font.specs.GlyphTables.{glyphs_of, outlines_in, components_in};
 ghost use Rattle.tt_font.specs.GlyphParts.{glyph_data};
 ghost use Rattle.tt_font.specs.Reading.{ReadsGlyphs};
 ghost use Rattle.tt_font.specs.Conditions.{TestsWithMemory, glyphs_fault};
@@ -22,11 +21,11 @@ fn read_glyphs<'a>(
     glyphs: &GlyphTable<'a>,
     reads: &mut u64,
 ) -> Result<Vec<GlyphPart<'a>>, FontFault>
-    requires room { reads.old + 17 * component_total (glyphs_of glyphs.now) glyphs.now.count + 1 < 2 ^ 64 }
+    requires room { reads.old + 17 * components_in glyphs.now + 1 < 2 ^ 64 }
     ensures fault { TestsWithMemory (glyphs_fault glyphs.now.count (glyphs_of glyphs.now) (outlines_in glyphs.now)) result }
     ensures glyphs { IfOk result (λ parts. ReadsGlyphs glyphs.now.count (glyphs_of glyphs.now) (outlines_in glyphs.now) (map glyph_data parts.items)) }
-    ensures at_least { OnOk result (reads.old + component_total (glyphs_of glyphs.now) glyphs.now.count ≤ reads.new) }
-    ensures at_most { OnOk result (reads.new ≤ reads.old + 17 * component_total (glyphs_of glyphs.now) glyphs.now.count) }
+    ensures at_least { OnOk result (reads.old + components_in glyphs.now ≤ reads.new) }
+    ensures at_most { OnOk result (reads.new ≤ reads.old + 17 * components_in glyphs.now) }
 {
     let programs = read_programs(alloc, glyphs, reads)?;
     let table = sum_up(alloc, glyphs, reads)?;

@@ -42,7 +42,8 @@ fn read_simple_program(glyph: &[u8]) -> Option<&[u8]>
 fn read_composite_program<'a>(glyph: &'a [u8], reads: &mut u64) -> Option<&'a [u8]>
     requires small { length glyph.now < 2 ^ 32 }
     requires room { reads.old + length (components glyph.now) + 1 < 2 ^ 64 }
-    ensures program { option_map (λ program. program.now) result ≡ composite_program glyph.now (last_of (components glyph.now)) }
+    ensures program { option_map (λ program. program.now) result
+        ≡ composite_program glyph.now (last_of (components glyph.now)) }
     ensures counted { reads.new ≡ reads.old + length (components glyph.now) }
 {
     let last = Component::last(glyph, reads)?;

@@ -1,7 +1,6 @@
 ghost use Rattle.std.specs.Prelude.{◌≡◌, ℕ, ◌+◌, ◌^◌, ◌<◌, ◌≤◌, length, map, IfOk, IfErr, alloc_error};
-ghost use Rattle.tt_font.specs.Glyphs.{component_total};
 ghost use Rattle.tt_font.specs.Rounds.{row};
-ghost use Rattle.tt_font.specs.GlyphTables.{glyphs_of};
+ghost use Rattle.tt_font.specs.GlyphTables.{glyphs_of, components_in};
 ghost use Rattle.tt_font.specs.GlyphParts.{glyph_data, bytes_of, ProgramsAre, PartsAre};
 ghost use Rattle.tt_font.specs.Conditions.{TestsWithMemory, glyph_fault};
 
@@ -18,10 +17,10 @@ pub(crate) fn read_programs<'a>(
     glyphs: &GlyphTable<'a>,
     reads: &mut u64,
 ) -> Result<Vec<&'a [u8]>, FontFault>
-    requires room { reads.old + component_total (glyphs_of glyphs.now) glyphs.now.count + 1 < 2 ^ 64 }
+    requires room { reads.old + components_in glyphs.now + 1 < 2 ^ 64 }
     ensures fault { TestsWithMemory (glyph_fault glyphs.now.count (glyphs_of glyphs.now)) result }
     ensures programs { IfOk result (λ programs. ProgramsAre (glyphs_of glyphs.now) glyphs.now.count (map bytes_of programs.items)) }
-    ensures counted { IfOk result (λ _. reads.new ≡ reads.old + component_total (glyphs_of glyphs.now) glyphs.now.count) }
+    ensures counted { IfOk result (λ _. reads.new ≡ reads.old + components_in glyphs.now) }
 {
     let mut programs = Vec::new(alloc);
     for id in 0..glyphs.count {

@@ -1,9 +1,9 @@
-ghost use Rattle.std.specs.Prelude.{◌≡◌, ℕ, ◌+◌, ◌*◌, ◌^◌, ◌<◌, ◌≤◌, length, is_some, true, IfOk, IfErr, OnOk, IsTrue, ◌↔◌, alloc_error};
+ghost use Rattle.std.specs.Prelude.{◌≡◌, ℕ, ◌+◌, ◌*◌, ◌^◌, ◌<◌, ◌≤◌, length, IfOk, IfErr, OnOk, IsTrue, ◌↔◌, alloc_error};
 ghost use Rattle.tt_font.specs.Numbers.{first_below};
-ghost use Rattle.tt_font.specs.Glyphs.{component_count, component_total, program_of};
+ghost use Rattle.tt_font.specs.Glyphs.{component_count};
 ghost use Rattle.tt_font.specs.Outlines.{outline_of};
 ghost use Rattle.tt_font.specs.Rounds.{row, NextRow, NextRows, TableIs, row_refuses, IsSummed};
-ghost use Rattle.tt_font.specs.GlyphTables.{glyphs_of, outlines_in};
+ghost use Rattle.tt_font.specs.GlyphTables.{glyphs_of, outlines_in, components_in, AreWhole};
 ghost use Rattle.tt_font.specs.Conditions.{TestsWithMemory, composite_fault};
 
 use crate::fault::FontFault;
@@ -17,7 +17,7 @@ const STEPS: u32 = 16;
 
 /// The table before the first round: what each glyph's own bytes say.
 fn first_table(alloc: Global, glyphs: &GlyphTable) -> Result<Vec<Sum>, FontFault>
-    requires { (id : ℕ) → id < glyphs.now.count → is_some (program_of (glyphs_of glyphs.now id)) ≡ true }
+    requires { AreWhole glyphs.now }
     ensures table { IfOk result (λ table. TableIs glyphs.now.count (outlines_in glyphs.now) 0 table.items) }
     ensures memory { IfErr result (λ fault. fault ≡ FontFault.OutOfMemory alloc_error) }
 {
@@ -54,9 +54,9 @@ fn next_table(
 ) -> Result<Vec<Sum>, FontFault>
     requires points { (id : ℕ) → (row table.now id).points ≤ 65536 }
     requires contours { (id : ℕ) → (row table.now id).contours ≤ 65536 }
-    requires room { reads.old + component_total (glyphs_of glyphs.now) glyphs.now.count + 1 < 2 ^ 64 }
+    requires room { reads.old + components_in glyphs.now + 1 < 2 ^ 64 }
     ensures table { IfOk result (λ next. NextRows (outlines_in glyphs.now) table.now glyphs.now.count next.items) }
-    ensures counted { IfOk result (λ _. reads.new ≡ reads.old + component_total (glyphs_of glyphs.now) glyphs.now.count) }
+    ensures counted { IfOk result (λ _. reads.new ≡ reads.old + components_in glyphs.now) }
     ensures memory { IfErr result (λ fault. fault ≡ FontFault.OutOfMemory alloc_error) }
 {
     let mut next = Vec::new(alloc);
@@ -89,11 +89,11 @@ fn is_same(a: &[Sum], b: &[Sum]) -> bool
 /// The table after the last round. Each round takes the sums over one more step of the chains of components; where one changes
 /// nothing, those after it would change nothing either.
 fn last_table(alloc: Global, glyphs: &GlyphTable, reads: &mut u64) -> Result<Vec<Sum>, FontFault>
-    requires whole { (id : ℕ) → id < glyphs.now.count → is_some (program_of (glyphs_of glyphs.now id)) ≡ true }
-    requires room { reads.old + 16 * component_total (glyphs_of glyphs.now) glyphs.now.count + 1 < 2 ^ 64 }
+    requires whole { AreWhole glyphs.now }
+    requires room { reads.old + 16 * components_in glyphs.now + 1 < 2 ^ 64 }
     ensures table { IfOk result (λ table. TableIs glyphs.now.count (outlines_in glyphs.now) 16 table.items) }
     ensures at_least { OnOk result (reads.old ≤ reads.new) }
-    ensures at_most { OnOk result (reads.new ≤ reads.old + 16 * component_total (glyphs_of glyphs.now) glyphs.now.count) }
+    ensures at_most { OnOk result (reads.new ≤ reads.old + 16 * components_in glyphs.now) }
     ensures memory { IfErr result (λ fault. fault ≡ FontFault.OutOfMemory alloc_error) }
 {
     let mut table = first_table(alloc, glyphs)?;
@@ -113,13 +113,13 @@ pub(crate) fn sum_up(
     glyphs: &GlyphTable,
     reads: &mut u64,
 ) -> Result<Vec<Sum>, FontFault>
-    requires whole { (id : ℕ) → id < glyphs.now.count → is_some (program_of (glyphs_of glyphs.now id)) ≡ true }
-    requires room { reads.old + 16 * component_total (glyphs_of glyphs.now) glyphs.now.count + 1 < 2 ^ 64 }
+    requires whole { AreWhole glyphs.now }
+    requires room { reads.old + 16 * components_in glyphs.now + 1 < 2 ^ 64 }
     ensures fault { TestsWithMemory (composite_fault glyphs.now.count (outlines_in glyphs.now)) result }
     ensures table { IfOk result (λ table. IsSummed (outlines_in glyphs.now) glyphs.now.count table.items) }
     ensures len { IfOk result (λ table. length table.items ≡ glyphs.now.count) }
     ensures at_least { OnOk result (reads.old ≤ reads.new) }
-    ensures at_most { OnOk result (reads.new ≤ reads.old + 16 * component_total (glyphs_of glyphs.now) glyphs.now.count) }
+    ensures at_most { OnOk result (reads.new ≤ reads.old + 16 * components_in glyphs.now) }
 {
     let table = last_table(alloc, glyphs, reads)?;
     match first_refused(&table, glyphs.count) {

@@ -38,7 +38,8 @@ impl<'a> Tables<'a> {
         ensures prep { IfOk result (λ tables. tables.prep.now ≡ table Prep bytes.now) }
         ensures glyph_count { IfOk result (λ tables. tables.glyphs.count ≡ font_glyph_count bytes.now) }
         ensures few_glyphs { IfOk result (λ tables. tables.glyphs.count < 2 ^ 16) }
-        ensures format { IfOk result (λ tables. tables.glyphs.format ≡ loca_format (table Head bytes.now)) }
+        ensures format { IfOk result (λ tables. tables.glyphs.format
+            ≡ loca_format (table Head bytes.now)) }
         ensures loca { IfOk result (λ tables. tables.glyphs.loca.now ≡ table Loca bytes.now) }
         ensures glyf { IfOk result (λ tables. tables.glyphs.glyf.now ≡ table Glyf bytes.now) }
     {
