@@ -1,12 +1,11 @@
 -- What an instruction of a plain line changes and pushes, once its operands are taken and its tests passed. (Apple TrueType
 -- Reference Manual, "The TrueType instruction set".)
-use Rattle.std.specs.Prelude.{ℕ, zero, suc, ℤ, pos, negsuc, List, [], ◌∷◌, Result, Ok, Err, nat_eq, if◌then◌else◌}
+use Rattle.std.specs.Prelude.{ℕ, zero, suc, ℤ, pos, negsuc, List, [], ◌∷◌, Ok, nat_eq, if◌then◌else◌}
 use Rattle.tt_code.specs.Refusals.{Tested, ◌>>=◌}
 use Rattle.tt_code.specs.Table.{Lists}
 use Rattle.tt_code.specs.Settings.{Setting, ZoneNumber, Zero, One}
 use Rattle.tt_code.specs.States.{Machine, Registers, Value, Exactly, Anything, Outcome, leaves, reference, with_reference, with_pointer}
 use Rattle.tt_code.specs.Operands.{take_operands, test_uses}
-use Rattle.tt_code.specs.declared.kinds.Source.{Source}
 use Rattle.tt_code.specs.declared.kinds.Source.TheVariants as source
 use Rattle.tt_code.specs.declared.kinds.Update.{Update}
 use Rattle.tt_code.specs.declared.kinds.Update.TheVariants as update

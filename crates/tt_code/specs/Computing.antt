@@ -1,6 +1,6 @@
 -- The instructions that push data, move the stack's elements, or compute. (Apple TrueType Reference Manual, "Pushing data
 -- onto the interpreter stack", "Managing the stack", "Logical functions", "Arithmetic and math instructions".)
-use Rattle.std.specs.Prelude.{ℕ, zero, suc, ◌+◌, ◌*◌, ℤ, pos, negsuc, ◌+ℤ◌, ◌-ℤ◌, neg_ℤ, int_lt, int_le, List, [], ◌∷◌, Result, Ok, Err, Bool, true, false, not, ◌&&◌, ◌||◌, length, map, nat_lt, remove, if◌then◌else◌}
+use Rattle.std.specs.Prelude.{ℕ, zero, suc, ◌+◌, ◌*◌, ℤ, pos, negsuc, ◌+ℤ◌, ◌-ℤ◌, neg_ℤ, int_lt, int_le, List, [], ◌∷◌, Ok, Err, Bool, true, false, not, ◌&&◌, ◌||◌, length, map, nat_lt, remove, if◌then◌else◌}
 use Rattle.tt_code.specs.Refusals.{Tested, ◌>>=◌}
 use Rattle.tt_code.specs.States.{Machine, Value, Exactly, Anything, Outcome, leaves, is_number, is_true}
 use Rattle.tt_code.specs.Cut.{data_behind}

@@ -1,6 +1,6 @@
 -- The instructions that lead elsewhere, and functions. (Apple TrueType Reference Manual, "Managing the flow of control" and
 -- "Defining and using functions and instructions".)
-use Rattle.std.specs.Prelude.{ℕ, zero, suc, ◌+◌, ℤ, pos, negsuc, ◌+ℤ◌, List, [], ◌∷◌, Option, None, Some, Result, Ok, Err, Bool, true, false, not, length, nat_eq, nat_lt, nat_le, if◌then◌else◌}
+use Rattle.std.specs.Prelude.{ℕ, zero, suc, ◌+◌, ℤ, pos, negsuc, ◌+ℤ◌, List, [], ◌∷◌, Option, None, Some, Ok, Err, Bool, true, false, not, length, nat_eq, nat_lt, nat_le, if◌then◌else◌}
 use Rattle.tt_code.specs.Refusals.{Tested, ◌>>=◌, holds_or, some_or}
 use Rattle.tt_code.specs.Structure.{after_if, after_else, after_fdef}
 use Rattle.tt_code.specs.Settings.{Setting, Kind, FontProgram, CvtProgram, GlyphProgram, body_offset, body_name, program_of, is_target}

@@ -1,11 +1,11 @@
 -- The programs of a font and where their runs start: the font program with no function defined, the CVT program with the
 -- functions that the font program has at its end, each glyph program with those that the CVT program has at its end. (OpenType
 -- specification, `fpgm`, `prep` and `glyf`; Apple TrueType Reference Manual, "Instructing fonts".)
-use Rattle.std.specs.Prelude.{◌≡◌, ℕ, List, [], Bool, true}
+use Rattle.std.specs.Prelude.{◌≡◌, ℕ, List, [], true}
 use Rattle.tt_code.specs.Cut.{Instruction}
 use Rattle.tt_code.specs.Settings.{Setting, FontProgram, CvtProgram, GlyphProgram}
 use Rattle.tt_code.specs.States.{Machine}
-use Rattle.tt_code.specs.Runs.{Runs, IsFresh, is_at_end, NeverFaults}
+use Rattle.tt_code.specs.Runs.{Runs, IsFresh, is_at_end}
 use Rattle.tt_code.specs.declared.limits.Limits.{Limits}
 
 -- what all programs of a font share

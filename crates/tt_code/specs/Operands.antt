@@ -1,9 +1,9 @@
 -- Taking operands from the stack and testing them, one at a time and in the table's order: the first test that fails decides
 -- the reason. (Apple TrueType Reference Manual, "The TrueType instruction set", the operands of each instruction. Own: that
 -- order, and the reasons.)
-use Rattle.std.specs.Prelude.{ℕ, zero, suc, ℤ, pos, negsuc, List, [], ◌∷◌, ◌++◌, is_some, Result, Ok, Err, Bool, ◌&&◌}
+use Rattle.std.specs.Prelude.{ℕ, zero, suc, ℤ, pos, negsuc, List, [], ◌∷◌, ◌++◌, is_some, Ok, Err, Bool, ◌&&◌}
 use Rattle.tt_code.specs.Refusals.{Tested, ◌>>=◌, holds_or}
-use Rattle.tt_code.specs.Settings.{Setting, ZoneNumber, Zero, One, zone_size, contours_in, zone_named}
+use Rattle.tt_code.specs.Settings.{Setting, ZoneNumber, One, zone_size, contours_in, zone_named}
 use Rattle.tt_code.specs.States.{is_below, reference, pointer}
 use Rattle.tt_code.specs.declared.reason.Reason.{Reason}
 use Rattle.tt_code.specs.declared.reason.Reason.TheVariants as reason

@@ -1,6 +1,6 @@
 -- What one instruction does to the machine, and its faults, steps and runs. (Apple TrueType Reference Manual, "The TrueType
 -- interpreter".)
-use Rattle.std.specs.Prelude.{◌≡◌, ℕ, zero, suc, ◌+◌, ℤ, pos, List, [], ◌∷◌, Option, None, Some, Result, Ok, Err, Bool, true, false, length, nat_le, if◌then◌else◌}
+use Rattle.std.specs.Prelude.{◌≡◌, ℕ, suc, ◌+◌, ℤ, List, [], ◌∷◌, Option, None, Some, Ok, Err, Bool, false, length, nat_le, if◌then◌else◌}
 use Rattle.tt_code.specs.Refusals.{Tested, ◌>>=◌, holds_or}
 use Rattle.tt_code.specs.Table.{Meaning, NoEntry, Plain, Pushes, Stack, Computes, Controls, effect_of}
 use Rattle.tt_code.specs.Cut.{Instruction, instruction_at}

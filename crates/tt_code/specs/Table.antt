@@ -3,17 +3,15 @@
 -- (Apple TrueType Reference Manual, "The TrueType instruction set"; OpenType specification, "The TrueType Instruction
 -- Set".) Own: which zones a point is tested in where the manual names none (`Both`, `GlyphAnd`); DIV, MUL, MAX and MIN
 -- push a number about which nothing is known; 0x91, 0x92 and IDEF's codes have no entry.
-use Rattle.std.specs.Prelude.{codes, ℕ, zero, suc, ◌+◌, List, [], ◌∷◌, Bool, true, false, Option, None, Some, option_map, ◌&&◌, ◌||◌, nat_le, nat_lt, if◌then◌else◌}
+use Rattle.std.specs.Prelude.{codes, ℕ, ◌+◌, List, [], ◌∷◌, Bool, false, Option, None, Some, ◌&&◌, ◌||◌, nat_le, nat_lt, if◌then◌else◌}
 use Rattle.tt_code.specs.declared.kinds.Reference.{Reference}
 use Rattle.tt_code.specs.declared.kinds.Reference.TheVariants.{Rp0, Rp1, Rp2}
 use Rattle.tt_code.specs.declared.kinds.Pointer.{Pointer}
 use Rattle.tt_code.specs.declared.kinds.Pointer.TheVariants.{Zp0, Zp1, Zp2}
-use Rattle.tt_code.specs.declared.kinds.Within.{Within}
 use Rattle.tt_code.specs.declared.kinds.Within.TheVariants.{In, Both, GlyphAnd}
 use Rattle.tt_code.specs.declared.kinds.Operand.{Operand}
 use Rattle.tt_code.specs.declared.kinds.Operand.TheVariants.{Number, Point, Cvt, Storage, Zone, Contour, LoopPoints, PointPairs, CvtPairs}
 use Rattle.tt_code.specs.declared.kinds.Use.{Use}
-use Rattle.tt_code.specs.declared.kinds.Source.{Source}
 use Rattle.tt_code.specs.declared.kinds.Source.TheVariants.{Taken, Same}
 use Rattle.tt_code.specs.declared.kinds.Update.{Update}
 use Rattle.tt_code.specs.declared.kinds.Update.TheVariants.{SetReference, SetPointer, SetLoop, LoopIsOne, Store}

@@ -1,4 +1,4 @@
-use Rattle.std.proofs.Common.{◌≡◌, ◌<◌, ℕ, suc, arith, zero-add, ap, ◌∙◌, sym, length, List, [], ◌∷◌, None, Some, Bool, true, false, refl}
+use Rattle.std.proofs.Common.{◌≡◌, ◌<◌, ℕ, arith, zero-add, ap, ◌∙◌, sym, length, List, [], ◌∷◌, None, Some, true, false, refl}
 use Rattle.std.specs.Prelude.{◌==◌}
 use Rattle.std.proofs.Math.Dec.{eqb-suc-zero}
 use Rattle.tt_code.proofs.TableLemmas.{agrees_at}
