@@ -1,14 +1,13 @@
 -- What pushes, DUP, POP, MDAP and MIAP leave, and where they fail.
-use Rattle.std.proofs.Common.{◌≡◌, ℕ, List, [], ◌∷◌, ◌++◌, Ok, Err, refl, sym, ◌∙◌, ap, inl, inr, ◌⊎◌, Bool, true, false, nat_eq, ◌+◌, length, arith}
+use Rattle.std.proofs.Common.{◌≡◌, ℕ, List, [], ◌∷◌, ◌++◌, Ok, Err, refl, sym, ◌∙◌, ap, inl, inr, ◌⊎◌, Bool, true, false, nat_eq}
 use Rattle.std.specs.Prelude.{ℤ, Result, OnOk, IfErr, reverse, ◌||◌}
 use Rattle.std.proofs.lemmas.List.{append-nil}
 use Rattle.std.proofs.lemmas.Bool.Decides.{eqb_tells}
 use Rattle.tt_code.specs.Table.{Meaning, NoEntry, Plain, Pushes, Stack, Computes, Controls, Lists, effect_of}
 use Rattle.tt_code.specs.Refusals.{Tested, ◌>>=◌}
-use Rattle.tt_code.specs.Cut.{Instruction, data_in}
 use Rattle.tt_code.specs.Settings.{Setting}
-use Rattle.tt_code.specs.States.{Machine, Value, leaves, is_below}
-use Rattle.tt_code.specs.Operands.{take_operands, test_uses, tested, then_take, top, Taking}
+use Rattle.tt_code.specs.States.{Machine, leaves, is_below}
+use Rattle.tt_code.specs.Operands.{take_operands, tested, then_take, top, Taking}
 use Rattle.tt_code.specs.Changes.{all_updated, numbers, values_pushed}
 use Rattle.tt_code.specs.Computing.{numbers_in, exactly}
 use Rattle.tt_code.specs.Runs.{does, goes_on}

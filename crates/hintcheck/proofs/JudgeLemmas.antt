@@ -1,12 +1,12 @@
 -- What a verdict tells of one program.
-use Rattle.std.proofs.Common.{◌≡◌, ℕ, zero, suc, ◌<◌, ◌≤◌, List, [], ◌∷◌, Option, None, Some, Result, Ok, Err, refl, sym, ◌∙◌, ap, inl, inr, length, get_or, arith}
+use Rattle.std.proofs.Common.{◌≡◌, ℕ, zero, suc, ◌<◌, ◌≤◌, List, [], Option, None, Some, Result, Ok, Err, refl, ◌∙◌, ap, inl, inr, length, get_or, arith}
 use Rattle.std.specs.Prelude.{IfOk, IfNone, IfSome, All}
 use Rattle.tt_code.specs.Cut.{Instruction, IsCut, size}
 use Rattle.tt_code.specs.Grammar.{IsStructured}
 use Rattle.tt_code.specs.Fonts.{StartsGlyphProgram}
 use Rattle.tt_code.specs.declared.reason.Reason.TheVariants as reason
 use Rattle.tt_code.proofs.CutLemmas.{size_is}
-use Rattle.hintcheck.specs.Bare.{GlyphProgram, IsSafe, IsSafeAndCovered, IsTooLong, HasFailure, IsCause}
+use Rattle.hintcheck.specs.Bare.{GlyphProgram, IsSafeAndCovered, IsCause}
 use Rattle.hintcheck.specs.Covered.{NeverFails, FailsFirst}
 use Rattle.hintcheck.specs.Judging.{IsRefusal, checked_program, refused_list}
 use Rattle.hintcheck.specs.Straight.{font_of, setting_of}

@@ -1,11 +1,11 @@
 -- Where a machine stands behind covered instructions, which open and close nothing.
-use Rattle.std.proofs.Common.{◌≡◌, ℕ, zero, suc, ◌+◌, ◌-◌, ◌<◌, List, [], ◌∷◌, ◌++◌, Some, None, refl, sym, ◌∙◌, ap, Bool, true, false, nat_eq, length, inl, inr, arith}
+use Rattle.std.proofs.Common.{◌≡◌, ℕ, suc, ◌+◌, ◌-◌, ◌<◌, List, [], ◌∷◌, ◌++◌, Some, None, refl, sym, ◌∙◌, ap, Bool, true, false, nat_eq, length, inl, inr, arith}
 use Rattle.std.proofs.lemmas.Bool.Decides.{eqb_tells}
 use Rattle.std.proofs.lemmas.Bool.{le-ltb}
 use Rattle.std.specs.Prelude.{nat_lt, if◌then◌else◌}
 use Rattle.std.specs.List.{AllByRecursion}
 use Rattle.tt_code.specs.Table.{effect_of}
-use Rattle.tt_code.specs.Cut.{Instruction, instruction_at, size, code_of}
+use Rattle.tt_code.specs.Cut.{Instruction, instruction_at, size}
 use Rattle.tt_code.specs.declared.word.Word.{Word}
 use Rattle.tt_code.specs.declared.word.Word.TheVariants.{If, Else, Eif, Fdef, Idef, Endf, Other}
 use Rattle.tt_code.specs.Structure.{word, word_of, body_at, body_from, body_behind}

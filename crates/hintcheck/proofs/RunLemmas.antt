@@ -1,18 +1,15 @@
 -- Runs over a program whose instructions leave no choice.
-use Rattle.std.proofs.Common.{◌≡◌, ℕ, zero, suc, ◌+◌, ◌-◌, ◌<◌, ◌≤◌, List, [], ◌∷◌, ◌++◌, Option, Some, None, Ok, Err, refl, sym, ◌∙◌, ap, Bool, true, false, nat_eq, subst, length, inl, inr, ◌⊎◌, arith, rules, add_assoc, add-zero}
-use Rattle.std.proofs.lemmas.Bool.Decides.{eqb_tells}
-use Rattle.std.proofs.lemmas.Bool.{le-ltb}
-use Rattle.std.proofs.lemmas.List.{append_assoc, append-nil, reverse-append}
-use Rattle.std.specs.Prelude.{ℤ, pos, reverse, nat_lt, if◌then◌else◌}
+use Rattle.std.proofs.Common.{◌≡◌, ℕ, suc, ◌+◌, List, [], ◌∷◌, ◌++◌, Option, Some, None, Ok, Err, refl, sym, ◌∙◌, ap, Bool, true, false, subst, length, inl, inr, ◌⊎◌, arith, rules}
+use Rattle.std.proofs.lemmas.List.{append_assoc, reverse-append}
+use Rattle.std.specs.Prelude.{ℤ, pos, reverse}
 use Rattle.std.specs.List.{AllByRecursion}
 use Rattle.tt_code.specs.Cut.{Instruction, instruction_at, size, code_of}
 use Rattle.tt_code.specs.Structure.{body_at}
-use Rattle.tt_code.specs.Settings.{Setting, ZoneNumber, is_body, starts_in_body}
-use Rattle.tt_code.specs.States.{Machine, Value, Outcome, Registers, IsNumber, Exactly, default_graphics}
+use Rattle.tt_code.specs.Settings.{Setting, ZoneNumber, starts_in_body}
+use Rattle.tt_code.specs.States.{Machine, IsNumber, default_graphics}
 use Rattle.tt_code.specs.Computing.{exactly}
-use Rattle.tt_code.specs.Runs.{Runs, here, step, Steps, Faults, Choices, pushed_on, left_by, outcome, performs, fetched, is_at_end, IsFresh, NeverFaults}
+use Rattle.tt_code.specs.Runs.{Runs, here, step, Steps, Choices, pushed_on, left_by, outcome, performs, fetched, is_at_end, IsFresh, NeverFaults}
 use Rattle.tt_code.specs.Fonts.{Font, Leaves, StartsFontProgram, StartsCvtProgram, StartsGlyphProgram, font_setting, cvt_setting}
-use Rattle.tt_code.specs.declared.machine.Body.{Body}
 use Rattle.tt_code.specs.declared.machine.Body.TheVariants as body
 use Rattle.tt_code.specs.declared.machine.Frame.{Frame}
 use Rattle.tt_code.specs.declared.machine.Graphics.{Graphics}

@@ -1,12 +1,12 @@
 -- Which instructions the checker covers so far: pushes, DUP, POP, MDAP and MIAP. A program that reaches another one is refused
 -- there as if its code had no entry, though the hint machine may well go on. (Own. This goes away when all are covered.)
-use Rattle.std.specs.Prelude.{◌≡◌, ◌⊎◌, ℕ, List, Option, Some, Bool, true, false, ◌||◌, nat_eq}
-use Rattle.tt_code.specs.Table.{Meaning, NoEntry, Plain, Pushes, Stack, Computes, Controls, effect_of}
+use Rattle.std.specs.Prelude.{◌≡◌, ◌⊎◌, ℕ, Some, Bool, true, false, ◌||◌, nat_eq}
+use Rattle.tt_code.specs.Table.{Meaning, Plain, Pushes, Stack, effect_of}
 use Rattle.tt_code.specs.Cut.{Instruction, code_of}
 use Rattle.tt_code.specs.Settings.{Setting}
 use Rattle.tt_code.specs.States.{Machine}
 use Rattle.tt_code.specs.Runs.{Runs, Faults, fetched, is_at_end}
-use Rattle.tt_code.specs.declared.kinds.StackOp.TheVariants.{Dup, Pop, Clear, Swap, Depth, CopyIndexed, MoveIndexed, Roll}
+use Rattle.tt_code.specs.declared.kinds.StackOp.TheVariants.{Dup, Pop}
 use Rattle.tt_code.specs.declared.reason.Reason.{Reason}
 use Rattle.tt_code.specs.declared.reason.Reason.TheVariants as reason
 

@@ -1,6 +1,5 @@
 -- How a verdict tells of one glyph program.
 use Rattle.std.specs.Prelude.{◌≡◌, ℕ, List, [], ◌∷◌, Option, None, Some}
-use Rattle.tt_code.specs.declared.reason.Reason.{Reason}
 use Rattle.hintcheck.specs.Bare.{GlyphProgram, IsCause}
 use Rattle.hintcheck.specs.Straight.{font_of}
 use Rattle.hintcheck.specs.declared.pass.Glyph.{Glyph}

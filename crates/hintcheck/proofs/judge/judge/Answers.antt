@@ -1,4 +1,4 @@
-use Rattle.std.proofs.Common.{◌≡◌, ◌≤◌, ◌<◌, arith}
+use Rattle.std.proofs.Common.{◌≤◌, ◌<◌, arith}
 use Rattle.tt_code.specs.Cut.{size}
 use Rattle.hintcheck.proofs.JudgeLemmas.{is_safe, has_failure, is_too_long, if_safe, if_failure}
 use Rattle.hintcheck.proofs.judge.judge.Goals as goal

@@ -1,7 +1,7 @@
 use Rattle.std.proofs.Common.{sym, ◌∙◌, ap}
 use Rattle.hintcheck.specs.Verdicts.{Judgement}
 use Rattle.hintcheck.specs.Judging.{checked_program}
-use Rattle.hintcheck.proofs.JudgeLemmas.{told_safe, told_refused, told_short}
+use Rattle.hintcheck.proofs.JudgeLemmas.{told_safe, told_refused}
 use Rattle.hintcheck.proofs.judge.verdict_of.Goals as goal
 
 pub returns-clause-covered : goal.returns-clause-covered

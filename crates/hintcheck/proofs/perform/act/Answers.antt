@@ -1,7 +1,7 @@
-use Rattle.std.proofs.Common.{◌≡◌, ◌∙◌, ap, sym, refl, inl, inr, true, false}
-use Rattle.tt_code.specs.Table.{Plain, Pushes, Stack, effect_of}
+use Rattle.std.proofs.Common.{◌≡◌, ◌∙◌, ap, sym, refl, inr, true}
+use Rattle.tt_code.specs.Table.{Stack, effect_of}
 use Rattle.tt_code.specs.declared.kinds.StackOp.TheVariants.{Dup, Pop}
-use Rattle.hintcheck.specs.Covered.{is_covered, is_mdap_code, is_miap_code}
+use Rattle.hintcheck.specs.Covered.{is_mdap_code, is_miap_code}
 use Rattle.hintcheck.proofs.ActLemmas.{acts_push, acts_dup, acts_pop, acts_mdap, acts_miap, dup_fails, pop_fails, mdap_fails, miap_fails, on_ok, if_err, other_stack, other_plain, other_effect}
 use Rattle.hintcheck.proofs.perform.act.Goals as goal
 
