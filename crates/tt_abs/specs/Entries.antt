@@ -1,0 +1,41 @@
+-- Lists of entries by number: the functions that are known with their bodies, the storage cells that are known with their
+-- numbers.
+use Rattle.std.specs.Prelude.{ℕ, ℤ, ◌<◌, List, [], ◌∷◌, Option, None, Some, not, nat_eq, nat_lt, if◌then◌else◌}
+use Rattle.std.specs.List.{AllByRecursion, filter}
+use Rattle.tt_abs.specs.declared.cells.Cell.{Cell}
+use Rattle.tt_abs.specs.declared.cells.Cell.TheVariants.{Known, Unknown}
+
+-- the numbers rise
+abbrev pub Rises : {V : Type 0} → List (ℕ × V) → Type 0
+Rises [] = Unit {0}
+Rises (e ∷ es) = AllByRecursion (λ f. e.0 < f.0) es × Rises es
+
+-- what is listed with a number
+abbrev pub listed : {V : Type 0} → List (ℕ × V) → ℕ → Option V
+listed [] n = None
+listed (e ∷ es) n = if nat_eq e.0 n then Some e.1 else listed es n
+
+-- the list with an entry put at its place, instead of one of its number
+abbrev pub with_entry : {V : Type 0} → ℕ → V → List (ℕ × V) → List (ℕ × V)
+with_entry n v [] = (n, v) ∷ []
+with_entry n v (e ∷ es) =
+    if nat_lt n e.0 then (n, v) ∷ e ∷ es
+    else if nat_eq n e.0 then (n, v) ∷ es
+    else e ∷ with_entry n v es
+
+-- the list without the entries of a number
+abbrev pub without_entry : {V : Type 0} → ℕ → List (ℕ × V) → List (ℕ × V)
+without_entry n es = filter (λ e. not (nat_eq e.0 n)) es
+
+-- what is known of each storage cell, where the known ones are listed
+abbrev pub known_or_not : Option ℤ → Cell
+known_or_not None = Unknown
+known_or_not (Some z) = Known z
+
+abbrev pub storage_of : List (ℕ × ℤ) → ℕ → Cell
+storage_of es i = known_or_not (listed es i)
+
+-- the list after a cell became known or unknown
+abbrev pub with_cell : ℕ → Cell → List (ℕ × ℤ) → List (ℕ × ℤ)
+with_cell i (Known z) es = with_entry i z es
+with_cell i Unknown es = without_entry i es

@@ -1,0 +1,5 @@
+pub mod Orders
+pub mod Cells
+pub mod Entries
+pub mod Transfers
+pub mod Covers

@@ -1,0 +1,8 @@
+//! What is known of a hint machine's state: cells and abstract states, their order, and what an instruction makes of them.
+#![tactic(auto)]
+
+pub mod cells;
+pub mod order;
+
+pub use cells::{Cell, ZoneCell};
+pub use order::{AbsFault, Order};

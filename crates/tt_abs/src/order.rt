@@ -1,0 +1,41 @@
+//! Orders of values that stand for sets of machine values, and their joins.
+
+ghost use Rattle.std.specs.Prelude.{◌≡◌, ℕ, ◌↔◌, IsTrue, IsFalse, IfOk, IfErr};
+ghost use Rattle.tt_abs.specs.Orders.{Order as OrderOf, IsLeastAbove, OrderLaws};
+
+use thiserror::Error;
+
+/// Why two abstract values have no join.
+#[derive(Clone, Copy, Debug, PartialEq, Eq, Error)]
+pub enum AbsFault {
+    /// The two stacks differ in depth.
+    #[error("depth mismatch")]
+    DepthMismatch,
+}
+
+/// Values that stand for sets of machine values: one is below another if that one covers all that it covers. Neither call takes
+/// memory.
+pub trait Order {
+    /// The words of the order.
+    ghost order: { OrderOf Self };
+
+    /// Whether the other value covers all that this one covers.
+    fn below(&self, other: &Self) -> bool
+        ensures { IsTrue result ↔ order.Below self.now other.now };
+
+    /// Makes this value the least one above both, and answers whether that differs from what it was.
+    ///
+    /// # Errors
+    /// `DepthMismatch` exactly if the two differ in depth; then this value stays as it is.
+    fn join(&mut self, other: &Self) -> Result<bool, AbsFault>
+        requires mine { order.InRange self.old }
+        requires theirs { order.InRange other.now }
+        ensures least { IfOk result (λ _. IsLeastAbove order self.old other.now self.new) }
+        ensures unchanged { IfOk result (λ changed. IsFalse changed ↔ (self.new ≡ self.old)) }
+        ensures one_depth { IfOk result (λ _. order.SameDepth self.old other.now) }
+        ensures refused { IfErr result (λ _. order.SameDepth self.old other.now → ⊥) }
+        ensures kept { IfErr result (λ _. self.new ≡ self.old) };
+
+    /// What each order proves.
+    ghost laws: { OrderLaws order };
+}
