@@ -4,3 +4,5 @@ pub mod Entries
 pub mod Transfers
 pub mod Covers
 pub mod Settings
+pub mod Stacks
+pub mod Taken

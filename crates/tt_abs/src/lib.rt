@@ -4,9 +4,13 @@
 mod arithmetic;
 pub mod cells;
 mod graphics;
+mod operands;
 pub mod order;
+pub mod refusal;
 pub mod setting;
+pub mod stack;
 
 pub use cells::{Cell, ZoneCell};
 pub use order::{AbsFault, Order};
+pub use refusal::Refusal;
 pub use setting::{Kind, Point, Setting};
