@@ -6,6 +6,7 @@ pub mod cells;
 mod graphics;
 mod operands;
 pub mod order;
+mod pushes;
 pub mod refusal;
 pub mod setting;
 pub mod stack;
