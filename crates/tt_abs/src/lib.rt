@@ -3,6 +3,8 @@
 
 pub mod cells;
 pub mod order;
+pub mod stack;
 
 pub use cells::{Cell, ZoneCell};
 pub use order::{AbsFault, Order};
+pub use stack::Stack;
