@@ -4,3 +4,8 @@ pub mod Entries
 pub mod Transfers
 pub mod Covers
 pub mod Stacks
+pub mod CellOrders
+pub mod CellLaws
+pub mod StackLaws
+pub mod JoinLaws
+pub mod Products
