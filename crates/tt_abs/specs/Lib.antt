@@ -9,3 +9,4 @@ pub mod CellLaws
 pub mod StackLaws
 pub mod JoinLaws
 pub mod Products
+pub mod Coverage
