@@ -10,3 +10,4 @@ pub mod StackLaws
 pub mod JoinLaws
 pub mod Products
 pub mod Coverage
+pub mod GraphicsOrders

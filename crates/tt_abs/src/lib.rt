@@ -2,6 +2,7 @@
 #![tactic(auto)]
 
 pub mod cells;
+pub mod graphics;
 pub mod laws;
 pub mod order;
 pub mod stack;

@@ -1,0 +1,47 @@
+//! The graphics state of cells.
+
+ghost use Rattle.tt_abs.specs.Orders.{IsLeastAbove};
+ghost use Rattle.tt_abs.specs.GraphicsOrders.{graphics_order};
+
+use crate::cells::{Cell, ZoneCell};
+use crate::order::{AbsFault, Order};
+use tt_code::Graphics;
+
+/// The least graphics state above both, part by part.
+pub fn joined_graphics(mine: &Graphics<Cell, ZoneCell>, theirs: &Graphics<Cell, ZoneCell>) -> Graphics<Cell, ZoneCell>
+    ensures { IsLeastAbove graphics_order mine.now theirs.now result }
+{
+    Graphics {
+        rp0: mine.rp0.joined(theirs.rp0),
+        rp1: mine.rp1.joined(theirs.rp1),
+        rp2: mine.rp2.joined(theirs.rp2),
+        zp0: mine.zp0.joined(theirs.zp0),
+        zp1: mine.zp1.joined(theirs.zp1),
+        zp2: mine.zp2.joined(theirs.zp2),
+        loop_number: mine.loop_number.joined(theirs.loop_number),
+    }
+}
+
+impl Order for Graphics<Cell, ZoneCell> {
+    ghost use Rattle.tt_abs.specs.GraphicsOrders.{graphics_order, graphics_laws};
+
+    ghost order = { graphics_order };
+
+    fn below(&self, other: &Graphics<Cell, ZoneCell>) -> bool {
+        self.rp0.below(&other.rp0)
+            && self.rp1.below(&other.rp1)
+            && self.rp2.below(&other.rp2)
+            && self.zp0.below(&other.zp0)
+            && self.zp1.below(&other.zp1)
+            && self.zp2.below(&other.zp2)
+            && self.loop_number.below(&other.loop_number)
+    }
+
+    fn join(&mut self, other: &Graphics<Cell, ZoneCell>) -> Result<bool, AbsFault> {
+        let changed = !other.below(self);
+        *self = joined_graphics(self, other);
+        Ok(changed)
+    }
+
+    ghost laws = { graphics_laws };
+}
