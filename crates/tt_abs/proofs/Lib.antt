@@ -1,2 +1,4 @@
 pub mod Reversed
+pub mod StackOrders
+pub mod CoverageLemmas
 pub mod Fronts

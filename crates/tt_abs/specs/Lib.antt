@@ -6,3 +6,10 @@ pub mod Covers
 pub mod Settings
 pub mod Stacks
 pub mod Taken
+pub mod CellOrders
+pub mod CellLaws
+pub mod StackLaws
+pub mod JoinLaws
+pub mod Products
+pub mod Coverage
+pub mod GraphicsOrders

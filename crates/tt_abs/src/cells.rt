@@ -1,5 +1,9 @@
 //! What is known of a number, and of a zone pointer.
 
+ghost use Rattle.tt_abs.specs.Orders.{IsLeastAbove};
+ghost use Rattle.tt_abs.specs.CellOrders.{cell_order, zone_order};
+
+use crate::order::{AbsFault, Order};
 use std::alloc::Global;
 use std::default::MadeWith;
 
@@ -25,4 +29,72 @@ impl MadeWith<Global> for Cell {
     fn made_with(_alloc: Global) -> Cell {
         Cell::Unknown
     }
+}
+
+impl Cell {
+    /// The least cell above both: what they have in common.
+    pub fn joined(self, other: Cell) -> Cell
+        ensures { IsLeastAbove cell_order self other result }
+    {
+        if self == other { self } else { Cell::Unknown }
+    }
+}
+
+impl Order for Cell {
+    ghost use Rattle.tt_abs.specs.CellOrders.{cell_order};
+    ghost use Rattle.tt_abs.specs.CellLaws.{cell_laws};
+
+    ghost order = { cell_order };
+
+    fn below(&self, other: &Cell) -> bool {
+        match (*self, *other) {
+            (Cell::Known(mine), Cell::Known(theirs)) => mine == theirs,
+            (Cell::Unknown, Cell::Known(_)) => false,
+            (_, Cell::Unknown) => true,
+        }
+    }
+
+    fn join(&mut self, other: &Cell) -> Result<bool, AbsFault> {
+        let changed = !other.below(self);
+        if changed {
+            *self = Cell::Unknown;
+        }
+        Ok(changed)
+    }
+
+    ghost laws = { cell_laws };
+}
+
+impl ZoneCell {
+    /// The least zone cell above both.
+    pub fn joined(self, other: ZoneCell) -> ZoneCell
+        ensures { IsLeastAbove zone_order self other result }
+    {
+        if self == other {
+            self
+        } else {
+            ZoneCell::Either
+        }
+    }
+}
+
+impl Order for ZoneCell {
+    ghost use Rattle.tt_abs.specs.CellOrders.{zone_order};
+    ghost use Rattle.tt_abs.specs.CellLaws.{zone_laws};
+
+    ghost order = { zone_order };
+
+    fn below(&self, other: &ZoneCell) -> bool {
+        *self == *other || *other == ZoneCell::Either
+    }
+
+    fn join(&mut self, other: &ZoneCell) -> Result<bool, AbsFault> {
+        let changed = !other.below(self);
+        if changed {
+            *self = ZoneCell::Either;
+        }
+        Ok(changed)
+    }
+
+    ghost laws = { zone_laws };
 }

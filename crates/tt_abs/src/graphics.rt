@@ -1,52 +1,47 @@
-//! Reading and setting reference points and zone pointers of which something is known.
+//! The graphics state of cells.
 
-ghost use Rattle.std.specs.Prelude.{◌≡◌};
-ghost use Rattle.tt_code.specs.States.{pointer as pointer_of, reference as reference_of, with_pointer, with_reference};
+ghost use Rattle.tt_abs.specs.Orders.{IsLeastAbove};
+ghost use Rattle.tt_abs.specs.GraphicsOrders.{graphics_order};
 
 use crate::cells::{Cell, ZoneCell};
+use crate::order::{AbsFault, Order};
 use tt_code::Graphics;
-use tt_code::kinds::{Pointer, Reference};
 
-/// The reference point.
-pub fn reference(graphics: &Graphics<Cell, ZoneCell>, reference: Reference) -> Cell
-    ensures { result ≡ reference_of reference graphics.now }
+/// The least graphics state above both, part by part.
+pub fn joined_graphics(mine: &Graphics<Cell, ZoneCell>, theirs: &Graphics<Cell, ZoneCell>) -> Graphics<Cell, ZoneCell>
+    ensures { IsLeastAbove graphics_order mine.now theirs.now result }
 {
-    match reference {
-        Reference::Rp0 => graphics.rp0,
-        Reference::Rp1 => graphics.rp1,
-        Reference::Rp2 => graphics.rp2,
+    Graphics {
+        rp0: mine.rp0.joined(theirs.rp0),
+        rp1: mine.rp1.joined(theirs.rp1),
+        rp2: mine.rp2.joined(theirs.rp2),
+        zp0: mine.zp0.joined(theirs.zp0),
+        zp1: mine.zp1.joined(theirs.zp1),
+        zp2: mine.zp2.joined(theirs.zp2),
+        loop_number: mine.loop_number.joined(theirs.loop_number),
     }
 }
 
-/// The zone that the pointer names.
-pub fn pointer(graphics: &Graphics<Cell, ZoneCell>, pointer: Pointer) -> ZoneCell
-    ensures { result ≡ pointer_of pointer graphics.now }
-{
-    match pointer {
-        Pointer::Zp0 => graphics.zp0,
-        Pointer::Zp1 => graphics.zp1,
-        Pointer::Zp2 => graphics.zp2,
-    }
-}
+impl Order for Graphics<Cell, ZoneCell> {
+    ghost use Rattle.tt_abs.specs.GraphicsOrders.{graphics_order, graphics_laws};
 
-/// Sets a reference point.
-pub fn set_reference(graphics: &mut Graphics<Cell, ZoneCell>, reference: Reference, cell: Cell)
-    ensures { graphics.new ≡ with_reference reference cell graphics.old }
-{
-    match reference {
-        Reference::Rp0 => graphics.rp0 = cell,
-        Reference::Rp1 => graphics.rp1 = cell,
-        Reference::Rp2 => graphics.rp2 = cell,
-    }
-}
+    ghost order = { graphics_order };
 
-/// Sets a zone pointer.
-pub fn set_pointer(graphics: &mut Graphics<Cell, ZoneCell>, pointer: Pointer, zone: ZoneCell)
-    ensures { graphics.new ≡ with_pointer pointer zone graphics.old }
-{
-    match pointer {
-        Pointer::Zp0 => graphics.zp0 = zone,
-        Pointer::Zp1 => graphics.zp1 = zone,
-        Pointer::Zp2 => graphics.zp2 = zone,
+    fn below(&self, other: &Graphics<Cell, ZoneCell>) -> bool {
+        self.rp0.below(&other.rp0)
+            && self.rp1.below(&other.rp1)
+            && self.rp2.below(&other.rp2)
+            && self.zp0.below(&other.zp0)
+            && self.zp1.below(&other.zp1)
+            && self.zp2.below(&other.zp2)
+            && self.loop_number.below(&other.loop_number)
     }
+
+    fn join(&mut self, other: &Graphics<Cell, ZoneCell>) -> Result<bool, AbsFault> {
+        let changed = !other.below(self);
+        *self = joined_graphics(self, other);
+        Ok(changed)
+    }
+
+    ghost laws = { graphics_laws };
 }

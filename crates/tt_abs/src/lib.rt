@@ -3,11 +3,13 @@
 
 mod arithmetic;
 pub mod cells;
-mod graphics;
+pub mod graphics;
+pub mod laws;
 mod operands;
 pub mod order;
 mod pushes;
 pub mod refusal;
+mod registers;
 pub mod setting;
 pub mod stack;
 
@@ -15,3 +17,4 @@ pub use cells::{Cell, ZoneCell};
 pub use order::{AbsFault, Order};
 pub use refusal::Refusal;
 pub use setting::{Kind, Point, Setting};
+pub use stack::Stack;

@@ -14,7 +14,7 @@ ghost use Rattle.tt_abs.specs.Taken.{TakesTo};
 ghost use Rattle.tt_abs.specs.Transfers.{is_below_in, is_point_in, known, known_count, take_cell, take_cells, test_cell_uses, tested_cell};
 
 use crate::cells::{Cell, ZoneCell};
-use crate::graphics::{pointer, reference};
+use crate::registers::{pointer, reference};
 use crate::setting::{Setting, is_index};
 use crate::stack::Stack;
 use tt_code::kinds::{Operand, Use, Within};

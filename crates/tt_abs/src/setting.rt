@@ -8,7 +8,7 @@ ghost use Rattle.tt_abs.specs.Settings.{setting_of};
 ghost use Rattle.tt_abs.specs.Transfers.{is_below_in, is_point_in};
 
 use crate::cells::{Cell, ZoneCell};
-use crate::graphics::pointer;
+use crate::registers::pointer;
 use tt_code::kinds::Within;
 use tt_code::{Frame, Graphics, Limits, Program};
 

@@ -1,9 +1,11 @@
 //! The stack of cells.
 
-ghost use Rattle.std.specs.Prelude.{◌≡◌, ◌<◌, ◌+◌, ◌^◌, [], ◌∷◌, length, drop, remove, IfSome, OnOk, OnErr, IfOk};
-ghost use Rattle.tt_abs.specs.Stacks.{first};
+ghost use Rattle.std.specs.Prelude.{◌≡◌, ℕ, ◌↔◌, ◌<◌, ◌+◌, ◌^◌, [], ◌∷◌, length, drop, remove, IsTrue, IfSome, OnOk, OnErr, IfOk};
+ghost use Rattle.tt_abs.specs.Orders.{IsLeastAbove};
+ghost use Rattle.tt_abs.specs.Stacks.{IsLeastCell, StackBelow, StackInRange, cell_at, first, stack_order};
 
 use crate::cells::Cell;
+use crate::order::{AbsFault, Order};
 use smallvec::SmallVec;
 use std::alloc::{AllocError, Global};
 use std::marker::Model;
@@ -21,6 +23,31 @@ impl Model for Stack {
     ghost Value = { List Cell };
 
     ghost view = { λ s. reverse s.cells.items };
+}
+
+/// Whether the cells are as many, and each is below its partner.
+fn cells_below(mine: &[Cell], theirs: &[Cell]) -> bool
+    ensures { IsTrue result ↔ StackBelow mine.now theirs.now }
+{
+    if mine.len() != theirs.len() {
+        return false;
+    }
+    for i in 0..mine.len() {
+        if !mine[i].below(&theirs[i]) {
+            return false;
+        }
+    }
+    true
+}
+
+/// Makes each cell the least one above it and its partner.
+fn join_cells(mine: &mut [Cell], theirs: &[Cell])
+    requires { length mine.old ≡ length theirs.now }
+    ensures { (k : ℕ) → IsLeastCell (cell_at mine.old k) (cell_at theirs.now k) (cell_at mine.new k) }
+{
+    for i in 0..mine.len() {
+        mine[i] = mine[i].joined(theirs[i]);
+    }
 }
 
 impl Stack {
@@ -94,4 +121,34 @@ impl Stack {
             cells: SmallVec::from_slice(*self.cells.allocator(), self.cells.as_slice())?,
         })
     }
+
+    /// Becomes the least stack above both, cell by cell, without memory.
+    pub fn raise(&mut self, other: &Stack)
+        requires { length self.old ≡ length other.now }
+        ensures { IsLeastAbove stack_order self.old other.now self.new }
+    {
+        join_cells(self.cells.as_mut_slice(), other.cells.as_slice());
+    }
+}
+
+impl Order for Stack {
+    ghost use Rattle.tt_abs.specs.Stacks.{stack_order};
+    ghost use Rattle.tt_abs.specs.StackLaws.{stack_laws};
+
+    ghost order = { stack_order };
+
+    fn below(&self, other: &Stack) -> bool {
+        cells_below(self.cells.as_slice(), other.cells.as_slice())
+    }
+
+    fn join(&mut self, other: &Stack) -> Result<bool, AbsFault> {
+        if self.len() != other.len() {
+            return Err(AbsFault::DepthMismatch);
+        }
+        let changed = !other.below(self);
+        self.raise(other);
+        Ok(changed)
+    }
+
+    ghost laws = { stack_laws };
 }

@@ -1,0 +1,11 @@
+use Rattle.tt_abs.proofs.CoverageLemmas.{CellBelow-coverage, ZoneBelow-coverage, StackBelow-coverage}
+use Rattle.tt_abs.proofs.laws.below_is_coverage.Goals as goal
+
+pub returns-clause-of_cells : goal.returns-clause-of_cells
+returns-clause-of_cells c = λ a b r _. CellBelow-coverage a b r
+
+pub returns-clause-of_zones : goal.returns-clause-of_zones
+returns-clause-of_zones c = λ a b _ _. ZoneBelow-coverage a b
+
+pub returns-clause-of_stacks : goal.returns-clause-of_stacks
+returns-clause-of_stacks c = λ a b r _. StackBelow-coverage a b r
