@@ -6,6 +6,8 @@ pub mod Covers
 pub mod Settings
 pub mod Stacks
 pub mod Taken
+pub mod Steps
+pub mod Computes
 pub mod CellOrders
 pub mod CellLaws
 pub mod StackLaws

@@ -2,6 +2,7 @@
 #![tactic(auto)]
 
 mod arithmetic;
+mod compute;
 pub mod cells;
 pub mod graphics;
 pub mod laws;
@@ -11,6 +12,7 @@ mod pushes;
 pub mod refusal;
 mod registers;
 pub mod setting;
+mod shuffles;
 pub mod stack;
 
 pub use cells::{Cell, ZoneCell};
