@@ -11,3 +11,4 @@ pub mod JoinLaws
 pub mod Products
 pub mod Coverage
 pub mod GraphicsOrders
+pub mod States

@@ -6,7 +6,9 @@ pub mod graphics;
 pub mod laws;
 pub mod order;
 pub mod stack;
+pub mod state;
 
 pub use cells::{Cell, ZoneCell};
 pub use order::{AbsFault, Order};
 pub use stack::Stack;
+pub use state::State;
