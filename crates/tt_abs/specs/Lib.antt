@@ -4,3 +4,5 @@ pub mod Entries
 pub mod Transfers
 pub mod Covers
 pub mod JoinLaws
+pub mod EntryLists
+pub mod EntryLaws

@@ -2,7 +2,9 @@
 #![tactic(auto)]
 
 pub mod cells;
+pub mod entries;
 pub mod order;
 
 pub use cells::{Cell, ZoneCell};
+pub use entries::{Entries, EntryValue};
 pub use order::{AbsFault, Order};
