@@ -1,3 +1,4 @@
 pub mod Reversed
 pub mod StackOrders
 pub mod CoverageLemmas
+pub mod EntryEdits

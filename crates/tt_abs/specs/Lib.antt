@@ -12,3 +12,5 @@ pub mod Products
 pub mod Coverage
 pub mod GraphicsOrders
 pub mod States
+pub mod EntryLists
+pub mod EntryLaws

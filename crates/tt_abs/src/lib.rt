@@ -2,6 +2,7 @@
 #![tactic(auto)]
 
 pub mod cells;
+pub mod entries;
 pub mod graphics;
 pub mod laws;
 pub mod order;
@@ -9,6 +10,7 @@ pub mod stack;
 pub mod state;
 
 pub use cells::{Cell, ZoneCell};
+pub use entries::{Entries, EntryValue};
 pub use order::{AbsFault, Order};
 pub use stack::Stack;
 pub use state::State;
