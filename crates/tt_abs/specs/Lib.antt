@@ -6,3 +6,5 @@ pub mod Covers
 pub mod JoinLaws
 pub mod EntryLists
 pub mod EntryLaws
+pub mod EntryFacts
+pub mod EntryCoverage
