@@ -14,3 +14,5 @@ pub mod GraphicsOrders
 pub mod States
 pub mod EntryLists
 pub mod EntryLaws
+pub mod EntryFacts
+pub mod EntryCoverage
