@@ -3,3 +3,4 @@ pub mod StackOrders
 pub mod CoverageLemmas
 pub mod Fronts
 pub mod StackSteps
+pub mod EntryEdits

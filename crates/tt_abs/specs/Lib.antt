@@ -15,3 +15,8 @@ pub mod JoinLaws
 pub mod Products
 pub mod Coverage
 pub mod GraphicsOrders
+pub mod States
+pub mod EntryLists
+pub mod EntryLaws
+pub mod EntryFacts
+pub mod EntryCoverage

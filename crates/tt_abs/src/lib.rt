@@ -4,6 +4,7 @@
 mod arithmetic;
 mod compute;
 pub mod cells;
+pub mod entries;
 pub mod graphics;
 pub mod laws;
 mod operands;
@@ -14,9 +15,12 @@ mod registers;
 pub mod setting;
 mod shuffles;
 pub mod stack;
+pub mod state;
 
 pub use cells::{Cell, ZoneCell};
+pub use entries::{Entries, EntryValue};
 pub use order::{AbsFault, Order};
 pub use refusal::Refusal;
 pub use setting::{Kind, Point, Setting};
 pub use stack::Stack;
+pub use state::State;

@@ -1,6 +1,6 @@
 //! The stack of cells.
 
-ghost use Rattle.std.specs.Prelude.{◌≡◌, ℕ, ◌↔◌, ◌<◌, ◌+◌, ◌^◌, [], ◌∷◌, length, drop, remove, IsTrue, IfSome, OnOk, OnErr, IfOk};
+ghost use Rattle.std.specs.Prelude.{◌≡◌, ℕ, ◌↔◌, ◌<◌, ◌+◌, ◌^◌, [], ◌∷◌, length, drop, remove, reverse, slice_get, IsTrue, IfSome, OnOk, OnErr, IfOk};
 ghost use Rattle.tt_abs.specs.Orders.{IsLeastAbove};
 ghost use Rattle.tt_abs.specs.Stacks.{IsLeastCell, StackBelow, StackInRange, cell_at, first, stack_order};
 
@@ -98,6 +98,13 @@ impl Stack {
         }
     }
 
+    /// The cell above so many others, if there is one: above 0 others is the bottom.
+    pub fn above(&self, others: usize) -> Option<Cell>
+        ensures { result ≡ slice_get (reverse self.now) others }
+    {
+        self.cells.as_slice().get(others).copied()
+    }
+
     /// Takes so many cells from the top away, or all of them if there are fewer.
     pub fn cut(&mut self, count: usize)
         ensures { self.new ≡ drop count self.old }
@@ -120,6 +127,11 @@ impl Stack {
         ensures { self.new ≡ [] }
     {
         self.cells.clear();
+    }
+
+    /// Where its memory comes from.
+    pub(crate) fn allocator(&self) -> Global {
+        *self.cells.allocator()
     }
 
     /// A stack of the same cells.

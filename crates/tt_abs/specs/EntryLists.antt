@@ -1,0 +1,53 @@
+-- The order of lists of entries by rising numbers: the list with fewer entries covers more.
+use Rattle.std.specs.Prelude.{◌≡◌, ℕ, zero, suc, ◌<◌, ⊤, Bool, false, ◌&&◌, nat_eq, if◌then◌else◌, List, [], ◌∷◌, Option, None, Some, length}
+use Rattle.std.specs.List.{AllByRecursion, filter}
+use Rattle.std.specs.Bool.{Decides}
+use Rattle.tt_abs.specs.Orders.{Order}
+use Rattle.tt_abs.specs.Entries.{Rises, listed}
+
+-- the test tells whether two values are equal
+abbrev pub IsEquality : {V : Type 0} → (V → V → Bool) → Type 0
+IsEquality {V} same = (v w : V) → Decides (same v w) (v ≡ w)
+
+-- the number stands at this index, behind smaller ones
+abbrev pub IsAt : {V : Type 0} → ℕ → List (ℕ × V) → ℕ → Type 0
+IsAt n [] i = ⊥
+IsAt n (e ∷ es) zero = e.0 ≡ n
+IsAt n (e ∷ es) (suc i) = (e.0 < n) × IsAt n es i
+
+-- the numbers before this index are smaller, and those from it on are greater
+abbrev pub IsGap : {V : Type 0} → ℕ → List (ℕ × V) → ℕ → Type 0
+IsGap n es zero = AllByRecursion (λ e. n < e.0) es
+IsGap n [] (suc i) = ⊥
+IsGap n (e ∷ es) (suc i) = (e.0 < n) × IsGap n es i
+
+-- the first list lists whatever the second does, with the same value
+abbrev pub EntriesBelow : {V : Type 0} → List (ℕ × V) → List (ℕ × V) → Type 0
+EntriesBelow {V} a b = (n : ℕ) (v : V) → listed b n ≡ Some v → listed a n ≡ Some v
+
+-- the numbers rise, and the values are in range
+pub record EntriesInRange {V : Type 0} (IsInRange : V → Type 0) (es : List (ℕ × V)) : Type 0 where
+  pub rises : Rises es
+  pub values : AllByRecursion (λ e. IsInRange e.1) es
+
+-- the entries behind the first, if that is this one, and all of them otherwise
+abbrev pub behind_entry : {V : Type 0} → (V → V → Bool) → ℕ × V → List (ℕ × V) → List (ℕ × V)
+behind_entry same e [] = []
+behind_entry same e (x ∷ xs) = if nat_eq x.0 e.0 && same x.1 e.1 then xs else x ∷ xs
+
+-- what is left of the second list when the first has gone by
+abbrev pub missing_entries : {V : Type 0} → (V → V → Bool) → List (ℕ × V) → List (ℕ × V) → List (ℕ × V)
+missing_entries same [] b = b
+missing_entries same (e ∷ es) b = missing_entries same es (behind_entry same e b)
+
+-- whether an option holds this value
+abbrev pub holds_value : {V : Type 0} → (V → V → Bool) → Option V → V → Bool
+holds_value same None v = false
+holds_value same (Some w) v = same w v
+
+-- the entries of the first list that the second has too
+abbrev pub common_entries : {V : Type 0} → (V → V → Bool) → List (ℕ × V) → List (ℕ × V) → List (ℕ × V)
+common_entries same a b = filter (λ e. holds_value same (listed b e.0) e.1) a
+
+abbrev pub entry_order : {V : Type 0} → (V → Type 0) → Order (List (ℕ × V))
+entry_order IsInRange = record { InRange = EntriesInRange IsInRange; Below = EntriesBelow; SameDepth = λ _ _. ⊤; left = length }

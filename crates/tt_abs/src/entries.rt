@@ -1,0 +1,260 @@
+//! Lists of entries by rising numbers: functions with their bodies, storage cells with their numbers.
+
+ghost use Rattle.std.specs.Prelude.{◌≡◌, ◌↔◌, ℕ, ◌<◌, ◌≤◌, List, [], ◌∷◌, IsTrue, IfOk, MatchResult, OnOk, OnErr, length};
+ghost use Rattle.std.specs.Option.{IsSome};
+ghost use Rattle.std.specs.Result.{IsOk};
+ghost use Rattle.std.specs.List.{insert};
+ghost use Rattle.tt_abs.specs.Orders.{IsLeastAbove};
+ghost use Rattle.tt_abs.specs.Entries.{Rises, listed, with_entry, without_entry};
+ghost use Rattle.tt_abs.specs.EntryLists.{IsEquality, IsAt, IsGap, EntriesBelow, EntriesInRange, entry_order, behind_entry, holds_value, common_entries};
+
+use crate::order::{AbsFault, Order};
+use std::alloc::{AllocError, Global};
+use std::marker::Model;
+
+/// At most so many entries are kept.
+const MOST_ENTRIES: usize = 65_535;
+
+/// A value of an entry: it is copied, and `==` tells equal values from others.
+pub trait EntryValue: Copy + PartialEq {
+    /// The values of the machine.
+    ghost is_in_range: { Self → Type 0 };
+
+    ghost decides: { IsEquality Self.eq };
+}
+
+impl EntryValue for u32 {
+    ghost use Rattle.std.specs.Prelude.{ℕ, ⊤};
+    ghost use Rattle.std.proofs.lemmas.Bool.Decides.{Decides-eqb};
+
+    ghost is_in_range = { λ _. ⊤ };
+
+    ghost decides = { Decides-eqb };
+}
+
+impl EntryValue for i32 {
+    ghost use Rattle.tt_code.specs.States.{IsNumber};
+    ghost use Rattle.std.proofs.lemmas.Bool.Decides.{Decides-int_eq};
+
+    ghost is_in_range = { IsNumber };
+
+    ghost decides = { Decides-int_eq };
+}
+
+/// Values by rising numbers, one for each number at most.
+#[derive(Drop)]
+pub struct Entries<T> {
+    entries: Vec<(u16, T)>,
+}
+
+impl<T> Model for Entries<T> {
+    ghost use Rattle.std.specs.Prelude.{List, ℕ};
+    ghost use Rattle.tt_abs.specs.Entries.{Rises as IsRising};
+
+    ghost Value = { List (ℕ × T) };
+
+    ghost view = { λ e. e.entries.items };
+
+    ghost invariant = { λ e. IsRising e.entries.items };
+}
+
+/// Where a number stands, or where it would.
+fn search<T>(entries: &[(u16, T)], number: u16) -> Result<usize, usize>
+    requires { Rises entries.now }
+    ensures place { MatchResult result (IsAt number entries.now) (IsGap number entries.now) }
+    ensures bound { MatchResult result (λ i. i < length entries.now) (λ i. i ≤ length entries.now) }
+{
+    entries.binary_search_by_key(&number, |entry| entry.0)
+}
+
+/// The value that is listed with a number.
+fn value_at<T: Copy>(entries: &[(u16, T)], number: u16) -> Option<T>
+    requires { Rises entries.now }
+    ensures { result ≡ listed entries.now number }
+{
+    match search(entries, number) {
+        Ok(at) => Some(entries[at].1),
+        Err(_) => None,
+    }
+}
+
+/// Puts an entry at a place, if there is room.
+fn insert_entry<T: Drop>(entries: &mut Vec<(u16, T)>, at: usize, entry: (u16, T)) -> Result<(), AllocError>
+    requires { at ≤ length entries.old.items }
+    ensures ok { OnOk result (entries.new.items ≡ insert entries.old.items at entry) }
+    ensures err { OnErr result (entries.new.items ≡ entries.old.items) }
+{
+    if entries.len() >= MOST_ENTRIES {
+        return Err(AllocError);
+    }
+    entries.insert(at, entry)?;
+    Ok(())
+}
+
+/// Puts an entry at its place, instead of one of its number.
+fn put_entry<T: Copy>(entries: &mut Vec<(u16, T)>, number: u16, value: T) -> Result<(), AllocError>
+    requires { Rises entries.old.items }
+    ensures ok { OnOk result (entries.new.items ≡ with_entry number value entries.old.items) }
+    ensures err { OnErr result (entries.new.items ≡ entries.old.items) }
+    ensures replaced { IsSome (listed entries.old.items number) → IsOk result }
+{
+    match search(entries.as_slice(), number) {
+        Ok(at) => {
+            entries[at] = (number, value);
+            Ok(())
+        }
+        Err(at) => insert_entry(entries, at, (number, value)),
+    }
+}
+
+/// Takes the entry of a number away.
+fn remove_entry<T: Copy>(entries: &mut Vec<(u16, T)>, number: u16)
+    requires { Rises entries.old.items }
+    ensures { entries.new.items ≡ without_entry number entries.old.items }
+{
+    if let Ok(at) = search(entries.as_slice(), number) {
+        entries.remove(at);
+    }
+}
+
+/// The entries behind the first, if that is this one, and all of them otherwise.
+fn behind<'a, T: EntryValue>(entries: &'a [(u16, T)], entry: &(u16, T)) -> &'a [(u16, T)]
+    ensures { result.now ≡ behind_entry T.eq entry.now entries.now }
+{
+    match entries {
+        [first, rest @ ..] if first.0 == entry.0 && first.1 == entry.1 => rest,
+        _ => entries,
+    }
+}
+
+/// Whether the first list has all the entries of the second.
+fn lists_all<T: EntryValue>(mine: &[(u16, T)], theirs: &[(u16, T)]) -> bool
+    requires mine_rise { Rises mine.now }
+    requires theirs_rise { Rises theirs.now }
+    ensures { IsTrue result ↔ EntriesBelow mine.now theirs.now }
+{
+    let mut missing = theirs;
+    for entry in mine {
+        missing = behind(missing, entry);
+    }
+    missing.is_empty()
+}
+
+/// Whether the list has the entry.
+fn lists<T: EntryValue>(entries: &[(u16, T)], entry: &(u16, T)) -> bool
+    requires { Rises entries.now }
+    ensures { result ≡ holds_value T.eq (listed entries.now entry.now.0) entry.now.1 }
+{
+    match value_at(entries, entry.0) {
+        Some(value) => value == entry.1,
+        None => false,
+    }
+}
+
+/// Keeps the entries that the other list has too.
+fn keep_common<T: EntryValue>(mine: &mut Vec<(u16, T)>, theirs: &[(u16, T)])
+    requires { Rises theirs.now }
+    ensures { mine.new.items ≡ common_entries T.eq mine.old.items theirs.now }
+{
+    mine.retain(|entry| lists(theirs, entry));
+}
+
+impl<T: Copy> Entries<T> {
+    /// No entries. Takes no memory.
+    pub fn new(alloc: Global) -> Entries<T>
+        ensures { result ≡ [] }
+    {
+        Entries {
+            entries: Vec::new(alloc),
+        }
+    }
+
+    /// A list of these entries.
+    ///
+    /// # Errors
+    /// If memory runs out.
+    pub fn from_slice(alloc: Global, entries: &[(u16, T)]) -> Result<Entries<T>, AllocError>
+        requires { Rises entries.now }
+        ensures { IfOk result (λ made. made ≡ entries.now) }
+    {
+        Ok(Entries {
+            entries: Vec::from_slice(alloc, entries)?,
+        })
+    }
+
+    /// A list with the same entries.
+    ///
+    /// # Errors
+    /// If memory runs out.
+    pub fn copied(&self, alloc: Global) -> Result<Entries<T>, AllocError>
+        ensures { IfOk result (λ copy. copy ≡ self.now) }
+    {
+        Entries::from_slice(alloc, self.entries.as_slice())
+    }
+
+    /// The entries, by rising numbers.
+    pub fn as_slice(&self) -> &[(u16, T)]
+        ensures value { result.now ≡ self.now }
+        ensures rises { Rises result.now }
+    {
+        self.entries.as_slice()
+    }
+
+    /// The value that is listed with a number.
+    pub fn get(&self, number: u16) -> Option<T>
+        ensures { result ≡ listed self.now number }
+    {
+        value_at(self.entries.as_slice(), number)
+    }
+
+    /// Puts an entry at its place, instead of one of its number.
+    ///
+    /// # Errors
+    /// If memory runs out, or there are 65,535 other entries; then the list stays as it is. An entry of a number that is listed is
+    /// never refused.
+    pub fn put(&mut self, number: u16, value: T) -> Result<(), AllocError>
+        ensures ok { OnOk result (self.new ≡ with_entry number value self.old) }
+        ensures err { OnErr result (self.new ≡ self.old) }
+        ensures replaced { IsSome (listed self.old number) → IsOk result }
+    {
+        put_entry(&mut self.entries, number, value)
+    }
+
+    /// Takes the entry of a number away. Takes no memory.
+    pub fn remove(&mut self, number: u16)
+        ensures { self.new ≡ without_entry number self.old }
+    {
+        remove_entry(&mut self.entries, number)
+    }
+}
+
+impl<T: EntryValue> Entries<T> {
+    /// Keeps the entries that both have.
+    fn keep(&mut self, other: &Entries<T>)
+        requires { EntriesInRange T.is_in_range self.old }
+        ensures { IsLeastAbove (entry_order T.is_in_range) self.old other.now self.new }
+    {
+        keep_common(&mut self.entries, other.entries.as_slice());
+    }
+}
+
+impl<T: EntryValue> Order for Entries<T> {
+    ghost use Rattle.tt_abs.specs.EntryLists.{entry_order};
+    ghost use Rattle.tt_abs.specs.EntryLaws.{entry_laws};
+
+    ghost order = { entry_order T.is_in_range };
+
+    ghost laws = { entry_laws T.is_in_range };
+
+    fn below(&self, other: &Entries<T>) -> bool {
+        lists_all(self.entries.as_slice(), other.entries.as_slice())
+    }
+
+    fn join(&mut self, other: &Entries<T>) -> Result<bool, AbsFault> {
+        let changed = !other.below(self);
+        if changed {
+            self.keep(other);
+        }
+        Ok(changed)
+    }
+}

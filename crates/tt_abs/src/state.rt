@@ -1,0 +1,229 @@
+//! Abstract states: what is known of a hint machine's state.
+
+use crate::cells::{Cell, ZoneCell};
+use crate::entries::Entries;
+use crate::graphics::joined_graphics;
+use crate::order::{AbsFault, Order};
+use crate::stack::Stack;
+use std::alloc::{AllocError, Global};
+use tt_code::Graphics;
+use tt_code::kinds::{Pointer, Reference};
+
+/// What is known of a machine's state, where it stands and its calls aside.
+#[derive(Drop)]
+pub struct State {
+    stack: Stack,
+    graphics: Graphics<Cell, ZoneCell>,
+    /// The functions that are known, each with its body.
+    functions: Entries<u32>,
+    /// The storage cells that are known, each with its number.
+    storage: Entries<i32>,
+}
+
+/// The graphics state with which every program starts.
+const DEFAULT: Graphics<Cell, ZoneCell> = Graphics {
+    rp0: Cell::Known(0),
+    rp1: Cell::Known(0),
+    rp2: Cell::Known(0),
+    zp0: ZoneCell::One,
+    zp1: ZoneCell::One,
+    zp2: ZoneCell::One,
+    loop_number: Cell::Known(1),
+};
+
+impl State {
+    ghost use Rattle.std.specs.Prelude.{◌≡◌, ◌<◌, ◌∷◌, length, reverse, slice_get, IfOk, OnOk, OnErr};
+    ghost use Rattle.tt_code.specs.States.{pointer, reference, with_pointer, with_reference};
+    ghost use Rattle.tt_abs.specs.Entries.{Rises, storage_of, with_cell, with_entry};
+    ghost use Rattle.tt_abs.specs.States.{start_of};
+
+    /// The state in which a program starts: an empty stack, the default graphics state, and these functions, by rising
+    /// numbers, each with its body. Of the storage area nothing is known.
+    ///
+    /// # Errors
+    /// If memory runs out.
+    pub fn start(alloc: Global, functions: &[(u16, u32)]) -> Result<State, AllocError>
+        requires { Rises functions.now }
+        ensures { IfOk result (λ state. state ≡ start_of functions.now) }
+    {
+        Ok(State {
+            stack: Stack::new(alloc),
+            graphics: DEFAULT,
+            functions: Entries::from_slice(alloc, functions)?,
+            storage: Entries::new(alloc),
+        })
+    }
+
+    /// The same state once more.
+    ///
+    /// # Errors
+    /// If memory runs out.
+    pub fn copied(&self) -> Result<State, AllocError>
+        ensures { IfOk result (λ copy. copy ≡ self.now) }
+    {
+        let alloc = self.stack.allocator();
+        Ok(State {
+            stack: self.stack.copied()?,
+            graphics: self.graphics,
+            functions: self.functions.copied(alloc)?,
+            storage: self.storage.copied(alloc)?,
+        })
+    }
+
+    /// How many cells the stack has.
+    pub fn depth(&self) -> usize
+        ensures { result ≡ length self.now.stack }
+    {
+        self.stack.len()
+    }
+
+    /// A cell of the stack, by its place from the bottom: 0 is the bottom.
+    pub fn cell(&self, place: usize) -> Option<Cell>
+        ensures { result ≡ slice_get (reverse self.now.stack) place }
+    {
+        self.stack.above(place)
+    }
+
+    /// What is known of a reference point.
+    pub fn rp(&self, which: Reference) -> Cell
+        ensures { result ≡ reference which self.now.graphics }
+    {
+        match which {
+            Reference::Rp0 => self.graphics.rp0,
+            Reference::Rp1 => self.graphics.rp1,
+            Reference::Rp2 => self.graphics.rp2,
+        }
+    }
+
+    /// What is known of a zone pointer.
+    pub fn zone(&self, which: Pointer) -> ZoneCell
+        ensures { result ≡ pointer which self.now.graphics }
+    {
+        match which {
+            Pointer::Zp0 => self.graphics.zp0,
+            Pointer::Zp1 => self.graphics.zp1,
+            Pointer::Zp2 => self.graphics.zp2,
+        }
+    }
+
+    /// What is known of the loop number.
+    pub fn loop_cell(&self) -> Cell
+        ensures { result ≡ self.now.graphics.loop_number }
+    {
+        self.graphics.loop_number
+    }
+
+    /// The functions that are known, by rising numbers, each with its body.
+    pub fn functions(&self) -> &[(u16, u32)]
+        ensures value { result.now ≡ self.now.functions }
+        ensures rises { Rises result.now }
+    {
+        self.functions.as_slice()
+    }
+
+    /// What is known of a storage cell.
+    pub fn storage(&self, index: u16) -> Cell
+        ensures { result ≡ storage_of self.now.storage index }
+    {
+        match self.storage.get(index) {
+            Some(number) => Cell::Known(number),
+            None => Cell::Unknown,
+        }
+    }
+
+    /// Puts a cell on the stack, which has fewer than 65,535.
+    ///
+    /// # Errors
+    /// If memory runs out; then the state stays as it is.
+    pub fn push(&mut self, cell: Cell) -> Result<(), AllocError>
+        requires { length self.old.stack < 65535 }
+        ensures ok { OnOk result (self.new ≡ record self.old { stack = cell ∷ self.old.stack }) }
+        ensures err { OnErr result (self.new ≡ self.old) }
+    {
+        self.stack.push(cell)
+    }
+
+    /// Sets what is known of a reference point.
+    pub fn set_rp(&mut self, which: Reference, cell: Cell)
+        ensures { self.new ≡ record self.old { graphics = with_reference which cell self.old.graphics } }
+    {
+        match which {
+            Reference::Rp0 => self.graphics.rp0 = cell,
+            Reference::Rp1 => self.graphics.rp1 = cell,
+            Reference::Rp2 => self.graphics.rp2 = cell,
+        }
+    }
+
+    /// Sets what is known of a zone pointer.
+    pub fn set_zone(&mut self, which: Pointer, zone: ZoneCell)
+        ensures { self.new ≡ record self.old { graphics = with_pointer which zone self.old.graphics } }
+    {
+        match which {
+            Pointer::Zp0 => self.graphics.zp0 = zone,
+            Pointer::Zp1 => self.graphics.zp1 = zone,
+            Pointer::Zp2 => self.graphics.zp2 = zone,
+        }
+    }
+
+    /// Sets what is known of the loop number.
+    pub fn set_loop(&mut self, cell: Cell)
+        ensures { self.new ≡ record self.old { graphics = record self.old.graphics { loop_number = cell } } }
+    {
+        self.graphics.loop_number = cell;
+    }
+
+    /// Makes a function known by its number, with its body, instead of another one of the number.
+    ///
+    /// # Errors
+    /// If memory runs out, or there are 65,535 other functions; then the state stays as it is.
+    pub fn define(&mut self, number: u16, body: u32) -> Result<(), AllocError>
+        ensures ok { OnOk result (self.new ≡ record self.old { functions = with_entry number body self.old.functions }) }
+        ensures err { OnErr result (self.new ≡ self.old) }
+    {
+        self.functions.put(number, body)
+    }
+
+    /// Sets what is known of a storage cell.
+    ///
+    /// # Errors
+    /// If memory runs out, or 65,535 other cells are known; then the state stays as it is.
+    pub fn set_storage(&mut self, index: u16, cell: Cell) -> Result<(), AllocError>
+        ensures ok { OnOk result (self.new ≡ record self.old { storage = with_cell index cell self.old.storage }) }
+        ensures err { OnErr result (self.new ≡ self.old) }
+    {
+        match cell {
+            Cell::Known(number) => self.storage.put(index, number),
+            Cell::Unknown => {
+                self.storage.remove(index);
+                Ok(())
+            }
+        }
+    }
+}
+
+impl Order for State {
+    ghost use Rattle.tt_abs.specs.States.{state_order, state_laws};
+
+    ghost order = { state_order };
+
+    fn below(&self, other: &State) -> bool {
+        self.stack.below(&other.stack)
+            && self.graphics.below(&other.graphics)
+            && self.functions.below(&other.functions)
+            && self.storage.below(&other.storage)
+    }
+
+    fn join(&mut self, other: &State) -> Result<bool, AbsFault> {
+        if self.stack.len() != other.stack.len() {
+            return Err(AbsFault::DepthMismatch);
+        }
+        let changed = !other.below(self);
+        self.stack.raise(&other.stack);
+        self.graphics = joined_graphics(&self.graphics, &other.graphics);
+        self.functions.join(&other.functions)?;
+        self.storage.join(&other.storage)?;
+        Ok(changed)
+    }
+
+    ghost laws = { state_laws };
+}
