@@ -2,5 +2,8 @@ pub mod Choosing
 pub mod Bests
 pub mod Machines
 pub mod Takes
+pub mod Rows
 pub mod Plain
 pub mod TableRows
+pub mod Ways
+pub mod Depth

@@ -2,7 +2,7 @@
 use Rattle.std.proofs.Common.{◌≡◌, ℕ, List, [], ◌∷◌, refl, sym, ◌∙◌, ap, Bool, true, false}
 use Rattle.std.specs.Prelude.{◌&&◌, if◌then◌else◌}
 use Rattle.tt_code.specs.Table.{Meaning, Plain, Lists, Line, table, meaning_in, effect_of, is_among}
-use Rattle.tt_abs.specs.Rows.{is_readable_line}
+use Rattle.tt_abs.proofs.Rows.{is_readable_line}
 
 abbrev is_readable_meaning : Meaning → Bool
 is_readable_meaning (Plain line) = is_readable_line line

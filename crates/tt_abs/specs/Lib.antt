@@ -3,4 +3,3 @@ pub mod Cells
 pub mod Entries
 pub mod Transfers
 pub mod Covers
-pub mod Rows

@@ -31,6 +31,7 @@ is_known_at [] i = false
 is_known_at (o ∷ os) zero = is_tested o
 is_known_at (o ∷ os) (suc i) = is_single o && is_known_at os i
 
+-- what the update looks into, beside what it copies, is an operand that must be known
 abbrev pub is_readable : List Operand → Update → Bool
 is_readable os (update.SetPointer p i) = is_known_at os i
 is_readable os (update.Store i v) = is_known_at os i
@@ -42,6 +43,7 @@ abbrev pub are_readable : List Operand → List Update → Bool
 are_readable os [] = true
 are_readable os (u ∷ us) = is_readable os u && are_readable os us
 
+-- the index that is read in the storage area is an operand that must be known
 abbrev pub is_readable_push : List Operand → Pushed → Bool
 is_readable_push os (pushed.Stored i) = is_known_at os i
 is_readable_push os pushed.Any = true
@@ -50,5 +52,6 @@ abbrev pub are_readable_pushes : List Operand → List Pushed → Bool
 are_readable_pushes os [] = true
 are_readable_pushes os (p ∷ ps) = is_readable_push os p && are_readable_pushes os ps
 
+-- what the line looks into are operands that must be known
 abbrev pub is_readable_line : Lists → Bool
 is_readable_line line = are_readable line.operands line.updates && are_readable_pushes line.operands line.pushes
