@@ -7,3 +7,4 @@ pub mod Plain
 pub mod TableRows
 pub mod Ways
 pub mod Depth
+pub mod Branches
