@@ -4,3 +4,4 @@ pub mod Machines
 pub mod Takes
 pub mod Plain
 pub mod TableRows
+pub mod Arithmetic
