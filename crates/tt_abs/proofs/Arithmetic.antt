@@ -11,25 +11,8 @@ use Rattle.tt_abs.specs.Cells.{Covers}
 use Rattle.tt_abs.specs.Covers.{IsBestFor}
 use Rattle.tt_abs.specs.Ranges.{IsInRange}
 use Rattle.tt_abs.specs.Transfers.{exact_cell, truth_cell, of_known, of_both_known, lt_cells, le_cells, and_cells, or_cells, only_if, LEAST, GREATEST}
-
--- the same values, and the same cell
-best_same : {X : Type 0} (In : X → Type 0) (f g : X → ℤ) (c : Cell) → ((x : X) → In x → g x ≡ f x) → IsBestFor In f c → IsBestFor In g c
-best_same In f g (Known k) e h = (λ x i. e x i ∙ h.0 x i, h.1)
-best_same In f g Unknown e h =
-    let (x, y, i, j, apart) = h.1 in
-    let N : ℤ → Type 0 = λ z. IsNumber z in
-    (λ z k. subst N (sym (e z k)) (h.0 z k), (x, y, i, j, λ same. apart (sym (e x i) ∙ same ∙ e y j)))
-
--- what is best for the values of f is best for those along a map that reaches all
-best_along : {X Y : Type 0} (In : X → Type 0) (Of : Y → Type 0) (p : X → Y) (f : Y → ℤ) (c : Cell)
-    → ((x : X) → In x → Of (p x)) → ((y : Y) → Of y → (x : X) × In x × (p x ≡ y)) → IsBestFor Of f c → IsBestFor In (λ x. f (p x)) c
-best_along In Of p f (Known k) into onto h =
-    let (x, i, e) = onto h.1.0 h.1.1 in (λ x i. h.0 (p x) (into x i), (x, i))
-best_along In Of p f Unknown into onto h =
-    let (y, z, i, j, apart) = h.1 in
-    let (u, iu, eu) = onto y i in
-    let (v, iv, ev) = onto z j in
-    (λ x i. h.0 (p x) (into x i), (u, v, iu, iv, λ same. apart (ap f (sym eu) ∙ same ∙ ap f ev)))
+use Rattle.tt_abs.proofs.Choosing.{zero_is_number, one_is_number}
+use Rattle.tt_abs.proofs.Bests.{best_same, best_along}
 
 -- What is pushed, by what it is computed from and by the number that is chosen where any may be pushed.
 
@@ -58,12 +41,6 @@ IsBestOfTwo f c u r = IsBestValue (CoversTwo c u) (λ x. f x.0 x.1) r
 
 -- Numbers.
 
-pub zero_fits : IsNumber (pos 0)
-zero_fits = search rules
-
-pub one_fits : IsNumber (pos 1)
-one_fits = search rules
-
 least_fits : IsNumber LEAST
 least_fits = search rules
 
@@ -82,23 +59,23 @@ exact_number z c h = go (is_number z) refl
     go false e = rw e h
 
 truth_number : (b : Bool) (c : ℤ) → IsNumber (value (truth b) c)
-truth_number true c = one_fits
-truth_number false c = zero_fits
+truth_number true c = one_is_number
+truth_number false c = zero_is_number
 
 other : (y : ℤ) → (c : ℤ) × IsNumber c × (y ≡ c → ⊥)
-other (pos zero) = (pos 1, one_fits, λ e. cc)
-other (pos (suc n)) = (pos 0, zero_fits, λ e. cc)
-other (negsuc n) = (pos 0, zero_fits, λ e. cc)
+other (pos zero) = (pos 1, one_is_number, λ e. cc)
+other (pos (suc n)) = (pos 0, zero_is_number, λ e. cc)
+other (negsuc n) = (pos 0, zero_is_number, λ e. cc)
 
 -- different results can be told apart, for some choices
 exact_apart : (y z : ℤ) → (y ≡ z → ⊥) → (c : ℤ) × (d : ℤ) × IsNumber c × IsNumber d × (value (exact y) c ≡ value (exact z) d → ⊥)
 exact_apart y z apart = go (is_number y) refl (is_number z) refl
   where
     go : (b : Bool) → is_number y ≡ b → (b' : Bool) → is_number z ≡ b' → (c : ℤ) × (d : ℤ) × IsNumber c × IsNumber d × (value (exact y) c ≡ value (exact z) d → ⊥)
-    go true e true f = (pos 0, pos 0, zero_fits, zero_fits, rw (e, f) apart)
-    go true e false f = let (d, h, ne) = other y in (pos 0, d, zero_fits, h, rw (e, f) ne)
-    go false e true f = let (c, h, ne) = other z in (c, pos 0, h, zero_fits, rw (e, f) (λ s. ne (sym s)))
-    go false e false f = (pos 0, pos 1, zero_fits, one_fits, rw (e, f) (λ s. cc))
+    go true e true f = (pos 0, pos 0, zero_is_number, zero_is_number, rw (e, f) apart)
+    go true e false f = let (d, h, ne) = other y in (pos 0, d, zero_is_number, h, rw (e, f) ne)
+    go false e true f = let (c, h, ne) = other z in (c, pos 0, h, zero_is_number, rw (e, f) (λ s. ne (sym s)))
+    go false e false f = (pos 0, pos 1, zero_is_number, one_is_number, rw (e, f) (λ s. cc))
 
 -- Exact results and truth values: known where all are the same, unknown where two differ.
 
@@ -106,12 +83,12 @@ one_exact : {X : Type 0} (In : X → Type 0) (z : ℤ) (x : X) → In x → IsBe
 one_exact {X} In z x h = go (is_number z) refl
   where
     go : (b : Bool) → is_number z ≡ b → IsBestValue In (λ y. exact z) (exact_cell z)
-    go true e = rw e ((λ x o. refl), ((x, pos 0), record { operands = h; choice = zero_fits }))
-    go false e = rw e ((λ x o. o.choice), ((x, pos 0), (x, pos 1), record { operands = h; choice = zero_fits }, record { operands = h; choice = one_fits }, λ s. cc))
+    go true e = rw e ((λ x o. refl), ((x, pos 0), record { operands = h; choice = zero_is_number }))
+    go false e = rw e ((λ x o. o.choice), ((x, pos 0), (x, pos 1), record { operands = h; choice = zero_is_number }, record { operands = h; choice = one_is_number }, λ s. cc))
 
 one_truth : {X : Type 0} (In : X → Type 0) (b : Bool) (x : X) → In x → IsBestValue In (λ y. truth b) (truth_cell b)
-one_truth In true x h = ((λ x o. refl), ((x, pos 0), record { operands = h; choice = zero_fits }))
-one_truth In false x h = ((λ x o. refl), ((x, pos 0), record { operands = h; choice = zero_fits }))
+one_truth In true x h = ((λ x o. refl), ((x, pos 0), record { operands = h; choice = zero_is_number }))
+one_truth In false x h = ((λ x o. refl), ((x, pos 0), record { operands = h; choice = zero_is_number }))
 
 exact_same : {X : Type 0} (In : X → Type 0) (g : X → ℤ) (x : X) → In x → ((y : X) → In y → g y ≡ g x) → IsBestValue In (λ y. exact (g y)) (exact_cell (g x))
 exact_same In g x h same =
@@ -129,7 +106,7 @@ exact_unknown In g x y h i apart =
 truth_unknown : {X : Type 0} (In : X → Type 0) (g : X → Bool) (x y : X) → In x → In y → g x ≡ true → g y ≡ false → IsBestValue In (λ y. truth (g y)) Unknown
 truth_unknown In g x y h i passes fails =
     ((λ z w. truth_number (g z.0) z.1),
-     ((x, pos 0), (y, pos 0), record { operands = h; choice = zero_fits }, record { operands = i; choice = zero_fits }, rw (passes, fails) (λ s. cc)))
+     ((x, pos 0), (y, pos 0), record { operands = h; choice = zero_is_number }, record { operands = i; choice = zero_is_number }, rw (passes, fails) (λ s. cc)))
 
 -- The same of one operand's cell, and of two.
 
@@ -176,29 +153,29 @@ difference_left k e = omega (arith, ints)
 
 pub add_best : (c u : Cell) → IsBestOfTwo (λ a b. exact (a +ℤ b)) c u (of_both_known (λ a b. exact_cell (a +ℤ b)) c u)
 add_best (Known k) (Known l) = two_known (λ a b. a +ℤ b) k l
-add_best (Known k) Unknown = two_unknown (Known k) Unknown (λ a b. a +ℤ b) k (pos 0) k (pos 1) refl zero_fits refl one_fits (sum_right k)
-add_best Unknown (Known l) = two_unknown Unknown (Known l) (λ a b. a +ℤ b) (pos 0) l (pos 1) l zero_fits refl one_fits refl (sum_left l)
-add_best Unknown Unknown = two_unknown Unknown Unknown (λ a b. a +ℤ b) (pos 0) (pos 0) (pos 0) (pos 1) zero_fits zero_fits zero_fits one_fits (sum_right (pos 0))
+add_best (Known k) Unknown = two_unknown (Known k) Unknown (λ a b. a +ℤ b) k (pos 0) k (pos 1) refl zero_is_number refl one_is_number (sum_right k)
+add_best Unknown (Known l) = two_unknown Unknown (Known l) (λ a b. a +ℤ b) (pos 0) l (pos 1) l zero_is_number refl one_is_number refl (sum_left l)
+add_best Unknown Unknown = two_unknown Unknown Unknown (λ a b. a +ℤ b) (pos 0) (pos 0) (pos 0) (pos 1) zero_is_number zero_is_number zero_is_number one_is_number (sum_right (pos 0))
 
 pub sub_best : (c u : Cell) → IsBestOfTwo (λ a b. exact (a -ℤ b)) c u (of_both_known (λ a b. exact_cell (a -ℤ b)) c u)
 sub_best (Known k) (Known l) = two_known (λ a b. a -ℤ b) k l
-sub_best (Known k) Unknown = two_unknown (Known k) Unknown (λ a b. a -ℤ b) k (pos 0) k (pos 1) refl zero_fits refl one_fits (difference_right k)
-sub_best Unknown (Known l) = two_unknown Unknown (Known l) (λ a b. a -ℤ b) (pos 0) l (pos 1) l zero_fits refl one_fits refl (difference_left l)
-sub_best Unknown Unknown = two_unknown Unknown Unknown (λ a b. a -ℤ b) (pos 0) (pos 0) (pos 0) (pos 1) zero_fits zero_fits zero_fits one_fits (difference_right (pos 0))
+sub_best (Known k) Unknown = two_unknown (Known k) Unknown (λ a b. a -ℤ b) k (pos 0) k (pos 1) refl zero_is_number refl one_is_number (difference_right k)
+sub_best Unknown (Known l) = two_unknown Unknown (Known l) (λ a b. a -ℤ b) (pos 0) l (pos 1) l zero_is_number refl one_is_number refl (difference_left l)
+sub_best Unknown Unknown = two_unknown Unknown Unknown (λ a b. a -ℤ b) (pos 0) (pos 0) (pos 0) (pos 1) zero_is_number zero_is_number zero_is_number one_is_number (difference_right (pos 0))
 
 -- ABS, NEG and NOT.
 
 pub abs_best : (c : Cell) → IsBestOfOne (λ a. exact (absolute a)) c (of_known (λ a. exact_cell (absolute a)) c)
 abs_best (Known k) = one_known absolute k
-abs_best Unknown = exact_unknown (λ n. Covers Unknown n) absolute (pos 0) (pos 1) zero_fits one_fits (λ e. cc)
+abs_best Unknown = exact_unknown (λ n. Covers Unknown n) absolute (pos 0) (pos 1) zero_is_number one_is_number (λ e. cc)
 
 pub neg_best : (c : Cell) → IsBestOfOne (λ a. exact (neg_ℤ a)) c (of_known (λ a. exact_cell (neg_ℤ a)) c)
 neg_best (Known k) = one_known neg_ℤ k
-neg_best Unknown = exact_unknown (λ n. Covers Unknown n) neg_ℤ (pos 0) (pos 1) zero_fits one_fits (λ e. cc)
+neg_best Unknown = exact_unknown (λ n. Covers Unknown n) neg_ℤ (pos 0) (pos 1) zero_is_number one_is_number (λ e. cc)
 
 pub not_best : (c : Cell) → IsBestOfOne (λ a. truth (not (is_true a))) c (of_known (λ a. truth_cell (not (is_true a))) c)
 not_best (Known k) = truth_same (λ n. Covers (Known k) n) (λ a. not (is_true a)) (not (is_true k)) k refl (λ m e. rw e refl)
-not_best Unknown = truth_unknown (λ n. Covers Unknown n) (λ a. not (is_true a)) (pos 0) (pos 1) zero_fits one_fits refl refl
+not_best Unknown = truth_unknown (λ n. Covers Unknown n) (λ a. not (is_true a)) (pos 0) (pos 1) zero_is_number one_is_number refl refl
 
 -- EQ and NEQ.
 
@@ -221,7 +198,7 @@ pub eq_best : (c u : Cell) → IsInRange c → IsInRange u → IsBestOfTwo (λ a
 eq_best (Known k) (Known l) r s = two_truths equal k l
 eq_best (Known k) Unknown r s = let (d, h, ne) = other k in undecided (Known k) Unknown equal k k k d refl r refl h (equal_self k) (equal_other k d ne)
 eq_best Unknown (Known l) r s = let (d, h, ne) = other l in undecided Unknown (Known l) equal l l d l s refl h refl (equal_self l) (equal_other_left l d ne)
-eq_best Unknown Unknown r s = undecided Unknown Unknown equal (pos 0) (pos 0) (pos 0) (pos 1) zero_fits zero_fits zero_fits one_fits refl refl
+eq_best Unknown Unknown r s = undecided Unknown Unknown equal (pos 0) (pos 0) (pos 0) (pos 1) zero_is_number zero_is_number zero_is_number one_is_number refl refl
 
 pub neq_best : (c u : Cell) → IsInRange c → IsInRange u → IsBestOfTwo (λ a b. truth (not (equal a b))) c u (of_both_known (λ a b. truth_cell (not (equal a b))) c u)
 neq_best (Known k) (Known l) r s = two_truths (λ a b. not (equal a b)) k l
@@ -231,7 +208,7 @@ neq_best (Known k) Unknown r s =
 neq_best Unknown (Known l) r s =
     let (d, h, ne) = other l in
     undecided Unknown (Known l) (λ a b. not (equal a b)) d l l l h refl s refl (ap not (equal_other_left l d ne)) (ap not (equal_self l))
-neq_best Unknown Unknown r s = undecided Unknown Unknown (λ a b. not (equal a b)) (pos 0) (pos 1) (pos 0) (pos 0) zero_fits one_fits zero_fits zero_fits refl refl
+neq_best Unknown Unknown r s = undecided Unknown Unknown (λ a b. not (equal a b)) (pos 0) (pos 1) (pos 0) (pos 0) zero_is_number one_is_number zero_is_number zero_is_number refl refl
 
 -- LT, and GT by swapping.
 
@@ -252,14 +229,14 @@ lt_best (Known k) (Known l) r s = two_truths int_lt k l
 lt_best Unknown (Known l) r s = go (equal l LEAST) refl
   where
     go : (b : Bool) → equal l LEAST ≡ b → IsBestOfTwo (λ a b. truth (int_lt a b)) Unknown (Known l) (only_if b (truth_cell false))
-    go true e = decided Unknown (Known l) int_lt false (pos 0) l zero_fits refl (λ m n h f. rw (f, equal_is l LEAST e) (below_least m h))
+    go true e = decided Unknown (Known l) int_lt false (pos 0) l zero_is_number refl (λ m n h f. rw (f, equal_is l LEAST e) (below_least m h))
     go false e = undecided Unknown (Known l) int_lt LEAST l GREATEST l least_fits refl greatest_fits refl (above_least l s (unequal_is l LEAST e)) (above_greatest l s)
 lt_best (Known k) Unknown r s = go (equal k GREATEST) refl
   where
     go : (b : Bool) → equal k GREATEST ≡ b → IsBestOfTwo (λ a b. truth (int_lt a b)) (Known k) Unknown (only_if b (truth_cell false))
-    go true e = decided (Known k) Unknown int_lt false k (pos 0) refl zero_fits (λ m n f h. rw (f, equal_is k GREATEST e) (above_greatest n h))
+    go true e = decided (Known k) Unknown int_lt false k (pos 0) refl zero_is_number (λ m n f h. rw (f, equal_is k GREATEST e) (above_greatest n h))
     go false e = undecided (Known k) Unknown int_lt k GREATEST k LEAST refl greatest_fits refl least_fits (below_greatest k r (unequal_is k GREATEST e)) (below_least k r)
-lt_best Unknown Unknown r s = undecided Unknown Unknown int_lt (pos 0) (pos 1) (pos 0) (pos 0) zero_fits one_fits zero_fits zero_fits refl refl
+lt_best Unknown Unknown r s = undecided Unknown Unknown int_lt (pos 0) (pos 1) (pos 0) (pos 0) zero_is_number one_is_number zero_is_number zero_is_number refl refl
 
 pub gt_best : (c u : Cell) → IsInRange c → IsInRange u → IsBestOfTwo (λ a b. truth (int_lt b a)) c u (lt_cells u c)
 gt_best c u r s = swapped (λ a b. truth (int_lt a b)) u c (lt_cells u c) (lt_best u c s r)
@@ -283,14 +260,14 @@ le_best (Known k) (Known l) r s = two_truths int_le k l
 le_best Unknown (Known l) r s = go (equal l GREATEST) refl
   where
     go : (b : Bool) → equal l GREATEST ≡ b → IsBestOfTwo (λ a b. truth (int_le a b)) Unknown (Known l) (only_if b (truth_cell true))
-    go true e = decided Unknown (Known l) int_le true (pos 0) l zero_fits refl (λ m n h f. rw (f, equal_is l GREATEST e) (at_most_greatest m h))
+    go true e = decided Unknown (Known l) int_le true (pos 0) l zero_is_number refl (λ m n h f. rw (f, equal_is l GREATEST e) (at_most_greatest m h))
     go false e = undecided Unknown (Known l) int_le LEAST l GREATEST l least_fits refl greatest_fits refl (at_least_least l s) (not_at_most l s (unequal_is l GREATEST e))
 le_best (Known k) Unknown r s = go (equal k LEAST) refl
   where
     go : (b : Bool) → equal k LEAST ≡ b → IsBestOfTwo (λ a b. truth (int_le a b)) (Known k) Unknown (only_if b (truth_cell true))
-    go true e = decided (Known k) Unknown int_le true k (pos 0) refl zero_fits (λ m n f h. rw (f, equal_is k LEAST e) (at_least_least n h))
+    go true e = decided (Known k) Unknown int_le true k (pos 0) refl zero_is_number (λ m n f h. rw (f, equal_is k LEAST e) (at_least_least n h))
     go false e = undecided (Known k) Unknown int_le k GREATEST k LEAST refl greatest_fits refl least_fits (at_most_greatest k r) (not_at_least k r (unequal_is k LEAST e))
-le_best Unknown Unknown r s = undecided Unknown Unknown int_le (pos 0) (pos 0) (pos 1) (pos 0) zero_fits zero_fits one_fits zero_fits refl refl
+le_best Unknown Unknown r s = undecided Unknown Unknown int_le (pos 0) (pos 0) (pos 1) (pos 0) zero_is_number zero_is_number one_is_number zero_is_number refl refl
 
 pub ge_best : (c u : Cell) → IsInRange c → IsInRange u → IsBestOfTwo (λ a b. truth (int_le b a)) c u (le_cells u c)
 ge_best c u r s = swapped (λ a b. truth (int_le a b)) u c (le_cells u c) (le_best u c s r)
@@ -310,25 +287,25 @@ and_best (Known k) (Known l) = two_truths (λ a b. is_true a && is_true b) k l
 and_best Unknown (Known l) = go (is_true l) refl
   where
     go : (b : Bool) → is_true l ≡ b → IsBestOfTwo (λ a b. truth (is_true a && is_true b)) Unknown (Known l) (only_if (not b) (truth_cell false))
-    go false e = decided Unknown (Known l) (λ a b. is_true a && is_true b) false (pos 0) l zero_fits refl (λ m n h f. rw (f, e) (and_false (is_true m)))
-    go true e = undecided Unknown (Known l) (λ a b. is_true a && is_true b) (pos 1) l (pos 0) l one_fits refl zero_fits refl e refl
+    go false e = decided Unknown (Known l) (λ a b. is_true a && is_true b) false (pos 0) l zero_is_number refl (λ m n h f. rw (f, e) (and_false (is_true m)))
+    go true e = undecided Unknown (Known l) (λ a b. is_true a && is_true b) (pos 1) l (pos 0) l one_is_number refl zero_is_number refl e refl
 and_best (Known k) Unknown = go (is_true k) refl
   where
     go : (b : Bool) → is_true k ≡ b → IsBestOfTwo (λ a b. truth (is_true a && is_true b)) (Known k) Unknown (only_if (not b) (truth_cell false))
-    go false e = decided (Known k) Unknown (λ a b. is_true a && is_true b) false k (pos 0) refl zero_fits (λ m n f h. rw (f, e) refl)
-    go true e = undecided (Known k) Unknown (λ a b. is_true a && is_true b) k (pos 1) k (pos 0) refl one_fits refl zero_fits (rw e refl) (rw e refl)
-and_best Unknown Unknown = undecided Unknown Unknown (λ a b. is_true a && is_true b) (pos 1) (pos 1) (pos 0) (pos 0) one_fits one_fits zero_fits zero_fits refl refl
+    go false e = decided (Known k) Unknown (λ a b. is_true a && is_true b) false k (pos 0) refl zero_is_number (λ m n f h. rw (f, e) refl)
+    go true e = undecided (Known k) Unknown (λ a b. is_true a && is_true b) k (pos 1) k (pos 0) refl one_is_number refl zero_is_number (rw e refl) (rw e refl)
+and_best Unknown Unknown = undecided Unknown Unknown (λ a b. is_true a && is_true b) (pos 1) (pos 1) (pos 0) (pos 0) one_is_number one_is_number zero_is_number zero_is_number refl refl
 
 pub or_best : (c u : Cell) → IsBestOfTwo (λ a b. truth (is_true a || is_true b)) c u (or_cells c u)
 or_best (Known k) (Known l) = two_truths (λ a b. is_true a || is_true b) k l
 or_best Unknown (Known l) = go (is_true l) refl
   where
     go : (b : Bool) → is_true l ≡ b → IsBestOfTwo (λ a b. truth (is_true a || is_true b)) Unknown (Known l) (only_if b (truth_cell true))
-    go true e = decided Unknown (Known l) (λ a b. is_true a || is_true b) true (pos 0) l zero_fits refl (λ m n h f. rw (f, e) (or_true (is_true m)))
-    go false e = undecided Unknown (Known l) (λ a b. is_true a || is_true b) (pos 1) l (pos 0) l one_fits refl zero_fits refl refl e
+    go true e = decided Unknown (Known l) (λ a b. is_true a || is_true b) true (pos 0) l zero_is_number refl (λ m n h f. rw (f, e) (or_true (is_true m)))
+    go false e = undecided Unknown (Known l) (λ a b. is_true a || is_true b) (pos 1) l (pos 0) l one_is_number refl zero_is_number refl refl e
 or_best (Known k) Unknown = go (is_true k) refl
   where
     go : (b : Bool) → is_true k ≡ b → IsBestOfTwo (λ a b. truth (is_true a || is_true b)) (Known k) Unknown (only_if b (truth_cell true))
-    go true e = decided (Known k) Unknown (λ a b. is_true a || is_true b) true k (pos 0) refl zero_fits (λ m n f h. rw (f, e) refl)
-    go false e = undecided (Known k) Unknown (λ a b. is_true a || is_true b) k (pos 1) k (pos 0) refl one_fits refl zero_fits (rw e refl) (rw e refl)
-or_best Unknown Unknown = undecided Unknown Unknown (λ a b. is_true a || is_true b) (pos 1) (pos 0) (pos 0) (pos 0) one_fits zero_fits zero_fits zero_fits refl refl
+    go true e = decided (Known k) Unknown (λ a b. is_true a || is_true b) true k (pos 0) refl zero_is_number (λ m n f h. rw (f, e) refl)
+    go false e = undecided (Known k) Unknown (λ a b. is_true a || is_true b) k (pos 1) k (pos 0) refl one_is_number refl zero_is_number (rw e refl) (rw e refl)
+or_best Unknown Unknown = undecided Unknown Unknown (λ a b. is_true a || is_true b) (pos 1) (pos 0) (pos 0) (pos 0) one_is_number zero_is_number zero_is_number zero_is_number refl refl
