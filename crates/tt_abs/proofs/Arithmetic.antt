@@ -1,6 +1,6 @@
 -- The result of an arithmetic instruction is the smallest cell for all numbers that its operands' cells cover.
 use Rattle.std.specs.Prelude.{ℤ, pos, negsuc, ◌+ℤ◌, ◌-ℤ◌, neg_ℤ, int_lt, int_le, not, ◌&&◌, ◌||◌}
-use Rattle.std.proofs.Common.{◌≡◌, zero, suc, refl, sym, ◌∙◌, ap, subst, arith, rules, Bool, true, false}
+use Rattle.std.proofs.Common.{◌≡◌, zero, suc, refl, sym, ap, arith, rules, Bool, true, false}
 use Rattle.std.proofs.lemmas.Int.{ints}
 use Rattle.tt_code.specs.States.{IsNumber, is_number, is_true, Value}
 use Rattle.tt_code.specs.Runs.{value}

@@ -5,3 +5,5 @@ pub mod Takes
 pub mod Plain
 pub mod TableRows
 pub mod Arithmetic
+pub mod Stacks
+pub mod Shuffles
