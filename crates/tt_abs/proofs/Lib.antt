@@ -7,3 +7,4 @@ pub mod TableRows
 pub mod Arithmetic
 pub mod Stacks
 pub mod Shuffles
+pub mod Computed
