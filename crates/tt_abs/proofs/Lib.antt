@@ -8,3 +8,4 @@ pub mod Arithmetic
 pub mod Stacks
 pub mod Shuffles
 pub mod Computed
+pub mod Pushes
