@@ -8,3 +8,8 @@ pub mod TableRows
 pub mod Ways
 pub mod Depth
 pub mod Branches
+pub mod Arithmetic
+pub mod Stacks
+pub mod Shuffles
+pub mod Computed
+pub mod Pushes

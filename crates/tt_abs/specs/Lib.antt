@@ -3,3 +3,4 @@ pub mod Cells
 pub mod Entries
 pub mod Transfers
 pub mod Covers
+pub mod Ranges
