@@ -13,3 +13,4 @@ pub mod Stacks
 pub mod Shuffles
 pub mod Computed
 pub mod Pushes
+pub mod Steps

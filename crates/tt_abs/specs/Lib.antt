@@ -4,3 +4,4 @@ pub mod Entries
 pub mod Transfers
 pub mod Covers
 pub mod Ranges
+pub mod Followed
