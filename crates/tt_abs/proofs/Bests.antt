@@ -165,7 +165,7 @@ pub best_drop : {X : Type 0} (In : X → Type 0) (f : X → List ℤ) (cs : List
 best_drop {X} In f cs n h = record {
   lengths = λ x i. length-drop n (f x) ∙ ap (λ l. l - n) (h.lengths x i) ∙ sym (length-drop n cs);
   each = λ k.
-    cell_is In (λ x. taken_at (pos 1) (drop n (f x)) k) (taken_at (Known (pos 1)) cs (n + k)) (taken_at (Known (pos 1)) (drop n cs) k) (sym (at_drop (Known (pos 1)) n cs k))
+      cell_is In (λ x. taken_at (pos 1) (drop n (f x)) k) (taken_at (Known (pos 1)) cs (n + k)) (taken_at (Known (pos 1)) (drop n cs) k) (sym (at_drop (Known (pos 1)) n cs k))
       (best_same In (λ x. taken_at (pos 1) (f x) (n + k)) (λ x. taken_at (pos 1) (drop n (f x)) k) (taken_at (Known (pos 1)) cs (n + k)) (λ x i. at_drop (pos 1) n (f x) k) (h.each (n + k)));
 }
 
@@ -185,10 +185,10 @@ pub best_take : {X : Type 0} (In : X → Type 0) (f : X → List ℤ) (cs : List
 best_take {X} In f cs n x i h = record {
   lengths = λ x i. length-take n (f x) ∙ ap (λ l. min n l) (h.lengths x i) ∙ sym (length-take n cs);
   each = λ k. elim (cases_lt k n) [
-    inl l ↦ cell_is In (λ x. taken_at (pos 1) (take n (f x)) k) (taken_at (Known (pos 1)) cs k) (taken_at (Known (pos 1)) (take n cs) k) (sym (at_take (Known (pos 1)) n cs k l))
-      (best_same In (λ x. taken_at (pos 1) (f x) k) (λ x. taken_at (pos 1) (take n (f x)) k) (taken_at (Known (pos 1)) cs k) (λ x i. at_take (pos 1) n (f x) k l) (h.each k))
-  | inr l ↦ cell_is In (λ x. taken_at (pos 1) (take n (f x)) k) (Known (pos 1)) (taken_at (Known (pos 1)) (take n cs) k) (sym (past_take (Known (pos 1)) n cs k l))
-      (best_same In (λ x. pos 1) (λ x. taken_at (pos 1) (take n (f x)) k) (Known (pos 1)) (λ x i. past_take (pos 1) n (f x) k l) (best_constant In (pos 1) x i))
+    | inl l ↦ cell_is In (λ x. taken_at (pos 1) (take n (f x)) k) (taken_at (Known (pos 1)) cs k) (taken_at (Known (pos 1)) (take n cs) k) (sym (at_take (Known (pos 1)) n cs k l))
+        (best_same In (λ x. taken_at (pos 1) (f x) k) (λ x. taken_at (pos 1) (take n (f x)) k) (taken_at (Known (pos 1)) cs k) (λ x i. at_take (pos 1) n (f x) k l) (h.each k))
+    | inr l ↦ cell_is In (λ x. taken_at (pos 1) (take n (f x)) k) (Known (pos 1)) (taken_at (Known (pos 1)) (take n cs) k) (sym (past_take (Known (pos 1)) n cs k l))
+        (best_same In (λ x. pos 1) (λ x. taken_at (pos 1) (take n (f x)) k) (Known (pos 1)) (λ x i. past_take (pos 1) n (f x) k l) (best_constant In (pos 1) x i))
   ];
 }
 
@@ -231,8 +231,8 @@ stored_best : {X : Type 0} (In : X → Type 0) (index v : X → ℤ) (area : X �
 stored_best In index v area Unknown c k cells e h w all j = absurd (cc)
 stored_best In index v area (Known l) c k cells e h w all j =
     best_same In (λ x. with_stored (natural l) (v x) (area x) j) (λ x. with_stored (natural (index x)) (v x) (area x) j) (with_stored (natural l) c cells j)
-      (λ x i. ap (λ n. with_stored (natural n) (v x) (area x) j) (h.0 x i))
-      (best_if In v (λ x. area x j) c (cells j) (nat_eq (natural l) j) w (all j))
+    (λ x i. ap (λ n. with_stored (natural n) (v x) (area x) j) (h.0 x i))
+    (best_if In v (λ x. area x j) c (cells j) (nat_eq (natural l) j) w (all j))
 
 -- is what the update looks into known?
 abbrev pub Readable : List Cell → Update → Type 0
@@ -246,13 +246,13 @@ update_best In x i t f taken a (update.SetReference r (source.Taken n)) known h 
 update_best In x i t f taken a (update.SetReference r (source.Same q)) known h k = reference_best In f a r (λ x. reference q (f x).graphics) (reference q a.graphics) k (best_reference In f a q k)
 update_best In x i t f taken a (update.SetPointer p n) known h k =
     pointer_best In f a p (λ x. zone_of (taken_at (pos 1) (t x) n)) (zone_in (taken_at (Known (pos 1)) taken n)) k
-      (zone_of_known In (λ x. taken_at (pos 1) (t x) n) (taken_at (Known (pos 1)) taken n) known.0 known.1 (h.each n))
+    (zone_of_known In (λ x. taken_at (pos 1) (t x) n) (taken_at (Known (pos 1)) taken n) known.0 known.1 (h.each n))
 update_best In x i t f taken a (update.SetLoop n) known h k = loop_best In f a (λ x. taken_at (pos 1) (t x) n) (taken_at (Known (pos 1)) taken n) k (h.each n)
 update_best In x i t f taken a update.LoopIsOne known h k = loop_best In f a (λ x. pos 1) (Known (pos 1)) k (best_constant In (pos 1) x i)
 update_best In x i t f taken a (update.Store n v) known h k =
     storage_best In f a (λ x. with_stored (natural (taken_at (pos 1) (t x) n)) (taken_at (pos 1) (t x) v) (f x).storage)
-      (with_stored (index_in (taken_at (Known (pos 1)) taken n)) (taken_at (Known (pos 1)) taken v) a.storage) k
-      (stored_best In (λ x. taken_at (pos 1) (t x) n) (λ x. taken_at (pos 1) (t x) v) (λ x. (f x).storage) (taken_at (Known (pos 1)) taken n) (taken_at (Known (pos 1)) taken v) known.0 a.storage known.1 (h.each n) (h.each v) k.storage)
+    (with_stored (index_in (taken_at (Known (pos 1)) taken n)) (taken_at (Known (pos 1)) taken v) a.storage) k
+    (stored_best In (λ x. taken_at (pos 1) (t x) n) (λ x. taken_at (pos 1) (t x) v) (λ x. (f x).storage) (taken_at (Known (pos 1)) taken n) (taken_at (Known (pos 1)) taken v) known.0 a.storage known.1 (h.each n) (h.each v) k.storage)
 
 abbrev pub AllReadable : List Cell → List Update → Type 0
 AllReadable taken [] = Unit {0}

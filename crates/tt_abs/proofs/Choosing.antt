@@ -94,4 +94,3 @@ pub reference_covered : (a : Cells) (g : Numbers) (r : Reference) → CoversGrap
 reference_covered a g Rp0 h = h.rp0
 reference_covered a g Rp1 h = h.rp1
 reference_covered a g Rp2 h = h.rp2
-

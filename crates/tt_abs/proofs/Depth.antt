@@ -65,6 +65,7 @@ module _ (s : Setting) (a : Abstract) (fs : List Frame) (at : ℕ) (does : Machi
     where
       known : (m : Machine) → Stands a fs at m → (o : Outcome) → does m ≡ Ok o → within_depth s o ≡ (holds_or (nat_le (length b.stack) s.limits.stack) reason.Overflow >>= (λ ok. Ok o))
       known m st o e = depth_known s b o zeros (h.1.covers (left_by o zeros) (becomes_of a fs at does m o st e))
+
       go : (v : Bool) → nat_le (length b.stack) s.limits.stack ≡ v → Transfers a fs at (λ m. does m >>= within_depth s) (holds_or v reason.Overflow >>= (λ ok. Ok b))
       go false e =
           let (m, st, is) = some_machine a fs at in
@@ -160,6 +161,12 @@ monotone_ways a b fs at does (Ok ns) os wider h k = (ns, refl, below)
     below : AreBelow ns os
     below i n is =
         let (m, there) = h.1.met i n is in
-        let (j, o, was, f, p) = k.1.places m (becomes_wider a b fs at does wider m there.0) in
-        (j, o, was, sym there.1 ∙ f, sym there.2 ∙ p, (h.1.smallest i n is).least o.state
-          (λ l g. (k.1.smallest j o was).covers l (becomes_wider a b fs at does wider l g.0, g.1 ∙ sym there.1 ∙ f, g.2 ∙ sym there.2 ∙ p)))
+        let (j, o, was, f, p) = k.1.places m (becomes_wider a b fs at does wider m there.0) in (
+          j,
+          o,
+          was,
+          sym there.1 ∙ f,
+          sym there.2 ∙ p,
+          (h.1.smallest i n is).least o.state
+              (λ l g. (k.1.smallest j o was).covers l (becomes_wider a b fs at does wider l g.0, g.1 ∙ sym there.1 ∙ f, g.2 ∙ sym there.2 ∙ p)),
+        )

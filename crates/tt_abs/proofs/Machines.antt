@@ -99,67 +99,67 @@ pub stack_best : (a : Abstract) (frames : List Frame) (offset : ℕ) → IsBestS
 stack_best a frames offset = record {
   lengths = λ x h. covered_length a.stack x.0.stack h.stands.covered.stack;
   each = λ k.
-    best_along (May a frames offset) (λ n. Covers (taken_at (Known (pos 1)) a.stack k) n) (λ x. taken_at (pos 1) x.0.stack k) (λ n. n) (taken_at (Known (pos 1)) a.stack k)
+      best_along (May a frames offset) (λ n. Covers (taken_at (Known (pos 1)) a.stack k) n) (λ x. taken_at (pos 1) x.0.stack k) (λ n. n) (taken_at (Known (pos 1)) a.stack k)
       (λ x h. covered_at a.stack x.0.stack k h.stands.covered.stack)
       (λ n c.
-        let (ns, d, e) = choose_element a.stack k n c in
-        let (m, s, f) = with_stack a frames offset ns d in
-        ((m, zeros), may a frames offset m s, ap (λ l. taken_at (pos 1) l k) f ∙ e))
+      let (ns, d, e) = choose_element a.stack k n c in
+      let (m, s, f) = with_stack a frames offset ns d in
+      ((m, zeros), may a frames offset m s, ap (λ l. taken_at (pos 1) l k) f ∙ e))
       (best_self (taken_at (Known (pos 1)) a.stack k));
 }
 
 pub registers_best : (a : Abstract) (frames : List Frame) (offset : ℕ) → AreBest (May a frames offset) (λ x. x.0.registers) a.registers
 registers_best a frames offset = record {
   rp0 = best_along (May a frames offset) (λ n. Covers a.registers.graphics.rp0 n) (λ x. x.0.registers.graphics.rp0) (λ n. n) a.registers.graphics.rp0
-    (λ x h. h.stands.covered.graphics.rp0)
-    (λ n h.
+      (λ x h. h.stands.covered.graphics.rp0)
+      (λ n h.
       let (g, c) = some_graphics a.registers.graphics in
       let (m, s, e) = with_graphics a frames offset (record { rp0 = n; rp1 = g.rp1; rp2 = g.rp2; zp0 = g.zp0; zp1 = g.zp1; zp2 = g.zp2; loop_number = g.loop_number }) (record { rp0 = h; rp1 = c.rp1; rp2 = c.rp2; zp0 = c.zp0; zp1 = c.zp1; zp2 = c.zp2; loop_number = c.loop_number }) in ((m, zeros), may a frames offset m s, ap (λ g. g.rp0) e))
-    (best_self a.registers.graphics.rp0);
+      (best_self a.registers.graphics.rp0);
   rp1 = best_along (May a frames offset) (λ n. Covers a.registers.graphics.rp1 n) (λ x. x.0.registers.graphics.rp1) (λ n. n) a.registers.graphics.rp1
-    (λ x h. h.stands.covered.graphics.rp1)
-    (λ n h.
+      (λ x h. h.stands.covered.graphics.rp1)
+      (λ n h.
       let (g, c) = some_graphics a.registers.graphics in
       let (m, s, e) = with_graphics a frames offset (record { rp0 = g.rp0; rp1 = n; rp2 = g.rp2; zp0 = g.zp0; zp1 = g.zp1; zp2 = g.zp2; loop_number = g.loop_number }) (record { rp0 = c.rp0; rp1 = h; rp2 = c.rp2; zp0 = c.zp0; zp1 = c.zp1; zp2 = c.zp2; loop_number = c.loop_number }) in ((m, zeros), may a frames offset m s, ap (λ g. g.rp1) e))
-    (best_self a.registers.graphics.rp1);
+      (best_self a.registers.graphics.rp1);
   rp2 = best_along (May a frames offset) (λ n. Covers a.registers.graphics.rp2 n) (λ x. x.0.registers.graphics.rp2) (λ n. n) a.registers.graphics.rp2
-    (λ x h. h.stands.covered.graphics.rp2)
-    (λ n h.
+      (λ x h. h.stands.covered.graphics.rp2)
+      (λ n h.
       let (g, c) = some_graphics a.registers.graphics in
       let (m, s, e) = with_graphics a frames offset (record { rp0 = g.rp0; rp1 = g.rp1; rp2 = n; zp0 = g.zp0; zp1 = g.zp1; zp2 = g.zp2; loop_number = g.loop_number }) (record { rp0 = c.rp0; rp1 = c.rp1; rp2 = h; zp0 = c.zp0; zp1 = c.zp1; zp2 = c.zp2; loop_number = c.loop_number }) in ((m, zeros), may a frames offset m s, ap (λ g. g.rp2) e))
-    (best_self a.registers.graphics.rp2);
+      (best_self a.registers.graphics.rp2);
   zp0 = zone_along (May a frames offset) (λ n. CoversZone a.registers.graphics.zp0 n) (λ x. x.0.registers.graphics.zp0) (λ n. n) a.registers.graphics.zp0
-    (λ x h. h.stands.covered.graphics.zp0)
-    (λ n h.
+      (λ x h. h.stands.covered.graphics.zp0)
+      (λ n h.
       let (g, c) = some_graphics a.registers.graphics in
       let (m, s, e) = with_graphics a frames offset (record { rp0 = g.rp0; rp1 = g.rp1; rp2 = g.rp2; zp0 = n; zp1 = g.zp1; zp2 = g.zp2; loop_number = g.loop_number }) (record { rp0 = c.rp0; rp1 = c.rp1; rp2 = c.rp2; zp0 = h; zp1 = c.zp1; zp2 = c.zp2; loop_number = c.loop_number }) in ((m, zeros), may a frames offset m s, ap (λ g. g.zp0) e))
-    (zone_self a.registers.graphics.zp0);
+      (zone_self a.registers.graphics.zp0);
   zp1 = zone_along (May a frames offset) (λ n. CoversZone a.registers.graphics.zp1 n) (λ x. x.0.registers.graphics.zp1) (λ n. n) a.registers.graphics.zp1
-    (λ x h. h.stands.covered.graphics.zp1)
-    (λ n h.
+      (λ x h. h.stands.covered.graphics.zp1)
+      (λ n h.
       let (g, c) = some_graphics a.registers.graphics in
       let (m, s, e) = with_graphics a frames offset (record { rp0 = g.rp0; rp1 = g.rp1; rp2 = g.rp2; zp0 = g.zp0; zp1 = n; zp2 = g.zp2; loop_number = g.loop_number }) (record { rp0 = c.rp0; rp1 = c.rp1; rp2 = c.rp2; zp0 = c.zp0; zp1 = h; zp2 = c.zp2; loop_number = c.loop_number }) in ((m, zeros), may a frames offset m s, ap (λ g. g.zp1) e))
-    (zone_self a.registers.graphics.zp1);
+      (zone_self a.registers.graphics.zp1);
   zp2 = zone_along (May a frames offset) (λ n. CoversZone a.registers.graphics.zp2 n) (λ x. x.0.registers.graphics.zp2) (λ n. n) a.registers.graphics.zp2
-    (λ x h. h.stands.covered.graphics.zp2)
-    (λ n h.
+      (λ x h. h.stands.covered.graphics.zp2)
+      (λ n h.
       let (g, c) = some_graphics a.registers.graphics in
       let (m, s, e) = with_graphics a frames offset (record { rp0 = g.rp0; rp1 = g.rp1; rp2 = g.rp2; zp0 = g.zp0; zp1 = g.zp1; zp2 = n; loop_number = g.loop_number }) (record { rp0 = c.rp0; rp1 = c.rp1; rp2 = c.rp2; zp0 = c.zp0; zp1 = c.zp1; zp2 = h; loop_number = c.loop_number }) in ((m, zeros), may a frames offset m s, ap (λ g. g.zp2) e))
-    (zone_self a.registers.graphics.zp2);
+      (zone_self a.registers.graphics.zp2);
   loop_number = best_along (May a frames offset) (λ n. Covers a.registers.graphics.loop_number n) (λ x. x.0.registers.graphics.loop_number) (λ n. n) a.registers.graphics.loop_number
-    (λ x h. h.stands.covered.graphics.loop_number)
-    (λ n h.
+      (λ x h. h.stands.covered.graphics.loop_number)
+      (λ n h.
       let (g, c) = some_graphics a.registers.graphics in
       let (m, s, e) = with_graphics a frames offset (record { rp0 = g.rp0; rp1 = g.rp1; rp2 = g.rp2; zp0 = g.zp0; zp1 = g.zp1; zp2 = g.zp2; loop_number = n }) (record { rp0 = c.rp0; rp1 = c.rp1; rp2 = c.rp2; zp0 = c.zp0; zp1 = c.zp1; zp2 = c.zp2; loop_number = h }) in ((m, zeros), may a frames offset m s, ap (λ g. g.loop_number) e))
-    (best_self a.registers.graphics.loop_number);
+      (best_self a.registers.graphics.loop_number);
   storage = λ k.
-    best_along (May a frames offset) (λ n. Covers (a.registers.storage k) n) (λ x. x.0.registers.storage k) (λ n. n) (a.registers.storage k)
+      best_along (May a frames offset) (λ n. Covers (a.registers.storage k) n) (λ x. x.0.registers.storage k) (λ n. n) (a.registers.storage k)
       (λ x h. h.stands.covered.storage k)
       (λ n h.
-        let (area, c, e) = choose_stored a.registers.storage k n h in
-        let (g, d) = some_graphics a.registers.graphics in
-        let (ns, s) = some_stack a.stack in
-        ((machine_with a frames offset g ns area, zeros), may a frames offset _ (machine_stands a frames offset g ns area d s c), e))
+      let (area, c, e) = choose_stored a.registers.storage k n h in
+      let (g, d) = some_graphics a.registers.graphics in
+      let (ns, s) = some_stack a.stack in
+      ((machine_with a frames offset g ns area, zeros), may a frames offset _ (machine_stands a frames offset g ns area d s c), e))
       (best_self (a.registers.storage k));
 }
 
@@ -171,7 +171,6 @@ module _ (a : Abstract) (frames : List Frame) (offset : ℕ) (does : Machine →
     (registers : AreBest (May a frames offset) (λ x. (o x.0).after.registers) b.registers)
     (defined : (m : Machine) → Stands a frames offset m → CoversFunctions b.functions (o m).after.functions)
     (no_others : (m : Machine) × Stands a frames offset m × CoversFunctions (o m).after.functions b.functions) where
-
   comes : (new : Machine) → Becomes a frames offset does new → (x : Chance) × May a frames offset x × (new ≡ left_by (o x.0) x.1)
   comes new h =
       let E : Ok (o h.old) ≡ Ok h.result = sym (always h.old h.stands) ∙ h.does_it in
@@ -204,8 +203,8 @@ module _ (a : Abstract) (frames : List Frame) (offset : ℕ) (does : Machine →
       let first = all (n, zeros) i in
       record {
         stack = stack_covers d.stack m.stack
-          (covered_length b.stack m.stack h.stack ∙ sym (stack.lengths (n, zeros) i) ∙ covered_length d.stack (left_by (o n) zeros).stack first.stack)
-          (λ k. best_least (May a frames offset) (λ x. taken_at (pos 1) (left_by (o x.0) x.1).stack k) (taken_at (Known (pos 1)) b.stack k) (taken_at (Known (pos 1)) d.stack k) (stack.each k)
+            (covered_length b.stack m.stack h.stack ∙ sym (stack.lengths (n, zeros) i) ∙ covered_length d.stack (left_by (o n) zeros).stack first.stack)
+            (λ k. best_least (May a frames offset) (λ x. taken_at (pos 1) (left_by (o x.0) x.1).stack k) (taken_at (Known (pos 1)) b.stack k) (taken_at (Known (pos 1)) d.stack k) (stack.each k)
             (λ x j. covered_at d.stack (left_by (o x.0) x.1).stack k (all x j).stack) (taken_at (pos 1) m.stack k) (covered_at b.stack m.stack k h.stack));
         graphics = record {
           rp0 = best_least (May a frames offset) (λ x. (o x.0).after.registers.graphics.rp0) b.registers.graphics.rp0 d.registers.graphics.rp0 registers.rp0 (λ x j. (all x j).graphics.rp0) m.registers.graphics.rp0 h.graphics.rp0;
@@ -238,5 +237,5 @@ pub transfers_same : (a : Abstract) (frames : List Frame) (offset : ℕ) (does :
     → b.functions ≡ a.functions → Transfers a frames offset does (Ok b)
 transfers_same a frames offset does o b always stack registers functions same_functions =
     transfers_ok a frames offset does o b always stack registers
-      (λ m st n body e. ap (λ l. body_named l n) (functions m st) ∙ st.covered.functions n body (ap (λ l. body_named l n) (sym same_functions) ∙ e))
-      (let (m, st, is) = some_machine a frames offset in (m, st, λ n body e. ap (λ l. body_named l n) (same_functions ∙ sym is ∙ sym (functions m st)) ∙ e))
+    (λ m st n body e. ap (λ l. body_named l n) (functions m st) ∙ st.covered.functions n body (ap (λ l. body_named l n) (sym same_functions) ∙ e))
+    (let (m, st, is) = some_machine a frames offset in (m, st, λ n body e. ap (λ l. body_named l n) (same_functions ∙ sym is ∙ sym (functions m st)) ∙ e))

@@ -138,8 +138,8 @@ pushes_best In t taken area stored (pushed.Any ∷ ps) r h all choices any f sta
     pushes_best In t taken area stored ps r.1 h all (λ x i. choices x (suc i)) (λ j. any (suc j)) (λ x. choices x 0 ∷ f x) (Unknown ∷ stack) (best_cons In (λ x. choices x 0) f Unknown stack (any 0) k)
 pushes_best In t taken area stored (pushed.Stored i ∷ ps) r h all choices any f stack k =
     pushes_best In t taken area stored ps r.1 h all (λ x i. choices x (suc i)) (λ j. any (suc j)) (λ x. area x (natural (taken_at (pos 1) (t x) i)) ∷ f x) (stored (index_in (taken_at (Known (pos 1)) taken i)) ∷ stack)
-      (best_cons In (λ x. area x (natural (taken_at (pos 1) (t x) i))) f (stored (index_in (taken_at (Known (pos 1)) taken i))) stack
-        (stored_best In (λ x. taken_at (pos 1) (t x) i) area (taken_at (Known (pos 1)) taken i) r.0.0 stored r.0.1 (h.each i) all) k)
+    (best_cons In (λ x. area x (natural (taken_at (pos 1) (t x) i))) f (stored (index_in (taken_at (Known (pos 1)) taken i))) stack
+    (stored_best In (λ x. taken_at (pos 1) (t x) i) area (taken_at (Known (pos 1)) taken i) r.0.0 stored r.0.1 (h.each i) all) k)
 
 -- A whole line.
 
@@ -159,8 +159,8 @@ module _ (s : Setting) (a : Abstract) (frames : List Frame) (offset : ℕ) (line
   plain_stands readable = go (take_cells s a.registers.graphics line.operands a.stack) refl (operands_stand s a.registers.graphics line.operands a.stack)
     where
       uses : (t : Taking Cell) → take_cells s a.registers.graphics line.operands a.stack ≡ Ok t → StandsFor a.registers.graphics a.stack (λ g. take_operands s g line.operands) (Ok t)
-        → (u : Tested (Unit {0})) → TestStandsFor a.registers.graphics (λ g. test_uses s g line.uses) u
-        → Transfers a frames offset (λ m. plain s m line)
+          → (u : Tested (Unit {0})) → TestStandsFor a.registers.graphics (λ g. test_uses s g line.uses) u
+          → Transfers a frames offset (λ m. plain s m line)
           (u >>= (λ ok. Ok (leaves_cells (record a { registers = all_updated cells t.0 line.updates a.registers }) t.1 (cells_pushed t.0 a.registers.storage line.pushes))))
       uses t e h (Err n) u =
           let (m, st, is) = with_graphics a frames offset u.0 u.1 in
@@ -177,19 +177,20 @@ module _ (s : Setting) (a : Abstract) (frames : List Frame) (offset : ℕ) (line
           subst F (sym front) (best_take (May a frames offset) (λ x. x.0.stack) a.stack (length t.0) (m, zeros) (may a frames offset m st) (stack_best a frames offset)) in
           let rest : IsBestStack (May a frames offset) (λ x. drop (length t.0) x.0.stack) t.1 = subst B (sym below) (best_drop (May a frames offset) (λ x. x.0.stack) a.stack (length t.0) (stack_best a frames offset)) in
           transfers_same a frames offset (λ m. plain s m line) (plain_outcome (length t.0) line)
-            (leaves_cells (record a { registers = all_updated cells t.0 line.updates a.registers }) t.1 (cells_pushed t.0 a.registers.storage line.pushes))
-            (λ m st.
-              let done = split_at t.0 t.1 m.stack (take_operands s m.registers.graphics line.operands m.stack) (h.splits m.registers.graphics m.stack st.covered.graphics st.covered.stack) in
-              rw (done, u m.registers.graphics st.covered.graphics) refl)
-            (pushes_best (May a frames offset) (λ x. take (length t.0) x.0.stack) t.0 (λ x. x.0.registers.storage) a.registers.storage line.pushes
-              (pushes_readable s a.registers.graphics line.operands line.pushes a.stack t readable_pushes e) taken (registers_best a frames offset).storage (λ x. x.1) (choice_best a frames offset)
-              (λ x. drop (length t.0) x.0.stack) t.1 rest)
-            (updates_best (May a frames offset) (m, zeros) (may a frames offset m st) (λ x. take (length t.0) x.0.stack) (λ x. x.0.registers) t.0 a.registers line.updates
-              (updates_readable s a.registers.graphics line.operands line.updates a.stack t readable_updates e) taken (registers_best a frames offset))
-            (λ m st. refl)
-            refl
+          (leaves_cells (record a { registers = all_updated cells t.0 line.updates a.registers }) t.1 (cells_pushed t.0 a.registers.storage line.pushes))
+          (λ m st.
+          let done = split_at t.0 t.1 m.stack (take_operands s m.registers.graphics line.operands m.stack) (h.splits m.registers.graphics m.stack st.covered.graphics st.covered.stack) in
+          rw (done, u m.registers.graphics st.covered.graphics) refl)
+          (pushes_best (May a frames offset) (λ x. take (length t.0) x.0.stack) t.0 (λ x. x.0.registers.storage) a.registers.storage line.pushes
+          (pushes_readable s a.registers.graphics line.operands line.pushes a.stack t readable_pushes e) taken (registers_best a frames offset).storage (λ x. x.1) (choice_best a frames offset)
+          (λ x. drop (length t.0) x.0.stack) t.1 rest)
+          (updates_best (May a frames offset) (m, zeros) (may a frames offset m st) (λ x. take (length t.0) x.0.stack) (λ x. x.0.registers) t.0 a.registers line.updates
+          (updates_readable s a.registers.graphics line.operands line.updates a.stack t readable_updates e) taken (registers_best a frames offset))
+          (λ m st. refl)
+          refl
+
       go : (r : Tested (Taking Cell)) → take_cells s a.registers.graphics line.operands a.stack ≡ r → StandsFor a.registers.graphics a.stack (λ g. take_operands s g line.operands) r
-        → Transfers a frames offset (λ m. plain s m line)
+          → Transfers a frames offset (λ m. plain s m line)
           (r >>= (λ t. test_cell_uses s a.registers.graphics line.uses >>= (λ ok. Ok (leaves_cells (record a { registers = all_updated cells t.0 line.updates a.registers }) t.1 (cells_pushed t.0 a.registers.storage line.pushes)))))
       go (Err n) e h = (machine_with a frames offset h.graphics h.numbers (some_area a), h.reason, machine_stands a frames offset h.graphics h.numbers (some_area a) h.graphics_covered h.numbers_covered (area_covered a), rw h.fails refl)
       go (Ok t) e h = uses t e h (test_cell_uses s a.registers.graphics line.uses) (uses_stand s a.registers.graphics line.uses)

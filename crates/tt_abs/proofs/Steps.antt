@@ -46,7 +46,7 @@ keeps_result m o h p e = let same : p ≡ o = cc in ap (λ x. x.after.frames) sa
 plain_keeps : (s : Setting) (m : Machine) (line : Lists) → KeepsFrames m (plain s m line)
 plain_keeps s m line =
     keeps_after m (take_operands s m.registers.graphics line.operands m.stack) _
-      (λ t. keeps_after m (test_uses s m.registers.graphics line.uses) _ (λ ok. keeps_result m _ refl))
+    (λ t. keeps_after m (test_uses s m.registers.graphics line.uses) _ (λ ok. keeps_result m _ refl))
 
 shuffled_keeps : (op : StackOp) (m : Machine) → KeepsFrames m (shuffled op m)
 shuffled_keeps Dup m = keeps_after m (top m.stack) _ (λ t. keeps_result m _ refl)
@@ -100,12 +100,12 @@ module _ (s : Setting) (fs : List Frame) (at : ℕ) (a : Abstract) where
   performs_stands (Some []) followed small fits = fails_there s fs at a (λ m. performs s m (Some [])) reason.Target reason.Target (λ m st. refl)
   performs_stands (Some (code ∷ rest)) followed small fits =
       transfers_to_as a fs at (λ m. does s m (effect_of code) rest (at + suc (length rest)) >>= within_depth s) (λ m. performs s m (Some (code ∷ rest))) (performs_cells s fs at a (Some (code ∷ rest)))
-        (λ m st. ap (λ k. does s m (effect_of code) rest (k + suc (length rest)) >>= within_depth s) st.offset_is)
-        (depth_of_ways s a fs at (λ m. does s m (effect_of code) rest (at + suc (length rest))) (does_cells s fs at a (effect_of code) rest (at + suc (length rest)))
-          (does_stands (effect_of code) followed (rows_readable code) small fits rest (at + suc (length rest))))
+      (λ m st. ap (λ k. does s m (effect_of code) rest (k + suc (length rest)) >>= within_depth s) st.offset_is)
+      (depth_of_ways s a fs at (λ m. does s m (effect_of code) rest (at + suc (length rest))) (does_cells s fs at a (effect_of code) rest (at + suc (length rest)))
+      (does_stands (effect_of code) followed (rows_readable code) small fits rest (at + suc (length rest))))
 
   pub outcome_stands : is_followed_instruction (instruction_of s fs at) ≡ true → at < 2 ^ 31 → AreInRange a.stack → TransfersTo a fs at (outcome s) (outcome_on_cells s fs at a)
   unfolding outcome outcome_on_cells
   outcome_stands followed small fits =
       transfers_to_as a fs at (λ m. performs s m (instruction_of s fs at)) (λ m. performs s m (fetched s m)) (performs_cells s fs at a (instruction_of s fs at))
-        (λ m st. ap (λ x. performs s m (fetched s x)) (stands_there s fs at a m st)) (performs_stands (instruction_of s fs at) followed small fits)
+      (λ m st. ap (λ x. performs s m (fetched s x)) (stands_there s fs at a m st)) (performs_stands (instruction_of s fs at) followed small fits)

@@ -84,16 +84,16 @@ splits_twice : (a : Cells) (cells taken rest more end : List Cell) (first second
 splits_twice a cells taken rest more end first second h k = record {
   joined = append_assoc taken more end ∙ ap (λ x. taken ++ x) k.joined ∙ h.joined;
   splits = λ g ns cg cs.
-    let s = h.splits g ns cg cs in
-    let t = k.splits g s.below cg s.below_covered in
-    record {
-      front = s.front ++ t.front;
-      below = t.below;
-      result_is = rw (s.result_is, t.result_is) refl;
-      joined = append_assoc s.front t.front t.below ∙ ap (λ x. s.front ++ x) t.joined ∙ s.joined;
-      front_covered = covers_append taken more s.front t.front s.front_covered t.front_covered;
-      below_covered = t.below_covered;
-    };
+      let s = h.splits g ns cg cs in
+      let t = k.splits g s.below cg s.below_covered in
+      record {
+        front = s.front ++ t.front;
+        below = t.below;
+        result_is = rw (s.result_is, t.result_is) refl;
+        joined = append_assoc s.front t.front t.below ∙ ap (λ x. s.front ++ x) t.joined ∙ s.joined;
+        front_covered = covers_append taken more s.front t.front s.front_covered t.front_covered;
+        below_covered = t.below_covered;
+      };
 }
 
 pub then_take_stands : (a : Cells) (cells : List Cell) (first second : Numbers → List ℤ → Tested (Taking ℤ)) (cells_first : Tested (Taking Cell)) (cells_second : List Cell → Tested (Taking Cell))
@@ -111,15 +111,15 @@ pub stands_same : (a : Cells) (cells : List Cell) (take other : Numbers → List
 stands_same a cells take other (Ok t) same h = record {
   joined = h.joined;
   splits = λ g ns cg cs.
-    let s = h.splits g ns cg cs in
-    record {
-      front = s.front;
-      below = s.below;
-      result_is = same g ns cg cs ∙ s.result_is;
-      joined = s.joined;
-      front_covered = s.front_covered;
-      below_covered = s.below_covered;
-    };
+      let s = h.splits g ns cg cs in
+      record {
+        front = s.front;
+        below = s.below;
+        result_is = same g ns cg cs ∙ s.result_is;
+        joined = s.joined;
+        front_covered = s.front_covered;
+        below_covered = s.below_covered;
+      };
 }
 stands_same a cells take other (Err n) same h = record {
   graphics = h.graphics;
@@ -178,8 +178,8 @@ pub agrees_in : (a : Cells) (bound : ZoneNumber → ℕ) (p : Pointer) → Agree
 agrees_in a bound p = record {
   passing = λ z h g c. below_in_true bound (pointer p a) z (pointer p g) h (pointer_covered a g p c);
   failing = λ z h.
-    let (zone, covered, fails) = below_in_false bound (pointer p a) z h in
-    let (g, c, e) = choose_pointer a p zone covered in (g, c, ap (λ x. is_below z (bound x)) e ∙ fails);
+      let (zone, covered, fails) = below_in_false bound (pointer p a) z h in
+      let (g, c, e) = choose_pointer a p zone covered in (g, c, ap (λ x. is_below z (bound x)) e ∙ fails);
   minus_one = below_in_minus_one bound (pointer p a);
 }
 
@@ -188,8 +188,8 @@ pub agrees_both : (a : Cells) (t u : Numbers → ℤ → Bool) (p q : ℤ → Bo
 agrees_both a t u p q h k = record {
   passing = λ z e g c. let (x, y) = and_true (p z) (q z) e in rw (h.passing z x g c, k.passing z y g c) refl;
   failing = λ z e. elim (and_false (p z) (q z) e) [
-    inl x ↦ (let (g, c, f) = h.failing z x in (g, c, rw f refl))
-  | inr y ↦ (let (g, c, f) = k.failing z y in (g, c, second_false (t g z) (u g z) f))
+    | inl x ↦ (let (g, c, f) = h.failing z x in (g, c, rw f refl))
+    | inr y ↦ (let (g, c, f) = k.failing z y in (g, c, second_false (t g z) (u g z) f))
   ];
   minus_one = rw h.minus_one refl;
 }
@@ -282,9 +282,9 @@ pairs_stands a one cells_one h (Unknown ∷ cs) =
     record { graphics = g; numbers = negsuc 0 ∷ ns; graphics_covered = c; numbers_covered = (minus_one_is_number, covered); reason = reason.Count; fails = refl }
 pairs_stands a one cells_one h (Known k ∷ cs) =
     stands_same a (Known k ∷ cs) (λ g ns. then_take (take_one ns) (counted (count_of k) (pair (one g)))) (λ g. pairs count_of (one g)) (pairs known_count cells_one (Known k ∷ cs)) same
-      (then_take_stands a (Known k ∷ cs) (λ g. take_one) (λ g. counted (count_of k) (pair (one g))) (take_one (Known k ∷ cs)) (counted (count_of k) (pair cells_one))
-        (take_one_stands a (Known k ∷ cs))
-        (counted_stands a (count_of k) (λ g. pair (one g)) (pair cells_one) (pair_stands a one cells_one h)))
+    (then_take_stands a (Known k ∷ cs) (λ g. take_one) (λ g. counted (count_of k) (pair (one g))) (take_one (Known k ∷ cs)) (counted (count_of k) (pair cells_one))
+    (take_one_stands a (Known k ∷ cs))
+    (counted_stands a (count_of k) (λ g. pair (one g)) (pair cells_one) (pair_stands a one cells_one h)))
   where
     same : (g : Numbers) (ns : List ℤ) → CoversGraphics a g → CoversStack (Known k ∷ cs) ns → pairs count_of (one g) ns ≡ then_take (take_one ns) (counted (count_of k) (pair (one g)))
     same g [] cg w = absurd w
@@ -296,15 +296,15 @@ pub loop_stands : (a : Cells) (one : Numbers → List ℤ → Tested (Taking ℤ
 loop_stands a one cells_one h cells = go a.loop_number (λ g c. c.loop_number) (choose_loop a)
   where
     go : (c : Cell) → ((g : Numbers) → CoversGraphics a g → Covers c g.loop_number)
-      → ((n : ℤ) → Covers c n → (g : Numbers) × CoversGraphics a g × (g.loop_number ≡ n))
-      → StandsFor a cells (λ g. counted (count_of g.loop_number) (one g)) (counted (known_count c) cells_one cells)
+        → ((n : ℤ) → Covers c n → (g : Numbers) × CoversGraphics a g × (g.loop_number ≡ n))
+        → StandsFor a cells (λ g. counted (count_of g.loop_number) (one g)) (counted (known_count c) cells_one cells)
     go Unknown covered choose =
         let (g, c, e) = choose (negsuc 0) minus_one_is_number in
         let (ns, cs) = some_stack cells in
         record { graphics = g; numbers = ns; graphics_covered = c; numbers_covered = cs; reason = reason.Count; fails = rw e refl }
     go (Known k) covered choose =
         stands_same a cells (λ g. counted (count_of k) (one g)) (λ g. counted (count_of g.loop_number) (one g)) (counted (count_of k) cells_one cells)
-          (λ g ns cg cs. ap (λ x. counted (count_of x) (one g) ns) (covered g cg)) (counted_stands a (count_of k) one cells_one h cells)
+        (λ g ns cg cs. ap (λ x. counted (count_of x) (one g) ns) (covered g cg)) (counted_stands a (count_of k) one cells_one h cells)
 
 pub operand_stands : (s : Setting) (a : Cells) (o : Operand) (cells : List Cell) → StandsFor a cells (λ g. take_operand s g o) (take_cell s a o cells)
 operand_stands s a operand.Number cells = take_one_stands a cells
@@ -336,18 +336,18 @@ uses_stand s a [] = λ g c. refl
 uses_stand s a (u ∷ us) = go (reference u.reference a) (λ g c. reference_covered a g u.reference c) (choose_reference a u.reference) (uses_stand s a us)
   where
     later : (z : ℤ) → ((g : Numbers) → CoversGraphics a g → reference u.reference g ≡ z) → (b : Bool) → is_below_in (zone_size s) (pointer u.pointer a) z ≡ b
-      → (r : Tested (Unit {0})) → TestStandsFor a (λ g. test_uses s g us) r → TestStandsFor a (λ g. test_uses s g (u ∷ us)) (holds_or b reason.Point >>= (λ ok. r))
+        → (r : Tested (Unit {0})) → TestStandsFor a (λ g. test_uses s g us) r → TestStandsFor a (λ g. test_uses s g (u ∷ us)) (holds_or b reason.Point >>= (λ ok. r))
     later z same true e (Ok x) h = λ g c. rw (same g c, (agrees_in a (zone_size s) u.pointer).passing z e g c) (h g c)
     later z same true e (Err n) h =
         (h.0, h.1, (h.2.0, rw (same h.0 h.1, (agrees_in a (zone_size s) u.pointer).passing z e h.0 h.1) h.2.1))
     later z same false e r h =
         let (g, c, f) = (agrees_in a (zone_size s) u.pointer).failing z e in (g, c, (reason.Point, rw (same g c, f) refl))
+
     go : (c : Cell) → ((g : Numbers) → CoversGraphics a g → Covers c (reference u.reference g))
-      → ((n : ℤ) → Covers c n → (g : Numbers) × CoversGraphics a g × (reference u.reference g ≡ n))
-      → TestStandsFor a (λ g. test_uses s g us) (test_cell_uses s a us)
-      → TestStandsFor a (λ g. test_uses s g (u ∷ us))
+        → ((n : ℤ) → Covers c n → (g : Numbers) × CoversGraphics a g × (reference u.reference g ≡ n))
+        → TestStandsFor a (λ g. test_uses s g us) (test_cell_uses s a us)
+        → TestStandsFor a (λ g. test_uses s g (u ∷ us))
         (known c >>= (λ z. holds_or (is_below_in (zone_size s) (pointer u.pointer a) z) reason.Point >>= (λ ok. test_cell_uses s a us)))
     go Unknown covered choose rest =
         let (g, c, e) = choose (negsuc 0) minus_one_is_number in (g, c, (reason.Point, rw e refl))
     go (Known k) covered choose rest = later k covered (is_below_in (zone_size s) (pointer u.pointer a) k) refl (test_cell_uses s a us) rest
-

@@ -26,7 +26,7 @@ covers_same These Other ns to back h = record {
   places = λ m o. h.places m (back m o);
   met = λ i n e. let (m, g) = h.met i n e in (m, (to m g.0, g.1, g.2));
   smallest = λ i n e.
-    smallest_same (At These n.frames n.offset) (At Other n.frames n.offset) n.state (λ m g. (to m g.0, g.1, g.2)) (λ m g. (back m g.0, g.1, g.2)) (h.smallest i n e);
+      smallest_same (At These n.frames n.offset) (At Other n.frames n.offset) n.state (λ m g. (to m g.0, g.1, g.2)) (λ m g. (back m g.0, g.1, g.2)) (h.smallest i n e);
   apart = h.apart;
 }
 
@@ -80,11 +80,13 @@ one_entry These n lands m t h = record { places = λ m t. (0, n, refl, (lands m 
     met : (i : ℕ) (o : Next) → slice_get (n ∷ []) i ≡ Some o → (m : Machine) × At These o.frames o.offset m
     met zero o e = let M : Next → Type 0 = λ o. (m : Machine) × At These o.frames o.offset m in let is : n ≡ o = cc in subst M is (m, (t, (lands m t).0, (lands m t).1))
     met (suc i) o e = absurd (cc)
+
     smallest : (i : ℕ) (o : Next) → slice_get (n ∷ []) i ≡ Some o → IsSmallestCover (At These o.frames o.offset) o.state
     smallest zero o e =
         let S : Next → Type 0 = λ o. IsSmallestCover (At These o.frames o.offset) o.state in
         let is : n ≡ o = cc in subst S is (smallest_same These (At These n.frames n.offset) n.state (λ m t. (t, (lands m t).0, (lands m t).1)) (λ m g. g.0) h)
     smallest (suc i) o e = absurd (cc)
+
     apart : (i j : ℕ) (o p : Next) → slice_get (n ∷ []) i ≡ Some o → slice_get (n ∷ []) j ≡ Some p → o.frames ≡ p.frames → o.offset ≡ p.offset → i ≡ j
     apart zero zero o p e f g k = refl
     apart zero (suc j) o p e f g k = absurd (cc)
@@ -99,6 +101,7 @@ one_way_stands a fs at does next (Ok b) h lands = (h.0, covers)
     there : (m : Machine) → Becomes a fs at does m → (m.frames ≡ fs) × (m.offset ≡ next)
     there m w =
         let (f, p) = lands w.old w.stands w.result w.does_it in (ap (λ x. x.frames) w.new_is ∙ f, ap (λ x. x.offset) w.new_is ∙ p)
+
     covers : AreSmallestCovers (Becomes a fs at does) (one_way fs next b)
     covers =
         let (m, st, is) = some_machine a fs at in
@@ -112,6 +115,7 @@ going_on_stands a fs at does next (Ok b) h = (always, record { covers = covers; 
   where
     always : (m : Machine) → Stands a fs at m → (o : Outcome) × (goes_on next (does m) ≡ Ok o)
     always m st = let (o, e) = h.0 m st in (record o { after = at_offset o.after next }, rw e refl)
+
     covers : (m : Machine) → Becomes a fs at (λ m. goes_on next (does m)) m → CoversState b m
     covers m w =
         let (o, e) = h.0 w.old w.stands in
@@ -121,13 +125,14 @@ going_on_stands a fs at does next (Ok b) h = (always, record { covers = covers; 
         let before = h.1.covers (left_by o w.choices) (record { old = w.old; stands = w.stands; result = o; does_it = e; choices = w.choices; are_numbers = w.are_numbers; new_is = refl }) in
         let moved : CoversState b (left_by (record o { after = at_offset o.after next }) w.choices) = record { stack = before.stack; graphics = before.graphics; storage = before.storage; functions = before.functions } in
         let C : Machine → Type 0 = λ n. CoversState b n in subst C (ap (λ u. left_by u w.choices) same ∙ sym w.new_is) moved
+
     least : (d : Abstract) → ((m : Machine) → Becomes a fs at (λ m. goes_on next (does m)) m → CoversState d m) → (m : Machine) → CoversState b m → CoversState d m
     least d all = h.1.least d before
       where
         before : (m : Machine) → Becomes a fs at does m → CoversState d m
         before m w =
             let after = all (left_by (record w.result { after = at_offset w.result.after next }) w.choices)
-              (record { old = w.old; stands = w.stands; result = record w.result { after = at_offset w.result.after next }; does_it = rw w.does_it refl; choices = w.choices; are_numbers = w.are_numbers; new_is = refl }) in
+            (record { old = w.old; stands = w.stands; result = record w.result { after = at_offset w.result.after next }; does_it = rw w.does_it refl; choices = w.choices; are_numbers = w.are_numbers; new_is = refl }) in
             let here : CoversState d (left_by w.result w.choices) = record { stack = after.stack; graphics = after.graphics; storage = after.storage; functions = after.functions } in
             let C : Machine → Type 0 = λ n. CoversState d n in subst C (sym w.new_is) here
 
@@ -168,14 +173,17 @@ two_entries These fs one other b differ h = record { places = places; met = met;
   where
     places : (m : Machine) → These m → (i : ℕ) × (n : Next) × (slice_get (entry fs one b ∷ entry fs other b ∷ []) i ≡ Some n) × (m.frames ≡ n.frames) × (m.offset ≡ n.offset)
     places m t = let (f, p) = h.lands m t in elim p [ inl k ↦ (0, entry fs one b, refl, f, k) | inr k ↦ (1, entry fs other b, refl, f, k) ]
+
     met : (i : ℕ) (n : Next) → slice_get (entry fs one b ∷ entry fs other b ∷ []) i ≡ Some n → (m : Machine) × At These n.frames n.offset m
     met zero n e = let M : Next → Type 0 = λ n. (m : Machine) × At These n.frames n.offset m in let is : entry fs one b ≡ n = cc in subst M is h.first_met
     met (suc zero) n e = let M : Next → Type 0 = λ n. (m : Machine) × At These n.frames n.offset m in let is : entry fs other b ≡ n = cc in subst M is h.second_met
     met (suc (suc i)) n e = absurd (cc)
+
     smallest : (i : ℕ) (n : Next) → slice_get (entry fs one b ∷ entry fs other b ∷ []) i ≡ Some n → IsSmallestCover (At These n.frames n.offset) n.state
     smallest zero n e = let S : Next → Type 0 = λ n. IsSmallestCover (At These n.frames n.offset) n.state in let is : entry fs one b ≡ n = cc in subst S is h.first_smallest
     smallest (suc zero) n e = let S : Next → Type 0 = λ n. IsSmallestCover (At These n.frames n.offset) n.state in let is : entry fs other b ≡ n = cc in subst S is h.second_smallest
     smallest (suc (suc i)) n e = absurd (cc)
+
     apart : (i j : ℕ) (n o : Next) → slice_get (entry fs one b ∷ entry fs other b ∷ []) i ≡ Some n → slice_get (entry fs one b ∷ entry fs other b ∷ []) j ≡ Some o → n.frames ≡ o.frames → n.offset ≡ o.offset → i ≡ j
     apart zero zero n o e f g k = refl
     apart zero (suc zero) n o e f g k =
@@ -195,8 +203,9 @@ two_ways_stand These fs one other b h = go (nat_eq one other) refl
     order : one ≢ other → (c : Bool) → AreSmallestCovers These (if c then entry fs one b ∷ one_way fs other b else entry fs other b ∷ one_way fs one b)
     order differ true = two_entries These fs one other b differ h
     order differ false = two_entries These fs other one b (λ e. differ (sym e)) (swapped These fs one other b h)
+
     go : (c : Bool) → nat_eq one other ≡ c
-      → AreSmallestCovers These (if c then one_way fs one b else if nat_lt one other then entry fs one b ∷ one_way fs other b else entry fs other b ∷ one_way fs one b)
+        → AreSmallestCovers These (if c then one_way fs one b else if nat_lt one other then entry fs one b ∷ one_way fs other b else entry fs other b ∷ one_way fs one b)
     go true e =
         let same = eqb-true one other e in
         let there : (m : Machine) → These m → (m.frames ≡ fs) × (m.offset ≡ one) = λ m t. let (f, p) = h.lands m t in (f, elim p [ inl k ↦ k | inr k ↦ k ∙ sym same ]) in
