@@ -20,3 +20,5 @@ pub mod EntryLists
 pub mod EntryLaws
 pub mod EntryFacts
 pub mod EntryCoverage
+pub mod Ranges
+pub mod Followed
