@@ -1,7 +1,7 @@
 //! What is known of a hint machine's state: cells and abstract states, their order, and what an instruction makes of them.
 #![tactic(auto)]
 
-mod arithmetic;
+mod results;
 mod compute;
 pub mod cells;
 pub mod entries;
@@ -9,11 +9,11 @@ pub mod graphics;
 pub mod laws;
 mod operands;
 pub mod order;
-mod pushes;
+mod push;
 pub mod refusal;
 mod registers;
 pub mod setting;
-mod shuffles;
+mod shuffle;
 pub mod stack;
 pub mod state;
 

@@ -1,7 +1,7 @@
 use Rattle.std.proofs.Common.{◌∙◌, ap, ◌∷◌}
 use Rattle.std.specs.Prelude.{remove}
 use Rattle.tt_abs.proofs.StackSteps.{moves_index}
-use Rattle.tt_abs.proofs.shuffles.move_indexed.Goals as goal
+use Rattle.tt_abs.proofs.shuffle.move_indexed.Goals as goal
 
 pub returns-clause-ok : goal.returns-clause-ok
 returns-clause-ok c =

@@ -1,6 +1,6 @@
 use Rattle.std.proofs.Common.{◌∙◌, ap, ◌∷◌}
 use Rattle.tt_abs.proofs.StackSteps.{copies_index}
-use Rattle.tt_abs.proofs.shuffles.copy_indexed.Goals as goal
+use Rattle.tt_abs.proofs.shuffle.copy_indexed.Goals as goal
 
 pub returns-clause-ok : goal.returns-clause-ok
 returns-clause-ok c =

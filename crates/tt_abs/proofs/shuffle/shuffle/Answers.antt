@@ -2,7 +2,7 @@ use Rattle.std.proofs.Common.{ap}
 use Rattle.tt_code.specs.declared.kinds.StackOp.TheVariants as op
 use Rattle.tt_abs.specs.Transfers.{shuffled_cells}
 use Rattle.tt_abs.proofs.StackSteps.{restacks_same}
-use Rattle.tt_abs.proofs.shuffles.shuffle.Goals as goal
+use Rattle.tt_abs.proofs.shuffle.shuffle.Goals as goal
 
 pub returns-in-Depth-clause-ok : goal.returns-in-Depth-clause-ok
 returns-in-Depth-clause-ok c =

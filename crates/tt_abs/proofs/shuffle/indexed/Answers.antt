@@ -3,7 +3,7 @@ use Rattle.std.specs.Prelude.{FitsSigned}
 use Rattle.std.specs.Int.{w32}
 use Rattle.std.proofs.lemmas.Int.{to_z-of_z}
 use Rattle.tt_abs.proofs.StackSteps.{index_refused}
-use Rattle.tt_abs.proofs.shuffles.indexed.Goals as goal
+use Rattle.tt_abs.proofs.shuffle.indexed.Goals as goal
 
 pub returns-in_err-cell-clause-refused : goal.returns-in_err-cell-clause-refused
 returns-in_err-cell-clause-refused c =
