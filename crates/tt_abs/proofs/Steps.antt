@@ -1,6 +1,6 @@
 -- Any instruction that is followed: the outcome on cells stands for the machine's outcomes.
-use Rattle.std.specs.Prelude.{ℤ, ◌<◌, ◌^◌, Option}
-use Rattle.std.proofs.Common.{◌≡◌, ℕ, suc, ◌+◌, List, [], ◌∷◌, Ok, Err, Some, None, refl, ◌∙◌, ap, length, true}
+use Rattle.std.specs.Prelude.{ℤ, slice_get, ◌<◌, ◌^◌, Option}
+use Rattle.std.proofs.Common.{◌≡◌, ℕ, suc, ◌+◌, List, [], ◌∷◌, Ok, Err, Some, None, refl, sym, ◌∙◌, ap, subst, length, true}
 use Rattle.tt_code.specs.Refusals.{Tested, ◌>>=◌}
 use Rattle.tt_code.specs.Table.{Meaning, NoEntry, Plain, Pushes, Stack, Computes, Controls, Lists, effect_of}
 use Rattle.tt_code.specs.Cut.{Instruction}
@@ -9,18 +9,19 @@ use Rattle.tt_code.specs.States.{Machine, Outcome, Value}
 use Rattle.tt_code.specs.Operands.{top, take_operands, test_uses}
 use Rattle.tt_code.specs.Changes.{plain}
 use Rattle.tt_code.specs.Computing.{element, pushed, shuffled, computed, of_one, of_two}
-use Rattle.tt_code.specs.Runs.{does, within_depth, performs, fetched, outcome}
+use Rattle.tt_code.specs.Runs.{does, within_depth, performs, fetched, outcome, Faults, Steps}
 use Rattle.tt_code.specs.declared.machine.Frame.{Frame}
+use Rattle.tt_code.specs.declared.reason.Reason.{Reason}
 use Rattle.tt_code.specs.declared.reason.Reason.TheVariants as reason
 use Rattle.tt_code.specs.declared.kinds.StackOp.{StackOp}
 use Rattle.tt_code.specs.declared.kinds.StackOp.TheVariants.{Dup, Pop, Clear, Swap, Depth, CopyIndexed, MoveIndexed, Roll}
 use Rattle.tt_code.specs.declared.kinds.Arithmetic.{Arithmetic}
 use Rattle.tt_code.specs.declared.kinds.Arithmetic.TheVariants.{Add, Sub, Abs, Neg, Lt, LtEq, Gt, GtEq, Eq, Neq, And, Or, Not}
-use Rattle.tt_abs.specs.Cells.{Abstract}
+use Rattle.tt_abs.specs.Cells.{Abstract, CoversState}
 use Rattle.tt_abs.specs.Ranges.{AreInRange}
-use Rattle.tt_abs.specs.Covers.{TransfersTo}
+use Rattle.tt_abs.specs.Covers.{Stands, Becomes, TransfersTo}
 use Rattle.tt_abs.specs.Followed.{is_followed_instruction}
-use Rattle.tt_abs.specs.Transfers.{plain_cells, pushed_cells, shuffled_cells, computed_cells, does_cells, performs_cells, instruction_of, is_followed, outcome_on_cells}
+use Rattle.tt_abs.specs.Transfers.{Next, plain_cells, pushed_cells, shuffled_cells, computed_cells, does_cells, performs_cells, instruction_of, is_followed, outcome_on_cells}
 use Rattle.tt_abs.proofs.Rows.{is_readable_line}
 use Rattle.tt_abs.proofs.Plain.{plain_stands}
 use Rattle.tt_abs.proofs.TableRows.{rows_readable}
@@ -28,7 +29,7 @@ use Rattle.tt_abs.proofs.Pushes.{pushes_stand}
 use Rattle.tt_abs.proofs.Shuffles.{shuffled_stands}
 use Rattle.tt_abs.proofs.Computed.{computed_stands}
 use Rattle.tt_abs.proofs.Ways.{transfers_to_as, behind_stands}
-use Rattle.tt_abs.proofs.Depth.{depth_of_ways}
+use Rattle.tt_abs.proofs.Depth.{depth_of_ways, AreBelow, monotone_ways}
 use Rattle.tt_abs.proofs.Branches.{stands_there, fails_there, controlled_stands}
 
 -- What leads nowhere else keeps the frames.
@@ -109,3 +110,25 @@ module _ (s : Setting) (fs : List Frame) (at : ℕ) (a : Abstract) where
   outcome_stands followed small fits =
       transfers_to_as a fs at (λ m. performs s m (instruction_of s fs at)) (λ m. performs s m (fetched s m)) (performs_cells s fs at a (instruction_of s fs at))
       (λ m st. ap (λ x. performs s m (fetched s x)) (stands_there s fs at a m st)) (performs_stands (instruction_of s fs at) followed small fits)
+
+-- What follows of runs.
+
+-- where the outcome on cells isn't refused, a covered machine doesn't fault
+pub never_faults : (s : Setting) (fs : List Frame) (at : ℕ) (a : Abstract) (ns : List Next) → TransfersTo a fs at (outcome s) (Ok ns) → (m : Machine) (r : Reason) → Stands a fs at m → Faults s m r → ⊥
+never_faults s fs at a ns h m r st f =
+    let (o, e) = h.0 m st in
+    let no_such : Ok o ≡ Err r = sym e ∙ f.fails in absurd (cc)
+
+-- and what it becomes in a step stands at one of the next places and is covered there
+pub steps_are_covered : (s : Setting) (fs : List Frame) (at : ℕ) (a : Abstract) (ns : List Next) → TransfersTo a fs at (outcome s) (Ok ns) → (m new : Machine) → Stands a fs at m → Steps s m new
+    → (i : ℕ) × (n : Next) × (slice_get ns i ≡ Some n) × Stands n.state n.frames n.offset new
+steps_are_covered s fs at a ns h m new st w =
+    let b : Becomes a fs at (outcome s) new = record { old = m; stands = st; result = w.result; does_it = w.does_it; choices = w.choices; are_numbers = w.are_numbers; new_is = w.new_is } in
+    let (i, n, e, f, p) = h.1.places new b in (i, n, e, record { covered = (h.1.smallest i n e).covers new (b, f, p); frames_are = f; offset_is = p })
+
+-- the outcome on cells is monotone
+pub outcome_monotone : (s : Setting) (fs : List Frame) (at : ℕ) (a b : Abstract) (os : List Next) → is_followed_instruction (instruction_of s fs at) ≡ true → at < 2 ^ 31 → AreInRange a.stack → AreInRange b.stack
+    → ((m : Machine) → CoversState a m → CoversState b m) → outcome_on_cells s fs at b ≡ Ok os → (ns : List Next) × (outcome_on_cells s fs at a ≡ Ok ns) × AreBelow ns os
+outcome_monotone s fs at a b os followed small fits_a fits_b wider e =
+    let R : Tested (List Next) → Type 0 = λ r. TransfersTo b fs at (outcome s) r in
+    monotone_ways a b fs at (outcome s) (outcome_on_cells s fs at a) os wider (outcome_stands s fs at a followed small fits_a) (subst R e (outcome_stands s fs at b followed small fits_b))
