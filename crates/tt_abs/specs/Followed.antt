@@ -1,10 +1,17 @@
--- The instructions whose outcome on cells is defined.
-use Rattle.std.specs.Prelude.{[], ◌∷◌, Option, None, Some, Bool, true}
+-- The instructions that stay in their body: all but CALL, LOOPCALL and ENDF.
+use Rattle.std.specs.Prelude.{[], ◌∷◌, Option, None, Some, Bool, true, false}
 use Rattle.tt_code.specs.Cut.{Instruction}
-use Rattle.tt_code.specs.Table.{effect_of}
-use Rattle.tt_abs.specs.Transfers.{is_followed}
+use Rattle.tt_code.specs.Table.{Meaning, Controls, effect_of}
+use Rattle.tt_code.specs.declared.kinds.Control.TheVariants.{Call, LoopCall, EndFunction}
 
--- is the instruction, if there is one, one that is followed?
+-- does what the code stands for stay in its body?
+abbrev pub is_followed : Meaning → Bool
+is_followed (Controls Call) = false
+is_followed (Controls LoopCall) = false
+is_followed (Controls EndFunction) = false
+is_followed _ = true
+
+-- does the instruction, if there is one?
 abbrev pub is_followed_instruction : Option Instruction → Bool
 is_followed_instruction None = true
 is_followed_instruction (Some []) = true
