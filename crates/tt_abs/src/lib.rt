@@ -1,10 +1,11 @@
 //! What is known of a hint machine's state: cells and abstract states, their order, and what an instruction makes of them.
 #![tactic(auto)]
 
-mod results;
-mod compute;
 pub mod cells;
+mod compute;
 pub mod entries;
+#[cfg(test)]
+mod entries_tests;
 pub mod graphics;
 pub mod laws;
 mod operands;
@@ -12,6 +13,7 @@ pub mod order;
 mod push;
 pub mod refusal;
 mod registers;
+mod results;
 pub mod setting;
 mod shuffle;
 pub mod stack;
