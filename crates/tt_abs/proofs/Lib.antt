@@ -2,3 +2,4 @@ pub mod Reversed
 pub mod StackOrders
 pub mod CoverageLemmas
 pub mod EntryEdits
+pub mod StateCoverage
