@@ -8,6 +8,8 @@ pub mod laws;
 pub mod order;
 pub mod stack;
 pub mod state;
+#[cfg(test)]
+mod state_tests;
 
 pub use cells::{Cell, ZoneCell};
 pub use entries::{Entries, EntryValue};
