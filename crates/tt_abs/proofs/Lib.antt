@@ -20,3 +20,5 @@ pub mod Shuffles
 pub mod Computed
 pub mod Pushes
 pub mod Steps
+pub mod StateCoverage
+pub mod StatesInRange

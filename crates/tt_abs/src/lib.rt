@@ -18,6 +18,8 @@ pub mod setting;
 mod shuffle;
 pub mod stack;
 pub mod state;
+#[cfg(test)]
+mod state_tests;
 
 pub use cells::{Cell, ZoneCell};
 pub use entries::{Entries, EntryValue};
