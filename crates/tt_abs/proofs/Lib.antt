@@ -14,3 +14,5 @@ pub mod Shuffles
 pub mod Computed
 pub mod Pushes
 pub mod Steps
+pub mod RunningOnCells
+pub mod ExamplesOfCells
