@@ -16,3 +16,4 @@ pub mod Pushes
 pub mod Steps
 pub mod RunningOnCells
 pub mod ExamplesOfCells
+pub mod ExamplesOfOtherCells

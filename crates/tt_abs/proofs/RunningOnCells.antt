@@ -1,20 +1,30 @@
 -- Running programs on the outcome on cells, so that worked examples can be computed. Nothing is known of the storage area, but
 -- that its cell 2 holds 102.
-use Rattle.std.specs.Prelude.{◌≡◌, ℕ, zero, suc, pos, List, [], ◌∷◌, Ok, Err, map}
-use Rattle.tt_code.specs.Refusals.{Tested}
+use Rattle.std.specs.Prelude.{◌≡◌, ℕ, zero, suc, pos, negsuc, List, [], ◌∷◌, Ok, Err, map}
+use Rattle.tt_code.specs.Refusals.{Tested, ◌>>=◌}
 use Rattle.tt_code.specs.Table.{effect_of}
 use Rattle.tt_code.specs.Structure.{word}
+use Rattle.tt_code.specs.Settings.{Setting}
+use Rattle.tt_code.specs.Fonts.{font_setting, cvt_setting, glyph_setting}
 use Rattle.tt_code.specs.declared.limits.Limits.{Limits}
 use Rattle.tt_code.specs.declared.reason.Reason.{Reason}
-use Rattle.tt_code.proofs.Running.{wide_twilight, alone}
+use Rattle.tt_code.specs.declared.reason.Reason.TheVariants as reason
+use Rattle.tt_code.proofs.Running.{usual_limits, wide_twilight, font_of, cut_of, cut_within, alone}
 use Rattle.tt_abs.specs.declared.cells.Cell.{Cell}
 use Rattle.tt_abs.specs.declared.cells.Cell.TheVariants.{Known, Unknown}
 use Rattle.tt_abs.specs.declared.cells.ZoneCell.{ZoneCell}
+use Rattle.tt_abs.specs.declared.cells.ZoneCell.TheVariants.{One, Either}
 use Rattle.tt_abs.specs.Cells.{Cells, Abstract}
 use Rattle.tt_abs.specs.Transfers.{Next, outcome_on_cells}
 
 abbrev pub k : ℕ → Cell
 k n = Known (pos n)
+
+abbrev pub lowest : Cell
+lowest = Known (negsuc 2147483647)
+
+abbrev pub highest : Cell
+highest = k 2147483647
 
 -- reference points that no zone has, each another one, and the loop number 2
 abbrev pub zones : ZoneCell → ZoneCell → ZoneCell → Cells
@@ -81,3 +91,87 @@ each_faults_by limits codes g stacks r =
 
 abbrev pub each_faults : List ℕ → Cells → List (List Cell) → Reason → Type 0
 each_faults = each_faults_by wide_twilight
+
+-- what one code leaves on the stack, of each of these stacks
+abbrev pub each_stack_leaves : ℕ → List (List Cell × List Cell) → Type 0
+each_stack_leaves code runs =
+    map (λ (r : List Cell × List Cell). performed wide_twilight (zones Either Either Either) r.0 code) runs
+    ≡ map (λ (r : List Cell × List Cell). goes_on_with r.1 (zones Either Either Either) untouched) runs
+
+-- Longer programs, of a glyph with 4 points and 1 contour.
+
+abbrev pub default_cells : Cells
+default_cells = record { rp0 = k 0; rp1 = k 0; rp2 = k 0; zp0 = One; zp1 = One; zp2 = One; loop_number = k 1 }
+
+abbrev pub setting_of : Limits → List ℕ → Setting
+setting_of limits program = glyph_setting (font_of limits [] []) 4 1 (cut_of program)
+
+-- an offset, and the stack there
+abbrev pub Place : Type 0
+Place = ℕ × List Cell
+
+abbrev pub places : Tested (List Next) → Tested (List Place)
+places (Ok nexts) = Ok (map (λ (n : Next). (n.offset, n.state.stack)) nexts)
+places (Err r) = Err r
+
+-- where the instruction at an offset of a program leads with a stack
+unfoldable pub ways : Limits → List ℕ → ℕ → List Cell → Tested (List Place)
+unfolding outcome_on_cells effect_of word cut_within
+ways limits program offset stack = places (outcome_on_cells (setting_of limits program) [] offset (begins default_cells stack))
+
+-- with each of these stacks it leads to these places
+abbrev pub each_leads : List ℕ → ℕ → List (List Cell × List Place) → Type 0
+each_leads program offset runs =
+    map (λ (r : List Cell × List Place). ways usual_limits program offset r.0) runs ≡ map (λ (r : List Cell × List Place). Ok r.1) runs
+
+-- with each of these stacks it is refused so
+abbrev pub each_is_refused_by : Limits → List ℕ → ℕ → List (List Cell) → Reason → Type 0
+each_is_refused_by limits program offset stacks r =
+    map (λ (stack : List Cell). ways limits program offset stack) stacks ≡ map (λ (stack : List Cell). Err r) stacks
+
+abbrev pub each_is_refused : List ℕ → ℕ → List (List Cell) → Reason → Type 0
+each_is_refused = each_is_refused_by usual_limits
+
+abbrev pub first_of : List Next → Tested Next
+first_of [] = Err reason.Target
+first_of (n ∷ ns) = Ok n
+
+-- where the first way leads after so many instructions
+unfoldable pub followed : ℕ → Setting → Next → Tested Next
+unfolding outcome_on_cells effect_of word
+followed zero s n = Ok n
+followed (suc i) s n =
+    let more = followed i s in
+    elim (outcome_on_cells s n.frames n.offset n.state >>= first_of) [ Ok next ↦ more next | Err r ↦ Err r ]
+
+-- the stack after so many instructions of a program, from the empty stack
+unfoldable pub stack_after : ℕ → List ℕ → Tested (List Cell)
+unfolding followed cut_within
+stack_after steps program = elim (followed steps (setting_of usual_limits program) (record { frames = []; offset = 0; state = begins default_cells [] })) [
+  | Ok n ↦ Ok n.state.stack
+  | Err r ↦ Err r
+]
+
+-- Definitions of functions: the places behind them and the functions known there, where the program is a font program or a CVT
+-- program.
+
+abbrev pub defined : Tested (List Next) → Tested (List (ℕ × List (ℕ × ℕ)))
+defined (Ok nexts) = Ok (map (λ (n : Next). (n.offset, n.state.functions)) nexts)
+defined (Err r) = Err r
+
+unfoldable pub functions_by : Setting → ℕ → List Cell → List (ℕ × ℕ) → Tested (List (ℕ × List (ℕ × ℕ)))
+unfolding outcome_on_cells effect_of word
+functions_by s offset stack functions = defined (outcome_on_cells s [] offset (record (begins default_cells stack) { functions = functions }))
+
+unfoldable pub in_font_program : List ℕ → ℕ → List Cell → List (ℕ × ℕ) → Tested (List (ℕ × List (ℕ × ℕ)))
+unfolding functions_by cut_within
+in_font_program program = functions_by (font_setting (font_of usual_limits program []))
+
+unfoldable pub in_cvt_program : List ℕ → ℕ → List Cell → List (ℕ × ℕ) → Tested (List (ℕ × List (ℕ × ℕ)))
+unfolding functions_by cut_within
+in_cvt_program program = functions_by (cvt_setting (font_of usual_limits [] program))
+
+-- what the proofs about pushes, calculations and control unfold
+unfoldable pub shown : Unit {0}
+unfolding performed ways stack_after in_font_program in_cvt_program
+shown = tt
