@@ -29,8 +29,11 @@ unfolding shown
 pushb_pushes_four_bytes = refl
 
 pushb_pushes_five_bytes :
-    each_leads (0xb4 ∷ 0xfa ∷ 0xf9 ∷ 0xf8 ∷ 0xf7 ∷ 0xf6 ∷ 0x18 ∷ []) 0 (([], (6, k 246 ∷ k 247 ∷ k 248 ∷ k 249 ∷ k 250 ∷ [])
-    ∷ []) ∷ [])
+    each_leads (0xb4 ∷ 0xfa ∷ 0xf9 ∷ 0xf8 ∷ 0xf7 ∷ 0xf6 ∷ 0x18 ∷ []) 0 ((
+      [],
+      (6, k 246 ∷ k 247 ∷ k 248 ∷ k 249 ∷ k 250 ∷ [])
+          ∷ [],
+    ) ∷ [])
 unfolding shown
 pushb_pushes_five_bytes = refl
 
@@ -52,17 +55,53 @@ pushb_pushes_eight_bytes :
 unfolding shown
 pushb_pushes_eight_bytes = refl
 
-pushb_needs_room :
+pushb_of_one_needs_room :
     each_is_refused (0xb0 ∷ 0x01 ∷ 0x18 ∷ []) 0 ((k 7 ∷ k 6 ∷ k 5 ∷ k 4 ∷ k 3 ∷ k 2 ∷ k 1 ∷ Unknown ∷ []) ∷ [])
     reason.Overflow
 unfolding shown
-pushb_needs_room = refl
+pushb_of_one_needs_room = refl
 
-pushb_of_eight_bytes_needs_room :
+pushb_of_two_needs_room :
+    each_is_refused (0xb1 ∷ 0x01 ∷ 0x02 ∷ 0x18 ∷ []) 0 ((k 6 ∷ k 5 ∷ k 4 ∷ k 3 ∷ k 2 ∷ k 1 ∷ Unknown ∷ []) ∷ [])
+    reason.Overflow
+unfolding shown
+pushb_of_two_needs_room = refl
+
+pushb_of_three_needs_room :
+    each_is_refused (0xb2 ∷ 0x01 ∷ 0x02 ∷ 0x03 ∷ 0x18 ∷ []) 0 ((k 5 ∷ k 4 ∷ k 3 ∷ k 2 ∷ k 1 ∷ Unknown ∷ []) ∷ [])
+    reason.Overflow
+unfolding shown
+pushb_of_three_needs_room = refl
+
+pushb_of_four_needs_room :
+    each_is_refused (0xb3 ∷ 0x01 ∷ 0x02 ∷ 0x03 ∷ 0x04 ∷ 0x18 ∷ []) 0 ((k 4 ∷ k 3 ∷ k 2 ∷ k 1 ∷ Unknown ∷ []) ∷ [])
+    reason.Overflow
+unfolding shown
+pushb_of_four_needs_room = refl
+
+pushb_of_five_needs_room :
+    each_is_refused (0xb4 ∷ 0x01 ∷ 0x02 ∷ 0x03 ∷ 0x04 ∷ 0x05 ∷ 0x18 ∷ []) 0 ((k 3 ∷ k 2 ∷ k 1 ∷ Unknown ∷ []) ∷ [])
+    reason.Overflow
+unfolding shown
+pushb_of_five_needs_room = refl
+
+pushb_of_six_needs_room :
+    each_is_refused (0xb5 ∷ 0x01 ∷ 0x02 ∷ 0x03 ∷ 0x04 ∷ 0x05 ∷ 0x06 ∷ 0x18 ∷ []) 0 ((k 2 ∷ k 1 ∷ Unknown ∷ []) ∷ [])
+    reason.Overflow
+unfolding shown
+pushb_of_six_needs_room = refl
+
+pushb_of_seven_needs_room :
+    each_is_refused (0xb6 ∷ 0x01 ∷ 0x02 ∷ 0x03 ∷ 0x04 ∷ 0x05 ∷ 0x06 ∷ 0x07 ∷ 0x18 ∷ []) 0 ((k 1 ∷ Unknown ∷ []) ∷ [])
+    reason.Overflow
+unfolding shown
+pushb_of_seven_needs_room = refl
+
+pushb_of_eight_needs_room :
     each_is_refused (0xb7 ∷ 0x01 ∷ 0x02 ∷ 0x03 ∷ 0x04 ∷ 0x05 ∷ 0x06 ∷ 0x07 ∷ 0x08 ∷ 0x18 ∷ []) 0 ((Unknown ∷ []) ∷ [])
     reason.Overflow
 unfolding shown
-pushb_of_eight_bytes_needs_room = refl
+pushb_of_eight_needs_room = refl
 
 pushw_pushes_one_word :
     each_leads (0xb8 ∷ 0x01 ∷ 0x00 ∷ 0x18 ∷ []) 0 (([], (3, k 256 ∷ []) ∷ []) ∷ [])
@@ -107,16 +146,64 @@ pushw_pushes_seven_words = refl
 
 pushw_pushes_eight_words :
     each_leads (0xbf ∷ 0x01 ∷ 0x00 ∷ 0xff ∷ 0xfd ∷ 0x03 ∷ 0x02 ∷ 0xff ∷ 0xfb ∷ 0x05 ∷ 0x04 ∷ 0xff ∷ 0xf9 ∷ 0x07 ∷ 0x06 ∷ 0x80
-    ∷ 0x00 ∷ 0x18 ∷ []) 0 (([], (17, Known (negsuc 32767) ∷ k 1798 ∷ Known (negsuc 6) ∷ k 1284 ∷ Known (negsuc 4) ∷ k 770
-    ∷ Known (negsuc 2) ∷ k 256 ∷ []) ∷ []) ∷ [])
+    ∷ 0x00 ∷ 0x18 ∷ []) 0 ((
+      [],
+      (
+        17,
+        Known (negsuc 32767) ∷ k 1798 ∷ Known (negsuc 6) ∷ k 1284 ∷ Known (negsuc 4) ∷ k 770
+            ∷ Known (negsuc 2) ∷ k 256 ∷ [],
+      ) ∷ [],
+    ) ∷ [])
 unfolding shown
 pushw_pushes_eight_words = refl
 
-pushw_needs_room :
+pushw_of_one_needs_room :
     each_is_refused (0xb8 ∷ 0x00 ∷ 0x01 ∷ 0x18 ∷ []) 0 ((k 7 ∷ k 6 ∷ k 5 ∷ k 4 ∷ k 3 ∷ k 2 ∷ k 1 ∷ Unknown ∷ []) ∷ [])
     reason.Overflow
 unfolding shown
-pushw_needs_room = refl
+pushw_of_one_needs_room = refl
+
+pushw_of_two_needs_room :
+    each_is_refused (0xb9 ∷ 0x00 ∷ 0x01 ∷ 0x00 ∷ 0x02 ∷ 0x18 ∷ []) 0 ((k 6 ∷ k 5 ∷ k 4 ∷ k 3 ∷ k 2 ∷ k 1 ∷ Unknown ∷ [])
+    ∷ []) reason.Overflow
+unfolding shown
+pushw_of_two_needs_room = refl
+
+pushw_of_three_needs_room :
+    each_is_refused (0xba ∷ 0x00 ∷ 0x01 ∷ 0x00 ∷ 0x02 ∷ 0x00 ∷ 0x03 ∷ 0x18 ∷ []) 0
+    ((k 5 ∷ k 4 ∷ k 3 ∷ k 2 ∷ k 1 ∷ Unknown ∷ []) ∷ []) reason.Overflow
+unfolding shown
+pushw_of_three_needs_room = refl
+
+pushw_of_four_needs_room :
+    each_is_refused (0xbb ∷ 0x00 ∷ 0x01 ∷ 0x00 ∷ 0x02 ∷ 0x00 ∷ 0x03 ∷ 0x00 ∷ 0x04 ∷ 0x18 ∷ []) 0
+    ((k 4 ∷ k 3 ∷ k 2 ∷ k 1 ∷ Unknown ∷ []) ∷ []) reason.Overflow
+unfolding shown
+pushw_of_four_needs_room = refl
+
+pushw_of_five_needs_room :
+    each_is_refused (0xbc ∷ 0x00 ∷ 0x01 ∷ 0x00 ∷ 0x02 ∷ 0x00 ∷ 0x03 ∷ 0x00 ∷ 0x04 ∷ 0x00 ∷ 0x05 ∷ 0x18 ∷ []) 0
+    ((k 3 ∷ k 2 ∷ k 1 ∷ Unknown ∷ []) ∷ []) reason.Overflow
+unfolding shown
+pushw_of_five_needs_room = refl
+
+pushw_of_six_needs_room :
+    each_is_refused (0xbd ∷ 0x00 ∷ 0x01 ∷ 0x00 ∷ 0x02 ∷ 0x00 ∷ 0x03 ∷ 0x00 ∷ 0x04 ∷ 0x00 ∷ 0x05 ∷ 0x00 ∷ 0x06 ∷ 0x18 ∷ []) 0
+    ((k 2 ∷ k 1 ∷ Unknown ∷ []) ∷ []) reason.Overflow
+unfolding shown
+pushw_of_six_needs_room = refl
+
+pushw_of_seven_needs_room :
+    each_is_refused (0xbe ∷ 0x00 ∷ 0x01 ∷ 0x00 ∷ 0x02 ∷ 0x00 ∷ 0x03 ∷ 0x00 ∷ 0x04 ∷ 0x00 ∷ 0x05 ∷ 0x00 ∷ 0x06 ∷ 0x00 ∷ 0x07
+    ∷ 0x18 ∷ []) 0 ((k 1 ∷ Unknown ∷ []) ∷ []) reason.Overflow
+unfolding shown
+pushw_of_seven_needs_room = refl
+
+pushw_of_eight_needs_room :
+    each_is_refused (0xbf ∷ 0x00 ∷ 0x01 ∷ 0x00 ∷ 0x02 ∷ 0x00 ∷ 0x03 ∷ 0x00 ∷ 0x04 ∷ 0x00 ∷ 0x05 ∷ 0x00 ∷ 0x06 ∷ 0x00 ∷ 0x07
+    ∷ 0x00 ∷ 0x08 ∷ 0x18 ∷ []) 0 ((Unknown ∷ []) ∷ []) reason.Overflow
+unfolding shown
+pushw_of_eight_needs_room = refl
 
 npushb_pushes_as_many_bytes_as_it_counts :
     each_leads (0x40 ∷ 0x03 ∷ 0x01 ∷ 0xff ∷ 0x80 ∷ 0x18 ∷ []) 0 ((Unknown ∷ [], (5, k 128 ∷ k 255 ∷ k 1 ∷ Unknown ∷ []) ∷ [])
@@ -180,8 +267,11 @@ unfolding shown
 pop_needs_an_element = refl
 
 clear_removes_all :
-    each_stack_leaves 0x22 ((k 1 ∷ k 2 ∷ Unknown ∷ [], []) ∷ ([], []) ∷ (k 9 ∷ k 8 ∷ k 7 ∷ k 6 ∷ k 5 ∷ k 4 ∷ k 3 ∷ k 2 ∷ k 1
-    ∷ Unknown ∷ [], []) ∷ [])
+    each_stack_leaves 0x22 ((k 1 ∷ k 2 ∷ Unknown ∷ [], []) ∷ ([], []) ∷ (
+      k 9 ∷ k 8 ∷ k 7 ∷ k 6 ∷ k 5 ∷ k 4 ∷ k 3 ∷ k 2 ∷ k 1
+          ∷ Unknown ∷ [],
+      [],
+    ) ∷ [])
 unfolding shown
 clear_removes_all = refl
 
@@ -211,8 +301,11 @@ depth_needs_room = refl
 cindex_copies_an_element_by_its_index :
     each_stack_leaves 0x25 ((k 2 ∷ k 3 ∷ k 2 ∷ k 1 ∷ [], k 2 ∷ k 3 ∷ k 2 ∷ k 1 ∷ [])
     ∷ (k 2 ∷ k 3 ∷ Unknown ∷ k 1 ∷ [], Unknown ∷ k 3 ∷ Unknown ∷ k 1 ∷ [])
-    ∷ (k 1 ∷ k 3 ∷ Unknown ∷ k 1 ∷ [], k 3 ∷ k 3 ∷ Unknown ∷ k 1 ∷ []) ∷ (k 3 ∷ Unknown ∷ k 2 ∷ k 1 ∷ [], k 1 ∷ Unknown ∷ k 2
-    ∷ k 1 ∷ []) ∷ [])
+    ∷ (k 1 ∷ k 3 ∷ Unknown ∷ k 1 ∷ [], k 3 ∷ k 3 ∷ Unknown ∷ k 1 ∷ []) ∷ (
+      k 3 ∷ Unknown ∷ k 2 ∷ k 1 ∷ [],
+      k 1 ∷ Unknown ∷ k 2
+          ∷ k 1 ∷ [],
+    ) ∷ [])
 unfolding shown
 cindex_copies_an_element_by_its_index = refl
 
@@ -261,8 +354,11 @@ mindex_refuses_an_unknown_index = refl
 
 roll_brings_the_third_element_to_the_top :
     each_stack_leaves 0x8a ((k 3 ∷ k 2 ∷ k 1 ∷ [], k 1 ∷ k 3 ∷ k 2 ∷ [])
-    ∷ (k 1 ∷ k 2 ∷ Unknown ∷ k 4 ∷ [], Unknown ∷ k 1 ∷ k 2 ∷ k 4 ∷ []) ∷ (k 1 ∷ Unknown ∷ k 3 ∷ k 4 ∷ [], k 3 ∷ k 1 ∷ Unknown
-    ∷ k 4 ∷ []) ∷ [])
+    ∷ (k 1 ∷ k 2 ∷ Unknown ∷ k 4 ∷ [], Unknown ∷ k 1 ∷ k 2 ∷ k 4 ∷ []) ∷ (
+      k 1 ∷ Unknown ∷ k 3 ∷ k 4 ∷ [],
+      k 3 ∷ k 1 ∷ Unknown
+          ∷ k 4 ∷ [],
+    ) ∷ [])
 unfolding shown
 roll_brings_the_third_element_to_the_top = refl
 
@@ -491,8 +587,11 @@ unfolding shown
 or_of_known_numbers = refl
 
 or_is_true_where_one_is_true :
-    each_stack_leaves 0x5b ((k 5 ∷ Unknown ∷ k 9 ∷ [], k 1 ∷ k 9 ∷ []) ∷ (Unknown ∷ Known (negsuc 4) ∷ k 9 ∷ [], k 1 ∷ k 9
-    ∷ []) ∷ [])
+    each_stack_leaves 0x5b ((k 5 ∷ Unknown ∷ k 9 ∷ [], k 1 ∷ k 9 ∷ []) ∷ (
+      Unknown ∷ Known (negsuc 4) ∷ k 9 ∷ [],
+      k 1 ∷ k 9
+          ∷ [],
+    ) ∷ [])
 unfolding shown
 or_is_true_where_one_is_true = refl
 

@@ -17,3 +17,4 @@ pub mod Steps
 pub mod RunningOnCells
 pub mod ExamplesOfCells
 pub mod ExamplesOfOtherCells
+pub mod RangesKept
