@@ -22,3 +22,7 @@ pub mod Pushes
 pub mod Steps
 pub mod StateCoverage
 pub mod StatesInRange
+pub mod RunningOnCells
+pub mod ExamplesOfCells
+pub mod ExamplesOfOtherCells
+pub mod RangesKept
