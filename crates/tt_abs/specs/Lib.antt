@@ -8,6 +8,7 @@ pub mod Stacks
 pub mod Taken
 pub mod Steps
 pub mod Computes
+pub mod Stored
 pub mod CellOrders
 pub mod CellLaws
 pub mod StackLaws

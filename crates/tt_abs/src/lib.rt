@@ -2,6 +2,7 @@
 #![tactic(auto)]
 
 pub mod cells;
+mod changes;
 mod compute;
 pub mod entries;
 #[cfg(test)]
