@@ -169,13 +169,13 @@ best_drop {X} In f cs n h = record {
       (best_same In (λ x. taken_at (pos 1) (f x) (n + k)) (λ x. taken_at (pos 1) (drop n (f x)) k) (taken_at (Known (pos 1)) cs (n + k)) (λ x i. at_drop (pos 1) n (f x) k) (h.each (n + k)));
 }
 
-at_take : {C : Type 0} (d : C) (n : ℕ) (xs : List C) (k : ℕ) → k < n → taken_at d (take n xs) k ≡ taken_at d xs k
+pub at_take : {C : Type 0} (d : C) (n : ℕ) (xs : List C) (k : ℕ) → k < n → taken_at d (take n xs) k ≡ taken_at d xs k
 at_take d zero xs k h = absurd (omega arith)
 at_take d (suc n) [] k h = refl
 at_take d (suc n) (x ∷ xs) zero h = refl
 at_take d (suc n) (x ∷ xs) (suc k) h = at_take d n xs k (omega arith)
 
-past_take : {C : Type 0} (d : C) (n : ℕ) (xs : List C) (k : ℕ) → n ≤ k → taken_at d (take n xs) k ≡ d
+pub past_take : {C : Type 0} (d : C) (n : ℕ) (xs : List C) (k : ℕ) → n ≤ k → taken_at d (take n xs) k ≡ d
 past_take d zero xs k h = refl
 past_take d (suc n) [] k h = refl
 past_take d (suc n) (x ∷ xs) zero h = absurd (omega arith)

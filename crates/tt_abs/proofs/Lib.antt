@@ -26,3 +26,4 @@ pub mod RunningOnCells
 pub mod ExamplesOfCells
 pub mod ExamplesOfOtherCells
 pub mod RangesKept
+pub mod TakenLemmas

@@ -34,11 +34,13 @@ fn zone_of(cell: Cell) -> ZoneCell
 fn taken(stack: &Stack, count: usize, position: u8) -> Cell
     ensures { result ≡ taken_at (Known (pos 1)) (take count stack.now) position }
 {
-    let position = usize::from(position);
-    if position < count {
-        stack.under(position).unwrap_or(Cell::Known(1))
-    } else {
-        Cell::Known(1)
+    let place = usize::from(position);
+    if place >= count {
+        return Cell::Known(1);
+    }
+    match stack.under(place) {
+        Some(cell) => cell,
+        None => Cell::Known(1),
     }
 }
 
