@@ -27,3 +27,4 @@ pub mod ExamplesOfCells
 pub mod ExamplesOfOtherCells
 pub mod RangesKept
 pub mod TakenLemmas
+pub mod PlainSteps

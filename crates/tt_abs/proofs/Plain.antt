@@ -30,7 +30,7 @@ use Rattle.tt_abs.proofs.Machines.{May, machine_with, machine_stands, some_area,
 
 -- What the tests leave known.
 
-then_take_parts : (first : Tested (Taking Cell)) (second : List Cell → Tested (Taking Cell)) (t : Taking Cell) → then_take first second ≡ Ok t
+pub then_take_parts : (first : Tested (Taking Cell)) (second : List Cell → Tested (Taking Cell)) (t : Taking Cell) → then_take first second ≡ Ok t
     → (u : Taking Cell) × (v : Taking Cell) × (first ≡ Ok u) × (second u.1 ≡ Ok v) × (t.0 ≡ u.0 ++ v.0)
 then_take_parts (Err n) second t e = absurd (cc)
 then_take_parts (Ok u) second t e = go (second u.1) refl e
@@ -59,7 +59,7 @@ operand_known s a (operand.LoopPoints within) cs u h e = absurd (cc)
 operand_known s a (operand.PointPairs within) cs u h e = absurd (cc)
 operand_known s a operand.CvtPairs cs u h e = absurd (cc)
 
-operand_single : (s : Setting) (a : Cells) (o : Operand) (cs : List Cell) (u : Taking Cell) → is_single o ≡ true → take_cell s a o cs ≡ Ok u → (c : Cell) × (u.0 ≡ c ∷ [])
+pub operand_single : (s : Setting) (a : Cells) (o : Operand) (cs : List Cell) (u : Taking Cell) → is_single o ≡ true → take_cell s a o cs ≡ Ok u → (c : Cell) × (u.0 ≡ c ∷ [])
 operand_single s a operand.Number [] u h e = absurd (cc)
 operand_single s a operand.Number (c ∷ cs) u h e = let same : u ≡ (c ∷ [], cs) = cc in (c, ap (λ x. x.0) same)
 operand_single s a (operand.Point within) cs u h e = let (k, f) = operand_known s a (operand.Point within) cs u h e in (Known k, f)
@@ -71,14 +71,14 @@ operand_single s a (operand.LoopPoints within) cs u h e = absurd (cc)
 operand_single s a (operand.PointPairs within) cs u h e = absurd (cc)
 operand_single s a operand.CvtPairs cs u h e = absurd (cc)
 
-and_both : (a b : Bool) → a && b ≡ true → (a ≡ true) × (b ≡ true)
+pub and_both : (a b : Bool) → a && b ≡ true → (a ≡ true) × (b ≡ true)
 and_both true b h = (refl, h)
 and_both false b h = absurd (cc)
 
-at_first : (t u v : List Cell) (c : Cell) → t ≡ u ++ v → u ≡ c ∷ [] → taken_at (Known (pos 1)) t 0 ≡ c
+pub at_first : (t u v : List Cell) (c : Cell) → t ≡ u ++ v → u ≡ c ∷ [] → taken_at (Known (pos 1)) t 0 ≡ c
 at_first t u v c e f = rw (e, f) refl
 
-at_later : (t u v : List Cell) (c : Cell) (i : ℕ) → t ≡ u ++ v → u ≡ c ∷ [] → taken_at (Known (pos 1)) t (suc i) ≡ taken_at (Known (pos 1)) v i
+pub at_later : (t u v : List Cell) (c : Cell) (i : ℕ) → t ≡ u ++ v → u ≡ c ∷ [] → taken_at (Known (pos 1)) t (suc i) ≡ taken_at (Known (pos 1)) v i
 at_later t u v c i e f = rw (e, f) refl
 
 known_at : (s : Setting) (a : Cells) (os : List Operand) (i : ℕ) (cs : List Cell) (t : Taking Cell) → is_known_at os i ≡ true → take_cells s a os cs ≡ Ok t

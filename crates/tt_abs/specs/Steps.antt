@@ -7,6 +7,8 @@ use Rattle.tt_code.specs.declared.reason.Reason.{Reason}
 use Rattle.tt_abs.specs.declared.cells.Cell.{Cell}
 use Rattle.tt_abs.specs.declared.refusal.Refusal.{Refusal}
 use Rattle.tt_abs.specs.declared.refusal.Refusal.TheVariants.{Refused, OutOfMemory}
+use Rattle.tt_code.specs.Table.{Lists}
+use Rattle.tt_code.specs.declared.kinds.Row.{Row}
 use Rattle.tt_abs.specs.Cells.{Abstract}
 
 -- what holds of a refusal's reason; want of memory says nothing
@@ -28,3 +30,7 @@ takes_one Abs = true
 takes_one Neg = true
 takes_one Not = true
 takes_one _ = false
+
+-- a line of the table as the code has it, in slices
+abbrev pub line_of : Row → Lists
+line_of row = record { operands = row.operands.now; uses = row.uses.now; updates = row.updates.now; pushes = row.pushes.now }

@@ -11,6 +11,7 @@ pub mod graphics;
 pub mod laws;
 mod operands;
 pub mod order;
+mod line;
 mod push;
 pub mod refusal;
 mod registers;
