@@ -28,3 +28,4 @@ pub mod ExamplesOfOtherCells
 pub mod RangesKept
 pub mod TakenLemmas
 pub mod PlainSteps
+pub mod TargetLemmas

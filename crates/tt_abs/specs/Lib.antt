@@ -9,6 +9,7 @@ pub mod Taken
 pub mod Steps
 pub mod Computes
 pub mod Stored
+pub mod Moves
 pub mod CellOrders
 pub mod CellLaws
 pub mod StackLaws

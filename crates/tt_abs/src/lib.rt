@@ -22,6 +22,7 @@ pub mod stack;
 pub mod state;
 #[cfg(test)]
 mod state_tests;
+pub mod moves;
 
 pub use cells::{Cell, ZoneCell};
 pub use entries::{Entries, EntryValue};
@@ -30,3 +31,4 @@ pub use refusal::Refusal;
 pub use setting::{Kind, Point, Setting};
 pub use stack::Stack;
 pub use state::State;
+pub use moves::{Move, Moves};
