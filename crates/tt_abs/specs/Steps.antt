@@ -1,5 +1,10 @@
 -- What the code does in place, read as the outcome on cells. (Representation: no public clause cites it but by these words' definitions.)
-use Rattle.std.specs.Prelude.{◌≡◌, ℕ, List, Ok, Err, Bool, true, false}
+use Rattle.std.specs.Prelude.{◌≡◌, ℕ, ℤ, List, Ok, Err, Bool, true, false, not, length}
+use Rattle.tt_code.specs.States.{is_true}
+use Rattle.tt_code.specs.declared.machine.Frame.{Frame}
+use Rattle.tt_abs.specs.declared.moves.Moves.{Moves}
+use Rattle.tt_abs.specs.Moves.{nexts_of}
+use Rattle.tt_abs.specs.Transfers.{Next}
 use Rattle.tt_code.specs.Refusals.{Tested}
 use Rattle.tt_code.specs.declared.kinds.Arithmetic.{Arithmetic}
 use Rattle.tt_code.specs.declared.kinds.Arithmetic.TheVariants.{Abs, Neg, Not}
@@ -34,3 +39,15 @@ takes_one _ = false
 -- a line of the table as the code has it, in slices
 abbrev pub line_of : Row → Lists
 line_of row = record { operands = row.operands.now; uses = row.uses.now; updates = row.updates.now; pushes = row.pushes.now }
+
+-- JROT jumps where the condition holds, JROF where it doesn't
+abbrev pub holds_when : Bool → ℤ → Bool
+holds_when true = is_true
+holds_when false = λ e. not (is_true e)
+
+-- whatever the stack, so deep, and whatever else is known: it leads by these moves, with the stack left
+abbrev pub Leads : (List Cell → Abstract → Tested (List Next)) → List Frame → ℕ → Moves → Type 0
+Leads does fs depth moves = (stack : List Cell) (a : Abstract) → length stack ≡ depth → does stack a ≡ Ok (nexts_of fs moves (record a { stack = stack }))
+
+abbrev pub LeadsNowhere : (List Cell → Abstract → Tested (List Next)) → ℕ → Reason → Type 0
+LeadsNowhere does depth r = (stack : List Cell) (a : Abstract) → length stack ≡ depth → does stack a ≡ Err r

@@ -4,6 +4,7 @@
 pub mod cells;
 mod changes;
 mod compute;
+mod control;
 pub mod entries;
 #[cfg(test)]
 mod entries_tests;
