@@ -29,3 +29,4 @@ pub mod RangesKept
 pub mod TakenLemmas
 pub mod PlainSteps
 pub mod TargetLemmas
+pub mod CalledLemmas

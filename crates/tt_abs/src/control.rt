@@ -1,6 +1,6 @@
 //! The instructions that lead elsewhere than behind themselves, or define a function.
 
-ghost use Rattle.std.specs.Prelude.{◌≡◌, ◌+◌, ◌<◌, ◌^◌, Err, IfErr, IfOk, List, Ok, length, ℕ};
+ghost use Rattle.std.specs.Prelude.{◌≡◌, ◌+◌, ◌<◌, ◌^◌, Err, IfErr, IfOk, List, Ok, length, reverse, ℕ};
 ghost use Rattle.tt_code.specs.Control.{body_named};
 ghost use Rattle.tt_code.specs.declared.kinds.Control.TheVariants as control;
 ghost use Rattle.tt_abs.specs.Moves.{nexts_of};
@@ -156,4 +156,176 @@ fn jump_if(
     state.stack.cut(2);
     let moves = ways_of_jump(setting, point, asked, condition, by, state.stack.len())?;
     Ok(moves)
+}
+
+/// FDEF: the number that is popped names the body behind it, in the font program and in the CVT program.
+fn define(setting: &Setting<'_>, point: &Point<'_>, state: &mut State) -> Result<Moves, Refusal>
+    requires { point.now.offset + 1 < 2 ^ 31 }
+    ensures ok { IfOk result (λ m. controlled_cells (setting_of setting.now) (frames_of point.now) point.now.offset (abstract_of state.old) control.FunctionDefinition ≡ Ok (nexts_of (frames_of point.now) m (abstract_of state.new))) }
+    ensures refused { IfErr result (λ e. ForReason e (λ r. controlled_cells (setting_of setting.now) (frames_of point.now) point.now.offset (abstract_of state.old) control.FunctionDefinition ≡ Err r)) }
+{
+    if !setting.may_define() {
+        return Err(Refusal::Refused(Reason::Definition));
+    }
+    let top = cell_under(&state.stack, 0)?;
+    let function = number(top)?;
+    if !is_index(function, u32::from(setting.limits.functions)) {
+        return Err(Refusal::Refused(Reason::Function));
+    }
+    let Some(after) = setting.program(point).after_fdef(point.offset) else {
+        return Err(Refusal::Refused(Reason::Target));
+    };
+    state.stack.cut(1);
+    state.define(function as u16, setting.body_name(behind(point)))?;
+    Ok(Moves::One(Move::To(after)))
+}
+
+/// The body of a called function: its number is below maxFunctionDefs and it is known.
+fn called(setting: &Setting<'_>, state: &State, cell: Cell) -> Result<u32, Reason>
+    ensures ok { IfOk result (λ n. called_cell (setting_of setting.now) state.now.functions cell ≡ Ok n) }
+    ensures refused { IfErr result (λ r. called_cell (setting_of setting.now) state.now.functions cell ≡ Err r) }
+{
+    let function = number(cell)?;
+    if !is_index(function, u32::from(setting.limits.functions)) {
+        return Err(Reason::Function);
+    }
+    match state.functions.get(function as u16) {
+        Some(body) => Ok(body),
+        None => Err(Reason::Function),
+    }
+}
+
+/// Does the body run already?
+fn is_running(frames: &[Frame], body: u32) -> bool
+    ensures { result ≡ runs_already body (reverse frames.now) }
+{
+    let mut rest = frames;
+    while let [before @ .., frame] = rest {
+        if frame.body == body {
+            return true;
+        }
+        rest = before;
+    }
+    false
+}
+
+/// Into a body for so many turns, with a stack so deep.
+fn enter(
+    setting: &Setting<'_>,
+    point: &Point<'_>,
+    body: u32,
+    turns: u32,
+    depth: usize,
+) -> Result<Moves, Reason>
+    ensures ok { IfOk result (λ m. Leads (λ stack a. enters_cells (setting_of setting.now) (frames_of point.now) point.now.offset a body stack turns) (frames_of point.now) depth m) }
+    ensures refused { IfErr result (λ r. LeadsNowhere (λ stack a. enters_cells (setting_of setting.now) (frames_of point.now) point.now.offset a body stack turns) depth r) }
+{
+    if depth > usize::from(setting.limits.stack) {
+        return Err(Reason::Overflow);
+    }
+    if is_running(point.frames, body) {
+        return Err(Reason::Recursion);
+    }
+    Ok(Moves::One(Move::Enter(Frame {
+        body,
+        call: point.offset,
+        turn: 1,
+        count: turns,
+    })))
+}
+
+/// CALL.
+fn call(setting: &Setting<'_>, point: &Point<'_>, state: &mut State) -> Result<Moves, Refusal>
+    ensures ok { IfOk result (λ m. controlled_cells (setting_of setting.now) (frames_of point.now) point.now.offset (abstract_of state.old) control.Call ≡ Ok (nexts_of (frames_of point.now) m (abstract_of state.new))) }
+    ensures refused { IfErr result (λ e. ForReason e (λ r. controlled_cells (setting_of setting.now) (frames_of point.now) point.now.offset (abstract_of state.old) control.Call ≡ Err r)) }
+{
+    let top = cell_under(&state.stack, 0)?;
+    let body = called(setting, state, top)?;
+    state.stack.cut(1);
+    let moves = enter(setting, point, body, 1, state.stack.len())?;
+    Ok(moves)
+}
+
+/// Where a LOOPCALL of a body leads by its count; 0 or less calls nothing.
+fn repeat(
+    setting: &Setting<'_>,
+    point: &Point<'_>,
+    body: u32,
+    count: i32,
+    depth: usize,
+) -> Result<Moves, Reason>
+    requires { point.now.offset < 2 ^ 31 }
+    ensures ok { IfOk result (λ m. Leads (λ stack a. loops_cells (setting_of setting.now) (frames_of point.now) point.now.offset a body stack count) (frames_of point.now) depth m) }
+    ensures refused { IfErr result (λ r. LeadsNowhere (λ stack a. loops_cells (setting_of setting.now) (frames_of point.now) point.now.offset a body stack count) depth r) }
+{
+    if count > 0 {
+        enter(setting, point, body, count as u32, depth)
+    } else {
+        Ok(Moves::One(Move::To(behind(point))))
+    }
+}
+
+/// LOOPCALL.
+fn loop_call(
+    setting: &Setting<'_>,
+    point: &Point<'_>,
+    state: &mut State,
+) -> Result<Moves, Refusal>
+    requires { point.now.offset < 2 ^ 31 }
+    ensures ok { IfOk result (λ m. controlled_cells (setting_of setting.now) (frames_of point.now) point.now.offset (abstract_of state.old) control.LoopCall ≡ Ok (nexts_of (frames_of point.now) m (abstract_of state.new))) }
+    ensures refused { IfErr result (λ e. ForReason e (λ r. controlled_cells (setting_of setting.now) (frames_of point.now) point.now.offset (abstract_of state.old) control.LoopCall ≡ Err r)) }
+{
+    let top = cell_under(&state.stack, 0)?;
+    let body = called(setting, state, top)?;
+    let second = cell_under(&state.stack, 1)?;
+    let count = number(second)?;
+    state.stack.cut(2);
+    let moves = repeat(setting, point, body, count, state.stack.len())?;
+    Ok(moves)
+}
+
+/// ENDF: to the next turn, or behind the call.
+fn end_function(
+    setting: &Setting<'_>,
+    point: &Point<'_>,
+    state: &State,
+) -> Result<Moves, Refusal>
+    ensures ok { IfOk result (λ m. controlled_cells (setting_of setting.now) (frames_of point.now) point.now.offset (abstract_of state.now) control.EndFunction ≡ Ok (nexts_of (frames_of point.now) m (abstract_of state.now))) }
+    ensures refused { IfErr result (λ e. ForReason e (λ r. controlled_cells (setting_of setting.now) (frames_of point.now) point.now.offset (abstract_of state.now) control.EndFunction ≡ Err r)) }
+{
+    match point.frames {
+        [] => Err(Refusal::Refused(Reason::Target)),
+        [.., frame] => {
+            if frame.turn < frame.count {
+                Ok(Moves::One(Move::NextTurn))
+            } else {
+                Ok(Moves::One(Move::Return))
+            }
+        }
+    }
+}
+
+/// Carries out a control instruction.
+pub fn lead(
+    setting: &Setting<'_>,
+    point: &Point<'_>,
+    state: &mut State,
+    operation: Control,
+) -> Result<Moves, Refusal>
+    requires { point.now.offset + 1 < 2 ^ 31 }
+    ensures ok { IfOk result (λ m. controlled_cells (setting_of setting.now) (frames_of point.now) point.now.offset (abstract_of state.old) operation ≡ Ok (nexts_of (frames_of point.now) m (abstract_of state.new))) }
+    ensures refused { IfErr result (λ e. ForReason e (λ r. controlled_cells (setting_of setting.now) (frames_of point.now) point.now.offset (abstract_of state.old) operation ≡ Err r)) }
+{
+    match operation {
+        Control::If => branch(setting, point, state),
+        Control::Else => skip_else(setting, point, state),
+        Control::Jump => jump(setting, point, state),
+        Control::JumpIfTrue => jump_if(setting, point, state, true),
+        Control::JumpIfFalse => jump_if(setting, point, state, false),
+        Control::Call => call(setting, point, state),
+        Control::LoopCall => loop_call(setting, point, state),
+        Control::FunctionDefinition => define(setting, point, state),
+        Control::EndFunction => end_function(setting, point, state),
+        Control::InstructionDefinition => Err(Refusal::Refused(Reason::InstructionDefinition)),
+    }
 }
