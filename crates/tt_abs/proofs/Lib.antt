@@ -21,3 +21,5 @@ pub mod Computed
 pub mod Pushes
 pub mod Steps
 pub mod Places
+pub mod Calls
+pub mod Everything
