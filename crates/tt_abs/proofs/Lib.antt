@@ -23,3 +23,5 @@ pub mod Steps
 pub mod Places
 pub mod Calls
 pub mod Everything
+pub mod Contexts
+mod ExamplesOfCalls
