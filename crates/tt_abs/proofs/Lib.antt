@@ -30,3 +30,8 @@ pub mod TakenLemmas
 pub mod PlainSteps
 pub mod TargetLemmas
 pub mod CalledLemmas
+pub mod Places
+pub mod Calls
+pub mod Everything
+pub mod Contexts
+mod ExamplesOfCalls

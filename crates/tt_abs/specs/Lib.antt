@@ -24,3 +24,4 @@ pub mod EntryFacts
 pub mod EntryCoverage
 pub mod Ranges
 pub mod Followed
+pub mod Contexts
