@@ -21,6 +21,7 @@ pub mod setting;
 mod shuffle;
 pub mod stack;
 pub mod state;
+mod stepping;
 #[cfg(test)]
 mod state_tests;
 pub mod moves;
@@ -32,4 +33,5 @@ pub use refusal::Refusal;
 pub use setting::{Kind, Point, Setting};
 pub use stack::Stack;
 pub use state::State;
+pub use stepping::step;
 pub use moves::{Move, Moves};

@@ -1,0 +1,70 @@
+//! What an instruction makes of an abstract state.
+
+ghost use Rattle.std.specs.Prelude.{◌≡◌, ◌+◌, ◌<◌, ◌^◌, ◌∷◌, [], Err, IfErr, IfOk, List, Ok, OnOk, length, suc, true, ℕ};
+ghost use Rattle.tt_code.specs.Settings.{starts_in_body};
+ghost use Rattle.tt_code.specs.Table.{effect_of};
+ghost use Rattle.tt_abs.specs.Moves.{nexts_of};
+ghost use Rattle.tt_abs.specs.Settings.{frames_of, setting_of};
+ghost use Rattle.tt_abs.specs.States.{abstract_of};
+ghost use Rattle.tt_abs.specs.Steps.{ForReason};
+ghost use Rattle.tt_abs.specs.Transfers.{does_cells, outcome_on_cells};
+
+use crate::compute::compute;
+use crate::control::lead;
+use crate::line::carry_out;
+use crate::moves::{Move, Moves};
+use crate::push::push_data;
+use crate::refusal::Refusal;
+use crate::setting::{Point, Setting};
+use crate::shuffle::shuffle;
+use crate::state::State;
+use tt_code::kinds::Effect;
+use tt_code::{Instr, Reason, effect};
+
+/// What an instruction does, by the kind of its effect; the depth afterwards is tested elsewhere.
+fn act(
+    setting: &Setting<'_>,
+    point: &Point<'_>,
+    state: &mut State,
+    instr: &Instr<'_>,
+) -> Result<Moves, Refusal>
+    requires { point.now.offset + length instr.now < 2 ^ 31 }
+    ensures ok { IfOk result (λ m. (code : ℕ) (rest : List ℕ) → instr.now ≡ code ∷ rest → does_cells (setting_of setting.now) (frames_of point.now) point.now.offset (abstract_of state.old) (effect_of code) rest (point.now.offset + suc (length rest)) ≡ Ok (nexts_of (frames_of point.now) m (abstract_of state.new))) }
+    ensures refused { IfErr result (λ e. ForReason e (λ r. (code : ℕ) (rest : List ℕ) → instr.now ≡ code ∷ rest → does_cells (setting_of setting.now) (frames_of point.now) point.now.offset (abstract_of state.old) (effect_of code) rest (point.now.offset + suc (length rest)) ≡ Err r)) }
+{
+    match effect(instr.code()) {
+        Effect::NoEntry => return Err(Refusal::Refused(Reason::Opcode)),
+        Effect::Plain(line) => carry_out(setting, state, &line)?,
+        Effect::Push(push) => push_data(&mut state.stack, push, instr.data())?,
+        Effect::Stack(operation) => shuffle(&mut state.stack, operation)?,
+        Effect::Arithmetic(operation) => compute(&mut state.stack, operation)?,
+        Effect::Control(operation) => return lead(setting, point, state, operation),
+    }
+    Ok(Moves::One(Move::To(point.offset + instr.len())))
+}
+
+/// Carries out the instruction at a point on a state that the caller owns, and answers where the program goes on. After a
+/// refusal the state says nothing.
+///
+/// # Errors
+/// `Refused` with the reason of the first test of the instruction that fails; `OutOfMemory`.
+pub fn step(
+    setting: &Setting<'_>,
+    point: &Point<'_>,
+    state: &mut State,
+) -> Result<Moves, Refusal>
+    requires { starts_in_body (setting_of setting.now) (frames_of point.now) point.now.offset ≡ true }
+    ensures ok { IfOk result (λ m. outcome_on_cells (setting_of setting.now) (frames_of point.now) point.now.offset (abstract_of state.old) ≡ Ok (nexts_of (frames_of point.now) m (abstract_of state.new))) }
+    ensures refused { IfErr result (λ e. ForReason e (λ r. outcome_on_cells (setting_of setting.now) (frames_of point.now) point.now.offset (abstract_of state.old) ≡ Err r)) }
+{
+    let program = setting.program(point);
+    let Some(instr) = program.at(point.offset) else {
+        return Err(Refusal::Refused(Reason::Target));
+    };
+    prove!(point.offset < program.len());
+    let moves = act(setting, point, state, &instr)?;
+    if state.stack.len() > usize::from(setting.limits.stack) {
+        return Err(Refusal::Refused(Reason::Overflow));
+    }
+    Ok(moves)
+}
