@@ -25,7 +25,7 @@ use Rattle.tt_abs.proofs.Depth.{depth_of_ways}
 use Rattle.tt_abs.proofs.Branches.{there, fails_there}
 use Rattle.tt_abs.proofs.Places.{leads_one, RunOnce, settled_stands, settled_within}
 
--- What is said of any instruction is said of machines that stand there alone, and of more machines where it is refused.
+-- What is said of any instruction may be said of the machines that stand there alone.
 
 pub stands_for_as : (a : Abstract) (fs : List Frame) (at : ℕ) (does other : Machine → Tested Outcome) (r : Tested (List Next)) → ((m : Machine) → Stands a fs at m → other m ≡ does m)
     → StandsFor a fs at does r → StandsFor a fs at other r
