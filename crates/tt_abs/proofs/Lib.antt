@@ -35,3 +35,4 @@ pub mod Calls
 pub mod Everything
 pub mod Contexts
 mod ExamplesOfCalls
+pub mod StepLemmas

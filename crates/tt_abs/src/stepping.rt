@@ -62,6 +62,7 @@ pub fn step(
         return Err(Refusal::Refused(Reason::Target));
     };
     prove!(point.offset < program.len());
+    prove!(u32::from(instr.code()) < 256);
     let moves = act(setting, point, state, &instr)?;
     if state.stack.len() > usize::from(setting.limits.stack) {
         return Err(Refusal::Refused(Reason::Overflow));
