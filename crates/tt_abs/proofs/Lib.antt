@@ -3,4 +3,4 @@ pub mod StackOrders
 pub mod CoverageLemmas
 pub mod EntryEdits
 pub mod StateCoverage
-pub mod StatesInRange
+pub mod EntriesInRange
