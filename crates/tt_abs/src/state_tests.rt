@@ -103,9 +103,9 @@ fn copies(rt: HostRuntime) -> Result<(), Fail> {
     assert_eq!(rt; copy.below(&state), true);
     assert_eq!(rt; state.below(&copy), true);
     assert_eq!(rt; copy.join(&state)?, false);
-    copy.push(Known(2))?;
-    assert_eq!(rt; copy.depth(), 3);
-    assert_eq!(rt; state.depth(), 2);
+    copy.set_loop(Unknown);
+    assert_eq!(rt; copy.loop_cell(), Unknown);
+    assert_eq!(rt; state.loop_cell(), Known(1));
     Ok(())
 }
 
