@@ -1,1 +1,2 @@
 pub mod EntryEdits
+pub mod EntryMerge
