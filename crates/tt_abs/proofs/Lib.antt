@@ -4,3 +4,4 @@ pub mod CoverageLemmas
 pub mod EntryEdits
 pub mod StateCoverage
 pub mod EntriesInRange
+pub mod EntryMerge

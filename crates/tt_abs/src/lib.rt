@@ -3,6 +3,8 @@
 
 pub mod cells;
 pub mod entries;
+#[cfg(test)]
+mod entries_tests;
 pub mod graphics;
 pub mod laws;
 pub mod order;
