@@ -1,15 +1,13 @@
 -- One graphics state of cells, and one abstract state, is below another exactly if that one covers all that it covers.
-use Rattle.std.specs.Prelude.{◌↔◌, ℤ}
-use Rattle.std.proofs.Common.{◌≡◌, ℕ, List, []}
+use Rattle.std.specs.Prelude.{ℤ}
+use Rattle.std.proofs.Common.{[]}
 use Rattle.tt_code.specs.Settings.{ZoneNumber}
-use Rattle.tt_code.specs.States.{Machine, Registers}
+use Rattle.tt_code.specs.States.{Machine}
 use Rattle.tt_abs.specs.declared.state.State.{State}
-use Rattle.tt_abs.specs.Cells.{Covers, CoversZone, Cells, Numbers, CoversGraphics, CoversStack, CoversStorage, CoversFunctions, CoversState}
+use Rattle.tt_abs.specs.Cells.{Covers, CoversZone, Cells, Numbers, CoversGraphics, CoversState}
 use Rattle.tt_abs.specs.Entries.{storage_of}
 use Rattle.tt_abs.specs.EntryCoverage.{functions_below_is_coverage, storage_below_is_coverage}
 use Rattle.tt_abs.specs.GraphicsOrders.{graphics_order}
-use Rattle.tt_abs.specs.Stacks.{StackBelow}
-use Rattle.tt_abs.specs.EntryLists.{EntriesBelow}
 use Rattle.tt_abs.specs.States.{abstract_of, state_order}
 use Rattle.tt_abs.proofs.CoverageLemmas.{CellBelow-coverage, ZoneBelow-coverage, StackBelow-coverage, some_covered, some_zone_covered, some_stack_covered}
 

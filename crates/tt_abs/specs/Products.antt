@@ -1,6 +1,6 @@
 -- The order of pairs, and an order along a function that loses nothing.
-use Rattle.std.specs.Prelude.{◌≡◌, ℕ, ◌+◌, ◌≤◌}
-use Rattle.std.proofs.Common.{refl, sym, ◌∙◌, ap, arith}
+use Rattle.std.specs.Prelude.{◌≡◌, ◌+◌}
+use Rattle.std.proofs.Common.{sym, ◌∙◌, ap, arith}
 use Rattle.tt_abs.specs.Orders.{Order, OrderLaws, IsLeastAbove}
 
 abbrev pub product : {A B : Type 0} → Order A → Order B → Order (A × B)

@@ -67,7 +67,10 @@ impl Stack {
         self.cells.len()
     }
 
-    /// Puts a cell on top; a refused growth changes nothing.
+    /// Puts a cell on top.
+    ///
+    /// # Errors
+    /// If memory runs out; then the stack stays as it is.
     pub fn push(&mut self, cell: Cell) -> Result<(), AllocError>
         ensures ok { OnOk result (self.new ≡ cell ∷ self.old) }
         ensures err { OnErr result (self.new ≡ self.old) }
@@ -126,6 +129,9 @@ impl Stack {
     }
 
     /// A stack of the same cells.
+    ///
+    /// # Errors
+    /// If memory runs out.
     pub fn copied(&self) -> Result<Stack, AllocError>
         ensures { IfOk result (λ copy. copy ≡ self.now) }
     {

@@ -81,17 +81,31 @@ fn joins_of_functions(rt: HostRuntime) -> Result<(), Fail> {
 #[test]
 fn joins_of_graphics(rt: HostRuntime) -> Result<(), Fail> {
     let mut state = State::start(rt.alloc(), &[])?;
+    let mut other = State::start(rt.alloc(), &[])?;
+    other.set_zone(Pointer::Zp1, ZoneCell::Zero);
+    other.set_loop(Known(2));
+    let changed = state.join(&other)?;
+    assert_eq!(rt; changed, true);
+    assert_eq!(rt; state.zone(Pointer::Zp0), ZoneCell::One);
+    assert_eq!(rt; state.zone(Pointer::Zp1), ZoneCell::Either);
+    assert_eq!(rt; state.loop_cell(), Unknown);
+    assert_eq!(rt; state.join(&other)?, false);
+    Ok(())
+}
+
+#[test]
+fn calls_of_graphics(rt: HostRuntime) -> Result<(), Fail> {
+    let mut state = State::start(rt.alloc(), &[])?;
     assert_eq!(rt; state.rp(Reference::Rp1), Known(0));
     assert_eq!(rt; state.zone(Pointer::Zp2), ZoneCell::One);
     assert_eq!(rt; state.loop_cell(), Known(1));
     state.set_rp(Reference::Rp2, Known(9));
     state.set_zone(Pointer::Zp1, ZoneCell::Zero);
     state.set_loop(Unknown);
+    assert_eq!(rt; state.rp(Reference::Rp0), Known(0));
     assert_eq!(rt; state.rp(Reference::Rp2), Known(9));
     assert_eq!(rt; state.zone(Pointer::Zp1), ZoneCell::Zero);
     assert_eq!(rt; state.loop_cell(), Unknown);
-    assert_eq!(rt; ZoneCell::One.joined(ZoneCell::Zero), ZoneCell::Either);
-    assert_eq!(rt; Known(4).joined(Known(4)), Known(4));
     Ok(())
 }
 
