@@ -121,12 +121,22 @@ fn remove_entry<T: Copy>(entries: &mut Vec<(u16, T)>, number: u16)
     }
 }
 
+/// Whether the first entry is this one.
+fn begins_with<T: EntryValue>(entries: &[(u16, T)], entry: &(u16, T)) -> bool
+    ensures { result ≡ begins_with_entry T.eq entry.now entries.now }
+{
+    match entries {
+        [first, ..] => first.0 == entry.0 && first.1 == entry.1,
+        [] => false,
+    }
+}
+
 /// The entries behind the first, if that is this one, and all of them otherwise.
 fn behind<'a, T: EntryValue>(entries: &'a [(u16, T)], entry: &(u16, T)) -> &'a [(u16, T)]
     ensures { result.now ≡ behind_entry T.eq entry.now entries.now }
 {
     match entries {
-        [first, rest @ ..] if first.0 == entry.0 && first.1 == entry.1 => rest,
+        [_, rest @ ..] if begins_with(entries, entry) => rest,
         _ => entries,
     }
 }
@@ -156,16 +166,6 @@ fn from_number<T>(entries: &[(u16, T)], number: u16) -> &[(u16, T)]
         rest = behind;
     }
     rest
-}
-
-/// Whether the first entry is this one.
-fn begins_with<T: EntryValue>(entries: &[(u16, T)], entry: &(u16, T)) -> bool
-    ensures { result ≡ begins_with_entry T.eq entry.now entries.now }
-{
-    match entries {
-        [first, ..] => first.0 == entry.0 && first.1 == entry.1,
-        [] => false,
-    }
 }
 
 /// Moves the entries that the other list has too to the front, and says how many they are.
@@ -268,8 +268,8 @@ impl<T: Copy> Entries<T> {
 }
 
 impl<T: EntryValue> Entries<T> {
-    /// Keeps the entries that both have.
-    fn keep(&mut self, other: &Entries<T>)
+    /// Keeps the entries that both have, with the same values. Takes no memory.
+    pub fn keep(&mut self, other: &Entries<T>)
         requires { EntriesInRange T.is_in_range self.old }
         ensures { IsLeastAbove (entry_order T.is_in_range) self.old other.now self.new }
     {
