@@ -1,6 +1,6 @@
 -- The smallest cell for the values of a function, the smallest abstract state for a set of machine states, and what it says that an
 -- outcome on cells stands for the machine's outcomes.
-use Rattle.std.specs.Prelude.{◌≡◌, ℕ, ℤ, List, Ok, Err, Some, slice_get, false}
+use Rattle.std.specs.Prelude.{◌≡◌, ◌⊎◌, ℕ, ℤ, ◌<◌, ◌≤◌, ◌||◌, List, [], ◌∷◌, Ok, Err, Some, Bool, true, false, length, slice_get}
 use Rattle.tt_code.specs.Refusals.{Tested}
 use Rattle.tt_code.specs.Settings.{Setting, ZoneNumber, Zero, One}
 use Rattle.tt_code.specs.States.{Machine, Outcome, IsNumber}
@@ -12,7 +12,7 @@ use Rattle.tt_abs.specs.declared.cells.Cell.TheVariants.{Known, Unknown}
 use Rattle.tt_abs.specs.declared.cells.ZoneCell.{ZoneCell}
 use Rattle.tt_abs.specs.declared.cells.ZoneCell.TheVariants as zone
 use Rattle.tt_abs.specs.Cells.{Abstract, CoversState}
-use Rattle.tt_abs.specs.Transfers.{Next}
+use Rattle.tt_abs.specs.Transfers.{Next, is_running}
 
 -- the cell is known exactly if the function has one value
 abbrev pub IsBestFor : {X : Type 0} → (X → Type 0) → (X → ℤ) → Cell → Type 0
@@ -64,8 +64,8 @@ SomeFaults a frames offset does = (m : Machine) × (r : Reason) × Stands a fram
 abbrev pub NoneFaults : Abstract → List Frame → ℕ → (Machine → Tested Outcome) → Type 0
 NoneFaults a frames offset does = (m : Machine) → Stands a frames offset m → (o : Outcome) × (does m ≡ Ok o)
 
--- The outcome on cells stands for the outcomes of the machines that are covered: it is refused exactly if some of them faults, and
--- else it gives the smallest covers of what they become.
+-- The outcome on cells stands for the outcomes of the machines that are covered: it is refused only if some of them faults, and
+-- else none does, and it gives the smallest covers of what they become.
 abbrev pub TransfersTo : Abstract → List Frame → ℕ → (Machine → Tested Outcome) → Tested (List Next) → Type 0
 TransfersTo a frames offset does (Err r) = SomeFaults a frames offset does
 TransfersTo a frames offset does (Ok nexts) = NoneFaults a frames offset does × AreSmallestCovers (Becomes a frames offset does) nexts
@@ -74,3 +74,40 @@ TransfersTo a frames offset does (Ok nexts) = NoneFaults a frames offset does ×
 abbrev pub Transfers : Abstract → List Frame → ℕ → (Machine → Tested Outcome) → Tested Abstract → Type 0
 Transfers a frames offset does (Err r) = SomeFaults a frames offset does
 Transfers a frames offset does (Ok b) = NoneFaults a frames offset does × IsSmallestCover (Becomes a frames offset does) b
+
+-- Calls. Two calls of one body that haven't returned are a recursion, which no program of this profile may meet (own).
+
+abbrev pub has_body_twice : List Frame → Bool
+has_body_twice [] = false
+has_body_twice (f ∷ fs) = is_running f.body fs || has_body_twice fs
+
+-- some covered machine at this place becomes one that runs a body twice
+abbrev pub SomeRecurs : Abstract → List Frame → ℕ → (Machine → Tested Outcome) → Type 0
+SomeRecurs a frames offset does = (m : Machine) × Becomes a frames offset does m × (has_body_twice m.frames ≡ true)
+
+-- how many lists of frames a program may have (own)
+abbrev pub MOST_CONTEXTS : ℕ
+MOST_CONTEXTS = 65535
+
+-- the covered machines at this place become machines with more lists of frames than a program may have
+pub record ManyFrames (a : Abstract) (frames : List Frame) (offset : ℕ) (does : Machine → Tested Outcome) : Type 0 where
+  pub lists : List (List Frame)
+  pub many : MOST_CONTEXTS < length lists
+  pub apart : (i j : ℕ) (fs : List Frame) → slice_get lists i ≡ Some fs → slice_get lists j ≡ Some fs → i ≡ j
+  pub each : (i : ℕ) (fs : List Frame) → slice_get lists i ≡ Some fs → (m : Machine) × Becomes a frames offset does m × (m.frames ≡ fs)
+
+-- why an outcome on cells is refused
+abbrev pub IsRefused : Abstract → List Frame → ℕ → (Machine → Tested Outcome) → Type 0
+IsRefused a frames offset does = SomeFaults a frames offset does ⊎ SomeRecurs a frames offset does ⊎ ManyFrames a frames offset does
+
+-- What is said of any instruction: the outcome on cells is refused exactly if some covered machine faults or comes to run a body
+-- twice, or they come to too many lists of frames; else it gives the smallest covers of what they become.
+pub record Gives (a : Abstract) (frames : List Frame) (offset : ℕ) (does : Machine → Tested Outcome) (nexts : List Next) : Type 0 where
+  pub none_faults : NoneFaults a frames offset does
+  pub none_recurs : SomeRecurs a frames offset does → ⊥
+  pub few : length nexts ≤ 2
+  pub covers : AreSmallestCovers (Becomes a frames offset does) nexts
+
+abbrev pub StandsFor : Abstract → List Frame → ℕ → (Machine → Tested Outcome) → Tested (List Next) → Type 0
+StandsFor a frames offset does (Err r) = IsRefused a frames offset does
+StandsFor a frames offset does (Ok nexts) = Gives a frames offset does nexts

@@ -3,7 +3,13 @@ pub mod Cells
 pub mod Entries
 pub mod Transfers
 pub mod Covers
+pub mod Settings
 pub mod Stacks
+pub mod Taken
+pub mod Steps
+pub mod Computes
+pub mod Stored
+pub mod Moves
 pub mod CellOrders
 pub mod CellLaws
 pub mod StackLaws
@@ -16,3 +22,5 @@ pub mod EntryLists
 pub mod EntryLaws
 pub mod EntryFacts
 pub mod EntryCoverage
+pub mod Ranges
+pub mod Followed

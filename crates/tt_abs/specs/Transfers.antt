@@ -1,17 +1,17 @@
 -- What an instruction makes of an abstract state: the machine's tests in the machine's order, read on cells, where an unknown cell
 -- fails each test that looks into it. (Apple TrueType Reference Manual, "The TrueType instruction set"; the reading on cells is
 -- own.) What looks into no number is the machine's own definition, used on cells.
-use Rattle.std.specs.Prelude.{◌≡◌, ℕ, suc, ◌+◌, ℤ, pos, negsuc, ◌+ℤ◌, ◌-ℤ◌, neg_ℤ, int_lt, int_le, List, [], ◌∷◌, Option, None, Some, Ok, Err, Bool, true, false, not, ◌&&◌, ◌||◌, length, map, remove, nat_eq, nat_lt, nat_le, if◌then◌else◌}
+use Rattle.std.specs.Prelude.{ℕ, zero, suc, ◌+◌, ℤ, pos, negsuc, ◌+ℤ◌, ◌-ℤ◌, neg_ℤ, int_lt, int_le, List, [], ◌∷◌, Option, None, Some, Ok, Err, Bool, true, false, not, ◌&&◌, ◌||◌, length, map, remove, nat_eq, nat_lt, nat_le, if◌then◌else◌}
 use Rattle.tt_code.specs.Refusals.{Tested, ◌>>=◌, holds_or, some_or}
 use Rattle.tt_code.specs.Table.{Meaning, NoEntry, Plain, Pushes, Stack, Computes, Controls, Lists, effect_of}
 use Rattle.tt_code.specs.Cut.{Instruction, instruction_at, data_behind}
 use Rattle.tt_code.specs.Structure.{after_if, after_else, after_fdef}
-use Rattle.tt_code.specs.Settings.{Setting, ZoneNumber, Zero, One, zone_size, contours_in, body_name, program_of, starts_in_body, is_target}
+use Rattle.tt_code.specs.Settings.{Setting, ZoneNumber, Zero, One, zone_size, contours_in, body_name, body_offset, program_of, starts_in_body, is_target}
 use Rattle.tt_code.specs.States.{Registers, is_number, is_below, is_true, reference, pointer}
 use Rattle.tt_code.specs.Operands.{Taking, top, take_one, then_take, times, counted, pairs, count_of, is_zone}
 use Rattle.tt_code.specs.Changes.{Reading, natural, zone_of, taken_at, all_updated}
 use Rattle.tt_code.specs.Computing.{numbers_in, element, place_of, absolute, equal}
-use Rattle.tt_code.specs.Control.{may_define}
+use Rattle.tt_code.specs.Control.{may_define, body_named}
 use Rattle.tt_code.specs.declared.machine.Frame.{Frame}
 use Rattle.tt_code.specs.declared.reason.Reason.{Reason}
 use Rattle.tt_code.specs.declared.reason.Reason.TheVariants as reason
@@ -303,6 +303,39 @@ if_ways s fs at a Unknown stack = do
   after ← some_or (after_if (program_of s fs) at) reason.Target
   Ok (two_ways fs (at + 1) after (leaves_cells a stack []))
 
+-- the body that a called number names: it is known, below maxFunctionDefs and listed
+abbrev pub called_cell : Setting → List (ℕ × ℕ) → Cell → Tested ℕ
+called_cell s functions c = do
+  n ← known c
+  ok ← holds_or (is_below n s.limits.functions) reason.Function
+  some_or (body_named functions (natural n)) reason.Function
+
+-- is the body one that runs already?
+abbrev pub is_running : ℕ → List Frame → Bool
+is_running name [] = false
+is_running name (f ∷ fs) = nat_eq f.body name || is_running name fs
+
+-- into a body for so many turns: the depth is tested before recursion
+abbrev pub enters_cells : Setting → List Frame → ℕ → Abstract → ℕ → List Cell → ℕ → Tested (List Next)
+enters_cells s fs at a name stack turns = do
+  deep ← holds_or (nat_le (length stack) s.limits.stack) reason.Overflow
+  fresh ← holds_or (not (is_running name fs)) reason.Recursion
+  Ok (one_way (record { body = name; call = at; turn = 1; count = turns } ∷ fs) (body_offset name) (leaves_cells a stack []))
+
+-- by the count; 0 or less calls nothing
+abbrev pub loops_cells : Setting → List Frame → ℕ → Abstract → ℕ → List Cell → ℤ → Tested (List Next)
+loops_cells s fs at a name stack (pos zero) = Ok (one_way fs (at + 1) (leaves_cells a stack []))
+loops_cells s fs at a name stack (pos (suc n)) = enters_cells s fs at a name stack (suc n)
+loops_cells s fs at a name stack (negsuc n) = Ok (one_way fs (at + 1) (leaves_cells a stack []))
+
+-- at the end of a body: to its next turn, or behind the call
+abbrev pub returns_cells : Abstract → List Frame → Tested (List Next)
+returns_cells a [] = Err reason.Target
+returns_cells a (f ∷ fs) =
+    if nat_lt f.turn f.count
+    then Ok (one_way (record f { turn = f.turn + 1 } ∷ fs) (body_offset f.body) (leaves_cells a a.stack []))
+    else Ok (one_way fs (f.call + 1) (leaves_cells a a.stack []))
+
 abbrev pub controlled_cells : Setting → List Frame → ℕ → Abstract → Control → Tested (List Next)
 controlled_cells s fs at a If = do
   e ← top a.stack
@@ -322,18 +355,18 @@ controlled_cells s fs at a FunctionDefinition = do
   ok ← holds_or (is_below n s.limits.functions) reason.Function
   after ← some_or (after_fdef (program_of s fs) at) reason.Target
   Ok (one_way fs after (leaves_cells (record a { functions = with_entry (natural n) (body_name s.kind (at + 1)) a.functions }) t.1 []))
--- Calls aren't followed yet.
-controlled_cells s fs at a Call = Err reason.Opcode
-controlled_cells s fs at a LoopCall = Err reason.Opcode
-controlled_cells s fs at a EndFunction = Err reason.Opcode
+controlled_cells s fs at a Call = do
+  t ← top a.stack
+  name ← called_cell s a.functions t.0
+  enters_cells s fs at a name t.1 1
+controlled_cells s fs at a LoopCall = do
+  t ← top a.stack
+  name ← called_cell s a.functions t.0
+  u ← top t.1
+  count ← known u.0
+  loops_cells s fs at a name u.1 count
+controlled_cells s fs at a EndFunction = returns_cells a fs
 controlled_cells s fs at a InstructionDefinition = Err reason.InstructionDefinition
-
--- CALL, LOOPCALL and ENDF aren't followed yet.
-abbrev pub is_followed : Meaning → Bool
-is_followed (Controls Call) = false
-is_followed (Controls LoopCall) = false
-is_followed (Controls EndFunction) = false
-is_followed _ = true
 
 -- An instruction.
 

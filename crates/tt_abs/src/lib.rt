@@ -2,19 +2,34 @@
 #![tactic(auto)]
 
 pub mod cells;
+mod changes;
+mod compute;
+mod control;
 pub mod entries;
 #[cfg(test)]
 mod entries_tests;
 pub mod graphics;
 pub mod laws;
+mod operands;
 pub mod order;
+mod line;
+mod push;
+pub mod refusal;
+mod registers;
+mod results;
+pub mod setting;
+mod shuffle;
 pub mod stack;
 pub mod state;
 #[cfg(test)]
 mod state_tests;
+pub mod moves;
 
 pub use cells::{Cell, ZoneCell};
 pub use entries::{Entries, EntryValue};
 pub use order::{AbsFault, Order};
+pub use refusal::Refusal;
+pub use setting::{Kind, Point, Setting};
 pub use stack::Stack;
 pub use state::State;
+pub use moves::{Move, Moves};

@@ -10,6 +10,9 @@ use smallvec::SmallVec;
 use std::alloc::{AllocError, Global};
 use std::marker::Model;
 
+/// How many cells a stack may have at most.
+const MOST_CELLS: usize = 0x7fff_ffff;
+
 /// A stack of cells, which contracts see top first. Up to 16 cells need no allocation.
 #[derive(Drop)]
 pub struct Stack {
@@ -17,12 +20,14 @@ pub struct Stack {
 }
 
 impl Model for Stack {
-    ghost use Rattle.std.specs.Prelude.{List, reverse};
+    ghost use Rattle.std.specs.Prelude.{List, length, reverse, ◌<◌, ◌^◌};
     ghost use Rattle.tt_abs.specs.declared.cells.Cell.{Cell};
 
     ghost Value = { List Cell };
 
     ghost view = { λ s. reverse s.cells.items };
+
+    ghost invariant = { λ s. length s.cells.items < 2 ^ 31 };
 }
 
 /// Whether the cells are as many, and each is below its partner.
@@ -62,7 +67,8 @@ impl Stack {
 
     /// How many cells there are.
     pub fn len(&self) -> usize
-        ensures { result ≡ length self.now }
+        ensures value { result ≡ length self.now }
+        ensures small { result < 2 ^ 31 }
     {
         self.cells.len()
     }
@@ -70,11 +76,14 @@ impl Stack {
     /// Puts a cell on top.
     ///
     /// # Errors
-    /// If memory runs out; then the stack stays as it is.
+    /// If memory runs out, or there are 2^31 - 1 cells; then the stack stays as it is.
     pub fn push(&mut self, cell: Cell) -> Result<(), AllocError>
         ensures ok { OnOk result (self.new ≡ cell ∷ self.old) }
         ensures err { OnErr result (self.new ≡ self.old) }
     {
+        if self.cells.len() >= MOST_CELLS {
+            return Err(AllocError);
+        }
         self.cells.push(cell)?;
         Ok(())
     }

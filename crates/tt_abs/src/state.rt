@@ -12,12 +12,12 @@ use tt_code::kinds::{Pointer, Reference};
 /// What is known of a machine's state, where it stands and its calls aside.
 #[derive(Drop)]
 pub struct State {
-    stack: Stack,
-    graphics: Graphics<Cell, ZoneCell>,
+    pub(crate) stack: Stack,
+    pub(crate) graphics: Graphics<Cell, ZoneCell>,
     /// The functions that are known, each with its body.
-    functions: Entries<u32>,
+    pub(crate) functions: Entries<u32>,
     /// The storage cells that are known, each with its number.
-    storage: Entries<i32>,
+    pub(crate) storage: Entries<i32>,
 }
 
 /// The graphics state with which every program starts.

@@ -84,9 +84,10 @@ impl<'a> Program<'a> {
         })
     }
 
-    /// How many bytes the program has.
+    /// How many bytes the program has, at most 2^31 - 1.
     pub fn len(&self) -> u32
-        ensures { result ≡ size self.now }
+        ensures value { result ≡ size self.now }
+        ensures small { result < 2 ^ 31 }
     {
         self.bytes.len() as u32
     }

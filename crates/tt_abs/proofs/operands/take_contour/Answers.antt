@@ -1,0 +1,12 @@
+use Rattle.std.proofs.Common.{◌≡◌, sym, ◌∙◌, rules}
+use Rattle.std.specs.Prelude.{FitsSigned}
+use Rattle.std.specs.Int.{w32}
+use Rattle.std.proofs.lemmas.Int.{to_z-of_z}
+use Rattle.tt_abs.proofs.Fronts.{tested_takes}
+use Rattle.tt_abs.proofs.operands.take_contour.Goals as goal
+
+pub returns-then-is_contour-clause-ok : goal.returns-then-is_contour-clause-ok
+returns-then-is_contour-clause-ok c =
+    let fits : FitsSigned w32 c.in_ok-z.z = search rules in
+    let w = c.in_ok-z.ensures.ok in
+    tested_takes _ _ c.args.stack.now w.0 c.args.taken c.in_ok-z.after c.in_ok-z.z w.1 w.2 (simp to_z-of_z at (sym c.is_contour.ensures ∙ c.if-is_contour.true))

@@ -1,0 +1,8 @@
+use Rattle.tt_code.specs.States.{is_below}
+use Rattle.tt_code.specs.declared.reason.Reason.TheVariants as reason
+use Rattle.tt_abs.specs.Transfers.{tested_cell}
+use Rattle.tt_abs.proofs.Fronts.{pair_takes}
+use Rattle.tt_abs.proofs.operands.take_cvt_pair.Goals as goal
+
+pub returns-clause-ok : goal.returns-clause-ok
+returns-clause-ok c = pair_takes (tested_cell (λ z. is_below z c.args.cvt) reason.Cvt) c.args.stack.now c.args.taken c.in_ok-after.after c.take_any.result c.in_ok-after.ensures.ok c.take_any.ensures.ok

@@ -1,0 +1,20 @@
+-- Rust's settings and points, read as the machine's.
+use Rattle.std.specs.Prelude.{ℕ, List, reverse}
+use Rattle.tt_code.specs.Settings.{Setting as MachineSetting, Kind as MachineKind, FontProgram, CvtProgram, GlyphProgram}
+use Rattle.tt_code.specs.declared.machine.Frame.{Frame}
+use Rattle.tt_abs.specs.declared.setting.Setting.{Setting}
+use Rattle.tt_abs.specs.declared.setting.Point.{Point}
+use Rattle.tt_abs.specs.declared.setting.Kind.{Kind}
+use Rattle.tt_abs.specs.declared.setting.Kind.TheVariants as kind
+
+abbrev pub kind_of : Kind → MachineKind
+kind_of kind.Font = FontProgram
+kind_of kind.Cvt = CvtProgram
+kind_of (kind.Glyph points contours) = GlyphProgram points contours
+
+abbrev pub setting_of : Setting → MachineSetting
+setting_of s = record { limits = s.limits; cvt = s.cvt; kind = kind_of s.kind; main = s.main.now; font = s.font.now; prep = s.prep.now }
+
+-- the calls of a point, the innermost first
+abbrev pub frames_of : Point → List Frame
+frames_of p = reverse p.frames.now

@@ -1,0 +1,20 @@
+-- How the code takes operands: it counts the cells taken from the top, and leaves them on the stack until the changes are made.
+-- (Representation: no public clause cites it.)
+use Rattle.std.specs.Prelude.{◌≡◌, ℕ, List, Result, Ok, Err, drop}
+use Rattle.tt_code.specs.Refusals.{Tested}
+use Rattle.tt_code.specs.Operands.{Taking, then_take}
+use Rattle.tt_code.specs.declared.reason.Reason.{Reason}
+use Rattle.tt_abs.specs.declared.cells.Cell.{Cell}
+
+-- the operands are taken, and what lies under the first n cells is left
+abbrev pub TakesTo : List Cell → ℕ → Tested (Taking Cell) → Type 0
+TakesTo stack n result = (front : List Cell) × (result ≡ Ok (front, drop n stack))
+
+-- what was taken so far, and what is still to be taken
+abbrev pub GoesOn : Tested (Taking Cell) → List Cell → (List Cell → Tested (Taking Cell)) → Type 0
+GoesOn result below more = (front : List Cell) × (result ≡ then_take (Ok (front, below)) more)
+
+-- the answer of the code: so many cells are taken, or the reason is that of the first test that fails
+abbrev pub Takes : List Cell → Result ℕ Reason → Tested (Taking Cell) → Type 0
+Takes stack (Ok n) result = TakesTo stack n result
+Takes stack (Err r) result = result ≡ Err r

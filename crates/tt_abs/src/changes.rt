@@ -1,0 +1,128 @@
+//! What a plain line changes and pushes, with its operands still on the stack.
+
+ghost use Rattle.std.specs.Prelude.{◌≡◌, ◌<◌, ◌^◌, IfOk, OnOk, ℕ, length, pos, take};
+ghost use Rattle.tt_code.specs.Changes.{all_updated, taken_at, updated};
+ghost use Rattle.tt_abs.specs.Entries.{storage_of};
+ghost use Rattle.tt_abs.specs.States.{abstract_of};
+ghost use Rattle.tt_abs.specs.Stored.{AreIndexed, AreIndexedPushes, IndexedPush, IndexedUpdate, IsIndex};
+ghost use Rattle.tt_abs.specs.Transfers.{cell_pushed, cells, cells_pushed, index_in, zone_in};
+ghost use Rattle.tt_abs.specs.declared.cells.Cell.TheVariants.{Known};
+
+use crate::cells::{Cell, ZoneCell};
+use crate::registers::{reference, set_pointer, set_reference};
+use crate::stack::Stack;
+use crate::state::State;
+use smallvec::SmallVec;
+use std::alloc::{AllocError, Global};
+use tt_code::kinds::{Pushed, Source, Update};
+
+/// What a line pushes: two cells at most.
+pub type PushedCells = SmallVec<Cell, 2>;
+
+/// The zone that a cell names.
+fn zone_of(cell: Cell) -> ZoneCell
+    ensures { result ≡ zone_in cell }
+{
+    match cell {
+        Cell::Known(0) => ZoneCell::Zero,
+        Cell::Known(_) => ZoneCell::One,
+        Cell::Unknown => ZoneCell::Either,
+    }
+}
+
+/// The element at a position among so many that are taken; 1 where there is none.
+fn taken(stack: &Stack, count: usize, position: u8) -> Cell
+    ensures { result ≡ taken_at (Known (pos 1)) (take count stack.now) position }
+{
+    let place = usize::from(position);
+    if place >= count {
+        return Cell::Known(1);
+    }
+    match stack.under(place) {
+        Some(cell) => cell,
+        None => Cell::Known(1),
+    }
+}
+
+/// The number of the storage cell that an index names.
+fn index_of(cell: Cell) -> u16
+    requires { IsIndex cell }
+    ensures { result ≡ index_in cell }
+{
+    match cell {
+        Cell::Known(number) => number as u16,
+        Cell::Unknown => 0,
+    }
+}
+
+/// Makes one change by the elements that are taken.
+fn update(state: &mut State, count: usize, change: Update) -> Result<(), AllocError>
+    requires { IndexedUpdate (take count state.old.stack) change }
+    ensures { OnOk result (abstract_of state.new ≡ record (abstract_of state.old) { registers = updated cells (take count state.old.stack) change (abstract_of state.old).registers }) }
+{
+    match change {
+        Update::SetReference(r, source) => {
+            let cell = match source {
+                Source::Taken(position) => taken(&state.stack, count, position),
+                Source::Same(q) => reference(&state.graphics, q),
+            };
+            set_reference(&mut state.graphics, r, cell);
+        }
+        Update::SetPointer(p, position) => {
+            let zone = zone_of(taken(&state.stack, count, position));
+            set_pointer(&mut state.graphics, p, zone);
+        }
+        Update::SetLoop(position) => {
+            state.graphics.loop_number = taken(&state.stack, count, position);
+        }
+        Update::LoopIsOne => state.graphics.loop_number = Cell::Known(1),
+        Update::Store(at, value) => {
+            let index = index_of(taken(&state.stack, count, at));
+            let cell = taken(&state.stack, count, value);
+            state.set_storage(index, cell)?;
+        }
+    }
+    Ok(())
+}
+
+/// Makes the changes of a line, one after the other.
+pub fn update_all(state: &mut State, count: usize, changes: &[Update]) -> Result<(), AllocError>
+    requires { AreIndexed (take count state.old.stack) changes.now }
+    ensures { OnOk result (abstract_of state.new ≡ record (abstract_of state.old) { registers = all_updated cells (take count state.old.stack) changes.now (abstract_of state.old).registers }) }
+{
+    for change in changes {
+        update(state, count, *change)?;
+    }
+    Ok(())
+}
+
+/// A cell that is pushed.
+fn pushed_cell(state: &State, count: usize, pushed: Pushed) -> Cell
+    requires { IndexedPush (take count state.now.stack) pushed }
+    ensures { result ≡ cell_pushed (take count state.now.stack) (storage_of state.now.storage) pushed }
+{
+    match pushed {
+        Pushed::Any => Cell::Unknown,
+        Pushed::Stored(position) => {
+            let index = index_of(taken(&state.stack, count, position));
+            state.storage(index)
+        }
+    }
+}
+
+/// What a line pushes, before its changes.
+pub fn pushed_cells(
+    alloc: Global,
+    state: &State,
+    count: usize,
+    pushes: &[Pushed],
+) -> Result<PushedCells, AllocError>
+    requires { AreIndexedPushes (take count state.now.stack) pushes.now }
+    ensures { IfOk result (λ made. made.items ≡ cells_pushed (take count state.now.stack) (storage_of state.now.storage) pushes.now) }
+{
+    let mut made = SmallVec::new(alloc);
+    for pushed in pushes {
+        made.push(pushed_cell(state, count, *pushed))?;
+    }
+    Ok(made)
+}

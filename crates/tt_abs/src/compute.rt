@@ -1,0 +1,89 @@
+//! The instructions that compute.
+
+ghost use Rattle.std.specs.Prelude.{◌≡◌, IfErr, OnOk};
+ghost use Rattle.tt_abs.specs.Computes.{one_result, two_results};
+ghost use Rattle.tt_abs.specs.Steps.{ForReason, RefusesStack, Restacks, takes_one};
+ghost use Rattle.tt_abs.specs.Transfers.{computed_cells, of_one_cell, of_two_cells};
+
+use crate::results;
+use crate::cells::Cell;
+use crate::refusal::Refusal;
+use crate::shuffle::cell_under;
+use crate::stack::Stack;
+use tt_code::kinds::Arithmetic;
+
+/// Does the instruction take one operand alone?
+fn is_of_one(operation: Arithmetic) -> bool
+    ensures { result ≡ takes_one operation }
+{
+    match operation {
+        Arithmetic::Abs => true,
+        Arithmetic::Neg => true,
+        Arithmetic::Not => true,
+        _ => false,
+    }
+}
+
+/// The result of ABS, NEG or NOT.
+fn result_of_one(operation: Arithmetic, cell: Cell) -> Cell
+    ensures { result ≡ one_result operation cell }
+{
+    match operation {
+        Arithmetic::Abs => results::absolute_value(cell),
+        Arithmetic::Neg => results::negative(cell),
+        _ => results::opposite(cell),
+    }
+}
+
+/// The result of an instruction of two operands, the second element of the stack first.
+fn result_of_two(operation: Arithmetic, second: Cell, top: Cell) -> Cell
+    ensures { result ≡ two_results operation second top }
+{
+    match operation {
+        Arithmetic::Add => results::sum(second, top),
+        Arithmetic::Sub => results::difference(second, top),
+        Arithmetic::Lt => results::less(second, top),
+        Arithmetic::LtEq => results::at_most(second, top),
+        Arithmetic::Gt => results::less(top, second),
+        Arithmetic::GtEq => results::at_most(top, second),
+        Arithmetic::Eq => results::same(second, top),
+        Arithmetic::Neq => results::different(second, top),
+        Arithmetic::And => results::both(second, top),
+        _ => results::either(second, top),
+    }
+}
+
+/// Computes from the top.
+fn compute_of_one(stack: &mut Stack, operation: Arithmetic) -> Result<(), Refusal>
+    ensures ok { OnOk result (Restacks (λ a. of_one_cell a (one_result operation)) stack.old stack.new) }
+    ensures refused { IfErr result (λ e. ForReason e (RefusesStack (λ a. of_one_cell a (one_result operation)) stack.old)) }
+{
+    let top = cell_under(stack, 0)?;
+    stack.cut(1);
+    stack.push(result_of_one(operation, top))?;
+    Ok(())
+}
+
+/// Computes from the two upper cells.
+fn compute_of_two(stack: &mut Stack, operation: Arithmetic) -> Result<(), Refusal>
+    ensures ok { OnOk result (Restacks (λ a. of_two_cells a (two_results operation)) stack.old stack.new) }
+    ensures refused { IfErr result (λ e. ForReason e (RefusesStack (λ a. of_two_cells a (two_results operation)) stack.old)) }
+{
+    let top = cell_under(stack, 0)?;
+    let second = cell_under(stack, 1)?;
+    stack.cut(2);
+    stack.push(result_of_two(operation, second, top))?;
+    Ok(())
+}
+
+/// Computes from the upper cells.
+pub fn compute(stack: &mut Stack, operation: Arithmetic) -> Result<(), Refusal>
+    ensures ok { OnOk result (Restacks (computed_cells operation) stack.old stack.new) }
+    ensures refused { IfErr result (λ e. ForReason e (RefusesStack (computed_cells operation) stack.old)) }
+{
+    if is_of_one(operation) {
+        compute_of_one(stack, operation)
+    } else {
+        compute_of_two(stack, operation)
+    }
+}

@@ -1,0 +1,295 @@
+//! Taking operands: how many cells are taken from the top, or the first test that fails.
+
+ghost use Rattle.std.specs.Prelude.{◌≡◌, ◌+◌, Bool, Err, IfErr, IfOk, List, Ok, drop, OnOk, ◌∷◌, ℤ};
+ghost use Rattle.tt_code.specs.Operands.{Taking, counted, is_zone as is_zone_number, pair, pairs, take_one, times};
+ghost use Rattle.tt_code.specs.Refusals.{Tested};
+ghost use Rattle.tt_code.specs.Settings.{contours_in};
+ghost use Rattle.tt_code.specs.States.{is_below};
+ghost use Rattle.tt_code.specs.declared.reason.Reason.{Reason as AnyReason};
+ghost use Rattle.tt_code.specs.declared.reason.Reason.TheVariants as reason;
+ghost use Rattle.tt_abs.specs.declared.cells.Cell.{Cell as AnyCell};
+ghost use Rattle.tt_abs.specs.declared.cells.Cell.TheVariants.{Known};
+ghost use Rattle.tt_abs.specs.Settings.{setting_of};
+ghost use Rattle.tt_abs.specs.Taken.{TakesTo};
+ghost use Rattle.tt_abs.specs.Transfers.{is_below_in, is_point_in, known, known_count, take_cell, take_cells, test_cell_uses, tested_cell};
+
+use crate::cells::{Cell, ZoneCell};
+use crate::registers::{pointer, reference};
+use crate::setting::{Setting, is_index};
+use crate::stack::Stack;
+use tt_code::kinds::{Operand, Use, Within};
+use tt_code::{Graphics, Reason};
+
+/// The number of a cell.
+pub fn number(cell: Cell) -> Result<i32, Reason>
+    ensures ok { IfOk result (λ z. cell ≡ Known z) }
+    ensures refused { IfErr result (λ r. known cell ≡ Err r) }
+{
+    match cell {
+        Cell::Known(z) => Ok(z),
+        Cell::Unknown => Err(Reason::UnknownOperand),
+    }
+}
+
+/// A count: a number of 0 or more.
+fn count(cell: Cell) -> Result<u32, Reason>
+    ensures ok { IfOk result (λ n. known_count cell ≡ Ok n) }
+    ensures refused { IfErr result (λ r. known_count cell ≡ Err r) }
+{
+    let z = number(cell)?;
+    match u32::try_from(z) {
+        Ok(n) => Ok(n),
+        Err(_) => Err(Reason::Count),
+    }
+}
+
+/// The number under so many cells, and how many are taken with it.
+fn next_number(stack: &Stack, taken: usize) -> Result<(i32, usize), Reason>
+    ensures ok { IfOk result (λ r. (below : List AnyCell) × (drop taken stack.now ≡ Known r.0 ∷ below) × (r.1 ≡ taken + 1)) }
+    ensures refused { IfErr result (λ r. (passes : ℤ → Bool) (other : AnyReason) → tested_cell passes other (drop taken stack.now) ≡ Err r) }
+{
+    match stack.under(taken) {
+        Some(cell) => {
+            let z = number(cell)?;
+            Ok((z, taken + 1))
+        }
+        None => Err(Reason::Underflow),
+    }
+}
+
+/// Takes an index below the bound.
+fn take_index(stack: &Stack, taken: usize, bound: u32, other: Reason) -> Result<usize, Reason>
+    ensures ok { IfOk result (λ n. TakesTo stack.now n (tested_cell (λ z. is_below z bound) other (drop taken stack.now))) }
+    ensures refused { IfErr result (λ r. tested_cell (λ z. is_below z bound) other (drop taken stack.now) ≡ Err r) }
+{
+    let (z, after) = next_number(stack, taken)?;
+    if is_index(z, bound) {
+        Ok(after)
+    } else {
+        Err(other)
+    }
+}
+
+/// Takes a zone that the font has.
+fn take_zone(setting: &Setting<'_>, stack: &Stack, taken: usize) -> Result<usize, Reason>
+    ensures ok { IfOk result (λ n. TakesTo stack.now n (tested_cell (is_zone_number (setting_of setting.now)) reason.Zone (drop taken stack.now))) }
+    ensures refused { IfErr result (λ r. tested_cell (is_zone_number (setting_of setting.now)) reason.Zone (drop taken stack.now) ≡ Err r) }
+{
+    let (z, after) = next_number(stack, taken)?;
+    if setting.is_zone(z) {
+        Ok(after)
+    } else {
+        Err(Reason::Zone)
+    }
+}
+
+/// Takes a contour of the zone of zp2.
+fn take_contour(
+    setting: &Setting<'_>,
+    zone: ZoneCell,
+    stack: &Stack,
+    taken: usize,
+) -> Result<usize, Reason>
+    ensures ok { IfOk result (λ n. TakesTo stack.now n (tested_cell (is_below_in (contours_in (setting_of setting.now)) zone) reason.Contour (drop taken stack.now))) }
+    ensures refused { IfErr result (λ r. tested_cell (is_below_in (contours_in (setting_of setting.now)) zone) reason.Contour (drop taken stack.now) ≡ Err r) }
+{
+    let (z, after) = next_number(stack, taken)?;
+    if setting.is_contour(zone, z) {
+        Ok(after)
+    } else {
+        Err(Reason::Contour)
+    }
+}
+
+/// Takes a point of each zone that counts.
+fn take_point(
+    setting: &Setting<'_>,
+    graphics: &Graphics<Cell, ZoneCell>,
+    stack: &Stack,
+    taken: usize,
+    within: Within,
+) -> Result<usize, Reason>
+    ensures ok { IfOk result (λ n. TakesTo stack.now n (tested_cell (is_point_in (setting_of setting.now) graphics.now within) reason.Point (drop taken stack.now))) }
+    ensures refused { IfErr result (λ r. tested_cell (is_point_in (setting_of setting.now) graphics.now within) reason.Point (drop taken stack.now) ≡ Err r) }
+{
+    let (z, after) = next_number(stack, taken)?;
+    if setting.is_point(graphics, within, z) {
+        Ok(after)
+    } else {
+        Err(Reason::Point)
+    }
+}
+
+/// Takes any cell.
+fn take_any(stack: &Stack, taken: usize) -> Result<usize, Reason>
+    ensures ok { IfOk result (λ n. TakesTo stack.now n (take_one (drop taken stack.now))) }
+    ensures refused { IfErr result (λ r. take_one (drop taken stack.now) ≡ Err r) }
+{
+    match stack.under(taken) {
+        Some(_) => Ok(taken + 1),
+        None => Err(Reason::Underflow),
+    }
+}
+
+/// Takes so many points.
+fn take_points(
+    setting: &Setting<'_>,
+    graphics: &Graphics<Cell, ZoneCell>,
+    stack: &Stack,
+    taken: usize,
+    within: Within,
+    count: u32,
+) -> Result<usize, Reason>
+    ensures ok { IfOk result (λ n. TakesTo stack.now n (times count (tested_cell (is_point_in (setting_of setting.now) graphics.now within) reason.Point) (drop taken stack.now))) }
+    ensures refused { IfErr result (λ r. times count (tested_cell (is_point_in (setting_of setting.now) graphics.now within) reason.Point) (drop taken stack.now) ≡ Err r) }
+{
+    let mut after = taken;
+    for i in 0..count {
+        after = take_point(setting, graphics, stack, after, within)?;
+    }
+    Ok(after)
+}
+
+/// Takes as many points as the loop number says, which is tested before the first one.
+fn take_loop_points(
+    setting: &Setting<'_>,
+    graphics: &Graphics<Cell, ZoneCell>,
+    stack: &Stack,
+    taken: usize,
+    within: Within,
+) -> Result<usize, Reason>
+    ensures ok { IfOk result (λ n. TakesTo stack.now n (counted (known_count graphics.now.loop_number) (tested_cell (is_point_in (setting_of setting.now) graphics.now within) reason.Point) (drop taken stack.now))) }
+    ensures refused { IfErr result (λ r. counted (known_count graphics.now.loop_number) (tested_cell (is_point_in (setting_of setting.now) graphics.now within) reason.Point) (drop taken stack.now) ≡ Err r) }
+{
+    let n = count(graphics.loop_number)?;
+    take_points(setting, graphics, stack, taken, within, n)
+}
+
+/// Takes a point and any cell.
+fn take_point_pair(
+    setting: &Setting<'_>,
+    graphics: &Graphics<Cell, ZoneCell>,
+    stack: &Stack,
+    taken: usize,
+    within: Within,
+) -> Result<usize, Reason>
+    ensures ok { IfOk result (λ n. TakesTo stack.now n (pair (tested_cell (is_point_in (setting_of setting.now) graphics.now within) reason.Point) (drop taken stack.now))) }
+    ensures refused { IfErr result (λ r. pair (tested_cell (is_point_in (setting_of setting.now) graphics.now within) reason.Point) (drop taken stack.now) ≡ Err r) }
+{
+    let after = take_point(setting, graphics, stack, taken, within)?;
+    take_any(stack, after)
+}
+
+/// Takes a CVT index and any cell.
+fn take_cvt_pair(stack: &Stack, taken: usize, cvt: u32) -> Result<usize, Reason>
+    ensures ok { IfOk result (λ n. TakesTo stack.now n (pair (tested_cell (λ z. is_below z cvt) reason.Cvt) (drop taken stack.now))) }
+    ensures refused { IfErr result (λ r. pair (tested_cell (λ z. is_below z cvt) reason.Cvt) (drop taken stack.now) ≡ Err r) }
+{
+    let after = take_index(stack, taken, cvt, Reason::Cvt)?;
+    take_any(stack, after)
+}
+
+/// The count under so many cells, and how many are taken with it.
+fn next_count(stack: &Stack, taken: usize) -> Result<(u32, usize), Reason>
+    ensures ok { IfOk result (λ r. (c : AnyCell) × (below : List AnyCell) × (drop taken stack.now ≡ c ∷ below) × (known_count c ≡ Ok r.0) × (r.1 ≡ taken + 1)) }
+    ensures refused { IfErr result (λ r. (one : List AnyCell → Tested (Taking AnyCell)) → pairs known_count one (drop taken stack.now) ≡ Err r) }
+{
+    match stack.under(taken) {
+        Some(cell) => {
+            let n = count(cell)?;
+            Ok((n, taken + 1))
+        }
+        None => Err(Reason::Underflow),
+    }
+}
+
+/// Takes a count, and as many pairs of a point and any cell.
+fn take_point_pairs(
+    setting: &Setting<'_>,
+    graphics: &Graphics<Cell, ZoneCell>,
+    stack: &Stack,
+    taken: usize,
+    within: Within,
+) -> Result<usize, Reason>
+    ensures ok { IfOk result (λ n. TakesTo stack.now n (pairs known_count (tested_cell (is_point_in (setting_of setting.now) graphics.now within) reason.Point) (drop taken stack.now))) }
+    ensures refused { IfErr result (λ r. pairs known_count (tested_cell (is_point_in (setting_of setting.now) graphics.now within) reason.Point) (drop taken stack.now) ≡ Err r) }
+{
+    let (n, mut after) = next_count(stack, taken)?;
+    for i in 0..n {
+        after = take_point_pair(setting, graphics, stack, after, within)?;
+    }
+    Ok(after)
+}
+
+/// Takes a count, and as many pairs of a CVT index and any cell.
+fn take_cvt_pairs(stack: &Stack, taken: usize, cvt: u32) -> Result<usize, Reason>
+    ensures ok { IfOk result (λ n. TakesTo stack.now n (pairs known_count (tested_cell (λ z. is_below z cvt) reason.Cvt) (drop taken stack.now))) }
+    ensures refused { IfErr result (λ r. pairs known_count (tested_cell (λ z. is_below z cvt) reason.Cvt) (drop taken stack.now) ≡ Err r) }
+{
+    let (n, mut after) = next_count(stack, taken)?;
+    for i in 0..n {
+        after = take_cvt_pair(stack, after, cvt)?;
+    }
+    Ok(after)
+}
+
+/// Takes what an operand says.
+fn take_operand(
+    setting: &Setting<'_>,
+    graphics: &Graphics<Cell, ZoneCell>,
+    stack: &Stack,
+    taken: usize,
+    operand: Operand,
+) -> Result<usize, Reason>
+    ensures ok { IfOk result (λ n. TakesTo stack.now n (take_cell (setting_of setting.now) graphics.now operand (drop taken stack.now))) }
+    ensures refused { IfErr result (λ r. take_cell (setting_of setting.now) graphics.now operand (drop taken stack.now) ≡ Err r) }
+{
+    match operand {
+        Operand::Number => take_any(stack, taken),
+        Operand::Point(within) => take_point(setting, graphics, stack, taken, within),
+        Operand::Cvt => take_index(stack, taken, setting.cvt, Reason::Cvt),
+        Operand::Storage => {
+            take_index(stack, taken, u32::from(setting.limits.storage), Reason::Storage)
+        }
+        Operand::Zone => take_zone(setting, stack, taken),
+        Operand::Contour => take_contour(setting, graphics.zp2, stack, taken),
+        Operand::LoopPoints(within) => take_loop_points(setting, graphics, stack, taken, within),
+        Operand::PointPairs(within) => take_point_pairs(setting, graphics, stack, taken, within),
+        Operand::CvtPairs => take_cvt_pairs(stack, taken, setting.cvt),
+    }
+}
+
+/// Takes the operands of a line from the top on, and answers how many cells they are.
+pub fn take_operands(
+    setting: &Setting<'_>,
+    graphics: &Graphics<Cell, ZoneCell>,
+    stack: &Stack,
+    operands: &[Operand],
+) -> Result<usize, Reason>
+    ensures ok { IfOk result (λ n. TakesTo stack.now n (take_cells (setting_of setting.now) graphics.now operands.now stack.now)) }
+    ensures refused { IfErr result (λ r. take_cells (setting_of setting.now) graphics.now operands.now stack.now ≡ Err r) }
+{
+    let mut taken = 0;
+    for operand in operands {
+        taken = take_operand(setting, graphics, stack, taken, *operand)?;
+    }
+    Ok(taken)
+}
+
+/// Tests the reference points that a line uses.
+pub fn test_uses(
+    setting: &Setting<'_>,
+    graphics: &Graphics<Cell, ZoneCell>,
+    uses: &[Use],
+) -> Result<(), Reason>
+    ensures ok { OnOk result (test_cell_uses (setting_of setting.now) graphics.now uses.now ≡ Ok tt) }
+    ensures refused { IfErr result (λ r. test_cell_uses (setting_of setting.now) graphics.now uses.now ≡ Err r) }
+{
+    for used in uses {
+        let z = number(reference(graphics, used.reference))?;
+        if !setting.is_in(pointer(graphics, used.pointer), z) {
+            return Err(Reason::Point);
+        }
+    }
+    Ok(())
+}

@@ -1,0 +1,52 @@
+//! Reading and setting reference points and zone pointers of which something is known.
+
+ghost use Rattle.std.specs.Prelude.{◌≡◌};
+ghost use Rattle.tt_code.specs.States.{pointer as pointer_of, reference as reference_of, with_pointer, with_reference};
+
+use crate::cells::{Cell, ZoneCell};
+use tt_code::Graphics;
+use tt_code::kinds::{Pointer, Reference};
+
+/// The reference point.
+pub fn reference(graphics: &Graphics<Cell, ZoneCell>, reference: Reference) -> Cell
+    ensures { result ≡ reference_of reference graphics.now }
+{
+    match reference {
+        Reference::Rp0 => graphics.rp0,
+        Reference::Rp1 => graphics.rp1,
+        Reference::Rp2 => graphics.rp2,
+    }
+}
+
+/// The zone that the pointer names.
+pub fn pointer(graphics: &Graphics<Cell, ZoneCell>, pointer: Pointer) -> ZoneCell
+    ensures { result ≡ pointer_of pointer graphics.now }
+{
+    match pointer {
+        Pointer::Zp0 => graphics.zp0,
+        Pointer::Zp1 => graphics.zp1,
+        Pointer::Zp2 => graphics.zp2,
+    }
+}
+
+/// Sets a reference point.
+pub fn set_reference(graphics: &mut Graphics<Cell, ZoneCell>, reference: Reference, cell: Cell)
+    ensures { graphics.new ≡ with_reference reference cell graphics.old }
+{
+    match reference {
+        Reference::Rp0 => graphics.rp0 = cell,
+        Reference::Rp1 => graphics.rp1 = cell,
+        Reference::Rp2 => graphics.rp2 = cell,
+    }
+}
+
+/// Sets a zone pointer.
+pub fn set_pointer(graphics: &mut Graphics<Cell, ZoneCell>, pointer: Pointer, zone: ZoneCell)
+    ensures { graphics.new ≡ with_pointer pointer zone graphics.old }
+{
+    match pointer {
+        Pointer::Zp0 => graphics.zp0 = zone,
+        Pointer::Zp1 => graphics.zp1 = zone,
+        Pointer::Zp2 => graphics.zp2 = zone,
+    }
+}

@@ -1,0 +1,174 @@
+//! What is known of a result, where something is known of the operands: the result itself exactly where it is the same for all
+//! numbers that the operands may be.
+
+ghost use Rattle.std.specs.Prelude.{◌≡◌, Bool, ℤ, ◌+ℤ◌, ◌-ℤ◌, neg_ℤ, not};
+ghost use Rattle.tt_code.specs.Computing.{absolute, equal};
+ghost use Rattle.tt_code.specs.States.{is_true as holds};
+ghost use Rattle.tt_abs.specs.Transfers.{and_cells, exact_cell, le_cells, lt_cells, of_both_known, of_known, only_if, or_cells, truth_cell};
+
+use crate::cells::Cell;
+
+/// The result, where it is a number of the machine, -2^31 to 2^31 - 1.
+fn exact(value: i64) -> Cell
+    ensures { result ≡ exact_cell value }
+{
+    match i32::try_from(value) {
+        Ok(number) => Cell::Known(number),
+        Err(_) => Cell::Unknown,
+    }
+}
+
+/// 1 for true, 0 for false.
+fn truth(holds: bool) -> Cell
+    ensures { result ≡ truth_cell holds }
+{
+    if holds { Cell::Known(1) } else { Cell::Known(0) }
+}
+
+/// The answer where it is decided.
+fn decided(is_decided: bool, answer: bool) -> Cell
+    ensures { result ≡ only_if is_decided (truth_cell answer) }
+{
+    if is_decided { truth(answer) } else { Cell::Unknown }
+}
+
+/// ADD: the sum.
+pub fn sum(first: Cell, second: Cell) -> Cell
+    ensures { result ≡ of_both_known (λ a b. exact_cell (a +ℤ b)) first second }
+{
+    match (first, second) {
+        (Cell::Known(a), Cell::Known(b)) => exact(i64::from(a) + i64::from(b)),
+        _ => Cell::Unknown,
+    }
+}
+
+/// SUB: the first less the second.
+pub fn difference(first: Cell, second: Cell) -> Cell
+    ensures { result ≡ of_both_known (λ a b. exact_cell (a -ℤ b)) first second }
+{
+    match (first, second) {
+        (Cell::Known(a), Cell::Known(b)) => exact(i64::from(a) - i64::from(b)),
+        _ => Cell::Unknown,
+    }
+}
+
+/// ABS.
+pub fn absolute_value(cell: Cell) -> Cell
+    ensures { result ≡ of_known (λ a. exact_cell (absolute a)) cell }
+{
+    match cell {
+        Cell::Known(a) => exact(i64::from(a).abs()),
+        Cell::Unknown => Cell::Unknown,
+    }
+}
+
+/// NEG.
+pub fn negative(cell: Cell) -> Cell
+    ensures { result ≡ of_known (λ a. exact_cell (neg_ℤ a)) cell }
+{
+    match cell {
+        Cell::Known(a) => exact(-i64::from(a)),
+        Cell::Unknown => Cell::Unknown,
+    }
+}
+
+/// LT: is the first below the second? No number is below -2^31, and 2^31 - 1 is below none.
+pub fn less(first: Cell, second: Cell) -> Cell
+    ensures { result ≡ lt_cells first second }
+{
+    match first {
+        Cell::Known(a) => match second {
+            Cell::Known(b) => truth(a < b),
+            Cell::Unknown => decided(a == i32::MAX, false),
+        },
+        Cell::Unknown => match second {
+            Cell::Known(b) => decided(b == i32::MIN, false),
+            Cell::Unknown => Cell::Unknown,
+        },
+    }
+}
+
+/// LTEQ: is the first at most the second? -2^31 is at most each number, and each is at most 2^31 - 1.
+pub fn at_most(first: Cell, second: Cell) -> Cell
+    ensures { result ≡ le_cells first second }
+{
+    match first {
+        Cell::Known(a) => match second {
+            Cell::Known(b) => truth(a <= b),
+            Cell::Unknown => decided(a == i32::MIN, true),
+        },
+        Cell::Unknown => match second {
+            Cell::Known(b) => decided(b == i32::MAX, true),
+            Cell::Unknown => Cell::Unknown,
+        },
+    }
+}
+
+/// EQ.
+pub fn same(first: Cell, second: Cell) -> Cell
+    ensures { result ≡ of_both_known (λ a b. truth_cell (equal a b)) first second }
+{
+    match (first, second) {
+        (Cell::Known(a), Cell::Known(b)) => truth(a == b),
+        _ => Cell::Unknown,
+    }
+}
+
+/// NEQ.
+pub fn different(first: Cell, second: Cell) -> Cell
+    ensures { result ≡ of_both_known (λ a b. truth_cell (not (equal a b))) first second }
+{
+    match (first, second) {
+        (Cell::Known(a), Cell::Known(b)) => truth(a != b),
+        _ => Cell::Unknown,
+    }
+}
+
+/// Every number but 0 is true.
+pub fn is_true(number: i32) -> bool
+    ensures { result ≡ holds number }
+{
+    number != 0
+}
+
+/// AND: false decides.
+pub fn both(first: Cell, second: Cell) -> Cell
+    ensures { result ≡ and_cells first second }
+{
+    match first {
+        Cell::Known(a) => match second {
+            Cell::Known(b) => truth(is_true(a) && is_true(b)),
+            Cell::Unknown => decided(!is_true(a), false),
+        },
+        Cell::Unknown => match second {
+            Cell::Known(b) => decided(!is_true(b), false),
+            Cell::Unknown => Cell::Unknown,
+        },
+    }
+}
+
+/// OR: true decides.
+pub fn either(first: Cell, second: Cell) -> Cell
+    ensures { result ≡ or_cells first second }
+{
+    match first {
+        Cell::Known(a) => match second {
+            Cell::Known(b) => truth(is_true(a) || is_true(b)),
+            Cell::Unknown => decided(is_true(a), true),
+        },
+        Cell::Unknown => match second {
+            Cell::Known(b) => decided(is_true(b), true),
+            Cell::Unknown => Cell::Unknown,
+        },
+    }
+}
+
+/// NOT.
+pub fn opposite(cell: Cell) -> Cell
+    ensures { result ≡ of_known (λ a. truth_cell (not (holds a))) cell }
+{
+    match cell {
+        Cell::Known(a) => truth(!is_true(a)),
+        Cell::Unknown => Cell::Unknown,
+    }
+}

@@ -1,0 +1,248 @@
+//! What stays the same through a program: the font's limits, its programs, and what kind of program runs.
+
+ghost use Rattle.std.specs.Prelude.{◌≡◌, ◌<◌, ◌≤ℤ◌, ◌^◌, Some, ℤ, pos};
+ghost use Rattle.tt_code.specs.Control.{may_define as may_define_functions};
+ghost use Rattle.tt_code.specs.Settings.{One, body_name as name_of_body, body_of as body_of_frames, body_offset as offset_of_body, contours_in, is_body, is_main_end, is_target as is_jump_target, program_of, starts_in_body, zone_size};
+ghost use Rattle.tt_code.specs.Operands.{is_zone as is_zone_number};
+ghost use Rattle.tt_code.specs.States.{is_below};
+ghost use Rattle.tt_abs.specs.Settings.{frames_of, setting_of};
+ghost use Rattle.tt_abs.specs.Transfers.{is_below_in, is_point_in};
+
+use crate::cells::{Cell, ZoneCell};
+use crate::registers::pointer;
+use tt_code::kinds::Within;
+use tt_code::{Body, Frame, Graphics, Limits, Program};
+
+/// How many phantom points a glyph has beside its own (OpenType specification, "Phantom points").
+const PHANTOM_POINTS: u32 = 4;
+
+/// Bodies of the CVT program are named by their offset and this.
+const CVT_BODIES: u32 = 1 << 31;
+
+/// Which program runs.
+#[derive(Clone, Copy, Debug, PartialEq, Eq)]
+pub enum Kind {
+    /// The font program, `fpgm`.
+    Font,
+    /// The CVT program, `prep`.
+    Cvt,
+    /// A glyph program; how many points and contours the glyph has, phantom points aside.
+    Glyph { points: u16, contours: u16 },
+}
+
+/// What a program may rely on. For the font program all three programs are one, for the CVT program `prep` is `main`.
+pub struct Setting<'a> {
+    pub limits: Limits,
+    /// How many control values the font has.
+    pub cvt: u32,
+    pub kind: Kind,
+    /// The program that runs.
+    pub main: &'a Program<'a>,
+    /// The font program.
+    pub font: &'a Program<'a>,
+    /// The CVT program.
+    pub prep: &'a Program<'a>,
+    /// The functions with which the program starts, as number and body, by rising number.
+    pub start: &'a [(u16, u32)],
+}
+
+/// Where a program stands.
+#[derive(Clone, Copy)]
+pub struct Point<'a> {
+    /// The calls that haven't returned, the outermost first.
+    pub frames: &'a [Frame],
+    /// The offset in the program of the innermost frame's body.
+    pub offset: u32,
+}
+
+/// The offset of a body in its program.
+fn body_offset(body: u32) -> u32
+    ensures { result ≡ offset_of_body body }
+{
+    if body < CVT_BODIES {
+        body
+    } else {
+        body - CVT_BODIES
+    }
+}
+
+/// The body in which a point stands.
+fn body_of(point: &Point<'_>) -> Body
+    ensures { result ≡ body_of_frames (frames_of point.now) }
+{
+    match point.frames {
+        [] => Body::Main,
+        [.., frame] => Body::Function(body_offset(frame.body)),
+    }
+}
+
+/// Are the two one body of the main program or of a function?
+fn is_same_body(body: Body, other: Body) -> bool
+    ensures { result ≡ is_body body (Some other) }
+{
+    match body {
+        Body::Main => match other {
+            Body::Main => true,
+            _ => false,
+        },
+        Body::Function(first) => match other {
+            Body::Function(second) => first == second,
+            _ => false,
+        },
+        Body::Instruction(_) => false,
+    }
+}
+
+/// Is the number an index below the bound?
+pub fn is_index(number: i32, bound: u32) -> bool
+    ensures { result ≡ is_below number bound }
+{
+    match u32::try_from(number) {
+        Ok(index) => index < bound,
+        Err(_) => false,
+    }
+}
+
+impl<'a> Setting<'a> {
+    /// How many points the glyph zone has.
+    fn glyph_zone(&self) -> u32
+        ensures { result ≡ zone_size (setting_of self.now) One }
+    {
+        match self.kind {
+            Kind::Font => 0,
+            Kind::Cvt => 0,
+            Kind::Glyph { points, .. } => u32::from(points) + PHANTOM_POINTS,
+        }
+    }
+
+    /// How many contours the glyph zone has.
+    fn glyph_contours(&self) -> u32
+        ensures { result ≡ contours_in (setting_of self.now) One }
+    {
+        match self.kind {
+            Kind::Font => 0,
+            Kind::Cvt => 0,
+            Kind::Glyph { contours, .. } => u32::from(contours),
+        }
+    }
+
+    /// Is the number a point's of each zone that may be meant?
+    pub(crate) fn is_in(&self, zone: ZoneCell, number: i32) -> bool
+        ensures { result ≡ is_below_in (zone_size (setting_of self.now)) zone number }
+    {
+        let twilight = u32::from(self.limits.twilight);
+        match zone {
+            ZoneCell::Zero => is_index(number, twilight),
+            ZoneCell::One => is_index(number, self.glyph_zone()),
+            ZoneCell::Either => is_index(number, twilight) && is_index(number, self.glyph_zone()),
+        }
+    }
+
+    /// Is the number a point's of each zone that counts?
+    pub(crate) fn is_point(
+        &self,
+        graphics: &Graphics<Cell, ZoneCell>,
+        within: Within,
+        number: i32,
+    ) -> bool
+        ensures { result ≡ is_point_in (setting_of self.now) graphics.now within number }
+    {
+        match within {
+            Within::In(p) => self.is_in(pointer(graphics, p), number),
+            Within::Both(p, q) => {
+                self.is_in(pointer(graphics, p), number) && self.is_in(pointer(graphics, q), number)
+            }
+            Within::GlyphAnd(p) => {
+                is_index(number, self.glyph_zone()) && self.is_in(pointer(graphics, p), number)
+            }
+        }
+    }
+
+    /// Is the number a contour's of each zone that may be meant?
+    pub(crate) fn is_contour(&self, zone: ZoneCell, number: i32) -> bool
+        ensures { result ≡ is_below_in (contours_in (setting_of self.now)) zone number }
+    {
+        match zone {
+            ZoneCell::Zero => is_index(number, 1),
+            ZoneCell::One => is_index(number, self.glyph_contours()),
+            ZoneCell::Either => is_index(number, 1) && is_index(number, self.glyph_contours()),
+        }
+    }
+
+    /// The program in which a point stands.
+    pub(crate) fn program(&self, point: &Point<'_>) -> &'a Program<'a>
+        ensures { result.now ≡ program_of (setting_of self.now) (frames_of point.now) }
+    {
+        match point.frames {
+            [] => self.main,
+            [.., frame] => {
+                if frame.body < CVT_BODIES {
+                    self.font
+                } else {
+                    self.prep
+                }
+            }
+        }
+    }
+
+    /// May control jump there from the point? To an instruction of the same body, in a main program to its end too.
+    pub(crate) fn is_target(&self, point: &Point<'_>, target: i64) -> bool
+        requires { target ≤ℤ pos 4294967295 }
+        ensures { result ≡ is_jump_target (setting_of self.now) (frames_of point.now) target }
+    {
+        match u32::try_from(target) {
+            Ok(offset) => self.starts(point, offset) || self.is_end(point, offset),
+            Err(_) => false,
+        }
+    }
+
+    /// Does an instruction of the point's body start at the offset?
+    pub(crate) fn starts(&self, point: &Point<'_>, offset: u32) -> bool
+        ensures { result ≡ starts_in_body (setting_of self.now) (frames_of point.now) offset }
+    {
+        match self.program(point).body_at(offset) {
+            Some(body) => is_same_body(body_of(point), body),
+            None => false,
+        }
+    }
+
+    /// Is the offset the main program's end, and the point the main program's?
+    pub(crate) fn is_end(&self, point: &Point<'_>, offset: u32) -> bool
+        ensures { result ≡ is_main_end (setting_of self.now) (frames_of point.now) offset }
+    {
+        point.frames.is_empty() && offset == self.main.len()
+    }
+
+    /// May the program define functions?
+    pub(crate) fn may_define(&self) -> bool
+        ensures { result ≡ may_define_functions (setting_of self.now).kind }
+    {
+        match self.kind {
+            Kind::Font => true,
+            Kind::Cvt => true,
+            Kind::Glyph { .. } => false,
+        }
+    }
+
+    /// The name of a body that the program defines at an offset below 2^31.
+    pub(crate) fn body_name(&self, offset: u32) -> u32
+        requires { offset < 2 ^ 31 }
+        ensures { result ≡ name_of_body (setting_of self.now).kind offset }
+    {
+        match self.kind {
+            Kind::Cvt => CVT_BODIES + offset,
+            _ => offset,
+        }
+    }
+
+    /// Does the number name a zone that the font has?
+    pub(crate) fn is_zone(&self, number: i32) -> bool
+        ensures { result ≡ is_zone_number (setting_of self.now) number }
+    {
+        match number {
+            0 => self.limits.zones >= 2,
+            1 => true,
+            _ => false,
+        }
+    }
+}

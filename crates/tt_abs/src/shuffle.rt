@@ -1,0 +1,154 @@
+//! The instructions that move the stack's cells.
+
+ghost use Rattle.std.specs.Prelude.{◌≡◌, ◌+◌, ◌∷◌, [], Err, IfErr, IfOk, List, Ok, OnOk, ℕ, drop, pos, suc};
+ghost use Rattle.tt_code.specs.Computing.{element, place_of};
+ghost use Rattle.tt_code.specs.Operands.{top as top_of};
+ghost use Rattle.tt_code.specs.declared.kinds.StackOp.TheVariants as op;
+ghost use Rattle.tt_code.specs.declared.reason.Reason.{Reason as AnyReason};
+ghost use Rattle.tt_code.specs.declared.reason.Reason.TheVariants as reason;
+ghost use Rattle.tt_abs.specs.Steps.{ForReason, RefusesStack, Restacks};
+ghost use Rattle.tt_abs.specs.Transfers.{known, shuffled_cells};
+ghost use Rattle.tt_abs.specs.declared.cells.Cell.{Cell as AnyCell};
+ghost use Rattle.tt_abs.specs.declared.cells.Cell.TheVariants.{Known};
+
+use crate::cells::Cell;
+use crate::operands::number;
+use crate::refusal::Refusal;
+use crate::stack::Stack;
+use tt_code::Reason;
+use tt_code::kinds::StackOp;
+
+/// The cell under so many others.
+pub fn cell_under(stack: &Stack, taken: usize) -> Result<Cell, Reason>
+    ensures ok { IfOk result (λ c. drop taken stack.now ≡ c ∷ drop (taken + 1) stack.now) }
+    ensures refused { IfErr result (λ r. (drop taken stack.now ≡ []) × (r ≡ reason.Underflow)) }
+{
+    match stack.under(taken) {
+        Some(cell) => Ok(cell),
+        None => Err(Reason::Underflow),
+    }
+}
+
+/// DUP: copies the top.
+fn duplicate(stack: &mut Stack) -> Result<(), Refusal>
+    ensures ok { OnOk result (Restacks (shuffled_cells op.Dup) stack.old stack.new) }
+    ensures refused { IfErr result (λ e. ForReason e (RefusesStack (shuffled_cells op.Dup) stack.old)) }
+{
+    let top = cell_under(stack, 0)?;
+    stack.push(top)?;
+    Ok(())
+}
+
+/// POP: drops the top.
+fn discard(stack: &mut Stack) -> Result<(), Refusal>
+    ensures ok { OnOk result (Restacks (shuffled_cells op.Pop) stack.old stack.new) }
+    ensures refused { IfErr result (λ e. ForReason e (RefusesStack (shuffled_cells op.Pop) stack.old)) }
+{
+    cell_under(stack, 0)?;
+    stack.cut(1);
+    Ok(())
+}
+
+/// SWAP: exchanges the two upper cells.
+fn swap(stack: &mut Stack) -> Result<(), Refusal>
+    ensures ok { OnOk result (Restacks (shuffled_cells op.Swap) stack.old stack.new) }
+    ensures refused { IfErr result (λ e. ForReason e (RefusesStack (shuffled_cells op.Swap) stack.old)) }
+{
+    let top = cell_under(stack, 0)?;
+    let second = cell_under(stack, 1)?;
+    stack.cut(2);
+    stack.push(top)?;
+    stack.push(second)?;
+    Ok(())
+}
+
+/// DEPTH: pushes how many cells there are.
+fn push_depth(stack: &mut Stack) -> Result<(), Refusal>
+    ensures ok { OnOk result (Restacks (shuffled_cells op.Depth) stack.old stack.new) }
+    ensures refused { IfErr result (λ e. ForReason e (RefusesStack (shuffled_cells op.Depth) stack.old)) }
+{
+    let depth = stack.len() as i32;
+    stack.push(Cell::Known(depth))?;
+    Ok(())
+}
+
+/// The place that an index from 1 names, the top being 0.
+fn place(index: i32) -> Result<usize, Reason>
+    ensures ok { IfOk result (λ n. index ≡ pos (suc n)) }
+    ensures refused { IfErr result (λ r. (cells : List AnyCell) → element index cells ≡ Err r) }
+{
+    match usize::try_from(index) {
+        Ok(n) if n > 0 => Ok(n - 1),
+        _ => Err(Reason::Count),
+    }
+}
+
+/// The index on top: how many cells lie above the cell that it names, the index itself aside, and that cell.
+fn indexed(stack: &Stack) -> Result<(usize, Cell), Reason>
+    ensures ok { IfOk result (λ r. (k : AnyCell) × (below : List AnyCell) × (stack.now ≡ k ∷ below) × (known k ≡ Ok (pos (suc r.0))) × (drop r.0 below ≡ r.1 ∷ drop (r.0 + 1) below)) }
+    ensures refused { IfErr result (λ r. RefusesStack (shuffled_cells op.CopyIndexed) stack.now r × RefusesStack (shuffled_cells op.MoveIndexed) stack.now r) }
+{
+    let top = cell_under(stack, 0)?;
+    let index = number(top)?;
+    let above = place(index)?;
+    let cell = cell_under(stack, above + 1)?;
+    Ok((above, cell))
+}
+
+/// CINDEX: copies the cell that the top names.
+fn copy_indexed(stack: &mut Stack) -> Result<(), Refusal>
+    ensures ok { OnOk result (Restacks (shuffled_cells op.CopyIndexed) stack.old stack.new) }
+    ensures refused { IfErr result (λ e. ForReason e (RefusesStack (shuffled_cells op.CopyIndexed) stack.old)) }
+{
+    let (_, cell) = indexed(stack)?;
+    stack.cut(1);
+    stack.push(cell)?;
+    Ok(())
+}
+
+/// MINDEX: moves the cell that the top names to the top.
+fn move_indexed(stack: &mut Stack) -> Result<(), Refusal>
+    ensures ok { OnOk result (Restacks (shuffled_cells op.MoveIndexed) stack.old stack.new) }
+    ensures refused { IfErr result (λ e. ForReason e (RefusesStack (shuffled_cells op.MoveIndexed) stack.old)) }
+{
+    let (above, cell) = indexed(stack)?;
+    stack.cut(1);
+    stack.remove(above);
+    stack.push(cell)?;
+    Ok(())
+}
+
+/// ROLL: brings the third cell to the top.
+fn roll(stack: &mut Stack) -> Result<(), Refusal>
+    ensures ok { OnOk result (Restacks (shuffled_cells op.Roll) stack.old stack.new) }
+    ensures refused { IfErr result (λ e. ForReason e (RefusesStack (shuffled_cells op.Roll) stack.old)) }
+{
+    let top = cell_under(stack, 0)?;
+    let second = cell_under(stack, 1)?;
+    let third = cell_under(stack, 2)?;
+    stack.cut(3);
+    stack.push(second)?;
+    stack.push(top)?;
+    stack.push(third)?;
+    Ok(())
+}
+
+/// Moves the stack's cells.
+pub fn shuffle(stack: &mut Stack, operation: StackOp) -> Result<(), Refusal>
+    ensures ok { OnOk result (Restacks (shuffled_cells operation) stack.old stack.new) }
+    ensures refused { IfErr result (λ e. ForReason e (RefusesStack (shuffled_cells operation) stack.old)) }
+{
+    match operation {
+        StackOp::Dup => duplicate(stack),
+        StackOp::Pop => discard(stack),
+        StackOp::Clear => {
+            stack.clear();
+            Ok(())
+        }
+        StackOp::Swap => swap(stack),
+        StackOp::Depth => push_depth(stack),
+        StackOp::CopyIndexed => copy_indexed(stack),
+        StackOp::MoveIndexed => move_indexed(stack),
+        StackOp::Roll => roll(stack),
+    }
+}
