@@ -20,9 +20,10 @@ one_is_number = search rules
 pub CellBelow-coverage : (a b : Cell) → CellInRange a → CellBelow a b ↔ ((n : ℤ) → Covers a n → Covers b n)
 CellBelow-coverage (Known k) (Known l) r = (λ e n h. h ∙ e, λ f. f k refl)
 CellBelow-coverage (Known k) Unknown r = (λ _ n h. let N : ℤ → Type 0 = λ x. IsNumber x in subst N (sym h) r, λ f. tt)
-CellBelow-coverage Unknown (Known l) r =
-    (λ h n. absurd h,
-     λ f. let a : pos 0 ≡ l = f (pos 0) zero_is_number in let b : pos 1 ≡ l = f (pos 1) one_is_number in cc)
+CellBelow-coverage Unknown (Known l) r = (
+  λ h n. absurd h,
+  λ f. let a : pos 0 ≡ l = f (pos 0) zero_is_number in let b : pos 1 ≡ l = f (pos 1) one_is_number in cc,
+)
 CellBelow-coverage Unknown Unknown r = (λ _ n h. h, λ _. tt)
 
 zones_covered : (a : ZoneCell) → ((z : ZoneNumber) → CoversZone a z → CoversZone zone.Either z)
@@ -82,8 +83,8 @@ below_from_coverage (x ∷ xs) (y ∷ ys) r f =
     let (ms, hs) = some_stack_covered xs in
     let (m, h) = some_covered x in
     cells_cons x y xs ys
-      ((CellBelow-coverage x y (r 0)).1 (λ n c. (f (n ∷ ms) (c, hs)).0))
-      (below_from_coverage xs ys (λ k. r (suc k)) (λ ns c. (f (m ∷ ns) (h, c)).1))
+    ((CellBelow-coverage x y (r 0)).1 (λ n c. (f (n ∷ ms) (c, hs)).0))
+    (below_from_coverage xs ys (λ k. r (suc k)) (λ ns c. (f (m ∷ ns) (h, c)).1))
 
 pub StackBelow-coverage : (a b : List Cell) → StackInRange a → StackBelow a b ↔ ((ns : List ℤ) → CoversStack a ns → CoversStack b ns)
 StackBelow-coverage a b r = (below_covers a b r, below_from_coverage a b r)

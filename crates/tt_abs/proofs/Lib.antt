@@ -21,7 +21,8 @@ pub mod Computed
 pub mod Pushes
 pub mod Steps
 pub mod StateCoverage
-pub mod StatesInRange
+pub mod EntriesInRange
+pub mod EntryMerge
 pub mod RunningOnCells
 pub mod ExamplesOfCells
 pub mod ExamplesOfOtherCells

@@ -1,6 +1,6 @@
 -- The order of stacks, from cell to cell and in the other direction.
-use Rattle.std.specs.Prelude.{reverse, ◌⊎◌}
-use Rattle.std.proofs.Common.{◌≡◌, ℕ, ◌-◌, ◌<◌, ◌≤◌, List, length, drop, refl, sym, ◌∙◌, ap, subst, arith, inl, inr}
+use Rattle.std.specs.Prelude.{reverse}
+use Rattle.std.proofs.Common.{◌≡◌, ℕ, ◌-◌, ◌<◌, ◌≤◌, List, length, drop, sym, ◌∙◌, ap, subst, arith, inl, inr}
 use Rattle.std.specs.List.{refill}
 use Rattle.std.proofs.lemmas.Bool.{cases_lt}
 use Rattle.std.proofs.lemmas.List.{get_or-reverse, get_or_past, length-reverse, reverse-reverse, take_at}
@@ -30,8 +30,9 @@ reversed_past a k h = let l : length (reverse a) ≡ length a = length-reverse a
 pub StackInRange-reverse : (a : List Cell) → StackInRange a → StackInRange (reverse a)
 StackInRange-reverse a r k = let P : Cell → Type 0 = λ c. CellInRange c in
     elim (cases_lt k (length a)) [
-      inl h ↦ subst P (sym (reversed_at a k h)) (r (length a - 1 - k))
-    | inr h ↦ subst P (sym (reversed_past a k h)) tt ]
+      | inl h ↦ subst P (sym (reversed_at a k h)) (r (length a - 1 - k))
+      | inr h ↦ subst P (sym (reversed_past a k h)) tt
+    ]
 
 pub StackBelow-reverse : (a b : List Cell) → StackBelow a b → StackBelow (reverse a) (reverse b)
 StackBelow-reverse a b p = record { depth = length-reverse a ∙ p.depth ∙ sym (length-reverse b); cells = at }
@@ -39,10 +40,12 @@ StackBelow-reverse a b p = record { depth = length-reverse a ∙ p.depth ∙ sym
     below : (c d e f : Cell) → c ≡ d → e ≡ f → CellBelow d f → CellBelow c e
     below c d e f p q h = let P : Cell → Type 0 = λ x. CellBelow x e in let Q : Cell → Type 0 = λ x. CellBelow d x in
         subst P (sym p) (subst Q (sym q) h)
+
     at : (k : ℕ) → CellBelow (cell_at (reverse a) k) (cell_at (reverse b) k)
     at k = let same = p.depth in elim (cases_lt k (length a)) [
-        inl h ↦ below _ _ _ _ (reversed_at a k h) (reversed_at b k (omega arith) ∙ ap (λ n. cell_at b (n - 1 - k)) (sym same)) (p.cells (length a - 1 - k))
-      | inr h ↦ below _ _ _ _ (reversed_past a k h) (reversed_past b k (omega arith)) tt ]
+      | inl h ↦ below _ _ _ _ (reversed_at a k h) (reversed_at b k (omega arith) ∙ ap (λ n. cell_at b (n - 1 - k)) (sym same)) (p.cells (length a - 1 - k))
+      | inr h ↦ below _ _ _ _ (reversed_past a k h) (reversed_past b k (omega arith)) tt
+    ]
 
 pub least-reverse : (a b c : List Cell) → IsLeastAbove stack_order a b c → IsLeastAbove stack_order (reverse a) (reverse b) (reverse c)
 least-reverse a b c p = record {
@@ -50,9 +53,9 @@ least-reverse a b c p = record {
   left = StackBelow-reverse a c p.left;
   right = StackBelow-reverse b c p.right;
   least = λ d r x y. let D : List Cell → Type 0 = λ e. StackBelow (reverse c) e in
-    subst D (reverse-reverse d)
+      subst D (reverse-reverse d)
       (StackBelow-reverse c (reverse d)
-        (p.least (reverse d) (StackInRange-reverse d r) (back a d x) (back b d y)));
+      (p.least (reverse d) (StackInRange-reverse d r) (back a d x) (back b d y)));
 }
   where
     back : (e d : List Cell) → StackBelow (reverse e) d → StackBelow e (reverse d)

@@ -1,12 +1,12 @@
 -- The laws of the orders on cells and zone cells.
-use Rattle.std.specs.Prelude.{◌≡◌, ℕ, ◌≤◌, ℤ, ⊤}
-use Rattle.std.proofs.Common.{refl, sym, ◌∙◌, ap, arith, rules}
+use Rattle.std.specs.Prelude.{◌≡◌, ◌≤◌}
+use Rattle.std.proofs.Common.{refl, ◌∙◌, ap, arith}
 use Rattle.tt_abs.specs.declared.cells.Cell.{Cell}
 use Rattle.tt_abs.specs.declared.cells.Cell.TheVariants.{Known, Unknown}
 use Rattle.tt_abs.specs.declared.cells.ZoneCell.{ZoneCell}
 use Rattle.tt_abs.specs.declared.cells.ZoneCell.TheVariants.{Zero, One, Either}
 use Rattle.tt_abs.specs.Orders.{OrderLaws}
-use Rattle.tt_abs.specs.CellOrders.{CellInRange, CellBelow, known_cells, ZoneBelow, known_zones, cell_order, zone_order}
+use Rattle.tt_abs.specs.CellOrders.{CellBelow, known_cells, ZoneBelow, known_zones, cell_order, zone_order}
 
 pub CellBelow-refl : (a : Cell) → CellBelow a a
 CellBelow-refl (Known k) = refl

@@ -14,8 +14,9 @@ use Rattle.tt_abs.specs.EntryLaws.{listed-here, listed-there}
 pub listed-all : {V : Type 0} (P : V → Type 0) (es : List (ℕ × V)) (n : ℕ) (v : V) → AllByRecursion (λ e. P e.1) es → listed es n ≡ Some v → P v
 listed-all P [] n v all l = cc
 listed-all {V} P (e ∷ es) n v all l = elim (cases_eq e.0 n) [
-    inl same ↦ subst P (value (sym (listed-here e es n same) ∙ l)) all.0
-  | inr other ↦ listed-all P es n v all.1 (sym (listed-there e es n other) ∙ l) ]
+  | inl same ↦ subst P (value (sym (listed-here e es n same) ∙ l)) all.0
+  | inr other ↦ listed-all P es n v all.1 (sym (listed-there e es n other) ∙ l)
+]
   where
     value : Some e.1 ≡ Some v → e.1 ≡ v
     value h = cc
@@ -27,14 +28,16 @@ with_step : {V : Type 0} (n : ℕ) (v : V) (e : ℕ × V) (es : List (ℕ × V))
     → listed (if less then (n, v) ∷ e ∷ es else (if same then (n, v) ∷ es else e ∷ with_entry n v es)) k ≡ (if nat_eq n k then Some v else listed (e ∷ es) k)
 with_step n v e es k true same is_less is_same ih = refl
 with_step n v e es k false true is_less is_same ih = elim (cases_eq n k) [
-    inl here ↦ let t : nat_eq n k ≡ true = eq-eqb n k here in rw t refl
+  | inl here ↦ let t : nat_eq n k ≡ true = eq-eqb n k here in rw t refl
   | inr other ↦ let t : nat_eq n k ≡ false = ne_eqb n k other in
       let equal : n ≡ e.0 = eqb-true n e.0 is_same in
-      rw t (sym (listed-there e es k (λ q. other (equal ∙ q)))) ]
+      rw t (sym (listed-there e es k (λ q. other (equal ∙ q))))
+]
 with_step n v e es k false false is_less is_same ih = elim (cases_eq e.0 k) [
-    inl here ↦ let t : nat_eq n k ≡ false = ne_eqb n k (λ q. eqb-false n e.0 is_same (q ∙ sym here)) in
+  | inl here ↦ let t : nat_eq n k ≡ false = ne_eqb n k (λ q. eqb-false n e.0 is_same (q ∙ sym here)) in
       rw t (listed-here e (with_entry n v es) k here ∙ sym (listed-here e es k here))
-  | inr other ↦ listed-there e (with_entry n v es) k other ∙ ih ∙ ap (λ o. if nat_eq n k then Some v else o) (sym (listed-there e es k other)) ]
+  | inr other ↦ listed-there e (with_entry n v es) k other ∙ ih ∙ ap (λ o. if nat_eq n k then Some v else o) (sym (listed-there e es k other))
+]
 
 pub listed-with : {V : Type 0} (n : ℕ) (v : V) (es : List (ℕ × V)) (k : ℕ) → listed (with_entry n v es) k ≡ (if nat_eq n k then Some v else listed es k)
 listed-with n v [] k = refl
@@ -46,12 +49,14 @@ without_step : {V : Type 0} (n : ℕ) (e : ℕ × V) (es : List (ℕ × V)) (k :
     → listed (without_entry n es) k ≡ (if nat_eq n k then None else listed es k)
     → listed (cond (not same) (e ∷ without_entry n es) (without_entry n es)) k ≡ (if nat_eq n k then None else listed (e ∷ es) k)
 without_step {V} n e es k true is ih = elim (cases_eq n k) [
-    inl here ↦ let t : nat_eq n k ≡ true = eq-eqb n k here in rw t (ih ∙ rw t refl)
-  | inr other ↦ ih ∙ ap (λ (o : Option V). if nat_eq n k then None else o) (sym (listed-there e es k (λ q. other (sym (eqb-true e.0 n is) ∙ q)))) ]
+  | inl here ↦ let t : nat_eq n k ≡ true = eq-eqb n k here in rw t (ih ∙ rw t refl)
+  | inr other ↦ ih ∙ ap (λ (o : Option V). if nat_eq n k then None else o) (sym (listed-there e es k (λ q. other (sym (eqb-true e.0 n is) ∙ q))))
+]
 without_step {V} n e es k false is ih = elim (cases_eq e.0 k) [
-    inl here ↦ let t : nat_eq n k ≡ false = ne_eqb n k (λ q. eqb-false e.0 n is (here ∙ sym q)) in
+  | inl here ↦ let t : nat_eq n k ≡ false = ne_eqb n k (λ q. eqb-false e.0 n is (here ∙ sym q)) in
       rw t (listed-here e (without_entry n es) k here ∙ sym (listed-here e es k here))
-  | inr other ↦ listed-there e (without_entry n es) k other ∙ ih ∙ ap (λ (o : Option V). if nat_eq n k then None else o) (sym (listed-there e es k other)) ]
+  | inr other ↦ listed-there e (without_entry n es) k other ∙ ih ∙ ap (λ (o : Option V). if nat_eq n k then None else o) (sym (listed-there e es k other))
+]
 
 one_branch : {X : Type 0} (b : Bool) (x : X) → x ≡ (if b then x else x)
 one_branch true x = refl

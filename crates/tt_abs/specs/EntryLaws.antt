@@ -28,8 +28,9 @@ none-below n (e ∷ es) h = listed-there e es n (λ q. let a = h.0 in omega arit
 pub number-above : {V : Type 0} (m n : ℕ) (v : V) (es : List (ℕ × V)) → AllByRecursion (λ e. m < e.0) es → listed es n ≡ Some v → m < n
 number-above m n v [] h l = cc
 number-above m n v (e ∷ es) h l = elim (cases_eq e.0 n) [
-    inl same ↦ let a = h.0 in omega arith
-  | inr other ↦ number-above m n v es h.1 (sym (listed-there e es n other) ∙ l) ]
+  | inl same ↦ let a = h.0 in omega arith
+  | inr other ↦ number-above m n v es h.1 (sym (listed-there e es n other) ∙ l)
+]
 
 -- One list below another, first entries aside.
 
@@ -54,17 +55,19 @@ below-behind_first a y ys above p n v l =
 -- or come, where both have it
 pub below-same_first : {V : Type 0} (x y : ℕ × V) (xs ys : List (ℕ × V)) → x ≡ y → AllByRecursion (λ e. x.0 < e.0) xs → EntriesBelow xs ys → EntriesBelow (x ∷ xs) (y ∷ ys)
 below-same_first {V} x y xs ys same above p n v l = elim (cases_eq y.0 n) [
-    inl here ↦ let e : (x ∷ xs) ≡ (y ∷ xs) = ap (λ (z : ℕ × V). z ∷ xs) same in
+  | inl here ↦ let e : (x ∷ xs) ≡ (y ∷ xs) = ap (λ (z : ℕ × V). z ∷ xs) same in
       ap (λ (es : List (ℕ × V)). listed es n) e ∙ listed-here y xs n here ∙ sym (listed-here y ys n here) ∙ l
-  | inr other ↦ below-with_first x xs ys above p n v (sym (listed-there y ys n other) ∙ l) ]
+  | inr other ↦ below-with_first x xs ys above p n v (sym (listed-there y ys n other) ∙ l)
+]
 
 -- the first entry of the second list is that of the first, or behind it
 pub first-below : {V : Type 0} (x y : ℕ × V) (xs ys : List (ℕ × V)) → AllByRecursion (λ e. x.0 < e.0) xs → EntriesBelow (x ∷ xs) (y ∷ ys) → (x ≡ y) ⊎ (x.0 < y.0)
 first-below {V} x y xs ys above p =
     let l : listed (x ∷ xs) y.0 ≡ Some y.1 = p y.0 y.1 (listed-here y ys y.0 refl) in
     elim (cases_eq x.0 y.0) [
-      inl same ↦ let v : x.1 ≡ y.1 = first-value (sym (listed-here x xs y.0 same) ∙ l) in inl (λ i. (same i, v i))
-    | inr other ↦ inr (number-above x.0 y.0 y.1 xs above (sym (listed-there x xs y.0 other) ∙ l)) ]
+      | inl same ↦ let v : x.1 ≡ y.1 = first-value (sym (listed-here x xs y.0 same) ∙ l) in inl (λ i. (same i, v i))
+      | inr other ↦ inr (number-above x.0 y.0 y.1 xs above (sym (listed-there x xs y.0 other) ∙ l))
+    ]
   where
     first-value : Some x.1 ≡ Some y.1 → x.1 ≡ y.1
     first-value e = cc
@@ -76,30 +79,32 @@ entries-length {V} [] [] ra rb p = omega arith
 entries-length {V} [] (y ∷ ys) ra rb p = let l = p y.0 y.1 (listed-here y ys y.0 refl) in cc
 entries-length {V} (x ∷ xs) [] ra rb p = omega arith
 entries-length {V} (x ∷ xs) (y ∷ ys) ra rb p = elim (first-below x y xs ys ra.0 p) [
-    inl same ↦
+  | inl same ↦
       let A : ℕ × V → Type 0 = λ z. AllByRecursion (λ e. z.0 < e.0) ys in
       let ih = entries-length xs ys ra.1 rb.1 (below-without_first x xs ys (subst A (sym same) rb.0) (below-behind_first (x ∷ xs) y ys rb.0 p)) in omega arith
   | inr lt ↦
-      let ih = entries-length xs (y ∷ ys) ra.1 rb (below-without_first x xs (y ∷ ys) (lt, all-above x.0 y.0 ys lt rb.0) p) in omega arith ]
+      let ih = entries-length xs (y ∷ ys) ra.1 rb (below-without_first x xs (y ∷ ys) (lt, all-above x.0 y.0 ys lt rb.0) p) in omega arith
+]
 
 pub entries-same : {V : Type 0} (a b : List (ℕ × V)) → Rises a → Rises b → EntriesBelow a b → length b ≡ length a → a ≡ b
 entries-same {V} [] [] ra rb p e = refl
 entries-same {V} [] (y ∷ ys) ra rb p e = absurd (omega arith)
 entries-same {V} (x ∷ xs) [] ra rb p e = absurd (omega arith)
 entries-same {V} (x ∷ xs) (y ∷ ys) ra rb p e = elim (first-below x y xs ys ra.0 p) [
-    inl same ↦
+  | inl same ↦
       let A : ℕ × V → Type 0 = λ z. AllByRecursion (λ e. z.0 < e.0) ys in
       let tail : xs ≡ ys = entries-same xs ys ra.1 rb.1 (below-without_first x xs ys (subst A (sym same) rb.0) (below-behind_first (x ∷ xs) y ys rb.0 p)) (omega arith) in cc
   | inr lt ↦
-      let less = entries-length xs (y ∷ ys) ra.1 rb (below-without_first x xs (y ∷ ys) (lt, all-above x.0 y.0 ys lt rb.0) p) in absurd (omega arith) ]
+      let less = entries-length xs (y ∷ ys) ra.1 rb (below-without_first x xs (y ∷ ys) (lt, all-above x.0 y.0 ys lt rb.0) p) in absurd (omega arith)
+]
 
 pub entry_laws : {V : Type 0} (IsInRange : V → Type 0) → OrderLaws (entry_order IsInRange)
 entry_laws IsInRange = record {
   reflexive = λ a n v l. l;
   transitive = λ a b c p q n v l. p n v (q n v l);
   antisymmetric = λ a b ra rb p q.
-    let down = entries-length a b ra.rises rb.rises p in
-    let up = entries-length b a rb.rises ra.rises q in entries-same a b ra.rises rb.rises p (omega arith);
+      let down = entries-length a b ra.rises rb.rises p in
+      let up = entries-length b a rb.rises ra.rises q in entries-same a b ra.rises rb.rises p (omega arith);
   one_depth = λ _ _ _. tt;
   depth_symmetric = λ _ _ _. tt;
   depth_transitive = λ _ _ _ _ _. tt;
@@ -129,29 +134,37 @@ filter_step : {V : Type 0} (p : ℕ × V → Bool) (x : ℕ × V) (xs rest : Lis
     → AllByRecursion (λ e. x.0 < e.0) rest → (listed rest n ≡ Some v) ↔ ((listed xs n ≡ Some v) × (p (n, v) ≡ true))
     → (listed (cond b (x ∷ rest) rest) n ≡ Some v) ↔ ((listed (x ∷ xs) n ≡ Some v) × (p (n, v) ≡ true))
 filter_step {V} p x xs rest n v true is above ih = elim (cases_eq x.0 n) [
-    inl same ↦
-      (λ l. let w : x.1 ≡ v = value (sym (listed-here x rest n same) ∙ l) in
-         (listed-here x xs n same ∙ ap Some w, ap p (sym (pair same w)) ∙ is),
-       λ h. let w : x.1 ≡ v = value (sym (listed-here x xs n same) ∙ h.0) in listed-here x rest n same ∙ ap Some w)
-  | inr other ↦
-      (λ l. let h = ih.0 (sym (listed-there x rest n other) ∙ l) in (listed-there x xs n other ∙ h.0, h.1),
-       λ h. listed-there x rest n other ∙ ih.1 (sym (listed-there x xs n other) ∙ h.0, h.1)) ]
+  | inl same ↦ (
+    λ l. let w : x.1 ≡ v = value (sym (listed-here x rest n same) ∙ l) in
+        (listed-here x xs n same ∙ ap Some w, ap p (sym (pair same w)) ∙ is),
+    λ h. let w : x.1 ≡ v = value (sym (listed-here x xs n same) ∙ h.0) in listed-here x rest n same ∙ ap Some w,
+  )
+  | inr other ↦ (
+    λ l. let h = ih.0 (sym (listed-there x rest n other) ∙ l) in (listed-there x xs n other ∙ h.0, h.1),
+    λ h. listed-there x rest n other ∙ ih.1 (sym (listed-there x xs n other) ∙ h.0, h.1),
+  )
+]
   where
     value : Some x.1 ≡ Some v → x.1 ≡ v
     value e = cc
+
     pair : x.0 ≡ n → x.1 ≡ v → x ≡ (n, v)
     pair a b i = (a i, b i)
 filter_step {V} p x xs rest n v false is above ih = elim (cases_eq x.0 n) [
-    inl same ↦
-      (λ l. let lt : x.0 < n = number-above x.0 n v rest above l in absurd (omega arith),
-       λ h. let w : x.1 ≡ v = value (sym (listed-here x xs n same) ∙ h.0) in
-         let t = h.1 in let q : p x ≡ p (n, v) = ap p (pair same w) in cc)
-  | inr other ↦
-      (λ l. let h = ih.0 l in (listed-there x xs n other ∙ h.0, h.1),
-       λ h. ih.1 (sym (listed-there x xs n other) ∙ h.0, h.1)) ]
+  | inl same ↦ (
+    λ l. let lt : x.0 < n = number-above x.0 n v rest above l in absurd (omega arith),
+    λ h. let w : x.1 ≡ v = value (sym (listed-here x xs n same) ∙ h.0) in
+        let t = h.1 in let q : p x ≡ p (n, v) = ap p (pair same w) in cc,
+  )
+  | inr other ↦ (
+    λ l. let h = ih.0 l in (listed-there x xs n other ∙ h.0, h.1),
+    λ h. ih.1 (sym (listed-there x xs n other) ∙ h.0, h.1),
+  )
+]
   where
     value : Some x.1 ≡ Some v → x.1 ≡ v
     value e = cc
+
     pair : x.0 ≡ n → x.1 ≡ v → x ≡ (n, v)
     pair a b i = (a i, b i)
 
@@ -184,15 +197,18 @@ missing_step {V} same decides x y xs ys true is rx ry =
     let number : y.0 ≡ x.0 = eqb-true y.0 x.0 both.0 in
     let value : y.1 ≡ x.1 = (decides y.1 x.1).0 both.1 in
     let equal : x ≡ y = λ i. (sym number i, sym value i) in
-    let A : ℕ × V → Type 0 = λ z. AllByRecursion (λ e. z.0 < e.0) ys in
-    (below-same_first x y xs ys equal rx.0,
-     λ p. below-without_first x xs ys (subst A (sym equal) ry.0) (below-behind_first (x ∷ xs) y ys ry.0 p))
-missing_step {V} same decides x y xs ys false is rx ry =
-    (below-with_first x xs (y ∷ ys) rx.0,
-     λ p. elim (first-below x y xs ys rx.0 p) [
-         inl equal ↦ let t : (nat_eq y.0 x.0 && same y.1 x.1) ≡ true =
-             and_from _ _ (eq-eqb y.0 x.0 (ap (λ (z : ℕ × V). z.0) (sym equal))) ((decides y.1 x.1).1 (ap (λ (z : ℕ × V). z.1) (sym equal))) in cc
-       | inr lt ↦ below-without_first x xs (y ∷ ys) (lt, all-above x.0 y.0 ys lt ry.0) p ])
+    let A : ℕ × V → Type 0 = λ z. AllByRecursion (λ e. z.0 < e.0) ys in (
+      below-same_first x y xs ys equal rx.0,
+      λ p. below-without_first x xs ys (subst A (sym equal) ry.0) (below-behind_first (x ∷ xs) y ys ry.0 p),
+    )
+missing_step {V} same decides x y xs ys false is rx ry = (
+  below-with_first x xs (y ∷ ys) rx.0,
+  λ p. elim (first-below x y xs ys rx.0 p) [
+    | inl equal ↦ let t : (nat_eq y.0 x.0 && same y.1 x.1) ≡ true =
+        and_from _ _ (eq-eqb y.0 x.0 (ap (λ (z : ℕ × V). z.0) (sym equal))) ((decides y.1 x.1).1 (ap (λ (z : ℕ × V). z.1) (sym equal))) in cc
+    | inr lt ↦ below-without_first x xs (y ∷ ys) (lt, all-above x.0 y.0 ys lt ry.0) p
+  ],
+)
 
 Rises-behind : {V : Type 0} (same : V → V → Bool) (e : ℕ × V) (b : List (ℕ × V)) → Rises b → Rises (behind_entry same e b)
 Rises-behind same e [] r = tt

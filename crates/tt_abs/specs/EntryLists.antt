@@ -1,5 +1,5 @@
 -- The order of lists of entries by rising numbers: the list with fewer entries covers more.
-use Rattle.std.specs.Prelude.{◌≡◌, ℕ, zero, suc, ◌<◌, ⊤, Bool, false, ◌&&◌, nat_eq, if◌then◌else◌, List, [], ◌∷◌, Option, None, Some, length}
+use Rattle.std.specs.Prelude.{◌≡◌, ℕ, zero, suc, ◌<◌, ⊤, Bool, false, ◌&&◌, nat_eq, nat_lt, if◌then◌else◌, List, [], ◌∷◌, Option, None, Some, length}
 use Rattle.std.specs.List.{AllByRecursion, filter}
 use Rattle.std.specs.Bool.{Decides}
 use Rattle.tt_abs.specs.Orders.{Order}
@@ -30,10 +30,20 @@ pub record EntriesInRange {V : Type 0} (IsInRange : V → Type 0) (es : List (�
   pub rises : Rises es
   pub values : AllByRecursion (λ e. IsInRange e.1) es
 
+-- whether the first entry is this one
+abbrev pub begins_with_entry : {V : Type 0} → (V → V → Bool) → ℕ × V → List (ℕ × V) → Bool
+begins_with_entry same e [] = false
+begins_with_entry same e (x ∷ xs) = nat_eq x.0 e.0 && same x.1 e.1
+
 -- the entries behind the first, if that is this one, and all of them otherwise
 abbrev pub behind_entry : {V : Type 0} → (V → V → Bool) → ℕ × V → List (ℕ × V) → List (ℕ × V)
 behind_entry same e [] = []
-behind_entry same e (x ∷ xs) = if nat_eq x.0 e.0 && same x.1 e.1 then xs else x ∷ xs
+behind_entry same e (x ∷ xs) = if begins_with_entry same e (x ∷ xs) then xs else x ∷ xs
+
+-- the entries from a number on
+abbrev pub entries_from : {V : Type 0} → ℕ → List (ℕ × V) → List (ℕ × V)
+entries_from n [] = []
+entries_from n (x ∷ xs) = if nat_lt x.0 n then entries_from n xs else x ∷ xs
 
 -- what is left of the second list when the first has gone by
 abbrev pub missing_entries : {V : Type 0} → (V → V → Bool) → List (ℕ × V) → List (ℕ × V) → List (ℕ × V)
@@ -49,5 +59,6 @@ holds_value same (Some w) v = same w v
 abbrev pub common_entries : {V : Type 0} → (V → V → Bool) → List (ℕ × V) → List (ℕ × V) → List (ℕ × V)
 common_entries same a b = filter (λ e. holds_value same (listed b e.0) e.1) a
 
+-- the order of these lists, where the values have a range
 abbrev pub entry_order : {V : Type 0} → (V → Type 0) → Order (List (ℕ × V))
 entry_order IsInRange = record { InRange = EntriesInRange IsInRange; Below = EntriesBelow; SameDepth = λ _ _. ⊤; left = length }

@@ -1,5 +1,4 @@
 -- The order of graphics states of cells: part by part.
-use Rattle.tt_code.specs.declared.machine.Graphics.{Graphics}
 use Rattle.std.proofs.Common.{refl}
 use Rattle.tt_abs.specs.declared.cells.Cell.{Cell}
 use Rattle.tt_abs.specs.declared.cells.ZoneCell.{ZoneCell}

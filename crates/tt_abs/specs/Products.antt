@@ -1,6 +1,6 @@
 -- The order of pairs, and an order along a function that loses nothing.
-use Rattle.std.specs.Prelude.{◌≡◌, ℕ, ◌+◌, ◌≤◌}
-use Rattle.std.proofs.Common.{refl, sym, ◌∙◌, ap, arith}
+use Rattle.std.specs.Prelude.{◌≡◌, ◌+◌}
+use Rattle.std.proofs.Common.{sym, ◌∙◌, ap, arith}
 use Rattle.tt_abs.specs.Orders.{Order, OrderLaws, IsLeastAbove}
 
 abbrev pub product : {A B : Type 0} → Order A → Order B → Order (A × B)
@@ -16,16 +16,16 @@ product_laws {A} {B} a b la lb = record {
   reflexive = λ s. (la.reflexive s.0, lb.reflexive s.1);
   transitive = λ s t u p q. (la.transitive s.0 t.0 u.0 p.0 q.0, lb.transitive s.1 t.1 u.1 p.1 q.1);
   antisymmetric = λ s t rs rt p q.
-    let one : s.0 ≡ t.0 = la.antisymmetric s.0 t.0 rs.0 rt.0 p.0 q.0 in
-    let two : s.1 ≡ t.1 = lb.antisymmetric s.1 t.1 rs.1 rt.1 p.1 q.1 in pair_same one two;
+      let one : s.0 ≡ t.0 = la.antisymmetric s.0 t.0 rs.0 rt.0 p.0 q.0 in
+      let two : s.1 ≡ t.1 = lb.antisymmetric s.1 t.1 rs.1 rt.1 p.1 q.1 in pair_same one two;
   one_depth = λ s t p. (la.one_depth s.0 t.0 p.0, lb.one_depth s.1 t.1 p.1);
   depth_symmetric = λ s t p. (la.depth_symmetric s.0 t.0 p.0, lb.depth_symmetric s.1 t.1 p.1);
   depth_transitive = λ s t u p q. (la.depth_transitive s.0 t.0 u.0 p.0 q.0, lb.depth_transitive s.1 t.1 u.1 p.1 q.1);
   left_falls = λ s t rs rt p.
-    let one = la.left_falls s.0 t.0 rs.0 rt.0 p.0 in let two = lb.left_falls s.1 t.1 rs.1 rt.1 p.1 in omega arith;
+      let one = la.left_falls s.0 t.0 rs.0 rt.0 p.0 in let two = lb.left_falls s.1 t.1 rs.1 rt.1 p.1 in omega arith;
   left_strict = λ s t rs rt p e.
-    let one = la.left_falls s.0 t.0 rs.0 rt.0 p.0 in let two = lb.left_falls s.1 t.1 rs.1 rt.1 p.1 in
-    pair_same (la.left_strict s.0 t.0 rs.0 rt.0 p.0 (omega arith)) (lb.left_strict s.1 t.1 rs.1 rt.1 p.1 (omega arith));
+      let one = la.left_falls s.0 t.0 rs.0 rt.0 p.0 in let two = lb.left_falls s.1 t.1 rs.1 rt.1 p.1 in
+      pair_same (la.left_strict s.0 t.0 rs.0 rt.0 p.0 (omega arith)) (lb.left_strict s.1 t.1 rs.1 rt.1 p.1 (omega arith));
 }
   where
     pair_same : {s t : A × B} → s.0 ≡ t.0 → s.1 ≡ t.1 → s ≡ t

@@ -1,12 +1,11 @@
 -- The laws of the order on stacks.
-use Rattle.std.specs.Prelude.{◌≡◌, ℕ, ◌+◌, ◌≤◌, List, [], ◌∷◌, length, slice_index_or}
-use Rattle.std.proofs.Common.{refl, sym, ◌∙◌, ap, arith, suc, zero}
+use Rattle.std.specs.Prelude.{◌≡◌, ◌≤◌, List, [], ◌∷◌}
+use Rattle.std.proofs.Common.{refl, sym, ◌∙◌, arith, suc}
 use Rattle.tt_abs.specs.declared.cells.Cell.{Cell}
-use Rattle.tt_abs.specs.declared.cells.Cell.TheVariants.{Known, Unknown}
 use Rattle.tt_abs.specs.Orders.{OrderLaws}
-use Rattle.tt_abs.specs.CellOrders.{CellInRange, CellBelow, known_cells}
+use Rattle.tt_abs.specs.CellOrders.{known_cells}
 use Rattle.tt_abs.specs.CellLaws.{CellBelow-refl, CellBelow-trans, CellBelow-antisym, known_cells-falls, known_cells-strict}
-use Rattle.tt_abs.specs.Stacks.{cell_at, StackBelow, StackInRange, SameLength, known_count, stack_order}
+use Rattle.tt_abs.specs.Stacks.{StackBelow, known_count, stack_order}
 
 pub StackBelow-tail : (x y : Cell) (xs ys : List Cell) → StackBelow (x ∷ xs) (y ∷ ys) → StackBelow xs ys
 StackBelow-tail x y xs ys h = record {

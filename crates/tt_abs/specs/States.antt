@@ -66,14 +66,14 @@ state_order = along parts (product stack_order (product graphics_order list_orde
 pub state_laws : OrderLaws state_order
 state_laws =
     along_laws parts state_from (λ _. refl) (product stack_order (product graphics_order list_order))
-      (product_laws stack_order (product graphics_order list_order) stack_laws
-        (product_laws graphics_order list_order graphics_laws (product_laws function_order storage_order (entry_laws (λ _. ⊤)) (entry_laws IsNumber))))
+    (product_laws stack_order (product graphics_order list_order) stack_laws
+    (product_laws graphics_order list_order graphics_laws (product_laws function_order storage_order (entry_laws (λ _. ⊤)) (entry_laws IsNumber))))
 
 pub state_least : (s t u : State) → IsLeastAbove stack_order s.stack t.stack u.stack → IsLeastAbove graphics_order s.graphics t.graphics u.graphics
     → IsLeastAbove function_order s.functions t.functions u.functions → IsLeastAbove storage_order s.storage t.storage u.storage
     → IsLeastAbove state_order s t u
 state_least s t u a b c d =
     along_least parts (product stack_order (product graphics_order list_order)) s t u
-      (product_least stack_order (product graphics_order list_order) (parts s) (parts t) (parts u) a
-        (product_least graphics_order list_order (parts s).1 (parts t).1 (parts u).1 b
-          (product_least function_order storage_order (parts s).1.1 (parts t).1.1 (parts u).1.1 c d)))
+    (product_least stack_order (product graphics_order list_order) (parts s) (parts t) (parts u) a
+    (product_least graphics_order list_order (parts s).1 (parts t).1 (parts u).1 b
+    (product_least function_order storage_order (parts s).1.1 (parts t).1.1 (parts u).1.1 c d)))

@@ -1,12 +1,12 @@
 //! Lists of entries by rising numbers: functions with their bodies, storage cells with their numbers.
 
-ghost use Rattle.std.specs.Prelude.{◌≡◌, ◌↔◌, ℕ, ◌<◌, ◌≤◌, List, [], ◌∷◌, IsTrue, IfOk, MatchResult, OnOk, OnErr, length};
+ghost use Rattle.std.specs.Prelude.{◌≡◌, ◌↔◌, ℕ, ◌<◌, ◌≤◌, List, [], ◌∷◌, IsTrue, IfOk, MatchResult, OnOk, OnErr, take, length};
 ghost use Rattle.std.specs.Option.{IsSome};
 ghost use Rattle.std.specs.Result.{IsOk};
 ghost use Rattle.std.specs.List.{insert};
 ghost use Rattle.tt_abs.specs.Orders.{IsLeastAbove};
 ghost use Rattle.tt_abs.specs.Entries.{Rises, listed, with_entry, without_entry};
-ghost use Rattle.tt_abs.specs.EntryLists.{IsEquality, IsAt, IsGap, EntriesBelow, EntriesInRange, entry_order, behind_entry, holds_value, common_entries};
+ghost use Rattle.tt_abs.specs.EntryLists.{IsEquality, IsAt, IsGap, EntriesBelow, EntriesInRange, entry_order, behind_entry, entries_from, begins_with_entry, common_entries};
 
 use crate::order::{AbsFault, Order};
 use std::alloc::{AllocError, Global};
@@ -79,7 +79,11 @@ fn value_at<T: Copy>(entries: &[(u16, T)], number: u16) -> Option<T>
 }
 
 /// Puts an entry at a place, if there is room.
-fn insert_entry<T: Drop>(entries: &mut Vec<(u16, T)>, at: usize, entry: (u16, T)) -> Result<(), AllocError>
+fn insert_entry<T: Drop>(
+    entries: &mut Vec<(u16, T)>,
+    at: usize,
+    entry: (u16, T),
+) -> Result<(), AllocError>
     requires { at ≤ length entries.old.items }
     ensures ok { OnOk result (entries.new.items ≡ insert entries.old.items at entry) }
     ensures err { OnErr result (entries.new.items ≡ entries.old.items) }
@@ -117,12 +121,22 @@ fn remove_entry<T: Copy>(entries: &mut Vec<(u16, T)>, number: u16)
     }
 }
 
+/// Whether the first entry is this one.
+fn begins_with<T: EntryValue>(entries: &[(u16, T)], entry: &(u16, T)) -> bool
+    ensures { result ≡ begins_with_entry T.eq entry.now entries.now }
+{
+    match entries {
+        [first, ..] => first.0 == entry.0 && first.1 == entry.1,
+        [] => false,
+    }
+}
+
 /// The entries behind the first, if that is this one, and all of them otherwise.
 fn behind<'a, T: EntryValue>(entries: &'a [(u16, T)], entry: &(u16, T)) -> &'a [(u16, T)]
     ensures { result.now ≡ behind_entry T.eq entry.now entries.now }
 {
     match entries {
-        [first, rest @ ..] if first.0 == entry.0 && first.1 == entry.1 => rest,
+        [_, rest @ ..] if begins_with(entries, entry) => rest,
         _ => entries,
     }
 }
@@ -140,23 +154,48 @@ fn lists_all<T: EntryValue>(mine: &[(u16, T)], theirs: &[(u16, T)]) -> bool
     missing.is_empty()
 }
 
-/// Whether the list has the entry.
-fn lists<T: EntryValue>(entries: &[(u16, T)], entry: &(u16, T)) -> bool
-    requires { Rises entries.now }
-    ensures { result ≡ holds_value T.eq (listed entries.now entry.now.0) entry.now.1 }
+/// The entries from a number on.
+fn from_number<T>(entries: &[(u16, T)], number: u16) -> &[(u16, T)]
+    ensures { result.now ≡ entries_from number entries.now }
 {
-    match value_at(entries, entry.0) {
-        Some(value) => value == entry.1,
-        None => false,
+    let mut rest = entries;
+    while let [first, behind @ ..] = rest {
+        if first.0 >= number {
+            break;
+        }
+        rest = behind;
     }
+    rest
+}
+
+/// Moves the entries that the other list has too to the front, and says how many they are.
+fn gather_common<T: EntryValue>(mine: &mut [(u16, T)], theirs: &[(u16, T)]) -> usize
+    requires mine_rise { Rises mine.old }
+    requires theirs_rise { Rises theirs.now }
+    ensures bound { result ≤ length mine.new }
+    ensures common { take result mine.new ≡ common_entries T.eq mine.old theirs.now }
+{
+    let mut rest = theirs;
+    let mut kept = 0;
+    for at in 0..mine.len() {
+        let entry = mine[at];
+        rest = from_number(rest, entry.0);
+        if begins_with(rest, &entry) {
+            mine[kept] = entry;
+            kept += 1;
+        }
+    }
+    kept
 }
 
 /// Keeps the entries that the other list has too.
 fn keep_common<T: EntryValue>(mine: &mut Vec<(u16, T)>, theirs: &[(u16, T)])
-    requires { Rises theirs.now }
+    requires mine_rise { Rises mine.old.items }
+    requires theirs_rise { Rises theirs.now }
     ensures { mine.new.items ≡ common_entries T.eq mine.old.items theirs.now }
 {
-    mine.retain(|entry| lists(theirs, entry));
+    let kept = gather_common(mine.as_mut_slice(), theirs);
+    mine.truncate(kept);
 }
 
 impl<T: Copy> Entries<T> {
@@ -229,8 +268,8 @@ impl<T: Copy> Entries<T> {
 }
 
 impl<T: EntryValue> Entries<T> {
-    /// Keeps the entries that both have.
-    fn keep(&mut self, other: &Entries<T>)
+    /// Keeps the entries that both have, with the same values. Takes no memory.
+    pub fn keep(&mut self, other: &Entries<T>)
         requires { EntriesInRange T.is_in_range self.old }
         ensures { IsLeastAbove (entry_order T.is_in_range) self.old other.now self.new }
     {

@@ -9,10 +9,16 @@ fn changes(rt: HostRuntime) -> Result<(), Fail> {
     functions.put(5, 40)?;
     functions.put(1, 10)?;
     functions.put(3, 20)?;
-    assert_eq!(rt; functions.as_slice(), [(1, 10), (3, 20), (5, 40)].as_slice());
+    assert_eq!(rt;
+        functions.as_slice(),
+        [(1, 10), (3, 20), (5, 40)].as_slice()
+    );
     functions.put(3, 30)?;
     functions.remove(4);
-    assert_eq!(rt; functions.as_slice(), [(1, 10), (3, 30), (5, 40)].as_slice());
+    assert_eq!(rt;
+        functions.as_slice(),
+        [(1, 10), (3, 30), (5, 40)].as_slice()
+    );
     assert_eq!(rt; functions.get(3), Some(30));
     assert_eq!(rt; functions.get(4), None);
     let copy = functions.copied(rt.alloc())?;

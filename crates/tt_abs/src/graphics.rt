@@ -8,7 +8,10 @@ use crate::order::{AbsFault, Order};
 use tt_code::Graphics;
 
 /// The least graphics state above both, part by part.
-pub fn joined_graphics(mine: &Graphics<Cell, ZoneCell>, theirs: &Graphics<Cell, ZoneCell>) -> Graphics<Cell, ZoneCell>
+pub fn joined_graphics(
+    mine: &Graphics<Cell, ZoneCell>,
+    theirs: &Graphics<Cell, ZoneCell>,
+) -> Graphics<Cell, ZoneCell>
     ensures { IsLeastAbove graphics_order mine.now theirs.now result }
 {
     Graphics {

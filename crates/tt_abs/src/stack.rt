@@ -73,7 +73,10 @@ impl Stack {
         self.cells.len()
     }
 
-    /// Puts a cell on top. A refused growth changes nothing; a cell above 2^31 - 1 is refused like one.
+    /// Puts a cell on top.
+    ///
+    /// # Errors
+    /// If memory runs out, or there are 2^31 - 1 cells; then the stack stays as it is.
     pub fn push(&mut self, cell: Cell) -> Result<(), AllocError>
         ensures ok { OnOk result (self.new ≡ cell ∷ self.old) }
         ensures err { OnErr result (self.new ≡ self.old) }
@@ -135,6 +138,9 @@ impl Stack {
     }
 
     /// A stack of the same cells.
+    ///
+    /// # Errors
+    /// If memory runs out.
     pub fn copied(&self) -> Result<Stack, AllocError>
         ensures { IfOk result (λ copy. copy ≡ self.now) }
     {

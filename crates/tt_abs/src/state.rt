@@ -35,7 +35,7 @@ impl State {
     ghost use Rattle.std.specs.Prelude.{◌≡◌, ◌<◌, ◌∷◌, length, reverse, slice_get, IfOk, OnOk, OnErr};
     ghost use Rattle.tt_code.specs.States.{pointer, reference, with_pointer, with_reference};
     ghost use Rattle.tt_abs.specs.Entries.{Rises, storage_of, with_cell, with_entry};
-    ghost use Rattle.tt_abs.specs.States.{start_of};
+    ghost use Rattle.tt_abs.specs.States.{start_of, state_order};
 
     /// The state in which a program starts: an empty stack, the default graphics state, and these functions, by rising
     /// numbers, each with its body. Of the storage area nothing is known.
@@ -44,7 +44,8 @@ impl State {
     /// If memory runs out.
     pub fn start(alloc: Global, functions: &[(u16, u32)]) -> Result<State, AllocError>
         requires { Rises functions.now }
-        ensures { IfOk result (λ state. state ≡ start_of functions.now) }
+        ensures value { IfOk result (λ state. state ≡ start_of functions.now) }
+        ensures in_range { IfOk result (λ state. state_order.InRange state) }
     {
         Ok(State {
             stack: Stack::new(alloc),
@@ -139,13 +140,15 @@ impl State {
         requires { length self.old.stack < 65535 }
         ensures ok { OnOk result (self.new ≡ record self.old { stack = cell ∷ self.old.stack }) }
         ensures err { OnErr result (self.new ≡ self.old) }
+        ensures in_range { state_order.InRange self.old → state_order.InRange self.new }
     {
         self.stack.push(cell)
     }
 
     /// Sets what is known of a reference point.
     pub fn set_rp(&mut self, which: Reference, cell: Cell)
-        ensures { self.new ≡ record self.old { graphics = with_reference which cell self.old.graphics } }
+        ensures value { self.new ≡ record self.old { graphics = with_reference which cell self.old.graphics } }
+        ensures in_range { state_order.InRange self.old → state_order.InRange self.new }
     {
         match which {
             Reference::Rp0 => self.graphics.rp0 = cell,
@@ -156,7 +159,8 @@ impl State {
 
     /// Sets what is known of a zone pointer.
     pub fn set_zone(&mut self, which: Pointer, zone: ZoneCell)
-        ensures { self.new ≡ record self.old { graphics = with_pointer which zone self.old.graphics } }
+        ensures value { self.new ≡ record self.old { graphics = with_pointer which zone self.old.graphics } }
+        ensures in_range { state_order.InRange self.old → state_order.InRange self.new }
     {
         match which {
             Pointer::Zp0 => self.graphics.zp0 = zone,
@@ -167,7 +171,8 @@ impl State {
 
     /// Sets what is known of the loop number.
     pub fn set_loop(&mut self, cell: Cell)
-        ensures { self.new ≡ record self.old { graphics = record self.old.graphics { loop_number = cell } } }
+        ensures value { self.new ≡ record self.old { graphics = record self.old.graphics { loop_number = cell } } }
+        ensures in_range { state_order.InRange self.old → state_order.InRange self.new }
     {
         self.graphics.loop_number = cell;
     }
@@ -179,6 +184,7 @@ impl State {
     pub fn define(&mut self, number: u16, body: u32) -> Result<(), AllocError>
         ensures ok { OnOk result (self.new ≡ record self.old { functions = with_entry number body self.old.functions }) }
         ensures err { OnErr result (self.new ≡ self.old) }
+        ensures in_range { state_order.InRange self.old → state_order.InRange self.new }
     {
         self.functions.put(number, body)
     }
@@ -190,6 +196,7 @@ impl State {
     pub fn set_storage(&mut self, index: u16, cell: Cell) -> Result<(), AllocError>
         ensures ok { OnOk result (self.new ≡ record self.old { storage = with_cell index cell self.old.storage }) }
         ensures err { OnErr result (self.new ≡ self.old) }
+        ensures in_range { state_order.InRange self.old → state_order.InRange self.new }
     {
         match cell {
             Cell::Known(number) => self.storage.put(index, number),

@@ -1,7 +1,6 @@
 //! Abstract states with known joins.
 
-ghost use Rattle.std.specs.Prelude.{◌<◌, length, IfOk, OnOk};
-ghost use Rattle.tt_abs.specs.Entries.{Rises};
+ghost use Rattle.std.specs.Prelude.{◌<◌, length, IfOk};
 ghost use Rattle.tt_abs.specs.States.{state_order};
 
 use crate::cells::Cell::{Known, Unknown};
@@ -10,30 +9,16 @@ use std::alloc::{AllocError, Global};
 use std::test::Fail;
 use tt_code::kinds::{Pointer, Reference};
 
-fn started(alloc: Global, functions: &[(u16, u32)]) -> Result<State, AllocError>
-    requires { Rises functions.now }
-    ensures { IfOk result (λ state. state_order.InRange state) }
-{
-    State::start(alloc, functions)
-}
-
 /// A state with these cells, the bottom first.
 fn with_stack(alloc: Global, cells: &[Cell]) -> Result<State, AllocError>
     requires { length cells.now < 100 }
     ensures { IfOk result (λ state. state_order.InRange state) }
 {
-    let mut state = started(alloc, &[])?;
+    let mut state = State::start(alloc, &[])?;
     for cell in cells {
         state.push(*cell)?;
     }
     Ok(state)
-}
-
-fn store(state: &mut State, index: u16, cell: Cell) -> Result<(), AllocError>
-    requires { state_order.InRange state.old }
-    ensures { OnOk result (state_order.InRange state.new) }
-{
-    state.set_storage(index, cell)
 }
 
 #[test]
@@ -64,26 +49,26 @@ fn depths_differ(rt: HostRuntime) -> Result<(), Fail> {
 
 #[test]
 fn joins_of_storage(rt: HostRuntime) -> Result<(), Fail> {
-    let mut state = started(rt.alloc(), &[])?;
-    store(&mut state, 1, Known(7))?;
-    store(&mut state, 2, Known(5))?;
-    let mut other = started(rt.alloc(), &[])?;
-    store(&mut other, 1, Known(7))?;
-    store(&mut other, 2, Known(6))?;
+    let mut state = State::start(rt.alloc(), &[])?;
+    state.set_storage(1, Known(7))?;
+    state.set_storage(2, Known(5))?;
+    let mut other = State::start(rt.alloc(), &[])?;
+    other.set_storage(1, Known(7))?;
+    other.set_storage(2, Known(6))?;
     let changed = state.join(&other)?;
     assert_eq!(rt; changed, true);
     assert_eq!(rt; state.storage(1), Known(7));
     assert_eq!(rt; state.storage(2), Unknown);
     assert_eq!(rt; state.join(&other)?, false);
-    store(&mut state, 1, Unknown)?;
+    state.set_storage(1, Unknown)?;
     assert_eq!(rt; state.storage(1), Unknown);
     Ok(())
 }
 
 #[test]
 fn joins_of_functions(rt: HostRuntime) -> Result<(), Fail> {
-    let mut state = started(rt.alloc(), &[(1, 10), (2, 20)])?;
-    let other = started(rt.alloc(), &[(1, 10), (2, 30)])?;
+    let mut state = State::start(rt.alloc(), &[(1, 10), (2, 20)])?;
+    let other = State::start(rt.alloc(), &[(1, 10), (2, 30)])?;
     let changed = state.join(&other)?;
     assert_eq!(rt; changed, true);
     assert_eq!(rt; state.functions(), [(1, 10)].as_slice());
@@ -96,31 +81,45 @@ fn joins_of_functions(rt: HostRuntime) -> Result<(), Fail> {
 #[test]
 fn joins_of_graphics(rt: HostRuntime) -> Result<(), Fail> {
     let mut state = State::start(rt.alloc(), &[])?;
+    let mut other = State::start(rt.alloc(), &[])?;
+    other.set_zone(Pointer::Zp1, ZoneCell::Zero);
+    other.set_loop(Known(2));
+    let changed = state.join(&other)?;
+    assert_eq!(rt; changed, true);
+    assert_eq!(rt; state.zone(Pointer::Zp0), ZoneCell::One);
+    assert_eq!(rt; state.zone(Pointer::Zp1), ZoneCell::Either);
+    assert_eq!(rt; state.loop_cell(), Unknown);
+    assert_eq!(rt; state.join(&other)?, false);
+    Ok(())
+}
+
+#[test]
+fn calls_of_graphics(rt: HostRuntime) -> Result<(), Fail> {
+    let mut state = State::start(rt.alloc(), &[])?;
     assert_eq!(rt; state.rp(Reference::Rp1), Known(0));
     assert_eq!(rt; state.zone(Pointer::Zp2), ZoneCell::One);
     assert_eq!(rt; state.loop_cell(), Known(1));
     state.set_rp(Reference::Rp2, Known(9));
     state.set_zone(Pointer::Zp1, ZoneCell::Zero);
     state.set_loop(Unknown);
+    assert_eq!(rt; state.rp(Reference::Rp0), Known(0));
     assert_eq!(rt; state.rp(Reference::Rp2), Known(9));
     assert_eq!(rt; state.zone(Pointer::Zp1), ZoneCell::Zero);
     assert_eq!(rt; state.loop_cell(), Unknown);
-    assert_eq!(rt; ZoneCell::One.joined(ZoneCell::Zero), ZoneCell::Either);
-    assert_eq!(rt; Known(4).joined(Known(4)), Known(4));
     Ok(())
 }
 
 #[test]
 fn copies(rt: HostRuntime) -> Result<(), Fail> {
     let mut state = with_stack(rt.alloc(), &[Known(1), Unknown])?;
-    store(&mut state, 3, Known(-1))?;
+    state.set_storage(3, Known(-1))?;
     let mut copy = state.copied()?;
     assert_eq!(rt; copy.below(&state), true);
     assert_eq!(rt; state.below(&copy), true);
     assert_eq!(rt; copy.join(&state)?, false);
-    copy.push(Known(2))?;
-    assert_eq!(rt; copy.depth(), 3);
-    assert_eq!(rt; state.depth(), 2);
+    copy.set_loop(Unknown);
+    assert_eq!(rt; copy.loop_cell(), Unknown);
+    assert_eq!(rt; state.loop_cell(), Known(1));
     Ok(())
 }
 

@@ -17,7 +17,7 @@ returns-in-Err-clause-ok g c =
     let Gap = λ (es : List (ℕ × g.row.T.Denot)). IsGap c.args.number es c.in-Err.at in
     let New = λ (es : List (ℕ × g.row.T.Denot)). OnOk c.insert_entry.result (c.insert_entry.new.entries.items ≡ es) in
     subst New (sym (with-gap c.args.number c.args.value c.args.entries.now.items c.in-Err.at (subst Gap c.as_slice.ensures.value c.in-Err.ensures.place)))
-      c.insert_entry.ensures.ok
+    c.insert_entry.ensures.ok
 
 pub returns-in-Err-clause-replaced : goal.returns-in-Err-clause-replaced
 returns-in-Err-clause-replaced g c =

@@ -18,4 +18,4 @@ returns c =
     let P : List Cell → Type 0 = λ x. IsLeastAbove stack_order c.args.self.now c.args.other.now (reverse x) in
     subst P (sym (refilled c.self.inside.cells.items c.join_cells.new.mine (long ∙ ap length c.as_mut_slice.ensures.value)))
     (least_kept _ _ c.join_cells.new.mine c.args.self.now c.args.other.now mine theirs
-      (least_of_cells _ _ c.join_cells.new.mine same long c.join_cells.ensures))
+    (least_of_cells _ _ c.join_cells.new.mine same long c.join_cells.ensures))
