@@ -21,6 +21,8 @@ pub mod stack;
 pub mod state;
 #[cfg(test)]
 mod state_tests;
+#[cfg(test)]
+mod transfer_tests;
 
 pub use cells::{Cell, ZoneCell};
 pub use entries::{Entries, EntryValue};
