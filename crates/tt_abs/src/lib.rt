@@ -10,9 +10,10 @@ pub mod entries;
 mod entries_tests;
 pub mod graphics;
 pub mod laws;
+mod line;
+pub mod moves;
 mod operands;
 pub mod order;
-mod line;
 mod push;
 pub mod refusal;
 mod registers;
@@ -21,17 +22,20 @@ pub mod setting;
 mod shuffle;
 pub mod stack;
 pub mod state;
-mod stepping;
 #[cfg(test)]
 mod state_tests;
-pub mod moves;
+mod stepping;
+#[cfg(test)]
+mod transfer_tests;
+mod transferring;
 
 pub use cells::{Cell, ZoneCell};
 pub use entries::{Entries, EntryValue};
+pub use moves::{Move, Moves};
 pub use order::{AbsFault, Order};
 pub use refusal::Refusal;
 pub use setting::{Kind, Point, Setting};
 pub use stack::Stack;
 pub use state::State;
 pub use stepping::step;
-pub use moves::{Move, Moves};
+pub use transferring::{Successors, transfer};
