@@ -20,3 +20,4 @@ pub mod Shuffles
 pub mod Computed
 pub mod Pushes
 pub mod Steps
+pub mod StateCoverage

@@ -1,13 +1,15 @@
 //! Laws of orders. The functions here do nothing: their contracts are the laws.
 
-ghost use Rattle.tt_abs.specs.Cells.{Covers, CoversStack, CoversZone};
+ghost use Rattle.tt_abs.specs.Cells.{Covers, CoversStack, CoversState, CoversZone};
 ghost use Rattle.tt_abs.specs.CellOrders.{cell_order, zone_order};
 ghost use Rattle.tt_abs.specs.Coverage.{IsCoverage};
 ghost use Rattle.tt_abs.specs.Stacks.{stack_order};
+ghost use Rattle.tt_abs.specs.States.{abstract_of, state_order};
 
 /// One value is below another exactly if that one covers all that it covers.
 pub fn below_is_coverage()
     ensures of_cells { IsCoverage cell_order Covers }
     ensures of_zones { IsCoverage zone_order CoversZone }
     ensures of_stacks { IsCoverage stack_order CoversStack }
+    ensures of_states { IsCoverage state_order (λ state machine. CoversState (abstract_of state) machine) }
 {}
