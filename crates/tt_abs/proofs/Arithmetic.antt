@@ -104,9 +104,10 @@ exact_unknown In g x y h i apart =
     ((λ z w. exact_number (g z.0) z.1 w.choice), ((x, p), (y, q), record { operands = h; choice = fp }, record { operands = i; choice = fq }, ne))
 
 truth_unknown : {X : Type 0} (In : X → Type 0) (g : X → Bool) (x y : X) → In x → In y → g x ≡ true → g y ≡ false → IsBestValue In (λ y. truth (g y)) Unknown
-truth_unknown In g x y h i passes fails =
-    ((λ z w. truth_number (g z.0) z.1),
-     ((x, pos 0), (y, pos 0), record { operands = h; choice = zero_is_number }, record { operands = i; choice = zero_is_number }, rw (passes, fails) (λ s. cc)))
+truth_unknown In g x y h i passes fails = (
+  (λ z w. truth_number (g z.0) z.1),
+  ((x, pos 0), (y, pos 0), record { operands = h; choice = zero_is_number }, record { operands = i; choice = zero_is_number }, rw (passes, fails) (λ s. cc)),
+)
 
 -- The same of one operand's cell, and of two.
 
@@ -133,9 +134,9 @@ undecided c u g k l m n h i j o passes fails = truth_unknown (CoversTwo c u) (λ
 swapped : (f : ℤ → ℤ → Value) (c u r : Cell) → IsBestOfTwo f c u r → IsBestOfTwo (λ a b. f b a) u c r
 swapped f c u r best =
     best_along (Chosen (CoversTwo u c)) (Chosen (CoversTwo c u)) (λ x. ((x.0.1, x.0.0), x.1)) (λ x. value (f x.0.0 x.0.1) x.1) r
-      (λ x h. record { operands = record { second = h.operands.top; top = h.operands.second }; choice = h.choice })
-      (λ x h. (((x.0.1, x.0.0), x.1), record { operands = record { second = h.operands.top; top = h.operands.second }; choice = h.choice }, refl))
-      best
+    (λ x h. record { operands = record { second = h.operands.top; top = h.operands.second }; choice = h.choice })
+    (λ x h. (((x.0.1, x.0.0), x.1), record { operands = record { second = h.operands.top; top = h.operands.second }; choice = h.choice }, refl))
+    best
 
 -- ADD and SUB.
 

@@ -37,21 +37,22 @@ module _ (a : Abstract) (frames : List Frame) (offset : ℕ) (f : ℤ → Value)
   one_stands [] fits best = faults_with (with_cells a []) frames offset (λ m. of_one m f) [] reason.Underflow tt (λ m e. rw e refl)
   one_stands (c ∷ cs) fits best =
       transfers_same (with_cells a (c ∷ cs)) frames offset (λ m. of_one m f) (λ m. leaves m (drop 1 m.stack) (f (taken_at (pos 1) m.stack 0) ∷ [])) (leaves_cells (with_cells a (c ∷ cs)) cs (F c ∷ []))
-        (λ m st. let (n, ms, e, h, k) = one_element c cs m.stack st.covered.stack in rw e refl)
-        (best_cons (May (with_cells a (c ∷ cs)) frames offset) (λ x. value (f (taken_at (pos 1) x.0.stack 0)) (x.1 0)) (λ x. drop 1 x.0.stack) (F c) cs
-          (best_along (May (with_cells a (c ∷ cs)) frames offset) (Chosen (λ n. Covers c n)) (λ x. (taken_at (pos 1) x.0.stack 0, x.1 0)) (λ y. value (f y.0) y.1) (F c)
-            (λ x h. record { operands = covers_one c cs x.0.stack h.stands.covered.stack; choice = h.are_numbers 0 })
-            (λ y o.
-              let (g, d) = some_graphics a.registers.graphics in
-              let (ns, h) = some_stack cs in
-              ((machine_with (with_cells a (c ∷ cs)) frames offset g (y.0 ∷ ns) (some_area a), λ i. y.1),
-               record { stands = machine_stands (with_cells a (c ∷ cs)) frames offset g (y.0 ∷ ns) (some_area a) d (o.operands, h) (area_covered a); are_numbers = λ i. o.choice },
-               refl))
-            (best c fits.0))
-          (dropped_best (with_cells a (c ∷ cs)) frames offset 1))
-        (registers_best (with_cells a (c ∷ cs)) frames offset)
-        (λ m s. refl)
-        refl
+      (λ m st. let (n, ms, e, h, k) = one_element c cs m.stack st.covered.stack in rw e refl)
+      (best_cons (May (with_cells a (c ∷ cs)) frames offset) (λ x. value (f (taken_at (pos 1) x.0.stack 0)) (x.1 0)) (λ x. drop 1 x.0.stack) (F c) cs
+      (best_along (May (with_cells a (c ∷ cs)) frames offset) (Chosen (λ n. Covers c n)) (λ x. (taken_at (pos 1) x.0.stack 0, x.1 0)) (λ y. value (f y.0) y.1) (F c)
+      (λ x h. record { operands = covers_one c cs x.0.stack h.stands.covered.stack; choice = h.are_numbers 0 })
+      (λ y o.
+      let (g, d) = some_graphics a.registers.graphics in
+      let (ns, h) = some_stack cs in (
+        (machine_with (with_cells a (c ∷ cs)) frames offset g (y.0 ∷ ns) (some_area a), λ i. y.1),
+        record { stands = machine_stands (with_cells a (c ∷ cs)) frames offset g (y.0 ∷ ns) (some_area a) d (o.operands, h) (area_covered a); are_numbers = λ i. o.choice },
+        refl,
+      ))
+      (best c fits.0))
+      (dropped_best (with_cells a (c ∷ cs)) frames offset 1))
+      (registers_best (with_cells a (c ∷ cs)) frames offset)
+      (λ m s. refl)
+      refl
 
   pub of_one_stands : AreInRange a.stack → ((c : Cell) → IsInRange c → IsBestOfOne f c (F c)) → Transfers a frames offset (λ m. of_one m f) (of_one_cell a F)
   of_one_stands fits best = one_stands a.stack fits best
@@ -65,25 +66,26 @@ module _ (a : Abstract) (frames : List Frame) (offset : ℕ) (f : ℤ → ℤ �
       faults_with (with_cells a (u ∷ [])) frames offset (λ m. of_two m f) ns reason.Underflow h (λ m e. let (n, is) = alone u ns h in rw (e, is) refl)
   two_stand (u ∷ c ∷ cs) fits best =
       transfers_same (with_cells a (u ∷ c ∷ cs)) frames offset (λ m. of_two m f) (λ m. leaves m (drop 2 m.stack) (f (taken_at (pos 1) m.stack 1) (taken_at (pos 1) m.stack 0) ∷ []))
-        (leaves_cells (with_cells a (u ∷ c ∷ cs)) cs (F c u ∷ []))
-        (λ m st. let (n, o, ms, e) = two_elements u c cs m.stack st.covered.stack in rw e refl)
-        (best_cons (May (with_cells a (u ∷ c ∷ cs)) frames offset) (λ x. value (f (taken_at (pos 1) x.0.stack 1) (taken_at (pos 1) x.0.stack 0)) (x.1 0)) (λ x. drop 2 x.0.stack) (F c u) cs
-          (best_along (May (with_cells a (u ∷ c ∷ cs)) frames offset) (Chosen (CoversTwo c u)) (λ x. ((taken_at (pos 1) x.0.stack 1, taken_at (pos 1) x.0.stack 0), x.1 0)) (λ y. value (f y.0.0 y.0.1) y.1) (F c u)
-            (λ x h. record { operands = covers_two u c cs x.0.stack h.stands.covered.stack; choice = h.are_numbers 0 })
-            (λ y o.
-              let (g, d) = some_graphics a.registers.graphics in
-              let (ns, h) = some_stack cs in
-              ((machine_with (with_cells a (u ∷ c ∷ cs)) frames offset g (y.0.1 ∷ y.0.0 ∷ ns) (some_area a), λ i. y.1),
-               record {
-                 stands = machine_stands (with_cells a (u ∷ c ∷ cs)) frames offset g (y.0.1 ∷ y.0.0 ∷ ns) (some_area a) d (o.operands.top, (o.operands.second, h)) (area_covered a);
-                 are_numbers = λ i. o.choice;
-               },
-               refl))
-            (best c u fits.1.0 fits.0))
-          (dropped_best (with_cells a (u ∷ c ∷ cs)) frames offset 2))
-        (registers_best (with_cells a (u ∷ c ∷ cs)) frames offset)
-        (λ m s. refl)
-        refl
+      (leaves_cells (with_cells a (u ∷ c ∷ cs)) cs (F c u ∷ []))
+      (λ m st. let (n, o, ms, e) = two_elements u c cs m.stack st.covered.stack in rw e refl)
+      (best_cons (May (with_cells a (u ∷ c ∷ cs)) frames offset) (λ x. value (f (taken_at (pos 1) x.0.stack 1) (taken_at (pos 1) x.0.stack 0)) (x.1 0)) (λ x. drop 2 x.0.stack) (F c u) cs
+      (best_along (May (with_cells a (u ∷ c ∷ cs)) frames offset) (Chosen (CoversTwo c u)) (λ x. ((taken_at (pos 1) x.0.stack 1, taken_at (pos 1) x.0.stack 0), x.1 0)) (λ y. value (f y.0.0 y.0.1) y.1) (F c u)
+      (λ x h. record { operands = covers_two u c cs x.0.stack h.stands.covered.stack; choice = h.are_numbers 0 })
+      (λ y o.
+      let (g, d) = some_graphics a.registers.graphics in
+      let (ns, h) = some_stack cs in (
+        (machine_with (with_cells a (u ∷ c ∷ cs)) frames offset g (y.0.1 ∷ y.0.0 ∷ ns) (some_area a), λ i. y.1),
+        record {
+          stands = machine_stands (with_cells a (u ∷ c ∷ cs)) frames offset g (y.0.1 ∷ y.0.0 ∷ ns) (some_area a) d (o.operands.top, (o.operands.second, h)) (area_covered a);
+          are_numbers = λ i. o.choice;
+        },
+        refl,
+      ))
+      (best c u fits.1.0 fits.0))
+      (dropped_best (with_cells a (u ∷ c ∷ cs)) frames offset 2))
+      (registers_best (with_cells a (u ∷ c ∷ cs)) frames offset)
+      (λ m s. refl)
+      refl
 
   pub of_two_stands : AreInRange a.stack → ((c u : Cell) → IsInRange c → IsInRange u → IsBestOfTwo f c u (F c u)) → Transfers a frames offset (λ m. of_two m f) (of_two_cells a F)
   of_two_stands fits best = two_stand a.stack fits best

@@ -21,3 +21,7 @@ pub mod Computed
 pub mod Pushes
 pub mod Steps
 pub mod StateCoverage
+pub mod RunningOnCells
+pub mod ExamplesOfCells
+pub mod ExamplesOfOtherCells
+pub mod RangesKept

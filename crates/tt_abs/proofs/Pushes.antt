@@ -24,5 +24,5 @@ pub pushes_stand : (a : Abstract) (frames : List Frame) (offset : ℕ) (push : P
 pushes_stand a frames offset push rest =
     let (m, s, is) = some_machine a frames offset in
     transfers_same a frames offset (λ m. Ok (pushed push m rest)) (λ m. pushed push m rest) (pushed_cells push a rest) (λ m st. refl)
-      (numbers_best (May a frames offset) (m, zeros) (may a frames offset m s) (numbers_in push (data_behind push rest)) (λ x. x.1) (λ x. x.0.stack) a.stack (stack_best a frames offset))
-      (registers_best a frames offset) (λ m st. refl) refl
+    (numbers_best (May a frames offset) (m, zeros) (may a frames offset m s) (numbers_in push (data_behind push rest)) (λ x. x.1) (λ x. x.0.stack) a.stack (stack_best a frames offset))
+    (registers_best a frames offset) (λ m st. refl) refl

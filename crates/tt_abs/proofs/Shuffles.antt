@@ -53,21 +53,21 @@ module _ (a : Abstract) (frames : List Frame) (offset : ℕ) where
   dup_stands [] = faults_with (with_cells a []) frames offset (shuffled Dup) [] reason.Underflow tt (λ m e. rw e refl)
   dup_stands (c ∷ cs) =
       moves_stand (with_cells a (c ∷ cs)) frames offset (shuffled Dup) (drop 1) cs (0 ∷ 0 ∷ [])
-        (λ m st. let (n, ms, e, h, k) = one_element c cs m.stack st.covered.stack in rw e refl)
-        (dropped_best (with_cells a (c ∷ cs)) frames offset 1)
+      (λ m st. let (n, ms, e, h, k) = one_element c cs m.stack st.covered.stack in rw e refl)
+      (dropped_best (with_cells a (c ∷ cs)) frames offset 1)
 
   pop_stands : (cs : List Cell) → Transfers (with_cells a cs) frames offset (shuffled Pop) (shuffled_cells Pop (with_cells a cs))
   pop_stands [] = faults_with (with_cells a []) frames offset (shuffled Pop) [] reason.Underflow tt (λ m e. rw e refl)
   pop_stands (c ∷ cs) =
       moves_stand (with_cells a (c ∷ cs)) frames offset (shuffled Pop) (drop 1) cs []
-        (λ m st. let (n, ms, e, h, k) = one_element c cs m.stack st.covered.stack in rw e refl)
-        (dropped_best (with_cells a (c ∷ cs)) frames offset 1)
+      (λ m st. let (n, ms, e, h, k) = one_element c cs m.stack st.covered.stack in rw e refl)
+      (dropped_best (with_cells a (c ∷ cs)) frames offset 1)
 
   clear_stands : Transfers a frames offset (shuffled Clear) (shuffled_cells Clear a)
   clear_stands =
       let (m, s, is) = some_machine a frames offset in
       moves_stand a frames offset (shuffled Clear) (λ ns. []) [] [] (λ m st. refl)
-        (record { lengths = λ x i. refl; each = λ k. best_constant (May a frames offset) (pos 1) (m, zeros) (may a frames offset m s) })
+      (record { lengths = λ x i. refl; each = λ k. best_constant (May a frames offset) (pos 1) (m, zeros) (may a frames offset m s) })
 
   swap_stands : (cs : List Cell) → Transfers (with_cells a cs) frames offset (shuffled Swap) (shuffled_cells Swap (with_cells a cs))
   swap_stands [] = faults_with (with_cells a []) frames offset (shuffled Swap) [] reason.Underflow tt (λ m e. rw e refl)
@@ -76,18 +76,18 @@ module _ (a : Abstract) (frames : List Frame) (offset : ℕ) where
       faults_with (with_cells a (c ∷ [])) frames offset (shuffled Swap) ns reason.Underflow h (λ m e. let (n, is) = alone c ns h in rw (e, is) refl)
   swap_stands (c ∷ d ∷ cs) =
       moves_stand (with_cells a (c ∷ d ∷ cs)) frames offset (shuffled Swap) (drop 2) cs (0 ∷ 1 ∷ [])
-        (λ m st. let (n, o, ms, e) = two_elements c d cs m.stack st.covered.stack in rw e refl)
-        (dropped_best (with_cells a (c ∷ d ∷ cs)) frames offset 2)
+      (λ m st. let (n, o, ms, e) = two_elements c d cs m.stack st.covered.stack in rw e refl)
+      (dropped_best (with_cells a (c ∷ d ∷ cs)) frames offset 2)
 
   depth_stands : Transfers a frames offset (shuffled Depth) (shuffled_cells Depth a)
   depth_stands =
       let (m, s, is) = some_machine a frames offset in
       transfers_same a frames offset (shuffled Depth) (λ m. leaves m m.stack (Exactly (pos (length m.stack)) ∷ [])) (leaves_cells a a.stack (Known (pos (length a.stack)) ∷ []))
-        (λ m st. refl)
-        (best_cons (May a frames offset) (λ x. pos (length x.0.stack)) (λ x. x.0.stack) (Known (pos (length a.stack))) a.stack
-          ((λ x h. ap pos (covered_length a.stack x.0.stack h.stands.covered.stack)), ((m, zeros), may a frames offset m s))
-          (stack_best a frames offset))
-        (registers_best a frames offset) (λ m st. refl) refl
+      (λ m st. refl)
+      (best_cons (May a frames offset) (λ x. pos (length x.0.stack)) (λ x. x.0.stack) (Known (pos (length a.stack))) a.stack
+      ((λ x h. ap pos (covered_length a.stack x.0.stack h.stands.covered.stack)), ((m, zeros), may a frames offset m s))
+      (stack_best a frames offset))
+      (registers_best a frames offset) (λ m st. refl) refl
 
   cindex_stands : (cs : List Cell) → Transfers (with_cells a cs) frames offset (shuffled CopyIndexed) (shuffled_cells CopyIndexed (with_cells a cs))
   cindex_stands [] = faults_with (with_cells a []) frames offset (shuffled CopyIndexed) [] reason.Underflow tt (λ m e. rw e refl)
@@ -97,7 +97,7 @@ module _ (a : Abstract) (frames : List Frame) (offset : ℕ) where
   cindex_stands (Known k ∷ cs) = picked (element k cs) refl
     where
       picked : (r : Tested Cell) → element k cs ≡ r
-        → Transfers (with_cells a (Known k ∷ cs)) frames offset (shuffled CopyIndexed) (r >>= (λ c. Ok (leaves_cells (with_cells a (Known k ∷ cs)) cs (c ∷ []))))
+          → Transfers (with_cells a (Known k ∷ cs)) frames offset (shuffled CopyIndexed) (r >>= (λ c. Ok (leaves_cells (with_cells a (Known k ∷ cs)) cs (c ∷ []))))
       picked (Err r) f =
           let (ns, h) = some_stack cs in
           let (q, miss) = element_missing k cs r ns f h in
@@ -105,9 +105,9 @@ module _ (a : Abstract) (frames : List Frame) (offset : ℕ) where
       picked (Ok c) f =
           let T : Cell → Type 0 = λ d. Transfers (with_cells a (Known k ∷ cs)) frames offset (shuffled CopyIndexed) (Ok (leaves_cells (with_cells a (Known k ∷ cs)) cs (d ∷ []))) in
           subst T (element_is k cs c f)
-            (moves_stand (with_cells a (Known k ∷ cs)) frames offset (shuffled CopyIndexed) (drop 1) cs (suc (place_of k) ∷ [])
-              (λ m st. let (n, ms, e, is, h) = one_element (Known k) cs m.stack st.covered.stack in rw (e, is, element_there k cs c ms f h) refl)
-              (dropped_best (with_cells a (Known k ∷ cs)) frames offset 1))
+          (moves_stand (with_cells a (Known k ∷ cs)) frames offset (shuffled CopyIndexed) (drop 1) cs (suc (place_of k) ∷ [])
+          (λ m st. let (n, ms, e, is, h) = one_element (Known k) cs m.stack st.covered.stack in rw (e, is, element_there k cs c ms f h) refl)
+          (dropped_best (with_cells a (Known k ∷ cs)) frames offset 1))
 
   mindex_stands : (cs : List Cell) → Transfers (with_cells a cs) frames offset (shuffled MoveIndexed) (shuffled_cells MoveIndexed (with_cells a cs))
   mindex_stands [] = faults_with (with_cells a []) frames offset (shuffled MoveIndexed) [] reason.Underflow tt (λ m e. rw e refl)
@@ -117,7 +117,7 @@ module _ (a : Abstract) (frames : List Frame) (offset : ℕ) where
   mindex_stands (Known k ∷ cs) = picked (element k cs) refl
     where
       picked : (r : Tested Cell) → element k cs ≡ r
-        → Transfers (with_cells a (Known k ∷ cs)) frames offset (shuffled MoveIndexed) (r >>= (λ c. Ok (leaves_cells (with_cells a (Known k ∷ cs)) (remove cs (place_of k)) (c ∷ []))))
+          → Transfers (with_cells a (Known k ∷ cs)) frames offset (shuffled MoveIndexed) (r >>= (λ c. Ok (leaves_cells (with_cells a (Known k ∷ cs)) (remove cs (place_of k)) (c ∷ []))))
       picked (Err r) f =
           let (ns, h) = some_stack cs in
           let (q, miss) = element_missing k cs r ns f h in
@@ -125,9 +125,9 @@ module _ (a : Abstract) (frames : List Frame) (offset : ℕ) where
       picked (Ok c) f =
           let T : Cell → Type 0 = λ d. Transfers (with_cells a (Known k ∷ cs)) frames offset (shuffled MoveIndexed) (Ok (leaves_cells (with_cells a (Known k ∷ cs)) (remove cs (place_of k)) (d ∷ []))) in
           subst T (element_is k cs c f)
-            (moves_stand (with_cells a (Known k ∷ cs)) frames offset (shuffled MoveIndexed) (λ ns. remove (drop 1 ns) (place_of k)) (remove cs (place_of k)) (suc (place_of k) ∷ [])
-              (λ m st. let (n, ms, e, is, h) = one_element (Known k) cs m.stack st.covered.stack in rw (e, is, element_there k cs c ms f h) refl)
-              (best_remove (May (with_cells a (Known k ∷ cs)) frames offset) (λ x. drop 1 x.0.stack) cs (place_of k) (dropped_best (with_cells a (Known k ∷ cs)) frames offset 1)))
+          (moves_stand (with_cells a (Known k ∷ cs)) frames offset (shuffled MoveIndexed) (λ ns. remove (drop 1 ns) (place_of k)) (remove cs (place_of k)) (suc (place_of k) ∷ [])
+          (λ m st. let (n, ms, e, is, h) = one_element (Known k) cs m.stack st.covered.stack in rw (e, is, element_there k cs c ms f h) refl)
+          (best_remove (May (with_cells a (Known k ∷ cs)) frames offset) (λ x. drop 1 x.0.stack) cs (place_of k) (dropped_best (with_cells a (Known k ∷ cs)) frames offset 1)))
 
   roll_stands : (cs : List Cell) → Transfers (with_cells a cs) frames offset (shuffled Roll) (shuffled_cells Roll (with_cells a cs))
   roll_stands [] = faults_with (with_cells a []) frames offset (shuffled Roll) [] reason.Underflow tt (λ m e. rw e refl)
@@ -139,8 +139,8 @@ module _ (a : Abstract) (frames : List Frame) (offset : ℕ) where
       faults_with (with_cells a (c ∷ d ∷ [])) frames offset (shuffled Roll) ns reason.Underflow h (λ m e. let (n, o, is) = two_alone c d ns h in rw (e, is) refl)
   roll_stands (c ∷ d ∷ b ∷ cs) =
       moves_stand (with_cells a (c ∷ d ∷ b ∷ cs)) frames offset (shuffled Roll) (drop 3) cs (1 ∷ 0 ∷ 2 ∷ [])
-        (λ m st. let (n, o, p, ms, e) = three_elements c d b cs m.stack st.covered.stack in rw e refl)
-        (dropped_best (with_cells a (c ∷ d ∷ b ∷ cs)) frames offset 3)
+      (λ m st. let (n, o, p, ms, e) = three_elements c d b cs m.stack st.covered.stack in rw e refl)
+      (dropped_best (with_cells a (c ∷ d ∷ b ∷ cs)) frames offset 3)
 
   pub shuffled_stands : (op : StackOp) → Transfers a frames offset (λ m. shuffled op m) (shuffled_cells op a)
   shuffled_stands Dup = dup_stands a.stack

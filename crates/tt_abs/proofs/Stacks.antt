@@ -83,10 +83,10 @@ pub best_remove : {X : Type 0} (In : X → Type 0) (f : X → List ℤ) (cs : Li
 best_remove {X} In f cs i h = record {
   lengths = λ x j. length_remove (f x) i ∙ ap (λ l. min i l + (l - suc i)) (h.lengths x j) ∙ sym (length_remove cs i);
   each = λ k. elim (cases_lt k i) [
-    inl l ↦ cell_is In (λ x. taken_at (pos 1) (remove (f x) i) k) (taken_at (Known (pos 1)) cs k) (taken_at (Known (pos 1)) (remove cs i) k) (sym (at_remove_below (Known (pos 1)) i cs k l))
-      (best_same In (λ x. taken_at (pos 1) (f x) k) (λ x. taken_at (pos 1) (remove (f x) i) k) (taken_at (Known (pos 1)) cs k) (λ x j. at_remove_below (pos 1) i (f x) k l) (h.each k))
-  | inr l ↦ cell_is In (λ x. taken_at (pos 1) (remove (f x) i) k) (taken_at (Known (pos 1)) cs (suc k)) (taken_at (Known (pos 1)) (remove cs i) k) (sym (at_remove_above (Known (pos 1)) i cs k l))
-      (best_same In (λ x. taken_at (pos 1) (f x) (suc k)) (λ x. taken_at (pos 1) (remove (f x) i) k) (taken_at (Known (pos 1)) cs (suc k)) (λ x j. at_remove_above (pos 1) i (f x) k l) (h.each (suc k)))
+    | inl l ↦ cell_is In (λ x. taken_at (pos 1) (remove (f x) i) k) (taken_at (Known (pos 1)) cs k) (taken_at (Known (pos 1)) (remove cs i) k) (sym (at_remove_below (Known (pos 1)) i cs k l))
+        (best_same In (λ x. taken_at (pos 1) (f x) k) (λ x. taken_at (pos 1) (remove (f x) i) k) (taken_at (Known (pos 1)) cs k) (λ x j. at_remove_below (pos 1) i (f x) k l) (h.each k))
+    | inr l ↦ cell_is In (λ x. taken_at (pos 1) (remove (f x) i) k) (taken_at (Known (pos 1)) cs (suc k)) (taken_at (Known (pos 1)) (remove cs i) k) (sym (at_remove_above (Known (pos 1)) i cs k l))
+        (best_same In (λ x. taken_at (pos 1) (f x) (suc k)) (λ x. taken_at (pos 1) (remove (f x) i) k) (taken_at (Known (pos 1)) cs (suc k)) (λ x j. at_remove_above (pos 1) i (f x) k l) (h.each (suc k)))
   ];
 }
 
@@ -103,7 +103,7 @@ moved_best : {X : Type 0} (In : X → Type 0) (t : X → List ℤ) (cs : List Ce
 moved_best In t cs [] choices f rest h k = k
 moved_best In t cs (p ∷ ps) choices f rest h k =
     moved_best In t cs ps (λ x i. choices x (suc i)) (λ x. taken_at (pos 1) (t x) p ∷ f x) (taken_at (Known (pos 1)) cs p ∷ rest) h
-      (best_cons In (λ x. taken_at (pos 1) (t x) p) f (taken_at (Known (pos 1)) cs p) rest (h.each p) k)
+    (best_cons In (λ x. taken_at (pos 1) (t x) p) f (taken_at (Known (pos 1)) cs p) rest (h.each p) k)
 
 module _ (a : Abstract) (frames : List Frame) (offset : ℕ) (does : Machine → Tested Outcome) where
   pub moves_stand : (left : List ℤ → List ℤ) (rest : List Cell) (places : List ℕ)
@@ -112,5 +112,5 @@ module _ (a : Abstract) (frames : List Frame) (offset : ℕ) (does : Machine →
       → Transfers a frames offset does (Ok (leaves_cells a rest (cells_at a.stack places)))
   moves_stand left rest places always best =
       transfers_same a frames offset does (λ m. leaves m (left m.stack) (values_at m.stack places)) (leaves_cells a rest (cells_at a.stack places)) always
-        (moved_best (May a frames offset) (λ x. x.0.stack) a.stack places (λ x. x.1) (λ x. left x.0.stack) rest (stack_best a frames offset) best)
-        (registers_best a frames offset) (λ m s. refl) refl
+      (moved_best (May a frames offset) (λ x. x.0.stack) a.stack places (λ x. x.1) (λ x. left x.0.stack) rest (stack_best a frames offset) best)
+      (registers_best a frames offset) (λ m s. refl) refl

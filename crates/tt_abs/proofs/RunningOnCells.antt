@@ -1,0 +1,177 @@
+-- Running programs on the outcome on cells, so that worked examples can be computed. Nothing is known of the storage area, but
+-- that its cell 2 holds 102.
+use Rattle.std.specs.Prelude.{◌≡◌, ℕ, zero, suc, pos, negsuc, List, [], ◌∷◌, Ok, Err, map}
+use Rattle.tt_code.specs.Refusals.{Tested, ◌>>=◌}
+use Rattle.tt_code.specs.Table.{effect_of}
+use Rattle.tt_code.specs.Structure.{word}
+use Rattle.tt_code.specs.Settings.{Setting}
+use Rattle.tt_code.specs.Fonts.{font_setting, cvt_setting, glyph_setting}
+use Rattle.tt_code.specs.declared.limits.Limits.{Limits}
+use Rattle.tt_code.specs.declared.reason.Reason.{Reason}
+use Rattle.tt_code.specs.declared.reason.Reason.TheVariants as reason
+use Rattle.tt_code.proofs.Running.{usual_limits, wide_twilight, font_of, cut_of, cut_within, alone}
+use Rattle.tt_abs.specs.declared.cells.Cell.{Cell}
+use Rattle.tt_abs.specs.declared.cells.Cell.TheVariants.{Known, Unknown}
+use Rattle.tt_abs.specs.declared.cells.ZoneCell.{ZoneCell}
+use Rattle.tt_abs.specs.declared.cells.ZoneCell.TheVariants.{One, Either}
+use Rattle.tt_abs.specs.Cells.{Cells, Abstract}
+use Rattle.tt_abs.specs.Transfers.{Next, outcome_on_cells}
+
+abbrev pub k : ℕ → Cell
+k n = Known (pos n)
+
+abbrev pub lowest : Cell
+lowest = Known (negsuc 2147483647)
+
+abbrev pub highest : Cell
+highest = k 2147483647
+
+-- reference points that no zone has, each another one, and the loop number 2
+abbrev pub zones : ZoneCell → ZoneCell → ZoneCell → Cells
+zones a b c = record { rp0 = k 20; rp1 = k 21; rp2 = k 22; zp0 = a; zp1 = b; zp2 = c; loop_number = k 2 }
+
+abbrev pub storage_at_start : ℕ → Cell
+storage_at_start (suc (suc zero)) = k 102
+storage_at_start i = Unknown
+
+abbrev pub begins : Cells → List Cell → Abstract
+begins g stack = record { stack = stack; registers = record { graphics = g; storage = storage_at_start }; functions = [] }
+
+-- What is seen of where control goes next: the storage area is looked at up to the usual maxStorage.
+pub record Seen : Type 0 where
+  pub offset : ℕ
+  pub stack : List Cell
+  pub graphics : Cells
+  pub stored : List Cell
+
+abbrev pub first_stored : (ℕ → Cell) → List Cell
+first_stored storage = map storage (0 ∷ 1 ∷ 2 ∷ 3 ∷ [])
+
+abbrev pub seen : Next → Seen
+seen n = record { offset = n.offset; stack = n.state.stack; graphics = n.state.registers.graphics; stored = first_stored n.state.registers.storage }
+
+abbrev pub all_seen : Tested (List Next) → Tested (List Seen)
+all_seen (Ok nexts) = Ok (map seen nexts)
+all_seen (Err r) = Err r
+
+-- One instruction of one byte by itself, at the start of a program of a glyph with 4 points and 2 contours. The glyph zone has 8
+-- points, the twilight zone 12.
+
+unfoldable pub performed : Limits → Cells → List Cell → ℕ → Tested (List Seen)
+unfolding outcome_on_cells effect_of word
+performed limits g stack code = all_seen (outcome_on_cells (alone limits code) [] 0 (begins g stack))
+
+abbrev pub untouched : List Cell
+untouched = first_stored storage_at_start
+
+-- it goes on, with this stack, graphics state and storage area
+abbrev pub goes_on_with : List Cell → Cells → List Cell → Tested (List Seen)
+goes_on_with stack g stored = Ok (record { offset = 1; stack = stack; graphics = g; stored = stored } ∷ [])
+
+-- what each of these codes does, on a graphics state and a stack
+abbrev pub each_does_by : Limits → List ℕ → Cells → List Cell → Tested (List Seen) → Type 0
+each_does_by limits codes g stack result = map (performed limits g stack) codes ≡ map (λ (code : ℕ). result) codes
+
+abbrev pub each_does : List ℕ → Cells → List Cell → Tested (List Seen) → Type 0
+each_does = each_does_by wide_twilight
+
+-- it leaves this stack and this graphics state
+abbrev pub each_leaves : List ℕ → Cells → List Cell → List Cell → Cells → Type 0
+each_leaves codes g stack left h = each_does codes g stack (goes_on_with left h untouched)
+
+-- it leaves this stack, and all else as it was
+abbrev pub each_takes : List ℕ → Cells → List Cell → List Cell → Type 0
+each_takes codes g stack left = each_leaves codes g stack left g
+
+-- each of these codes is refused so, on each of these stacks
+abbrev pub each_faults_by : Limits → List ℕ → Cells → List (List Cell) → Reason → Type 0
+each_faults_by limits codes g stacks r =
+    map (λ (stack : List Cell). map (performed limits g stack) codes) stacks
+    ≡ map (λ (stack : List Cell). map (λ (code : ℕ). Err r) codes) stacks
+
+abbrev pub each_faults : List ℕ → Cells → List (List Cell) → Reason → Type 0
+each_faults = each_faults_by wide_twilight
+
+-- what one code leaves on the stack, of each of these stacks
+abbrev pub each_stack_leaves : ℕ → List (List Cell × List Cell) → Type 0
+each_stack_leaves code runs =
+    map (λ (r : List Cell × List Cell). performed wide_twilight (zones Either Either Either) r.0 code) runs
+    ≡ map (λ (r : List Cell × List Cell). goes_on_with r.1 (zones Either Either Either) untouched) runs
+
+-- Longer programs, of a glyph with 4 points and 1 contour.
+
+abbrev pub default_cells : Cells
+default_cells = record { rp0 = k 0; rp1 = k 0; rp2 = k 0; zp0 = One; zp1 = One; zp2 = One; loop_number = k 1 }
+
+abbrev pub setting_of : Limits → List ℕ → Setting
+setting_of limits program = glyph_setting (font_of limits [] []) 4 1 (cut_of program)
+
+-- an offset, and the stack there
+abbrev pub Place : Type 0
+Place = ℕ × List Cell
+
+abbrev pub places : Tested (List Next) → Tested (List Place)
+places (Ok nexts) = Ok (map (λ (n : Next). (n.offset, n.state.stack)) nexts)
+places (Err r) = Err r
+
+-- where the instruction at an offset of a program leads with a stack
+unfoldable pub ways : Limits → List ℕ → ℕ → List Cell → Tested (List Place)
+unfolding outcome_on_cells effect_of word cut_within
+ways limits program offset stack = places (outcome_on_cells (setting_of limits program) [] offset (begins default_cells stack))
+
+-- with each of these stacks it leads to these places
+abbrev pub each_leads : List ℕ → ℕ → List (List Cell × List Place) → Type 0
+each_leads program offset runs =
+    map (λ (r : List Cell × List Place). ways usual_limits program offset r.0) runs ≡ map (λ (r : List Cell × List Place). Ok r.1) runs
+
+-- with each of these stacks it is refused so
+abbrev pub each_is_refused_by : Limits → List ℕ → ℕ → List (List Cell) → Reason → Type 0
+each_is_refused_by limits program offset stacks r =
+    map (λ (stack : List Cell). ways limits program offset stack) stacks ≡ map (λ (stack : List Cell). Err r) stacks
+
+abbrev pub each_is_refused : List ℕ → ℕ → List (List Cell) → Reason → Type 0
+each_is_refused = each_is_refused_by usual_limits
+
+abbrev pub first_of : List Next → Tested Next
+first_of [] = Err reason.Target
+first_of (n ∷ ns) = Ok n
+
+-- where the first way leads after so many instructions
+unfoldable pub followed : ℕ → Setting → Next → Tested Next
+unfolding outcome_on_cells effect_of word
+followed zero s n = Ok n
+followed (suc i) s n =
+    let more = followed i s in
+    elim (outcome_on_cells s n.frames n.offset n.state >>= first_of) [ Ok next ↦ more next | Err r ↦ Err r ]
+
+-- the stack after so many instructions of a program, from the empty stack
+unfoldable pub stack_after : ℕ → List ℕ → Tested (List Cell)
+unfolding followed cut_within
+stack_after steps program = elim (followed steps (setting_of usual_limits program) (record { frames = []; offset = 0; state = begins default_cells [] })) [
+  | Ok n ↦ Ok n.state.stack
+  | Err r ↦ Err r
+]
+
+-- Definitions of functions: the places behind them and the functions known there, where the program is a font program or a CVT
+-- program.
+
+abbrev pub defined : Tested (List Next) → Tested (List (ℕ × List (ℕ × ℕ)))
+defined (Ok nexts) = Ok (map (λ (n : Next). (n.offset, n.state.functions)) nexts)
+defined (Err r) = Err r
+
+unfoldable pub functions_by : Setting → ℕ → List Cell → List (ℕ × ℕ) → Tested (List (ℕ × List (ℕ × ℕ)))
+unfolding outcome_on_cells effect_of word
+functions_by s offset stack functions = defined (outcome_on_cells s [] offset (record (begins default_cells stack) { functions = functions }))
+
+unfoldable pub in_font_program : List ℕ → ℕ → List Cell → List (ℕ × ℕ) → Tested (List (ℕ × List (ℕ × ℕ)))
+unfolding functions_by cut_within
+in_font_program program = functions_by (font_setting (font_of usual_limits program []))
+
+unfoldable pub in_cvt_program : List ℕ → ℕ → List Cell → List (ℕ × ℕ) → Tested (List (ℕ × List (ℕ × ℕ)))
+unfolding functions_by cut_within
+in_cvt_program program = functions_by (cvt_setting (font_of usual_limits [] program))
+
+-- what the proofs about pushes, calculations and control unfold
+unfoldable pub shown : Unit {0}
+unfolding performed ways stack_after in_font_program in_cvt_program
+shown = tt
