@@ -869,21 +869,31 @@ fdef_is_refused_in_a_glyph_program :
 unfolding shown
 fdef_is_refused_in_a_glyph_program = refl
 
--- Calls aren't followed yet.
-calls_are_not_followed :
-    each_is_refused (0x2b ∷ 0x18 ∷ []) 0 ((k 0 ∷ []) ∷ (Unknown ∷ []) ∷ [] ∷ []) reason.Opcode
+-- A call needs a number, which is known, and a function of that number.
+calls_need_a_function :
+    each_is_refused (0x2b ∷ 0x18 ∷ []) 0 ((k 0 ∷ []) ∷ []) reason.Function
 unfolding shown
-calls_are_not_followed = refl
+calls_need_a_function = refl
 
-loops_of_calls_are_not_followed :
-    each_is_refused (0x2a ∷ 0x18 ∷ []) 0 ((k 0 ∷ k 1 ∷ []) ∷ (Unknown ∷ []) ∷ [] ∷ []) reason.Opcode
+calls_refuse_an_unknown_number :
+    each_is_refused (0x2b ∷ 0x18 ∷ []) 0 ((Unknown ∷ []) ∷ []) reason.UnknownOperand
 unfolding shown
-loops_of_calls_are_not_followed = refl
+calls_refuse_an_unknown_number = refl
 
-returns_are_not_followed :
-    each_is_refused (0x2d ∷ 0x18 ∷ []) 0 ((Unknown ∷ []) ∷ [] ∷ []) reason.Opcode
+calls_need_a_number :
+    each_is_refused (0x2b ∷ 0x18 ∷ []) 0 ([] ∷ []) reason.Underflow
 unfolding shown
-returns_are_not_followed = refl
+calls_need_a_number = refl
+
+loops_of_calls_need_a_function :
+    each_is_refused (0x2a ∷ 0x18 ∷ []) 0 ((k 0 ∷ k 1 ∷ []) ∷ []) reason.Function
+unfolding shown
+loops_of_calls_need_a_function = refl
+
+the_main_program_returns_nowhere :
+    each_is_refused (0x2d ∷ 0x18 ∷ []) 0 ((Unknown ∷ []) ∷ [] ∷ []) reason.Target
+unfolding shown
+the_main_program_returns_nowhere = refl
 
 -- Where no instruction of the program starts.
 the_data_of_a_push_is_no_instruction :

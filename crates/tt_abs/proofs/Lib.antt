@@ -25,3 +25,9 @@ pub mod RunningOnCells
 pub mod ExamplesOfCells
 pub mod ExamplesOfOtherCells
 pub mod RangesKept
+pub mod Heights
+pub mod ListsKept
+pub mod Offsets
+pub mod StateParts
+pub mod MoreCovered
+pub mod FlowOfStates

@@ -8,7 +8,7 @@ use Rattle.tt_code.specs.Refusals.{Tested, ◌>>=◌, holds_or, some_or}
 use Rattle.tt_code.specs.Table.{Meaning, NoEntry, Plain, Pushes, Stack, Computes, Controls, Lists, effect_of}
 use Rattle.tt_code.specs.Cut.{Instruction, instruction_at, data_behind}
 use Rattle.tt_code.specs.Structure.{after_if, after_else, after_fdef}
-use Rattle.tt_code.specs.Settings.{Setting, program_of, starts_in_body, CVT_BODIES}
+use Rattle.tt_code.specs.Settings.{Setting, program_of, starts_in_body, body_offset, CVT_BODIES}
 use Rattle.tt_code.specs.States.{IsNumber, Registers, is_number, is_below, is_true, reference}
 use Rattle.tt_code.specs.Operands.{Taking, top, take_operands}
 use Rattle.tt_code.specs.Changes.{taken_at, updated, all_updated}
@@ -37,7 +37,7 @@ use Rattle.tt_abs.specs.declared.cells.Cell.TheVariants.{Known, Unknown}
 use Rattle.tt_abs.specs.declared.cells.ZoneCell.{ZoneCell}
 use Rattle.tt_abs.specs.Cells.{Abstract}
 use Rattle.tt_abs.specs.Ranges.{IsInRange, AreInRange, AreRegistersInRange, IsStateInRange, AreNextInRange, AreBytes, IsSettingInRange}
-use Rattle.tt_abs.specs.Transfers.{Next, known, take_cells, test_cell_uses, cells, index_in, cells_pushed, cells_on, leaves_cells, plain_cells, pushed_cells, shuffled_cells, exact_cell, truth_cell, only_if, of_known, of_both_known, lt_cells, le_cells, and_cells, or_cells, of_one_cell, of_two_cells, computed_cells, LEAST, GREATEST, one_way, two_ways, jump_target, jumps_cells, jumps_by, jumps_if_cells, if_ways, controlled_cells, goes_on_cells, does_cells, are_within, within_cells, performs_cells, instruction_of, outcome_on_cells}
+use Rattle.tt_abs.specs.Transfers.{Next, known, take_cells, test_cell_uses, cells, index_in, cells_pushed, cells_on, leaves_cells, plain_cells, pushed_cells, shuffled_cells, exact_cell, truth_cell, only_if, of_known, of_both_known, lt_cells, le_cells, and_cells, or_cells, of_one_cell, of_two_cells, computed_cells, LEAST, GREATEST, one_way, two_ways, jump_target, jumps_cells, jumps_by, jumps_if_cells, if_ways, is_running, called_cell, enters_cells, loops_cells, returns_cells, controlled_cells, goes_on_cells, does_cells, are_within, within_cells, performs_cells, instruction_of, outcome_on_cells}
 use Rattle.tt_abs.proofs.Choosing.{zero_is_number, one_is_number}
 use Rattle.tt_abs.proofs.Takes.{StandsFor, operands_stand}
 use Rattle.tt_abs.proofs.Arithmetic.{number_by_test}
@@ -340,6 +340,25 @@ module _ (depth : ℕ) (s : Setting) (fs : List Frame) (at : ℕ) (a : Abstract)
       holds_any (AreKept depth) (some_or (after_if (program_of s fs) at) reason.Target) _
       (λ after. two_ways_kept depth fs (at + 1) after (leaves_cells a stack []) (left_in_range depth a stack [] fits h tt))
 
+  enters_kept : (name : ℕ) (stack : List Cell) (turns : ℕ) → AreInRange stack → Holds (AreKept depth) (enters_cells s fs at a name stack turns)
+  enters_kept name stack turns h =
+      holds_any (AreKept depth) (holds_or (nat_le (length stack) s.limits.stack) reason.Overflow) _ (λ deep.
+      holds_any (AreKept depth) (holds_or (not (is_running name fs)) reason.Recursion) _ (λ fresh. (left_in_range depth a stack [] fits h tt, tt)))
+
+  loops_kept : (name : ℕ) (stack : List Cell) (count : ℤ) → AreInRange stack → Holds (AreKept depth) (loops_cells s fs at a name stack count)
+  loops_kept name stack (pos zero) h = (left_in_range depth a stack [] fits h tt, tt)
+  loops_kept name stack (pos (suc n)) h = enters_kept name stack (suc n) h
+  loops_kept name stack (negsuc n) h = (left_in_range depth a stack [] fits h tt, tt)
+
+  returns_kept : (gs : List Frame) → Holds (AreKept depth) (returns_cells a gs)
+  returns_kept [] = tt
+  returns_kept (f ∷ gs) = go (nat_lt f.turn f.count)
+    where
+      go : (b : Bool) → Holds (AreKept depth)
+          (if b then Ok (one_way (record f { turn = f.turn + 1 } ∷ gs) (body_offset f.body) (leaves_cells a a.stack [])) else Ok (one_way gs (f.call + 1) (leaves_cells a a.stack [])))
+      go true = (left_in_range depth a a.stack [] fits fits.stack tt, tt)
+      go false = (left_in_range depth a a.stack [] fits fits.stack tt, tt)
+
   controlled_kept : (c : Control) → Holds (AreKept depth) (controlled_cells s fs at a c)
   controlled_kept If = holds_then TopInRange (AreKept depth) (top a.stack) _ (top_in_range a.stack fits.stack) (λ e k. if_kept e.0 e.1 k.1)
   controlled_kept Else = holds_any (AreKept depth) (some_or (after_else (program_of s fs) at) reason.Target) _ (λ after. (left_in_range depth a a.stack [] fits fits.stack tt, tt))
@@ -352,9 +371,15 @@ module _ (depth : ℕ) (s : Setting) (fs : List Frame) (at : ℕ) (a : Abstract)
       holds_any (AreKept depth) (known t.0) _ (λ n.
       holds_any (AreKept depth) (holds_or (is_below n s.limits.functions) reason.Function) _ (λ ok.
       holds_any (AreKept depth) (some_or (after_fdef (program_of s fs) at) reason.Target) _ (λ after. ((λ shallow. record { stack = k.1; registers = fits.registers }), tt))))))
-  controlled_kept Call = tt
-  controlled_kept LoopCall = tt
-  controlled_kept EndFunction = tt
+  controlled_kept Call =
+      holds_then TopInRange (AreKept depth) (top a.stack) _ (top_in_range a.stack fits.stack) (λ t k.
+      holds_any (AreKept depth) (called_cell s a.functions t.0) _ (λ name. enters_kept name t.1 1 k.1))
+  controlled_kept LoopCall =
+      holds_then TopInRange (AreKept depth) (top a.stack) _ (top_in_range a.stack fits.stack) (λ t k.
+      holds_any (AreKept depth) (called_cell s a.functions t.0) _ (λ name.
+      holds_then TopInRange (AreKept depth) (top t.1) _ (top_in_range t.1 k.1) (λ u l.
+      holds_any (AreKept depth) (known u.0) _ (λ count. loops_kept name u.1 count l.1))))
+  controlled_kept EndFunction = returns_kept fs
   controlled_kept InstructionDefinition = tt
 
   -- Any instruction.

@@ -22,3 +22,7 @@ pub mod EntryFacts
 pub mod EntryCoverage
 pub mod Ranges
 pub mod Followed
+pub mod Flows
+pub mod Families
+pub mod FamilyLaws
+pub mod StateFlow
