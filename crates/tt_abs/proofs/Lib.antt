@@ -31,3 +31,8 @@ pub mod Offsets
 pub mod StateParts
 pub mod MoreCovered
 pub mod FlowOfStates
+pub mod Places
+pub mod Calls
+pub mod Everything
+pub mod Contexts
+mod ExamplesOfCalls

@@ -26,3 +26,4 @@ pub mod Flows
 pub mod Families
 pub mod FamilyLaws
 pub mod StateFlow
+pub mod Contexts

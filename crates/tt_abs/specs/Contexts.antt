@@ -1,0 +1,16 @@
+-- The calls that haven't returned, as programs of this profile come to them.
+use Rattle.std.specs.Prelude.{◌≡◌, ℕ, ◌<◌, ◌≤◌, ◌^◌, List, [], ◌∷◌, false}
+use Rattle.std.specs.List.{AllByRecursion}
+use Rattle.tt_code.specs.declared.machine.Frame.{Frame}
+use Rattle.tt_abs.specs.Covers.{has_body_twice}
+
+-- the call is in one of its turns, which the numbers of the machine can count
+pub record FrameFits (f : Frame) : Type 0 where
+  pub begun : 1 ≤ f.turn
+  pub within : f.turn ≤ f.count
+  pub countable : f.count < 2 ^ 31
+
+-- each call is in one of its turns, and no body runs twice
+pub record FramesFit (fs : List Frame) : Type 0 where
+  pub each : AllByRecursion FrameFits fs
+  pub once : has_body_twice fs ≡ false
