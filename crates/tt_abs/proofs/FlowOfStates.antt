@@ -6,34 +6,25 @@ use Rattle.tt_code.specs.Refusals.{Tested}
 use Rattle.tt_code.specs.Runs.{outcome}
 use Rattle.tt_code.specs.Settings.{Setting, is_main_end}
 use Rattle.tt_code.specs.States.{Machine}
-use Rattle.tt_code.specs.declared.machine.Frame.{Frame}
 use Rattle.tt_code.specs.declared.reason.Reason.{Reason}
 use Rattle.tt_abs.specs.declared.state.State.{State}
 use Rattle.tt_abs.specs.Cells.{Abstract, CoversState}
 use Rattle.tt_abs.specs.Contexts.{FramesFit}
-use Rattle.tt_abs.specs.Covers.{Gives, StandsFor, has_body_twice}
+use Rattle.tt_abs.specs.Covers.{Gives, StandsFor}
 use Rattle.tt_abs.specs.Entries.{Rises}
 use Rattle.tt_abs.specs.Flows.{Flow, FlowLaws}
-use Rattle.tt_abs.specs.Ranges.{AreInRange, IsSettingInRange}
+use Rattle.tt_abs.specs.Ranges.{IsSettingInRange}
 use Rattle.tt_abs.specs.StateFlow.{Place, IsPlace, CallsFit, FunctionsFit, FitsLimits, RefusesState, GivesState, flow_of, height_of, AreProgramsShort}
 use Rattle.tt_abs.specs.States.{abstract_of, start_of, state_order}
 use Rattle.tt_abs.specs.Transfers.{Next, outcome_on_cells}
 use Rattle.tt_abs.proofs.Choosing.{zero_is_number, one_is_number}
 use Rattle.tt_abs.proofs.Depth.{AreBelow}
 use Rattle.tt_abs.proofs.Heights.{state_at_most}
-use Rattle.tt_abs.proofs.MoreCovered.{stands_monotone}
+use Rattle.tt_abs.proofs.Contexts.{nexts_fit}
+use Rattle.tt_abs.proofs.Everything.{everything_stands, outcome_monotone}
 use Rattle.tt_abs.proofs.Offsets.{NextFits, offsets_fit}
 use Rattle.tt_abs.proofs.StateCoverage.{state_covers, state_from_coverage}
 use Rattle.tt_abs.proofs.StateParts.{one_of_all, stack_to, state_in_range, one_state, IsStateOf, next_state, next_fits}
-
-abbrev pub EverythingStands : Setting → Type 0
-EverythingStands s =
-    (fs : List Frame) (at : ℕ) (a : Abstract) → at < 2 ^ 31 → AreInRange a.stack → has_body_twice fs ≡ false → StandsFor a fs at (outcome s) (outcome_on_cells s fs at a)
-
-abbrev pub FramesStayFit : Setting → Type 0
-FramesStayFit s =
-    (fs : List Frame) (at : ℕ) (a : Abstract) (nexts : List Next) → at < 2 ^ 31 → AreInRange a.stack → FramesFit fs → outcome_on_cells s fs at a ≡ Ok nexts
-    → (i : ℕ) (n : Next) → slice_get nexts i ≡ Some n → FramesFit n.frames
 
 pub start_range : (functions : List (ℕ × ℕ)) → Rises functions → state_order.InRange (start_of functions)
 start_range functions rises =
@@ -52,9 +43,14 @@ within_above s a b below fits = record {
   storage = λ i z l. fits.storage i z (below.1.1.1 i z l);
 }
 
-module _ (s : Setting) (setting : IsSettingInRange s) (short : AreProgramsShort s) (stands : EverythingStands s) (frames_fit : FramesStayFit s) where
+-- one state covers what another does, where its abstract state covers what that one's does
+covers_through : (t u : State) (n o : Abstract) → abstract_of t ≡ n → abstract_of u ≡ o → ((m : Machine) → CoversState n m → CoversState o m)
+    → (m : Machine) → CoversState (abstract_of t) m → CoversState (abstract_of u) m
+covers_through t u n o first second covers m h = let C : Abstract → Type 0 = λ x. CoversState x m in subst C (sym second) (covers m (subst C first h))
+
+module _ (s : Setting) (setting : IsSettingInRange s) (short : AreProgramsShort s) where
   stands_at : (p : Place) (a : State) → IsPlace p → state_order.InRange a → StandsFor (abstract_of a) p.0 p.1 (outcome s) (outcome_on_cells s p.0 p.1 (abstract_of a))
-  stands_at p a point range = stands p.0 p.1 (abstract_of a) point.offset (stack_to a.stack range.0) point.frames.once
+  stands_at p a point range = everything_stands s p.0 p.1 (abstract_of a) point.offset (stack_to a.stack range.0) point.frames.once
 
   gives_at : (p : Place) (a : State) (nexts : List Next) → IsPlace p → state_order.InRange a → outcome_on_cells s p.0 p.1 (abstract_of a) ≡ Ok nexts → Gives (abstract_of a) p.0 p.1 (outcome s) nexts
   gives_at p a nexts point range e = let R : Tested (List Next) → Type 0 = λ r. StandsFor (abstract_of a) p.0 p.1 (outcome s) r in subst R e (stands_at p a point range)
@@ -62,7 +58,7 @@ module _ (s : Setting) (setting : IsSettingInRange s) (short : AreProgramsShort 
   given_point : (p : Place) (a : State) (q : Place) (t : State) → IsPlace p → state_order.InRange a → FitsLimits s a → GivesState s p a q t → IsPlace q
   given_point p a q t point range fits g =
       let next : NextFits g.next = one_of_all NextFits g.nexts g.index g.next (offsets_fit s p.0 p.1 (abstract_of a) g.nexts short point.calls fits.functions g.result) g.found in
-      let frames : FramesFit g.next.frames = frames_fit p.0 p.1 (abstract_of a) g.nexts point.offset (stack_to a.stack range.0) point.frames g.result g.index g.next g.found in
+      let frames : FramesFit g.next.frames = nexts_fit s p.0 p.1 (abstract_of a) g.nexts point.frames (stack_to a.stack range.0) g.result g.index g.next g.found in
       let small : g.next.offset < 2 ^ 31 = next.1 in
       record { frames = subst FramesFit g.frames_are frames; calls = subst CallsFit g.frames_are next.0; offset = let is : g.next.offset ≡ q.1 = g.offset_is in omega arith }
 
@@ -96,7 +92,7 @@ module _ (s : Setting) (setting : IsSettingInRange s) (short : AreProgramsShort 
   below_at : (p : Place) (a b : State) (os : List Next) → IsPlace p → state_order.InRange a → state_order.InRange b → state_order.Below a b → outcome_on_cells s p.0 p.1 (abstract_of b) ≡ Ok os
       → (ns : List Next) × (outcome_on_cells s p.0 p.1 (abstract_of a) ≡ Ok ns) × AreBelow ns os
   below_at p a b os point ra rb below e =
-      stands_monotone (abstract_of a) (abstract_of b) p.0 p.1 (outcome s) (state_covers a b ra below) (outcome_on_cells s p.0 p.1 (abstract_of a)) os (stands_at p a point ra) (gives_at p b os point rb e)
+      outcome_monotone s p.0 p.1 (abstract_of a) (abstract_of b) os point.offset (stack_to a.stack ra.0) (stack_to b.stack rb.0) point.frames.once (state_covers a b ra below) e
 
   refused_above : (p : Place) (a b : State) (r : Reason) → IsPlace p → state_order.InRange a → state_order.InRange b → state_order.Below a b → RefusesState s p a r → (r' : Reason) × RefusesState s p b r'
   refused_above p a b r point ra rb below x = go (outcome_on_cells s p.0 p.1 (abstract_of b)) refl
@@ -126,8 +122,7 @@ module _ (s : Setting) (setting : IsSettingInRange s) (short : AreProgramsShort 
         state_is = of.state_is;
         in_range = of.in_range;
       } in
-      (u, gives, state_from_coverage t u g.in_range (λ m c.
-        let C : Abstract → Type 0 = λ x. CoversState x m in subst C (sym of.state_is) (covers m (subst C g.state_is c))))
+      (u, gives, state_from_coverage t u g.in_range (covers_through t u g.next.state o.state g.state_is of.state_is covers))
 
   given_above : (p : Place) (a b : State) (q : Place) (t : State) → IsPlace p → state_order.InRange a → state_order.InRange b → state_order.Below a b → ((r : Reason) → RefusesState s p b r → ⊥)
       → GivesState s p a q t → (u : State) × GivesState s p b q u × state_order.Below t u

@@ -29,10 +29,10 @@ pub mod Heights
 pub mod ListsKept
 pub mod Offsets
 pub mod StateParts
-pub mod MoreCovered
 pub mod FlowOfStates
 pub mod Places
 pub mod Calls
 pub mod Everything
 pub mod Contexts
 mod ExamplesOfCalls
+pub mod Soundness

@@ -27,3 +27,4 @@ pub mod Families
 pub mod FamilyLaws
 pub mod StateFlow
 pub mod Contexts
+pub mod Soundness
