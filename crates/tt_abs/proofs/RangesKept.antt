@@ -44,15 +44,15 @@ use Rattle.tt_abs.proofs.Arithmetic.{number_by_test}
 
 -- What holds of a value, where there is one.
 
-abbrev Holds : {A : Type 0} → (A → Type 0) → Tested A → Type 0
+abbrev pub Holds : {A : Type 0} → (A → Type 0) → Tested A → Type 0
 Holds P (Ok x) = P x
 Holds P (Err r) = Unit {0}
 
-holds_then : {A B : Type 0} (P : A → Type 0) (Q : B → Type 0) (t : Tested A) (f : A → Tested B) → Holds P t → ((x : A) → P x → Holds Q (f x)) → Holds Q (t >>= f)
+pub holds_then : {A B : Type 0} (P : A → Type 0) (Q : B → Type 0) (t : Tested A) (f : A → Tested B) → Holds P t → ((x : A) → P x → Holds Q (f x)) → Holds Q (t >>= f)
 holds_then P Q (Ok x) f h k = k x h
 holds_then P Q (Err r) f h k = tt
 
-holds_any : {A B : Type 0} (Q : B → Type 0) (t : Tested A) (f : A → Tested B) → ((x : A) → Holds Q (f x)) → Holds Q (t >>= f)
+pub holds_any : {A B : Type 0} (Q : B → Type 0) (t : Tested A) (f : A → Tested B) → ((x : A) → Holds Q (f x)) → Holds Q (t >>= f)
 holds_any Q (Ok x) f k = k x
 holds_any Q (Err r) f k = tt
 
