@@ -1,7 +1,6 @@
 -- The laws of the flow of abstract states.
-use Rattle.std.specs.Prelude.{ℤ, slice_get, ◌^◌}
-use Rattle.std.specs.List.{AllByRecursion}
-use Rattle.std.proofs.Common.{◌≡◌, ◌⊎◌, ℕ, ◌<◌, ◌≤◌, List, [], Ok, Err, Some, length, refl, sym, ◌∙◌, ap, subst, inl, inr, arith, Bool, true, false}
+use Rattle.std.specs.Prelude.{slice_get, ◌^◌}
+use Rattle.std.proofs.Common.{◌≡◌, ◌⊎◌, ℕ, ◌<◌, ◌≤◌, List, Ok, Err, Some, length, refl, sym, ◌∙◌, ap, subst, inl, inr, arith, Bool, true, false}
 use Rattle.tt_code.specs.Refusals.{Tested}
 use Rattle.tt_code.specs.Runs.{outcome}
 use Rattle.tt_code.specs.Settings.{Setting, is_main_end}
@@ -12,7 +11,7 @@ use Rattle.tt_abs.specs.Cells.{Abstract, CoversState}
 use Rattle.tt_abs.specs.Contexts.{FramesFit}
 use Rattle.tt_abs.specs.Covers.{Gives, StandsFor}
 use Rattle.tt_abs.specs.Entries.{Rises}
-use Rattle.tt_abs.specs.Flows.{Flow, FlowLaws}
+use Rattle.tt_abs.specs.Flows.{FlowLaws}
 use Rattle.tt_abs.specs.Ranges.{IsSettingInRange}
 use Rattle.tt_abs.specs.StateFlow.{Place, IsPlace, CallsFit, FunctionsFit, FitsLimits, RefusesState, GivesState, flow_of, height_of, AreProgramsShort}
 use Rattle.tt_abs.specs.States.{abstract_of, start_of, state_order}
@@ -24,7 +23,7 @@ use Rattle.tt_abs.proofs.Contexts.{nexts_fit}
 use Rattle.tt_abs.proofs.Everything.{everything_stands, outcome_monotone}
 use Rattle.tt_abs.proofs.Offsets.{NextFits, offsets_fit}
 use Rattle.tt_abs.proofs.StateCoverage.{state_covers, state_from_coverage}
-use Rattle.tt_abs.proofs.StateParts.{one_of_all, stack_to, state_in_range, one_state, IsStateOf, next_state, next_fits}
+use Rattle.tt_abs.proofs.StateParts.{one_of_all, stack_to, state_in_range, one_state, next_state, next_fits}
 
 pub start_range : (functions : List (ℕ × ℕ)) → Rises functions → state_order.InRange (start_of functions)
 start_range functions rises =

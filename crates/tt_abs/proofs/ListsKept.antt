@@ -1,8 +1,8 @@
 -- What the outcome on cells keeps of the functions and the storage area: they change where FDEF defines a function whose number is
 -- below maxFunctionDefs, and where WS stores at an index below maxStorage.
-use Rattle.std.specs.Prelude.{ℤ, pos, negsuc, ◌*◌, ◌^◌, not, ◌&&◌, Option, nat_eq, nat_lt, nat_le, if◌then◌else◌}
+use Rattle.std.specs.Prelude.{ℤ, pos, negsuc, ◌^◌, not, ◌&&◌, Option, nat_eq, nat_lt, nat_le, if◌then◌else◌}
 use Rattle.std.specs.List.{AllByRecursion}
-use Rattle.std.proofs.Common.{◌≡◌, ℕ, zero, suc, ◌+◌, ◌-◌, ◌≤◌, ◌<◌, List, [], ◌∷◌, ◌++◌, Ok, Err, Some, None, refl, sym, ◌∙◌, ap, subst, arith, length, Bool, true, false}
+use Rattle.std.proofs.Common.{◌≡◌, ℕ, zero, suc, ◌+◌, ◌-◌, ◌≤◌, ◌<◌, List, [], ◌∷◌, ◌++◌, Ok, Err, Some, None, refl, sym, subst, arith, length, Bool, true, false}
 use Rattle.std.proofs.lemmas.Bool.{leb-true, ltb-true, ltb-false, and_parts}
 use Rattle.tt_code.specs.Refusals.{Tested, ◌>>=◌, holds_or, some_or}
 use Rattle.tt_code.specs.Table.{Meaning, NoEntry, Plain, Pushes, Stack, Computes, Controls, Lists, Line, table, meaning_in, effect_of, is_among}
@@ -10,10 +10,10 @@ use Rattle.tt_code.specs.Cut.{Instruction, instruction_at, size}
 use Rattle.tt_code.specs.Structure.{after_if, after_else, after_fdef}
 use Rattle.tt_code.specs.Settings.{Setting, program_of, starts_in_body, body_name, body_offset, CVT_BODIES}
 use Rattle.tt_code.specs.States.{Registers, is_below, is_true}
-use Rattle.tt_code.specs.Operands.{Taking, top, take_one, then_take}
+use Rattle.tt_code.specs.Operands.{Taking, top, take_one}
 use Rattle.tt_code.specs.Changes.{natural, taken_at, with_stored, updated, all_updated}
-use Rattle.tt_code.specs.Computing.{element, place_of}
-use Rattle.tt_code.specs.Control.{may_define, body_named}
+use Rattle.tt_code.specs.Computing.{element}
+use Rattle.tt_code.specs.Control.{may_define}
 use Rattle.tt_code.specs.declared.machine.Frame.{Frame}
 use Rattle.tt_code.specs.declared.reason.Reason.{Reason}
 use Rattle.tt_code.specs.declared.reason.Reason.TheVariants as reason
@@ -34,7 +34,7 @@ use Rattle.tt_abs.specs.declared.cells.ZoneCell.{ZoneCell}
 use Rattle.tt_abs.specs.Cells.{Abstract, Cells}
 use Rattle.tt_abs.specs.Entries.{with_entry}
 use Rattle.tt_abs.specs.StateFlow.{AreProgramsShort}
-use Rattle.tt_abs.specs.Transfers.{Next, known, tested_cell, take_cell, take_cells, test_cell_uses, cells, index_in, cells_pushed, leaves_cells, plain_cells, pushed_cells, shuffled_cells, of_one_cell, of_two_cells, computed_cells, one_way, two_ways, jump_target, jumps_cells, jumps_by, jumps_if_cells, if_ways, is_running, called_cell, enters_cells, loops_cells, returns_cells, controlled_cells, goes_on_cells, does_cells, are_within, within_cells, performs_cells, instruction_of, outcome_on_cells}
+use Rattle.tt_abs.specs.Transfers.{Next, known, tested_cell, take_cell, take_cells, test_cell_uses, cells, index_in, leaves_cells, plain_cells, pushed_cells, shuffled_cells, of_one_cell, of_two_cells, computed_cells, one_way, two_ways, jump_target, jumps_cells, jumps_by, jumps_if_cells, if_ways, is_running, called_cell, enters_cells, loops_cells, returns_cells, controlled_cells, goes_on_cells, does_cells, are_within, within_cells, performs_cells, instruction_of, outcome_on_cells}
 use Rattle.tt_abs.proofs.RangesKept.{Holds, holds_then, holds_any}
 use Rattle.tt_abs.proofs.Rows.{is_single}
 

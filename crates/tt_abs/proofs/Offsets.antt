@@ -1,13 +1,13 @@
 -- Where next states stand: in programs that have fewer than 2^31 bytes, at offsets below 2^31.
-use Rattle.std.specs.Prelude.{ℤ, pos, negsuc, ◌+ℤ◌, ◌*◌, ◌^◌, not, ◌||◌, Option, nat_eq, nat_lt, nat_le, if◌then◌else◌}
+use Rattle.std.specs.Prelude.{ℤ, pos, negsuc, ◌+ℤ◌, ◌^◌, not, ◌||◌, Option, nat_eq, nat_lt, nat_le, if◌then◌else◌}
 use Rattle.std.specs.List.{AllByRecursion}
-use Rattle.std.proofs.Common.{◌≡◌, ℕ, zero, suc, ◌+◌, ◌-◌, ◌≤◌, ◌<◌, List, [], ◌∷◌, Ok, Err, Some, None, refl, sym, ◌∙◌, ap, subst, arith, length, Bool, true, false}
+use Rattle.std.proofs.Common.{◌≡◌, ℕ, zero, suc, ◌+◌, ◌-◌, ◌≤◌, ◌<◌, List, [], ◌∷◌, Ok, Some, None, refl, ◌∙◌, subst, arith, length, Bool, true, false}
 use Rattle.std.proofs.lemmas.Bool.{ltb-true, ltb-false, eqb-true}
-use Rattle.tt_code.specs.Refusals.{Tested, ◌>>=◌, holds_or, some_or}
+use Rattle.tt_code.specs.Refusals.{Tested, holds_or, some_or}
 use Rattle.tt_code.specs.Table.{Meaning, NoEntry, Plain, Pushes, Stack, Computes, Controls, effect_of}
 use Rattle.tt_code.specs.Cut.{Instruction, size}
 use Rattle.tt_code.specs.Structure.{word, is_word, still_open, behind_end, leads_from, after_if, after_else, after_fdef, body_behind, body_from, body_at}
-use Rattle.tt_code.specs.Settings.{Setting, program_of, body_of, is_body, starts_in_body, is_main_end, is_target, body_name, body_offset, CVT_BODIES}
+use Rattle.tt_code.specs.Settings.{Setting, program_of, body_of, is_body, starts_in_body, is_main_end, is_target, body_offset, CVT_BODIES}
 use Rattle.tt_code.specs.States.{is_below, is_true}
 use Rattle.tt_code.specs.Operands.{top}
 use Rattle.tt_code.specs.Changes.{natural}
@@ -24,7 +24,7 @@ use Rattle.tt_abs.specs.declared.cells.Cell.{Cell}
 use Rattle.tt_abs.specs.declared.cells.Cell.TheVariants.{Known, Unknown}
 use Rattle.tt_abs.specs.Cells.{Abstract}
 use Rattle.tt_abs.specs.EntryFacts.{listed-named}
-use Rattle.tt_abs.specs.StateFlow.{AreProgramsShort, CallFits, CallsFit, FunctionsFit}
+use Rattle.tt_abs.specs.StateFlow.{AreProgramsShort, CallsFit, FunctionsFit}
 use Rattle.tt_abs.specs.Transfers.{Next, known, leaves_cells, plain_cells, pushed_cells, shuffled_cells, computed_cells, one_way, two_ways, jump_target, jumps_cells, jumps_by, jumps_if_cells, if_ways, is_running, called_cell, enters_cells, loops_cells, returns_cells, controlled_cells, goes_on_cells, does_cells, are_within, within_cells, performs_cells, instruction_of, outcome_on_cells}
 use Rattle.tt_abs.proofs.ListsKept.{holds_tested, EndsBelow, ends_below, short_program}
 use Rattle.tt_abs.proofs.RangesKept.{Holds, holds_then, holds_any}

@@ -1,12 +1,11 @@
 -- A good family covers every machine that a run comes to, and none of these faults.
-use Rattle.std.specs.Prelude.{slice_get, nat_lt, ◌^◌}
-use Rattle.std.proofs.Common.{◌≡◌, ℕ, ◌<◌, ◌≤◌, List, [], Ok, Err, Option, Some, refl, sym, ◌∙◌, ap, subst, arith, Bool, true, false}
+use Rattle.std.specs.Prelude.{nat_lt, ◌^◌}
+use Rattle.std.proofs.Common.{◌≡◌, ℕ, List, [], Ok, Err, Option, Some, refl, sym, ◌∙◌, ap, subst, Bool, true, false}
 use Rattle.std.proofs.lemmas.Bool.{ltb-true, ltb-false}
 use Rattle.tt_code.specs.Refusals.{Tested}
 use Rattle.tt_code.specs.Runs.{Faults, NeverFaults, Runs, Steps, here, step, is_at_end, outcome}
 use Rattle.tt_code.specs.Settings.{Setting}
 use Rattle.tt_code.specs.States.{Machine, default_graphics}
-use Rattle.tt_code.specs.declared.machine.Frame.{Frame}
 use Rattle.tt_code.specs.declared.reason.Reason.{Reason}
 use Rattle.tt_code.specs.declared.reason.Reason.TheVariants as reason
 use Rattle.tt_abs.specs.declared.state.State.{State}

@@ -1,11 +1,11 @@
 -- Abstract states and the states that the program keeps: ranges part by part, and which state an abstract state is.
 use Rattle.std.specs.Prelude.{ℤ, nat_eq, if◌then◌else◌, ⊤, slice_get, ◌^◌}
 use Rattle.std.specs.List.{AllByRecursion}
-use Rattle.std.proofs.Common.{◌≡◌, ℕ, zero, suc, ◌+◌, ◌<◌, ◌≤◌, List, [], ◌∷◌, Ok, Some, None, Option, refl, sym, ◌∙◌, ap, subst, arith, length, Bool, true, false}
+use Rattle.std.proofs.Common.{◌≡◌, ℕ, zero, suc, ◌<◌, ◌≤◌, List, [], ◌∷◌, Ok, Some, None, Option, refl, sym, ◌∙◌, ap, subst, arith, length, Bool, true, false}
 use Rattle.std.proofs.lemmas.Bool.{eqb-true}
 use Rattle.tt_code.specs.Changes.{with_stored}
 use Rattle.tt_code.specs.Settings.{Setting, Kind, FontProgram, CvtProgram, GlyphProgram, body_name}
-use Rattle.tt_code.specs.States.{IsNumber, Registers}
+use Rattle.tt_code.specs.States.{IsNumber}
 use Rattle.tt_code.specs.declared.machine.Frame.{Frame}
 use Rattle.tt_abs.specs.declared.cells.Cell.{Cell}
 use Rattle.tt_abs.specs.declared.cells.Cell.TheVariants.{Known, Unknown}
@@ -15,10 +15,10 @@ use Rattle.tt_abs.specs.Cells.{Abstract}
 use Rattle.tt_abs.specs.Entries.{Rises, listed, with_entry, known_or_not, storage_of, with_cell}
 use Rattle.tt_abs.specs.EntryFacts.{listed-all, listed-with, storage-with_cell}
 use Rattle.tt_abs.specs.EntryLaws.{listed-here, listed-there, number-above, Rises-filter, entry_laws}
-use Rattle.tt_abs.specs.EntryLists.{EntriesBelow, EntriesInRange}
-use Rattle.tt_abs.specs.Ranges.{IsInRange, AreInRange, AreRegistersInRange, IsStateInRange, AreNextInRange, IsSettingInRange}
+use Rattle.tt_abs.specs.EntryLists.{EntriesBelow}
+use Rattle.tt_abs.specs.Ranges.{IsInRange, AreInRange, IsStateInRange, IsSettingInRange}
 use Rattle.tt_abs.specs.StateFlow.{FunctionsFit, FitsLimits, AreProgramsShort}
-use Rattle.tt_abs.specs.Stacks.{cell_at, StackInRange}
+use Rattle.tt_abs.specs.Stacks.{StackInRange}
 use Rattle.tt_abs.specs.States.{abstract_of, state_order}
 use Rattle.tt_abs.specs.Transfers.{Next, outcome_on_cells}
 use Rattle.tt_abs.proofs.EntryEdits.{Rises-with}

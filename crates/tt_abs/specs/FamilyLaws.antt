@@ -1,8 +1,8 @@
 -- What is derived is in range, within the limits, and below each good family.
-use Rattle.std.specs.Prelude.{◌≡◌, ℕ, ◌≤◌, Option, Some}
-use Rattle.std.proofs.Common.{refl, sym, ◌∙◌, ap, subst, arith}
+use Rattle.std.specs.Prelude.{◌≡◌, ℕ, ◌≤◌, Option}
+use Rattle.std.proofs.Common.{subst}
 use Rattle.tt_code.specs.declared.reason.Reason.{Reason}
-use Rattle.tt_abs.specs.Orders.{Order, OrderLaws, IsLeastAbove}
+use Rattle.tt_abs.specs.Orders.{Order, OrderLaws}
 use Rattle.tt_abs.specs.Flows.{Flow, FlowLaws}
 use Rattle.tt_abs.specs.Families.{CoversAt, IsFamilyInRange, IsGood, IsFine, Derived, started, moved, joined}
 
