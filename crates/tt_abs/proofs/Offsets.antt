@@ -47,7 +47,7 @@ end_within opener [] offset inside = tt
 end_within opener (i ∷ is) offset inside = go (still_open opener (word i) inside) (λ more. end_within opener is (offset + length i) more)
   where
     go : (o : Option ℕ) → ((more : ℕ) → IsWithin (offset + length i + size is) (behind_end opener is (offset + length i) more))
-        → IsWithin (offset + (length i + size is)) (elim o as (λ p. Option ℕ) [ | None ↦ Some (offset + length i) | Some more ↦ behind_end opener is (offset + length i) more ])
+        → IsWithin (offset + (length i + size is)) (elim o as (λ p. Option ℕ) [ None ↦ Some (offset + length i) | Some more ↦ behind_end opener is (offset + length i) more ])
     go None h = omega arith
     go (Some more) h = within_more (offset + length i + size is) (offset + (length i + size is)) (behind_end opener is (offset + length i) more) (omega arith) (h more)
 

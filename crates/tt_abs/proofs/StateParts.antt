@@ -59,9 +59,10 @@ stored_to es h i = go (listed es i) refl
 
 each_listed : {V : Type 0} (P : V → Type 0) (es : List (ℕ × V)) → Rises es → ((n : ℕ) (v : V) → listed es n ≡ Some v → P v) → AllByRecursion (λ e. P e.1) es
 each_listed P [] rises h = tt
-each_listed P (e ∷ es) rises h =
-    (h e.0 e.1 (listed-here e es e.0 refl),
-     each_listed P es rises.1 (λ n v l. let lt = number-above e.0 n v es rises.0 l in h n v (listed-there e es n (λ q. omega arith) ∙ l)))
+each_listed P (e ∷ es) rises h = (
+  h e.0 e.1 (listed-here e es e.0 refl),
+  each_listed P es rises.1 (λ n v l. let lt = number-above e.0 n v es rises.0 l in h n v (listed-there e es n (λ q. omega arith) ∙ l)),
+)
 
 stored_from : (es : List (ℕ × ℤ)) → Rises es → ((i : ℕ) → IsInRange (storage_of es i)) → AllByRecursion (λ e. IsNumber e.1) es
 stored_from es rises h = each_listed IsNumber es rises (λ n v l. let P : Option ℤ → Type 0 = λ o. IsInRange (known_or_not o) in subst P l (h n))
@@ -83,12 +84,19 @@ no_values [] = tt
 no_values (e ∷ es) = (tt, no_values es)
 
 pub state_in_range : (a : State) → Rises a.functions → Rises a.storage → IsStateInRange (abstract_of a) → state_order.InRange a
-state_in_range a functions storage h =
-    (stack_from a.stack h.stack,
-     ((((cell_from a.graphics.rp0 h.registers.rp0,
-         (cell_from a.graphics.rp1 h.registers.rp1, (cell_from a.graphics.rp2 h.registers.rp2, cell_from a.graphics.loop_number h.registers.loop_number))),
-        (tt, (tt, tt)))),
-      (record { rises = functions; values = no_values a.functions }, record { rises = storage; values = stored_from a.storage storage h.registers.storage })))
+state_in_range a functions storage h = (
+  stack_from a.stack h.stack,
+  (
+    ((
+      (
+        cell_from a.graphics.rp0 h.registers.rp0,
+        (cell_from a.graphics.rp1 h.registers.rp1, (cell_from a.graphics.rp2 h.registers.rp2, cell_from a.graphics.loop_number h.registers.loop_number)),
+      ),
+      (tt, (tt, tt)),
+    )),
+    (record { rises = functions; values = no_values a.functions }, record { rises = storage; values = stored_from a.storage storage h.registers.storage }),
+  ),
+)
 
 -- One state for each abstract state.
 
@@ -106,7 +114,7 @@ one_state t u ht hu e =
     let functions : t.functions ≡ u.functions = ap (λ (a : Abstract). a.functions) e in
     let area : storage_of t.storage ≡ storage_of u.storage = ap (λ (a : Abstract). a.registers.storage) e in
     let storage : t.storage ≡ u.storage =
-      (entry_laws IsNumber).antisymmetric t.storage u.storage ht.1.1.1 hu.1.1.1 (storage_below t.storage u.storage area) (storage_below u.storage t.storage (sym area)) in
+    (entry_laws IsNumber).antisymmetric t.storage u.storage ht.1.1.1 hu.1.1.1 (storage_below t.storage u.storage area) (storage_below u.storage t.storage (sym area)) in
     λ i. record { stack = stack i; graphics = graphics i; functions = functions i; storage = storage i }
 
 -- Lists by rising numbers.
@@ -189,10 +197,10 @@ pub next_state : (s : Setting) (fs : List Frame) (at : ℕ) (a : State) (nexts :
     → outcome_on_cells s fs at (abstract_of a) ≡ Ok nexts → (i : ℕ) (n : Next) → slice_get nexts i ≡ Some n → (t : State) × IsStateOf n.state t
 next_state s fs at a nexts setting short h e i n found =
     state_from n.state
-      (one_of_all (λ n. AreListed n.state.functions n.state.registers.storage) nexts i n
-        (lists_kept s AreListed (λ functions area n offset k _ _. listed_defines functions area n (body_name s.kind offset) k) (λ functions area i c k _. listed_stores functions area i c k)
-          fs at (abstract_of a) nexts short (listed_here a h) e) found)
-      (one_of_all (λ n. IsStateInRange n.state) nexts i n (keeps_range s fs at (abstract_of a) nexts setting (abstract_in_range a h) e) found)
+    (one_of_all (λ n. AreListed n.state.functions n.state.registers.storage) nexts i n
+    (lists_kept s AreListed (λ functions area n offset k _ _. listed_defines functions area n (body_name s.kind offset) k) (λ functions area i c k _. listed_stores functions area i c k)
+    fs at (abstract_of a) nexts short (listed_here a h) e) found)
+    (one_of_all (λ n. IsStateInRange n.state) nexts i n (keeps_range s fs at (abstract_of a) nexts setting (abstract_in_range a h) e) found)
 
 within_here : (s : Setting) (a : State) → FitsLimits s a → AreWithin s a.functions (storage_of a.storage)
 within_here s a h = record { named = h.functions; known = λ i z e. go i z (listed a.storage i) refl e }
@@ -208,9 +216,9 @@ next_fits s fs at a nexts short h e i n found t is =
     let D : Abstract → Type 0 = λ b. length b.stack ≤ s.limits.stack in
     let W : Abstract → Type 0 = λ b. AreWithin s b.functions b.registers.storage in
     let depth : length t.stack ≤ s.limits.stack =
-      subst D (sym is) (one_of_all (λ n. length n.state.stack ≤ s.limits.stack) nexts i n (are_shallow s fs at (abstract_of a) nexts e) found) in
+    subst D (sym is) (one_of_all (λ n. length n.state.stack ≤ s.limits.stack) nexts i n (are_shallow s fs at (abstract_of a) nexts e) found) in
     let within : AreWithin s t.functions (storage_of t.storage) =
-      subst W (sym is)
-        (one_of_all (λ n. AreWithin s n.state.functions n.state.registers.storage) nexts i n
-          (lists_kept s (AreWithin s) (within_defines s) (within_stores s) fs at (abstract_of a) nexts short (within_here s a h) e) found) in
+    subst W (sym is)
+    (one_of_all (λ n. AreWithin s n.state.functions n.state.registers.storage) nexts i n
+    (lists_kept s (AreWithin s) (within_defines s) (within_stores s) fs at (abstract_of a) nexts short (within_here s a h) e) found) in
     record { depth = depth; functions = within.named; storage = λ j z l. within.known j z (ap known_or_not l) }

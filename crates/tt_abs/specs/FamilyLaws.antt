@@ -64,7 +64,7 @@ none_where_apart {P} {S} o f h order laws p s t ds dt apart family good =
     let same : v ≡ u = cc in
     let D : S → Type 0 = λ x. o.SameDepth x t in
     apart (order.depth_transitive s u t (order.one_depth s u below)
-      (subst D same (order.depth_symmetric t v (order.one_depth t v below'))))
+    (subst D same (order.depth_symmetric t v (order.one_depth t v below'))))
 
 -- a family is good where it is fine at each point
 pub good_from_fine : {P S : Type 0} (o : Order S) (f : Flow P S) (family : P → Option S) → IsFamilyInRange o family → CoversAt o family f.entry f.start

@@ -35,6 +35,6 @@ pub record FlowLaws {P S : Type 0} (o : Order S) (f : Flow P S) (height : ℕ) :
   pub fits_height : (s : S) → o.InRange s → f.Fits s → o.left s ≤ height
   -- what more is covered by
   pub refuses_above : (p : P) (a b : S) (r : Reason) → f.IsPoint p → o.InRange a → o.InRange b → o.Below a b → f.Refuses p a r
-    → (r' : Reason) × f.Refuses p b r'
+      → (r' : Reason) × f.Refuses p b r'
   pub gives_above : (p : P) (a b : S) (q : P) (t : S) → f.IsPoint p → o.InRange a → o.InRange b → o.Below a b
-    → ((r : Reason) → f.Refuses p b r → ⊥) → f.Gives p a q t → (u : S) × f.Gives p b q u × o.Below t u
+      → ((r : Reason) → f.Refuses p b r → ⊥) → f.Gives p a q t → (u : S) × f.Gives p b q u × o.Below t u
