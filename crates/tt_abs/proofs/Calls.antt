@@ -1,6 +1,6 @@
 -- CALL, LOOPCALL and ENDF: what they do on cells stands for what the machine does. The function that is called is the one that all
 -- covered machines call, and a count that isn't known leads to more lists of frames than a program may have.
-use Rattle.std.specs.Prelude.{ℤ, pos, negsuc, ◌<◌, ◌≤◌, ◌^◌, nat_lt, nat_le, not, slice_get, Option, ◌&&◌, ◌||◌, if◌then◌else◌}
+use Rattle.std.specs.Prelude.{ℤ, pos, negsuc, ◌<◌, ◌≤◌, nat_lt, nat_le, not, slice_get, Option, ◌&&◌, ◌||◌, if◌then◌else◌}
 use Rattle.std.proofs.Common.{◌≡◌, ℕ, zero, suc, ◌+◌, List, [], ◌∷◌, Ok, Err, Some, None, refl, sym, ◌∙◌, ap, subst, inl, inr, arith, rules, length, drop, Bool, true, false}
 use Rattle.tt_code.specs.Refusals.{Tested, ◌>>=◌, holds_or, some_or}
 use Rattle.tt_code.specs.Settings.{Setting, body_offset}
@@ -11,29 +11,28 @@ use Rattle.tt_code.specs.Runs.{within_depth, left_by}
 use Rattle.tt_code.specs.declared.machine.Frame.{Frame}
 use Rattle.tt_code.specs.declared.reason.Reason.{Reason}
 use Rattle.tt_code.specs.declared.reason.Reason.TheVariants as reason
-use Rattle.tt_code.specs.declared.kinds.Control.{Control}
 use Rattle.tt_code.specs.declared.kinds.Control.TheVariants.{Call, LoopCall, EndFunction}
 use Rattle.tt_abs.specs.declared.cells.Cell.{Cell}
 use Rattle.tt_abs.specs.declared.cells.Cell.TheVariants.{Known, Unknown}
 use Rattle.tt_abs.specs.Cells.{Covers, CoversStack, CoversFunctions, Abstract}
-use Rattle.tt_abs.specs.Covers.{Stands, Becomes, TransfersTo, MOST_CONTEXTS, SomeFaults, SomeRecurs, ManyFrames, Gives, StandsFor, has_body_twice}
-use Rattle.tt_abs.specs.Transfers.{Next, one_way, known, leaves_cells, called_cell, is_running, enters_cells, loops_cells, returns_cells, controlled_cells, are_within, within_cells}
+use Rattle.tt_abs.specs.Covers.{Stands, Becomes, TransfersTo, MOST_CONTEXTS, ManyFrames, StandsFor, has_body_twice}
+use Rattle.tt_abs.specs.Transfers.{Next, one_way, known, leaves_cells, called_cell, is_running, enters_cells, loops_cells, returns_cells, controlled_cells, within_cells}
 use Rattle.tt_abs.proofs.Choosing.{minus_one_is_number, some_stack, some_graphics}
 use Rattle.tt_abs.proofs.Bests.{IsBestStack, best_drop}
 use Rattle.tt_abs.proofs.Machines.{May, zeros, machine_with, machine_stands, some_area, area_covered, some_machine, stack_best, registers_best, transfers_same}
 use Rattle.tt_abs.proofs.Ways.{becomes_as, covers_same, one_entry, becomes_of}
 use Rattle.tt_abs.proofs.Depth.{depth_of_ways}
-use Rattle.tt_abs.proofs.Branches.{there, stands_there, fails_there}
-use Rattle.tt_abs.proofs.Places.{LeadTo, leads_one, RunOnce, settled_stands, settled_within}
+use Rattle.tt_abs.proofs.Branches.{there, fails_there}
+use Rattle.tt_abs.proofs.Places.{leads_one, RunOnce, settled_stands, settled_within}
 
--- What is said of any instruction is said of machines that stand there alone, and of more machines where it is refused.
+-- What is said of any instruction may be said of the machines that stand there alone.
 
 pub stands_for_as : (a : Abstract) (fs : List Frame) (at : ℕ) (does other : Machine → Tested Outcome) (r : Tested (List Next)) → ((m : Machine) → Stands a fs at m → other m ≡ does m)
     → StandsFor a fs at does r → StandsFor a fs at other r
 stands_for_as a fs at does other (Err q) same h = elim h [
-  inl h ↦ let (m, r, st, e) = h in inl (m, r, st, same m st ∙ e)
+  | inl h ↦ let (m, r, st, e) = h in inl (m, r, st, same m st ∙ e)
   | inr h ↦ elim h [
-    inl h ↦ let (m, w, twice) = h in inr (inl (m, becomes_as a fs at other does (λ m st. sym (same m st)) m w, twice))
+    | inl h ↦ let (m, w, twice) = h in inr (inl (m, becomes_as a fs at other does (λ m st. sym (same m st)) m w, twice))
     | inr h ↦ inr (inr (record {
       lists = h.lists;
       many = h.many;

@@ -1,6 +1,6 @@
 -- The frames of next places: where each call is in one of its turns and no body runs twice, that holds of them too.
 use Rattle.std.specs.Prelude.{ℤ, pos, negsuc, ◌<◌, ◌≤◌, ◌^◌, nat_lt, nat_le, not, slice_get, Option, ◌||◌, if◌then◌else◌}
-use Rattle.std.proofs.Common.{◌≡◌, ℕ, zero, suc, ◌+◌, List, [], ◌∷◌, Ok, Err, Some, None, refl, subst, arith, rules, length, Bool, true, false}
+use Rattle.std.proofs.Common.{◌≡◌, ℕ, zero, suc, ◌+◌, List, [], ◌∷◌, Ok, Err, Some, None, refl, subst, arith, length, Bool, true, false}
 use Rattle.std.proofs.lemmas.Bool.{ltb-true}
 use Rattle.std.proofs.lemmas.Int.{ints}
 use Rattle.tt_code.specs.Refusals.{Tested, ◌>>=◌, holds_or}
@@ -11,7 +11,6 @@ use Rattle.tt_code.specs.States.{IsNumber}
 use Rattle.tt_code.specs.Operands.{top}
 use Rattle.tt_code.specs.declared.machine.Frame.{Frame}
 use Rattle.tt_code.specs.declared.reason.Reason.TheVariants as reason
-use Rattle.tt_code.specs.declared.kinds.Control.{Control}
 use Rattle.tt_code.specs.declared.kinds.Control.TheVariants.{If, Else, Jump, JumpIfTrue, JumpIfFalse, Call, LoopCall, FunctionDefinition, EndFunction, InstructionDefinition}
 use Rattle.tt_abs.specs.declared.cells.Cell.{Cell}
 use Rattle.tt_abs.specs.declared.cells.Cell.TheVariants.{Known, Unknown}
@@ -19,7 +18,7 @@ use Rattle.tt_abs.specs.Cells.{Abstract}
 use Rattle.tt_abs.specs.Ranges.{IsInRange, AreInRange}
 use Rattle.tt_abs.specs.Covers.{has_body_twice}
 use Rattle.tt_abs.specs.Contexts.{FrameFits, FramesFit}
-use Rattle.tt_abs.specs.Transfers.{Next, one_way, known, leaves_cells, called_cell, is_running, enters_cells, loops_cells, returns_cells, does_cells, controlled_cells, performs_cells, within_cells, instruction_of, outcome_on_cells}
+use Rattle.tt_abs.specs.Transfers.{Next, one_way, known, leaves_cells, called_cell, is_running, enters_cells, loops_cells, returns_cells, does_cells, controlled_cells, performs_cells, instruction_of, outcome_on_cells}
 use Rattle.tt_abs.proofs.Places.{LeadTo, leads_after, leads_one, leads_within, does_leads}
 use Rattle.tt_abs.proofs.Calls.{called_frames}
 

@@ -1,8 +1,8 @@
 -- Any instruction: the outcome on cells is refused exactly if some covered machine faults, comes to run a body twice, or covered
 -- machines come to more lists of frames than a program may have; else it gives the smallest covers of what they become. So the
 -- machine's steps are covered, and what is covered by more is refused wherever less is.
-use Rattle.std.specs.Prelude.{◌≢◌, ℤ, slice_get, ◌<◌, ◌≤◌, ◌^◌, Option}
-use Rattle.std.proofs.Common.{◌≡◌, ℕ, zero, suc, ◌+◌, List, [], ◌∷◌, Ok, Err, Some, None, refl, sym, ◌∙◌, ap, subst, inl, inr, arith, length, true}
+use Rattle.std.specs.Prelude.{◌≢◌, ◌↔◌, slice_get, ◌<◌, ◌≤◌, ◌^◌, Option}
+use Rattle.std.proofs.Common.{◌≡◌, ℕ, suc, ◌+◌, List, [], ◌∷◌, Ok, Err, Some, None, refl, sym, ◌∙◌, ap, subst, inl, inr, arith, length, true}
 use Rattle.std.proofs.lemmas.Option.{slice_get_within}
 use Rattle.tt_code.specs.Refusals.{Tested, ◌>>=◌}
 use Rattle.tt_code.specs.Table.{Meaning, NoEntry, Plain, Pushes, Stack, Computes, Controls, Lists, effect_of}
@@ -18,7 +18,7 @@ use Rattle.tt_code.specs.declared.kinds.Control.{Control}
 use Rattle.tt_code.specs.declared.kinds.Control.TheVariants.{If, Else, Jump, JumpIfTrue, JumpIfFalse, Call, LoopCall, FunctionDefinition, EndFunction, InstructionDefinition}
 use Rattle.tt_abs.specs.Cells.{Abstract, CoversState}
 use Rattle.tt_abs.specs.Ranges.{AreInRange}
-use Rattle.tt_abs.specs.Covers.{Stands, Becomes, MOST_CONTEXTS, SomeFaults, ManyFrames, IsRefused, Gives, StandsFor}
+use Rattle.tt_abs.specs.Covers.{Stands, Becomes, MOST_CONTEXTS, IsRefused, Gives, StandsFor}
 use Rattle.tt_abs.specs.Followed.{is_followed}
 use Rattle.tt_abs.specs.Transfers.{Next, does_cells, controlled_cells, performs_cells, within_cells, instruction_of, outcome_on_cells}
 use Rattle.tt_abs.proofs.Rows.{is_readable_line}
@@ -84,6 +84,10 @@ module _ (s : Setting) (fs : List Frame) (at : ℕ) (a : Abstract) (small : at <
       stands_for_as a fs at (λ m. performs s m (instruction_of s fs at)) (λ m. performs s m (fetched s m)) (performs_cells s fs at a (instruction_of s fs at))
       (λ m st. ap (λ x. performs s m (fetched s x)) (stands_there s fs at a m st)) (all_performs (instruction_of s fs at))
 
+-- what is said of next places that are given
+pub outcome_gives : (s : Setting) (fs : List Frame) (at : ℕ) (a : Abstract) (ns : List Next) → at < 2 ^ 31 → AreInRange a.stack → RunOnce fs → outcome_on_cells s fs at a ≡ Ok ns → Gives a fs at (outcome s) ns
+outcome_gives s fs at a ns small fits once e = let R : Tested (List Next) → Type 0 = λ r. StandsFor a fs at (outcome s) r in subst R e (everything_stands s fs at a small fits once)
+
 -- What follows of runs.
 
 -- where the outcome on cells isn't refused, a covered machine doesn't fault
@@ -138,29 +142,40 @@ not_many os few (g ∷ h ∷ k ∷ lists) many apart found =
     let in_l = slice_get_within os l q v in
     omega arith
 
+-- what covers more isn't given where what covers less is refused
+pub more_is_refused : (a b : Abstract) (fs : List Frame) (at : ℕ) (does : Machine → Tested Outcome) (os : List Next) → ((m : Machine) → CoversState a m → CoversState b m)
+    → IsRefused a fs at does → Gives b fs at does os → ⊥
+more_is_refused a b fs at does os wider h k = elim h [
+  | inl h ↦
+      let (m, r, st, f) = h in
+      let (o, g) = k.none_faults m (record { covered = wider m st.covered; frames_are = st.frames_are; offset_is = st.offset_is }) in
+      let no_such : Ok o ≡ Err r = sym g ∙ f in absurd (cc)
+  | inr h ↦ elim h [
+    | inl h ↦ let (m, w, twice) = h in k.none_recurs (m, becomes_more a b fs at does wider m w, twice)
+    | inr h ↦ not_many os k.few h.lists h.many h.apart (λ i gs f.
+        let (m, w, g) = h.each i gs f in
+        let (j, o, is, p, q) = k.covers.places m (becomes_more a b fs at does wider m w) in (j, o, is, sym g ∙ p))
+  ]
+]
+
 pub outcome_monotone : (s : Setting) (fs : List Frame) (at : ℕ) (a b : Abstract) (os : List Next) → at < 2 ^ 31 → AreInRange a.stack → AreInRange b.stack → RunOnce fs
     → ((m : Machine) → CoversState a m → CoversState b m) → outcome_on_cells s fs at b ≡ Ok os → (ns : List Next) × (outcome_on_cells s fs at a ≡ Ok ns) × AreBelow ns os
 outcome_monotone s fs at a b os small fits_a fits_b once wider e =
     let R : Tested (List Next) → Type 0 = λ r. StandsFor b fs at (outcome s) r in
     less (outcome_on_cells s fs at a) (everything_stands s fs at a small fits_a once) (subst R e (everything_stands s fs at b small fits_b once))
   where
-    more : (m : Machine) → Becomes a fs at (outcome s) m → Becomes b fs at (outcome s) m
-    more m w = becomes_more a b fs at (outcome s) wider m w
-
-    not_refused : IsRefused a fs at (outcome s) → Gives b fs at (outcome s) os → ⊥
-    not_refused h k = elim h [
-      inl h ↦
-        let (m, r, st, f) = h in
-        let (o, g) = k.none_faults m (record { covered = wider m st.covered; frames_are = st.frames_are; offset_is = st.offset_is }) in
-        let no_such : Ok o ≡ Err r = sym g ∙ f in absurd (cc)
-      | inr h ↦ elim h [
-        inl h ↦ let (m, w, twice) = h in k.none_recurs (m, more m w, twice)
-        | inr h ↦ not_many os k.few h.lists h.many h.apart (λ i gs f.
-          let (m, w, g) = h.each i gs f in
-          let (j, o, is, p, q) = k.covers.places m (more m w) in (j, o, is, sym g ∙ p))
-      ]
-    ]
-
     less : (r : Tested (List Next)) → StandsFor a fs at (outcome s) r → Gives b fs at (outcome s) os → (ns : List Next) × (r ≡ Ok ns) × AreBelow ns os
-    less (Err q) h k = absurd (not_refused h k)
+    less (Err q) h k = absurd (more_is_refused a b fs at (outcome s) os wider h k)
     less (Ok ns) h k = monotone_ways a b fs at (outcome s) (Ok ns) os wider (h.none_faults, h.covers) (k.none_faults, k.covers)
+
+-- The outcome on cells is refused exactly where some covered machine faults or comes to run a body twice, or they come to too many
+-- lists of frames.
+pub refused_exactly : (s : Setting) (fs : List Frame) (at : ℕ) (a : Abstract) → at < 2 ^ 31 → AreInRange a.stack → RunOnce fs → ((r : Reason) × (outcome_on_cells s fs at a ≡ Err r)) ↔ IsRefused a fs at (outcome s)
+refused_exactly s fs at a small fits once = (why, refused (outcome_on_cells s fs at a) (everything_stands s fs at a small fits once))
+  where
+    why : (r : Reason) × (outcome_on_cells s fs at a ≡ Err r) → IsRefused a fs at (outcome s)
+    why h = let R : Tested (List Next) → Type 0 = λ r. StandsFor a fs at (outcome s) r in subst R h.1 (everything_stands s fs at a small fits once)
+
+    refused : (t : Tested (List Next)) → StandsFor a fs at (outcome s) t → IsRefused a fs at (outcome s) → (r : Reason) × (t ≡ Err r)
+    refused (Err r) h k = (r, refl)
+    refused (Ok ns) h k = absurd (more_is_refused a a fs at (outcome s) ns (λ m c. c) k h)

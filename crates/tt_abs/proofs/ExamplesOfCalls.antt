@@ -1,7 +1,6 @@
 -- What CALL, LOOPCALL and ENDF make of abstract states.
 use Rattle.std.specs.Prelude.{pos, negsuc}
 use Rattle.std.proofs.Common.{◌≡◌, ℕ, List, [], ◌∷◌, Ok, Err, refl}
-use Rattle.tt_code.specs.Refusals.{Tested}
 use Rattle.tt_code.specs.Table.{effect_of}
 use Rattle.tt_code.specs.Structure.{word}
 use Rattle.tt_code.specs.Settings.{Setting, GlyphProgram}

@@ -1,6 +1,6 @@
 -- Where next states stand: an instruction that stays in its body keeps the frames, so what it becomes runs no body twice.
-use Rattle.std.specs.Prelude.{ℤ, nat_eq, nat_lt, nat_le, slice_get, ◌≤◌, not, Option, if◌then◌else◌}
-use Rattle.std.proofs.Common.{◌≡◌, ℕ, zero, suc, ◌+◌, List, [], ◌∷◌, Ok, Err, Some, None, refl, sym, ◌∙◌, ap, subst, inl, inr, arith, length, Bool, true, false}
+use Rattle.std.specs.Prelude.{ℤ, nat_eq, nat_lt, slice_get, ◌≤◌, not, if◌then◌else◌}
+use Rattle.std.proofs.Common.{◌≡◌, ℕ, zero, suc, ◌+◌, List, [], ◌∷◌, Ok, Err, Some, sym, ◌∙◌, ap, subst, inl, arith, length, Bool, true, false}
 use Rattle.tt_code.specs.Refusals.{Tested, ◌>>=◌, holds_or, some_or}
 use Rattle.tt_code.specs.Table.{Meaning, NoEntry, Plain, Pushes, Stack, Computes, Controls}
 use Rattle.tt_code.specs.Structure.{after_if, after_else, after_fdef}

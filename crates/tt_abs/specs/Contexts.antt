@@ -1,5 +1,5 @@
 -- The calls that haven't returned, as programs of this profile come to them.
-use Rattle.std.specs.Prelude.{◌≡◌, ℕ, ◌<◌, ◌≤◌, ◌^◌, List, [], ◌∷◌, false}
+use Rattle.std.specs.Prelude.{◌≡◌, ◌<◌, ◌≤◌, ◌^◌, List, false}
 use Rattle.std.specs.List.{AllByRecursion}
 use Rattle.tt_code.specs.declared.machine.Frame.{Frame}
 use Rattle.tt_abs.specs.Covers.{has_body_twice}
