@@ -36,3 +36,5 @@ pub mod Everything
 pub mod Contexts
 mod ExamplesOfCalls
 pub mod Soundness
+pub mod CutPrograms
+mod ExamplesOfFlows
