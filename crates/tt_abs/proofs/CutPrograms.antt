@@ -1,7 +1,7 @@
 -- Programs that are cut from bytes: their instructions are bytes, and short where the program is.
 use Rattle.std.specs.Prelude.{◌^◌}
 use Rattle.std.specs.List.{AllByRecursion, concat}
-use Rattle.std.proofs.Common.{◌≡◌, ℕ, ◌+◌, ◌<◌, List, [], ◌∷◌, ◌++◌, length, length-append, refl, sym, subst, arith}
+use Rattle.std.proofs.Common.{◌≡◌, ℕ, ◌<◌, List, [], ◌∷◌, ◌++◌, length, length-append, refl, sym, subst, arith}
 use Rattle.tt_code.specs.Cut.{Instruction, IsCut, size}
 use Rattle.tt_abs.specs.Ranges.{AreBytes}
 

@@ -9,7 +9,6 @@ use Rattle.tt_code.specs.Table.{effect_of}
 use Rattle.tt_code.specs.declared.machine.Frame.{Frame}
 use Rattle.tt_code.specs.declared.reason.Reason.{Reason}
 use Rattle.tt_abs.specs.declared.state.State.{State}
-use Rattle.tt_abs.specs.Cells.{Abstract}
 use Rattle.tt_abs.specs.Families.{CoversAt, IsGood}
 use Rattle.tt_abs.specs.Flows.{FlowLaws}
 use Rattle.tt_abs.specs.Ranges.{IsSettingInRange}
