@@ -31,9 +31,17 @@ pub mod TakenLemmas
 pub mod PlainSteps
 pub mod TargetLemmas
 pub mod CalledLemmas
+pub mod Heights
+pub mod ListsKept
+pub mod Offsets
+pub mod StateParts
+pub mod FlowOfStates
 pub mod Places
 pub mod Calls
 pub mod Everything
 pub mod Contexts
 mod ExamplesOfCalls
 pub mod StepLemmas
+pub mod Soundness
+pub mod CutPrograms
+mod ExamplesOfFlows

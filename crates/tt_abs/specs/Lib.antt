@@ -24,4 +24,9 @@ pub mod EntryFacts
 pub mod EntryCoverage
 pub mod Ranges
 pub mod Followed
+pub mod Flows
+pub mod Families
+pub mod FamilyLaws
+pub mod StateFlow
 pub mod Contexts
+pub mod Soundness

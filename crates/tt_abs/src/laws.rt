@@ -1,9 +1,10 @@
-//! Laws of orders. The functions here do nothing: their contracts are the laws.
+//! Laws of orders, and of the flow of abstract states. The functions here do nothing: their contracts are the laws.
 
 ghost use Rattle.tt_abs.specs.Cells.{Covers, CoversStack, CoversState, CoversZone};
 ghost use Rattle.tt_abs.specs.CellOrders.{cell_order, zone_order};
 ghost use Rattle.tt_abs.specs.Coverage.{IsCoverage};
 ghost use Rattle.tt_abs.specs.Stacks.{stack_order};
+ghost use Rattle.tt_abs.specs.StateFlow.{HasFlowLaws};
 ghost use Rattle.tt_abs.specs.States.{abstract_of, state_order};
 
 /// One value is below another exactly if that one covers all that it covers.
@@ -12,4 +13,10 @@ pub fn below_is_coverage()
     ensures of_zones { IsCoverage zone_order CoversZone }
     ensures of_stacks { IsCoverage stack_order CoversStack }
     ensures of_states { IsCoverage state_order (λ state machine. CoversState (abstract_of state) machine) }
+{}
+
+/// What a transfer refuses and gives, state by state, is a monotone flow of finite height: of each font's limits and programs, and
+/// of each list of functions by rising numbers that is within the limits.
+pub fn flow_laws()
+    ensures { HasFlowLaws }
 {}
