@@ -179,3 +179,7 @@ refused_exactly s fs at a small fits once = (why, refused (outcome_on_cells s fs
     refused : (t : Tested (List Next)) → StandsFor a fs at (outcome s) t → IsRefused a fs at (outcome s) → (r : Reason) × (t ≡ Err r)
     refused (Err r) h k = (r, refl)
     refused (Ok ns) h k = absurd (more_is_refused a a fs at (outcome s) ns (λ m c. c) k h)
+
+-- what is said of a refusal
+pub outcome_refused : (s : Setting) (fs : List Frame) (at : ℕ) (a : Abstract) (r : Reason) → at < 2 ^ 31 → AreInRange a.stack → RunOnce fs → outcome_on_cells s fs at a ≡ Err r → IsRefused a fs at (outcome s)
+outcome_refused s fs at a r small fits once e = let R : Tested (List Next) → Type 0 = λ r. StandsFor a fs at (outcome s) r in subst R e (everything_stands s fs at a small fits once)

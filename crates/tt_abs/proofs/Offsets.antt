@@ -79,7 +79,7 @@ in_body body.Main None end offset e h = absurd (cc)
 in_body (body.Function a) None end offset e h = absurd (cc)
 in_body (body.Instruction a) None end offset e h = absurd (cc)
 
-starts_within : (s : Setting) (fs : List Frame) (at : ℕ) → starts_in_body s fs at ≡ true → at ≤ size (program_of s fs)
+pub starts_within : (s : Setting) (fs : List Frame) (at : ℕ) → starts_in_body s fs at ≡ true → at ≤ size (program_of s fs)
 starts_within s fs at e =
     let le : at ≤ 0 + size (program_of s fs) = in_body (body_of fs) (body_at (program_of s fs) at) (0 + size (program_of s fs)) at e (body_within body.Main 0 (program_of s fs) at) in omega arith
 
