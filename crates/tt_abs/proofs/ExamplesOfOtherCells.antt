@@ -5,7 +5,7 @@ use Rattle.tt_code.specs.declared.reason.Reason.TheVariants as reason
 use Rattle.tt_code.proofs.Running.{usual_limits}
 use Rattle.tt_abs.specs.declared.cells.Cell.TheVariants.{Known, Unknown}
 use Rattle.tt_abs.specs.declared.cells.ZoneCell.TheVariants.{Either}
-use Rattle.tt_abs.proofs.RunningOnCells.{k, lowest, highest, zones, shown, each_faults, each_stack_leaves, each_leads, each_is_refused, each_is_refused_by, stack_after, in_font_program, in_cvt_program}
+use Rattle.tt_abs.proofs.RunningOnCells.{k, lowest, highest, zones, shown, each_faults, each_stack_leaves, each_leads, each_is_refused, each_is_refused_by, stack_after, in_font_program, in_cvt_program, call_of, called, at_place, defines_a_function, glyph_does, function_calls, body_does}
 
 -- Pushes. Bytes are unsigned, words are signed with the high byte first, and the last number is on top.
 pushb_pushes_one_byte :
@@ -869,31 +869,156 @@ fdef_is_refused_in_a_glyph_program :
 unfolding shown
 fdef_is_refused_in_a_glyph_program = refl
 
--- A call needs a number, which is known, and a function of that number.
-calls_need_a_function :
-    each_is_refused (0x2b ∷ 0x18 ∷ []) 0 ((k 0 ∷ []) ∷ []) reason.Function
+-- Calls: a frame is a body, the offset of the call, its turn and how many there are.
+call_enters_the_body_of_a_function :
+    glyph_does usual_limits 0x2b (k 0 ∷ k 9 ∷ []) ≡ at_place (call_of 3 1 1 1 ∷ []) 3 (k 9 ∷ [])
 unfolding shown
-calls_need_a_function = refl
+call_enters_the_body_of_a_function = refl
 
-calls_refuse_an_unknown_number :
-    each_is_refused (0x2b ∷ 0x18 ∷ []) 0 ((Unknown ∷ []) ∷ []) reason.UnknownOperand
+call_looks_into_no_other_cell :
+    glyph_does usual_limits 0x2b (k 0 ∷ Unknown ∷ []) ≡ at_place (call_of 3 1 1 1 ∷ []) 3 (Unknown ∷ [])
 unfolding shown
-calls_refuse_an_unknown_number = refl
+call_looks_into_no_other_cell = refl
 
-calls_need_a_number :
-    each_is_refused (0x2b ∷ 0x18 ∷ []) 0 ([] ∷ []) reason.Underflow
+call_enters_a_function_of_the_cvt_program :
+    called usual_limits [] defines_a_function (0x18 ∷ 0x2b ∷ 0x18 ∷ []) ((0, 2147483651) ∷ []) [] 1 (k 0 ∷ []) ≡ at_place (call_of 2147483651 1 1 1 ∷ []) 3 []
 unfolding shown
-calls_need_a_number = refl
+call_enters_a_function_of_the_cvt_program = refl
 
-loops_of_calls_need_a_function :
-    each_is_refused (0x2a ∷ 0x18 ∷ []) 0 ((k 0 ∷ k 1 ∷ []) ∷ []) reason.Function
+a_body_calls_another_function :
+    called usual_limits function_calls defines_a_function (0x18 ∷ []) ((0, 1) ∷ (1, 2147483651) ∷ []) (call_of 1 0 1 1 ∷ []) 2 (k 1 ∷ k 9 ∷ []) ≡ at_place (call_of 2147483651 2 1 1 ∷ call_of 1 0 1 1 ∷ []) 3 (k 9 ∷ [])
 unfolding shown
-loops_of_calls_need_a_function = refl
+a_body_calls_another_function = refl
 
-the_main_program_returns_nowhere :
-    each_is_refused (0x2d ∷ 0x18 ∷ []) 0 ((Unknown ∷ []) ∷ [] ∷ []) reason.Target
+call_refuses_a_function_that_is_not_known :
+    glyph_does usual_limits 0x2b (k 1 ∷ []) ≡ Err reason.Function
 unfolding shown
-the_main_program_returns_nowhere = refl
+call_refuses_a_function_that_is_not_known = refl
+
+call_refuses_a_number_at_the_limit :
+    called usual_limits defines_a_function [] (0x18 ∷ 0x2b ∷ 0x18 ∷ []) ((2, 3) ∷ []) [] 1 (k 2 ∷ []) ≡ Err reason.Function
+unfolding shown
+call_refuses_a_number_at_the_limit = refl
+
+call_refuses_a_negative_number :
+    glyph_does usual_limits 0x2b (Known (negsuc 0) ∷ []) ≡ Err reason.Function
+unfolding shown
+call_refuses_a_negative_number = refl
+
+call_refuses_an_unknown_number :
+    glyph_does usual_limits 0x2b (Unknown ∷ []) ≡ Err reason.UnknownOperand
+unfolding shown
+call_refuses_an_unknown_number = refl
+
+call_needs_a_number :
+    glyph_does usual_limits 0x2b [] ≡ Err reason.Underflow
+unfolding shown
+call_needs_a_number = refl
+
+call_refuses_a_body_that_runs_already :
+    body_does usual_limits (call_of 1 0 1 1 ∷ []) 2 (k 0 ∷ []) ≡ Err reason.Recursion
+unfolding shown
+call_refuses_a_body_that_runs_already = refl
+
+call_refuses_a_body_that_an_outer_call_runs :
+    called usual_limits function_calls (0x2c ∷ 0x2b ∷ 0x2d ∷ []) (0x18 ∷ []) ((0, 1) ∷ []) (call_of 2147483649 2 1 1 ∷ call_of 1 0 1 1 ∷ []) 1 (k 0 ∷ []) ≡ Err reason.Recursion
+unfolding shown
+call_refuses_a_body_that_an_outer_call_runs = refl
+
+call_tests_the_depth_before_it_looks_for_recursion :
+    body_does (record usual_limits { stack = 2 }) (call_of 1 0 1 1 ∷ []) 2 (k 0 ∷ k 3 ∷ k 2 ∷ k 1 ∷ []) ≡ Err reason.Overflow
+unfolding shown
+call_tests_the_depth_before_it_looks_for_recursion = refl
+
+call_may_leave_the_deepest_stack :
+    glyph_does (record usual_limits { stack = 2 }) 0x2b (k 0 ∷ k 2 ∷ k 1 ∷ []) ≡ at_place (call_of 3 1 1 1 ∷ []) 3 (k 2 ∷ k 1 ∷ [])
+unfolding shown
+call_may_leave_the_deepest_stack = refl
+
+loopcall_enters_a_body_for_so_many_turns :
+    glyph_does usual_limits 0x2a (k 0 ∷ k 3 ∷ k 9 ∷ []) ≡ at_place (call_of 3 1 1 3 ∷ []) 3 (k 9 ∷ [])
+unfolding shown
+loopcall_enters_a_body_for_so_many_turns = refl
+
+loopcall_goes_on_where_its_count_is_zero :
+    glyph_does usual_limits 0x2a (k 0 ∷ k 0 ∷ k 9 ∷ []) ≡ at_place [] 2 (k 9 ∷ [])
+unfolding shown
+loopcall_goes_on_where_its_count_is_zero = refl
+
+loopcall_goes_on_where_its_count_is_negative :
+    glyph_does usual_limits 0x2a (k 0 ∷ Known (negsuc 0) ∷ k 9 ∷ []) ≡ at_place [] 2 (k 9 ∷ [])
+unfolding shown
+loopcall_goes_on_where_its_count_is_negative = refl
+
+loopcall_of_nothing_goes_on_in_the_body_too :
+    body_does usual_limits (call_of 1 0 1 1 ∷ []) 1 (k 0 ∷ k 0 ∷ []) ≡ at_place (call_of 1 0 1 1 ∷ []) 2 []
+unfolding shown
+loopcall_of_nothing_goes_on_in_the_body_too = refl
+
+loopcall_by_a_negative_count_goes_on_in_the_body_too :
+    body_does usual_limits (call_of 1 0 1 1 ∷ []) 1 (k 0 ∷ Known (negsuc 0) ∷ []) ≡ at_place (call_of 1 0 1 1 ∷ []) 2 []
+unfolding shown
+loopcall_by_a_negative_count_goes_on_in_the_body_too = refl
+
+loopcall_refuses_an_unknown_count :
+    glyph_does usual_limits 0x2a (k 0 ∷ Unknown ∷ []) ≡ Err reason.UnknownOperand
+unfolding shown
+loopcall_refuses_an_unknown_count = refl
+
+loopcall_refuses_an_unknown_number :
+    glyph_does usual_limits 0x2a (Unknown ∷ k 0 ∷ []) ≡ Err reason.UnknownOperand
+unfolding shown
+loopcall_refuses_an_unknown_number = refl
+
+loopcall_refuses_a_function_that_is_not_known_whatever_its_count :
+    glyph_does usual_limits 0x2a (k 1 ∷ k 0 ∷ []) ≡ Err reason.Function
+unfolding shown
+loopcall_refuses_a_function_that_is_not_known_whatever_its_count = refl
+
+loopcall_needs_a_number :
+    glyph_does usual_limits 0x2a [] ≡ Err reason.Underflow
+unfolding shown
+loopcall_needs_a_number = refl
+
+loopcall_needs_a_count :
+    glyph_does usual_limits 0x2a (k 0 ∷ []) ≡ Err reason.Underflow
+unfolding shown
+loopcall_needs_a_count = refl
+
+loopcall_refuses_a_body_that_runs_already :
+    body_does usual_limits (call_of 1 0 1 1 ∷ []) 1 (k 0 ∷ k 1 ∷ []) ≡ Err reason.Recursion
+unfolding shown
+loopcall_refuses_a_body_that_runs_already = refl
+
+loopcall_tests_the_depth_before_it_looks_for_recursion :
+    body_does (record usual_limits { stack = 2 }) (call_of 1 0 1 1 ∷ []) 1 (k 0 ∷ k 1 ∷ k 3 ∷ k 2 ∷ k 1 ∷ []) ≡ Err reason.Overflow
+unfolding shown
+loopcall_tests_the_depth_before_it_looks_for_recursion = refl
+
+loopcall_of_nothing_tests_the_depth :
+    glyph_does (record usual_limits { stack = 2 }) 0x2a (k 0 ∷ k 0 ∷ k 3 ∷ k 2 ∷ k 1 ∷ []) ≡ Err reason.Overflow
+unfolding shown
+loopcall_of_nothing_tests_the_depth = refl
+
+endf_leads_to_the_next_turn :
+    body_does usual_limits (call_of 1 0 1 3 ∷ []) 3 (Unknown ∷ []) ≡ at_place (call_of 1 0 2 3 ∷ []) 1 (Unknown ∷ [])
+unfolding shown
+endf_leads_to_the_next_turn = refl
+
+endf_of_the_last_turn_leads_behind_the_call :
+    body_does usual_limits (call_of 1 0 3 3 ∷ []) 3 (Unknown ∷ []) ≡ at_place [] 1 (Unknown ∷ [])
+unfolding shown
+endf_of_the_last_turn_leads_behind_the_call = refl
+
+endf_leads_back_into_the_calling_body :
+    body_does usual_limits (call_of 1 4 1 1 ∷ call_of 2147483649 0 1 2 ∷ []) 3 [] ≡ at_place (call_of 2147483649 0 1 2 ∷ []) 5 []
+unfolding shown
+endf_leads_back_into_the_calling_body = refl
+
+endf_leads_to_the_start_of_a_body_of_the_cvt_program :
+    called usual_limits [] defines_a_function (0x18 ∷ []) [] (call_of 2147483651 0 2 3 ∷ []) 4 [] ≡ at_place (call_of 2147483651 0 3 3 ∷ []) 3 []
+unfolding shown
+endf_leads_to_the_start_of_a_body_of_the_cvt_program = refl
 
 -- Where no instruction of the program starts.
 the_data_of_a_push_is_no_instruction :

@@ -7,6 +7,7 @@ use Rattle.tt_code.specs.Structure.{word}
 use Rattle.tt_code.specs.Settings.{Setting}
 use Rattle.tt_code.specs.Fonts.{font_setting, cvt_setting, glyph_setting}
 use Rattle.tt_code.specs.declared.limits.Limits.{Limits}
+use Rattle.tt_code.specs.declared.machine.Frame.{Frame}
 use Rattle.tt_code.specs.declared.reason.Reason.{Reason}
 use Rattle.tt_code.specs.declared.reason.Reason.TheVariants as reason
 use Rattle.tt_code.proofs.Running.{usual_limits, wide_twilight, font_of, cut_of, cut_within, alone}
@@ -171,7 +172,50 @@ unfoldable pub in_cvt_program : List ℕ → ℕ → List Cell → List (ℕ × 
 unfolding functions_by cut_within
 in_cvt_program program = functions_by (cvt_setting (font_of usual_limits [] program))
 
+-- Calls, from a glyph program with 4 points and 1 contour or from the body of a function.
+
+-- a call of a body from an offset, in a turn of so many
+abbrev pub call_of : ℕ → ℕ → ℕ → ℕ → Frame
+call_of body offset turn count = record { body = body; call = offset; turn = turn; count = count }
+
+-- What is seen of where control goes by calls: the calls that haven't returned too.
+pub record InCalls : Type 0 where
+  pub frames : List Frame
+  pub offset : ℕ
+  pub stack : List Cell
+
+abbrev pub in_calls : Tested (List Next) → Tested (List InCalls)
+in_calls (Ok nexts) = Ok (map (λ (n : Next). record { frames = n.frames; offset = n.offset; stack = n.state.stack }) nexts)
+in_calls (Err r) = Err r
+
+-- where the instruction at an offset of the innermost call's program leads, with a font program, a CVT program and a glyph
+-- program, and with these functions
+unfoldable pub called : Limits → List ℕ → List ℕ → List ℕ → List (ℕ × ℕ) → List Frame → ℕ → List Cell → Tested (List InCalls)
+unfolding outcome_on_cells effect_of word cut_within
+called limits f p glyph functions frames offset stack =
+    in_calls (outcome_on_cells (glyph_setting (font_of limits f p) 4 1 (cut_of glyph)) frames offset (record (begins default_cells stack) { functions = functions }))
+
+-- it goes on at one place, with these calls and this stack
+abbrev pub at_place : List Frame → ℕ → List Cell → Tested (List InCalls)
+at_place frames offset stack = Ok (record { frames = frames; offset = offset; stack = stack } ∷ [])
+
+-- a font program that defines the function 0: its body starts at 3, and ends with the ENDF at 4
+abbrev pub defines_a_function : List ℕ
+defines_a_function = 0xb0 ∷ 0x00 ∷ 0x2c ∷ 0x18 ∷ 0x2d ∷ []
+
+-- a glyph program with one of these codes at 1, and the function 0 known with its body at 3 of the font program
+abbrev pub glyph_does : Limits → ℕ → List Cell → Tested (List InCalls)
+glyph_does limits code = called limits defines_a_function [] (0x18 ∷ code ∷ 0x18 ∷ []) ((0, 3) ∷ []) [] 1
+
+-- a font program that defines the function 0: in its body, from 1 on, LOOPCALL stands at 1, CALL at 2, and ENDF at 3
+abbrev pub function_calls : List ℕ
+function_calls = 0x2c ∷ 0x2a ∷ 0x2b ∷ 0x2d ∷ []
+
+-- what stands at an offset of that body does this, where the body runs by these calls
+abbrev pub body_does : Limits → List Frame → ℕ → List Cell → Tested (List InCalls)
+body_does limits = called limits function_calls [] (0x18 ∷ 0x18 ∷ []) ((0, 1) ∷ [])
+
 -- what the proofs about pushes, calculations and control unfold
 unfoldable pub shown : Unit {0}
-unfolding performed ways stack_after in_font_program in_cvt_program
+unfolding performed ways stack_after in_font_program in_cvt_program called
 shown = tt
