@@ -8,7 +8,7 @@ use Rattle.tt_code.specs.Refusals.{Tested, ◌>>=◌, holds_or, some_or}
 use Rattle.tt_code.specs.Table.{Meaning, NoEntry, Plain, Pushes, Stack, Computes, Controls, Lists, effect_of}
 use Rattle.tt_code.specs.Cut.{Instruction, instruction_at, data_behind}
 use Rattle.tt_code.specs.Structure.{after_if, after_else, after_fdef}
-use Rattle.tt_code.specs.Settings.{Setting, program_of, starts_in_body, body_offset, CVT_BODIES}
+use Rattle.tt_code.specs.Settings.{Setting, program_of, body_offset, starts_in_body, CVT_BODIES}
 use Rattle.tt_code.specs.States.{IsNumber, Registers, is_number, is_below, is_true, reference}
 use Rattle.tt_code.specs.Operands.{Taking, top, take_operands}
 use Rattle.tt_code.specs.Changes.{taken_at, updated, all_updated}
@@ -37,7 +37,7 @@ use Rattle.tt_abs.specs.declared.cells.Cell.TheVariants.{Known, Unknown}
 use Rattle.tt_abs.specs.declared.cells.ZoneCell.{ZoneCell}
 use Rattle.tt_abs.specs.Cells.{Abstract}
 use Rattle.tt_abs.specs.Ranges.{IsInRange, AreInRange, AreRegistersInRange, IsStateInRange, AreNextInRange, AreBytes, IsSettingInRange}
-use Rattle.tt_abs.specs.Transfers.{Next, known, take_cells, test_cell_uses, cells, index_in, cells_pushed, cells_on, leaves_cells, plain_cells, pushed_cells, shuffled_cells, exact_cell, truth_cell, only_if, of_known, of_both_known, lt_cells, le_cells, and_cells, or_cells, of_one_cell, of_two_cells, computed_cells, LEAST, GREATEST, one_way, two_ways, jump_target, jumps_cells, jumps_by, jumps_if_cells, if_ways, is_running, called_cell, enters_cells, loops_cells, returns_cells, controlled_cells, goes_on_cells, does_cells, are_within, within_cells, performs_cells, instruction_of, outcome_on_cells}
+use Rattle.tt_abs.specs.Transfers.{Next, known, take_cells, test_cell_uses, cells, index_in, cells_pushed, cells_on, leaves_cells, plain_cells, pushed_cells, shuffled_cells, exact_cell, truth_cell, only_if, of_known, of_both_known, lt_cells, le_cells, and_cells, or_cells, of_one_cell, of_two_cells, computed_cells, LEAST, GREATEST, one_way, two_ways, jump_target, jumps_cells, jumps_by, jumps_if_cells, if_ways, called_cell, is_running, enters_cells, loops_cells, returns_cells, controlled_cells, goes_on_cells, does_cells, are_within, within_cells, performs_cells, instruction_of, outcome_on_cells}
 use Rattle.tt_abs.proofs.Choosing.{zero_is_number, one_is_number}
 use Rattle.tt_abs.proofs.Takes.{StandsFor, operands_stand}
 use Rattle.tt_abs.proofs.Arithmetic.{number_by_test}
@@ -48,11 +48,14 @@ abbrev pub Holds : {A : Type 0} → (A → Type 0) → Tested A → Type 0
 Holds P (Ok x) = P x
 Holds P (Err r) = Unit {0}
 
-pub holds_then : {A B : Type 0} (P : A → Type 0) (Q : B → Type 0) (t : Tested A) (f : A → Tested B) → Holds P t → ((x : A) → P x → Holds Q (f x)) → Holds Q (t >>= f)
+abbrev pub Anything : {A : Type 0} → A → Type 0
+Anything x = Unit {0}
+
+holds_then : {A B : Type 0} (P : A → Type 0) (Q : B → Type 0) (t : Tested A) (f : A → Tested B) → Holds P t → ((x : A) → P x → Holds Q (f x)) → Holds Q (t >>= f)
 holds_then P Q (Ok x) f h k = k x h
 holds_then P Q (Err r) f h k = tt
 
-pub holds_any : {A B : Type 0} (Q : B → Type 0) (t : Tested A) (f : A → Tested B) → ((x : A) → Holds Q (f x)) → Holds Q (t >>= f)
+holds_any : {A B : Type 0} (Q : B → Type 0) (t : Tested A) (f : A → Tested B) → ((x : A) → Holds Q (f x)) → Holds Q (t >>= f)
 holds_any Q (Ok x) f k = k x
 holds_any Q (Err r) f k = tt
 
@@ -350,12 +353,13 @@ module _ (depth : ℕ) (s : Setting) (fs : List Frame) (at : ℕ) (a : Abstract)
   loops_kept name stack (pos (suc n)) h = enters_kept name stack (suc n) h
   loops_kept name stack (negsuc n) h = (left_in_range depth a stack [] fits h tt, tt)
 
-  returns_kept : (gs : List Frame) → Holds (AreKept depth) (returns_cells a gs)
+  returns_kept : (calls : List Frame) → Holds (AreKept depth) (returns_cells a calls)
   returns_kept [] = tt
-  returns_kept (f ∷ gs) = go (nat_lt f.turn f.count)
+  returns_kept (f ∷ calls) = go (nat_lt f.turn f.count)
     where
-      go : (b : Bool) → Holds (AreKept depth)
-          (if b then Ok (one_way (record f { turn = f.turn + 1 } ∷ gs) (body_offset f.body) (leaves_cells a a.stack [])) else Ok (one_way gs (f.call + 1) (leaves_cells a a.stack [])))
+      go : (b : Bool)
+          → Holds (AreKept depth)
+          (if b then Ok (one_way (record f { turn = f.turn + 1 } ∷ calls) (body_offset f.body) (leaves_cells a a.stack [])) else Ok (one_way calls (f.call + 1) (leaves_cells a a.stack [])))
       go true = (left_in_range depth a a.stack [] fits fits.stack tt, tt)
       go false = (left_in_range depth a a.stack [] fits fits.stack tt, tt)
 
