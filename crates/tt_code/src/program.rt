@@ -1,6 +1,7 @@
 //! Programs cut into their instructions, and their structure.
 
 ghost use Rattle.std.specs.Prelude.{◌≡◌, ℕ, ◌+◌, ◌^◌, ◌<◌, ◌≤◌, ◌⊎◌, List, length, Err, Some, IfOk, IfErr, IfSome, IfNone};
+ghost use Rattle.std.specs.List.{AllByRecursion};
 ghost use Rattle.tt_code.specs.Cut.{CannotBeCut, Instruction, IsCut, instruction_at, size};
 ghost use Rattle.tt_code.specs.Faults.{IsMemory, IsMisnested};
 ghost use Rattle.tt_code.specs.Grammar.{GoesTo, IsBodyAt, IsFault, IsStructured, StandsAt};
@@ -16,6 +17,15 @@ use crate::slot::{Slot, body_of, length_at, target_of};
 use crate::word::{Word, word_of_code};
 use std::alloc::Global;
 use std::marker::Model;
+
+/// How many bytes there are.
+fn byte_count(bytes: &[u8]) -> u32
+    requires { length bytes.now < 2 ^ 31 }
+    ensures value { result ≡ length bytes.now }
+    ensures bytes { AllByRecursion (λ b. b < 256) bytes.now }
+{
+    bytes.len() as u32
+}
 
 /// Reads the structure of a program that can be cut.
 fn read_all(alloc: Global, bytes: &[u8]) -> Result<Reading, CodeFault>
@@ -88,8 +98,9 @@ impl<'a> Program<'a> {
     pub fn len(&self) -> u32
         ensures value { result ≡ size self.now }
         ensures small { result < 2 ^ 31 }
+        ensures bytes { AllByRecursion (AllByRecursion (λ b. b < 256)) self.now }
     {
-        self.bytes.len() as u32
+        byte_count(self.bytes)
     }
 
     /// The instruction that starts at the offset, if one does.
