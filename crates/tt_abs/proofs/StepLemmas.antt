@@ -20,7 +20,11 @@ use Rattle.tt_abs.specs.declared.state.State.{State}
 use Rattle.tt_abs.specs.declared.moves.Moves.{Moves}
 use Rattle.tt_abs.specs.declared.moves.Moves.TheVariants as moves
 use Rattle.tt_abs.specs.Moves.{nexts_of}
-use Rattle.tt_abs.specs.States.{abstract_of}
+use Rattle.tt_abs.specs.States.{abstract_of, state_order}
+use Rattle.tt_abs.specs.Entries.{Rises}
+use Rattle.tt_abs.specs.Ranges.{AreNextInRange, IsStateInRange, IsSettingInRange}
+use Rattle.tt_abs.proofs.RangesKept.{keeps_range}
+use Rattle.tt_abs.proofs.StateParts.{abstract_in_range, state_in_range}
 use Rattle.tt_abs.specs.Cells.{Abstract}
 use Rattle.tt_abs.specs.Steps.{ForReason}
 use Rattle.tt_abs.specs.Transfers.{Next, cells_on, pushed_cells, one_way, does_cells, goes_on_cells, performs_cells, within_cells, are_within, instruction_of, outcome_on_cells}
@@ -94,3 +98,14 @@ pub none_at : (s : Setting) (fs : List Frame) (at : ℕ) (a : Abstract) (p : Lis
 unfolding outcome_on_cells
 none_at s fs at a p e f g =
     let none : instruction_of s fs at ≡ None = rw f (ap (λ q. instruction_at q at) (sym e) ∙ sym g) in ap (performs_cells s fs at a) none
+
+-- what is left is in range
+
+first_in_range : (fs : List Frame) (moves : Moves) (a : Abstract) → AreNextInRange (nexts_of fs moves a) → IsStateInRange a
+first_in_range fs (moves.One m) a h = h.0
+first_in_range fs (moves.Two m n) a h = h.0
+
+pub left_in_range : (s : Setting) (fs : List Frame) (at : ℕ) (old new : State) (moves : Moves) → IsSettingInRange s → state_order.InRange old
+    → outcome_on_cells s fs at (abstract_of old) ≡ Ok (nexts_of fs moves (abstract_of new)) → Rises new.functions → Rises new.storage → state_order.InRange new
+left_in_range s fs at old new moves setting h e functions storage =
+    state_in_range new functions storage (first_in_range fs moves (abstract_of new) (keeps_range s fs at (abstract_of old) (nexts_of fs moves (abstract_of new)) setting (abstract_in_range old h) e))

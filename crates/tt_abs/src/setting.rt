@@ -5,7 +5,9 @@ ghost use Rattle.tt_code.specs.Control.{may_define as may_define_functions};
 ghost use Rattle.tt_code.specs.Settings.{One, body_name as name_of_body, body_of as body_of_frames, body_offset as offset_of_body, contours_in, is_body, is_main_end, is_target as is_jump_target, program_of, starts_in_body, zone_size};
 ghost use Rattle.tt_code.specs.Operands.{is_zone as is_zone_number};
 ghost use Rattle.tt_code.specs.States.{is_below};
+ghost use Rattle.tt_abs.specs.Ranges.{IsSettingInRange};
 ghost use Rattle.tt_abs.specs.Settings.{frames_of, setting_of};
+ghost use Rattle.tt_abs.specs.StateFlow.{AreProgramsShort};
 ghost use Rattle.tt_abs.specs.Transfers.{is_below_in, is_point_in};
 
 use crate::cells::{Cell, ZoneCell};
@@ -167,6 +169,17 @@ impl<'a> Setting<'a> {
             ZoneCell::One => is_index(number, self.glyph_contours()),
             ZoneCell::Either => is_index(number, 1) && is_index(number, self.glyph_contours()),
         }
+    }
+
+    /// Says that the programs are of bytes and shorter than 2^31 bytes, and that depths have 16 bits, as they always are.
+    pub fn is_within(&self)
+        ensures range { IsSettingInRange (setting_of self.now) }
+        ensures short { AreProgramsShort (setting_of self.now) }
+    {
+        prove!(self.main.len() < 1 << 31);
+        prove!(self.font.len() < 1 << 31);
+        prove!(self.prep.len() < 1 << 31);
+        prove!(u32::from(self.limits.stack) < 1 << 16);
     }
 
     /// The program in which a point stands.

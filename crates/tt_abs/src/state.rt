@@ -122,6 +122,15 @@ impl State {
         self.functions.as_slice()
     }
 
+    /// Says that the lists of a state rise by their numbers, as they always do.
+    pub(crate) fn rises(&self)
+        ensures functions { Rises self.now.functions }
+        ensures storage { Rises self.now.storage }
+    {
+        let _functions = self.functions.as_slice();
+        let _storage = self.storage.as_slice();
+    }
+
     /// What is known of a storage cell.
     pub fn storage(&self, index: u16) -> Cell
         ensures { result ≡ storage_of self.now.storage index }

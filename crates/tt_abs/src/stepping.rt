@@ -5,7 +5,7 @@ ghost use Rattle.tt_code.specs.Settings.{starts_in_body};
 ghost use Rattle.tt_code.specs.Table.{effect_of};
 ghost use Rattle.tt_abs.specs.Moves.{nexts_of};
 ghost use Rattle.tt_abs.specs.Settings.{frames_of, setting_of};
-ghost use Rattle.tt_abs.specs.States.{abstract_of};
+ghost use Rattle.tt_abs.specs.States.{abstract_of, state_order};
 ghost use Rattle.tt_abs.specs.Steps.{ForReason};
 ghost use Rattle.tt_abs.specs.Transfers.{does_cells, outcome_on_cells};
 
@@ -56,7 +56,9 @@ pub fn step(
     requires { starts_in_body (setting_of setting.now) (frames_of point.now) point.now.offset ≡ true }
     ensures ok { IfOk result (λ m. outcome_on_cells (setting_of setting.now) (frames_of point.now) point.now.offset (abstract_of state.old) ≡ Ok (nexts_of (frames_of point.now) m (abstract_of state.new))) }
     ensures refused { IfErr result (λ e. ForReason e (λ r. outcome_on_cells (setting_of setting.now) (frames_of point.now) point.now.offset (abstract_of state.old) ≡ Err r)) }
+    ensures in_range { state_order.InRange state.old → IfOk result (λ _. state_order.InRange state.new) }
 {
+    setting.is_within();
     let program = setting.program(point);
     let Some(instr) = program.at(point.offset) else {
         return Err(Refusal::Refused(Reason::Target));
@@ -67,5 +69,6 @@ pub fn step(
     if state.stack.len() > usize::from(setting.limits.stack) {
         return Err(Refusal::Refused(Reason::Overflow));
     }
+    state.rises();
     Ok(moves)
 }

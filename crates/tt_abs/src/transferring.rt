@@ -40,6 +40,7 @@ pub fn transfer(
     requires in_range { state_order.InRange state.now }
     ensures outcome { IfOk result (λ s. outcome_on_cells (setting_of setting.now) (frames_of point.now) point.now.offset (abstract_of state.now) ≡ Ok (nexts_of (frames_of point.now) s.moves (abstract_of s.state))) }
     ensures gives { IfOk result (λ s. Gives (abstract_of state.now) (frames_of point.now) point.now.offset (outcome (setting_of setting.now)) (nexts_of (frames_of point.now) s.moves (abstract_of s.state))) }
+    ensures in_range { IfOk result (λ s. state_order.InRange s.state) }
     ensures reason { IfErr result (λ e. ForReason e (λ r. outcome_on_cells (setting_of setting.now) (frames_of point.now) point.now.offset (abstract_of state.now) ≡ Err r)) }
     ensures refused { IfErr result (λ e. ForReason e (λ r. IsRefused (abstract_of state.now) (frames_of point.now) point.now.offset (outcome (setting_of setting.now)))) }
 {

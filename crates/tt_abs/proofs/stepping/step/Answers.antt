@@ -4,7 +4,7 @@ use Rattle.tt_code.specs.declared.reason.Reason.TheVariants as reason
 use Rattle.tt_abs.specs.Settings.{frames_of, setting_of}
 use Rattle.tt_abs.specs.States.{abstract_of}
 use Rattle.tt_abs.specs.Moves.{nexts_of}
-use Rattle.tt_abs.proofs.StepLemmas.{found_at, none_at, performs_not, performs_then, moves_within, moves_beyond, for_reason, passed_on}
+use Rattle.tt_abs.proofs.StepLemmas.{left_in_range, found_at, none_at, performs_not, performs_then, moves_within, moves_beyond, for_reason, passed_on}
 use Rattle.tt_abs.proofs.stepping.step.Goals as goal
 
 pub returns-in_default-clause-refused : goal.returns-in_default-clause-refused
@@ -40,3 +40,8 @@ returns-clause-ok c =
     let fine : length c.act.new.state.stack ≤ c.args.setting.now.limits.stack = omega (arith, c.if-len-from.false, c.from.ensures, c.len-2.ensures.value) in
     performs_then S fs at (abstract_of c.args.state.now) c.in-Some.instr (nexts_of fs c.in_ok-moves.moves (abstract_of c.act.new.state)) true found c.in_ok-moves.ensures.ok c.code.result c.code.ensures
       (moves_within S fs c.in_ok-moves.moves (abstract_of c.act.new.state) fine)
+
+pub returns-clause-in_range : goal.returns-clause-in_range
+returns-clause-in_range c = λ h.
+    left_in_range (setting_of c.args.setting.now) (frames_of c.args.point.now) c.args.point.now.offset c.args.state.now c.act.new.state c.in_ok-moves.moves c.is_within.ensures.range h (returns-clause-ok c)
+      c.rises.ensures.functions c.rises.ensures.storage
