@@ -18,13 +18,13 @@ use Rattle.tt_cert.specs.Numbers.{at-number_of, number_of-is, number_of-le, numb
 use Rattle.tt_cert.specs.Built.{Key, key_cmp, key_of, IsBuilt}
 use Rattle.tt_cert.proofs.Puts.{numbers_apart, then_first, then_second}
 
-no_frame : Frame
+pub no_frame : Frame
 no_frame = record { body = 0; call = 0; turn = 0; count = 0 }
 
-cons_apart : {A : Type 0} (x : A) (xs : List A) → x ∷ xs ≡ [] → ⊥
+pub cons_apart : {A : Type 0} (x : A) (xs : List A) → x ∷ xs ≡ [] → ⊥
 cons_apart x xs e = cc
 
-cons_same : {A : Type 0} (x y : A) (xs ys : List A) → x ∷ xs ≡ y ∷ ys → (xs ≡ ys) × (x ≡ y)
+pub cons_same : {A : Type 0} (x y : A) (xs ys : List A) → x ∷ xs ≡ y ∷ ys → (xs ≡ ys) × (x ≡ y)
 cons_same x y xs ys e = let rest : xs ≡ ys = cc in let first : x ≡ y = cc in (rest, first)
 
 pub keys_apart : (k p : Key) → p ≢ k → is_at (key_cmp k) p ≡ false

@@ -4,7 +4,7 @@ use Rattle.std.specs.declared.cmp.Ordering.{Ordering}
 use Rattle.std.specs.Ordering.{nat_cmp}
 use Rattle.std.specs.Cmp.{IsTotalOrder}
 use Rattle.std.specs.Option.{option_map, option_copied, IsSome, is_some, IfSome}
-use Rattle.std.specs.List.{sum_by}
+use Rattle.std.specs.List.{sum_by, All}
 use Rattle.std.specs.List.Sorted.{IsStrictlySortedBy}
 use Rattle.std.specs.Map.{values_of, keys_of, set_value, lookup}
 use Rattle.std.specs.BTreeMap.{BTreeMap, is_at, insert_entry, get_by, UpdatesBy, WritesThrough, IsOrdered}
@@ -115,6 +115,12 @@ module _ (entries : List (ℕ × Frame)) (index : BTreeMap Key ℕ) (states : Li
 
   pub state_at_point : (c off : ℕ) → c < length v.contexts → family_of v (place_of v c off) ≡ states_of v.states (c, off)
   state_at_point c off within = family_at v c off (family_is entries index states v is built) within
+
+  -- each entry's state stands at its place
+  pub found_of : All (λ (e : (ℕ × ℕ) × State). states_of states e.0 ≡ Some e.1) states → All (λ (e : (ℕ × ℕ) × State). states_of v.states e.0 ≡ Some e.1) v.states
+  found_of all =
+      let F : List ((ℕ × ℕ) × State) → Type 0 = λ x. All (λ (e : (ℕ × ℕ) × State). states_of x e.0 ≡ Some e.1) x in
+      subst F (ap (λ (x : Contents). x.states) is) all
 
   -- the state that stands at a point is in range
   pub old_in_range : (c off : ℕ) (s : State) → Some s ≡ states_of states (c, off) → state_order.InRange s

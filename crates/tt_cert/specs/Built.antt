@@ -1,6 +1,7 @@
 -- What a builder keeps of its fields.
 use Rattle.std.specs.Prelude.{◌≡◌, ◌≢◌, ℕ, ◌+◌, ◌≤◌, ◌<◌, ◌⊎◌, Option, Some, None, List, [], ◌∷◌, ◌++◌, length, slice_index_or, slice_get}
 use Rattle.std.specs.declared.cmp.Ordering.{Ordering}
+use Rattle.std.specs.declared.cmp.Ordering.TheVariants.{Less}
 use Rattle.std.specs.Ordering.{nat_cmp, ordering_then}
 use Rattle.std.specs.BTreeMap.{BTreeMap, get}
 use Rattle.tt_code.specs.declared.machine.Frame.{Frame}
@@ -24,3 +25,7 @@ pub record IsBuilt (entries : List (ℕ × Frame)) (index : BTreeMap Key ℕ) (s
   pub indexed : (k : Key) (n : ℕ) → get key_cmp index k ≡ Some n → (i : ℕ) × (e : ℕ × Frame) × (n ≡ i + 1) × (slice_get entries i ≡ Some e) × (key_of e ≡ k)
   pub found : (i : ℕ) (e : ℕ × Frame) → slice_get entries i ≡ Some e → get key_cmp index (key_of e) ≡ Some (i + 1)
   pub family : IsFamily (record { contexts = frames_of entries; states = states })
+
+-- each entry's key is above that of the one before
+abbrev pub RisesByKey : List (ℕ × Frame) → Type 0
+RisesByKey entries = (i : ℕ) (d e : ℕ × Frame) → slice_get entries i ≡ Some d → slice_get entries (i + 1) ≡ Some e → key_cmp (key_of d) (key_of e) ≡ Less

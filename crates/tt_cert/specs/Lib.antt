@@ -4,3 +4,4 @@ pub mod Contents
 pub mod Numbers
 pub mod Built
 pub mod Puts
+pub mod Rising

@@ -1,15 +1,22 @@
 //! Contexts by number, and abstract states by context and offset.
 
-ghost use Rattle.std.specs.Prelude.{◌≡◌, ◌≢◌, ◌⊎◌, ◌<◌, ◌≤◌, None, Some, [], ◌∷◌, Err, IfOk, IfSome, OnErr, length, reverse};
+ghost use Rattle.std.specs.Prelude.{◌≡◌, ◌≢◌, ◌⊎◌, ℕ, ◌<◌, ◌≤◌, None, Some, [], ◌∷◌, Err, IfOk, IfSome, IsTrue, OnErr, length, reverse};
+ghost use Rattle.std.specs.List.{All};
+ghost use Rattle.std.specs.List.Sorted.{IsStrictlySortedBy};
+ghost use Rattle.std.specs.Map.{keys_of};
+ghost use Rattle.std.specs.Map.Iter.{ShowsInOrder, deref_pair};
 ghost use Rattle.tt_abs.specs.declared.state.State.{State as StateValue};
 ghost use Rattle.tt_abs.specs.States.{state_order};
-ghost use Rattle.tt_cert.specs.Places.{PutsAt, states_of};
+ghost use Rattle.tt_cert.specs.Places.{PutsAt, place_cmp, states_of};
 ghost use Rattle.tt_cert.specs.Puts.{Reweighs, place_of};
+ghost use Rattle.tt_cert.specs.Built.{RisesByKey, key_of as key_of_entry};
+ghost use Rattle.tt_cert.specs.Rising.{IsFinished};
 ghost use Rattle.tt_cert.specs.Contents.{AddsContext, HasContext, IsFamily, family_of, frames_at, points_of};
 
 use crate::fault::BuildFault;
 use std::alloc::{AllocError, Global};
 use std::collections::BTreeMap;
+use std::collections::btree_map::Iter;
 use std::marker::Model;
 use tt_abs::{Order, State};
 use tt_code::Frame;
@@ -42,6 +49,29 @@ impl Model for Builder {
     ghost view = { λ b. record { contexts = frames_of b.entries.items; states = b.states.entries } };
 
     ghost invariant = { λ b. IsBuilt b.entries.items b.index b.states.entries };
+}
+
+/// The parent, call, body, turn and count of a context, by which contexts rise.
+type Key = (u32, u32, u32, u32, u32);
+
+/// By what an entry's context rises.
+fn key_of(entry: &(u32, Frame)) -> Key
+    ensures { result ≡ key_of_entry entry.now }
+{
+    let (parent, frame) = *entry;
+    (parent, frame.call, frame.body, frame.turn, frame.count)
+}
+
+/// Does each entry rise above the one before?
+fn rises(entries: &[(u32, Frame)]) -> bool
+    ensures { IsTrue result → RisesByKey entries.now }
+{
+    for i in 1..entries.len() {
+        if !key_of(&entries[i - 1]).cmp(&key_of(&entries[i])).is_lt() {
+            return false;
+        }
+    }
+    true
 }
 
 impl Builder {
@@ -148,6 +178,18 @@ impl Builder {
         self.states.get(&(context, offset))
     }
 
+    /// The states with their contexts and offsets, by rising context, and by rising offset within one: each point that has a
+    /// state comes once.
+    pub fn states(&self) -> Iter<'_, (u32, u32), State>
+        ensures rest { result ≡ self.now.states }
+        ensures rises { IsStrictlySortedBy place_cmp (keys_of self.now.states) }
+        ensures found { All (λ e. states_of self.now.states e.0 ≡ Some e.1) self.now.states }
+        ensures runs { ShowsInOrder (deref_pair {K = ℕ × ℕ} {X = StateValue}) }
+        ensures family { IsFamily self.now }
+    {
+        self.states.iter()
+    }
+
     /// Puts a state at a point, by a join where there is one, and answers whether the state there is new or has changed.
     ///
     /// # Errors
@@ -177,5 +219,33 @@ impl Builder {
             return Err(BuildFault::OutOfMemory);
         }
         Ok(true)
+    }
+
+    /// Puts a copy of a state at a point, as `put_state` does.
+    ///
+    /// # Errors
+    /// As `put_state`.
+    pub fn join_state(&mut self, context: u32, offset: u32, state: &State) -> Result<bool, BuildFault>
+        requires there { context < length self.old.contexts }
+        requires theirs { state_order.InRange state.now }
+        ensures put { IfOk result (λ changed. PutsAt state_order (family_of self.old) (family_of self.new) (place_of self.old context offset) state.now changed) }
+        ensures sums { IfOk result (λ _. Reweighs self.old self.new (place_of self.old context offset)) }
+        ensures depth { result ≡ Err BuildFault.DepthMismatch → (s : StateValue) × (family_of self.old (place_of self.old context offset) ≡ Some s) × (state_order.SameDepth s state.now → ⊥) }
+        ensures joined { IfOk result (λ _. (s : StateValue) → family_of self.old (place_of self.old context offset) ≡ Some s → state_order.SameDepth s state.now) }
+        ensures contexts { self.new.contexts ≡ self.old.contexts }
+        ensures few { result ≢ Err BuildFault.TooManyContexts }
+        ensures kept { OnErr result (self.new ≡ self.old) }
+    {
+        let Ok(copy) = state.copied() else {
+            return Err(BuildFault::OutOfMemory);
+        };
+        self.put_state(context, offset, copy)
+    }
+
+    /// Do the contexts rise?
+    fn is_rising(&self) -> bool
+        ensures { IsTrue result → IsFinished self.now }
+    {
+        rises(self.entries.as_slice())
     }
 }

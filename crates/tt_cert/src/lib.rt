@@ -2,7 +2,12 @@
 #![tactic(auto)]
 
 pub mod builder;
+pub mod certificate;
 pub mod fault;
 
 pub use builder::Builder;
+pub use certificate::Certificate;
 pub use fault::BuildFault;
+
+#[cfg(test)]
+mod tests;

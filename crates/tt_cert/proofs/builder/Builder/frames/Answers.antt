@@ -1,6 +1,9 @@
-use Rattle.std.proofs.Common.{rules, arith, refl}
+use Rattle.std.proofs.Common.{rules, arith, refl, ◌∙◌, ap, List}
+use Rattle.std.specs.Prelude.{reverse}
+use Rattle.tt_code.specs.declared.machine.Frame.{Frame}
+use Rattle.tt_cert.specs.Contents.{frames_at}
 use Rattle.tt_cert.specs.Contexts.{frames_of}
-use Rattle.tt_cert.proofs.Adding.{length_is, context_some, walk_init, walk_step, walk_end}
+use Rattle.tt_cert.proofs.Adding.{contexts_is, length_is, context_some, walk_init, walk_step, walk_end}
 use Rattle.tt_cert.proofs.builder.Builder.frames.Goals as goal
 
 pub loop-at-init : goal.loop-at-init
@@ -27,4 +30,5 @@ loop-at-preserved c =
 
 pub returns : goal.returns
 returns c =
-    walk_end _ c.args.number c.loop-at.at c.loop-at.frames.items _ c.self.invariant.family.main (omega arith) c.loop-at.invariant.frames c.reverse.ensures
+    walk_end _ c.args.number c.loop-at.at c.loop-at.frames.items _ c.self.invariant.family.main (omega arith) c.loop-at.invariant.frames c.reverse.ensures.items
+      ∙ ap (λ (x : List (List Frame)). reverse (frames_at x c.args.number)) (contexts_is _ _ _ _ c.self.view_is c.self.invariant)
