@@ -34,7 +34,7 @@ pub struct Builder {
     /// The contexts but the empty one, each with its parent's number and its last frame.
     entries: Vec<(u32, Frame)>,
     /// The number of each context but the empty one, by parent, call, body, turn and count.
-    index: BTreeMap<(u32, u32, u32, u32, u32), u32>,
+    index: BTreeMap<Key, u32>,
     /// The states by context and offset.
     states: BTreeMap<(u32, u32), State>,
 }
@@ -74,6 +74,17 @@ fn rises(entries: &[(u32, Frame)]) -> bool
     true
 }
 
+/// Puts the numbers of a context's children behind the others, in the order of their frames.
+fn push_children(index: &BTreeMap<Key, u32>, parent: u32, order: &mut Vec<u32>) -> Result<(), AllocError> {
+    for (key, number) in index.range((parent, 0, 0, 0, 0)..) {
+        if key.0 != parent {
+            break;
+        }
+        order.push(*number)?;
+    }
+    Ok(())
+}
+
 impl Builder {
     /// The empty context alone, and no state.
     pub fn new(alloc: Global) -> Self
@@ -98,7 +109,8 @@ impl Builder {
 
     /// How many states there are.
     pub fn points(&self) -> u32
-        ensures { result ≡ points_of self.now }
+        ensures value { result ≡ points_of self.now }
+        ensures family { IsFamily self.now }
     {
         self.states.len() as u32
     }
@@ -235,7 +247,9 @@ impl Builder {
         ensures contexts { self.new.contexts ≡ self.old.contexts }
         ensures few { result ≢ Err BuildFault.TooManyContexts }
         ensures kept { OnErr result (self.new ≡ self.old) }
+        ensures family { IsFamily self.new }
     {
+        let _family = self.points();
         let Ok(copy) = state.copied() else {
             return Err(BuildFault::OutOfMemory);
         };
@@ -243,9 +257,28 @@ impl Builder {
     }
 
     /// Do the contexts rise?
-    fn is_rising(&self) -> bool
+    pub(crate) fn is_rising(&self) -> bool
         ensures { IsTrue result → IsFinished self.now }
     {
         rises(self.entries.as_slice())
+    }
+
+    /// The allocator.
+    pub(crate) fn allocator(&self) -> Global {
+        *self.entries.allocator()
+    }
+
+    /// The numbers of the contexts, each behind its parent's, by depth and then by the order of the parents and of the frames.
+    pub(crate) fn file_order(&self) -> Result<Vec<u32>, AllocError> {
+        let mut order = Vec::new(self.allocator());
+        order.push(0)?;
+        for i in 0..self.entries.len() {
+            let Some(parent) = order.get(i) else {
+                break;
+            };
+            let parent = *parent;
+            push_children(&self.index, parent, &mut order)?;
+        }
+        Ok(order)
     }
 }

@@ -1,6 +1,6 @@
 //! Finished families of abstract states.
 
-ghost use Rattle.std.specs.Prelude.{◌≡◌, ◌⊎◌, ◌<◌, ◌≤◌, ℕ, None, Some, [], ◌∷◌, IfOk, IfErr, IfSome, length, reverse};
+ghost use Rattle.std.specs.Prelude.{◌≡◌, ◌⊎◌, ◌<◌, ◌≤◌, ℕ, None, Some, [], ◌∷◌, IfOk, IfSome, length, reverse};
 ghost use Rattle.std.specs.List.{All};
 ghost use Rattle.std.specs.List.Sorted.{IsStrictlySortedBy};
 ghost use Rattle.std.specs.Map.{keys_of};
@@ -9,7 +9,7 @@ ghost use Rattle.tt_abs.specs.declared.state.State.{State as StateValue};
 ghost use Rattle.tt_cert.specs.Places.{place_cmp, states_of};
 ghost use Rattle.tt_cert.specs.Puts.{place_of};
 ghost use Rattle.tt_cert.specs.Contents.{family_of, frames_at, points_of};
-ghost use Rattle.tt_cert.specs.Rising.{IsFinished, SameContents};
+ghost use Rattle.tt_cert.specs.Rising.{IsFinished};
 
 use crate::builder::Builder;
 use std::alloc::{AllocError, Global};
@@ -37,6 +37,14 @@ impl Model for Certificate {
 }
 
 impl Certificate {
+    /// A builder's family, whose contexts are in order.
+    pub(crate) fn of(builder: Builder) -> Self
+        requires { IsFinished builder }
+        ensures { result ≡ builder }
+    {
+        Certificate { builder }
+    }
+
     /// How many contexts there are, the empty one counted.
     pub fn contexts(&self) -> u32
         ensures value { result ≡ length self.now.contexts }

@@ -4,6 +4,7 @@
 pub mod builder;
 pub mod certificate;
 pub mod fault;
+mod finishing;
 
 pub use builder::Builder;
 pub use certificate::Certificate;

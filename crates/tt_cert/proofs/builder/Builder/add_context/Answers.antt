@@ -1,4 +1,4 @@
-use Rattle.std.proofs.Common.{rules, arith, sym, ◌∙◌, ap, ◌≡◌, ◌+◌, ◌++◌, ◌∷◌, [], length}
+use Rattle.std.proofs.Common.{arith, ◌∙◌, ap, ◌+◌, ◌++◌, ◌∷◌, []}
 use Rattle.tt_cert.proofs.Adding.{length_is, entries_few, is_there, is_absent, HasContext-from, IsBuilt-added, added_adds, added_family}
 use Rattle.tt_cert.proofs.builder.Builder.add_context.Goals as goal
 

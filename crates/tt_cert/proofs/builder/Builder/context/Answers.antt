@@ -1,4 +1,4 @@
-use Rattle.std.proofs.Common.{rules, arith, sym, inl, inr}
+use Rattle.std.proofs.Common.{arith, inr}
 use Rattle.std.proofs.lemmas.Bool.Decides.{nat_tests}
 use Rattle.tt_cert.proofs.Adding.{length_is, context_some}
 use Rattle.tt_cert.proofs.builder.Builder.context.Goals as goal

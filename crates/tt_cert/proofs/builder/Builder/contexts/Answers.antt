@@ -1,4 +1,4 @@
-use Rattle.std.proofs.Common.{rules, arith, sym}
+use Rattle.std.proofs.Common.{arith}
 use Rattle.tt_cert.proofs.Adding.{length_is, entries_few}
 use Rattle.tt_cert.proofs.builder.Builder.contexts.Goals as goal
 

@@ -1,9 +1,7 @@
-use Rattle.std.proofs.Common.{rules, arith, true, refl, sym, ◌∙◌, ◌≡◌, ◌+◌, ap, length}
-use Rattle.std.specs.BTreeMap.{WritesThrough}
+use Rattle.std.proofs.Common.{arith, true, refl}
 use Rattle.tt_abs.specs.States.{state_order}
-use Rattle.tt_cert.specs.Places.{place_cmp, states_of}
 use Rattle.tt_cert.proofs.Puts.{PutsAt-written, PutsAt-added}
-use Rattle.tt_cert.proofs.Putting.{old_in_range, point_depth, point_none, number_state, point_state, same_built, same_kept, same_family, few_states, same_written, now_written, put_family, put_built, put_puts, put_sums, sums_written, added_fits, added_sums}
+use Rattle.tt_cert.proofs.Putting.{old_in_range, point_depth, point_none, point_state, same_built, same_kept, same_family, few_states, same_written, now_written, put_family, put_built, put_puts, put_sums, sums_written, added_fits, added_sums}
 use Rattle.tt_cert.proofs.builder.Builder.put_state.Goals as goal
 
 pub join-requires-clause-mine : goal.join-requires-clause-mine

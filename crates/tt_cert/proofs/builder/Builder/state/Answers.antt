@@ -1,4 +1,4 @@
-use Rattle.std.proofs.Common.{rules, arith, refl}
+use Rattle.std.proofs.Common.{refl}
 use Rattle.tt_cert.proofs.Putting.{number_state, copied_some, state_at_point}
 use Rattle.tt_cert.proofs.builder.Builder.state.Goals as goal
 
