@@ -1,0 +1,289 @@
+-- Contexts and states that move from one builder to another.
+use Rattle.std.specs.Prelude.{◌≡◌, ◌≢◌, ◌⊎◌, ◌↔◌, true, false, Bool, cond, ℕ, ◌+◌, ◌≤◌, ◌<◌, Option, Some, None, List, [], ◌∷◌, ◌++◌, length, slice_index_or, slice_get, slice_set, take, zero, suc}
+use Rattle.std.specs.List.{All}
+use Rattle.std.specs.Map.{lookup}
+use Rattle.std.specs.BTreeMap.{is_at}
+use Rattle.std.specs.Ordering.{is_eq}
+use Rattle.std.proofs.Common.{refl, sym, ◌∙◌, ap, subst, arith, inl, inr, append-nil, append_assoc, length-append}
+use Rattle.std.proofs.Math.ListN.{get_or-append}
+use Rattle.std.proofs.Math.Seq.{get_or-append_seam}
+use Rattle.std.proofs.lemmas.Bool.{cases_lt, cases_eq, cases_Bool}
+use Rattle.std.proofs.lemmas.Option.{slice_get_within, slice_get-get_or}
+use Rattle.std.proofs.lemmas.Cmp.{tied_itself}
+use Rattle.tt_code.specs.declared.machine.Frame.{Frame}
+use Rattle.tt_abs.specs.declared.state.State.{State}
+use Rattle.tt_abs.specs.Orders.{Order, IsLeastAbove}
+use Rattle.tt_abs.specs.States.{state_order, state_laws}
+use Rattle.tt_cert.specs.Places.{place_cmp, states_of, PutsAt, PutGives}
+use Rattle.tt_cert.specs.Puts.{place_of}
+use Rattle.tt_cert.specs.Contents.{Contents, IsFamily, HasContext, AddsContext, frames_at, family_of, number_of}
+use Rattle.tt_cert.specs.Numbers.{at-number_of, number_of-is, number_of-place}
+use Rattle.tt_cert.specs.Rising.{AreMoved, HaveAllNumbers, SameContents}
+use Rattle.tt_cert.proofs.Puts.{cases_place, places_apart}
+use Rattle.tt_cert.proofs.Putting.{place_total}
+
+-- the new contents hold the states that came before the rest of the old ones
+abbrev pub HasSoFar : Contents → Contents → List ((ℕ × ℕ) × State) → Type 0
+HasSoFar old new rest =
+    (done : List ((ℕ × ℕ) × State)) × (old.states ≡ done ++ rest) × ((point : List Frame × ℕ) → family_of new point ≡ states_of done (number_of old.contexts point.0, point.1))
+
+pub has_context : (contexts : List (List Frame)) (c : ℕ) (frames : List Frame) → c < length contexts → frames_at contexts c ≡ frames → HasContext contexts frames
+has_context contexts c frames lt at = let most = number_of-place contexts frames c lt at in omega arith
+
+-- contexts that are there stay when one is added
+stays : (new new' : List (List Frame)) (frames : List Frame) (n k : ℕ) → AddsContext new new' frames n → k < length new → (k < length new') × (frames_at new' k ≡ frames_at new k)
+stays new new' frames n k adds lt = elim adds.how [
+    inl old ↦ let e = ap length old.1 in (omega arith, ap (λ x. frames_at x k) old.1)
+  | inr more ↦
+      let e = ap length more.2 in
+      let long = length-append new (frames ∷ []) in
+      (omega arith, ap (λ x. frames_at x k) more.2 ∙ get_or-append new (frames ∷ []) [] k lt) ]
+
+-- a context that wasn't there is the one that was added
+fresh : (new new' : List (List Frame)) (frames : List Frame) (n k : ℕ) → AddsContext new new' frames n → (k < length new → ⊥) → k < length new' → k ≡ n
+fresh new new' frames n k adds absent lt = elim adds.how [
+    inl old ↦ let e = ap length old.1 in absurd (absent (omega arith))
+  | inr more ↦
+      let e = ap length more.2 in
+      let long = length-append new (frames ∷ []) in
+      let last = more.1 in
+      elim (cases_lt k (length new)) [ inl less ↦ absurd (absent less) | inr ge ↦ omega arith ] ]
+
+set_cases : {A : Type 0} (xs : List A) (i : ℕ) (y : A) (k : ℕ) (z : A) → slice_get (slice_set xs i y) k ≡ Some z → ((k ≡ i) × (y ≡ z)) ⊎ (slice_get xs k ≡ Some z)
+set_cases [] i y k z at = inr at
+set_cases (x ∷ xs) zero y zero z at = inl (refl, cc)
+set_cases (x ∷ xs) zero y (suc k) z at = inr at
+set_cases (x ∷ xs) (suc i) y zero z at = inr at
+set_cases (x ∷ xs) (suc i) y (suc k) z at = elim (set_cases xs i y k z at) [ inl new ↦ inl (let e = new.0 in omega arith, new.1) | inr old ↦ inr old ]
+
+set_length : {A : Type 0} (xs : List A) (i : ℕ) (y : A) → length (slice_set xs i y) ≡ length xs
+set_length [] i y = refl
+set_length (x ∷ xs) zero y = refl
+set_length (x ∷ xs) (suc i) y = let ih = set_length xs i y in omega arith
+
+pub AreMoved-step : (old new new' : List (List Frame)) (numbers : List (Option ℕ)) (c p m n : ℕ) (frame : Frame) → AreMoved old new numbers
+    → c < length old → frames_at old c ≡ frame ∷ frames_at old p → slice_get numbers p ≡ Some (Some m) → AddsContext new new' (frame ∷ frames_at new m) n
+    → AreMoved old new' (slice_set numbers c (Some n))
+AreMoved-step old new new' numbers c p m n frame moved lt at known adds =
+    let parents = (moved.moved p m known).1 in
+    let child : frames_at new' n ≡ frames_at old c = adds.at ∙ ap (λ (x : List Frame). frame ∷ x) parents ∙ sym at in
+    record {
+      long = set_length numbers c (Some n) ∙ moved.long;
+      moved = λ c' n' known'. elim (set_cases numbers c (Some n) c' (Some n') known') [
+          inl now ↦
+            let one : Some n ≡ Some n' = now.1 in
+            let n_is : n ≡ n' = cc in
+            let there = adds.there in
+            (omega arith, ap (frames_at new') (sym n_is) ∙ child ∙ ap (frames_at old) (sym now.0))
+        | inr before ↦
+            let (lt', same) = moved.moved c' n' before in
+            let stay = stays new new' (frame ∷ frames_at new m) n n' adds lt' in
+            (stay.0, stay.1 ∙ same) ];
+      mine = λ k lt'. elim (cases_lt k (length new)) [
+          inl less ↦
+            let H : List Frame → Type 0 = λ x. HasContext old x in
+            subst H (sym (stays new new' (frame ∷ frames_at new m) n k adds less).1) (moved.mine k less)
+        | inr ge ↦
+            let k_is = fresh new new' (frame ∷ frames_at new m) n k adds (λ less. omega arith) lt' in
+            has_context old c (frames_at new' k) lt (sym child ∙ ap (frames_at new') (sym k_is)) ];
+    }
+
+pub AreMoved-first : (old new : List (List Frame)) (numbers : List (Option ℕ)) → 0 < length old → frames_at old 0 ≡ [] → new ≡ [] ∷ [] → length numbers ≡ length old
+    → ((c n : ℕ) → slice_get numbers c ≡ Some (Some n) → (c ≡ 0) × (n ≡ 0)) → AreMoved old new numbers
+AreMoved-first old new numbers some main new_is long first =
+    let one : length new ≡ 1 = ap length new_is in
+    let at : frames_at new 0 ≡ [] = ap (λ x. frames_at x 0) new_is in
+    record {
+      long = long;
+      moved = λ c n known.
+        let (c_is, n_is) = first c n known in
+        (omega arith, ap (frames_at new) n_is ∙ at ∙ sym main ∙ ap (frames_at old) (sym c_is));
+      mine = λ n lt.
+        let n_is : n ≡ 0 = omega arith in
+        has_context old 0 (frames_at new n) some (main ∙ sym at ∙ ap (frames_at new) (sym n_is));
+    }
+
+-- where each context has a new number the contexts are the same
+pub SameContexts-from : (old new : List (List Frame)) (numbers : List (Option ℕ)) → AreMoved old new numbers → HaveAllNumbers numbers
+    → (frames : List Frame) → HasContext old frames ↔ HasContext new frames
+SameContexts-from old new numbers moved all frames =
+    ((λ has.
+        let long = moved.long in
+        let (n, known) = all (number_of old frames) (omega arith) in
+        let (lt, same) = moved.moved (number_of old frames) n known in
+        has_context new n frames lt (same ∙ at-number_of old frames has)),
+     (λ has.
+        let H : List Frame → Type 0 = λ x. HasContext old x in
+        subst H (at-number_of new frames has) (moved.mine (number_of new frames) has)))
+
+-- a new number that was read
+pub known_at : (numbers : List (Option ℕ)) (c n : ℕ) (d : Option ℕ) → slice_index_or numbers c d ≡ Some n → c < length numbers → slice_get numbers c ≡ Some (Some n)
+known_at numbers c n d at lt = slice_get-get_or numbers c d lt ∙ ap Some at
+
+pub all_step : (numbers : List (Option ℕ)) (i n : ℕ) (d : Option ℕ) → ((c : ℕ) → c < i → (n : ℕ) × (slice_get numbers c ≡ Some (Some n))) → i < length numbers
+    → slice_index_or numbers i d ≡ Some n → (c : ℕ) → c < i + 1 → (n : ℕ) × (slice_get numbers c ≡ Some (Some n))
+all_step numbers i n d before lt at c less = elim (cases_lt c i) [
+    inl old ↦ before c old
+  | inr new ↦ let c_is : c ≡ i = omega arith in (n, ap (slice_get numbers) c_is ∙ known_at numbers i n d at lt) ]
+
+module _ {K X : Type 0} (test : K → Bool) where
+  lookup_append_some : (xs ys : List (K × X)) (v : X) → lookup test xs ≡ Some v → lookup test (xs ++ ys) ≡ Some v
+  lookup_append_some [] ys v at = cc
+  lookup_append_some (e ∷ es) ys v at =
+      (elim (test e.0) as (λ b. cond b (Some e.1) (lookup test es) ≡ Some v → cond b (Some e.1) (lookup test (es ++ ys)) ≡ Some v) [
+          true ↦ λ h. h
+        | false ↦ λ h. lookup_append_some es ys v h ]) at
+
+  lookup_last : (xs : List (K × X)) (k : K) (v : X) → test k ≡ true → ((t : X) → lookup test xs ≡ Some t → t ≡ v) → lookup test (xs ++ (k, v) ∷ []) ≡ Some v
+  lookup_last [] k v here before = ap (λ b. cond b (Some v) None) here
+  lookup_last (e ∷ es) k v here before =
+      (elim (test e.0) as (λ b. ((t : X) → cond b (Some e.1) (lookup test es) ≡ Some t → t ≡ v) → cond b (Some e.1) (lookup test (es ++ (k, v) ∷ [])) ≡ Some v) [
+          true ↦ λ h. ap Some (h e.1 refl)
+        | false ↦ λ h. lookup_last es k v here h ]) before
+
+  lookup_apart : (xs : List (K × X)) (k : K) (v : X) → test k ≡ false → lookup test (xs ++ (k, v) ∷ []) ≡ lookup test xs
+  lookup_apart [] k v apart = ap (λ b. cond b (Some v) None) apart
+  lookup_apart (e ∷ es) k v apart = ap (λ x. cond (test e.0) (Some e.1) x) (lookup_apart es k v apart)
+
+-- each state of the old contents stands at its place
+abbrev pub IsFoundAll : Contents → Type 0
+IsFoundAll old = All (λ (e : (ℕ × ℕ) × State). states_of old.states e.0 ≡ Some e.1) old.states
+
+pub entry_found : (old : Contents) (done rest : List ((ℕ × ℕ) × State)) (x : (ℕ × ℕ) × State) → old.states ≡ done ++ x ∷ rest → IsFoundAll old
+    → states_of old.states x.0 ≡ Some x.1
+entry_found old done rest x split all =
+    let e = ap length split in
+    let long = length-append done (x ∷ rest) in
+    let at : slice_index_or old.states (length done) x ≡ x = ap (λ l. slice_index_or l (length done) x) split ∙ get_or-append_seam done x rest x in
+    let F : (ℕ × ℕ) × State → Type 0 = λ y. states_of old.states y.0 ≡ Some y.1 in
+    subst F at (all (length done) x (omega arith))
+
+-- a state that is joined with itself stays
+put_same : (slot slot' : Option State) (s : State) (changed : Bool) → PutGives state_order slot s slot' changed → state_order.InRange s
+    → ((t : State) → slot ≡ Some t → t ≡ s) → slot' ≡ Some s
+put_same None None s changed put ranged before = absurd put
+put_same None (Some u) s changed put ranged before = ap Some put.0
+put_same (Some t) None s changed put ranged before = absurd put
+put_same (Some t) (Some u) s changed put ranged before =
+    let same : t ≡ s = before t refl in
+    let B : State → Type 0 = λ x. state_order.Below x s in
+    let below : state_order.Below t s = subst B (sym same) (state_laws.reflexive s) in
+    ap Some (state_laws.antisymmetric u s put.0.in_range ranged (put.0.least s ranged below (state_laws.reflexive s)) put.0.right)
+
+module _ (old new new' : Contents) (numbers : List (Option ℕ)) (place : ℕ × ℕ) (s : State) (n : ℕ) (changed : Bool)
+    (family : IsFamily old) (moved : AreMoved old.contexts new.contexts numbers) (all : IsFoundAll old)
+    (known : slice_get numbers place.0 ≡ Some (Some n)) (put : PutsAt state_order (family_of new) (family_of new') (place_of new n place.1) s changed)
+    (rest rest' done : List ((ℕ × ℕ) × State)) (split : old.states ≡ done ++ rest)
+    (same : (point : List Frame × ℕ) → family_of new point ≡ states_of done (number_of old.contexts point.0, point.1))
+    (rest_is : rest ≡ (place, s) ∷ rest') where
+  split_here : old.states ≡ done ++ (place, s) ∷ rest'
+  split_here = split ∙ ap (λ l. done ++ l) rest_is
+
+  found : states_of old.states place ≡ Some s
+  found = entry_found old done rest' (place, s) split_here all
+
+  within : place.0 < length old.contexts
+  within = family.held place.0 place.1 s found
+
+  frames_is : frames_at new.contexts n ≡ frames_at old.contexts place.0
+  frames_is = (moved.moved place.0 n known).1
+
+  number_is : number_of old.contexts (frames_at new.contexts n) ≡ place.0
+  number_is = number_of-is old.contexts (frames_at new.contexts n) place.0 family.distinct within (sym frames_is)
+
+  before : (t : State) → states_of done place ≡ Some t → t ≡ s
+  before t at =
+      let one : Some t ≡ Some s = sym (lookup_append_some (is_at (place_cmp place)) done ((place, s) ∷ rest') t at) ∙ ap (λ l. states_of l place) (sym split_here) ∙ found in
+      cc
+
+  slot_before : (t : State) → family_of new (place_of new n place.1) ≡ Some t → t ≡ s
+  slot_before t at = before t (ap (λ k. states_of done (k, place.1)) (sym number_is) ∙ sym (same (place_of new n place.1)) ∙ at)
+
+  slot : family_of new' (place_of new n place.1) ≡ Some s
+  slot = put_same (family_of new (place_of new n place.1)) (family_of new' (place_of new n place.1)) s changed put.here (family.in_range place.0 place.1 s found) slot_before
+
+  last : states_of (done ++ (place, s) ∷ []) place ≡ Some s
+  last = lookup_last (is_at (place_cmp place)) done place s (ap is_eq (tied_itself place_total place)) before
+
+  point_is : (p : List Frame × ℕ) → ◌≡◌ {A = ℕ × ℕ} (number_of old.contexts p.0, p.1) place → p ≡ place_of new n place.1
+  point_is p here =
+      let first : number_of old.contexts p.0 ≡ place.0 = ap (λ (x : ℕ × ℕ). x.0) here in
+      let second : p.1 ≡ place.1 = ap (λ (x : ℕ × ℕ). x.1) here in
+      let at = at-number_of old.contexts p.0 (let lt = within in omega arith) in
+      let frames : p.0 ≡ frames_at new.contexts n = sym at ∙ ap (frames_at old.contexts) first ∙ sym frames_is in
+      λ i. (frames i, second i)
+
+  point_from : (p : List Frame × ℕ) → p ≡ place_of new n place.1 → ◌≡◌ {A = ℕ × ℕ} (number_of old.contexts p.0, p.1) place
+  point_from p e =
+      let first : number_of old.contexts p.0 ≡ place.0 = ap (λ (x : List Frame × ℕ). number_of old.contexts x.0) e ∙ number_is in
+      let second : p.1 ≡ place.1 = ap (λ (x : List Frame × ℕ). x.1) e in
+      λ i. (first i, second i)
+
+  pub so_far_step : HasSoFar old new' rest'
+  so_far_step = (done ++ (place, s) ∷ [], split_here ∙ sym (append_assoc done ((place, s) ∷ []) rest'), λ p.
+      elim (cases_place (number_of old.contexts p.0, p.1) place) [
+          inl here ↦ ap (family_of new') (point_is p here) ∙ slot ∙ sym (ap (states_of (done ++ (place, s) ∷ [])) here ∙ last)
+        | inr apart ↦ put.elsewhere p (λ e. apart (point_from p e)) ∙ same p
+            ∙ sym (lookup_apart (is_at (place_cmp (number_of old.contexts p.0, p.1))) done place s (places_apart (number_of old.contexts p.0, p.1) place (λ e. apart (sym e)))) ])
+
+-- what the entry that comes next says of itself
+pub next_found : (old new : Contents) (rest rest' : List ((ℕ × ℕ) × State)) (x : (ℕ × ℕ) × State) → HasSoFar old new rest → rest ≡ x ∷ rest' → IsFoundAll old
+    → states_of old.states x.0 ≡ Some x.1
+next_found old new rest rest' x so_far rest_is all =
+    let (done, split, same) = so_far in entry_found old done rest' x (split ∙ ap (λ l. done ++ l) rest_is) all
+
+pub HasSoFar-step : (old new new' : Contents) (numbers : List (Option ℕ)) (place : ℕ × ℕ) (s : State) (n : ℕ) (changed : Bool) → IsFamily old
+    → AreMoved old.contexts new.contexts numbers → IsFoundAll old → slice_get numbers place.0 ≡ Some (Some n)
+    → PutsAt state_order (family_of new) (family_of new') (place_of new n place.1) s changed
+    → (rest rest' : List ((ℕ × ℕ) × State)) → HasSoFar old new rest → rest ≡ (place, s) ∷ rest' → HasSoFar old new' rest'
+HasSoFar-step old new new' numbers place s n changed family moved all known put rest rest' so_far rest_is =
+    let (done, split, same) = so_far in
+    so_far_step old new new' numbers place s n changed family moved all known put rest rest' done split same rest_is
+
+pub HasSoFar-end : (old new : Contents) (rest : List ((ℕ × ℕ) × State)) → HasSoFar old new rest → rest ≡ [] → (p : List Frame × ℕ) → family_of new p ≡ family_of old p
+HasSoFar-end old new rest so_far none p =
+    let (done, split, same) = so_far in
+    let whole : old.states ≡ done = split ∙ ap (λ l. done ++ l) none ∙ append-nil done in
+    same p ∙ ap (λ l. states_of l (number_of old.contexts p.0, p.1)) (sym whole)
+
+pub next_context : (old new : Contents) (contexts : List (List Frame)) (numbers : List (Option ℕ)) (rest rest' : List ((ℕ × ℕ) × State)) (x : (ℕ × ℕ) × State) → IsFamily old
+    → AreMoved old.contexts contexts numbers → HasSoFar old new rest → rest ≡ x ∷ rest' → IsFoundAll old → x.0.0 < length numbers
+next_context old new contexts numbers rest rest' x family moved so_far rest_is all =
+    let lt = family.held x.0.0 x.0.1 x.1 (next_found old new rest rest' x so_far rest_is all) in
+    let long = moved.long in
+    omega arith
+
+pub next_range : (old new : Contents) (rest rest' : List ((ℕ × ℕ) × State)) (x : (ℕ × ℕ) × State) → IsFamily old → HasSoFar old new rest → rest ≡ x ∷ rest'
+    → IsFoundAll old → state_order.InRange x.1
+next_range old new rest rest' x family so_far rest_is all = family.in_range x.0.0 x.0.1 x.1 (next_found old new rest rest' x so_far rest_is all)
+
+pub moved_there : (old contexts new : List (List Frame)) (numbers : List (Option ℕ)) (c n : ℕ) → AreMoved old contexts numbers → new ≡ contexts
+    → slice_get numbers c ≡ Some (Some n) → n < length new
+moved_there old contexts new numbers c n moved same known =
+    let e = ap length same in
+    let lt = (moved.moved c n known).0 in
+    omega arith
+
+pub SameContents-moved : (old new : Contents) (contexts : List (List Frame)) (numbers numbers' : List (Option ℕ)) → AreMoved old.contexts contexts numbers → numbers' ≡ numbers
+    → HaveAllNumbers numbers' → new.contexts ≡ contexts → ((p : List Frame × ℕ) → family_of new p ≡ family_of old p) → SameContents old new
+SameContents-moved old new contexts numbers numbers' moved one all same family =
+    let A : List (Option ℕ) → Type 0 = λ x. HaveAllNumbers x in
+    let C : List (List Frame) → Type 0 = λ x. (frames : List Frame) → HasContext old.contexts frames ↔ HasContext x frames in
+    record { contexts = subst C (sym same) (SameContexts-from old.contexts contexts numbers moved (subst A one all)); family = family }
+
+pub AreMoved-start : (old new : Contents) (numbers numbers' : List (Option ℕ)) (count : ℕ) → IsFamily old → new.contexts ≡ [] ∷ [] → numbers' ≡ numbers → length numbers ≡ count
+    → count ≡ length old.contexts → ((c n : ℕ) → slice_get numbers c ≡ Some (Some n) → (c ≡ 0) × (n ≡ 0)) → AreMoved old.contexts new.contexts numbers'
+AreMoved-start old new numbers numbers' count family first same long counts known =
+    let M : List (Option ℕ) → Type 0 = λ x. AreMoved old.contexts new.contexts x in
+    subst M (sym same) (AreMoved-first old.contexts new.contexts numbers family.some family.main first (long ∙ counts) known)
+
+-- as much of a list as its first part is long is the first part
+pub take_first : {A : Type 0} (xs ys : List A) (n : ℕ) → n ≡ length xs → take n (xs ++ ys) ≡ xs
+take_first {A} xs ys n same = ap (λ k. take k (xs ++ ys)) same ∙ go xs
+  where
+    take_none : (l : List A) → take 0 l ≡ []
+    take_none [] = refl
+    take_none (x ∷ l) = refl
+    go : (zs : List A) → take (length zs) (zs ++ ys) ≡ zs
+    go [] = take_none ys
+    go (z ∷ zs) = ap (λ l. z ∷ l) (go zs)

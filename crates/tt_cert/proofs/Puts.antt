@@ -1,0 +1,60 @@
+-- What a map with one write is, as a function from places.
+use Rattle.std.specs.Prelude.{◌≡◌, ◌≢◌, ◌↔◌, ◌⊎◌, ◌<◌, ℕ, Bool, true, false, Option, Some, None, IsSome, IsFalse, is_some}
+use Rattle.std.specs.declared.cmp.Ordering.{Ordering}
+use Rattle.std.specs.declared.cmp.Ordering.TheVariants.{Less, Equal, Greater}
+use Rattle.std.specs.Ordering.{nat_cmp, ordering_then, is_eq}
+use Rattle.std.specs.Cmp.{nat_cmp_is}
+use Rattle.std.specs.BTreeMap.{BTreeMap, get, get_by, is_at, UpdatesBy, WritesThrough}
+use Rattle.std.proofs.Common.{refl, sym, ◌∙◌, ap, subst, arith, inl, inr}
+use Rattle.std.proofs.lemmas.Bool.{cases_lt, cases_eq}
+use Rattle.tt_abs.specs.Orders.{Order, IsLeastAbove}
+use Rattle.tt_cert.specs.Places.{place_cmp, states_of, PutGives, PutsAt}
+
+pub numbers_apart : (x y : ℕ) → x ≢ y → is_eq (nat_cmp x y) ≡ false
+numbers_apart x y apart = elim (cases_lt x y) [
+    inl less ↦ ap is_eq (sym (nat_cmp_is x y Less less))
+  | inr not_less ↦ let more : y < x = omega arith in ap is_eq (sym (nat_cmp_is x y Greater more)) ]
+
+pub then_first : (a b : Ordering) → is_eq a ≡ false → is_eq (ordering_then a b) ≡ false
+then_first Less b e = refl
+then_first Equal b e = cc
+then_first Greater b e = refl
+
+pub then_second : (a b : Ordering) → is_eq b ≡ false → is_eq (ordering_then a b) ≡ false
+then_second Less b e = refl
+then_second Equal b e = e
+then_second Greater b e = refl
+
+pub places_apart : (k p : ℕ × ℕ) → p ≢ k → is_at (place_cmp k) p ≡ false
+places_apart (a, b) (c, d) apart = elim (cases_eq a c) [
+    inl same ↦ then_second (nat_cmp a c) (nat_cmp b d) (numbers_apart b d (λ e. apart (cc)))
+  | inr other ↦ then_first (nat_cmp a c) (nat_cmp b d) (numbers_apart a c other) ]
+
+pub cases_place : (p k : ℕ × ℕ) → (p ≡ k) ⊎ (p ≢ k)
+cases_place (a, b) (c, d) = elim (cases_eq a c) [
+          inl e ↦ elim (cases_eq b d) [ inl e' ↦ inl (cc) | inr f ↦ inr (λ g. f (ap (λ (x : ℕ × ℕ). x.1) g)) ]
+        | inr f ↦ inr (λ g. f (ap (λ (x : ℕ × ℕ). x.0) g)) ]
+
+module _ {S : Type 0} (o : Order S) where
+  pub PutsAt-written : (m n : BTreeMap (ℕ × ℕ) S) (k : ℕ × ℕ) (old u t : S) (changed : Bool) → Some old ≡ states_of m.entries k → WritesThrough place_cmp (place_cmp k) m u n
+      → IsLeastAbove o old t u → (IsFalse changed ↔ (u ≡ old)) → PutsAt o (states_of m.entries) (states_of n.entries) k t changed
+  PutsAt-written m n k old u t changed had writes least unchanged =
+      let there : IsSome (get_by (place_cmp k) m) = ap is_some (sym had) in
+      let updates : UpdatesBy place_cmp (place_cmp k) m n (Some u) = writes.3 there in
+      let now : states_of n.entries k ≡ Some u = updates.1 in
+      let G : Option S × Option S → Type 0 = λ x. PutGives o x.0 t x.1 changed in
+      let same : (Some old, Some u) ≡ (states_of m.entries k, states_of n.entries k) = cc in
+      let pair : PutGives o (Some old) t (Some u) changed = (least, unchanged) in
+      record { here = subst G same pair; elsewhere = λ p apart. updates.2 p (places_apart k p apart) }
+
+  pub PutsAt-added : (m m' n : BTreeMap (ℕ × ℕ) S) (k : ℕ × ℕ) (u t : S) → None ≡ states_of m.entries k → m' ≡ m → UpdatesBy place_cmp (place_cmp k) m' n (Some u)
+      → u ≡ t → PutsAt o (states_of m.entries) (states_of n.entries) k t true
+  PutsAt-added m m' n k u t had before updates' copy =
+      let U : BTreeMap (ℕ × ℕ) S → Type 0 = λ x. UpdatesBy place_cmp (place_cmp k) x n (Some u) in
+      let updates : UpdatesBy place_cmp (place_cmp k) m n (Some u) = subst U before updates' in
+      let now : states_of n.entries k ≡ Some u = updates.1 in
+      let G : Option S × Option S → Type 0 = λ x. PutGives o x.0 t x.1 true in
+      let none : Option S = None in
+      let same : (none, Some u) ≡ (states_of m.entries k, states_of n.entries k) = cc in
+      let pair : PutGives o none t (Some u) true = (copy, refl) in
+      record { here = subst G same pair; elsewhere = λ p apart. updates.2 p (places_apart k p apart) }

@@ -1,0 +1,188 @@
+-- What a put leaves of a builder.
+use Rattle.std.specs.Prelude.{◌≡◌, ◌≢◌, ◌⊎◌, ◌↔◌, ℕ, ◌+◌, ◌≤◌, ◌<◌, Bool, true, false, Option, Some, None, List, [], ◌∷◌, ◌++◌, length, slice_index_or, unwrap_or, cond}
+use Rattle.std.specs.declared.cmp.Ordering.{Ordering}
+use Rattle.std.specs.Ordering.{nat_cmp}
+use Rattle.std.specs.Cmp.{IsTotalOrder}
+use Rattle.std.specs.Option.{option_map, option_copied, IsSome, is_some, IfSome}
+use Rattle.std.specs.List.{sum_by, All}
+use Rattle.std.specs.List.Sorted.{IsStrictlySortedBy}
+use Rattle.std.specs.Map.{values_of, keys_of, set_value, lookup}
+use Rattle.std.specs.BTreeMap.{BTreeMap, is_at, insert_entry, get_by, UpdatesBy, WritesThrough, IsOrdered}
+use Rattle.std.proofs.lemmas.Map.Steps.{set_value_same}
+use Rattle.std.proofs.Common.{refl, sym, ◌∙◌, ap, subst, arith, inl, inr, Bor}
+use Rattle.std.proofs.lemmas.Cmp.{then_total, on_total, nat_cmp_total}
+use Rattle.std.proofs.lemmas.Map.Entries.{sum_by-set_value, sum_by-insert_entry}
+use Rattle.tt_abs.specs.declared.state.State.{State}
+use Rattle.tt_abs.specs.States.{state_order}
+use Rattle.tt_code.specs.declared.machine.Frame.{Frame}
+use Rattle.tt_cert.specs.Places.{place_cmp, states_of, PutGives, PutsAt}
+use Rattle.tt_cert.specs.Contexts.{frames_of}
+use Rattle.tt_cert.specs.Contents.{Contents, IsFamily, family_of, frames_at, total}
+use Rattle.tt_cert.specs.Puts.{Reweighs, place_of, weigh, PutsAt-family, Reweighs-family, family_at}
+use Rattle.tt_cert.specs.Built.{Key, IsBuilt}
+use Rattle.tt_cert.proofs.Puts.{cases_place}
+use Rattle.tt_cert.proofs.Adding.{family_is, contexts_is}
+
+pub place_total : IsTotalOrder place_cmp
+place_total = then_total (on_total (λ (t : ℕ × ℕ). t.0) nat_cmp_total) (on_total (λ (t : ℕ × ℕ). t.1) nat_cmp_total)
+
+pub weigh-as : (w : State → ℕ) (x : Option State) → unwrap_or (option_map w x) 0 ≡ weigh w x
+weigh-as w None = refl
+weigh-as w (Some s) = refl
+
+pub sums_written : (states states' : List ((ℕ × ℕ) × State)) (k : ℕ × ℕ) (old new : State) → Some old ≡ states_of states k → states_of states' k ≡ Some new
+    → states' ≡ set_value (is_at (place_cmp k)) states new
+    → (w : State → ℕ) → sum_by w (values_of states') + weigh w (states_of states k) ≡ sum_by w (values_of states) + weigh w (states_of states' k)
+sums_written states states' k old new had now writes w =
+    let sums = sum_by-set_value w (is_at (place_cmp k)) states old new (sym had) in
+    let e = ap (λ (x : List ((ℕ × ℕ) × State)). sum_by w (values_of x)) writes in
+    let a = ap (weigh w) had in
+    let b = ap (weigh w) now in
+    omega arith
+
+pub sums_added : (states states' : List ((ℕ × ℕ) × State)) (k : ℕ × ℕ) (new : State) → states_of states' k ≡ Some new
+    → states' ≡ insert_entry place_cmp states k new → IsStrictlySortedBy place_cmp (keys_of states)
+    → (w : State → ℕ) → sum_by w (values_of states') + weigh w (states_of states k) ≡ sum_by w (values_of states) + weigh w (states_of states' k)
+sums_added states states' k new now writes ordered w =
+    let sums = sum_by-insert_entry w place_total states k new ordered in
+    let e = ap (λ (x : List ((ℕ × ℕ) × State)). sum_by w (values_of x)) writes in
+    let a = weigh-as w (states_of states k) in
+    let b = ap (weigh w) now in
+    omega arith
+
+-- what a put leaves at its place is in range
+PutGives-in_range : (old : Option State) (t : State) (new : Option State) (changed : Bool) → PutGives state_order old t new changed → state_order.InRange t
+    → ((s : State) → old ≡ Some s → state_order.InRange s) → (s : State) → new ≡ Some s → state_order.InRange s
+PutGives-in_range None t None changed put ranged before s at = absurd put
+PutGives-in_range None t (Some u) changed put ranged before s at =
+    let same : s ≡ t = cc in
+    let R : State → Type 0 = λ x. state_order.InRange x in
+    subst R (sym same) ranged
+PutGives-in_range (Some a) t None changed put ranged before s at = absurd put
+PutGives-in_range (Some a) t (Some u) changed put ranged before s at =
+    let same : s ≡ u = cc in
+    let R : State → Type 0 = λ x. state_order.InRange x in
+    subst R (sym same) put.0.in_range
+
+module _ (entries : List (ℕ × Frame)) (index : BTreeMap Key ℕ) (states states' : List ((ℕ × ℕ) × State)) (v : Contents)
+    (is : ◌≡◌ {A = Contents} (record { contexts = frames_of entries; states = states }) v) (built : IsBuilt entries index states)
+    (c off : ℕ) (within : c < length v.contexts) (t : State) (changed : Bool)
+    (put : PutsAt state_order (states_of states) (states_of states') (c, off) t changed) (ranged : state_order.InRange t) where
+  pub put_family : length states' ≤ 4294967295 → IsFamily (record { contexts = frames_of entries; states = states' })
+  put_family fits =
+      let old = built.family in
+      let lt : c < length (frames_of entries) = let e = ap length (contexts_is entries index states v is built) in omega arith in
+      record {
+        main = old.main;
+        some = old.some;
+        distinct = old.distinct;
+        few = old.few;
+        in_range = λ c' o' s at. elim (cases_place (c', o') (c, off)) [
+            inl same ↦ PutGives-in_range (states_of states (c, off)) t (states_of states' (c, off)) changed put.here ranged (old.in_range c off) s (ap (states_of states') (sym same) ∙ at)
+          | inr apart ↦ old.in_range c' o' s (sym (put.elsewhere (c', o') apart) ∙ at) ];
+        held = λ c' o' s at. elim (cases_place (c', o') (c, off)) [
+            inl same ↦ let e : c' ≡ c = ap (λ (x : ℕ × ℕ). x.0) same in omega arith
+          | inr apart ↦ old.held c' o' s (sym (put.elsewhere (c', o') apart) ∙ at) ];
+        fits = fits;
+      }
+
+  pub put_built : length states' ≤ 4294967295 → IsBuilt entries index states'
+  put_built fits = record { parents = built.parents; indexed = built.indexed; found = built.found; family = put_family fits }
+
+  states_is : states ≡ v.states
+  states_is = ap (λ (x : Contents). x.states) is
+
+  pub put_puts : PutsAt state_order (family_of v) (family_of (record { contexts = frames_of entries; states = states' })) (place_of v c off) t changed
+  put_puts =
+      let P : List ((ℕ × ℕ) × State) → Type 0 = λ x. PutsAt state_order (states_of x) (states_of states') (c, off) t changed in
+      PutsAt-family state_order v (record { contexts = frames_of entries; states = states' }) c off t changed (family_is entries index states v is built)
+        (contexts_is entries index states v is built) within (subst P states_is put)
+
+  pub put_sums : ((w : State → ℕ) → sum_by w (values_of states') + weigh w (states_of states (c, off)) ≡ sum_by w (values_of states) + weigh w (states_of states' (c, off)))
+      → Reweighs v (record { contexts = frames_of entries; states = states' }) (place_of v c off)
+  put_sums sums =
+      let P : List ((ℕ × ℕ) × State) → Type 0 = λ x. (w : State → ℕ) → sum_by w (values_of states') + weigh w (states_of x (c, off)) ≡ sum_by w (values_of x) + weigh w (states_of states' (c, off)) in
+      Reweighs-family v (record { contexts = frames_of entries; states = states' }) c off (family_is entries index states v is built)
+        (contexts_is entries index states v is built) within (subst P states_is sums)
+
+module _ (entries : List (ℕ × Frame)) (index : BTreeMap Key ℕ) (states : List ((ℕ × ℕ) × State)) (v : Contents)
+    (is : ◌≡◌ {A = Contents} (record { contexts = frames_of entries; states = states }) v) (built : IsBuilt entries index states) where
+  pub number_state : (k : ℕ × ℕ) (x : Option State) → x ≡ states_of states k → states_of v.states k ≡ x
+  number_state k x at = ap (λ (y : Contents). states_of y.states k) (sym is) ∙ sym at
+
+  pub point_state : (c off : ℕ) (x : Option State) → c < length v.contexts → x ≡ states_of states (c, off) → family_of v (place_of v c off) ≡ x
+  point_state c off x within at = family_at v c off (family_is entries index states v is built) within ∙ number_state (c, off) x at
+
+  pub state_at_point : (c off : ℕ) → c < length v.contexts → family_of v (place_of v c off) ≡ states_of v.states (c, off)
+  state_at_point c off within = family_at v c off (family_is entries index states v is built) within
+
+  -- each entry's state stands at its place
+  pub found_of : All (λ (e : (ℕ × ℕ) × State). states_of states e.0 ≡ Some e.1) states → All (λ (e : (ℕ × ℕ) × State). states_of v.states e.0 ≡ Some e.1) v.states
+  found_of all =
+      let F : List ((ℕ × ℕ) × State) → Type 0 = λ x. All (λ (e : (ℕ × ℕ) × State). states_of x e.0 ≡ Some e.1) x in
+      subst F (ap (λ (x : Contents). x.states) is) all
+
+  -- the state that stands at a point is in range
+  pub old_in_range : (c off : ℕ) (s : State) → Some s ≡ states_of states (c, off) → state_order.InRange s
+  old_in_range c off s at = built.family.in_range c off s (sym at)
+
+  -- what is said of the depth of the state that stands at a point
+  pub point_depth : (c off : ℕ) (old : State) → c < length v.contexts → Some old ≡ states_of states (c, off) → (t : State) → state_order.SameDepth old t
+      → (s : State) → family_of v (place_of v c off) ≡ Some s → state_order.SameDepth s t
+  point_depth c off old within at t deep s has =
+      let both : Some old ≡ Some s = sym (point_state c off (Some old) within at) ∙ has in
+      let same : old ≡ s = cc in
+      let D : State → Type 0 = λ x. state_order.SameDepth x t in
+      subst D same deep
+
+  -- where no state stands nothing is to be said
+  pub point_none : (c off : ℕ) → c < length v.contexts → None ≡ states_of states (c, off) → (t : State)
+      → (s : State) → family_of v (place_of v c off) ≡ Some s → state_order.SameDepth s t
+  point_none c off within at t s has =
+      let both : None ≡ Some s = sym (point_state c off None within at) ∙ has in
+      absurd (cc)
+
+  pub same_built : (states' : List ((ℕ × ℕ) × State)) → states' ≡ states → IsBuilt entries index states'
+  same_built states' same = let B : List ((ℕ × ℕ) × State) → Type 0 = λ x. IsBuilt entries index x in subst B (sym same) built
+
+  pub same_kept : (states' : List ((ℕ × ℕ) × State)) → states' ≡ states → ◌≡◌ {A = Contents} (record { contexts = frames_of entries; states = states' }) v
+  same_kept states' same = ap (λ (x : List ((ℕ × ℕ) × State)). let y : Contents = record { contexts = frames_of entries; states = x } in y) same ∙ is
+
+  pub same_family : (states' : List ((ℕ × ℕ) × State)) → states' ≡ states → IsFamily (record { contexts = frames_of entries; states = states' })
+  same_family states' same = (same_built states' same).family
+
+  pub few_states : length states ≤ 4294967295
+  few_states = built.family.fits
+
+-- a write of the same value
+pub same_written : (m n : BTreeMap (ℕ × ℕ) State) (k : ℕ × ℕ) (old u : State) → Some old ≡ states_of m.entries k → WritesThrough place_cmp (place_cmp k) m u n → u ≡ old
+    → n.entries ≡ m.entries
+same_written m n k old u had writes same =
+    writes.0 ∙ ap (set_value (is_at (place_cmp k)) m.entries) same ∙ set_value_same (is_at (place_cmp k)) m.entries old (sym had)
+
+pub now_written : (m n : BTreeMap (ℕ × ℕ) State) (k : ℕ × ℕ) (old u : State) → Some old ≡ states_of m.entries k → WritesThrough place_cmp (place_cmp k) m u n
+    → states_of n.entries k ≡ Some u
+now_written m n k old u had writes =
+    let there : IsSome (get_by (place_cmp k) m) = ap is_some (sym had) in
+    let updates : UpdatesBy place_cmp (place_cmp k) m n (Some u) = writes.3 there in
+    updates.1
+
+pub copied_some : (o : Option (Bor State)) (x y : Option State) → option_copied o ≡ x → y ≡ x → IfSome o (λ s. y ≡ Some s.now)
+copied_some None x y e f = tt
+copied_some (Some s) x y e f = f ∙ sym e
+
+one_at_most : (b : Bool) → cond b 0 1 ≤ 1
+one_at_most true = omega arith
+one_at_most false = omega arith
+
+-- an insert of what wasn't there, into the map that a look-up gave back
+pub added_fits : (m n : BTreeMap (ℕ × ℕ) State) (len : ℕ) (b : Bool) → len ≡ length m.entries → len < 4294967295 → length n.entries ≡ length m.entries + cond b 0 1
+    → length n.entries ≤ 4294967295
+added_fits m n len b e lt more = let one = one_at_most b in omega arith
+
+pub added_sums : (m m' n : BTreeMap (ℕ × ℕ) State) (k : ℕ × ℕ) (t : State) → m' ≡ m → UpdatesBy place_cmp (place_cmp k) m' n (Some t)
+    → n.entries ≡ insert_entry place_cmp m'.entries k t → IsOrdered place_cmp m'
+    → (w : State → ℕ) → sum_by w (values_of n.entries) + weigh w (states_of m.entries k) ≡ sum_by w (values_of m.entries) + weigh w (states_of n.entries k)
+added_sums m m' n k t same updates writes ordered =
+    let P : BTreeMap (ℕ × ℕ) State → Type 0 = λ x. (w : State → ℕ) → sum_by w (values_of n.entries) + weigh w (states_of x.entries k) ≡ sum_by w (values_of x.entries) + weigh w (states_of n.entries k) in
+    subst P same (sums_added m'.entries n.entries k t updates.1 writes ordered)

@@ -1,0 +1,284 @@
+//! Contexts by number, and abstract states by context and offset.
+
+ghost use Rattle.std.specs.Prelude.{◌≡◌, ◌≢◌, ◌⊎◌, ℕ, ◌<◌, ◌≤◌, None, Some, [], ◌∷◌, Err, IfOk, IfSome, IsTrue, OnErr, length, reverse};
+ghost use Rattle.std.specs.List.{All};
+ghost use Rattle.std.specs.List.Sorted.{IsStrictlySortedBy};
+ghost use Rattle.std.specs.Map.{keys_of};
+ghost use Rattle.std.specs.Map.Iter.{ShowsInOrder, deref_pair};
+ghost use Rattle.tt_abs.specs.declared.state.State.{State as StateValue};
+ghost use Rattle.tt_abs.specs.States.{state_order};
+ghost use Rattle.tt_cert.specs.Places.{PutsAt, place_cmp, states_of};
+ghost use Rattle.tt_cert.specs.Puts.{Reweighs, place_of};
+ghost use Rattle.tt_cert.specs.Built.{RisesByKey, key_of as key_of_entry};
+ghost use Rattle.tt_cert.specs.Rising.{IsFinished};
+ghost use Rattle.tt_cert.specs.Contents.{AddsContext, HasContext, IsFamily, family_of, frames_at, points_of};
+
+use crate::fault::BuildFault;
+use std::alloc::{AllocError, Global};
+use std::collections::BTreeMap;
+use std::collections::btree_map::Iter;
+use std::marker::Model;
+use tt_abs::{Order, State};
+use tt_code::Frame;
+
+/// At most so many contexts are kept, the empty one counted.
+const MOST_CONTEXTS: u32 = 65_535;
+
+/// At most so many states are kept.
+const MOST_STATES: usize = 4_294_967_295;
+
+/// A family of states that grows. A context is a list of calls that haven't returned; contexts have numbers in the order in
+/// which they were added, and the empty one is number 0. A point is a context and an offset.
+#[derive(Drop)]
+pub struct Builder {
+    /// The contexts but the empty one, each with its parent's number and its last frame.
+    entries: Vec<(u32, Frame)>,
+    /// The number of each context but the empty one, by parent, call, body, turn and count.
+    index: BTreeMap<Key, u32>,
+    /// The states by context and offset.
+    states: BTreeMap<(u32, u32), State>,
+}
+
+impl Model for Builder {
+    ghost use Rattle.tt_cert.specs.Contexts.{frames_of};
+    ghost use Rattle.tt_cert.specs.Contents.{Contents};
+    ghost use Rattle.tt_cert.specs.Built.{IsBuilt};
+
+    ghost Value = { Contents };
+
+    ghost view = { λ b. record { contexts = frames_of b.entries.items; states = b.states.entries } };
+
+    ghost invariant = { λ b. IsBuilt b.entries.items b.index b.states.entries };
+}
+
+/// The parent, call, body, turn and count of a context, by which contexts rise.
+type Key = (u32, u32, u32, u32, u32);
+
+/// By what an entry's context rises.
+fn key_of(entry: &(u32, Frame)) -> Key
+    ensures { result ≡ key_of_entry entry.now }
+{
+    let (parent, frame) = *entry;
+    (parent, frame.call, frame.body, frame.turn, frame.count)
+}
+
+/// Does each entry rise above the one before?
+fn rises(entries: &[(u32, Frame)]) -> bool
+    ensures { IsTrue result → RisesByKey entries.now }
+{
+    for i in 1..entries.len() {
+        if !key_of(&entries[i - 1]).cmp(&key_of(&entries[i])).is_lt() {
+            return false;
+        }
+    }
+    true
+}
+
+/// Puts the numbers of a context's children behind the others, in the order of their frames.
+fn push_children(index: &BTreeMap<Key, u32>, parent: u32, order: &mut Vec<u32>) -> Result<(), AllocError> {
+    for (key, number) in index.range((parent, 0, 0, 0, 0)..) {
+        if key.0 != parent {
+            break;
+        }
+        order.push(*number)?;
+    }
+    Ok(())
+}
+
+impl Builder {
+    /// The empty context alone, and no state.
+    pub fn new(alloc: Global) -> Self
+        ensures contexts { result.contexts ≡ [] ∷ [] }
+        ensures states { result.states ≡ [] }
+        ensures family { IsFamily result }
+    {
+        Builder {
+            entries: Vec::new(alloc),
+            index: BTreeMap::new(alloc),
+            states: BTreeMap::new(alloc),
+        }
+    }
+
+    /// How many contexts there are, the empty one counted.
+    pub fn contexts(&self) -> u32
+        ensures value { result ≡ length self.now.contexts }
+        ensures family { IsFamily self.now }
+    {
+        self.entries.len() as u32 + 1
+    }
+
+    /// How many states there are.
+    pub fn points(&self) -> u32
+        ensures value { result ≡ points_of self.now }
+        ensures family { IsFamily self.now }
+    {
+        self.states.len() as u32
+    }
+
+    /// A context's parent and last frame. The empty context has none, nor has a number under which there is no context.
+    pub fn context(&self, number: u32) -> Option<(u32, Frame)>
+        ensures none { result ≡ None → (number ≡ 0) ⊎ (length self.now.contexts ≤ number) }
+        ensures some { IfSome result (λ e. (number < length self.now.contexts) × (e.0 < number) × (frames_at self.now.contexts number ≡ e.1 ∷ frames_at self.now.contexts e.0)) }
+    {
+        if number == 0 {
+            return None;
+        }
+        match self.entries.get(number as usize - 1) {
+            Some(entry) => Some(*entry),
+            None => None,
+        }
+    }
+
+    /// The number of the context that has the parent's frames and one more, which is added where it isn't there.
+    ///
+    /// # Errors
+    /// `TooManyContexts` exactly if it isn't there and 65,535 contexts are; `OutOfMemory`. Then the builder stays as it is.
+    pub fn add_context(&mut self, parent: u32, frame: Frame) -> Result<u32, BuildFault>
+        requires { parent < length self.old.contexts }
+        ensures added { IfOk result (AddsContext self.old.contexts self.new.contexts (frame ∷ frames_at self.old.contexts parent)) }
+        ensures states { self.new.states ≡ self.old.states }
+        ensures full { result ≡ Err BuildFault.TooManyContexts → (HasContext self.old.contexts (frame ∷ frames_at self.old.contexts parent) → ⊥) × (length self.old.contexts ≡ 65535) }
+        ensures room { (HasContext self.old.contexts (frame ∷ frames_at self.old.contexts parent) → ⊥) → length self.old.contexts ≡ 65535 → result ≡ Err BuildFault.TooManyContexts }
+        ensures depth { result ≢ Err BuildFault.DepthMismatch }
+        ensures kept { OnErr result (self.new ≡ self.old) }
+        ensures family { IsFamily self.new }
+    {
+        let key = (parent, frame.call, frame.body, frame.turn, frame.count);
+        if let Some(number) = self.index.get(&key) {
+            return Ok(*number);
+        }
+        let count = self.entries.len() as u32 + 1;
+        if count >= MOST_CONTEXTS {
+            return Err(BuildFault::TooManyContexts);
+        }
+        if let Err(_) = self.entries.reserve(1) {
+            return Err(BuildFault::OutOfMemory);
+        }
+        if let Err(_) = self.index.insert(key, count) {
+            return Err(BuildFault::OutOfMemory);
+        }
+        self.entries.push_reserved((parent, frame));
+        Ok(count)
+    }
+
+    /// A context's frames, the outermost first.
+    ///
+    /// # Errors
+    /// If memory runs out.
+    pub fn frames(&self, alloc: Global, number: u32) -> Result<Vec<Frame>, AllocError>
+        requires { number < length self.now.contexts }
+        ensures { IfOk result (λ frames. frames.items ≡ reverse (frames_at self.now.contexts number)) }
+    {
+        let mut frames = Vec::new(alloc);
+        let mut at = number;
+        while at > 0 {
+            let entry = self.entries[at as usize - 1];
+            frames.push(entry.1).map_err(AllocError::from)?;
+            at = entry.0;
+        }
+        frames.reverse();
+        Ok(frames)
+    }
+
+    /// The state at a point.
+    pub fn state(&self, context: u32, offset: u32) -> Option<&State>
+        ensures none { result ≡ None → states_of self.now.states (context, offset) ≡ None }
+        ensures some { IfSome result (λ state. states_of self.now.states (context, offset) ≡ Some state.now) }
+        ensures at { context < length self.now.contexts → family_of self.now (place_of self.now context offset) ≡ states_of self.now.states (context, offset) }
+        ensures family { IsFamily self.now }
+    {
+        self.states.get(&(context, offset))
+    }
+
+    /// The states with their contexts and offsets, by rising context, and by rising offset within one: each point that has a
+    /// state comes once.
+    pub fn states(&self) -> Iter<'_, (u32, u32), State>
+        ensures rest { result ≡ self.now.states }
+        ensures rises { IsStrictlySortedBy place_cmp (keys_of self.now.states) }
+        ensures found { All (λ e. states_of self.now.states e.0 ≡ Some e.1) self.now.states }
+        ensures runs { ShowsInOrder (deref_pair {K = ℕ × ℕ} {X = StateValue}) }
+        ensures family { IsFamily self.now }
+    {
+        self.states.iter()
+    }
+
+    /// Puts a state at a point, by a join where there is one, and answers whether the state there is new or has changed.
+    ///
+    /// # Errors
+    /// `DepthMismatch` exactly if a state of another depth stands there; `OutOfMemory`. Then the builder stays as it is.
+    pub fn put_state(&mut self, context: u32, offset: u32, state: State) -> Result<bool, BuildFault>
+        requires there { context < length self.old.contexts }
+        requires theirs { state_order.InRange state }
+        ensures put { IfOk result (λ changed. PutsAt state_order (family_of self.old) (family_of self.new) (place_of self.old context offset) state changed) }
+        ensures sums { IfOk result (λ _. Reweighs self.old self.new (place_of self.old context offset)) }
+        ensures depth { result ≡ Err BuildFault.DepthMismatch → (s : StateValue) × (family_of self.old (place_of self.old context offset) ≡ Some s) × (state_order.SameDepth s state → ⊥) }
+        ensures joined { IfOk result (λ _. (s : StateValue) → family_of self.old (place_of self.old context offset) ≡ Some s → state_order.SameDepth s state) }
+        ensures contexts { self.new.contexts ≡ self.old.contexts }
+        ensures few { result ≢ Err BuildFault.TooManyContexts }
+        ensures kept { OnErr result (self.new ≡ self.old) }
+        ensures family { IsFamily self.new }
+    {
+        if let Some(old) = self.states.get_mut(&(context, offset)) {
+            let Ok(changed) = old.join(&state) else {
+                return Err(BuildFault::DepthMismatch);
+            };
+            return Ok(changed);
+        }
+        if self.states.len() >= MOST_STATES {
+            return Err(BuildFault::OutOfMemory);
+        }
+        if let Err(_) = self.states.insert((context, offset), state) {
+            return Err(BuildFault::OutOfMemory);
+        }
+        Ok(true)
+    }
+
+    /// Puts a copy of a state at a point, as `put_state` does.
+    ///
+    /// # Errors
+    /// As `put_state`.
+    pub fn join_state(&mut self, context: u32, offset: u32, state: &State) -> Result<bool, BuildFault>
+        requires there { context < length self.old.contexts }
+        requires theirs { state_order.InRange state.now }
+        ensures put { IfOk result (λ changed. PutsAt state_order (family_of self.old) (family_of self.new) (place_of self.old context offset) state.now changed) }
+        ensures sums { IfOk result (λ _. Reweighs self.old self.new (place_of self.old context offset)) }
+        ensures depth { result ≡ Err BuildFault.DepthMismatch → (s : StateValue) × (family_of self.old (place_of self.old context offset) ≡ Some s) × (state_order.SameDepth s state.now → ⊥) }
+        ensures joined { IfOk result (λ _. (s : StateValue) → family_of self.old (place_of self.old context offset) ≡ Some s → state_order.SameDepth s state.now) }
+        ensures contexts { self.new.contexts ≡ self.old.contexts }
+        ensures few { result ≢ Err BuildFault.TooManyContexts }
+        ensures kept { OnErr result (self.new ≡ self.old) }
+        ensures family { IsFamily self.new }
+    {
+        let _family = self.points();
+        let Ok(copy) = state.copied() else {
+            return Err(BuildFault::OutOfMemory);
+        };
+        self.put_state(context, offset, copy)
+    }
+
+    /// Do the contexts rise?
+    pub(crate) fn is_rising(&self) -> bool
+        ensures { IsTrue result → IsFinished self.now }
+    {
+        rises(self.entries.as_slice())
+    }
+
+    /// The allocator.
+    pub(crate) fn allocator(&self) -> Global {
+        *self.entries.allocator()
+    }
+
+    /// The numbers of the contexts, each behind its parent's, by depth and then by the order of the parents and of the frames.
+    pub(crate) fn file_order(&self) -> Result<Vec<u32>, AllocError> {
+        let mut order = Vec::new(self.allocator());
+        order.push(0)?;
+        for i in 0..self.entries.len() {
+            let Some(parent) = order.get(i) else {
+                break;
+            };
+            let parent = *parent;
+            push_children(&self.index, parent, &mut order)?;
+        }
+        Ok(order)
+    }
+}

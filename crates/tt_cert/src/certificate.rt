@@ -1,0 +1,114 @@
+//! Finished families of abstract states.
+
+ghost use Rattle.std.specs.Prelude.{◌≡◌, ◌⊎◌, ◌<◌, ◌≤◌, ℕ, None, Some, [], ◌∷◌, IfOk, IfSome, length, reverse};
+ghost use Rattle.std.specs.List.{All};
+ghost use Rattle.std.specs.List.Sorted.{IsStrictlySortedBy};
+ghost use Rattle.std.specs.Map.{keys_of};
+ghost use Rattle.std.specs.Map.Iter.{ShowsInOrder, deref_pair};
+ghost use Rattle.tt_abs.specs.declared.state.State.{State as StateValue};
+ghost use Rattle.tt_cert.specs.Places.{place_cmp, states_of};
+ghost use Rattle.tt_cert.specs.Puts.{place_of};
+ghost use Rattle.tt_cert.specs.Contents.{family_of, frames_at, points_of};
+ghost use Rattle.tt_cert.specs.Rising.{IsFinished};
+
+use crate::builder::Builder;
+use std::alloc::{AllocError, Global};
+use std::collections::btree_map::Iter;
+use std::marker::Model;
+use tt_abs::State;
+use tt_code::Frame;
+
+/// A family of states whose contexts have their numbers in order: the empty one is number 0, and the others rise by parent,
+/// call, body, turn and count.
+#[derive(Drop)]
+pub struct Certificate {
+    builder: Builder,
+}
+
+impl Model for Certificate {
+    ghost use Rattle.tt_cert.specs.Contents.{Contents};
+    ghost use Rattle.tt_cert.specs.Rising.{IsFinished as IsFinishedFamily};
+
+    ghost Value = { Contents };
+
+    ghost view = { λ c. c.builder };
+
+    ghost invariant = { λ c. IsFinishedFamily c.builder };
+}
+
+impl Certificate {
+    /// A builder's family, whose contexts are in order.
+    pub(crate) fn of(builder: Builder) -> Self
+        requires { IsFinished builder }
+        ensures { result ≡ builder }
+    {
+        Certificate { builder }
+    }
+
+    /// How many contexts there are, the empty one counted.
+    pub fn contexts(&self) -> u32
+        ensures value { result ≡ length self.now.contexts }
+        ensures finished { IsFinished self.now }
+    {
+        self.builder.contexts()
+    }
+
+    /// How many states there are.
+    pub fn points(&self) -> u32
+        ensures { result ≡ points_of self.now }
+    {
+        self.builder.points()
+    }
+
+    /// A context's parent and last frame. The empty context has none, nor has a number under which there is no context.
+    pub fn context(&self, number: u32) -> Option<(u32, Frame)>
+        ensures none { result ≡ None → (number ≡ 0) ⊎ (length self.now.contexts ≤ number) }
+        ensures some { IfSome result (λ e. (number < length self.now.contexts) × (e.0 < number) × (frames_at self.now.contexts number ≡ e.1 ∷ frames_at self.now.contexts e.0)) }
+    {
+        self.builder.context(number)
+    }
+
+    /// A context's frames, the outermost first.
+    ///
+    /// # Errors
+    /// If memory runs out.
+    pub fn frames(&self, alloc: Global, number: u32) -> Result<Vec<Frame>, AllocError>
+        requires { number < length self.now.contexts }
+        ensures { IfOk result (λ frames. frames.items ≡ reverse (frames_at self.now.contexts number)) }
+    {
+        self.builder.frames(alloc, number)
+    }
+
+    /// The state at a point.
+    pub fn state(&self, context: u32, offset: u32) -> Option<&State>
+        ensures none { result ≡ None → states_of self.now.states (context, offset) ≡ None }
+        ensures some { IfSome result (λ state. states_of self.now.states (context, offset) ≡ Some state.now) }
+        ensures at { context < length self.now.contexts → family_of self.now (place_of self.now context offset) ≡ states_of self.now.states (context, offset) }
+    {
+        self.builder.state(context, offset)
+    }
+
+    /// The states with their contexts and offsets, by rising context, and by rising offset within one: each point that has a
+    /// state comes once.
+    pub fn states(&self) -> Iter<'_, (u32, u32), State>
+        ensures rest { result ≡ self.now.states }
+        ensures rises { IsStrictlySortedBy place_cmp (keys_of self.now.states) }
+        ensures found { All (λ e. states_of self.now.states e.0 ≡ Some e.1) self.now.states }
+        ensures runs { ShowsInOrder (deref_pair {K = ℕ × ℕ} {X = StateValue}) }
+        ensures finished { IsFinished self.now }
+    {
+        self.builder.states()
+    }
+
+    /// The functions that are known at the end of a program of this length, where no call is open: by rising numbers, each
+    /// with its body. None if the end has no state.
+    pub fn end_functions(&self, length: u32) -> Option<&[(u16, u32)]>
+        ensures none { result ≡ None → family_of self.now ([], length) ≡ None }
+        ensures some { IfSome result (λ functions. (end : StateValue) × (family_of self.now ([], length) ≡ Some end) × (functions.now ≡ end.functions)) }
+    {
+        match self.builder.state(0, length) {
+            Some(state) => Some(state.functions()),
+            None => None,
+        }
+    }
+}

@@ -1,0 +1,14 @@
+//! Families of abstract states by context and offset: their builder, and the finished certificate.
+#![tactic(auto)]
+
+pub mod builder;
+pub mod certificate;
+pub mod fault;
+mod finishing;
+
+pub use builder::Builder;
+pub use certificate::Certificate;
+pub use fault::BuildFault;
+
+#[cfg(test)]
+mod tests;
