@@ -62,10 +62,19 @@ fn joined_states(rt: HostRuntime) -> Result<(), Fail> {
     assert_eq!(rt; put(&mut builder, 0, 5, &two), Ok(true));
     assert_eq!(rt; put(&mut builder, 0, 5, &two), Ok(false));
     assert_eq!(rt; put(&mut builder, 0, 5, &three), Ok(true));
-    assert_eq!(rt; builder.state(0, 5).and_then(|state| state.cell(0)), Some(Cell::Known(1)));
-    assert_eq!(rt; builder.state(0, 5).and_then(|state| state.cell(1)), Some(Cell::Unknown));
+    assert_eq!(rt;
+        builder.state(0, 5).and_then(|state| state.cell(0)),
+        Some(Cell::Known(1))
+    );
+    assert_eq!(rt;
+        builder.state(0, 5).and_then(|state| state.cell(1)),
+        Some(Cell::Unknown)
+    );
     let start = start_of(rt.alloc())?;
-    assert_eq!(rt; put(&mut builder, 0, 5, &start), Err(BuildFault::DepthMismatch));
+    assert_eq!(rt;
+        put(&mut builder, 0, 5, &start),
+        Err(BuildFault::DepthMismatch)
+    );
     assert_eq!(rt; builder.state(0, 5).map(State::depth), Some(2));
     assert_eq!(rt; put(&mut builder, 0, 4, &start), Ok(true));
     assert_eq!(rt; builder.points(), 2);
@@ -93,12 +102,18 @@ fn finished_contexts(rt: HostRuntime) -> Result<(), Fail> {
     if certificate.contexts() < 4 {
         return Err(Fail::new("too few contexts"));
     }
-    assert_eq!(rt; certificate.frames(rt.alloc(), 3)?.as_slice(), [call_at(9), call_at(3)].as_slice());
+    assert_eq!(rt;
+        certificate.frames(rt.alloc(), 3)?.as_slice(),
+        [call_at(9), call_at(3)].as_slice()
+    );
     let mut points = Vec::new(rt.alloc());
     for (place, _) in certificate.states() {
         points.push(*place)?;
     }
-    assert_eq!(rt; points.as_slice(), [(1, 6), (2, 1), (2, 4), (3, 8)].as_slice());
+    assert_eq!(rt;
+        points.as_slice(),
+        [(1, 6), (2, 1), (2, 4), (3, 8)].as_slice()
+    );
     assert_eq!(rt; certificate.points(), 4);
     assert_eq!(rt; certificate.state(2, 1).map(State::depth), Some(2));
     assert_eq!(rt; certificate.end_functions(8).is_none(), true);
@@ -124,7 +139,10 @@ fn contexts_up_to_the_limit(rt: HostRuntime) -> Result<(), Fail> {
         assert_eq!(rt; add(&mut builder, 0, call_at(call)), Ok(call));
     }
     assert_eq!(rt; builder.contexts(), 65_535);
-    assert_eq!(rt; add(&mut builder, 0, call_at(65_535)), Err(BuildFault::TooManyContexts));
+    assert_eq!(rt;
+        add(&mut builder, 0, call_at(65_535)),
+        Err(BuildFault::TooManyContexts)
+    );
     assert_eq!(rt; add(&mut builder, 0, call_at(9)), Ok(9));
     assert_eq!(rt; builder.contexts(), 65_535);
     assert_eq!(rt; builder.context(9), Some((0, call_at(9))));
