@@ -12,7 +12,8 @@ use Rattle.tt_code.specs.declared.word.Word.{Word}
 use Rattle.tt_code.specs.declared.word.Word.TheVariants.{If, Else, Eif, Fdef, Idef, Endf, Other}
 use Rattle.tt_code.specs.declared.machine.Body.{Body}
 use Rattle.tt_code.specs.declared.machine.Body.TheVariants as body
-use Rattle.tt_code.proofs.StructureLaws.{HasBytes, each_bytes, each_before, each_behind, each_joined, size-append, earlier, same, later, place, taken, Closed, opener_closed, closed_goes}
+use Rattle.tt_code.proofs.CutLemmas.{size-append}
+use Rattle.tt_code.proofs.StructureLaws.{HasBytes, each_bytes, each_before, each_behind, each_joined, earlier, same, later, place, taken, Closed, opener_closed, closed_goes}
 
 -- FDEF and IDEF have no operands.
 
