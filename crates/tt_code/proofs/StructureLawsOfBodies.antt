@@ -395,6 +395,10 @@ is_body is at b structured each h =
 pub body_iff_is : (is : List Instruction) (at : ℕ) (i : Instruction) (b : Body) → IsStructured is → AllByRecursion IsInstruction is → StandsAt is at i → (body_at is at ≡ Some b) ↔ IsBodyAt is at b
 body_iff_is is at i b structured each s = (λ h. (is_body is at b structured each h).1, body_is b structured each s)
 
+-- by the grammar each instruction has a body
+pub stands_in_body : {is : List Instruction} {at : ℕ} {i : Instruction} → IsStructured is → AllByRecursion IsInstruction is → StandsAt is at i → (b : Body) × IsBodyAt is at b
+stands_in_body structured each s = let found : Body = body_after body.Main 0 s.before in (found, after_is found structured each s refl)
+
 -- an answer that the grammar pins is that of the function
 pub body_value : (is : List Instruction) (at : ℕ) (found : Option Body) → IsStructured is → AllByRecursion IsInstruction is
     → IfSome found (λ b. ((i : Instruction) × StandsAt is at i) × IsBodyAt is at b) → IfNone found ((i : Instruction) → StandsAt is at i → ⊥) → found ≡ body_at is at
