@@ -43,5 +43,4 @@ pub mod Contexts
 mod ExamplesOfCalls
 pub mod StepLemmas
 pub mod Soundness
-pub mod CutPrograms
 mod ExamplesOfFlows

@@ -17,7 +17,7 @@ use Rattle.tt_code.specs.Slots.{body_found, Opens, IsOpenAt, IsTable}
 use Rattle.tt_code.proofs.CutLemmas.{size-append, size_more, some_bytes}
 use Rattle.tt_code.proofs.NestingLemmas.{defined_by, whole_steps, steps-append, steps_list, within_main, within-false, Leaves-start, Leaves-step}
 use Rattle.tt_code.proofs.SlotLemmas.{each_split, GoesTo-append, Linked, Table-start, Table-step}
-use Rattle.tt_code.proofs.LookupLemmas.{ends_opens, goes_found, goes_same, goes_there, same_place}
+use Rattle.tt_code.proofs.LookupLemmas.{goes_same, same_place}
 
 -- the instructions that begin definitions
 abbrev pub Defines : Word → Type 0
@@ -473,22 +473,3 @@ body_none_is is in_body goes k None table e = λ i stands.
     let b = body_there is in_body goes k i table stands in
     let wrong : None ≡ Some b.0 = e ∙ b.1 in cc
 body_none_is is in_body goes k (Some b) table e = tt
-
--- structured instructions have their table
-whole_table : (is : List Instruction) → AllByRecursion IsInstruction is → IsStructured is → (x : List (Option Body)) × (y : List (Option ℕ)) × IsTable is [] x y
-whole_table is each l = (table_of is [] [] [] [] [] each Leaves-start Table-start (whole_steps l)).1
-
--- in structured instructions each opening one leads somewhere
-pub each_target : (is : List Instruction) (k : ℕ) (i : Instruction) (e : Word) → AllByRecursion IsInstruction is → IsStructured is → StandsAt is k i → Ends (word i) e →
-    (t : ℕ) × GoesTo (word i) is k t
-each_target is k i e each l stands ends =
-    let whole = whole_table is each l in
-    let t = goes_there is whole.0 whole.1 k i whole.2 stands (ends_opens (word i) e ends) in
-    (t.0, goes_found is whole.0 whole.1 k t.0 i each whole.2 stands t.1)
-
--- in structured instructions each has a body
-pub each_body : (is : List Instruction) (k : ℕ) (i : Instruction) → AllByRecursion IsInstruction is → IsStructured is → StandsAt is k i → (b : Body) × IsBodyAt is k b
-each_body is k i each l stands =
-    let whole = whole_table is each l in
-    let b = body_there is whole.0 whole.1 k i whole.2 stands in
-    (b.0, body_is is whole.0 whole.1 k i b.0 each whole.2 stands b.1)

@@ -1,6 +1,6 @@
 -- Programs are of bytes.
 use Rattle.std.specs.List.{AllByRecursion, concat}
-use Rattle.std.proofs.Common.{◌≡◌, ℕ, zero, suc, ◌<◌, List, [], ◌∷◌, ◌++◌, get_or, Fits, w8, sym, ◌∙◌, subst, arith, rules}
+use Rattle.std.proofs.Common.{◌≡◌, ℕ, suc, ◌<◌, List, [], ◌∷◌, ◌++◌, get_or, Fits, w8, sym, subst, rules}
 use Rattle.tt_code.specs.Cut.{Instruction, IsCut}
 
 byte_fits : (n : ℕ) → Fits w8 n → n < 256

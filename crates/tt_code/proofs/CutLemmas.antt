@@ -139,7 +139,7 @@ at_fits ((x ∷ r) ∷ is) p (suc o) h =
     ]
 
 -- what starts behind an instruction starts in the rest
-pub found_behind : (x : Instruction) (is : List Instruction) (o : ℕ) (i : Instruction) → instruction_at (x ∷ is) (suc o) ≡ Some i
+found_behind : (x : Instruction) (is : List Instruction) (o : ℕ) (i : Instruction) → instruction_at (x ∷ is) (suc o) ≡ Some i
     → instruction_at is (suc o - length x) ≡ Some i
 found_behind x is o i e = by_test (nat_lt (suc o) (length x)) refl
   where
@@ -223,10 +223,6 @@ size-append (x ∷ xs) ys = omega (arith, size-append xs ys)
 
 pub size_more : (is : List Instruction) (i : Instruction) → size (is ++ (i ∷ [])) ≡ size is + length i
 size_more is i = omega (arith, size-append is (i ∷ []))
-
-pub all-append : (is js : List Instruction) → AllByRecursion IsInstruction is → AllByRecursion IsInstruction js → AllByRecursion IsInstruction (is ++ js)
-all-append [] js a b = b
-all-append (i ∷ is) js a b = (a.0, all-append is js a.1 b)
 
 -- an instruction has bytes
 pub some_bytes : (i : Instruction) → IsInstruction i → 0 < length i

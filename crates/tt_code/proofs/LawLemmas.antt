@@ -4,14 +4,15 @@ use Rattle.std.specs.List.{AllByRecursion}
 use Rattle.tt_code.specs.declared.word.Word.{Word}
 use Rattle.tt_code.specs.Cut.{Instruction, IsInstruction, size, CannotBeCut}
 use Rattle.tt_code.specs.Grammar.{CanGoOn, IsStructured, IsFault, GoesTo, StandsAt}
-use Rattle.tt_code.proofs.CutLemmas.{all-append, size-append, size_more}
+use Rattle.tt_code.proofs.CutLemmas.{size-append, size_more}
 use Rattle.tt_code.proofs.ProgramLemmas.{all_after}
 use Rattle.tt_code.proofs.LookupLemmas.{compare}
+use Rattle.tt_code.proofs.StructureLaws.{each_before, each_joined}
 
 -- One instruction more can go on, so fewer can.
 shorter_goes_on : (x r : List Instruction) (i : Instruction) → AllByRecursion IsInstruction r → CanGoOn (x ++ (i ∷ r)) → CanGoOn (x ++ (i ∷ []))
 shorter_goes_on x r i a (rest, ok, l) =
-    (r ++ rest, all-append r rest a ok, subst IsStructured (append_assoc x (i ∷ r) rest ∙ sym (append_assoc x (i ∷ []) (r ++ rest))) l)
+    (r ++ rest, each_joined IsInstruction r rest a ok, subst IsStructured (append_assoc x (i ∷ r) rest ∙ sym (append_assoc x (i ∷ []) (r ++ rest))) l)
 
 -- A program has one fault.
 pub one_fault : (is : List Instruction) (k m : ℕ) → AllByRecursion IsInstruction is → IsFault is k → IsFault is m → k ≡ m
@@ -22,17 +23,13 @@ one_fault is k m each (inl f) (inl g) =
       | inl r ↦ sym f.offset ∙ ap size r.0 ∙ g.offset
       | inr r ↦ elim r [
         | inl u ↦
-            let front : AllByRecursion IsInstruction (f.before ++ (f.i ∷ u.0)) = subst (λ x. AllByRecursion IsInstruction x) u.1 (each_before g.before (g.i ∷ g.after) okg) in
+            let front : AllByRecursion IsInstruction (f.before ++ (f.i ∷ u.0)) = subst (λ x. AllByRecursion IsInstruction x) u.1 (each_before IsInstruction g.before (g.i ∷ g.after) okg) in
             absurd (f.cannot (shorter_goes_on f.before u.0 f.i (all_after f.before u.0 f.i front) (subst CanGoOn u.1 g.can_go_on)))
         | inr u ↦
-            let front : AllByRecursion IsInstruction (g.before ++ (g.i ∷ u.0)) = subst (λ x. AllByRecursion IsInstruction x) u.1 (each_before f.before (f.i ∷ f.after) okf) in
+            let front : AllByRecursion IsInstruction (g.before ++ (g.i ∷ u.0)) = subst (λ x. AllByRecursion IsInstruction x) u.1 (each_before IsInstruction f.before (f.i ∷ f.after) okf) in
             absurd (g.cannot (shorter_goes_on g.before u.0 g.i (all_after g.before u.0 g.i front) (subst CanGoOn u.1 f.can_go_on)))
       ]
     ]
-  where
-    each_before : (a b : List Instruction) → AllByRecursion IsInstruction (a ++ b) → AllByRecursion IsInstruction a
-    each_before [] b h = tt
-    each_before (x ∷ a) b h = (h.0, each_before a b h.1)
 one_fault is k m each (inl f) (inr g) =
     let ok : AllByRecursion IsInstruction (f.before ++ (f.i ∷ f.after)) = subst (λ x. AllByRecursion IsInstruction x) f.whole each in
     absurd (f.cannot (shorter_goes_on f.before f.after f.i (all_after f.before f.after f.i ok) (subst CanGoOn f.whole g.can_go_on)))

@@ -1,20 +1,19 @@
 -- What the slots of a whole program say.
-use Rattle.std.proofs.Common.{◌≡◌, ◌⊎◌, inl, inr, ℕ, zero, suc, ◌-◌, ◌<◌, ◌≤◌, List, [], ◌∷◌, ◌++◌, length, refl, sym, ◌∙◌, ap, arith, subst, Option, Some, None, false, true, Bool, zero-add}
-use Rattle.std.specs.Prelude.{nat_lt}
+use Rattle.std.proofs.Common.{◌≡◌, ◌⊎◌, inl, inr, ℕ, List, [], ◌∷◌, ◌++◌, length, refl, sym, ◌∙◌, ap, arith, subst, Option, Some, None, false, zero-add}
 use Rattle.std.specs.Option.{IfSome, IfNone}
 use Rattle.std.specs.List.{AllByRecursion}
-use Rattle.std.proofs.lemmas.Bool.{le-ltb, ltb-false}
 use Rattle.tt_code.specs.declared.word.Word.{Word}
 use Rattle.tt_code.specs.declared.word.Word.TheVariants.{If, Else, Eif, Fdef, Idef, Endf, Other}
 use Rattle.tt_code.specs.declared.machine.Body.{Body}
-use Rattle.tt_code.specs.Cut.{Instruction, IsInstruction, instruction_at, size}
+use Rattle.tt_code.specs.Cut.{Instruction, IsInstruction, size}
 use Rattle.tt_code.specs.Structure.{word}
 use Rattle.tt_code.specs.Grammar.{IsList, Ends, GoesTo, StandsAt}
 use Rattle.tt_code.specs.Pass.{step, steps}
 use Rattle.tt_code.specs.Slots.{target_found, Opens, IsTable}
-use Rattle.tt_code.proofs.CutLemmas.{found_behind, some_bytes}
+use Rattle.tt_code.proofs.CutLemmas.{some_bytes}
 use Rattle.tt_code.proofs.NestingLemmas.{steps-append, whole_steps}
 use Rattle.tt_code.proofs.SlotLemmas.{weaken}
+use Rattle.tt_code.proofs.StructureLaws.{each_bytes, stands_found}
 
 -- Two places of one size are one.
 pub same_place : (a b c d : List Instruction) (i j : Instruction) → AllByRecursion IsInstruction (a ++ (i ∷ b)) → a ++ (i ∷ b) ≡ c ++ (j ∷ d) → size a ≡ size c →
@@ -95,45 +94,10 @@ goes_same is w v k s t each g h =
       ]
     ]
 
--- an instruction stands where it starts
-pub stands_found : (is : List Instruction) → AllByRecursion IsInstruction is → (o : ℕ) (i : Instruction) → StandsAt is o i → instruction_at is o ≡ Some i
-stands_found is each o i s = go s.before is each o s.whole s.offset
-  where
-    go : (before is : List Instruction) → AllByRecursion IsInstruction is → (o : ℕ) → is ≡ before ++ (i ∷ s.after) → size before ≡ o → instruction_at is o ≡ Some i
-    go [] is each o e h = rw (e, ← h) refl
-    go (x ∷ before) is each o e h =
-        let ok : AllByRecursion IsInstruction (x ∷ (before ++ (i ∷ s.after))) = subst (λ x. AllByRecursion IsInstruction x) e each in
-        let some = some_bytes x ok.0 in
-        let rest = go before (before ++ (i ∷ s.after)) ok.1 (o - length x) refl (omega arith) in
-        rw e (behind x (before ++ (i ∷ s.after)) o (omega arith) (omega arith) rest)
-      where
-        behind : (x : Instruction) (is : List Instruction) (o : ℕ) → 0 < o → length x ≤ o → instruction_at is (o - length x) ≡ Some i → instruction_at (x ∷ is) o ≡ Some i
-        behind x is zero some h e = absurd (omega arith)
-        behind x is (suc o) some h e = rw (le-ltb (suc o) (length x) h) e
-
--- what starts at an offset stands there
-pub found_stands : (is : List Instruction) → AllByRecursion IsInstruction is → (o : ℕ) (i : Instruction) → instruction_at is o ≡ Some i → StandsAt is o i
-found_stands [] each o i e = let wrong : None ≡ Some i = e in cc
-found_stands (x ∷ is) each zero i e = let same : x ≡ i = cc in record { before = []; after = is; whole = ap (λ y. y ∷ is) same; offset = refl }
-found_stands (x ∷ is) each (suc o) i e =
-    let s = found_stands is each.1 (suc o - length x) i (found_behind x is o i e) in
-    let past : length x ≤ suc o = reached x is o i e in
-    record { before = x ∷ s.before; after = s.after; whole = ap (λ y. x ∷ y) s.whole; offset = omega (arith, s.offset) }
-  where
-    reached : (x : Instruction) (is : List Instruction) (o : ℕ) (i : Instruction) → instruction_at (x ∷ is) (suc o) ≡ Some i → length x ≤ suc o
-    reached x is o i e = by_test (nat_lt (suc o) (length x)) refl
-      where
-        by_test : (b : Bool) → nat_lt (suc o) (length x) ≡ b → length x ≤ suc o
-        by_test true h =
-            let none : instruction_at (x ∷ is) (suc o) ≡ None = rw h refl in
-            let wrong : None ≡ Some i = sym none ∙ e in
-            cc
-        by_test false h = ltb-false (suc o) (length x) h
-
 -- two instructions that stand at one offset are one
 pub one_stands : (is : List Instruction) (k : ℕ) (i j : Instruction) → AllByRecursion IsInstruction is → StandsAt is k i → StandsAt is k j → i ≡ j
 one_stands is k i j each s t =
-    let same : Some i ≡ Some j = sym (stands_found is each k i s) ∙ stands_found is each k j t in cc
+    let same : Some i ≡ Some j = sym (stands_found is k i (each_bytes is each) s) ∙ stands_found is k j (each_bytes is each) t in cc
 
 -- what leads on stands there
 pub goes_stands : (w : Word) (is : List Instruction) (k t : ℕ) (g : GoesTo w is k t) → StandsAt is k g.i

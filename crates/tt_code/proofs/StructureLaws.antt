@@ -9,20 +9,16 @@ use Rattle.tt_code.specs.Structure.{word, is_word, still_open, behind_end, leads
 use Rattle.tt_code.specs.Grammar.{IsDefinition, IsList, none, plain, if_eif, if_else_eif, definition, IsStructured, StandsAt, Ends, begins_definition, GoesTo}
 use Rattle.tt_code.specs.declared.word.Word.{Word}
 use Rattle.tt_code.specs.declared.word.Word.TheVariants.{If, Else, Eif, Fdef, Idef, Endf, Other}
+use Rattle.tt_code.proofs.CutLemmas.{size-append, some_bytes}
 
 -- What is said of each instruction is said of those before and behind a place.
 
 abbrev pub HasBytes : Instruction → Type 0
 HasBytes i = 0 < length i
 
--- an instruction has its code at least
-pub instruction_bytes : (i : Instruction) → IsInstruction i → HasBytes i
-instruction_bytes [] h = absurd h
-instruction_bytes (code ∷ rest) h = omega arith
-
 pub each_bytes : (is : List Instruction) → AllByRecursion IsInstruction is → AllByRecursion HasBytes is
 each_bytes [] h = h
-each_bytes (i ∷ is) h = (instruction_bytes i h.0, each_bytes is h.1)
+each_bytes (i ∷ is) h = (some_bytes i h.0, each_bytes is h.1)
 
 pub each_before : (P : Instruction → Type 0) (is js : List Instruction) → AllByRecursion P (is ++ js) → AllByRecursion P is
 each_before P [] js h = tt
@@ -35,10 +31,6 @@ each_behind P (i ∷ is) js h = each_behind P is js h.1
 pub each_joined : (P : Instruction → Type 0) (is js : List Instruction) → AllByRecursion P is → AllByRecursion P js → AllByRecursion P (is ++ js)
 each_joined P [] js h k = k
 each_joined P (i ∷ is) js h k = (h.0, each_joined P is js h.1 k)
-
-pub size-append : (is js : List Instruction) → size (is ++ js) ≡ size is + size js
-size-append [] js = omega arith
-size-append (i ∷ is) js = omega (arith, size-append is js)
 
 -- Where a place stands in a list that is parted at another place: before that one, at it, or behind it.
 pub data Place (first : List Instruction) (e : Instruction) (second before : List Instruction) (i : Instruction) (rest : List Instruction) : Type 0 where

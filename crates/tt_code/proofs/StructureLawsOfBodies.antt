@@ -12,7 +12,8 @@ use Rattle.tt_code.specs.declared.word.Word.{Word}
 use Rattle.tt_code.specs.declared.word.Word.TheVariants.{If, Else, Eif, Fdef, Idef, Endf, Other}
 use Rattle.tt_code.specs.declared.machine.Body.{Body}
 use Rattle.tt_code.specs.declared.machine.Body.TheVariants as body
-use Rattle.tt_code.proofs.StructureLaws.{HasBytes, each_bytes, each_before, each_behind, each_joined, size-append, earlier, same, later, place, taken, Closed, opener_closed, closed_goes}
+use Rattle.tt_code.proofs.CutLemmas.{size-append}
+use Rattle.tt_code.proofs.StructureLaws.{HasBytes, each_bytes, each_before, each_behind, each_joined, earlier, same, later, place, taken, Closed, opener_closed, closed_goes}
 
 -- FDEF and IDEF have no operands.
 
@@ -393,6 +394,10 @@ is_body is at b structured each h =
 
 pub body_iff_is : (is : List Instruction) (at : ℕ) (i : Instruction) (b : Body) → IsStructured is → AllByRecursion IsInstruction is → StandsAt is at i → (body_at is at ≡ Some b) ↔ IsBodyAt is at b
 body_iff_is is at i b structured each s = (λ h. (is_body is at b structured each h).1, body_is b structured each s)
+
+-- by the grammar each instruction has a body
+pub stands_in_body : {is : List Instruction} {at : ℕ} {i : Instruction} → IsStructured is → AllByRecursion IsInstruction is → StandsAt is at i → (b : Body) × IsBodyAt is at b
+stands_in_body structured each s = let found : Body = body_after body.Main 0 s.before in (found, after_is found structured each s refl)
 
 -- an answer that the grammar pins is that of the function
 pub body_value : (is : List Instruction) (at : ℕ) (found : Option Body) → IsStructured is → AllByRecursion IsInstruction is

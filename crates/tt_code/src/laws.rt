@@ -33,7 +33,7 @@ pub fn one_target()
     ensures { (bytes : List ℕ) (is : List Instruction) (opener other : Word) (offset s t : ℕ) → IsCut bytes is → GoesTo opener is offset s → GoesTo other is offset t → s ≡ t }
 {}
 
-/// In a structured program each instruction that opens something leads somewhere.
+/// By the grammar each instruction of a structured program that opens something leads somewhere.
 pub fn each_target()
     ensures { (bytes : List ℕ) (is : List Instruction) (offset : ℕ) (i : Instruction) (e : Word) → IsCut bytes is → IsStructured is → StandsAt is offset i → Ends (word i) e → (to : ℕ) × GoesTo (word i) is offset to }
 {}
@@ -48,7 +48,7 @@ pub fn one_body()
     ensures { (bytes : List ℕ) (is : List Instruction) (offset : ℕ) (i : Instruction) (b c : Body) → IsCut bytes is → IsStructured is → StandsAt is offset i → IsBodyAt is offset b → IsBodyAt is offset c → b ≡ c }
 {}
 
-/// Each instruction of a structured program has a body.
+/// By the grammar each instruction of a structured program has a body.
 pub fn each_body()
     ensures { (bytes : List ℕ) (is : List Instruction) (offset : ℕ) (i : Instruction) → IsCut bytes is → IsStructured is → StandsAt is offset i → (b : Body) × IsBodyAt is offset b }
 {}
@@ -81,7 +81,7 @@ pub fn partners_are_found()
         ((leads Word.Idef is at ≡ Some to) ↔ GoesTo Word.Idef is at to) }
 {}
 
-/// In a structured program each IF, ELSE, FDEF and IDEF leads somewhere.
+/// In a structured program it is found where each IF, ELSE, FDEF and IDEF leads.
 pub fn partners_are_there()
     ensures of_if { (is : List Instruction) (at : ℕ) (i : Instruction) → IsStructured is → AllByRecursion IsInstruction is →
         StandsAt is at i → word i ≡ Word.If → (to : ℕ) × (after_if is at ≡ Some to) }
@@ -93,7 +93,7 @@ pub fn partners_are_there()
         StandsAt is at i → word i ≡ Word.Idef → (to : ℕ) × (leads Word.Idef is at ≡ Some to) }
 {}
 
-/// Each instruction has a body, and in a structured program it is the one in which the instruction stands.
+/// A body is found for each instruction, and in a structured program it is the one in which the instruction stands.
 pub fn bodies_are_found()
     ensures found { (is : List Instruction) (at : ℕ) (i : Instruction) (b : Body) → IsStructured is → AllByRecursion IsInstruction is →
         StandsAt is at i → ((body_at is at ≡ Some b) ↔ IsBodyAt is at b) }

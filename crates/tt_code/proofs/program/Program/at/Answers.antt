@@ -4,8 +4,8 @@ use Rattle.tt_code.specs.Cut.{instruction_at}
 use Rattle.tt_code.specs.Slots.{lengths}
 use Rattle.tt_code.specs.declared.slot.Slot.{Slot}
 use Rattle.tt_code.proofs.CutLemmas.{at_kept, kept_fits, kept_instruction, kept_size, piece_at, piece_at_some}
-use Rattle.tt_code.proofs.LookupLemmas.{found_stands, stands_found}
 use Rattle.tt_code.proofs.ProgramLemmas.{kept_each}
+use Rattle.tt_code.proofs.StructureLaws.{each_bytes, found_stands, stands_found}
 use Rattle.tt_code.proofs.program.Program.at.Goals as goal
 
 -- the length that was read is the one that is kept
@@ -25,7 +25,7 @@ returns-then-n-eq0-clause-none c =
     let none : instruction_at c.args.self.now c.args.offset ≡ None =
     at_kept _ _ _ c.self.invariant.is_laid c.self.view_is c.args.offset ∙ ap (λ t. piece_at t (drop c.args.offset c.self.inside.bytes.now)) (there ∙ c.if-n-eq0.true) in
     λ i s.
-    let found = stands_found c.args.self.now (kept_each _ _ _ c.self.invariant c.self.view_is) c.args.offset i s in cc
+    let found = stands_found c.args.self.now c.args.offset i (each_bytes _ (kept_each _ _ _ c.self.invariant c.self.view_is)) s in cc
 
 pub slice_bounds-new-end : goal.slice_bounds-new-end
 slice_bounds-new-end c =
@@ -71,4 +71,4 @@ returns-clause-found c =
     let is_size : c.args.offset + c.from.result - c.args.offset ≡ get_or (lengths c.self.inside.slots.items) c.args.offset 0 = omega (arith, c.from.ensures) in
     let found : instruction_at c.args.self.now c.args.offset ≡ Some c.new.result =
     at_kept _ _ _ c.self.invariant.is_laid c.self.view_is c.args.offset ∙ piece_at_some _ _ some ∙ ap Some (sym (c.new.ensures ∙ ap (λ n. take n (drop c.args.offset c.self.inside.bytes.now)) is_size)) in
-    found_stands c.args.self.now (kept_each _ _ _ c.self.invariant c.self.view_is) c.args.offset c.new.result found
+    found_stands c.args.self.now c.args.offset c.new.result found
