@@ -158,7 +158,7 @@ at_drop d (suc n) (x ∷ xs) k = at_drop d n xs k ∙ ap (λ i. taken_at d (x �
     suc_plus : (n k : ℕ) → suc (n + k) ≡ suc n + k
     suc_plus n k = omega arith
 
-cell_is : {X : Type 0} (In : X → Type 0) (f : X → ℤ) (c d : Cell) → c ≡ d → IsBestFor In f c → IsBestFor In f d
+pub cell_is : {X : Type 0} (In : X → Type 0) (f : X → ℤ) (c d : Cell) → c ≡ d → IsBestFor In f c → IsBestFor In f d
 cell_is In f c d e h = let B : Cell → Type 0 = λ x. IsBestFor In f x in subst B e h
 
 pub best_drop : {X : Type 0} (In : X → Type 0) (f : X → List ℤ) (cs : List Cell) (n : ℕ) → IsBestStack In f cs → IsBestStack In (λ x. drop n (f x)) (drop n cs)

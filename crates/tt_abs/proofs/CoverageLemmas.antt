@@ -1,6 +1,6 @@
 -- One cell, zone cell or stack is below another exactly if that one covers all that it covers.
 use Rattle.std.specs.Prelude.{◌↔◌, ℤ, pos, zero, suc}
-use Rattle.std.proofs.Common.{◌≡◌, ℕ, List, [], ◌∷◌, refl, sym, ◌∙◌, subst, arith, rules}
+use Rattle.std.proofs.Common.{◌≡◌, ℕ, List, [], ◌∷◌, refl, sym, ◌∙◌, subst, arith}
 use Rattle.tt_code.specs.Settings.{ZoneNumber, Zero, One}
 use Rattle.tt_code.specs.States.{IsNumber}
 use Rattle.tt_abs.specs.declared.cells.Cell.{Cell}
@@ -10,12 +10,7 @@ use Rattle.tt_abs.specs.declared.cells.ZoneCell.TheVariants as zone
 use Rattle.tt_abs.specs.Cells.{Covers, CoversZone, CoversStack}
 use Rattle.tt_abs.specs.CellOrders.{CellInRange, CellBelow, ZoneBelow}
 use Rattle.tt_abs.specs.Stacks.{cell_at, StackBelow, StackInRange}
-
-zero_is_number : IsNumber (pos 0)
-zero_is_number = search rules
-
-one_is_number : IsNumber (pos 1)
-one_is_number = search rules
+use Rattle.tt_abs.proofs.Choosing.{zero_is_number, one_is_number, some_covered, some_stack}
 
 pub CellBelow-coverage : (a b : Cell) → CellInRange a → CellBelow a b ↔ ((n : ℤ) → Covers a n → Covers b n)
 CellBelow-coverage (Known k) (Known l) r = (λ e n h. h ∙ e, λ f. f k refl)
@@ -40,20 +35,6 @@ ZoneBelow-coverage zone.Either zone.Zero = (λ h. absurd h, λ f. f One tt)
 ZoneBelow-coverage zone.Either zone.One = (λ h. absurd h, λ f. f Zero tt)
 ZoneBelow-coverage zone.Either zone.Either = (λ _ z h. h, λ _. tt)
 
--- each cell covers some number, each zone cell some zone, each stack some numbers
-pub some_covered : (a : Cell) → (n : ℤ) × Covers a n
-some_covered (Known k) = (k, refl)
-some_covered Unknown = (pos 0, zero_is_number)
-
-pub some_zone_covered : (a : ZoneCell) → (z : ZoneNumber) × CoversZone a z
-some_zone_covered zone.Zero = (Zero, tt)
-some_zone_covered zone.One = (One, tt)
-some_zone_covered zone.Either = (One, tt)
-
-pub some_stack_covered : (a : List Cell) → (ns : List ℤ) × CoversStack a ns
-some_stack_covered [] = ([], tt)
-some_stack_covered (x ∷ xs) = let (n, h) = some_covered x in let (ns, hs) = some_stack_covered xs in (n ∷ ns, (h, hs))
-
 below_covers : (a b : List Cell) → StackInRange a → StackBelow a b → (ns : List ℤ) → CoversStack a ns → CoversStack b ns
 below_covers [] [] r p [] h = tt
 below_covers [] (y ∷ ys) r p ns h = absurd (omega (arith, p.depth))
@@ -74,13 +55,13 @@ cells_cons x y xs ys p q = record { depth = let d = q.depth in omega arith; cell
 below_from_coverage : (a b : List Cell) → StackInRange a → ((ns : List ℤ) → CoversStack a ns → CoversStack b ns) → StackBelow a b
 below_from_coverage [] [] r f = record { depth = refl; cells = λ k. tt }
 below_from_coverage [] (y ∷ ys) r f = absurd (f [] tt)
-below_from_coverage (x ∷ xs) [] r f = let (ns, h) = some_stack_covered (x ∷ xs) in absurd (no_cells ns (f ns h) h)
+below_from_coverage (x ∷ xs) [] r f = let (ns, h) = some_stack (x ∷ xs) in absurd (no_cells ns (f ns h) h)
   where
     no_cells : (ns : List ℤ) → CoversStack [] ns → CoversStack (x ∷ xs) ns → ⊥
     no_cells [] e h = h
     no_cells (n ∷ ns) e h = e
 below_from_coverage (x ∷ xs) (y ∷ ys) r f =
-    let (ms, hs) = some_stack_covered xs in
+    let (ms, hs) = some_stack xs in
     let (m, h) = some_covered x in
     cells_cons x y xs ys
     ((CellBelow-coverage x y (r 0)).1 (λ n c. (f (n ∷ ms) (c, hs)).0))

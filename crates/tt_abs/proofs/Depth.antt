@@ -1,6 +1,7 @@
 -- The test of the depth afterwards; and an outcome on cells that stands for the machine's outcomes is monotone.
 use Rattle.std.specs.Prelude.{ℤ, nat_le, slice_get, ◌&&◌}
 use Rattle.std.proofs.Common.{◌≡◌, ℕ, zero, suc, ◌+◌, List, [], ◌∷◌, Ok, Err, Some, refl, sym, ◌∙◌, ap, subst, arith, length, Bool, true, false}
+use Rattle.std.proofs.lemmas.Bool.{and_parts}
 use Rattle.tt_code.specs.Refusals.{Tested, ◌>>=◌, holds_or}
 use Rattle.tt_code.specs.Settings.{Setting}
 use Rattle.tt_code.specs.States.{Machine, Outcome, Value}
@@ -78,17 +79,13 @@ module _ (s : Setting) (a : Abstract) (fs : List Frame) (at : ℕ) (does : Machi
 
   -- Several ways: if one state is too deep some machine at its place is, and else none is.
 
-  and_both : (x y : Bool) → x && y ≡ true → (x ≡ true) × (y ≡ true)
-  and_both true y e = (refl, e)
-  and_both false y e = absurd (cc)
-
   all_within : (ns : List Next) → are_within s ns ≡ true → (i : ℕ) (n : Next) → slice_get ns i ≡ Some n → nat_le (length n.state.stack) s.limits.stack ≡ true
   all_within [] e i n is = absurd (cc)
   all_within (m ∷ ns) e zero n is =
       let same : m ≡ n = cc in
-      let (one, rest) = and_both (nat_le (length m.state.stack) s.limits.stack) (are_within s ns) e in ap (λ x. nat_le (length x.state.stack) s.limits.stack) (sym same) ∙ one
+      let (one, rest) = and_parts (nat_le (length m.state.stack) s.limits.stack) (are_within s ns) e in ap (λ x. nat_le (length x.state.stack) s.limits.stack) (sym same) ∙ one
   all_within (m ∷ ns) e (suc i) n is =
-      let (one, rest) = and_both (nat_le (length m.state.stack) s.limits.stack) (are_within s ns) e in all_within ns rest i n is
+      let (one, rest) = and_parts (nat_le (length m.state.stack) s.limits.stack) (are_within s ns) e in all_within ns rest i n is
 
   abbrev OneTooDeep : List Next → Type 0
   OneTooDeep ns = (i : ℕ) × (n : Next) × (slice_get ns i ≡ Some n) × (nat_le (length n.state.stack) s.limits.stack ≡ false)
@@ -124,7 +121,7 @@ module _ (s : Setting) (a : Abstract) (fs : List Frame) (at : ℕ) (does : Machi
 
 -- What stands for the machine is monotone.
 
-becomes_wider : (a b : Abstract) (fs : List Frame) (at : ℕ) (does : Machine → Tested Outcome) → ((m : Machine) → CoversState a m → CoversState b m)
+pub becomes_wider : (a b : Abstract) (fs : List Frame) (at : ℕ) (does : Machine → Tested Outcome) → ((m : Machine) → CoversState a m → CoversState b m)
     → (m : Machine) → Becomes a fs at does m → Becomes b fs at does m
 becomes_wider a b fs at does wider m w = record {
   old = w.old;

@@ -8,8 +8,8 @@ use Rattle.std.specs.declared.cmp.Ordering.TheVariants.{Less, Equal, Greater}
 use Rattle.std.proofs.lemmas.Bool.{cases_order, eq-eqb, ne_eqb, lt-ltb, le-ltb}
 use Rattle.std.proofs.lemmas.Bool.Decides.{nat_tests}
 use Rattle.tt_abs.specs.Entries.{Rises, listed, with_entry, without_entry}
-use Rattle.tt_abs.specs.EntryLists.{IsAt, IsGap, EntriesInRange}
-use Rattle.tt_abs.specs.EntryLaws.{listed-here, listed-there, all-above, none-below, all-filter, Rises-filter}
+use Rattle.tt_abs.specs.EntryLists.{IsAt, IsGap}
+use Rattle.tt_abs.specs.EntryLaws.{listed-here, listed-there, all-above, none-below}
 
 -- What a search finds.
 
@@ -155,23 +155,3 @@ without-at {V} n (x ∷ xs) zero r h =
     let A : ℕ → Type 0 = λ m. AllByRecursion (λ e. m < e.0) xs in
     without-here n x xs h ∙ without-below n xs (subst A h r.0)
 without-at n (x ∷ xs) (suc i) r h = without-there n x xs (λ q. let a = h.0 in omega arith) ∙ ap (λ r. x ∷ r) (without-at n xs i r.1 h.1)
-
--- Values in range.
-
-values-with : {V : Type 0} (P : V → Type 0) (n : ℕ) (v : V) (xs : List (ℕ × V)) → P v → AllByRecursion (λ e. P e.1) xs → AllByRecursion (λ e. P e.1) (with_entry n v xs)
-values-with P n v [] h all = (h, tt)
-values-with {V} P n v (x ∷ xs) h all =
-    let A : List (ℕ × V) → Type 0 = λ es. AllByRecursion (λ e. P e.1) es in
-    elim (cases_order x.0 n) [
-      | inl same ↦ subst A (sym (with-instead n v x xs same)) (h, all.1)
-      | inr other ↦ elim other [
-        | inl less ↦ subst A (sym (with-behind n v x xs less)) (all.0, values-with P n v xs h all.1)
-        | inr more ↦ subst A (sym (with-first n v x xs more)) (h, all)
-      ]
-    ]
-
-pub in_range-with : {V : Type 0} (P : V → Type 0) (n : ℕ) (v : V) (xs : List (ℕ × V)) → P v → EntriesInRange P xs → EntriesInRange P (with_entry n v xs)
-in_range-with P n v xs h r = record { rises = Rises-with n v xs r.rises; values = values-with P n v xs h r.values }
-
-pub in_range-without : {V : Type 0} (P : V → Type 0) (n : ℕ) (xs : List (ℕ × V)) → EntriesInRange P xs → EntriesInRange P (without_entry n xs)
-in_range-without P n xs r = record { rises = Rises-filter _ xs r.rises; values = all-filter _ _ xs r.values }

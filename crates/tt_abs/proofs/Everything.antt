@@ -18,12 +18,12 @@ use Rattle.tt_code.specs.declared.kinds.Control.{Control}
 use Rattle.tt_code.specs.declared.kinds.Control.TheVariants.{If, Else, Jump, JumpIfTrue, JumpIfFalse, Call, LoopCall, FunctionDefinition, EndFunction, InstructionDefinition}
 use Rattle.tt_abs.specs.Cells.{Abstract, CoversState}
 use Rattle.tt_abs.specs.Ranges.{AreInRange}
-use Rattle.tt_abs.specs.Covers.{Stands, Becomes, MOST_CONTEXTS, IsRefused, Gives, StandsFor}
+use Rattle.tt_abs.specs.Covers.{Stands, MOST_CONTEXTS, IsRefused, Gives, StandsFor}
 use Rattle.tt_abs.specs.Followed.{is_followed}
 use Rattle.tt_abs.specs.Transfers.{Next, does_cells, controlled_cells, performs_cells, within_cells, instruction_of, outcome_on_cells}
 use Rattle.tt_abs.proofs.Rows.{is_readable_line}
 use Rattle.tt_abs.proofs.TableRows.{rows_readable}
-use Rattle.tt_abs.proofs.Depth.{AreBelow, monotone_ways}
+use Rattle.tt_abs.proofs.Depth.{AreBelow, becomes_wider, monotone_ways}
 use Rattle.tt_abs.proofs.Branches.{there, stands_there, fails_there}
 use Rattle.tt_abs.proofs.Steps as stays
 use Rattle.tt_abs.proofs.Steps.{does_stands}
@@ -101,18 +101,6 @@ steps_are_covered s fs at a ns h = stays.steps_are_covered s fs at a ns (h.none_
 
 -- The outcome on cells is monotone: what covers more is refused wherever what covers less is.
 
-becomes_more : (a b : Abstract) (fs : List Frame) (at : ℕ) (does : Machine → Tested Outcome) → ((m : Machine) → CoversState a m → CoversState b m)
-    → (m : Machine) → Becomes a fs at does m → Becomes b fs at does m
-becomes_more a b fs at does wider m w = record {
-  old = w.old;
-  stands = record { covered = wider w.old w.stands.covered; frames_are = w.stands.frames_are; offset_is = w.stands.offset_is };
-  result = w.result;
-  does_it = w.does_it;
-  choices = w.choices;
-  are_numbers = w.are_numbers;
-  new_is = w.new_is;
-}
-
 -- which of the next places has these frames
 abbrev Found : List Next → List Frame → Type 0
 Found os gs = (i : ℕ) × (o : Next) × (slice_get os i ≡ Some o) × (gs ≡ o.frames)
@@ -151,10 +139,10 @@ more_is_refused a b fs at does os wider h k = elim h [
       let (o, g) = k.none_faults m (record { covered = wider m st.covered; frames_are = st.frames_are; offset_is = st.offset_is }) in
       let no_such : Ok o ≡ Err r = sym g ∙ f in absurd (cc)
   | inr h ↦ elim h [
-    | inl h ↦ let (m, w, twice) = h in k.none_recurs (m, becomes_more a b fs at does wider m w, twice)
+    | inl h ↦ let (m, w, twice) = h in k.none_recurs (m, becomes_wider a b fs at does wider m w, twice)
     | inr h ↦ not_many os k.few h.lists h.many h.apart (λ i gs f.
         let (m, w, g) = h.each i gs f in
-        let (j, o, is, p, q) = k.covers.places m (becomes_more a b fs at does wider m w) in (j, o, is, sym g ∙ p))
+        let (j, o, is, p, q) = k.covers.places m (becomes_wider a b fs at does wider m w) in (j, o, is, sym g ∙ p))
   ]
 ]
 

@@ -35,18 +35,10 @@ use Rattle.tt_abs.specs.Cells.{Abstract, Cells}
 use Rattle.tt_abs.specs.Entries.{with_entry}
 use Rattle.tt_abs.specs.StateFlow.{AreProgramsShort}
 use Rattle.tt_abs.specs.Transfers.{Next, known, tested_cell, take_cell, take_cells, test_cell_uses, cells, index_in, leaves_cells, plain_cells, pushed_cells, shuffled_cells, of_one_cell, of_two_cells, computed_cells, one_way, two_ways, jump_target, jumps_cells, jumps_by, jumps_if_cells, if_ways, is_running, called_cell, enters_cells, loops_cells, returns_cells, controlled_cells, goes_on_cells, does_cells, are_within, within_cells, performs_cells, instruction_of, outcome_on_cells}
-use Rattle.tt_abs.proofs.RangesKept.{Holds}
+use Rattle.tt_abs.proofs.RangesKept.{Holds, holds_then, holds_any}
 use Rattle.tt_abs.proofs.Rows.{is_single}
 
 -- What holds of a value, where there is one.
-
-pub holds_then : {A B : Type 0} (P : A → Type 0) (Q : B → Type 0) (t : Tested A) (f : A → Tested B) → Holds P t → ((x : A) → P x → Holds Q (f x)) → Holds Q (t >>= f)
-holds_then P Q (Ok x) f h k = k x h
-holds_then P Q (Err r) f h k = tt
-
-pub holds_any : {A B : Type 0} (Q : B → Type 0) (t : Tested A) (f : A → Tested B) → ((x : A) → Holds Q (f x)) → Holds Q (t >>= f)
-holds_any Q (Ok x) f k = k x
-holds_any Q (Err r) f k = tt
 
 -- behind a test that passes
 pub holds_tested : {B : Type 0} (Q : B → Type 0) (b : Bool) (r : Reason) (f : Unit {0} → Tested B) → (b ≡ true → (x : Unit {0}) → Holds Q (f x)) → Holds Q (holds_or b r >>= f)

@@ -1,7 +1,8 @@
 -- Plain lines: operands, then uses, then updates and pushes.
-use Rattle.std.specs.Prelude.{ℤ, pos, ◌&&◌}
+use Rattle.std.specs.Prelude.{ℤ, pos}
 use Rattle.std.proofs.Common.{◌≡◌, ℕ, zero, suc, List, [], ◌∷◌, ◌++◌, Ok, Err, refl, sym, ◌∙◌, ap, subst, length, take, drop, Bool, true, false}
 use Rattle.std.proofs.Math.Seq.{take-append_seam, drop-append_seam}
+use Rattle.std.proofs.lemmas.Bool.{and_parts}
 use Rattle.tt_code.specs.Refusals.{Tested, ◌>>=◌, holds_or}
 use Rattle.tt_code.specs.Table.{Lists}
 use Rattle.tt_code.specs.Settings.{Setting, contours_in}
@@ -71,10 +72,6 @@ operand_single s a (operand.LoopPoints within) cs u h e = absurd (cc)
 operand_single s a (operand.PointPairs within) cs u h e = absurd (cc)
 operand_single s a operand.CvtPairs cs u h e = absurd (cc)
 
-pub and_both : (a b : Bool) → a && b ≡ true → (a ≡ true) × (b ≡ true)
-and_both true b h = (refl, h)
-and_both false b h = absurd (cc)
-
 pub at_first : (t u v : List Cell) (c : Cell) → t ≡ u ++ v → u ≡ c ∷ [] → taken_at (Known (pos 1)) t 0 ≡ c
 at_first t u v c e f = rw (e, f) refl
 
@@ -89,14 +86,14 @@ known_at s a (o ∷ os) zero cs t h e =
     let (k, w) = operand_known s a o cs u h f in (k, at_first t.0 u.0 v.0 (Known k) is w)
 known_at s a (o ∷ os) (suc i) cs t h e =
     let (u, v, f, g, is) = then_take_parts (take_cell s a o cs) (take_cells s a os) t e in
-    let (one, later) = and_both (is_single o) (is_known_at os i) h in
+    let (one, later) = and_parts (is_single o) (is_known_at os i) h in
     let (c, w) = operand_single s a o cs u one f in
     let (k, z) = known_at s a os i u.1 v later g in (k, at_later t.0 u.0 v.0 c i is w ∙ z)
 
 updates_readable : (s : Setting) (a : Cells) (os : List Operand) (us : List Update) (cs : List Cell) (t : Taking Cell) → are_readable os us ≡ true → take_cells s a os cs ≡ Ok t → AllReadable t.0 us
 updates_readable s a os [] cs t h e = tt
 updates_readable s a os (u ∷ us) cs t h e =
-    let (one, later) = and_both (is_readable os u) (are_readable os us) h in (first u one, updates_readable s a os us cs t later e)
+    let (one, later) = and_parts (is_readable os u) (are_readable os us) h in (first u one, updates_readable s a os us cs t later e)
   where
     first : (u : Update) → is_readable os u ≡ true → Readable t.0 u
     first (update.SetPointer p i) h = known_at s a os i cs t h e
@@ -118,7 +115,7 @@ AllReadablePushes taken (p ∷ ps) = ReadablePush taken p × AllReadablePushes t
 pushes_readable : (s : Setting) (a : Cells) (os : List Operand) (ps : List Pushed) (cs : List Cell) (t : Taking Cell) → are_readable_pushes os ps ≡ true → take_cells s a os cs ≡ Ok t → AllReadablePushes t.0 ps
 pushes_readable s a os [] cs t h e = tt
 pushes_readable s a os (p ∷ ps) cs t h e =
-    let (one, later) = and_both (is_readable_push os p) (are_readable_pushes os ps) h in (first p one, pushes_readable s a os ps cs t later e)
+    let (one, later) = and_parts (is_readable_push os p) (are_readable_pushes os ps) h in (first p one, pushes_readable s a os ps cs t later e)
   where
     first : (p : Pushed) → is_readable_push os p ≡ true → ReadablePush t.0 p
     first pushed.Any h = tt
@@ -167,7 +164,7 @@ module _ (s : Setting) (a : Abstract) (frames : List Frame) (offset : ℕ) (line
           let taken = split_at t.0 t.1 m.stack (take_operands s m.registers.graphics line.operands m.stack) (h.splits m.registers.graphics m.stack st.covered.graphics st.covered.stack) in
           (m, u.2.0, st, rw (taken, is, u.2.1) refl)
       uses t e h (Ok x) u =
-          let (readable_updates, readable_pushes) = and_both (are_readable line.operands line.updates) (are_readable_pushes line.operands line.pushes) readable in
+          let (readable_updates, readable_pushes) = and_parts (are_readable line.operands line.updates) (are_readable_pushes line.operands line.pushes) readable in
           let (m, st, is) = some_machine a frames offset in
           let front : t.0 ≡ take (length t.0) a.stack = rw (← h.joined) (sym (take-append_seam t.0 t.1)) in
           let below : t.1 ≡ drop (length t.0) a.stack = rw (← h.joined) (sym (drop-append_seam t.0 t.1)) in

@@ -1,13 +1,13 @@
 -- A plain line in place: what is counted is what is taken, and indices into the storage area were tested.
-use Rattle.std.specs.Prelude.{ℤ, pos, negsuc, ◌&&◌, ◌<◌, ◌^◌, nat_lt}
-use Rattle.std.proofs.Common.{◌≡◌, ℕ, zero, suc, List, [], ◌∷◌, ◌++◌, Ok, Err, refl, sym, ◌∙◌, ap, subst, arith, length, take, drop, Bool, true, false}
-use Rattle.std.proofs.lemmas.Bool.{ltb-true}
+use Rattle.std.specs.Prelude.{ℤ, pos, negsuc, ◌<◌, ◌^◌}
+use Rattle.std.proofs.Common.{◌≡◌, ℕ, zero, suc, List, [], ◌∷◌, ◌++◌, Ok, Err, refl, sym, ◌∙◌, ap, subst, arith, take, drop, Bool, true, false}
+use Rattle.std.proofs.lemmas.Bool.{ltb-true, and_parts}
 use Rattle.std.proofs.lemmas.List.{append_cancel_right, take-append-drop}
 use Rattle.tt_code.specs.Refusals.{Tested, ◌>>=◌, holds_or}
 use Rattle.tt_code.specs.Table.{Lists}
 use Rattle.tt_code.specs.Settings.{Setting}
 use Rattle.tt_code.specs.States.{is_below}
-use Rattle.tt_code.specs.Operands.{Taking, then_take, take_operands}
+use Rattle.tt_code.specs.Operands.{Taking, take_operands}
 use Rattle.tt_code.specs.Changes.{taken_at, all_updated}
 use Rattle.tt_code.specs.declared.reason.Reason.{Reason}
 use Rattle.tt_code.specs.declared.reason.Reason.TheVariants as reason
@@ -20,12 +20,12 @@ use Rattle.tt_code.specs.declared.kinds.Pushed.TheVariants as pushed
 use Rattle.tt_abs.specs.declared.cells.Cell.{Cell}
 use Rattle.tt_abs.specs.declared.cells.Cell.TheVariants.{Known, Unknown}
 use Rattle.tt_abs.specs.Cells.{Abstract, Cells}
-use Rattle.tt_abs.specs.Stored.{is_single, is_storage, is_storage_at, stores_tested, reads_tested, is_tested_line, IsIndex, IndexedUpdate, AreIndexed, IndexedPush, AreIndexedPushes}
+use Rattle.tt_abs.specs.Stored.{is_single, is_storage, is_storage_at, stores_tested, reads_tested, is_tested_line, IsIndex, AreIndexed, AreIndexedPushes}
 use Rattle.tt_abs.specs.Taken.{TakesTo}
 use Rattle.tt_abs.specs.Transfers.{tested_cell, take_cell, take_cells, test_cell_uses, plain_cells, leaves_cells, cells_pushed, cells_on, cells}
 use Rattle.tt_abs.proofs.Rows.{is_single as is_one}
 use Rattle.tt_abs.proofs.Takes.{StandsFor, operands_stand}
-use Rattle.tt_abs.proofs.Plain.{then_take_parts, operand_single, at_first, at_later, and_both}
+use Rattle.tt_abs.proofs.Plain.{then_take_parts, operand_single, at_first, at_later}
 
 -- what is taken, and what is left, are the stack again
 taken_joined : (s : Setting) (a : Cells) (os : List Operand) (stack : List Cell) (t : Taking Cell) → take_cells s a os stack ≡ Ok t → t.0 ++ t.1 ≡ stack
@@ -84,7 +84,7 @@ index_at s a (o ∷ os) zero cs t small h e =
     subst IsIndex (sym (at_first t.0 u.0 v.0 c is w)) z
 index_at s a (o ∷ os) (suc i) cs t small h e =
     let (u, v, f, g, is) = then_take_parts (take_cell s a o cs) (take_cells s a os) t e in
-    let (one, later) = and_both (is_single o) (is_storage_at os i) h in
+    let (one, later) = and_parts (is_single o) (is_storage_at os i) h in
     let (c, w) = operand_single s a o cs u (single_is o one) f in
     subst IsIndex (sym (at_later t.0 u.0 v.0 c i is w)) (index_at s a os i u.1 v small later g)
 
@@ -92,7 +92,7 @@ updates_indexed : (s : Setting) (a : Cells) (os : List Operand) (us : List Updat
     → AreIndexed t.0 us
 updates_indexed s a os [] cs t small h e = tt
 updates_indexed s a os (update.Store i v ∷ us) cs t small h e =
-    let (one, later) = and_both (is_storage_at os i) (stores_tested os us) h in (index_at s a os i cs t small one e, updates_indexed s a os us cs t small later e)
+    let (one, later) = and_parts (is_storage_at os i) (stores_tested os us) h in (index_at s a os i cs t small one e, updates_indexed s a os us cs t small later e)
 updates_indexed s a os (update.SetReference r q ∷ us) cs t small h e = (tt, updates_indexed s a os us cs t small h e)
 updates_indexed s a os (update.SetPointer p i ∷ us) cs t small h e = (tt, updates_indexed s a os us cs t small h e)
 updates_indexed s a os (update.SetLoop i ∷ us) cs t small h e = (tt, updates_indexed s a os us cs t small h e)
@@ -102,7 +102,7 @@ pushes_indexed : (s : Setting) (a : Cells) (os : List Operand) (ps : List Pushed
     → AreIndexedPushes t.0 ps
 pushes_indexed s a os [] cs t small h e = tt
 pushes_indexed s a os (pushed.Stored i ∷ ps) cs t small h e =
-    let (one, later) = and_both (is_storage_at os i) (reads_tested os ps) h in (index_at s a os i cs t small one e, pushes_indexed s a os ps cs t small later e)
+    let (one, later) = and_parts (is_storage_at os i) (reads_tested os ps) h in (index_at s a os i cs t small one e, pushes_indexed s a os ps cs t small later e)
 pushes_indexed s a os (pushed.Any ∷ ps) cs t small h e = (tt, pushes_indexed s a os ps cs t small h e)
 
 -- in the code's words: so many cells were counted
@@ -110,14 +110,14 @@ pushes_indexed s a os (pushed.Any ∷ ps) cs t small h e = (tt, pushes_indexed s
 pub updates_counted : (s : Setting) (a : Cells) (line : Lists) (stack : List Cell) (n : ℕ) → s.limits.storage < 2 ^ 16 → is_tested_line line ≡ true → TakesTo stack n (take_cells s a line.operands stack)
     → AreIndexed (take n stack) line.updates
 updates_counted s a line stack n small tested h =
-    let (stores, reads) = and_both (stores_tested line.operands line.updates) (reads_tested line.operands line.pushes) tested in
+    let (stores, reads) = and_parts (stores_tested line.operands line.updates) (reads_tested line.operands line.pushes) tested in
     let I : List Cell → Type 0 = λ l. AreIndexed l line.updates in
     subst I (front_is s a line.operands stack h.0 n h.1) (updates_indexed s a line.operands line.updates stack (h.0, drop n stack) small stores h.1)
 
 pub pushes_counted : (s : Setting) (a : Cells) (line : Lists) (stack : List Cell) (n : ℕ) → s.limits.storage < 2 ^ 16 → is_tested_line line ≡ true → TakesTo stack n (take_cells s a line.operands stack)
     → AreIndexedPushes (take n stack) line.pushes
 pushes_counted s a line stack n small tested h =
-    let (stores, reads) = and_both (stores_tested line.operands line.updates) (reads_tested line.operands line.pushes) tested in
+    let (stores, reads) = and_parts (stores_tested line.operands line.updates) (reads_tested line.operands line.pushes) tested in
     let I : List Cell → Type 0 = λ l. AreIndexedPushes l line.pushes in
     subst I (front_is s a line.operands stack h.0 n h.1) (pushes_indexed s a line.operands line.pushes stack (h.0, drop n stack) small reads h.1)
 

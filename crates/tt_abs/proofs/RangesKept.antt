@@ -3,7 +3,7 @@ use Rattle.std.specs.Prelude.{ℕ, ℤ, pos, negsuc, ◌+ℤ◌, ◌-ℤ◌, neg
 use Rattle.std.specs.List.{AllByRecursion}
 use Rattle.std.proofs.Common.{◌≡◌, zero, suc, ◌+◌, ◌-◌, ◌≤◌, ◌<◌, List, [], ◌∷◌, ◌++◌, Ok, Err, Some, None, refl, sym, subst, arith, length, drop, Bool, true, false}
 use Rattle.std.proofs.lemmas.Int.{ints}
-use Rattle.std.proofs.lemmas.Bool.{leb-true}
+use Rattle.std.proofs.lemmas.Bool.{leb-true, and_parts}
 use Rattle.tt_code.specs.Refusals.{Tested, ◌>>=◌, holds_or, some_or}
 use Rattle.tt_code.specs.Table.{Meaning, NoEntry, Plain, Pushes, Stack, Computes, Controls, Lists, effect_of}
 use Rattle.tt_code.specs.Cut.{Instruction, instruction_at, data_behind}
@@ -51,11 +51,11 @@ Holds P (Err r) = Unit {0}
 abbrev pub Anything : {A : Type 0} → A → Type 0
 Anything x = Unit {0}
 
-holds_then : {A B : Type 0} (P : A → Type 0) (Q : B → Type 0) (t : Tested A) (f : A → Tested B) → Holds P t → ((x : A) → P x → Holds Q (f x)) → Holds Q (t >>= f)
+pub holds_then : {A B : Type 0} (P : A → Type 0) (Q : B → Type 0) (t : Tested A) (f : A → Tested B) → Holds P t → ((x : A) → P x → Holds Q (f x)) → Holds Q (t >>= f)
 holds_then P Q (Ok x) f h k = k x h
 holds_then P Q (Err r) f h k = tt
 
-holds_any : {A B : Type 0} (Q : B → Type 0) (t : Tested A) (f : A → Tested B) → ((x : A) → Holds Q (f x)) → Holds Q (t >>= f)
+pub holds_any : {A B : Type 0} (Q : B → Type 0) (t : Tested A) (f : A → Tested B) → ((x : A) → Holds Q (f x)) → Holds Q (t >>= f)
 holds_any Q (Ok x) f k = k x
 holds_any Q (Err r) f k = tt
 
@@ -401,14 +401,10 @@ module _ (depth : ℕ) (s : Setting) (fs : List Frame) (at : ℕ) (a : Abstract)
 
 -- The depth afterwards.
 
-and_both : (a b : Bool) → a && b ≡ true → (a ≡ true) × (b ≡ true)
-and_both true b h = (refl, h)
-and_both false b h = absurd (cc)
-
 within_in_range : (s : Setting) (nexts : List Next) → AreKept s.limits.stack nexts → are_within s nexts ≡ true → AreNextInRange nexts
 within_in_range s [] h e = tt
 within_in_range s (n ∷ ns) h e =
-    let (first, others) = and_both (nat_le (length n.state.stack) s.limits.stack) (are_within s ns) e in
+    let (first, others) = and_parts (nat_le (length n.state.stack) s.limits.stack) (are_within s ns) e in
     (h.0 (leb-true (length n.state.stack) s.limits.stack first), within_in_range s ns h.1 others)
 
 within_kept : (s : Setting) (nexts : List Next) → AreKept s.limits.stack nexts → Holds AreNextInRange (within_cells s nexts)

@@ -1,6 +1,6 @@
 -- Instructions that look at the stack alone: what they leave of it and what they push, and choosing the numbers with which they fault.
 use Rattle.std.specs.Prelude.{ℤ, pos, min, ◌-◌, map, remove}
-use Rattle.std.proofs.Common.{◌≡◌, ℕ, zero, suc, ◌+◌, ◌≤◌, ◌<◌, List, [], ◌∷◌, Ok, Err, refl, sym, ◌∙◌, ap, subst, inl, inr, arith, length, length-append, drop}
+use Rattle.std.proofs.Common.{◌≡◌, ℕ, zero, suc, ◌+◌, ◌≤◌, ◌<◌, List, [], ◌∷◌, Ok, Err, refl, sym, ◌∙◌, ap, inl, inr, arith, length, length-append, drop}
 use Rattle.std.proofs.Math.ListN.{length-drop, length-take}
 use Rattle.std.proofs.lemmas.Bool.{cases_lt}
 use Rattle.tt_code.specs.Refusals.{Tested}
@@ -12,9 +12,9 @@ use Rattle.tt_code.specs.declared.reason.Reason.{Reason}
 use Rattle.tt_abs.specs.declared.cells.Cell.{Cell}
 use Rattle.tt_abs.specs.declared.cells.Cell.TheVariants.{Known}
 use Rattle.tt_abs.specs.Cells.{Covers, CoversStack, Abstract}
-use Rattle.tt_abs.specs.Covers.{IsBestFor, Stands, SomeFaults, Transfers}
+use Rattle.tt_abs.specs.Covers.{Stands, SomeFaults, Transfers}
 use Rattle.tt_abs.specs.Transfers.{leaves_cells, cells_on}
-use Rattle.tt_abs.proofs.Bests.{IsBestStack, best_cons, best_drop, best_same}
+use Rattle.tt_abs.proofs.Bests.{IsBestStack, best_cons, best_drop, best_same, cell_is}
 use Rattle.tt_abs.proofs.Machines.{May, with_stack, stack_best, registers_best, transfers_same}
 
 -- the abstract state with this stack
@@ -75,9 +75,6 @@ at_remove_above d (suc i) (x ∷ xs) (suc k) h = at_remove_above d i xs k (omega
 
 length_remove : {C : Type 0} (xs : List C) (i : ℕ) → length (remove xs i) ≡ min i (length xs) + (length xs - suc i)
 length_remove xs i = simp (length-append, length-take, length-drop) refl
-
-cell_is : {X : Type 0} (In : X → Type 0) (f : X → ℤ) (c d : Cell) → c ≡ d → IsBestFor In f c → IsBestFor In f d
-cell_is In f c d e h = let B : Cell → Type 0 = λ x. IsBestFor In f x in subst B e h
 
 pub best_remove : {X : Type 0} (In : X → Type 0) (f : X → List ℤ) (cs : List Cell) (i : ℕ) → IsBestStack In f cs → IsBestStack In (λ x. remove (f x) i) (remove cs i)
 best_remove {X} In f cs i h = record {

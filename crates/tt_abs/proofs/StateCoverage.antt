@@ -9,20 +9,8 @@ use Rattle.tt_abs.specs.Entries.{storage_of}
 use Rattle.tt_abs.specs.EntryCoverage.{functions_below_is_coverage, storage_below_is_coverage}
 use Rattle.tt_abs.specs.GraphicsOrders.{graphics_order}
 use Rattle.tt_abs.specs.States.{abstract_of, state_order}
-use Rattle.tt_abs.proofs.CoverageLemmas.{CellBelow-coverage, ZoneBelow-coverage, StackBelow-coverage, some_covered, some_zone_covered, some_stack_covered}
-
-some_graphics_covered : (a : Cells) → (g : Numbers) × CoversGraphics a g
-some_graphics_covered a =
-    let (n0, c0) = some_covered a.rp0 in
-    let (n1, c1) = some_covered a.rp1 in
-    let (n2, c2) = some_covered a.rp2 in
-    let (z0, d0) = some_zone_covered a.zp0 in
-    let (z1, d1) = some_zone_covered a.zp1 in
-    let (z2, d2) = some_zone_covered a.zp2 in
-    let (l, c) = some_covered a.loop_number in (
-      record { rp0 = n0; rp1 = n1; rp2 = n2; zp0 = z0; zp1 = z1; zp2 = z2; loop_number = l },
-      record { rp0 = c0; rp1 = c1; rp2 = c2; zp0 = d0; zp1 = d1; zp2 = d2; loop_number = c },
-    )
+use Rattle.tt_abs.proofs.Choosing.{some_covered, some_stack, some_graphics}
+use Rattle.tt_abs.proofs.CoverageLemmas.{CellBelow-coverage, ZoneBelow-coverage, StackBelow-coverage}
 
 graphics_covers : (a b : Cells) → graphics_order.InRange a → graphics_order.Below a b → (g : Numbers) → CoversGraphics a g → CoversGraphics b g
 graphics_covers a b r p g h = record {
@@ -59,7 +47,7 @@ with_zp2 a g h z c = record { rp0 = h.rp0; rp1 = h.rp1; rp2 = h.rp2; zp0 = h.zp0
 
 graphics_from_coverage : (a b : Cells) → graphics_order.InRange a → ((g : Numbers) → CoversGraphics a g → CoversGraphics b g) → graphics_order.Below a b
 graphics_from_coverage a b r f =
-    let (g, h) = some_graphics_covered a in (
+    let (g, h) = some_graphics a in (
       (
         (CellBelow-coverage a.rp0 b.rp0 r.0.0).1 (λ n c. (f (record g { rp0 = n }) (with_rp0 a g h n c)).rp0),
         (
@@ -82,8 +70,8 @@ graphics_from_coverage a b r f =
 -- each abstract state covers some machine
 some_machine_covered : (a : State) → (m : Machine) × CoversState (abstract_of a) m
 some_machine_covered a =
-    let (ns, stack) = some_stack_covered a.stack in
-    let (g, graphics) = some_graphics_covered a.graphics in (
+    let (ns, stack) = some_stack a.stack in
+    let (g, graphics) = some_graphics a.graphics in (
       record {
         frames = [];
         offset = 0;

@@ -1,6 +1,7 @@
 -- Each plain line of the table looks only into tested operands, and stores and reads only at tested indices.
 use Rattle.std.proofs.Common.{◌≡◌, ℕ, List, [], ◌∷◌, refl, sym, ◌∙◌, ap, Bool, true, false}
 use Rattle.std.specs.Prelude.{◌&&◌, if◌then◌else◌}
+use Rattle.std.proofs.lemmas.Bool.{and_parts}
 use Rattle.tt_code.specs.Table.{Meaning, Plain, Lists, Line, table, meaning_in, effect_of, is_among}
 use Rattle.tt_abs.specs.Stored.{is_tested_line}
 use Rattle.tt_abs.proofs.Rows.{is_readable_line}
@@ -14,13 +15,9 @@ abbrev all_pass : (Lists → Bool) → List Line → Bool
 all_pass test [] = true
 all_pass test (l ∷ ls) = passes test l.meaning && all_pass test ls
 
-both : (a b : Bool) → a && b ≡ true → (a ≡ true) × (b ≡ true)
-both true b h = (refl, h)
-both false b h = absurd (cc)
-
 found_passes : (test : Lists → Bool) (ls : List Line) (code : ℕ) → all_pass test ls ≡ true → passes test (meaning_in ls code) ≡ true
 found_passes test [] code h = refl
-found_passes test (l ∷ ls) code h = let (one, rest) = both (passes test l.meaning) (all_pass test ls) h in go (is_among l.instructions code) one (found_passes test ls code rest)
+found_passes test (l ∷ ls) code h = let (one, rest) = and_parts (passes test l.meaning) (all_pass test ls) h in go (is_among l.instructions code) one (found_passes test ls code rest)
   where
     go : (b : Bool) → passes test l.meaning ≡ true → passes test (meaning_in ls code) ≡ true → passes test (if b then l.meaning else meaning_in ls code) ≡ true
     go true one rest = one
