@@ -4,7 +4,14 @@ use Rattle.std.specs.Prelude.{◌≡◌, ℕ, List, Result, Ok, Err, drop}
 use Rattle.tt_code.specs.Refusals.{Tested}
 use Rattle.tt_code.specs.Operands.{Taking, then_take}
 use Rattle.tt_code.specs.declared.reason.Reason.{Reason}
+use Rattle.tt_code.specs.declared.reason.Reason.TheVariants as reason
+use Rattle.tt_code.specs.declared.kinds.Within.{Within}
+use Rattle.tt_code.specs.States.{is_below}
 use Rattle.tt_abs.specs.declared.cells.Cell.{Cell}
+use Rattle.tt_abs.specs.declared.setting.Setting.{Setting}
+use Rattle.tt_abs.specs.Cells.{Cells}
+use Rattle.tt_abs.specs.Settings.{setting_of}
+use Rattle.tt_abs.specs.Transfers.{is_point_in, tested_cell}
 
 -- the operands are taken, and what lies under the first n cells is left
 abbrev pub TakesTo : List Cell → ℕ → Tested (Taking Cell) → Type 0
@@ -18,3 +25,11 @@ GoesOn result below more = (front : List Cell) × (result ≡ then_take (Ok (fro
 abbrev pub Takes : List Cell → Result ℕ Reason → Tested (Taking Cell) → Type 0
 Takes stack (Ok n) result = TakesTo stack n result
 Takes stack (Err r) result = result ≡ Err r
+
+-- one point of each zone that counts
+abbrev pub one_point : Setting → Cells → Within → List Cell → Tested (Taking Cell)
+one_point setting graphics within = tested_cell (is_point_in (setting_of setting) graphics within) reason.Point
+
+-- one CVT index
+abbrev pub one_cvt : ℕ → List Cell → Tested (Taking Cell)
+one_cvt cvt = tested_cell (λ z. is_below z cvt) reason.Cvt

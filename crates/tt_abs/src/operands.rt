@@ -10,8 +10,8 @@ ghost use Rattle.tt_code.specs.declared.reason.Reason.TheVariants as reason;
 ghost use Rattle.tt_abs.specs.declared.cells.Cell.{Cell as AnyCell};
 ghost use Rattle.tt_abs.specs.declared.cells.Cell.TheVariants.{Known};
 ghost use Rattle.tt_abs.specs.Settings.{setting_of};
-ghost use Rattle.tt_abs.specs.Taken.{TakesTo};
-ghost use Rattle.tt_abs.specs.Transfers.{is_below_in, is_point_in, known, known_count, take_cell, take_cells, test_cell_uses, tested_cell};
+ghost use Rattle.tt_abs.specs.Taken.{TakesTo, one_cvt, one_point};
+ghost use Rattle.tt_abs.specs.Transfers.{is_below_in, known, known_count, take_cell, take_cells, test_cell_uses, tested_cell};
 
 use crate::cells::{Cell, ZoneCell};
 use crate::registers::{pointer, reference};
@@ -109,8 +109,8 @@ fn take_point(
     taken: usize,
     within: Within,
 ) -> Result<usize, Reason>
-    ensures ok { IfOk result (λ n. TakesTo stack.now n (tested_cell (is_point_in (setting_of setting.now) graphics.now within) reason.Point (drop taken stack.now))) }
-    ensures refused { IfErr result (λ r. tested_cell (is_point_in (setting_of setting.now) graphics.now within) reason.Point (drop taken stack.now) ≡ Err r) }
+    ensures ok { IfOk result (λ n. TakesTo stack.now n (one_point setting.now graphics.now within (drop taken stack.now))) }
+    ensures refused { IfErr result (λ r. one_point setting.now graphics.now within (drop taken stack.now) ≡ Err r) }
 {
     let (z, after) = next_number(stack, taken)?;
     if setting.is_point(graphics, within, z) {
@@ -140,8 +140,8 @@ fn take_points(
     within: Within,
     count: u32,
 ) -> Result<usize, Reason>
-    ensures ok { IfOk result (λ n. TakesTo stack.now n (times count (tested_cell (is_point_in (setting_of setting.now) graphics.now within) reason.Point) (drop taken stack.now))) }
-    ensures refused { IfErr result (λ r. times count (tested_cell (is_point_in (setting_of setting.now) graphics.now within) reason.Point) (drop taken stack.now) ≡ Err r) }
+    ensures ok { IfOk result (λ n. TakesTo stack.now n (times count (one_point setting.now graphics.now within) (drop taken stack.now))) }
+    ensures refused { IfErr result (λ r. times count (one_point setting.now graphics.now within) (drop taken stack.now) ≡ Err r) }
 {
     let mut after = taken;
     for i in 0..count {
@@ -158,8 +158,8 @@ fn take_loop_points(
     taken: usize,
     within: Within,
 ) -> Result<usize, Reason>
-    ensures ok { IfOk result (λ n. TakesTo stack.now n (counted (known_count graphics.now.loop_number) (tested_cell (is_point_in (setting_of setting.now) graphics.now within) reason.Point) (drop taken stack.now))) }
-    ensures refused { IfErr result (λ r. counted (known_count graphics.now.loop_number) (tested_cell (is_point_in (setting_of setting.now) graphics.now within) reason.Point) (drop taken stack.now) ≡ Err r) }
+    ensures ok { IfOk result (λ n. TakesTo stack.now n (counted (known_count graphics.now.loop_number) (one_point setting.now graphics.now within) (drop taken stack.now))) }
+    ensures refused { IfErr result (λ r. counted (known_count graphics.now.loop_number) (one_point setting.now graphics.now within) (drop taken stack.now) ≡ Err r) }
 {
     let n = count(graphics.loop_number)?;
     take_points(setting, graphics, stack, taken, within, n)
@@ -173,8 +173,8 @@ fn take_point_pair(
     taken: usize,
     within: Within,
 ) -> Result<usize, Reason>
-    ensures ok { IfOk result (λ n. TakesTo stack.now n (pair (tested_cell (is_point_in (setting_of setting.now) graphics.now within) reason.Point) (drop taken stack.now))) }
-    ensures refused { IfErr result (λ r. pair (tested_cell (is_point_in (setting_of setting.now) graphics.now within) reason.Point) (drop taken stack.now) ≡ Err r) }
+    ensures ok { IfOk result (λ n. TakesTo stack.now n (pair (one_point setting.now graphics.now within) (drop taken stack.now))) }
+    ensures refused { IfErr result (λ r. pair (one_point setting.now graphics.now within) (drop taken stack.now) ≡ Err r) }
 {
     let after = take_point(setting, graphics, stack, taken, within)?;
     take_any(stack, after)
@@ -182,8 +182,8 @@ fn take_point_pair(
 
 /// Takes a CVT index and any cell.
 fn take_cvt_pair(stack: &Stack, taken: usize, cvt: u32) -> Result<usize, Reason>
-    ensures ok { IfOk result (λ n. TakesTo stack.now n (pair (tested_cell (λ z. is_below z cvt) reason.Cvt) (drop taken stack.now))) }
-    ensures refused { IfErr result (λ r. pair (tested_cell (λ z. is_below z cvt) reason.Cvt) (drop taken stack.now) ≡ Err r) }
+    ensures ok { IfOk result (λ n. TakesTo stack.now n (pair (one_cvt cvt) (drop taken stack.now))) }
+    ensures refused { IfErr result (λ r. pair (one_cvt cvt) (drop taken stack.now) ≡ Err r) }
 {
     let after = take_index(stack, taken, cvt, Reason::Cvt)?;
     take_any(stack, after)
@@ -211,8 +211,8 @@ fn take_point_pairs(
     taken: usize,
     within: Within,
 ) -> Result<usize, Reason>
-    ensures ok { IfOk result (λ n. TakesTo stack.now n (pairs known_count (tested_cell (is_point_in (setting_of setting.now) graphics.now within) reason.Point) (drop taken stack.now))) }
-    ensures refused { IfErr result (λ r. pairs known_count (tested_cell (is_point_in (setting_of setting.now) graphics.now within) reason.Point) (drop taken stack.now) ≡ Err r) }
+    ensures ok { IfOk result (λ n. TakesTo stack.now n (pairs known_count (one_point setting.now graphics.now within) (drop taken stack.now))) }
+    ensures refused { IfErr result (λ r. pairs known_count (one_point setting.now graphics.now within) (drop taken stack.now) ≡ Err r) }
 {
     let (n, mut after) = next_count(stack, taken)?;
     for i in 0..n {
@@ -223,8 +223,8 @@ fn take_point_pairs(
 
 /// Takes a count, and as many pairs of a CVT index and any cell.
 fn take_cvt_pairs(stack: &Stack, taken: usize, cvt: u32) -> Result<usize, Reason>
-    ensures ok { IfOk result (λ n. TakesTo stack.now n (pairs known_count (tested_cell (λ z. is_below z cvt) reason.Cvt) (drop taken stack.now))) }
-    ensures refused { IfErr result (λ r. pairs known_count (tested_cell (λ z. is_below z cvt) reason.Cvt) (drop taken stack.now) ≡ Err r) }
+    ensures ok { IfOk result (λ n. TakesTo stack.now n (pairs known_count (one_cvt cvt) (drop taken stack.now))) }
+    ensures refused { IfErr result (λ r. pairs known_count (one_cvt cvt) (drop taken stack.now) ≡ Err r) }
 {
     let (n, mut after) = next_count(stack, taken)?;
     for i in 0..n {
