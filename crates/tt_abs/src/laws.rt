@@ -1,11 +1,17 @@
-//! Laws of orders, and of the flow of abstract states. The functions here do nothing: their contracts are the laws.
+//! Laws of orders, of the flow of abstract states, and of runs. The functions here do nothing: their contracts are the laws.
 
 ghost use Rattle.tt_abs.specs.Cells.{Covers, CoversFunctions, CoversStack, CoversState, CoversStorage, CoversZone};
 ghost use Rattle.tt_abs.specs.CellOrders.{cell_order, zone_order};
 ghost use Rattle.tt_abs.specs.Coverage.{IsCoverage};
-ghost use Rattle.tt_abs.specs.Entries.{storage_of};
+ghost use Rattle.std.specs.Prelude.{ℕ, List, Option};
+ghost use Rattle.tt_code.specs.Settings.{Setting};
+ghost use Rattle.tt_abs.specs.declared.state.State.{State};
+ghost use Rattle.tt_abs.specs.Entries.{Rises, storage_of};
+ghost use Rattle.tt_abs.specs.Families.{IsGood};
+ghost use Rattle.tt_abs.specs.Ranges.{IsSettingInRange};
+ghost use Rattle.tt_abs.specs.Soundness.{IsSafe};
 ghost use Rattle.tt_abs.specs.Stacks.{stack_order};
-ghost use Rattle.tt_abs.specs.StateFlow.{HasFlowLaws};
+ghost use Rattle.tt_abs.specs.StateFlow.{AreProgramsShort, HasFlowLaws, Place, flow_of};
 ghost use Rattle.tt_abs.specs.States.{abstract_of, function_order, state_order, storage_order};
 
 /// One value is below another exactly if that one covers all that it covers.
@@ -22,4 +28,11 @@ pub fn below_is_coverage()
 /// of each list of functions by rising numbers that is within the limits.
 pub fn flow_laws()
     ensures { HasFlowLaws }
+{}
+
+/// Where a family of abstract states, one at each of some places, covers a program's start and what each of its states gives, and
+/// none of them is refused, the family covers every machine that a run from the start comes to, and none of these faults.
+pub fn good_families_are_safe()
+    ensures { (s : Setting) (functions : List (ℕ × ℕ)) (family : Place → Option State) → IsSettingInRange s → AreProgramsShort s → Rises functions
+        → IsGood state_order (flow_of s functions) family → IsSafe s functions family }
 {}
