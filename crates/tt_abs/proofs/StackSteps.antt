@@ -9,13 +9,14 @@ use Rattle.tt_code.specs.declared.reason.Reason.TheVariants as reason
 use Rattle.tt_code.specs.declared.kinds.StackOp.TheVariants as op
 use Rattle.tt_code.specs.declared.kinds.Arithmetic.{Arithmetic}
 use Rattle.tt_code.specs.declared.kinds.Arithmetic.TheVariants.{Add, Sub, Abs, Neg, Lt, LtEq, Gt, GtEq, Eq, Neq, And, Or, Not}
+use Rattle.tt_abs.specs.Moves.{ForReason}
 use Rattle.tt_abs.specs.declared.cells.Cell.{Cell}
 use Rattle.tt_abs.specs.declared.cells.Cell.TheVariants.{Known, Unknown}
 use Rattle.tt_abs.specs.declared.refusal.Refusal.{Refusal}
 use Rattle.tt_abs.specs.declared.refusal.Refusal.TheVariants.{Refused, OutOfMemory}
 use Rattle.tt_abs.specs.Cells.{Abstract}
 use Rattle.tt_abs.specs.Stacks.{first}
-use Rattle.tt_abs.specs.Steps.{ForReason, Restacks, RefusesStack, takes_one}
+use Rattle.tt_abs.specs.Steps.{Restacks, RefusesStack, takes_one}
 use Rattle.tt_abs.specs.Computes.{one_result, two_results}
 use Rattle.tt_abs.specs.Transfers.{known, shuffled_cells, computed_cells, of_one_cell, of_two_cells}
 use Rattle.tt_abs.proofs.Fronts.{first_is, left_after}

@@ -19,14 +19,13 @@ use Rattle.tt_abs.specs.declared.cells.Cell.TheVariants.{Known}
 use Rattle.tt_abs.specs.declared.state.State.{State}
 use Rattle.tt_abs.specs.declared.moves.Moves.{Moves}
 use Rattle.tt_abs.specs.declared.moves.Moves.TheVariants as moves
-use Rattle.tt_abs.specs.Moves.{nexts_of}
+use Rattle.tt_abs.specs.Moves.{ForReason, nexts_of}
 use Rattle.tt_abs.specs.States.{abstract_of, state_order}
 use Rattle.tt_abs.specs.Entries.{Rises}
 use Rattle.tt_abs.specs.Ranges.{AreNextInRange, IsStateInRange, IsSettingInRange}
 use Rattle.tt_abs.proofs.RangesKept.{keeps_range}
 use Rattle.tt_abs.proofs.StateParts.{abstract_in_range, state_in_range}
 use Rattle.tt_abs.specs.Cells.{Abstract}
-use Rattle.tt_abs.specs.Steps.{ForReason}
 use Rattle.tt_abs.specs.Transfers.{Next, cells_on, pushed_cells, one_way, does_cells, goes_on_cells, performs_cells, within_cells, are_within, instruction_of, outcome_on_cells}
 
 -- a refusal that is passed on

@@ -1,13 +1,23 @@
 -- Where the code's moves lead.
-use Rattle.std.specs.Prelude.{ℕ, ◌+◌, List, [], ◌∷◌}
+use Rattle.std.specs.Prelude.{◌≡◌, ℕ, ◌+◌, List, [], ◌∷◌, Ok, Err}
+use Rattle.tt_code.specs.Refusals.{Tested}
 use Rattle.tt_code.specs.Settings.{body_offset}
 use Rattle.tt_code.specs.declared.machine.Frame.{Frame}
 use Rattle.tt_abs.specs.declared.moves.Move.{Move}
 use Rattle.tt_abs.specs.declared.moves.Move.TheVariants.{To, Enter, NextTurn, Return}
 use Rattle.tt_abs.specs.declared.moves.Moves.{Moves}
 use Rattle.tt_abs.specs.declared.moves.Moves.TheVariants as moves
+use Rattle.tt_code.specs.declared.kinds.Control.{Control}
+use Rattle.tt_code.specs.declared.reason.Reason.{Reason}
+use Rattle.tt_abs.specs.declared.refusal.Refusal.{Refusal}
+use Rattle.tt_abs.specs.declared.refusal.Refusal.TheVariants.{Refused, OutOfMemory}
+use Rattle.tt_abs.specs.declared.setting.Setting.{Setting}
+use Rattle.tt_abs.specs.declared.setting.Point.{Point}
+use Rattle.tt_abs.specs.declared.state.State.{State}
 use Rattle.tt_abs.specs.Cells.{Abstract}
-use Rattle.tt_abs.specs.Transfers.{Next, one_way}
+use Rattle.tt_abs.specs.Settings.{setting_of, frames_of}
+use Rattle.tt_abs.specs.States.{abstract_of}
+use Rattle.tt_abs.specs.Transfers.{Next, one_way, controlled_cells, outcome_on_cells}
 
 -- the calls behind a move, the innermost first
 abbrev pub frames_behind : List Frame → Move → List Frame
@@ -31,3 +41,26 @@ offset_behind (f ∷ fs) Return = f.call + 1
 abbrev pub nexts_of : List Frame → Moves → Abstract → List Next
 nexts_of fs (moves.One move) a = one_way (frames_behind fs move) (offset_behind fs move) a
 nexts_of fs (moves.Two m n) a = record { frames = fs; offset = m; state = a } ∷ one_way fs n a
+
+-- What the code's settings, points and states say of an instruction at its place.
+
+-- what the machine's instructions do there
+abbrev pub outcome_at : Setting → Point → State → Tested (List Next)
+outcome_at setting point state = outcome_on_cells (setting_of setting) (frames_of point) point.offset (abstract_of state)
+
+-- what a control instruction does there
+abbrev pub control_at : Setting → Point → State → Control → Tested (List Next)
+control_at setting point state op = controlled_cells (setting_of setting) (frames_of point) point.offset (abstract_of state) op
+
+-- it leads by these moves, with this state left
+abbrev pub LeadsBy : Point → Tested (List Next) → Moves → State → Type 0
+LeadsBy point outcome moves new = outcome ≡ Ok (nexts_of (frames_of point) moves (abstract_of new))
+
+-- what holds of a refusal's reason; want of memory says nothing
+abbrev pub ForReason : Refusal → (Reason → Type 0) → Type 0
+ForReason (Refused r) P = P r
+ForReason (OutOfMemory e) P = Unit {0}
+
+-- it is refused for this reason
+abbrev pub IsRefusedFor : {A : Type 0} → Tested A → Refusal → Type 0
+IsRefusedFor outcome e = ForReason e (λ r. outcome ≡ Err r)

@@ -10,16 +10,9 @@ use Rattle.tt_code.specs.declared.kinds.Arithmetic.{Arithmetic}
 use Rattle.tt_code.specs.declared.kinds.Arithmetic.TheVariants.{Abs, Neg, Not}
 use Rattle.tt_code.specs.declared.reason.Reason.{Reason}
 use Rattle.tt_abs.specs.declared.cells.Cell.{Cell}
-use Rattle.tt_abs.specs.declared.refusal.Refusal.{Refusal}
-use Rattle.tt_abs.specs.declared.refusal.Refusal.TheVariants.{Refused, OutOfMemory}
 use Rattle.tt_code.specs.Table.{Lists}
 use Rattle.tt_code.specs.declared.kinds.Row.{Row}
 use Rattle.tt_abs.specs.Cells.{Abstract}
-
--- what holds of a refusal's reason; want of memory says nothing
-abbrev pub ForReason : Refusal → (Reason → Type 0) → Type 0
-ForReason (Refused r) P = P r
-ForReason (OutOfMemory e) P = Unit {0}
 
 -- one stack becomes another, whatever else is known
 abbrev pub Restacks : (Abstract → Tested Abstract) → List Cell → List Cell → Type 0

@@ -1,8 +1,9 @@
 //! The instructions that compute.
 
 ghost use Rattle.std.specs.Prelude.{◌≡◌, IfErr, OnOk};
+ghost use Rattle.tt_abs.specs.Moves.{ForReason};
 ghost use Rattle.tt_abs.specs.Computes.{one_result, two_results};
-ghost use Rattle.tt_abs.specs.Steps.{ForReason, RefusesStack, Restacks, takes_one};
+ghost use Rattle.tt_abs.specs.Steps.{RefusesStack, Restacks, takes_one};
 ghost use Rattle.tt_abs.specs.Transfers.{computed_cells, of_one_cell, of_two_cells};
 
 use crate::results;

@@ -3,11 +3,11 @@
 ghost use Rattle.std.specs.Prelude.{◌≡◌, ◌+◌, ◌<◌, ◌^◌, Err, IfErr, IfOk, List, Ok, length, reverse, ℕ};
 ghost use Rattle.tt_code.specs.Control.{body_named};
 ghost use Rattle.tt_code.specs.declared.kinds.Control.TheVariants as control;
-ghost use Rattle.tt_abs.specs.Moves.{nexts_of};
+ghost use Rattle.tt_abs.specs.Moves.{IsRefusedFor, LeadsBy, control_at};
 ghost use Rattle.tt_abs.specs.Settings.{frames_of, setting_of};
 ghost use Rattle.tt_abs.specs.States.{abstract_of};
-ghost use Rattle.tt_abs.specs.Steps.{ForReason, Leads, LeadsNowhere, holds_when};
-ghost use Rattle.tt_abs.specs.Transfers.{called_cell, controlled_cells, enters_cells, if_ways, is_running as runs_already, jump_target as target_of_jump, jumps_by, jumps_if_cells, loops_cells};
+ghost use Rattle.tt_abs.specs.Steps.{Leads, LeadsNowhere, holds_when};
+ghost use Rattle.tt_abs.specs.Transfers.{called_cell, enters_cells, if_ways, is_running as runs_already, jump_target as target_of_jump, jumps_by, jumps_if_cells, loops_cells};
 ghost use Rattle.tt_abs.specs.declared.cells.Cell.{Cell as AnyCell};
 
 use crate::cells::Cell;
@@ -56,8 +56,8 @@ fn ways_of_if(setting: &Setting<'_>, point: &Point<'_>, cell: Cell) -> Result<Mo
 /// IF.
 fn branch(setting: &Setting<'_>, point: &Point<'_>, state: &mut State) -> Result<Moves, Refusal>
     requires { point.now.offset < 2 ^ 31 }
-    ensures ok { IfOk result (λ m. controlled_cells (setting_of setting.now) (frames_of point.now) point.now.offset (abstract_of state.old) control.If ≡ Ok (nexts_of (frames_of point.now) m (abstract_of state.new))) }
-    ensures refused { IfErr result (λ e. ForReason e (λ r. controlled_cells (setting_of setting.now) (frames_of point.now) point.now.offset (abstract_of state.old) control.If ≡ Err r)) }
+    ensures ok { IfOk result (λ m. LeadsBy point.now (control_at setting.now point.now state.old control.If) m state.new) }
+    ensures refused { IfErr result (IsRefusedFor (control_at setting.now point.now state.old control.If)) }
 {
     let condition = cell_under(&state.stack, 0)?;
     let moves = ways_of_if(setting, point, condition)?;
@@ -67,8 +67,8 @@ fn branch(setting: &Setting<'_>, point: &Point<'_>, state: &mut State) -> Result
 
 /// ELSE, where it is reached.
 fn skip_else(setting: &Setting<'_>, point: &Point<'_>, state: &mut State) -> Result<Moves, Refusal>
-    ensures ok { IfOk result (λ m. controlled_cells (setting_of setting.now) (frames_of point.now) point.now.offset (abstract_of state.old) control.Else ≡ Ok (nexts_of (frames_of point.now) m (abstract_of state.new))) }
-    ensures refused { IfErr result (λ e. ForReason e (λ r. controlled_cells (setting_of setting.now) (frames_of point.now) point.now.offset (abstract_of state.old) control.Else ≡ Err r)) }
+    ensures ok { IfOk result (λ m. LeadsBy point.now (control_at setting.now point.now state.old control.Else) m state.new) }
+    ensures refused { IfErr result (IsRefusedFor (control_at setting.now point.now state.old control.Else)) }
 {
     match setting.program(point).after_else(point.offset) {
         Some(offset) => Ok(Moves::One(Move::To(offset))),
@@ -102,8 +102,8 @@ fn jump_target(
 /// JMPR.
 fn jump(setting: &Setting<'_>, point: &Point<'_>, state: &mut State) -> Result<Moves, Refusal>
     requires { point.now.offset < 2 ^ 31 }
-    ensures ok { IfOk result (λ m. controlled_cells (setting_of setting.now) (frames_of point.now) point.now.offset (abstract_of state.old) control.Jump ≡ Ok (nexts_of (frames_of point.now) m (abstract_of state.new))) }
-    ensures refused { IfErr result (λ e. ForReason e (λ r. controlled_cells (setting_of setting.now) (frames_of point.now) point.now.offset (abstract_of state.old) control.Jump ≡ Err r)) }
+    ensures ok { IfOk result (λ m. LeadsBy point.now (control_at setting.now point.now state.old control.Jump) m state.new) }
+    ensures refused { IfErr result (IsRefusedFor (control_at setting.now point.now state.old control.Jump)) }
 {
     let by = cell_under(&state.stack, 0)?;
     state.stack.cut(1);
@@ -148,8 +148,8 @@ fn jump_if(
     asked: bool,
 ) -> Result<Moves, Refusal>
     requires { point.now.offset < 2 ^ 31 }
-    ensures ok { IfOk result (λ m. jumps_if_cells (setting_of setting.now) (frames_of point.now) point.now.offset (abstract_of state.old) (holds_when asked) ≡ Ok (nexts_of (frames_of point.now) m (abstract_of state.new))) }
-    ensures refused { IfErr result (λ e. ForReason e (λ r. jumps_if_cells (setting_of setting.now) (frames_of point.now) point.now.offset (abstract_of state.old) (holds_when asked) ≡ Err r)) }
+    ensures ok { IfOk result (λ m. LeadsBy point.now (jumps_if_cells (setting_of setting.now) (frames_of point.now) point.now.offset (abstract_of state.old) (holds_when asked)) m state.new) }
+    ensures refused { IfErr result (IsRefusedFor (jumps_if_cells (setting_of setting.now) (frames_of point.now) point.now.offset (abstract_of state.old) (holds_when asked))) }
 {
     let condition = cell_under(&state.stack, 0)?;
     let by = cell_under(&state.stack, 1)?;
@@ -161,8 +161,8 @@ fn jump_if(
 /// FDEF: the number that is popped names the body behind it, in the font program and in the CVT program.
 fn define(setting: &Setting<'_>, point: &Point<'_>, state: &mut State) -> Result<Moves, Refusal>
     requires { point.now.offset + 1 < 2 ^ 31 }
-    ensures ok { IfOk result (λ m. controlled_cells (setting_of setting.now) (frames_of point.now) point.now.offset (abstract_of state.old) control.FunctionDefinition ≡ Ok (nexts_of (frames_of point.now) m (abstract_of state.new))) }
-    ensures refused { IfErr result (λ e. ForReason e (λ r. controlled_cells (setting_of setting.now) (frames_of point.now) point.now.offset (abstract_of state.old) control.FunctionDefinition ≡ Err r)) }
+    ensures ok { IfOk result (λ m. LeadsBy point.now (control_at setting.now point.now state.old control.FunctionDefinition) m state.new) }
+    ensures refused { IfErr result (IsRefusedFor (control_at setting.now point.now state.old control.FunctionDefinition)) }
 {
     if !setting.may_define() {
         return Err(Refusal::Refused(Reason::Definition));
@@ -236,8 +236,8 @@ fn enter(
 
 /// CALL.
 fn call(setting: &Setting<'_>, point: &Point<'_>, state: &mut State) -> Result<Moves, Refusal>
-    ensures ok { IfOk result (λ m. controlled_cells (setting_of setting.now) (frames_of point.now) point.now.offset (abstract_of state.old) control.Call ≡ Ok (nexts_of (frames_of point.now) m (abstract_of state.new))) }
-    ensures refused { IfErr result (λ e. ForReason e (λ r. controlled_cells (setting_of setting.now) (frames_of point.now) point.now.offset (abstract_of state.old) control.Call ≡ Err r)) }
+    ensures ok { IfOk result (λ m. LeadsBy point.now (control_at setting.now point.now state.old control.Call) m state.new) }
+    ensures refused { IfErr result (IsRefusedFor (control_at setting.now point.now state.old control.Call)) }
 {
     let top = cell_under(&state.stack, 0)?;
     let body = called(setting, state, top)?;
@@ -272,8 +272,8 @@ fn loop_call(
     state: &mut State,
 ) -> Result<Moves, Refusal>
     requires { point.now.offset < 2 ^ 31 }
-    ensures ok { IfOk result (λ m. controlled_cells (setting_of setting.now) (frames_of point.now) point.now.offset (abstract_of state.old) control.LoopCall ≡ Ok (nexts_of (frames_of point.now) m (abstract_of state.new))) }
-    ensures refused { IfErr result (λ e. ForReason e (λ r. controlled_cells (setting_of setting.now) (frames_of point.now) point.now.offset (abstract_of state.old) control.LoopCall ≡ Err r)) }
+    ensures ok { IfOk result (λ m. LeadsBy point.now (control_at setting.now point.now state.old control.LoopCall) m state.new) }
+    ensures refused { IfErr result (IsRefusedFor (control_at setting.now point.now state.old control.LoopCall)) }
 {
     let top = cell_under(&state.stack, 0)?;
     let body = called(setting, state, top)?;
@@ -290,8 +290,8 @@ fn end_function(
     point: &Point<'_>,
     state: &State,
 ) -> Result<Moves, Refusal>
-    ensures ok { IfOk result (λ m. controlled_cells (setting_of setting.now) (frames_of point.now) point.now.offset (abstract_of state.now) control.EndFunction ≡ Ok (nexts_of (frames_of point.now) m (abstract_of state.now))) }
-    ensures refused { IfErr result (λ e. ForReason e (λ r. controlled_cells (setting_of setting.now) (frames_of point.now) point.now.offset (abstract_of state.now) control.EndFunction ≡ Err r)) }
+    ensures ok { IfOk result (λ m. LeadsBy point.now (control_at setting.now point.now state.now control.EndFunction) m state.now) }
+    ensures refused { IfErr result (IsRefusedFor (control_at setting.now point.now state.now control.EndFunction)) }
 {
     match point.frames {
         [] => Err(Refusal::Refused(Reason::Target)),
@@ -313,8 +313,8 @@ pub fn lead(
     operation: Control,
 ) -> Result<Moves, Refusal>
     requires { point.now.offset + 1 < 2 ^ 31 }
-    ensures ok { IfOk result (λ m. controlled_cells (setting_of setting.now) (frames_of point.now) point.now.offset (abstract_of state.old) operation ≡ Ok (nexts_of (frames_of point.now) m (abstract_of state.new))) }
-    ensures refused { IfErr result (λ e. ForReason e (λ r. controlled_cells (setting_of setting.now) (frames_of point.now) point.now.offset (abstract_of state.old) operation ≡ Err r)) }
+    ensures ok { IfOk result (λ m. LeadsBy point.now (control_at setting.now point.now state.old operation) m state.new) }
+    ensures refused { IfErr result (IsRefusedFor (control_at setting.now point.now state.old operation)) }
 {
     match operation {
         Control::If => branch(setting, point, state),

@@ -1,9 +1,10 @@
 //! The instructions of plain lines, which take, test, change and push.
 
 ghost use Rattle.std.specs.Prelude.{◌≡◌, Err, IfErr, Ok, OnOk, true};
+ghost use Rattle.tt_abs.specs.Moves.{IsRefusedFor};
 ghost use Rattle.tt_abs.specs.Settings.{setting_of};
 ghost use Rattle.tt_abs.specs.States.{abstract_of};
-ghost use Rattle.tt_abs.specs.Steps.{ForReason, line_of};
+ghost use Rattle.tt_abs.specs.Steps.{line_of};
 ghost use Rattle.tt_abs.specs.Stored.{is_tested_line};
 ghost use Rattle.tt_abs.specs.Transfers.{plain_cells};
 
@@ -19,7 +20,7 @@ use tt_code::kinds::Row;
 pub fn carry_out(setting: &Setting<'_>, state: &mut State, line: &Row) -> Result<(), Refusal>
     requires { is_tested_line (line_of line.now) ≡ true }
     ensures ok { OnOk result (plain_cells (setting_of setting.now) (abstract_of state.old) (line_of line.now) ≡ Ok (abstract_of state.new)) }
-    ensures refused { IfErr result (λ e. ForReason e (λ r. plain_cells (setting_of setting.now) (abstract_of state.old) (line_of line.now) ≡ Err r)) }
+    ensures refused { IfErr result (IsRefusedFor (plain_cells (setting_of setting.now) (abstract_of state.old) (line_of line.now))) }
 {
     let count = take_operands(setting, &state.graphics, &state.stack, line.operands)?;
     test_uses(setting, &state.graphics, line.uses)?;

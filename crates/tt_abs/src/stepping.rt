@@ -3,11 +3,10 @@
 ghost use Rattle.std.specs.Prelude.{◌≡◌, ◌+◌, ◌<◌, ◌^◌, ◌∷◌, [], Err, IfErr, IfOk, List, Ok, OnOk, length, suc, true, ℕ};
 ghost use Rattle.tt_code.specs.Settings.{starts_in_body};
 ghost use Rattle.tt_code.specs.Table.{effect_of};
-ghost use Rattle.tt_abs.specs.Moves.{nexts_of};
+ghost use Rattle.tt_abs.specs.Moves.{ForReason, IsRefusedFor, LeadsBy, nexts_of, outcome_at};
 ghost use Rattle.tt_abs.specs.Settings.{frames_of, setting_of};
 ghost use Rattle.tt_abs.specs.States.{abstract_of, state_order};
-ghost use Rattle.tt_abs.specs.Steps.{ForReason};
-ghost use Rattle.tt_abs.specs.Transfers.{does_cells, outcome_on_cells};
+ghost use Rattle.tt_abs.specs.Transfers.{does_cells};
 
 use crate::compute::compute;
 use crate::control::lead;
@@ -54,8 +53,8 @@ pub fn step(
     state: &mut State,
 ) -> Result<Moves, Refusal>
     requires { starts_in_body (setting_of setting.now) (frames_of point.now) point.now.offset ≡ true }
-    ensures ok { IfOk result (λ m. outcome_on_cells (setting_of setting.now) (frames_of point.now) point.now.offset (abstract_of state.old) ≡ Ok (nexts_of (frames_of point.now) m (abstract_of state.new))) }
-    ensures refused { IfErr result (λ e. ForReason e (λ r. outcome_on_cells (setting_of setting.now) (frames_of point.now) point.now.offset (abstract_of state.old) ≡ Err r)) }
+    ensures ok { IfOk result (λ m. LeadsBy point.now (outcome_at setting.now point.now state.old) m state.new) }
+    ensures refused { IfErr result (IsRefusedFor (outcome_at setting.now point.now state.old)) }
     ensures in_range { state_order.InRange state.old → IfOk result (λ _. state_order.InRange state.new) }
 {
     setting.is_within();

@@ -1,11 +1,14 @@
 //! Instructions with known outcomes on abstract states. Stacks are written bottom first.
 
-ghost use Rattle.std.specs.Prelude.{◌<◌, length};
+ghost use Rattle.std.specs.Prelude.{◌≡◌, ◌<◌, length, false, IfOk};
+ghost use Rattle.tt_abs.specs.Covers.{has_body_twice};
+ghost use Rattle.tt_abs.specs.Settings.{frames_of};
+ghost use Rattle.tt_abs.specs.States.{state_order};
 
 use crate::cells::Cell::{Known, Unknown};
 use crate::*;
 use std::alloc::{AllocError, Global};
-use std::test::Fail;
+use tt_code::kinds::{Pointer, Reference};
 use tt_code::{Graphics, Limits, Program, Reason};
 
 /// What is known at a place, where it stands and the functions aside.
@@ -29,7 +32,9 @@ enum Told {
     One(Way),
     /// It goes on at one place or the other, the smaller offset first.
     Two(Way, Way),
-    /// There is no answer: for want of memory, or since the program can't be cut.
+    /// It enters a body or goes on at its end, with a stack so deep.
+    Elsewhere(Move, usize),
+    /// There is no answer: for want of memory, since the program can't be cut, or since no instruction starts there.
     Nothing,
 }
 
@@ -66,10 +71,7 @@ const LIMITS: Limits = Limits {
     twilight: 4,
 };
 
-// TO BE FITTED to `transfer` and to what reads its successors: the two functions that follow are the only ones here that name
-// them. Until then `answer` answers nothing, and so the tests fail.
-
-/// What is told of one successor, its place and its state.
+/// What is told of a place and the state there.
 fn way_of(offset: u32, state: &State) -> Way {
     let mut cells = [Unknown; 8];
     for (height, cell) in cells.iter_mut().enumerate() {
@@ -79,26 +81,60 @@ fn way_of(offset: u32, state: &State) -> Way {
         offset,
         depth: state.depth(),
         cells,
-        graphics: state.graphics,
+        graphics: Graphics {
+            rp0: state.rp(Reference::Rp0),
+            rp1: state.rp(Reference::Rp1),
+            rp2: state.rp(Reference::Rp2),
+            zp0: state.zone(Pointer::Zp0),
+            zp1: state.zone(Pointer::Zp1),
+            zp2: state.zone(Pointer::Zp2),
+            loop_number: state.loop_cell(),
+        },
         stored: state.storage(1),
     }
 }
 
-/// What `transfer(alloc, setting, point, state)` answers: `Refused` with its reason, `Nothing` for want of memory, else the ways of
-/// its successors, each by `way_of`.
-fn answer(_alloc: Global, _setting: &Setting<'_>, _point: &Point<'_>, _state: &State) -> Told {
-    Told::Nothing
+/// What is told of the ways on, all with one state.
+fn told_of(moves: Moves, state: &State) -> Told {
+    match moves {
+        Moves::One(Move::To(offset)) => Told::One(way_of(offset, state)),
+        Moves::One(other) => Told::Elsewhere(other, state.depth()),
+        Moves::Two(one, other) => Told::Two(way_of(one, state), way_of(other, state)),
+    }
+}
+
+/// What the instruction at the point does with a state.
+fn answer(setting: &Setting<'_>, point: &Point<'_>, state: &State) -> Told
+    requires in_range { state_order.InRange state.now }
+    requires once { has_body_twice (frames_of point.now) ≡ false }
+{
+    if !setting.starts(point, point.offset) {
+        return Told::Nothing;
+    }
+    match transfer(setting, point, state) {
+        Ok(Successors { moves, state }) => told_of(moves, &state),
+        Err(Refusal::Refused(reason)) => Told::Refused(reason),
+        Err(Refusal::OutOfMemory(_)) => Told::Nothing,
+    }
 }
 
 /// A state with these cells.
 fn state_of(alloc: Global, stack: &[Cell], given: &Given) -> Result<State, AllocError>
     requires { length stack.now < 100 }
+    ensures { IfOk result (λ state. state_order.InRange state) }
 {
     let mut state = State::start(alloc, &[])?;
     for cell in stack {
         state.push(*cell)?;
     }
-    state.graphics = given.graphics;
+    let graphics = given.graphics;
+    state.set_rp(Reference::Rp0, graphics.rp0);
+    state.set_rp(Reference::Rp1, graphics.rp1);
+    state.set_rp(Reference::Rp2, graphics.rp2);
+    state.set_zone(Pointer::Zp0, graphics.zp0);
+    state.set_zone(Pointer::Zp1, graphics.zp1);
+    state.set_zone(Pointer::Zp2, graphics.zp2);
+    state.set_loop(graphics.loop_number);
     state.set_storage(1, given.stored)?;
     Ok(state)
 }
@@ -132,7 +168,7 @@ fn outcome(alloc: Global, program: &[u8], offset: u32, stack: &[Cell], given: &G
         frames: &[],
         offset,
     };
-    let told = answer(alloc, &setting, &point, &state);
+    let told = answer(&setting, &point, &state);
     // A setting isn't let go by itself.
     let Setting {
         limits: _limits,

@@ -1,14 +1,12 @@
 //! What an abstract state becomes by the instruction at its place.
 
-ghost use Rattle.std.specs.Prelude.{◌≡◌, Err, IfErr, IfOk, Ok, false, true};
+ghost use Rattle.std.specs.Prelude.{◌≡◌, IfErr, IfOk, false, true};
 ghost use Rattle.tt_code.specs.Runs.{outcome};
 ghost use Rattle.tt_code.specs.Settings.{starts_in_body};
 ghost use Rattle.tt_abs.specs.Covers.{Gives, IsRefused, has_body_twice};
-ghost use Rattle.tt_abs.specs.Moves.{nexts_of};
+ghost use Rattle.tt_abs.specs.Moves.{ForReason, IsRefusedFor, LeadsBy, nexts_of, outcome_at};
 ghost use Rattle.tt_abs.specs.Settings.{frames_of, setting_of};
 ghost use Rattle.tt_abs.specs.States.{abstract_of, state_order};
-ghost use Rattle.tt_abs.specs.Steps.{ForReason};
-ghost use Rattle.tt_abs.specs.Transfers.{outcome_on_cells};
 
 use crate::moves::Moves;
 use crate::refusal::Refusal;
@@ -38,10 +36,10 @@ pub fn transfer(
     requires starts { starts_in_body (setting_of setting.now) (frames_of point.now) point.now.offset ≡ true }
     requires once { has_body_twice (frames_of point.now) ≡ false }
     requires in_range { state_order.InRange state.now }
-    ensures outcome { IfOk result (λ s. outcome_on_cells (setting_of setting.now) (frames_of point.now) point.now.offset (abstract_of state.now) ≡ Ok (nexts_of (frames_of point.now) s.moves (abstract_of s.state))) }
+    ensures outcome { IfOk result (λ s. LeadsBy point.now (outcome_at setting.now point.now state.now) s.moves s.state) }
     ensures gives { IfOk result (λ s. Gives (abstract_of state.now) (frames_of point.now) point.now.offset (outcome (setting_of setting.now)) (nexts_of (frames_of point.now) s.moves (abstract_of s.state))) }
     ensures in_range { IfOk result (λ s. state_order.InRange s.state) }
-    ensures reason { IfErr result (λ e. ForReason e (λ r. outcome_on_cells (setting_of setting.now) (frames_of point.now) point.now.offset (abstract_of state.now) ≡ Err r)) }
+    ensures reason { IfErr result (IsRefusedFor (outcome_at setting.now point.now state.now)) }
     ensures refused { IfErr result (λ e. ForReason e (λ r. IsRefused (abstract_of state.now) (frames_of point.now) point.now.offset (outcome (setting_of setting.now)))) }
 {
     prove!(setting.program(point).len() < 1 << 31);

@@ -37,29 +37,39 @@ keys_apart (a, b, c, d, e) (a', b', c', d', e') apart =
     let from3 = λ (h : is_eq t3 ≡ false). from4 (then_first t3 (nat_cmp d d') h) in
     let from2 = λ (h : is_eq t2 ≡ false). from3 (then_first t2 (nat_cmp c c') h) in
     elim (cases_eq a a') [
-      inr f ↦ from2 (then_first t1 (nat_cmp b b') (numbers_apart a a' f))
-    | inl e0 ↦ elim (cases_eq b b') [
-        inr f ↦ from2 (then_second t1 (nat_cmp b b') (numbers_apart b b' f))
-      | inl e1 ↦ elim (cases_eq c c') [
-          inr f ↦ from3 (then_second t2 (nat_cmp c c') (numbers_apart c c' f))
-        | inl e2 ↦ elim (cases_eq d d') [
-            inr f ↦ from4 (then_second t3 (nat_cmp d d') (numbers_apart d d' f))
-          | inl e3 ↦ elim (cases_eq e e') [
-              inr f ↦ then_second t4 (nat_cmp e e') (numbers_apart e e' f)
-            | inl e4 ↦ absurd (apart (λ i. (sym e0 i, sym e1 i, sym e2 i, sym e3 i, sym e4 i))) ] ] ] ] ]
+      | inr f ↦ from2 (then_first t1 (nat_cmp b b') (numbers_apart a a' f))
+      | inl e0 ↦ elim (cases_eq b b') [
+        | inr f ↦ from2 (then_second t1 (nat_cmp b b') (numbers_apart b b' f))
+        | inl e1 ↦ elim (cases_eq c c') [
+          | inr f ↦ from3 (then_second t2 (nat_cmp c c') (numbers_apart c c' f))
+          | inl e2 ↦ elim (cases_eq d d') [
+            | inr f ↦ from4 (then_second t3 (nat_cmp d d') (numbers_apart d d' f))
+            | inl e3 ↦ elim (cases_eq e e') [
+              | inr f ↦ then_second t4 (nat_cmp e e') (numbers_apart e e' f)
+              | inl e4 ↦ absurd (apart (λ i. (sym e0 i, sym e1 i, sym e2 i, sym e3 i, sym e4 i)))
+            ]
+          ]
+        ]
+      ]
+    ]
 
 pub cases_key : (k p : Key) → (k ≡ p) ⊎ (p ≢ k)
 cases_key (a, b, c, d, e) (a', b', c', d', e') = elim (cases_eq a a') [
-    inr f ↦ inr (λ g. f (sym (ap (λ (x : Key). x.0) g)))
+  | inr f ↦ inr (λ g. f (sym (ap (λ (x : Key). x.0) g)))
   | inl e0 ↦ elim (cases_eq b b') [
-      inr f ↦ inr (λ g. f (sym (ap (λ (x : Key). x.1) g)))
+    | inr f ↦ inr (λ g. f (sym (ap (λ (x : Key). x.1) g)))
     | inl e1 ↦ elim (cases_eq c c') [
-        inr f ↦ inr (λ g. f (sym (ap (λ (x : Key). x.2) g)))
+      | inr f ↦ inr (λ g. f (sym (ap (λ (x : Key). x.2) g)))
       | inl e2 ↦ elim (cases_eq d d') [
-          inr f ↦ inr (λ g. f (sym (ap (λ (x : Key). x.3) g)))
+        | inr f ↦ inr (λ g. f (sym (ap (λ (x : Key). x.3) g)))
         | inl e3 ↦ elim (cases_eq e e') [
-            inr f ↦ inr (λ g. f (sym (ap (λ (x : Key). x.4) g)))
-          | inl e4 ↦ inl (λ i. (e0 i, e1 i, e2 i, e3 i, e4 i)) ] ] ] ] ]
+          | inr f ↦ inr (λ g. f (sym (ap (λ (x : Key). x.4) g)))
+          | inl e4 ↦ inl (λ i. (e0 i, e1 i, e2 i, e3 i, e4 i))
+        ]
+      ]
+    ]
+  ]
+]
 
 -- entries with one key are the same
 pub key_same : (a b : ℕ × Frame) → a.0 ≡ b.0 → a.1 ≡ b.1 → key_of a ≡ key_of b
@@ -115,7 +125,7 @@ module _ (entries : List (ℕ × Frame)) (index : BTreeMap Key ℕ) (states : Li
           let at_i : slice_get entries i ≡ Some e = slice_get-get_or entries i (0, no_frame) in_entries in
           let succ : suc i ≡ i + 1 = omega arith in
           let both = cons_same e.1 frame (frames_at v.contexts e.0) (frames_at v.contexts parent)
-            (sym (at_entry i e at_i) ∙ ap (frames_at v.contexts) (sym succ) ∙ at) in
+          (sym (at_entry i e at_i) ∙ ap (frames_at v.contexts) (sym succ) ∙ at) in
           let before = built.parents i e at_i in
           let parents : e.0 ≡ parent = family_is.distinct e.0 parent (omega arith) lt both.0 in
           let found = built.found i e at_i in
@@ -153,16 +163,19 @@ IsFamily-push xs y states family absent few =
       main = old 0 some ∙ family.main;
       some = omega arith;
       distinct = λ i j li lj same. elim (cases_lt i (length xs)) [
-          inl lt_i ↦ elim (cases_lt j (length xs)) [
-            inl lt_j ↦ family.distinct i j lt_i lt_j (sym (old i lt_i) ∙ same ∙ old j lt_j)
+        | inl lt_i ↦ elim (cases_lt j (length xs)) [
+          | inl lt_j ↦ family.distinct i j lt_i lt_j (sym (old i lt_i) ∙ same ∙ old j lt_j)
           | inr ge_j ↦
               let j_is : j ≡ length xs = omega arith in
-              absurd (absent (has i lt_i (sym (old i lt_i) ∙ same ∙ ap (frames_at (xs ++ y ∷ [])) j_is ∙ last))) ]
+              absurd (absent (has i lt_i (sym (old i lt_i) ∙ same ∙ ap (frames_at (xs ++ y ∷ [])) j_is ∙ last)))
+        ]
         | inr ge_i ↦
             let i_is : i ≡ length xs = omega arith in
             elim (cases_lt j (length xs)) [
-              inl lt_j ↦ absurd (absent (has j lt_j (sym (old j lt_j) ∙ sym same ∙ ap (frames_at (xs ++ y ∷ [])) i_is ∙ last)))
-            | inr ge_j ↦ omega arith ] ];
+              | inl lt_j ↦ absurd (absent (has j lt_j (sym (old j lt_j) ∙ sym same ∙ ap (frames_at (xs ++ y ∷ [])) i_is ∙ last)))
+              | inr ge_j ↦ omega arith
+            ]
+      ];
       few = omega arith;
       held = λ c o s at. let lt = family.held c o s at in omega arith;
       in_range = family.in_range;
@@ -209,7 +222,7 @@ module _ (entries entries' : List (ℕ × Frame)) (index index' : BTreeMap Key �
       subst Q (sym lists') (record {
         there = omega arith;
         at = ap (frames_at (v.contexts ++ (frame ∷ frames_at v.contexts parent) ∷ [])) last
-          ∙ get_or-append_seam v.contexts (frame ∷ frames_at v.contexts parent) [] [];
+            ∙ get_or-append_seam v.contexts (frame ∷ frames_at v.contexts parent) [] [];
         how = inr (absent, last, refl);
       })
 
@@ -217,26 +230,31 @@ module _ (entries entries' : List (ℕ × Frame)) (index index' : BTreeMap Key �
   IsBuilt-added =
       let long = length_is entries index states v is built in
       let B : List (ℕ × Frame) → Type 0 = λ x. ((i : ℕ) (e : ℕ × Frame) → slice_get x i ≡ Some e → e.0 ≤ i)
-            × ((k : Key) (n : ℕ) → get key_cmp index' k ≡ Some n → (i : ℕ) × (e : ℕ × Frame) × (n ≡ i + 1) × (slice_get x i ≡ Some e) × (key_of e ≡ k))
-            × ((i : ℕ) (e : ℕ × Frame) → slice_get x i ≡ Some e → get key_cmp index' (key_of e) ≡ Some (i + 1)) in
+      × ((k : Key) (n : ℕ) → get key_cmp index' k ≡ Some n → (i : ℕ) × (e : ℕ × Frame) × (n ≡ i + 1) × (slice_get x i ≡ Some e) × (key_of e ≡ k))
+      × ((i : ℕ) (e : ℕ × Frame) → slice_get x i ≡ Some e → get key_cmp index' (key_of e) ≡ Some (i + 1)) in
       let three : B entries' = subst B (sym items) (
-            (λ i e at. elim (push_cases entries (parent, frame) i e at) [
-                inl old ↦ built.parents i e old
-              | inr new ↦ let p : e.0 ≡ parent = ap (λ (x : ℕ × Frame). x.0) new.1 in let n = new.0 in omega arith ]),
-            (λ k n at. elim (cases_key (key_of (parent, frame)) k) [
-                inl same ↦
-                  let now : get key_cmp index' k ≡ Some (length entries + 1) = ap (get key_cmp index') (sym same) ∙ updates.1 in
-                  let n_is : n ≡ length entries + 1 = cc in
-                  (length entries, (parent, frame), n_is, push_last entries (parent, frame), same)
-              | inr apart ↦
-                  let (i, e, n_is, at_i, key) = built.indexed k n (sym (updates.2 k (keys_apart (key_of (parent, frame)) k apart)) ∙ at) in
-                  (i, e, n_is, push_old entries (parent, frame) i e at_i, key) ]),
-            (λ i e at. elim (push_cases entries (parent, frame) i e at) [
-                inl old ↦ elim (cases_key (key_of (parent, frame)) (key_of e)) [
-                    inl same ↦ absurd (let bad : None ≡ Some (i + 1) = none ∙ ap (get key_cmp index) same ∙ built.found i e old in cc)
-                  | inr apart ↦ updates.2 (key_of e) (keys_apart (key_of (parent, frame)) (key_of e) apart) ∙ built.found i e old ]
-              | inr new ↦
-                  ap (λ (x : ℕ × Frame). get key_cmp index' (key_of x)) new.1 ∙ updates.1 ∙ ap (λ n. Some (n + 1)) (sym new.0) ])) in
+        (λ i e at. elim (push_cases entries (parent, frame) i e at) [
+          | inl old ↦ built.parents i e old
+          | inr new ↦ let p : e.0 ≡ parent = ap (λ (x : ℕ × Frame). x.0) new.1 in let n = new.0 in omega arith
+        ]),
+        (λ k n at. elim (cases_key (key_of (parent, frame)) k) [
+          | inl same ↦
+              let now : get key_cmp index' k ≡ Some (length entries + 1) = ap (get key_cmp index') (sym same) ∙ updates.1 in
+              let n_is : n ≡ length entries + 1 = cc in
+              (length entries, (parent, frame), n_is, push_last entries (parent, frame), same)
+          | inr apart ↦
+              let (i, e, n_is, at_i, key) = built.indexed k n (sym (updates.2 k (keys_apart (key_of (parent, frame)) k apart)) ∙ at) in
+              (i, e, n_is, push_old entries (parent, frame) i e at_i, key)
+        ]),
+        (λ i e at. elim (push_cases entries (parent, frame) i e at) [
+          | inl old ↦ elim (cases_key (key_of (parent, frame)) (key_of e)) [
+            | inl same ↦ absurd (let bad : None ≡ Some (i + 1) = none ∙ ap (get key_cmp index) same ∙ built.found i e old in cc)
+            | inr apart ↦ updates.2 (key_of e) (keys_apart (key_of (parent, frame)) (key_of e) apart) ∙ built.found i e old
+          ]
+          | inr new ↦
+              ap (λ (x : ℕ × Frame). get key_cmp index' (key_of x)) new.1 ∙ updates.1 ∙ ap (λ n. Some (n + 1)) (sym new.0)
+        ]),
+      ) in
       record { parents = three.0; indexed = three.1; found = three.2; family = added_family }
     where
       push_last : {A : Type 0} (xs : List A) (y : A) → slice_get (xs ++ y ∷ []) (length xs) ≡ Some y

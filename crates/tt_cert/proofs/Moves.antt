@@ -33,21 +33,23 @@ has_context contexts c frames lt at = let most = number_of-place contexts frames
 -- contexts that are there stay when one is added
 stays : (new new' : List (List Frame)) (frames : List Frame) (n k : ℕ) → AddsContext new new' frames n → k < length new → (k < length new') × (frames_at new' k ≡ frames_at new k)
 stays new new' frames n k adds lt = elim adds.how [
-    inl old ↦ let e = ap length old.1 in (omega arith, ap (λ x. frames_at x k) old.1)
+  | inl old ↦ let e = ap length old.1 in (omega arith, ap (λ x. frames_at x k) old.1)
   | inr more ↦
       let e = ap length more.2 in
       let long = length-append new (frames ∷ []) in
-      (omega arith, ap (λ x. frames_at x k) more.2 ∙ get_or-append new (frames ∷ []) [] k lt) ]
+      (omega arith, ap (λ x. frames_at x k) more.2 ∙ get_or-append new (frames ∷ []) [] k lt)
+]
 
 -- a context that wasn't there is the one that was added
 fresh : (new new' : List (List Frame)) (frames : List Frame) (n k : ℕ) → AddsContext new new' frames n → (k < length new → ⊥) → k < length new' → k ≡ n
 fresh new new' frames n k adds absent lt = elim adds.how [
-    inl old ↦ let e = ap length old.1 in absurd (absent (omega arith))
+  | inl old ↦ let e = ap length old.1 in absurd (absent (omega arith))
   | inr more ↦
       let e = ap length more.2 in
       let long = length-append new (frames ∷ []) in
       let last = more.1 in
-      elim (cases_lt k (length new)) [ inl less ↦ absurd (absent less) | inr ge ↦ omega arith ] ]
+      elim (cases_lt k (length new)) [ inl less ↦ absurd (absent less) | inr ge ↦ omega arith ]
+]
 
 set_cases : {A : Type 0} (xs : List A) (i : ℕ) (y : A) (k : ℕ) (z : A) → slice_get (slice_set xs i y) k ≡ Some z → ((k ≡ i) × (y ≡ z)) ⊎ (slice_get xs k ≡ Some z)
 set_cases [] i y k z at = inr at
@@ -70,7 +72,7 @@ AreMoved-step old new new' numbers c p m n frame moved lt at known adds =
     record {
       long = set_length numbers c (Some n) ∙ moved.long;
       moved = λ c' n' known'. elim (set_cases numbers c (Some n) c' (Some n') known') [
-          inl now ↦
+        | inl now ↦
             let one : Some n ≡ Some n' = now.1 in
             let n_is : n ≡ n' = cc in
             let there = adds.there in
@@ -78,14 +80,16 @@ AreMoved-step old new new' numbers c p m n frame moved lt at known adds =
         | inr before ↦
             let (lt', same) = moved.moved c' n' before in
             let stay = stays new new' (frame ∷ frames_at new m) n n' adds lt' in
-            (stay.0, stay.1 ∙ same) ];
+            (stay.0, stay.1 ∙ same)
+      ];
       mine = λ k lt'. elim (cases_lt k (length new)) [
-          inl less ↦
+        | inl less ↦
             let H : List Frame → Type 0 = λ x. HasContext old x in
             subst H (sym (stays new new' (frame ∷ frames_at new m) n k adds less).1) (moved.mine k less)
         | inr ge ↦
             let k_is = fresh new new' (frame ∷ frames_at new m) n k adds (λ less. omega arith) lt' in
-            has_context old c (frames_at new' k) lt (sym child ∙ ap (frames_at new') (sym k_is)) ];
+            has_context old c (frames_at new' k) lt (sym child ∙ ap (frames_at new') (sym k_is))
+      ];
     }
 
 pub AreMoved-first : (old new : List (List Frame)) (numbers : List (Option ℕ)) → 0 < length old → frames_at old 0 ≡ [] → new ≡ [] ∷ [] → length numbers ≡ length old
@@ -96,25 +100,26 @@ AreMoved-first old new numbers some main new_is long first =
     record {
       long = long;
       moved = λ c n known.
-        let (c_is, n_is) = first c n known in
-        (omega arith, ap (frames_at new) n_is ∙ at ∙ sym main ∙ ap (frames_at old) (sym c_is));
+          let (c_is, n_is) = first c n known in
+          (omega arith, ap (frames_at new) n_is ∙ at ∙ sym main ∙ ap (frames_at old) (sym c_is));
       mine = λ n lt.
-        let n_is : n ≡ 0 = omega arith in
-        has_context old 0 (frames_at new n) some (main ∙ sym at ∙ ap (frames_at new) (sym n_is));
+          let n_is : n ≡ 0 = omega arith in
+          has_context old 0 (frames_at new n) some (main ∙ sym at ∙ ap (frames_at new) (sym n_is));
     }
 
 -- where each context has a new number the contexts are the same
 pub SameContexts-from : (old new : List (List Frame)) (numbers : List (Option ℕ)) → AreMoved old new numbers → HaveAllNumbers numbers
     → (frames : List Frame) → HasContext old frames ↔ HasContext new frames
-SameContexts-from old new numbers moved all frames =
-    ((λ has.
-        let long = moved.long in
-        let (n, known) = all (number_of old frames) (omega arith) in
-        let (lt, same) = moved.moved (number_of old frames) n known in
-        has_context new n frames lt (same ∙ at-number_of old frames has)),
-     (λ has.
-        let H : List Frame → Type 0 = λ x. HasContext old x in
-        subst H (at-number_of new frames has) (moved.mine (number_of new frames) has)))
+SameContexts-from old new numbers moved all frames = (
+  (λ has.
+      let long = moved.long in
+      let (n, known) = all (number_of old frames) (omega arith) in
+      let (lt, same) = moved.moved (number_of old frames) n known in
+      has_context new n frames lt (same ∙ at-number_of old frames has)),
+  (λ has.
+      let H : List Frame → Type 0 = λ x. HasContext old x in
+      subst H (at-number_of new frames has) (moved.mine (number_of new frames) has)),
+)
 
 -- a new number that was read
 pub known_at : (numbers : List (Option ℕ)) (c n : ℕ) (d : Option ℕ) → slice_index_or numbers c d ≡ Some n → c < length numbers → slice_get numbers c ≡ Some (Some n)
@@ -123,23 +128,26 @@ known_at numbers c n d at lt = slice_get-get_or numbers c d lt ∙ ap Some at
 pub all_step : (numbers : List (Option ℕ)) (i n : ℕ) (d : Option ℕ) → ((c : ℕ) → c < i → (n : ℕ) × (slice_get numbers c ≡ Some (Some n))) → i < length numbers
     → slice_index_or numbers i d ≡ Some n → (c : ℕ) → c < i + 1 → (n : ℕ) × (slice_get numbers c ≡ Some (Some n))
 all_step numbers i n d before lt at c less = elim (cases_lt c i) [
-    inl old ↦ before c old
-  | inr new ↦ let c_is : c ≡ i = omega arith in (n, ap (slice_get numbers) c_is ∙ known_at numbers i n d at lt) ]
+  | inl old ↦ before c old
+  | inr new ↦ let c_is : c ≡ i = omega arith in (n, ap (slice_get numbers) c_is ∙ known_at numbers i n d at lt)
+]
 
 module _ {K X : Type 0} (test : K → Bool) where
   lookup_append_some : (xs ys : List (K × X)) (v : X) → lookup test xs ≡ Some v → lookup test (xs ++ ys) ≡ Some v
   lookup_append_some [] ys v at = cc
   lookup_append_some (e ∷ es) ys v at =
       (elim (test e.0) as (λ b. cond b (Some e.1) (lookup test es) ≡ Some v → cond b (Some e.1) (lookup test (es ++ ys)) ≡ Some v) [
-          true ↦ λ h. h
-        | false ↦ λ h. lookup_append_some es ys v h ]) at
+        | true ↦ λ h. h
+        | false ↦ λ h. lookup_append_some es ys v h
+      ]) at
 
   lookup_last : (xs : List (K × X)) (k : K) (v : X) → test k ≡ true → ((t : X) → lookup test xs ≡ Some t → t ≡ v) → lookup test (xs ++ (k, v) ∷ []) ≡ Some v
   lookup_last [] k v here before = ap (λ b. cond b (Some v) None) here
   lookup_last (e ∷ es) k v here before =
       (elim (test e.0) as (λ b. ((t : X) → cond b (Some e.1) (lookup test es) ≡ Some t → t ≡ v) → cond b (Some e.1) (lookup test (es ++ (k, v) ∷ [])) ≡ Some v) [
-          true ↦ λ h. ap Some (h e.1 refl)
-        | false ↦ λ h. lookup_last es k v here h ]) before
+        | true ↦ λ h. ap Some (h e.1 refl)
+        | false ↦ λ h. lookup_last es k v here h
+      ]) before
 
   lookup_apart : (xs : List (K × X)) (k : K) (v : X) → test k ≡ false → lookup test (xs ++ (k, v) ∷ []) ≡ lookup test xs
   lookup_apart [] k v apart = ap (λ b. cond b (Some v) None) apart
@@ -220,11 +228,16 @@ module _ (old new new' : Contents) (numbers : List (Option ℕ)) (place : ℕ ×
       λ i. (first i, second i)
 
   pub so_far_step : HasSoFar old new' rest'
-  so_far_step = (done ++ (place, s) ∷ [], split_here ∙ sym (append_assoc done ((place, s) ∷ []) rest'), λ p.
-      elim (cases_place (number_of old.contexts p.0, p.1) place) [
-          inl here ↦ ap (family_of new') (point_is p here) ∙ slot ∙ sym (ap (states_of (done ++ (place, s) ∷ [])) here ∙ last)
-        | inr apart ↦ put.elsewhere p (λ e. apart (point_from p e)) ∙ same p
-            ∙ sym (lookup_apart (is_at (place_cmp (number_of old.contexts p.0, p.1))) done place s (places_apart (number_of old.contexts p.0, p.1) place (λ e. apart (sym e)))) ])
+  so_far_step = (
+    done ++ (place, s) ∷ [],
+    split_here ∙ sym (append_assoc done ((place, s) ∷ []) rest'),
+    λ p.
+        elim (cases_place (number_of old.contexts p.0, p.1) place) [
+          | inl here ↦ ap (family_of new') (point_is p here) ∙ slot ∙ sym (ap (states_of (done ++ (place, s) ∷ [])) here ∙ last)
+          | inr apart ↦ put.elsewhere p (λ e. apart (point_from p e)) ∙ same p
+              ∙ sym (lookup_apart (is_at (place_cmp (number_of old.contexts p.0, p.1))) done place s (places_apart (number_of old.contexts p.0, p.1) place (λ e. apart (sym e))))
+        ],
+  )
 
 -- what the entry that comes next says of itself
 pub next_found : (old new : Contents) (rest rest' : List ((ℕ × ℕ) × State)) (x : (ℕ × ℕ) × State) → HasSoFar old new rest → rest ≡ x ∷ rest' → IsFoundAll old
@@ -284,6 +297,7 @@ take_first {A} xs ys n same = ap (λ k. take k (xs ++ ys)) same ∙ go xs
     take_none : (l : List A) → take 0 l ≡ []
     take_none [] = refl
     take_none (x ∷ l) = refl
+
     go : (zs : List A) → take (length zs) (zs ++ ys) ≡ zs
     go [] = take_none ys
     go (z ∷ zs) = ap (λ l. z ∷ l) (go zs)

@@ -12,8 +12,9 @@ use Rattle.tt_cert.specs.Places.{place_cmp, states_of, PutGives, PutsAt}
 
 pub numbers_apart : (x y : ℕ) → x ≢ y → is_eq (nat_cmp x y) ≡ false
 numbers_apart x y apart = elim (cases_lt x y) [
-    inl less ↦ ap is_eq (sym (nat_cmp_is x y Less less))
-  | inr not_less ↦ let more : y < x = omega arith in ap is_eq (sym (nat_cmp_is x y Greater more)) ]
+  | inl less ↦ ap is_eq (sym (nat_cmp_is x y Less less))
+  | inr not_less ↦ let more : y < x = omega arith in ap is_eq (sym (nat_cmp_is x y Greater more))
+]
 
 pub then_first : (a b : Ordering) → is_eq a ≡ false → is_eq (ordering_then a b) ≡ false
 then_first Less b e = refl
@@ -27,13 +28,15 @@ then_second Greater b e = refl
 
 pub places_apart : (k p : ℕ × ℕ) → p ≢ k → is_at (place_cmp k) p ≡ false
 places_apart (a, b) (c, d) apart = elim (cases_eq a c) [
-    inl same ↦ then_second (nat_cmp a c) (nat_cmp b d) (numbers_apart b d (λ e. apart (cc)))
-  | inr other ↦ then_first (nat_cmp a c) (nat_cmp b d) (numbers_apart a c other) ]
+  | inl same ↦ then_second (nat_cmp a c) (nat_cmp b d) (numbers_apart b d (λ e. apart (cc)))
+  | inr other ↦ then_first (nat_cmp a c) (nat_cmp b d) (numbers_apart a c other)
+]
 
 pub cases_place : (p k : ℕ × ℕ) → (p ≡ k) ⊎ (p ≢ k)
 cases_place (a, b) (c, d) = elim (cases_eq a c) [
-          inl e ↦ elim (cases_eq b d) [ inl e' ↦ inl (cc) | inr f ↦ inr (λ g. f (ap (λ (x : ℕ × ℕ). x.1) g)) ]
-        | inr f ↦ inr (λ g. f (ap (λ (x : ℕ × ℕ). x.0) g)) ]
+  | inl e ↦ elim (cases_eq b d) [ inl e' ↦ inl (cc) | inr f ↦ inr (λ g. f (ap (λ (x : ℕ × ℕ). x.1) g)) ]
+  | inr f ↦ inr (λ g. f (ap (λ (x : ℕ × ℕ). x.0) g))
+]
 
 module _ {S : Type 0} (o : Order S) where
   pub PutsAt-written : (m n : BTreeMap (ℕ × ℕ) S) (k : ℕ × ℕ) (old u t : S) (changed : Bool) → Some old ≡ states_of m.entries k → WritesThrough place_cmp (place_cmp k) m u n

@@ -78,11 +78,13 @@ module _ (entries : List (ℕ × Frame)) (index : BTreeMap Key ℕ) (states stat
         distinct = old.distinct;
         few = old.few;
         in_range = λ c' o' s at. elim (cases_place (c', o') (c, off)) [
-            inl same ↦ PutGives-in_range (states_of states (c, off)) t (states_of states' (c, off)) changed put.here ranged (old.in_range c off) s (ap (states_of states') (sym same) ∙ at)
-          | inr apart ↦ old.in_range c' o' s (sym (put.elsewhere (c', o') apart) ∙ at) ];
+          | inl same ↦ PutGives-in_range (states_of states (c, off)) t (states_of states' (c, off)) changed put.here ranged (old.in_range c off) s (ap (states_of states') (sym same) ∙ at)
+          | inr apart ↦ old.in_range c' o' s (sym (put.elsewhere (c', o') apart) ∙ at)
+        ];
         held = λ c' o' s at. elim (cases_place (c', o') (c, off)) [
-            inl same ↦ let e : c' ≡ c = ap (λ (x : ℕ × ℕ). x.0) same in omega arith
-          | inr apart ↦ old.held c' o' s (sym (put.elsewhere (c', o') apart) ∙ at) ];
+          | inl same ↦ let e : c' ≡ c = ap (λ (x : ℕ × ℕ). x.0) same in omega arith
+          | inr apart ↦ old.held c' o' s (sym (put.elsewhere (c', o') apart) ∙ at)
+        ];
         fits = fits;
       }
 
@@ -96,14 +98,14 @@ module _ (entries : List (ℕ × Frame)) (index : BTreeMap Key ℕ) (states stat
   put_puts =
       let P : List ((ℕ × ℕ) × State) → Type 0 = λ x. PutsAt state_order (states_of x) (states_of states') (c, off) t changed in
       PutsAt-family state_order v (record { contexts = frames_of entries; states = states' }) c off t changed (family_is entries index states v is built)
-        (contexts_is entries index states v is built) within (subst P states_is put)
+      (contexts_is entries index states v is built) within (subst P states_is put)
 
   pub put_sums : ((w : State → ℕ) → sum_by w (values_of states') + weigh w (states_of states (c, off)) ≡ sum_by w (values_of states) + weigh w (states_of states' (c, off)))
       → Reweighs v (record { contexts = frames_of entries; states = states' }) (place_of v c off)
   put_sums sums =
       let P : List ((ℕ × ℕ) × State) → Type 0 = λ x. (w : State → ℕ) → sum_by w (values_of states') + weigh w (states_of x (c, off)) ≡ sum_by w (values_of x) + weigh w (states_of states' (c, off)) in
       Reweighs-family v (record { contexts = frames_of entries; states = states' }) c off (family_is entries index states v is built)
-        (contexts_is entries index states v is built) within (subst P states_is sums)
+      (contexts_is entries index states v is built) within (subst P states_is sums)
 
 module _ (entries : List (ℕ × Frame)) (index : BTreeMap Key ℕ) (states : List ((ℕ × ℕ) × State)) (v : Contents)
     (is : ◌≡◌ {A = Contents} (record { contexts = frames_of entries; states = states }) v) (built : IsBuilt entries index states) where

@@ -20,12 +20,12 @@ use Rattle.tt_cert.proofs.Adding.{no_frame, at_entry, length_is, family_is, cons
 pub key_total : IsTotalOrder key_cmp
 key_total =
     then_total
-      (then_total
-        (then_total
-          (then_total (on_total (λ (k : Key). k.0) nat_cmp_total) (on_total (λ (k : Key). k.1) nat_cmp_total))
-          (on_total (λ (k : Key). k.2) nat_cmp_total))
-        (on_total (λ (k : Key). k.3) nat_cmp_total))
-      (on_total (λ (k : Key). k.4) nat_cmp_total)
+    (then_total
+    (then_total
+    (then_total (on_total (λ (k : Key). k.0) nat_cmp_total) (on_total (λ (k : Key). k.1) nat_cmp_total))
+    (on_total (λ (k : Key). k.2) nat_cmp_total))
+    (on_total (λ (k : Key). k.3) nat_cmp_total))
+    (on_total (λ (k : Key). k.4) nat_cmp_total)
 
 -- the entry at an index that is there
 entry_at : (entries : List (ℕ × Frame)) (i : ℕ) → i < length entries → (e : ℕ × Frame) × (slice_get entries i ≡ Some e)
@@ -40,7 +40,7 @@ rises_over entries rises i (suc j) d e at_d at_e =
     let (m, at_m) = entry_at entries (i + 1 + j) (omega arith) in
     let n : i + 1 + j + 1 ≡ i + 1 + suc j = omega arith in
     key_total.trans (key_of d) (key_of m) (key_of e) (rises_over entries rises i j d m at_d at_m)
-      (rises (i + 1 + j) m e at_m (ap (slice_get entries) n ∙ at_e))
+    (rises (i + 1 + j) m e at_m (ap (slice_get entries) n ∙ at_e))
 
 module _ (entries : List (ℕ × Frame)) (index : BTreeMap Key ℕ) (states : List ((ℕ × ℕ) × State)) (v : Contents)
     (is : ◌≡◌ {A = Contents} (record { contexts = frames_of entries; states = states }) v) (built : IsBuilt entries index states) where
@@ -65,20 +65,23 @@ module _ (entries : List (ℕ × Frame)) (index : BTreeMap Key ℕ) (states : Li
       key_same d e (family.distinct d.0 e.0 (omega arith) (omega arith) both.0) both.1
 
   pub IsFinished-from : RisesByKey entries → IsFinished v
-  IsFinished-from rises = (family_is entries index states v is built, record {
+  IsFinished-from rises = (
+    family_is entries index states v is built,
+    record {
       parents = λ n some lt. let (i, e, n_is, at, stands) = entry_of n some lt in (e, stands);
       rises = λ m n d e less at_d at_e.
-        let some = at_d.1 in
-        let lt = at_d.0 in
-        let lt' = at_e.0 in
-        let (i, d', m_is, at_i, stands_m) = entry_of m (omega arith) lt in
-        let (j, e', n_is, at_j, stands_n) = entry_of n (omega arith) lt' in
-        let j_is : j ≡ i + 1 + (j - (i + 1)) = omega arith in
-        let same_d = one_entry m d' d stands_m at_d in
-        let same_e = one_entry n e' e stands_n at_e in
-        let below = rises_over entries rises i (j - (i + 1)) d' e' at_i (ap (slice_get entries) (sym j_is) ∙ at_j) in
-        ap (λ x. key_cmp x (key_of e)) (sym same_d) ∙ ap (key_cmp (key_of d')) (sym same_e) ∙ below;
-    })
+          let some = at_d.1 in
+          let lt = at_d.0 in
+          let lt' = at_e.0 in
+          let (i, d', m_is, at_i, stands_m) = entry_of m (omega arith) lt in
+          let (j, e', n_is, at_j, stands_n) = entry_of n (omega arith) lt' in
+          let j_is : j ≡ i + 1 + (j - (i + 1)) = omega arith in
+          let same_d = one_entry m d' d stands_m at_d in
+          let same_e = one_entry n e' e stands_n at_e in
+          let below = rises_over entries rises i (j - (i + 1)) d' e' at_i (ap (slice_get entries) (sym j_is) ∙ at_j) in
+          ap (λ x. key_cmp x (key_of e)) (sym same_d) ∙ ap (key_cmp (key_of d')) (sym same_e) ∙ below;
+    },
+  )
 
 less_from : (o : Ordering) → is_lt o ≡ true → o ≡ Less
 less_from Less e = refl
@@ -92,7 +95,7 @@ pub rises_step : (entries : List (ℕ × Frame)) (i : ℕ) (x y : ℕ × Frame)
     → (o : Ordering) → o ≡ key_cmp a b → is_lt o ≡ true
     → (k : ℕ) (d e : ℕ × Frame) → k + 1 < i + 1 → slice_get entries k ≡ Some d → slice_get entries (k + 1) ≡ Some e → key_cmp (key_of d) (key_of e) ≡ Less
 rises_step entries i x y before some lt a b a_is b_is o o_is less k d e within at_d at_e = elim (cases_lt (k + 1) i) [
-    inl old ↦ before k d e old at_d at_e
+  | inl old ↦ before k d e old at_d at_e
   | inr new ↦
       let k_is : k ≡ i - 1 = omega arith in
       let next : k + 1 ≡ i = omega arith in
@@ -101,4 +104,5 @@ rises_step entries i x y before some lt a b a_is b_is o o_is less k d e within a
       let d_is : slice_index_or entries (i - 1) x ≡ d = cc in
       let e_is : slice_index_or entries i y ≡ e = cc in
       ap (λ z. key_cmp (key_of z) (key_of e)) (sym d_is) ∙ ap (λ z. key_cmp (key_of (slice_index_or entries (i - 1) x)) (key_of z)) (sym e_is)
-        ∙ ap (λ z. key_cmp z (key_of (slice_index_or entries i y))) (sym a_is) ∙ ap (key_cmp a) (sym b_is) ∙ sym o_is ∙ less_from o less ]
+      ∙ ap (λ z. key_cmp z (key_of (slice_index_or entries i y))) (sym a_is) ∙ ap (key_cmp a) (sym b_is) ∙ sym o_is ∙ less_from o less
+]

@@ -54,7 +54,7 @@ pub record IsFamily (contents : Contents) : Type 0 where
   pub main : slice_index_or contents.contexts 0 [] ≡ []
   pub some : 0 < length contents.contexts
   pub distinct : (i j : ℕ) → i < length contents.contexts → j < length contents.contexts
-    → slice_index_or contents.contexts i [] ≡ slice_index_or contents.contexts j [] → i ≡ j
+      → slice_index_or contents.contexts i [] ≡ slice_index_or contents.contexts j [] → i ≡ j
   pub few : length contents.contexts ≤ 65535
   pub held : (c o : ℕ) (s : State) → states_of contents.states (c, o) ≡ Some s → c < length contents.contexts
   pub in_range : (c o : ℕ) (s : State) → states_of contents.states (c, o) ≡ Some s → state_order.InRange s

@@ -33,7 +33,7 @@ grow-keeps lists (e ∷ entries) j lt =
     let y = (e.1 ∷ slice_index_or lists e.0 []) ∷ [] in
     let one = length-append lists ((e.1 ∷ slice_index_or lists e.0 []) ∷ []) in
     grow-keeps (lists ++ (e.1 ∷ slice_index_or lists e.0 []) ∷ []) entries j (omega arith)
-      ∙ get_or-append lists ((e.1 ∷ slice_index_or lists e.0 []) ∷ []) [] j lt
+    ∙ get_or-append lists ((e.1 ∷ slice_index_or lists e.0 []) ∷ []) [] j lt
 
 -- an entry's list is its parent's with its frame
 pub grow-at : {F : Type 0} (lists : List (List F)) (entries : List (ℕ × F)) (i : ℕ) (e : ℕ × F) → slice_get entries i ≡ Some e → e.0 < length lists + i
@@ -43,13 +43,13 @@ grow-at {F} lists (x ∷ entries) zero e at lt =
     let y : List F = x.1 ∷ slice_index_or lists x.0 [] in
     let one = length-append lists (y ∷ []) in
     let there : slice_index_or (grow (lists ++ y ∷ []) entries) (length lists) [] ≡ slice_index_or (lists ++ y ∷ []) (length lists) [] =
-        grow-keeps (lists ++ y ∷ []) entries (length lists) (omega arith) in
+    grow-keeps (lists ++ y ∷ []) entries (length lists) (omega arith) in
     let seam : slice_index_or (lists ++ y ∷ []) (length lists) [] ≡ y = get_or-append_seam lists y [] [] in
     let parent : slice_index_or (grow lists (x ∷ entries)) e.0 [] ≡ slice_index_or lists e.0 [] = grow-keeps lists (x ∷ entries) e.0 (omega arith) in
     let same : x ≡ e = cc in
     let len : length lists + 0 ≡ length lists = omega arith in
     ap (λ n. slice_index_or (grow lists (x ∷ entries)) n []) len ∙ there ∙ seam ∙ ap (λ (z : ℕ × F). z.1 ∷ slice_index_or lists z.0 []) same
-      ∙ ap (λ l. e.1 ∷ l) (sym parent)
+    ∙ ap (λ l. e.1 ∷ l) (sym parent)
 grow-at {F} lists (x ∷ entries) (suc i) e at lt =
     let y : List F = x.1 ∷ slice_index_or lists x.0 [] in
     let one = length-append lists (y ∷ []) in

@@ -32,11 +32,11 @@ pub PutsAt-family : (o : Order State) (old new : Contents) (c off : ℕ) (t : St
 PutsAt-family o old new c off t changed family same lt put =
     let n_is = number_at old c family lt in
     let new_at : (p : List Frame × ℕ) → family_of new p ≡ states_of new.states (number_of old.contexts p.0, p.1) =
-        λ p. ap (λ x. states_of new.states (number_of x p.0, p.1)) same in
+    λ p. ap (λ x. states_of new.states (number_of x p.0, p.1)) same in
     let G : Option State × Option State → Type 0 = λ x. PutGives o x.0 t x.1 changed in
     let old_is : states_of old.states (c, off) ≡ family_of old (place_of old c off) = sym (family_at old c off family lt) in
     let new_is : states_of new.states (c, off) ≡ family_of new (place_of old c off) =
-        sym (new_at (place_of old c off) ∙ ap (λ n. states_of new.states (n, off)) n_is) in
+    sym (new_at (place_of old c off) ∙ ap (λ n. states_of new.states (n, off)) n_is) in
     let both : ◌≡◌ {A = Option State × Option State} (states_of old.states (c, off), states_of new.states (c, off)) (family_of old (place_of old c off), family_of new (place_of old c off)) = λ i. (old_is i, new_is i) in
     record {
       here = subst G both put.here;
@@ -57,7 +57,7 @@ pub Reweighs-family : (old new : Contents) (c off : ℕ) → IsFamily old → ne
 Reweighs-family old new c off family same lt sums w =
     let old_is : states_of old.states (c, off) ≡ family_of old (place_of old c off) = sym (family_at old c off family lt) in
     let new_is : family_of new (place_of old c off) ≡ states_of new.states (c, off) =
-        ap (λ x. states_of new.states (number_of x (frames_at old.contexts c), off)) same ∙ ap (λ n. states_of new.states (n, off)) (number_at old c family lt) in
+    ap (λ x. states_of new.states (number_of x (frames_at old.contexts c), off)) same ∙ ap (λ n. states_of new.states (n, off)) (number_at old c family lt) in
     let a = ap (weigh w) old_is in
     let b = ap (weigh w) new_is in
     let s = sums w in

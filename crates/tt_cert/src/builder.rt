@@ -75,7 +75,11 @@ fn rises(entries: &[(u32, Frame)]) -> bool
 }
 
 /// Puts the numbers of a context's children behind the others, in the order of their frames.
-fn push_children(index: &BTreeMap<Key, u32>, parent: u32, order: &mut Vec<u32>) -> Result<(), AllocError> {
+fn push_children(
+    index: &BTreeMap<Key, u32>,
+    parent: u32,
+    order: &mut Vec<u32>,
+) -> Result<(), AllocError> {
     for (key, number) in index.range((parent, 0, 0, 0, 0)..) {
         if key.0 != parent {
             break;
@@ -237,7 +241,12 @@ impl Builder {
     ///
     /// # Errors
     /// As `put_state`.
-    pub fn join_state(&mut self, context: u32, offset: u32, state: &State) -> Result<bool, BuildFault>
+    pub fn join_state(
+        &mut self,
+        context: u32,
+        offset: u32,
+        state: &State,
+    ) -> Result<bool, BuildFault>
         requires there { context < length self.old.contexts }
         requires theirs { state_order.InRange state.now }
         ensures put { IfOk result (λ changed. PutsAt state_order (family_of self.old) (family_of self.new) (place_of self.old context offset) state.now changed) }

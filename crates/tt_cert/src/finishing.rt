@@ -25,7 +25,12 @@ fn first_numbers(alloc: Global, count: u32) -> Result<Vec<Option<u32>>, AllocErr
 }
 
 /// Adds a context to the new builder, if its parent has a new number, and keeps its number there.
-fn move_context(old: &Builder, number: u32, new: &mut Builder, numbers: &mut [Option<u32>]) -> Result<(), BuildFault>
+fn move_context(
+    old: &Builder,
+    number: u32,
+    new: &mut Builder,
+    numbers: &mut [Option<u32>],
+) -> Result<(), BuildFault>
     requires family { IsFamily new.old }
     requires moved { AreMoved old.now.contexts new.old.contexts numbers.old }
     ensures moved { IfOk result (λ _. AreMoved old.now.contexts new.new.contexts numbers.new) }
@@ -73,7 +78,11 @@ fn move_states(old: &Builder, new: &mut Builder, numbers: &[Option<u32>]) -> Res
 }
 
 /// Adds the contexts to the new builder in the order of the file.
-fn move_contexts(old: &Builder, new: &mut Builder, numbers: &mut [Option<u32>]) -> Result<(), BuildFault>
+fn move_contexts(
+    old: &Builder,
+    new: &mut Builder,
+    numbers: &mut [Option<u32>],
+) -> Result<(), BuildFault>
     requires family { IsFamily new.old }
     requires moved { AreMoved old.now.contexts new.old.contexts numbers.old }
     ensures moved { IfOk result (λ _. AreMoved old.now.contexts new.new.contexts numbers.new) }

@@ -1,6 +1,6 @@
 //! Builders and certificates, and what they refuse.
 
-ghost use Rattle.std.specs.Prelude.{IfOk, ◌<◌, length};
+ghost use Rattle.std.specs.Prelude.{IfOk};
 ghost use Rattle.tt_abs.specs.States.{state_order};
 
 use crate::*;
@@ -19,6 +19,31 @@ fn state_of(alloc: Global, first: i32, second: i32) -> Result<State, AllocError>
     Ok(state)
 }
 
+/// The state at a program's start.
+fn start_of(alloc: Global) -> Result<State, AllocError>
+    ensures { IfOk result (λ state. state_order.InRange state) }
+{
+    State::start(alloc, &[])
+}
+
+/// Adds a context below one that is there.
+fn add(builder: &mut Builder, parent: u32, frame: Frame) -> Result<u32, BuildFault> {
+    if parent >= builder.contexts() {
+        return Err(BuildFault::TooManyContexts);
+    }
+    builder.add_context(parent, frame)
+}
+
+/// Joins a state into a context that is there.
+fn put(builder: &mut Builder, context: u32, offset: u32, state: &State) -> Result<bool, BuildFault>
+    requires { state_order.InRange state.now }
+{
+    if context >= builder.contexts() {
+        return Err(BuildFault::TooManyContexts);
+    }
+    builder.join_state(context, offset, state)
+}
+
 /// The first turn of a call at this offset.
 fn call_at(call: u32) -> Frame {
     Frame {
@@ -34,13 +59,76 @@ fn joined_states(rt: HostRuntime) -> Result<(), Fail> {
     let mut builder = Builder::new(rt.alloc());
     let two = state_of(rt.alloc(), 1, 2)?;
     let three = state_of(rt.alloc(), 1, 3)?;
-    assert_eq!(rt; builder.join_state(0, 5, &two), Ok(true));
-    assert_eq!(rt; builder.join_state(0, 5, &two), Ok(false));
-    assert_eq!(rt; builder.join_state(0, 5, &three), Ok(true));
-    assert_eq!(rt; builder.state(0, 5).and_then(|state| state.cell(0)), Some(Cell::Known(1)));
-    assert_eq!(rt; builder.state(0, 5).and_then(|state| state.cell(1)), Some(Cell::Unknown));
-    let start = State::start(rt.alloc(), &[])?;
-    assert_eq!(rt; builder.points(), 1);
+    assert_eq!(rt; put(&mut builder, 0, 5, &two), Ok(true));
+    assert_eq!(rt; put(&mut builder, 0, 5, &two), Ok(false));
+    assert_eq!(rt; put(&mut builder, 0, 5, &three), Ok(true));
+    assert_eq!(rt;
+        builder.state(0, 5).and_then(|state| state.cell(0)),
+        Some(Cell::Known(1))
+    );
+    assert_eq!(rt;
+        builder.state(0, 5).and_then(|state| state.cell(1)),
+        Some(Cell::Unknown)
+    );
+    let start = start_of(rt.alloc())?;
+    assert_eq!(rt;
+        put(&mut builder, 0, 5, &start),
+        Err(BuildFault::DepthMismatch)
+    );
+    assert_eq!(rt; builder.state(0, 5).map(State::depth), Some(2));
+    assert_eq!(rt; put(&mut builder, 0, 4, &start), Ok(true));
+    assert_eq!(rt; builder.points(), 2);
+    Ok(())
+}
+
+#[test]
+fn finished_contexts(rt: HostRuntime) -> Result<(), Fail> {
+    let mut builder = Builder::new(rt.alloc());
+    let outer = add(&mut builder, 0, call_at(9))?;
+    let inner = add(&mut builder, outer, call_at(3))?;
+    let other = add(&mut builder, 0, call_at(2))?;
+    let state = state_of(rt.alloc(), 1, 2)?;
+    for (context, offset) in [(inner, 8), (other, 6), (outer, 4), (outer, 1)] {
+        assert_eq!(rt; put(&mut builder, context, offset, &state), Ok(true));
+    }
+    let Ok(certificate) = builder.finish() else {
+        return Err(Fail::new("no certificate"));
+    };
+    assert_eq!(rt; certificate.contexts(), 4);
+    assert_eq!(rt; certificate.context(0), None);
+    assert_eq!(rt; certificate.context(1), Some((0, call_at(2))));
+    assert_eq!(rt; certificate.context(2), Some((0, call_at(9))));
+    assert_eq!(rt; certificate.context(3), Some((2, call_at(3))));
+    if certificate.contexts() < 4 {
+        return Err(Fail::new("too few contexts"));
+    }
+    assert_eq!(rt;
+        certificate.frames(rt.alloc(), 3)?.as_slice(),
+        [call_at(9), call_at(3)].as_slice()
+    );
+    let mut points = Vec::new(rt.alloc());
+    for (place, _) in certificate.states() {
+        points.push(*place)?;
+    }
+    assert_eq!(rt;
+        points.as_slice(),
+        [(1, 6), (2, 1), (2, 4), (3, 8)].as_slice()
+    );
+    assert_eq!(rt; certificate.points(), 4);
+    assert_eq!(rt; certificate.state(2, 1).map(State::depth), Some(2));
+    assert_eq!(rt; certificate.end_functions(8).is_none(), true);
+    Ok(())
+}
+
+#[test]
+fn functions_at_the_end(rt: HostRuntime) -> Result<(), Fail> {
+    let mut builder = Builder::new(rt.alloc());
+    put(&mut builder, 0, 12, &start_of(rt.alloc())?)?;
+    let Ok(certificate) = builder.finish() else {
+        return Err(Fail::new("no certificate"));
+    };
+    assert_eq!(rt; certificate.end_functions(12), Some(&[][..]));
+    assert_eq!(rt; certificate.end_functions(11), None);
     Ok(())
 }
 
@@ -48,11 +136,14 @@ fn joined_states(rt: HostRuntime) -> Result<(), Fail> {
 fn contexts_up_to_the_limit(rt: HostRuntime) -> Result<(), Fail> {
     let mut builder = Builder::new(rt.alloc());
     for call in 1..65_535 {
-        assert_eq!(rt; builder.add_context(0, call_at(call)), Ok(call));
+        assert_eq!(rt; add(&mut builder, 0, call_at(call)), Ok(call));
     }
     assert_eq!(rt; builder.contexts(), 65_535);
-    assert_eq!(rt; builder.add_context(0, call_at(65_535)), Err(BuildFault::TooManyContexts));
-    assert_eq!(rt; builder.add_context(0, call_at(9)), Ok(9));
+    assert_eq!(rt;
+        add(&mut builder, 0, call_at(65_535)),
+        Err(BuildFault::TooManyContexts)
+    );
+    assert_eq!(rt; add(&mut builder, 0, call_at(9)), Ok(9));
     assert_eq!(rt; builder.contexts(), 65_535);
     assert_eq!(rt; builder.context(9), Some((0, call_at(9))));
     Ok(())

@@ -1,3 +1,4 @@
+use Rattle.tt_abs.specs.EntryCoverage.{functions_below_is_coverage, storage_below_is_coverage}
 use Rattle.tt_abs.proofs.CoverageLemmas.{CellBelow-coverage, ZoneBelow-coverage, StackBelow-coverage}
 use Rattle.tt_abs.proofs.StateCoverage.{state_covers, state_from_coverage}
 use Rattle.tt_abs.proofs.laws.below_is_coverage.Goals as goal
@@ -13,3 +14,9 @@ returns-clause-of_stacks c = λ a b r _. StackBelow-coverage a b r
 
 pub returns-clause-of_states : goal.returns-clause-of_states
 returns-clause-of_states c = λ a b r _. (state_covers a b r, state_from_coverage a b r)
+
+pub returns-clause-of_functions : goal.returns-clause-of_functions
+returns-clause-of_functions c = λ a b _ _. functions_below_is_coverage a b
+
+pub returns-clause-of_storage : goal.returns-clause-of_storage
+returns-clause-of_storage c = λ a b r _. storage_below_is_coverage a b r

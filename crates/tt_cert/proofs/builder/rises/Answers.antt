@@ -6,7 +6,7 @@ use Rattle.tt_cert.proofs.builder.rises.Goals as goal
 pub loop-i-preserved : goal.loop-i-preserved
 loop-i-preserved c = record {
   rises = rises_step c.args.entries.now c.loop-i.i _ _ c.loop-i.invariant.rises c.loop-i.auto.i c.loop-i-test.true _ _ c.key_of.ensures c.key_of-in-loop-i.ensures
-    c.cmp.result c.cmp.ensures (sym c.is_lt.ensures ∙ c.if-not-is_lt.false);
+      c.cmp.result c.cmp.ensures (sym c.is_lt.ensures ∙ c.if-not-is_lt.false);
 }
 
 pub returns : goal.returns

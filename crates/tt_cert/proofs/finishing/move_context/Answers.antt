@@ -15,4 +15,4 @@ returns-clause-moved c =
     let within = c.in-Some.ensures.some.0 in
     let before = c.in-Some.ensures.some.1 in
     AreMoved-step c.args.old.now.contexts c.args.new.now.contexts c.add_context.new.self.contexts c.args.numbers.now c.args.number c.in-Some.parent c.in-Some-numbers.parent
-      c.in_ok-add_context.field-0 c.in-Some.frame c.requires.moved within c.in-Some.ensures.some.2 (known_at c.args.numbers.now c.in-Some.parent c.in-Some-numbers.parent None c.in-Some-numbers.is (omega arith)) c.in_ok-add_context.ensures.added
+    c.in_ok-add_context.field-0 c.in-Some.frame c.requires.moved within c.in-Some.ensures.some.2 (known_at c.args.numbers.now c.in-Some.parent c.in-Some-numbers.parent None c.in-Some-numbers.is (omega arith)) c.in_ok-add_context.ensures.added

@@ -7,24 +7,24 @@ use Rattle.tt_cert.proofs.finishing.move_states.Goals as goal
 pub bounds : goal.bounds
 bounds c =
     next_context c.args.old.now c.loop-place.new c.args.new.now.contexts c.args.numbers.now _ _ (c.in-Some.place.now, c.in-Some.state.now) c.states-place-items.ensures.family
-      c.requires.moved c.loop-place.invariant.same c.in-Some.ensures.steps c.states-place-items.ensures.found
+    c.requires.moved c.loop-place.invariant.same c.in-Some.ensures.steps c.states-place-items.ensures.found
 
 pub join_state-requires-clause-there : goal.join_state-requires-clause-there
 join_state-requires-clause-there c =
     let within = next_context c.args.old.now c.loop-place.new c.args.new.now.contexts c.args.numbers.now _ _ (c.in-Some.place.now, c.in-Some.state.now) c.states-place-items.ensures.family
-      c.requires.moved c.loop-place.invariant.same c.in-Some.ensures.steps c.states-place-items.ensures.found in
+    c.requires.moved c.loop-place.invariant.same c.in-Some.ensures.steps c.states-place-items.ensures.found in
     moved_there c.args.old.now.contexts c.args.new.now.contexts c.loop-place.new.contexts c.args.numbers.now c.in-Some.place.now.0 c.in-Some-numbers.number c.requires.moved
-      c.loop-place.invariant.contexts (known_at _ _ _ None c.in-Some-numbers.is within)
+    c.loop-place.invariant.contexts (known_at _ _ _ None c.in-Some-numbers.is within)
 
 pub join_state-requires-clause-theirs : goal.join_state-requires-clause-theirs
 join_state-requires-clause-theirs c =
     next_range c.args.old.now c.loop-place.new _ _ (c.in-Some.place.now, c.in-Some.state.now) c.states-place-items.ensures.family
-      c.loop-place.invariant.same c.in-Some.ensures.steps c.states-place-items.ensures.found
+    c.loop-place.invariant.same c.in-Some.ensures.steps c.states-place-items.ensures.found
 
 pub loop-place-preserved : goal.loop-place-preserved
 loop-place-preserved c =
     let within = next_context c.args.old.now c.loop-place.new c.args.new.now.contexts c.args.numbers.now _ _ (c.in-Some.place.now, c.in-Some.state.now) c.states-place-items.ensures.family
-      c.requires.moved c.loop-place.invariant.same c.in-Some.ensures.steps c.states-place-items.ensures.found in
+    c.requires.moved c.loop-place.invariant.same c.in-Some.ensures.steps c.states-place-items.ensures.found in
     let M : List (List Frame) → Type 0 = λ x. AreMoved c.args.old.now.contexts x c.args.numbers.now in
     let moved = subst M (sym c.loop-place.invariant.contexts) c.requires.moved in
     record {
@@ -33,6 +33,6 @@ loop-place-preserved c =
       family = c.in_ok-join_state.ensures.family;
       contexts = c.in_ok-join_state.ensures.contexts ∙ c.loop-place.invariant.contexts;
       same = HasSoFar-step c.args.old.now c.loop-place.new c.join_state.new.self c.args.numbers.now c.in-Some.place.now c.in-Some.state.now c.in-Some-numbers.number
-        c.in_ok-join_state.field-0 c.states-place-items.ensures.family moved c.states-place-items.ensures.found (known_at _ _ _ None c.in-Some-numbers.is within)
-        c.in_ok-join_state.ensures.put _ _ c.loop-place.invariant.same c.in-Some.ensures.steps;
+          c.in_ok-join_state.field-0 c.states-place-items.ensures.family moved c.states-place-items.ensures.found (known_at _ _ _ None c.in-Some-numbers.is within)
+          c.in_ok-join_state.ensures.put _ _ c.loop-place.invariant.same c.in-Some.ensures.steps;
     }

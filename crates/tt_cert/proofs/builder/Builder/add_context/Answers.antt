@@ -50,17 +50,17 @@ returns-clause-room c = λ absent full.
 pub invariant_of-self-2 : goal.invariant_of-self-2
 invariant_of-self-2 c =
     IsBuilt-added _ _ _ _ _ _ c.self.view_is c.self.invariant c.args.parent c.args.frame c.requires c.in_default.ensures.value
-      (let e = c.len.ensures in omega arith) (c.push_reserved.ensures.items ∙ ap (λ x. x ++ (c.args.parent, c.args.frame) ∷ []) c.in_default-reserve.ensures.items)
-      (c.len.result + 1) (let e = c.len.ensures in omega arith) c.in_default-insert.ensures.updates
+    (let e = c.len.ensures in omega arith) (c.push_reserved.ensures.items ∙ ap (λ x. x ++ (c.args.parent, c.args.frame) ∷ []) c.in_default-reserve.ensures.items)
+    (c.len.result + 1) (let e = c.len.ensures in omega arith) c.in_default-insert.ensures.updates
 
 pub returns-clause-added : goal.returns-clause-added
 returns-clause-added c =
     added_adds _ _ _ c.insert.new.self _ _ c.self.view_is c.self.invariant c.args.parent c.args.frame c.requires c.in_default.ensures.value
-      (let e = c.len.ensures in omega arith) (c.push_reserved.ensures.items ∙ ap (λ x. x ++ (c.args.parent, c.args.frame) ∷ []) c.in_default-reserve.ensures.items)
-      (c.len.result + 1) (let e = c.len.ensures in omega arith) c.in_default-insert.ensures.updates
+    (let e = c.len.ensures in omega arith) (c.push_reserved.ensures.items ∙ ap (λ x. x ++ (c.args.parent, c.args.frame) ∷ []) c.in_default-reserve.ensures.items)
+    (c.len.result + 1) (let e = c.len.ensures in omega arith) c.in_default-insert.ensures.updates
 
 pub returns-clause-family : goal.returns-clause-family
 returns-clause-family c =
     added_family _ _ _ c.insert.new.self _ _ c.self.view_is c.self.invariant c.args.parent c.args.frame c.requires c.in_default.ensures.value
-      (let e = c.len.ensures in omega arith) (c.push_reserved.ensures.items ∙ ap (λ x. x ++ (c.args.parent, c.args.frame) ∷ []) c.in_default-reserve.ensures.items)
-      (c.len.result + 1) (let e = c.len.ensures in omega arith) c.in_default-insert.ensures.updates
+    (let e = c.len.ensures in omega arith) (c.push_reserved.ensures.items ∙ ap (λ x. x ++ (c.args.parent, c.args.frame) ∷ []) c.in_default-reserve.ensures.items)
+    (c.len.result + 1) (let e = c.len.ensures in omega arith) c.in_default-insert.ensures.updates

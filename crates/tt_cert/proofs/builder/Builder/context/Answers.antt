@@ -6,7 +6,7 @@ use Rattle.tt_cert.proofs.builder.Builder.context.Goals as goal
 pub returns-in-Some-clause-some : goal.returns-in-Some-clause-some
 returns-in-Some-clause-some c =
     context_some _ _ _ _ c.self.view_is c.self.invariant c.deref.result.now c.deref.ensures.value c.args.number (omega arith) c.in-Some.entry.now
-      c.in-Some.ensures.lookup.1 (let t = c.in-Some.ensures.lookup.0 in grind (arith, nat_tests))
+    c.in-Some.ensures.lookup.1 (let t = c.in-Some.ensures.lookup.0 in grind (arith, nat_tests))
 
 pub returns-in-None-clause-none : goal.returns-in-None-clause-none
 returns-in-None-clause-none c = λ _.

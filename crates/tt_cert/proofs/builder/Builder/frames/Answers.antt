@@ -15,12 +15,12 @@ loop-at-init c = record {
 pub loop-at-smaller : goal.loop-at-smaller
 loop-at-smaller c =
     (context_some _ _ _ (record { contexts = frames_of c.self.inside.entries.items; states = c.self.inside.states.entries }) refl c.self.invariant c.self.inside.entries.items refl c.loop-at.at
-      (omega arith) c.index-entry.result.now c.index-entry.ensures (let w = c.loop-at.invariant.within in omega arith)).1
+    (omega arith) c.index-entry.result.now c.index-entry.ensures (let w = c.loop-at.invariant.within in omega arith)).1
 
 pub loop-at-preserved : goal.loop-at-preserved
 loop-at-preserved c =
     let step = context_some _ _ _ (record { contexts = frames_of c.self.inside.entries.items; states = c.self.inside.states.entries }) refl c.self.invariant c.self.inside.entries.items refl c.loop-at.at
-      (omega arith) c.index-entry.result.now c.index-entry.ensures (let w = c.loop-at.invariant.within in omega arith) in
+    (omega arith) c.index-entry.result.now c.index-entry.ensures (let w = c.loop-at.invariant.within in omega arith) in
     let less = step.1 in
     let w = c.loop-at.invariant.within in
     record {
@@ -31,4 +31,4 @@ loop-at-preserved c =
 pub returns : goal.returns
 returns c =
     walk_end _ c.args.number c.loop-at.at c.loop-at.frames.items _ c.self.invariant.family.main (omega arith) c.loop-at.invariant.frames c.reverse.ensures.items
-      ∙ ap (λ (x : List (List Frame)). reverse (frames_at x c.args.number)) (contexts_is _ _ _ _ c.self.view_is c.self.invariant)
+    ∙ ap (λ (x : List (List Frame)). reverse (frames_at x c.args.number)) (contexts_is _ _ _ _ c.self.view_is c.self.invariant)
