@@ -1,7 +1,8 @@
 -- CALL, LOOPCALL and ENDF: what they do on cells stands for what the machine does. The function that is called is the one that all
 -- covered machines call, and a count that isn't known leads to more lists of frames than a program may have.
-use Rattle.std.specs.Prelude.{ℤ, pos, negsuc, ◌<◌, ◌≤◌, nat_lt, nat_le, not, slice_get, Option, ◌&&◌, ◌||◌, if◌then◌else◌}
+use Rattle.std.specs.Prelude.{ℤ, pos, negsuc, ◌<◌, ◌≤◌, nat_lt, nat_le, not, slice_get, Option, ◌&&◌, if◌then◌else◌}
 use Rattle.std.proofs.Common.{◌≡◌, ℕ, zero, suc, ◌+◌, List, [], ◌∷◌, Ok, Err, Some, None, refl, sym, ◌∙◌, ap, subst, inl, inr, arith, rules, length, drop, Bool, true, false}
+use Rattle.std.proofs.lemmas.Bool.{or_parts}
 use Rattle.tt_code.specs.Refusals.{Tested, ◌>>=◌, holds_or, some_or}
 use Rattle.tt_code.specs.Settings.{Setting, body_offset}
 use Rattle.tt_code.specs.States.{Machine, Outcome, IsNumber}
@@ -358,16 +359,12 @@ module _ (s : Setting) (fs : List Frame) (at : ℕ) (once : RunOnce fs) where
       faults_stands a (λ m. returns (there s fs at m) []) reason.Target (fails_there s fs at a (λ m. returns (there s fs at m) []) reason.Target reason.Target (λ m st. refl))
   returns_stand a (f ∷ gs) runs = go (nat_lt f.turn f.count)
     where
-      behind : (v : Bool) → v || has_body_twice gs ≡ false → has_body_twice gs ≡ false
-      behind false e = e
-      behind true e = absurd (cc)
-
       go : (b : Bool)
           → StandsFor a fs at
           (λ m. (if b then Ok (goes_to (record (there s fs at m) { frames = record f { turn = f.turn + 1 } ∷ gs }) m.stack (body_offset f.body)) else Ok (goes_to (record (there s fs at m) { frames = gs }) m.stack (f.call + 1))) >>= within_depth s)
           ((if b then Ok (one_way (record f { turn = f.turn + 1 } ∷ gs) (body_offset f.body) (leaves_cells a a.stack [])) else Ok (one_way gs (f.call + 1) (leaves_cells a a.stack []))) >>= within_cells s)
       go true = whole_stack a (record f { turn = f.turn + 1 } ∷ gs) (body_offset f.body) runs
-      go false = whole_stack a gs (f.call + 1) (behind (is_running f.body gs) runs)
+      go false = whole_stack a gs (f.call + 1) (or_parts (is_running f.body gs) (has_body_twice gs) runs).1
 
   pub end_stands : (a : Abstract) → StandsFor a fs at (λ m. controlled s (there s fs at m) EndFunction >>= within_depth s) (controlled_cells s fs at a EndFunction >>= within_cells s)
   end_stands a = returns_stand a fs once

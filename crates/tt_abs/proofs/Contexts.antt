@@ -1,7 +1,7 @@
 -- The frames of next places: where each call is in one of its turns and no body runs twice, that holds of them too.
-use Rattle.std.specs.Prelude.{ℤ, pos, negsuc, ◌<◌, ◌≤◌, ◌^◌, nat_lt, nat_le, not, slice_get, Option, ◌||◌, if◌then◌else◌}
+use Rattle.std.specs.Prelude.{ℤ, pos, negsuc, ◌<◌, ◌≤◌, ◌^◌, nat_lt, nat_le, not, slice_get, Option, if◌then◌else◌}
 use Rattle.std.proofs.Common.{◌≡◌, ℕ, zero, suc, ◌+◌, List, [], ◌∷◌, Ok, Err, Some, None, refl, subst, arith, length, Bool, true, false}
-use Rattle.std.proofs.lemmas.Bool.{ltb-true}
+use Rattle.std.proofs.lemmas.Bool.{ltb-true, or_parts}
 use Rattle.std.proofs.lemmas.Int.{ints}
 use Rattle.tt_code.specs.Refusals.{Tested, ◌>>=◌, holds_or}
 use Rattle.tt_code.specs.Table.{Meaning, NoEntry, Plain, Pushes, Stack, Computes, Controls, effect_of}
@@ -66,10 +66,6 @@ module _ (s : Setting) (fs : List Frame) (at : ℕ) (here : FramesFit fs) where
   returns_fit a [] h = tt
   returns_fit a (f ∷ gs) h = go (nat_lt f.turn f.count) refl
     where
-      behind : (v : Bool) → v || has_body_twice gs ≡ false → has_body_twice gs ≡ false
-      behind false e = e
-      behind true e = absurd (cc)
-
       go : (b : Bool) → nat_lt f.turn f.count ≡ b
           → LeadTo FramesFit
           (if b then Ok (one_way (record f { turn = f.turn + 1 } ∷ gs) (body_offset f.body) (leaves_cells a a.stack [])) else Ok (one_way gs (f.call + 1) (leaves_cells a a.stack [])))
@@ -77,7 +73,7 @@ module _ (s : Setting) (fs : List Frame) (at : ℕ) (here : FramesFit fs) where
           let more = ltb-true f.turn f.count e in
           let fit : FrameFits (record f { turn = f.turn + 1 }) = record { begun = omega arith; within = omega arith; countable = h.each.0.countable } in
           leads_one FramesFit (record f { turn = f.turn + 1 } ∷ gs) (body_offset f.body) (leaves_cells a a.stack []) (record { each = (fit, h.each.1); once = h.once })
-      go false e = leads_one FramesFit gs (f.call + 1) (leaves_cells a a.stack []) (record { each = h.each.1; once = behind (is_running f.body gs) h.once })
+      go false e = leads_one FramesFit gs (f.call + 1) (leaves_cells a a.stack []) (record { each = h.each.1; once = (or_parts (is_running f.body gs) (has_body_twice gs) h.once).1 })
 
   module _ (a : Abstract) (fits : AreInRange a.stack) where
     does_fit : (w : Meaning) (rest : List ℕ) (next : ℕ) → LeadTo FramesFit (does_cells s fs at a w rest next)

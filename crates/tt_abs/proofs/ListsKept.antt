@@ -1,11 +1,11 @@
 -- What the outcome on cells keeps of the functions and the storage area: they change where FDEF defines a function whose number is
 -- below maxFunctionDefs, and where WS stores at an index below maxStorage.
-use Rattle.std.specs.Prelude.{ℤ, pos, negsuc, ◌^◌, not, ◌&&◌, Option, nat_eq, nat_lt, nat_le, if◌then◌else◌}
+use Rattle.std.specs.Prelude.{ℤ, pos, negsuc, ◌^◌, not, Option, nat_eq, nat_lt, nat_le, if◌then◌else◌}
 use Rattle.std.specs.List.{AllByRecursion}
 use Rattle.std.proofs.Common.{◌≡◌, ℕ, zero, suc, ◌+◌, ◌-◌, ◌≤◌, ◌<◌, List, [], ◌∷◌, ◌++◌, Ok, Err, Some, None, refl, sym, subst, arith, length, Bool, true, false}
 use Rattle.std.proofs.lemmas.Bool.{leb-true, ltb-true, ltb-false, and_parts}
 use Rattle.tt_code.specs.Refusals.{Tested, ◌>>=◌, holds_or, some_or}
-use Rattle.tt_code.specs.Table.{Meaning, NoEntry, Plain, Pushes, Stack, Computes, Controls, Lists, Line, table, meaning_in, effect_of, is_among}
+use Rattle.tt_code.specs.Table.{Meaning, NoEntry, Plain, Pushes, Stack, Computes, Controls, Lists, effect_of}
 use Rattle.tt_code.specs.Cut.{Instruction, instruction_at, size}
 use Rattle.tt_code.specs.Structure.{after_if, after_else, after_fdef}
 use Rattle.tt_code.specs.Settings.{Setting, program_of, starts_in_body, body_name, body_offset, CVT_BODIES}
@@ -34,9 +34,10 @@ use Rattle.tt_abs.specs.declared.cells.ZoneCell.{ZoneCell}
 use Rattle.tt_abs.specs.Cells.{Abstract, Cells}
 use Rattle.tt_abs.specs.Entries.{with_entry}
 use Rattle.tt_abs.specs.StateFlow.{AreProgramsShort}
+use Rattle.tt_abs.specs.Stored.{is_single, is_storage, is_storage_at, stores_tested, reads_tested}
 use Rattle.tt_abs.specs.Transfers.{Next, known, tested_cell, take_cell, take_cells, test_cell_uses, cells, index_in, leaves_cells, plain_cells, pushed_cells, shuffled_cells, of_one_cell, of_two_cells, computed_cells, one_way, two_ways, jump_target, jumps_cells, jumps_by, jumps_if_cells, if_ways, is_running, called_cell, enters_cells, loops_cells, returns_cells, controlled_cells, goes_on_cells, does_cells, are_within, within_cells, performs_cells, instruction_of, outcome_on_cells}
 use Rattle.tt_abs.proofs.RangesKept.{Holds, holds_then, holds_any}
-use Rattle.tt_abs.proofs.Rows.{is_single}
+use Rattle.tt_abs.proofs.TableRows.{rows_tested}
 
 -- What holds of a value, where there is one.
 
@@ -89,51 +90,9 @@ ends_below s fs at h = go (starts_in_body s fs at) (instruction_at (program_of s
     go true None k = tt
     go true (Some i) k = let lt : size (program_of s fs) < 2 ^ 31 = short_program s fs h in omega (arith, k)
 
--- Each plain line stores only at operands that are storage indices.
-
-abbrev is_storage : Operand → Bool
-is_storage operand.Storage = true
-is_storage _ = false
-
--- the element taken at the place is a storage index
-abbrev is_storage_at : List Operand → ℕ → Bool
-is_storage_at [] i = false
-is_storage_at (o ∷ os) zero = is_storage o
-is_storage_at (o ∷ os) (suc i) = is_single o && is_storage_at os i
-
-abbrev stores_there : List Operand → Update → Bool
-stores_there os (update.Store i v) = is_storage_at os i
-stores_there os (update.SetPointer p i) = true
-stores_there os (update.SetReference r q) = true
-stores_there os (update.SetLoop i) = true
-stores_there os update.LoopIsOne = true
-
-abbrev all_store_there : List Operand → List Update → Bool
-all_store_there os [] = true
-all_store_there os (u ∷ us) = stores_there os u && all_store_there os us
-
-abbrev meaning_stores_there : Meaning → Bool
-meaning_stores_there (Plain line) = all_store_there line.operands line.updates
-meaning_stores_there m = true
-
-abbrev lines_store_there : List Line → Bool
-lines_store_there [] = true
-lines_store_there (l ∷ ls) = meaning_stores_there l.meaning && lines_store_there ls
-
-found_stores : (ls : List Line) (code : ℕ) → lines_store_there ls ≡ true → meaning_stores_there (meaning_in ls code) ≡ true
-found_stores [] code h = refl
-found_stores (l ∷ ls) code h = let (one, rest) = and_parts (meaning_stores_there l.meaning) (lines_store_there ls) h in go (is_among l.instructions code) one (found_stores ls code rest)
-  where
-    go : (b : Bool) → meaning_stores_there l.meaning ≡ true → meaning_stores_there (meaning_in ls code) ≡ true → meaning_stores_there (if b then l.meaning else meaning_in ls code) ≡ true
-    go true one rest = one
-    go false one rest = rest
-
-table_stores : lines_store_there table ≡ true
-table_stores = refl
-
-rows_store : (code : ℕ) → meaning_stores_there (effect_of code) ≡ true
-unfolding effect_of
-rows_store code = found_stores table code table_stores
+-- each plain line stores only at operands that are storage indices
+rows_store : (code : ℕ) (line : Lists) → effect_of code ≡ Plain line → stores_tested line.operands line.updates ≡ true
+rows_store code line e = (and_parts (stores_tested line.operands line.updates) (reads_tested line.operands line.pushes) (rows_tested code line e)).0
 
 -- What is taken.
 
@@ -214,18 +173,15 @@ module _ (s : Setting) (g : Cells) where
   abbrev StoresFit : List Update → Taking Cell → Type 0
   StoresFit us t = AllByRecursion (λ u. StoreFits t.0 u) us
 
-  store_taken : (os : List Operand) (u : Update) (stack : List Cell) → stores_there os u ≡ true → Holds (λ t. StoreFits t.0 u) (take_cells s g os stack)
-  store_taken os (update.Store i v) stack h = index_taken os i stack h
-  store_taken os (update.SetPointer p i) stack h = holds_all (take_cells s g os stack)
-  store_taken os (update.SetReference r q) stack h = holds_all (take_cells s g os stack)
-  store_taken os (update.SetLoop i) stack h = holds_all (take_cells s g os stack)
-  store_taken os update.LoopIsOne stack h = holds_all (take_cells s g os stack)
-
-  stores_taken : (os : List Operand) (us : List Update) (stack : List Cell) → all_store_there os us ≡ true → Holds (StoresFit us) (take_cells s g os stack)
+  stores_taken : (os : List Operand) (us : List Update) (stack : List Cell) → stores_tested os us ≡ true → Holds (StoresFit us) (take_cells s g os stack)
   stores_taken os [] stack h = holds_all (take_cells s g os stack)
-  stores_taken os (u ∷ us) stack h =
-      let (one, rest) = and_parts (stores_there os u) (all_store_there os us) h in
-      holds_both (λ t. StoreFits t.0 u) (StoresFit us) (take_cells s g os stack) (store_taken os u stack one) (stores_taken os us stack rest)
+  stores_taken os (update.Store i v ∷ us) stack h =
+      let (one, rest) = and_parts (is_storage_at os i) (stores_tested os us) h in
+      holds_both (λ t. StoreFits t.0 (update.Store i v)) (StoresFit us) (take_cells s g os stack) (index_taken os i stack one) (stores_taken os us stack rest)
+  stores_taken os (update.SetPointer p i ∷ us) stack h = holds_both (λ t. Unit {0}) (StoresFit us) (take_cells s g os stack) (holds_all (take_cells s g os stack)) (stores_taken os us stack h)
+  stores_taken os (update.SetReference r q ∷ us) stack h = holds_both (λ t. Unit {0}) (StoresFit us) (take_cells s g os stack) (holds_all (take_cells s g os stack)) (stores_taken os us stack h)
+  stores_taken os (update.SetLoop i ∷ us) stack h = holds_both (λ t. Unit {0}) (StoresFit us) (take_cells s g os stack) (holds_all (take_cells s g os stack)) (stores_taken os us stack h)
+  stores_taken os (update.LoopIsOne ∷ us) stack h = holds_both (λ t. Unit {0}) (StoresFit us) (take_cells s g os stack) (holds_all (take_cells s g os stack)) (stores_taken os us stack h)
 
 -- What is kept: P says it of the functions and the storage area.
 module _ (s : Setting) (P : List (ℕ × ℕ) → (ℕ → Cell) → Type 0)
@@ -251,7 +207,7 @@ module _ (s : Setting) (P : List (ℕ × ℕ) → (ℕ → Cell) → Type 0)
   all_updated_kept g functions taken (u ∷ us) x fits h =
       all_updated_kept g functions taken us (updated cells taken.0 u x) fits.1 (updated_kept g functions taken.0 u x fits.0 h)
 
-  plain_kept : (a : Abstract) (line : Lists) → all_store_there line.operands line.updates ≡ true → IsKept a → Holds IsKept (plain_cells s a line)
+  plain_kept : (a : Abstract) (line : Lists) → stores_tested line.operands line.updates ≡ true → IsKept a → Holds IsKept (plain_cells s a line)
   plain_kept a line there h =
       holds_then (StoresFit s a.registers.graphics line.updates) IsKept (take_cells s a.registers.graphics line.operands a.stack) _
       (stores_taken s a.registers.graphics line.operands line.updates a.stack there) (λ t k.
@@ -368,9 +324,9 @@ module _ (s : Setting) (P : List (ℕ × ℕ) → (ℕ → Cell) → Type 0)
     goes_on_kept : (next : ℕ) (r : Tested Abstract) → Holds IsKept r → Holds AreKept (goes_on_cells fs next r)
     goes_on_kept next r h = holds_then IsKept AreKept r _ h (λ b k. (k, tt))
 
-    does_kept : (w : Meaning) (rest : List ℕ) (next : ℕ) → meaning_stores_there w ≡ true → at + 1 < 2 ^ 31 → Holds AreKept (does_cells s fs at a w rest next)
+    does_kept : (w : Meaning) (rest : List ℕ) (next : ℕ) → ((line : Lists) → w ≡ Plain line → stores_tested line.operands line.updates ≡ true) → at + 1 < 2 ^ 31 → Holds AreKept (does_cells s fs at a w rest next)
     does_kept NoEntry rest next there small = tt
-    does_kept (Plain line) rest next there small = goes_on_kept next (plain_cells s a line) (plain_kept a line there kept)
+    does_kept (Plain line) rest next there small = goes_on_kept next (plain_cells s a line) (plain_kept a line (there line refl) kept)
     does_kept (Pushes push) rest next there small = goes_on_kept next (Ok (pushed_cells push a rest)) kept
     does_kept (Stack op) rest next there small = goes_on_kept next (shuffled_cells op a) (shuffled_kept op a kept)
     does_kept (Computes op) rest next there small = goes_on_kept next (computed_cells op a) (computed_kept op a kept)
