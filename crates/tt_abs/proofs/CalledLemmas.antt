@@ -1,7 +1,7 @@
 -- The body of a called function, as the code finds it.
 use Rattle.std.specs.Prelude.{ℤ, pos, negsuc, nat_abs, Option}
-use Rattle.std.proofs.Common.{◌≡◌, ℕ, List, Some, None, Ok, Err, refl, sym, ◌∙◌, ap, true}
-use Rattle.tt_code.specs.Refusals.{Tested, ◌>>=◌, some_or}
+use Rattle.std.proofs.Common.{◌≡◌, ℕ, List, refl, true}
+use Rattle.tt_code.specs.Refusals.{some_or}
 use Rattle.tt_code.specs.Settings.{Setting}
 use Rattle.tt_code.specs.States.{is_below}
 use Rattle.tt_code.specs.declared.reason.Reason.TheVariants as reason

@@ -1,9 +1,9 @@
 -- What is done on the stack in place, against the outcome on cells.
-use Rattle.std.specs.Prelude.{ℤ, pos, Result, OnOk, IfErr, Option, remove}
+use Rattle.std.specs.Prelude.{ℤ, pos, Result, OnOk, IfErr, remove}
 use Rattle.std.specs.Result.{IsErrAnd}
-use Rattle.std.proofs.Common.{◌≡◌, ℕ, zero, suc, ◌+◌, List, [], ◌∷◌, Some, None, Ok, Err, Bool, true, false, refl, sym, ◌∙◌, ap, subst, arith, drop}
-use Rattle.tt_code.specs.Refusals.{Tested, ◌>>=◌}
-use Rattle.tt_code.specs.Computing.{element, place_of}
+use Rattle.std.proofs.Common.{◌≡◌, ℕ, zero, suc, ◌+◌, List, [], ◌∷◌, Some, Ok, Err, true, false, refl, sym, ◌∙◌, ap, subst, arith, drop}
+use Rattle.tt_code.specs.Refusals.{Tested}
+use Rattle.tt_code.specs.Computing.{element}
 use Rattle.tt_code.specs.declared.reason.Reason.{Reason}
 use Rattle.tt_code.specs.declared.reason.Reason.TheVariants as reason
 use Rattle.tt_code.specs.declared.kinds.StackOp.TheVariants as op
@@ -11,7 +11,7 @@ use Rattle.tt_code.specs.declared.kinds.Arithmetic.{Arithmetic}
 use Rattle.tt_code.specs.declared.kinds.Arithmetic.TheVariants.{Add, Sub, Abs, Neg, Lt, LtEq, Gt, GtEq, Eq, Neq, And, Or, Not}
 use Rattle.tt_abs.specs.Moves.{ForReason}
 use Rattle.tt_abs.specs.declared.cells.Cell.{Cell}
-use Rattle.tt_abs.specs.declared.cells.Cell.TheVariants.{Known, Unknown}
+use Rattle.tt_abs.specs.declared.cells.Cell.TheVariants.{Known}
 use Rattle.tt_abs.specs.declared.refusal.Refusal.{Refusal}
 use Rattle.tt_abs.specs.declared.refusal.Refusal.TheVariants.{Refused, OutOfMemory}
 use Rattle.tt_abs.specs.Cells.{Abstract}
@@ -118,4 +118,4 @@ index_refused (Err x) e stack k index n f g h i j =
     let same : x ≡ reason.Underflow = j ∙ i.1 in
     let known_is : known k ≡ Ok (pos (suc n)) = rw (g, h) refl in
     subst (λ (y : Reason). RefusesStack (shuffled_cells op.CopyIndexed) stack y × RefusesStack (shuffled_cells op.MoveIndexed) stack y) (sym same)
-      (index_past stack k n f known_is i.0)
+    (index_past stack k n f known_is i.0)

@@ -1,19 +1,17 @@
 -- The elements that are taken, as the code reads them, and the cells that are stored.
-use Rattle.std.specs.Prelude.{pos, nat_eq, if◌then◌else◌}
-use Rattle.std.proofs.Common.{◌≡◌, ℕ, zero, suc, ◌+◌, ◌<◌, ◌≤◌, List, [], ◌∷◌, Some, None, refl, sym, ◌∙◌, ap, drop, take}
-use Rattle.tt_code.specs.Changes.{taken_at, with_stored, updated}
+use Rattle.std.specs.Prelude.{pos}
+use Rattle.std.proofs.Common.{◌≡◌, ℕ, ◌<◌, ◌≤◌, List, Some, None, refl, sym, ◌∙◌, ap, drop, take}
+use Rattle.tt_code.specs.Changes.{taken_at, updated}
 use Rattle.tt_code.specs.declared.kinds.Update.{Update}
 use Rattle.tt_code.specs.declared.kinds.Update.TheVariants as update
 use Rattle.tt_abs.specs.declared.state.State.{State}
 use Rattle.tt_abs.specs.Cells.{Abstract}
 use Rattle.tt_abs.specs.States.{abstract_of}
-use Rattle.tt_abs.specs.Entries.{with_cell, storage_of}
+use Rattle.tt_abs.specs.Entries.{with_cell}
 use Rattle.tt_abs.specs.EntryFacts.{storage-with_cell}
 use Rattle.tt_abs.specs.Transfers.{cells, index_in}
-use Rattle.tt_code.specs.States.{Registers}
 use Rattle.tt_abs.specs.declared.cells.Cell.{Cell}
 use Rattle.tt_abs.specs.declared.cells.Cell.TheVariants.{Known}
-use Rattle.tt_abs.specs.declared.cells.ZoneCell.{ZoneCell}
 use Rattle.tt_abs.specs.Stacks.{first}
 use Rattle.tt_abs.proofs.Bests.{at_take, past_take}
 use Rattle.tt_abs.proofs.Fronts.{some_taken, none_taken}

@@ -1,8 +1,7 @@
 -- A jump's target, as the code has it.
-use Rattle.std.specs.Prelude.{ℤ, pos, negsuc, ◌≤ℤ◌, ◌<◌, ◌^◌}
+use Rattle.std.specs.Prelude.{ℤ, pos, negsuc, ◌≤ℤ◌}
 use Rattle.std.specs.Int.{FitsUnsignedBits}
-use Rattle.std.proofs.Common.{◌≡◌, ℕ, List, refl, arith, rules, false}
-use Rattle.std.proofs.lemmas.Int.{ints}
+use Rattle.std.proofs.Common.{◌≡◌, ℕ, List, refl, rules, false}
 use Rattle.tt_code.specs.Settings.{Setting, is_target}
 use Rattle.tt_code.specs.declared.machine.Frame.{Frame}
 

@@ -1,5 +1,5 @@
 -- What is known of a machine state, and which numbers, zones and machine states that covers.
-use Rattle.std.specs.Prelude.{◌≡◌, ℕ, ℤ, List, [], ◌∷◌, Option, Some}
+use Rattle.std.specs.Prelude.{◌≡◌, ℕ, ℤ, List, [], ◌∷◌, Some}
 use Rattle.tt_code.specs.Settings.{ZoneNumber, Zero, One}
 use Rattle.tt_code.specs.States.{Machine, IsNumber, Registers}
 use Rattle.tt_code.specs.Control.{body_named}

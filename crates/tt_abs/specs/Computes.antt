@@ -1,9 +1,9 @@
 -- The results of arithmetic by the number of operands. (Representation: how the code shares its steps.)
-use Rattle.std.specs.Prelude.{◌+ℤ◌, ◌-ℤ◌, neg_ℤ, not, int_lt, int_le}
+use Rattle.std.specs.Prelude.{◌+ℤ◌, ◌-ℤ◌, neg_ℤ, not}
 use Rattle.tt_code.specs.States.{is_true}
 use Rattle.tt_code.specs.Computing.{absolute, equal}
 use Rattle.tt_code.specs.declared.kinds.Arithmetic.{Arithmetic}
-use Rattle.tt_code.specs.declared.kinds.Arithmetic.TheVariants.{Add, Sub, Abs, Neg, Lt, LtEq, Gt, GtEq, Eq, Neq, And, Or, Not}
+use Rattle.tt_code.specs.declared.kinds.Arithmetic.TheVariants.{Add, Sub, Abs, Neg, Lt, LtEq, Gt, GtEq, Eq, Neq, And}
 use Rattle.tt_abs.specs.declared.cells.Cell.{Cell}
 use Rattle.tt_abs.specs.Transfers.{exact_cell, truth_cell, of_known, of_both_known, lt_cells, le_cells, and_cells, or_cells}
 

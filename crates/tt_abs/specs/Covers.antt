@@ -2,7 +2,7 @@
 -- outcome on cells stands for the machine's outcomes.
 use Rattle.std.specs.Prelude.{◌≡◌, ◌⊎◌, ℕ, ℤ, ◌<◌, ◌≤◌, ◌||◌, List, [], ◌∷◌, Ok, Err, Some, Bool, true, false, length, slice_get}
 use Rattle.tt_code.specs.Refusals.{Tested}
-use Rattle.tt_code.specs.Settings.{Setting, ZoneNumber, Zero, One}
+use Rattle.tt_code.specs.Settings.{ZoneNumber, Zero, One}
 use Rattle.tt_code.specs.States.{Machine, Outcome, IsNumber}
 use Rattle.tt_code.specs.Runs.{Choices, left_by}
 use Rattle.tt_code.specs.declared.machine.Frame.{Frame}

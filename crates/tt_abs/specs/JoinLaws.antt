@@ -1,6 +1,6 @@
 -- What follows from the laws of an order.
-use Rattle.std.specs.Prelude.{◌≡◌, ℕ, ◌<◌, Bool, true, false, not, IsTrue, IsFalse, ◌↔◌}
-use Rattle.std.proofs.Common.{refl, sym, ◌∙◌, ap, subst, arith}
+use Rattle.std.specs.Prelude.{◌≡◌, Bool, true, false, not, IsTrue, IsFalse, ◌↔◌}
+use Rattle.std.proofs.Common.{refl, subst}
 use Rattle.tt_abs.specs.Orders.{Order, OrderLaws, IsLeastAbove}
 
 -- a join changes the value exactly if the other one wasn't below it

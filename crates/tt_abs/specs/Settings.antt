@@ -1,5 +1,5 @@
 -- Rust's settings and points, read as the machine's.
-use Rattle.std.specs.Prelude.{ℕ, List, reverse}
+use Rattle.std.specs.Prelude.{List, reverse}
 use Rattle.tt_code.specs.Settings.{Setting as MachineSetting, Kind as MachineKind, FontProgram, CvtProgram, GlyphProgram}
 use Rattle.tt_code.specs.declared.machine.Frame.{Frame}
 use Rattle.tt_abs.specs.declared.setting.Setting.{Setting}

@@ -1,6 +1,6 @@
 -- The lines of the table that store or read storage cells do it at an index that was tested. (Representation: how the code reads
 -- an index as one of 16 bits.)
-use Rattle.std.specs.Prelude.{◌≡◌, ℕ, zero, suc, ℤ, ◌<◌, ◌^◌, List, [], ◌∷◌, pos, Bool, true, false, ◌&&◌}
+use Rattle.std.specs.Prelude.{◌≡◌, ℕ, zero, suc, ◌<◌, ◌^◌, List, [], ◌∷◌, pos, Bool, true, false, ◌&&◌}
 use Rattle.tt_code.specs.Table.{Lists}
 use Rattle.tt_code.specs.Changes.{taken_at}
 use Rattle.tt_code.specs.declared.kinds.Operand.{Operand}

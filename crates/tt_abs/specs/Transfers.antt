@@ -7,8 +7,8 @@ use Rattle.tt_code.specs.Table.{Meaning, NoEntry, Plain, Pushes, Stack, Computes
 use Rattle.tt_code.specs.Cut.{Instruction, instruction_at, data_behind}
 use Rattle.tt_code.specs.Structure.{after_if, after_else, after_fdef}
 use Rattle.tt_code.specs.Settings.{Setting, ZoneNumber, Zero, One, zone_size, contours_in, body_name, body_offset, program_of, starts_in_body, is_target}
-use Rattle.tt_code.specs.States.{Registers, is_number, is_below, is_true, reference, pointer}
-use Rattle.tt_code.specs.Operands.{Taking, top, take_one, then_take, times, counted, pairs, count_of, is_zone}
+use Rattle.tt_code.specs.States.{is_number, is_below, is_true, reference, pointer}
+use Rattle.tt_code.specs.Operands.{Taking, top, take_one, then_take, counted, pairs, count_of, is_zone}
 use Rattle.tt_code.specs.Changes.{Reading, natural, zone_of, taken_at, all_updated}
 use Rattle.tt_code.specs.Computing.{numbers_in, element, place_of, absolute, equal}
 use Rattle.tt_code.specs.Control.{may_define, body_named}

@@ -266,11 +266,7 @@ fn repeat(
 }
 
 /// LOOPCALL.
-fn loop_call(
-    setting: &Setting<'_>,
-    point: &Point<'_>,
-    state: &mut State,
-) -> Result<Moves, Refusal>
+fn loop_call(setting: &Setting<'_>, point: &Point<'_>, state: &mut State) -> Result<Moves, Refusal>
     requires { point.now.offset < 2 ^ 31 }
     ensures ok { IfOk result (λ m. LeadsBy point.now (control_at setting.now point.now state.old control.LoopCall) m state.new) }
     ensures refused { IfErr result (IsRefusedFor (control_at setting.now point.now state.old control.LoopCall)) }
@@ -285,11 +281,7 @@ fn loop_call(
 }
 
 /// ENDF: to the next turn, or behind the call.
-fn end_function(
-    setting: &Setting<'_>,
-    point: &Point<'_>,
-    state: &State,
-) -> Result<Moves, Refusal>
+fn end_function(setting: &Setting<'_>, point: &Point<'_>, state: &State) -> Result<Moves, Refusal>
     ensures ok { IfOk result (λ m. LeadsBy point.now (control_at setting.now point.now state.now control.EndFunction) m state.now) }
     ensures refused { IfErr result (IsRefusedFor (control_at setting.now point.now state.now control.EndFunction)) }
 {

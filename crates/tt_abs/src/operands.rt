@@ -249,7 +249,12 @@ fn take_operand(
         Operand::Point(within) => take_point(setting, graphics, stack, taken, within),
         Operand::Cvt => take_index(stack, taken, setting.cvt, Reason::Cvt),
         Operand::Storage => {
-            take_index(stack, taken, u32::from(setting.limits.storage), Reason::Storage)
+            take_index(
+                stack,
+                taken,
+                u32::from(setting.limits.storage),
+                Reason::Storage,
+            )
         }
         Operand::Zone => take_zone(setting, stack, taken),
         Operand::Contour => take_contour(setting, graphics.zp2, stack, taken),

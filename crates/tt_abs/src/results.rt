@@ -22,14 +22,22 @@ fn exact(value: i64) -> Cell
 fn truth(holds: bool) -> Cell
     ensures { result ≡ truth_cell holds }
 {
-    if holds { Cell::Known(1) } else { Cell::Known(0) }
+    if holds {
+        Cell::Known(1)
+    } else {
+        Cell::Known(0)
+    }
 }
 
 /// The answer where it is decided.
 fn decided(is_decided: bool, answer: bool) -> Cell
     ensures { result ≡ only_if is_decided (truth_cell answer) }
 {
-    if is_decided { truth(answer) } else { Cell::Unknown }
+    if is_decided {
+        truth(answer)
+    } else {
+        Cell::Unknown
+    }
 }
 
 /// ADD: the sum.

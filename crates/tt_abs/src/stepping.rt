@@ -47,11 +47,7 @@ fn act(
 ///
 /// # Errors
 /// `Refused` with the reason of the first test of the instruction that fails; `OutOfMemory`.
-pub fn step(
-    setting: &Setting<'_>,
-    point: &Point<'_>,
-    state: &mut State,
-) -> Result<Moves, Refusal>
+pub fn step(setting: &Setting<'_>, point: &Point<'_>, state: &mut State) -> Result<Moves, Refusal>
     requires { starts_in_body (setting_of setting.now) (frames_of point.now) point.now.offset ≡ true }
     ensures ok { IfOk result (λ m. LeadsBy point.now (outcome_at setting.now point.now state.old) m state.new) }
     ensures refused { IfErr result (IsRefusedFor (outcome_at setting.now point.now state.old)) }

@@ -8,5 +8,5 @@ abbrev pub invariant-loop-pushed : goal.invariant-loop-pushed
 invariant-loop-pushed l = record {
   indexed : AreIndexedPushes (take l.fn.count l.fn.state.stack) (drop l.pushed-index l.fn.pushes);
   made : l.made.items ++ cells_pushed (take l.fn.count l.fn.state.stack) (storage_of l.fn.state.storage) (drop l.pushed-index l.fn.pushes)
-    ≡ cells_pushed (take l.fn.count l.fn.state.stack) (storage_of l.fn.state.storage) l.fn.pushes;
+      ≡ cells_pushed (take l.fn.count l.fn.state.stack) (storage_of l.fn.state.storage) l.fn.pushes;
 }

@@ -11,5 +11,5 @@ invariant-loop-change l = record {
   functions : l.state.functions ≡ l.initial.state.functions;
   indexed : AreIndexed (take l.fn.count l.initial.state.stack) (drop l.change-index l.fn.changes);
   registers : all_updated cells (take l.fn.count l.initial.state.stack) (drop l.change-index l.fn.changes) (abstract_of l.state).registers
-    ≡ all_updated cells (take l.fn.count l.initial.state.stack) l.fn.changes (abstract_of l.initial.state).registers;
+      ≡ all_updated cells (take l.fn.count l.initial.state.stack) l.fn.changes (abstract_of l.initial.state).registers;
 }

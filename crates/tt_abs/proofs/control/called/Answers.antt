@@ -1,4 +1,4 @@
-use Rattle.std.proofs.Common.{◌≡◌, ◌∙◌, sym, ap, rules, Some, None}
+use Rattle.std.proofs.Common.{◌∙◌, sym, rules, Some, None}
 use Rattle.std.specs.Prelude.{FitsSigned}
 use Rattle.std.specs.Int.{w32}
 use Rattle.std.proofs.lemmas.Int.{to_z-of_z}
@@ -10,10 +10,10 @@ pub returns-in-Some-clause-ok : goal.returns-in-Some-clause-ok
 returns-in-Some-clause-ok c =
     let fits : FitsSigned w32 c.in_ok-function.function = search rules in
     called_is (setting_of c.args.setting.now) c.args.state.now.functions c.args.cell c.in_ok-function.function c.from.result (Some c.in-Some.body) c.in_ok-function.ensures.ok c.from.ensures
-      (simp to_z-of_z at (sym c.is_index.ensures ∙ c.if-not-is_index.false)) (simp to_z-of_z at c.in-Some.ensures)
+    (simp to_z-of_z at (sym c.is_index.ensures ∙ c.if-not-is_index.false)) (simp to_z-of_z at c.in-Some.ensures)
 
 pub returns-in-None-clause-refused : goal.returns-in-None-clause-refused
 returns-in-None-clause-refused c =
     let fits : FitsSigned w32 c.in_ok-function.function = search rules in
     called_is (setting_of c.args.setting.now) c.args.state.now.functions c.args.cell c.in_ok-function.function c.from.result None c.in_ok-function.ensures.ok c.from.ensures
-      (simp to_z-of_z at (sym c.is_index.ensures ∙ c.if-not-is_index.false)) (simp to_z-of_z at c.in-None.ensures)
+    (simp to_z-of_z at (sym c.is_index.ensures ∙ c.if-not-is_index.false)) (simp to_z-of_z at c.in-None.ensures)

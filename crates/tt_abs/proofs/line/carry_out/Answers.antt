@@ -1,4 +1,4 @@
-use Rattle.std.proofs.Common.{◌≡◌, ◌<◌, ℕ, ◌∙◌, ap, sym, rules, Ok, take}
+use Rattle.std.proofs.Common.{◌<◌, ◌∙◌, ap, rules, Ok, take}
 use Rattle.std.specs.Prelude.{◌^◌}
 use Rattle.tt_abs.specs.Transfers.{cells_on}
 use Rattle.tt_abs.specs.Settings.{setting_of}
@@ -20,6 +20,6 @@ update_all-requires c =
 pub returns-clause-ok : goal.returns-clause-ok
 returns-clause-ok c =
     plain_done (setting_of c.args.setting.now) (abstract_of c.args.state.now) (line_of c.args.line.now) c.in_ok-count.count c.in_ok-count.ensures.ok c.in_ok-test_uses.ensures.ok
-      ∙ ap Ok (plain_kept (abstract_of c.args.state.now) (abstract_of c.update_all.new.state) c.cut.new.self c.push_cells.new.stack (take c.in_ok-count.count c.args.state.now.stack) (line_of c.args.line.now)
-        c.in_ok-count.count c.in_ok-pushed.pushed.items c.in_ok-update_all.ensures c.in_ok-pushed.ensures c.cut.ensures
-        (c.in_ok-push_cells.ensures ∙ ap (λ l. cells_on l c.cut.new.self) c.as_slice.ensures))
+    ∙ ap Ok (plain_kept (abstract_of c.args.state.now) (abstract_of c.update_all.new.state) c.cut.new.self c.push_cells.new.stack (take c.in_ok-count.count c.args.state.now.stack) (line_of c.args.line.now)
+    c.in_ok-count.count c.in_ok-pushed.pushed.items c.in_ok-update_all.ensures c.in_ok-pushed.ensures c.cut.ensures
+    (c.in_ok-push_cells.ensures ∙ ap (λ l. cells_on l c.cut.new.self) c.as_slice.ensures))

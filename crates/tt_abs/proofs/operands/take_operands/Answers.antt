@@ -1,4 +1,4 @@
-use Rattle.std.proofs.Common.{drop, ◌≡◌}
+use Rattle.std.proofs.Common.{drop}
 use Rattle.tt_abs.proofs.Fronts.{row_step}
 use Rattle.tt_abs.specs.Settings.{setting_of}
 use Rattle.tt_abs.proofs.operands.take_operands.Goals as goal

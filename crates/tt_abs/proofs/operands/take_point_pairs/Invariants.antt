@@ -9,4 +9,4 @@ use Rattle.tt_abs.proofs.operands.take_point_pairs.Given as goal
 abbrev pub invariant-loop-i : goal.invariant-loop-i
 invariant-loop-i l =
     GoesOn (pairs known_count (tested_cell (is_point_in (setting_of l.fn.setting) l.fn.graphics l.fn.within) reason.Point) (drop l.fn.taken l.fn.stack)) (drop l.after l.fn.stack)
-      (times (l.n - l.i) (pair (tested_cell (is_point_in (setting_of l.fn.setting) l.fn.graphics l.fn.within) reason.Point)))
+    (times (l.n - l.i) (pair (tested_cell (is_point_in (setting_of l.fn.setting) l.fn.graphics l.fn.within) reason.Point)))

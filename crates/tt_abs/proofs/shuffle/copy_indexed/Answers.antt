@@ -6,4 +6,4 @@ pub returns-clause-ok : goal.returns-clause-ok
 returns-clause-ok c =
     let w = c.in_ok-cell.ensures.ok in
     copies_index c.args.stack.now c.push.new.self w.1 w.0 c.in_ok-cell.cell c.in_ok-cell.field-0-0 w.2 w.3 w.4
-      (c.in_ok-push.ensures.ok ∙ ap (λ l. c.in_ok-cell.cell ∷ l) c.cut.ensures)
+    (c.in_ok-push.ensures.ok ∙ ap (λ l. c.in_ok-cell.cell ∷ l) c.cut.ensures)

@@ -1,6 +1,4 @@
-use Rattle.std.proofs.Common.{◌≡◌, ◌∙◌, sym, ap, Ok, Err, true, false, ◌≤◌, ◌<◌, length, arith}
-use Rattle.tt_code.specs.Refusals.{holds_or, ◌>>=◌}
-use Rattle.tt_code.specs.declared.reason.Reason.TheVariants as reason
+use Rattle.std.proofs.Common.{true, false, ◌≤◌, ◌<◌, length, arith}
 use Rattle.tt_abs.specs.Settings.{frames_of, setting_of}
 use Rattle.tt_abs.specs.States.{abstract_of}
 use Rattle.tt_abs.specs.Moves.{nexts_of}
@@ -18,8 +16,8 @@ returns-in_err-moves-clause-refused c =
     let at = c.args.point.now.offset in
     let found = found_at S fs at c.program-program.result.now c.in-Some.instr c.program-program.ensures c.requires c.in-Some.ensures.value in
     passed_on c.from_residual.result c.in_err-moves.field-0.0 _
-      (for_reason c.in_err-moves.field-0.0 _ _ (λ q h. performs_not S fs at (abstract_of c.args.state.now) c.in-Some.instr q found h c.code.result c.code.ensures) c.in_err-moves.ensures.refused)
-      c.from_residual.ensures.1
+    (for_reason c.in_err-moves.field-0.0 _ _ (λ q h. performs_not S fs at (abstract_of c.args.state.now) c.in-Some.instr q found h c.code.result c.code.ensures) c.in_err-moves.ensures.refused)
+    c.from_residual.ensures.1
 
 pub returns-then-len-from-clause-refused : goal.returns-then-len-from-clause-refused
 returns-then-len-from-clause-refused c =
@@ -29,7 +27,7 @@ returns-then-len-from-clause-refused c =
     let found = found_at S fs at c.program-program.result.now c.in-Some.instr c.program-program.ensures c.requires c.in-Some.ensures.value in
     let deep : c.args.setting.now.limits.stack < length c.act.new.state.stack = omega (arith, c.if-len-from.true, c.from.ensures, c.len-2.ensures.value) in
     performs_then S fs at (abstract_of c.args.state.now) c.in-Some.instr (nexts_of fs c.in_ok-moves.moves (abstract_of c.act.new.state)) false found c.in_ok-moves.ensures.ok c.code.result c.code.ensures
-      (moves_beyond S fs c.in_ok-moves.moves (abstract_of c.act.new.state) deep)
+    (moves_beyond S fs c.in_ok-moves.moves (abstract_of c.act.new.state) deep)
 
 pub returns-clause-ok : goal.returns-clause-ok
 returns-clause-ok c =
@@ -39,9 +37,9 @@ returns-clause-ok c =
     let found = found_at S fs at c.program-program.result.now c.in-Some.instr c.program-program.ensures c.requires c.in-Some.ensures.value in
     let fine : length c.act.new.state.stack ≤ c.args.setting.now.limits.stack = omega (arith, c.if-len-from.false, c.from.ensures, c.len-2.ensures.value) in
     performs_then S fs at (abstract_of c.args.state.now) c.in-Some.instr (nexts_of fs c.in_ok-moves.moves (abstract_of c.act.new.state)) true found c.in_ok-moves.ensures.ok c.code.result c.code.ensures
-      (moves_within S fs c.in_ok-moves.moves (abstract_of c.act.new.state) fine)
+    (moves_within S fs c.in_ok-moves.moves (abstract_of c.act.new.state) fine)
 
 pub returns-clause-in_range : goal.returns-clause-in_range
 returns-clause-in_range c = λ h.
     left_in_range (setting_of c.args.setting.now) (frames_of c.args.point.now) c.args.point.now.offset c.args.state.now c.act.new.state c.in_ok-moves.moves c.is_within.ensures.range h (returns-clause-ok c)
-      c.rises.ensures.functions c.rises.ensures.storage
+    c.rises.ensures.functions c.rises.ensures.storage

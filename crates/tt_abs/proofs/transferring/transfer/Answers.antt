@@ -20,7 +20,7 @@ returns-clause-gives c =
     let end : c.len.result ≡ size (program_of S fs) = c.len.ensures.value ∙ ap size c.program.ensures in
     let small : at < 2 ^ 31 = omega (arith, c.len.ensures.small) in
     outcome_gives S fs at (abstract_of c.args.state.now) (nexts_of fs c.in_ok-moves.moves (abstract_of c.step.new.state)) small (stack_to c.args.state.now.stack c.requires.in_range.0) c.requires.once
-      (ap (λ s. outcome_on_cells S fs at (abstract_of s)) (sym c.in_ok-next.ensures) ∙ c.in_ok-moves.ensures.ok)
+    (ap (λ s. outcome_on_cells S fs at (abstract_of s)) (sym c.in_ok-next.ensures) ∙ c.in_ok-moves.ensures.ok)
 
 pub returns-in_err-moves-clause-refused : goal.returns-in_err-moves-clause-refused
 returns-in_err-moves-clause-refused c =
@@ -31,7 +31,7 @@ returns-in_err-moves-clause-refused c =
     let end : c.len.result ≡ size (program_of S fs) = c.len.ensures.value ∙ ap size c.program.ensures in
     let small : at < 2 ^ 31 = omega (arith, c.len.ensures.small) in
     passed_on c.from_residual-in_err-moves.result c.in_err-moves.field-0.0 _
-      (for_reason c.in_err-moves.field-0.0 _ _
-        (λ q h. outcome_refused S fs at (abstract_of c.args.state.now) q small (stack_to c.args.state.now.stack c.requires.in_range.0) c.requires.once
-          (ap (λ s. outcome_on_cells S fs at (abstract_of s)) (sym c.in_ok-next.ensures) ∙ h)) c.in_err-moves.ensures.refused)
-      c.from_residual-in_err-moves.ensures.1
+    (for_reason c.in_err-moves.field-0.0 _ _
+    (λ q h. outcome_refused S fs at (abstract_of c.args.state.now) q small (stack_to c.args.state.now.stack c.requires.in_range.0) c.requires.once
+    (ap (λ s. outcome_on_cells S fs at (abstract_of s)) (sym c.in_ok-next.ensures) ∙ h)) c.in_err-moves.ensures.refused)
+    c.from_residual-in_err-moves.ensures.1
