@@ -3,11 +3,13 @@
 
 pub mod builder;
 pub mod certificate;
+pub mod checking;
 pub mod fault;
 mod finishing;
 
 pub use builder::Builder;
 pub use certificate::Certificate;
+pub use checking::{CheckFault, Spot};
 pub use fault::BuildFault;
 
 #[cfg(test)]
