@@ -4,9 +4,12 @@ ghost use Rattle.std.specs.Prelude.{◌≡◌, ◌<◌, ◌∷◌, ℕ, List, So
 ghost use Rattle.tt_code.specs.Settings.{body_of as body_of_frames, body_offset as offset_of_body, is_body, is_main_end, program_of as program_of_frames, starts_in_body};
 ghost use Rattle.tt_code.specs.declared.machine.Frame.{Frame as AnyFrame};
 ghost use Rattle.tt_abs.specs.Moves.{frames_behind, offset_behind};
+ghost use Rattle.tt_abs.specs.Families.{CoversAt};
 ghost use Rattle.tt_abs.specs.Settings.{setting_of};
-ghost use Rattle.tt_cert.specs.Checks.{AreCountable, IsLanding, spot_of, spot_of_body as spot_of_name};
-ghost use Rattle.tt_cert.specs.Contents.{frames_at};
+ghost use Rattle.tt_abs.specs.StateFlow.{Place};
+ghost use Rattle.tt_abs.specs.States.{state_order};
+ghost use Rattle.tt_cert.specs.Checks.{AreCountable, IsGap, IsLanding, NamesAt, spot_of, spot_of_body as spot_of_name};
+ghost use Rattle.tt_cert.specs.Contents.{family_of, frames_at};
 ghost use Rattle.tt_cert.specs.Rising.{IsFinished};
 
 use crate::certificate::Certificate;
@@ -157,5 +160,97 @@ fn place_behind(certificate: &Certificate, context: u32, way: Move) -> Landing
         Move::Enter(frame) => place_entered(certificate, context, frame),
         Move::NextTurn => place_of_turn(certificate, context),
         Move::Return => place_of_return(certificate, context),
+    }
+}
+
+/// The program in which a context's calls stand.
+fn program_of<'a>(setting: &Setting<'a>, frames: &[Frame]) -> &'a Program<'a>
+    ensures { result.now ≡ program_of_frames (setting_of setting.now) (reverse frames.now) }
+{
+    match frames {
+        [] => setting.main,
+        [.., frame] => {
+            if frame.body < CVT_BODIES {
+                setting.font
+            } else {
+                setting.prep
+            }
+        }
+    }
+}
+
+/// The body in which a context's calls stand.
+fn body_of(frames: &[Frame]) -> Body
+    ensures { result ≡ body_of_frames (reverse frames.now) }
+{
+    match frames {
+        [] => Body::Main,
+        [.., frame] => Body::Function(body_offset(frame.body)),
+    }
+}
+
+/// Are the two one body of the main program or of a function?
+fn is_same_body(body: Body, other: Body) -> bool
+    ensures { result ≡ is_body body (Some other) }
+{
+    match body {
+        Body::Main => match other {
+            Body::Main => true,
+            _ => false,
+        },
+        Body::Function(first) => match other {
+            Body::Function(second) => first == second,
+            _ => false,
+        },
+        Body::Instruction(_) => false,
+    }
+}
+
+/// Does an instruction of the innermost call's body start at the offset?
+fn starts(setting: &Setting<'_>, frames: &[Frame], offset: u32) -> bool
+    ensures { result ≡ starts_in_body (setting_of setting.now) (reverse frames.now) offset }
+{
+    match program_of(setting, frames).body_at(offset) {
+        Some(body) => is_same_body(body_of(frames), body),
+        None => false,
+    }
+}
+
+/// Is this the main program's end?
+fn is_end(setting: &Setting<'_>, frames: &[Frame], offset: u32) -> bool
+    ensures { result ≡ is_main_end (setting_of setting.now) (reverse frames.now) offset }
+{
+    frames.is_empty() && offset == setting.main.len()
+}
+
+/// The fault that the family has no state at a place, or none that covers what leads there.
+fn fault_at(place: &Landing, reason: Reason) -> CheckFault
+    ensures { result ≡ CheckFault.Refused place.now.spot place.now.offset reason }
+{
+    CheckFault::Refused {
+        spot: place.spot,
+        offset: place.offset,
+        reason,
+    }
+}
+
+/// Does the family's state at the place cover this one?
+fn check_covered(certificate: &Certificate, place: &Landing, state: &State) -> Result<(), CheckFault>
+    ensures covered { (p : Place) → IsLanding certificate.now p place.now → IfOk result (λ _. CoversAt state_order (family_of certificate.now) p state.now) }
+    ensures gap { (p : Place) → IsLanding certificate.now p place.now → IfErr result (NamesAt p (IsGap (family_of certificate.now) p state.now)) }
+{
+    certificate.contexts();
+    let Some(context) = place.context else {
+        return Err(fault_at(place, Reason::MissingPoint));
+    };
+    match certificate.state(context, place.offset) {
+        None => Err(fault_at(place, Reason::MissingPoint)),
+        Some(above) => {
+            if state.below(above) {
+                Ok(())
+            } else {
+                Err(fault_at(place, Reason::NotCovered))
+            }
+        }
     }
 }
