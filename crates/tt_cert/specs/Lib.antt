@@ -5,5 +5,5 @@ pub mod Numbers
 pub mod Built
 pub mod Puts
 pub mod Rising
-pub mod Checks
 pub mod GoodFamilies
+pub mod Checks

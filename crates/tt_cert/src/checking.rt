@@ -1,21 +1,24 @@
 //! The check of a certificate: whether its family is good for a program.
 
-ghost use Rattle.std.specs.Prelude.{◌≡◌, ◌<◌, ◌∷◌, ℕ, List, Some, IfOk, IfErr, length, reverse};
+ghost use Rattle.std.specs.Prelude.{◌≡◌, ◌↔◌, ◌<◌, [], ◌∷◌, ℕ, List, Some, Ok, Err, IfOk, IfErr, IsTrue, length, reverse};
 ghost use Rattle.tt_code.specs.Settings.{body_of as body_of_frames, body_offset as offset_of_body, is_body, is_main_end, program_of as program_of_frames, starts_in_body};
 ghost use Rattle.tt_code.specs.declared.machine.Frame.{Frame as AnyFrame};
-ghost use Rattle.tt_abs.specs.Moves.{frames_behind, offset_behind};
-ghost use Rattle.tt_abs.specs.Families.{CoversAt};
+ghost use Rattle.tt_abs.specs.Moves.{frames_behind, nexts_of, offset_behind};
+ghost use Rattle.tt_abs.specs.Entries.{Rises};
+ghost use Rattle.tt_abs.specs.Families.{CoversAt, IsGood};
 ghost use Rattle.tt_abs.specs.Settings.{setting_of};
-ghost use Rattle.tt_abs.specs.StateFlow.{Place};
-ghost use Rattle.tt_abs.specs.States.{state_order};
-ghost use Rattle.tt_cert.specs.Checks.{AreCountable, IsGap, IsLanding, NamesAt, spot_of, spot_of_body as spot_of_name};
+ghost use Rattle.tt_abs.specs.StateFlow.{Place, flow_of};
+ghost use Rattle.tt_abs.specs.Soundness.{IsSafe};
+ghost use Rattle.tt_abs.specs.States.{abstract_of, start_of, state_order};
+ghost use Rattle.tt_abs.specs.Transfers.{outcome_on_cells};
+ghost use Rattle.tt_cert.specs.Checks.{AreCalls, AreCountable, AreCovered, AreSound, BreaksAt, IsBrokenFirst, IsFirstBreak, IsFirstGap, IsGap, IsLanding, IsSoundAt, IsWantOfMemory, Names, NamesAt, NamesLanding, spot_of, spot_of_body as spot_of_name};
 ghost use Rattle.tt_cert.specs.Contents.{family_of, frames_at};
-ghost use Rattle.tt_cert.specs.Rising.{IsFinished};
+ghost use Rattle.tt_cert.specs.GoodFamilies.{EndsWell, HasEnd, IsGoodFamily, IsShortEnough};
 
 use crate::certificate::Certificate;
 use std::alloc::{AllocError, Global};
 use thiserror::Error;
-use tt_abs::{Move, Moves, Order, Point, Refusal, Setting, State, step};
+use tt_abs::{Kind, Move, Moves, Order, Point, Refusal, Setting, State, step};
 use tt_code::{Body, Frame, Program, Reason};
 
 /// Bodies of the CVT program are named by their offset and this.
@@ -52,6 +55,13 @@ impl From<AllocError> for CheckFault {
     fn from(error: AllocError) -> CheckFault {
         CheckFault::OutOfMemory(error)
     }
+}
+
+/// The calls of a context, the outermost first.
+#[derive(Drop)]
+struct Calls {
+    context: u32,
+    frames: Vec<Frame>,
 }
 
 /// A place: the number of its context, if the certificate has it, and the offset.
@@ -253,4 +263,192 @@ fn check_covered(certificate: &Certificate, place: &Landing, state: &State) -> R
             }
         }
     }
+}
+
+/// What the instruction at a place makes of a state, and where it leads.
+fn stepped(setting: &Setting<'_>, frames: &[Frame], place: &Landing, state: &mut State) -> Result<Moves, CheckFault>
+    ensures ok { IfOk result (λ m. outcome_on_cells (setting_of setting.now) (reverse frames.now) place.now.offset (abstract_of state.old) ≡ Ok (nexts_of (reverse frames.now) m (abstract_of state.new))) }
+    ensures refused { IfErr result (NamesLanding place.now (λ r. outcome_on_cells (setting_of setting.now) (reverse frames.now) place.now.offset (abstract_of state.old) ≡ Err r)) }
+    ensures in_range { state_order.InRange state.old → IfOk result (λ _. state_order.InRange state.new) }
+{
+    if !starts(setting, frames, place.offset) {
+        return Err(fault_at(place, Reason::Target));
+    }
+    let point = Point {
+        frames,
+        offset: place.offset,
+    };
+    match step(setting, &point, state) {
+        Ok(moves) => Ok(moves),
+        Err(refusal) => match refusal {
+            Refusal::Refused(reason) => Err(fault_at(place, reason)),
+            Refusal::OutOfMemory(error) => Err(CheckFault::OutOfMemory(error)),
+        },
+    }
+}
+
+/// Are the places to which moves lead from a context covered, by the same state?
+fn check_moves(certificate: &Certificate, context: u32, moves: Moves, state: &State) -> Result<(), CheckFault>
+    requires there { context < length certificate.now.contexts }
+    requires countable { AreCountable certificate.now.contexts }
+    ensures covered { IfOk result (λ _. AreCovered (family_of certificate.now) (nexts_of (frames_at certificate.now.contexts context) moves (abstract_of state.now)) state.now) }
+    ensures gap { IfErr result (Names (IsFirstGap (family_of certificate.now) (nexts_of (frames_at certificate.now.contexts context) moves (abstract_of state.now)) state.now)) }
+{
+    match moves {
+        Moves::One(way) => {
+            let place = place_behind(certificate, context, way);
+            check_covered(certificate, &place, state)
+        }
+        Moves::Two(first, second) => {
+            let place = place_in(certificate, context, first);
+            if let Err(fault) = check_covered(certificate, &place, state) {
+                return Err(fault);
+            }
+            let place = place_in(certificate, context, second);
+            check_covered(certificate, &place, state)
+        }
+    }
+}
+
+/// Is a state sound at its place, an offset of these calls' context?
+fn check_state(
+    setting: &Setting<'_>,
+    certificate: &Certificate,
+    calls: &Calls,
+    offset: u32,
+    state: &State,
+) -> Result<(), CheckFault>
+    requires calls { AreCalls certificate.now calls.now }
+    requires countable { AreCountable certificate.now.contexts }
+    requires in_range { state_order.InRange state.now }
+    ensures sound { IfOk result (λ _. IsSoundAt (setting_of setting.now) (family_of certificate.now) (frames_at certificate.now.contexts calls.now.context, offset) state.now) }
+    ensures broken { IfErr result (Names (BreaksAt (setting_of setting.now) (family_of certificate.now) (frames_at certificate.now.contexts calls.now.context, offset) state.now)) }
+{
+    let place = place_in(certificate, calls.context, offset);
+    let frames = calls.frames.as_slice();
+    if is_end(setting, frames, offset) {
+        return Ok(());
+    }
+    let mut next = state.copied()?;
+    match stepped(setting, frames, &place, &mut next) {
+        Ok(moves) => check_moves(certificate, calls.context, moves, &next),
+        Err(fault) => Err(fault),
+    }
+}
+
+impl Calls {
+    /// Goes to another context, if it is another.
+    fn go_to(&mut self, certificate: &Certificate, context: u32) -> Result<(), AllocError>
+        requires calls { AreCalls certificate.now self.old }
+        requires there { context < length certificate.now.contexts }
+        ensures calls { IfOk result (λ _. AreCalls certificate.now self.new) }
+        ensures context { IfOk result (λ _. self.new.context ≡ context) }
+    {
+        if context != self.context {
+            self.frames = certificate.frames(*self.frames.allocator(), context)?;
+            self.context = context;
+        }
+        Ok(())
+    }
+}
+
+/// Are all states sound, by rising contexts, and by rising offsets within one?
+fn check_states(alloc: Global, setting: &Setting<'_>, certificate: &Certificate) -> Result<(), CheckFault>
+    requires { AreCountable certificate.now.contexts }
+    ensures sound { IfOk result (λ _. AreSound (setting_of setting.now) (family_of certificate.now)) }
+    ensures broken { IfErr result (Names (IsFirstBreak (setting_of setting.now) certificate.now)) }
+{
+    certificate.contexts();
+    let mut calls = Calls {
+        context: 0,
+        frames: Vec::new(alloc),
+    };
+    for (place, state) in certificate.states() {
+        let (context, offset) = *place;
+        calls.go_to(certificate, context)?;
+        if let Err(fault) = check_state(setting, certificate, &calls, offset, state) {
+            return Err(fault);
+        }
+    }
+    Ok(())
+}
+
+/// Is a glyph program within maxSizeOfInstructions?
+fn is_short(setting: &Setting<'_>) -> bool
+    ensures { IsTrue result ↔ IsShortEnough (setting_of setting.now) (setting_of setting.now).kind }
+{
+    match setting.kind {
+        Kind::Font => true,
+        Kind::Cvt => true,
+        Kind::Glyph { .. } => setting.main.len() <= u32::from(setting.limits.program_size),
+    }
+}
+
+/// Does a font program or a CVT program have a state at its end?
+fn ends_well(setting: &Setting<'_>, certificate: &Certificate) -> bool
+    ensures { IsTrue result ↔ EndsWell (setting_of setting.now) (setting_of setting.now).kind (family_of certificate.now) }
+{
+    match setting.kind {
+        Kind::Font => has_end(setting, certificate),
+        Kind::Cvt => has_end(setting, certificate),
+        Kind::Glyph { .. } => true,
+    }
+}
+
+/// Does the main program have a state at its end?
+fn has_end(setting: &Setting<'_>, certificate: &Certificate) -> bool
+    ensures { IsTrue result ↔ HasEnd (setting_of setting.now) (family_of certificate.now) }
+{
+    certificate.end_functions(setting.main.len()).is_some()
+}
+
+/// Is the program's start covered?
+fn check_start(alloc: Global, setting: &Setting<'_>, certificate: &Certificate) -> Result<(), CheckFault>
+    requires { Rises setting.now.start.now }
+    ensures covered { IfOk result (λ _. CoversAt state_order (family_of certificate.now) ([], 0) (start_of setting.now.start.now)) }
+    ensures gap { IfErr result (NamesAt ([], 0) (IsGap (family_of certificate.now) ([], 0) (start_of setting.now.start.now))) }
+{
+    certificate.contexts();
+    let start = State::start(alloc, setting.start)?;
+    let place = place_in(certificate, 0, 0);
+    check_covered(certificate, &place, &start)
+}
+
+/// Is the family good for the program of this setting, all that a certificate has to be? In the order of the walk the first that
+/// isn't so is named: a glyph program longer than maxSizeOfInstructions; a start that isn't covered; a font program or a CVT program
+/// without a state at its end; then, by rising contexts and by rising offsets within one, a state that is refused at its place, or
+/// whose successor isn't covered, the smaller offset first.
+///
+/// # Errors
+/// `Refused` with what is broken first; `OutOfMemory`.
+pub fn check_full(alloc: Global, setting: &Setting<'_>, certificate: &Certificate) -> Result<(), CheckFault>
+    requires rises { Rises setting.now.start.now }
+    requires countable { AreCountable certificate.now.contexts }
+    ensures good { IfOk result (λ _. IsGood state_order (flow_of (setting_of setting.now) setting.now.start.now) (family_of certificate.now)) }
+    ensures safe { IfOk result (λ _. IsSafe (setting_of setting.now) setting.now.start.now (family_of certificate.now)) }
+    ensures ends { IfOk result (λ _. EndsWell (setting_of setting.now) (setting_of setting.now).kind (family_of certificate.now)) }
+    ensures short { IfOk result (λ _. IsShortEnough (setting_of setting.now) (setting_of setting.now).kind) }
+    ensures exact { IsGoodFamily (setting_of setting.now) setting.now.start.now (family_of certificate.now) → IfErr result IsWantOfMemory }
+    ensures first { IfErr result (Names (IsBrokenFirst (setting_of setting.now) setting.now.start.now certificate.now)) }
+{
+    setting.is_within();
+    certificate.contexts();
+    if !is_short(setting) {
+        return Err(CheckFault::Refused {
+            spot: Spot::Main,
+            offset: u32::from(setting.limits.program_size),
+            reason: Reason::ProgramTooLong,
+        });
+    }
+    if let Err(fault) = check_start(alloc, setting, certificate) {
+        return Err(fault);
+    }
+    if !ends_well(setting, certificate) {
+        return Err(CheckFault::Refused {
+            spot: Spot::Main,
+            offset: setting.main.len(),
+            reason: Reason::MissingPoint,
+        });
+    }
+    check_states(alloc, setting, certificate)
 }

@@ -9,7 +9,7 @@ mod finishing;
 
 pub use builder::Builder;
 pub use certificate::Certificate;
-pub use checking::{CheckFault, Spot};
+pub use checking::{CheckFault, Spot, check_full};
 pub use fault::BuildFault;
 
 #[cfg(test)]
