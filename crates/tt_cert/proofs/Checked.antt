@@ -1,5 +1,5 @@
 -- What the check of one state says.
-use Rattle.std.specs.Prelude.{◌≡◌, ℕ, ◌<◌, ◌+◌, Option, Some, None, List, [], ◌∷◌, Bool, true, false, Result, Ok, Err, IfOk, IfErr, length, reverse, slice_get, zero, suc}
+use Rattle.std.specs.Prelude.{◌≡◌, ℕ, ◌<◌, Option, Some, List, [], ◌∷◌, true, false, Result, Ok, Err, IfOk, IfErr, reverse, slice_get, zero, suc}
 use Rattle.std.proofs.Common.{refl, sym, ◌∙◌, ap, subst, arith}
 use Rattle.std.proofs.lemmas.List.{reverse-reverse}
 use Rattle.tt_code.specs.Settings.{Setting, is_main_end, starts_in_body}
@@ -13,11 +13,11 @@ use Rattle.tt_abs.specs.declared.moves.Moves.TheVariants as moves
 use Rattle.tt_abs.specs.Cells.{Abstract}
 use Rattle.tt_abs.specs.Families.{CoversAt}
 use Rattle.tt_abs.specs.Moves.{frames_behind, offset_behind, nexts_of}
-use Rattle.tt_abs.specs.StateFlow.{Place, GivesState, RefusesState}
+use Rattle.tt_abs.specs.StateFlow.{Place}
 use Rattle.tt_abs.specs.States.{abstract_of, state_order}
 use Rattle.tt_abs.specs.Transfers.{Next, outcome_on_cells}
 use Rattle.tt_abs.proofs.StateParts.{one_state}
-use Rattle.tt_cert.specs.Checks.{AreCovered, BreaksAt, IsFirstGap, IsGap, IsSoundAt, LeavesGap, Names, NamesAt, NamesLanding, place_of_next, refused, leaves, spot_of}
+use Rattle.tt_cert.specs.Checks.{AreCovered, BreaksAt, IsFirstGap, IsGap, IsSoundAt, Names, NamesAt, NamesLanding, place_of_next, refused, leaves, spot_of}
 use Rattle.tt_cert.specs.declared.checking.Landing.{Landing}
 use Rattle.tt_cert.specs.declared.checking.CheckFault.{CheckFault}
 use Rattle.tt_cert.specs.declared.checking.CheckFault.TheVariants.{Refused, OutOfMemory}
@@ -48,20 +48,30 @@ module _ (family : Place → Option State) (t : State) where
   covered_two n m h k (suc i) x e = covered_one m k i x e
 
   gap_head : (n : Next) (rest : List Next) (fault : CheckFault) → NamesAt (place_of_next n) (IsGap family (place_of_next n) t) fault → Names (IsFirstGap family (n ∷ rest) t) fault
-  gap_head n rest (Refused spot offset r) h = (place_of_next n, h.0, h.1, record {
-    index = 0;
-    here = record { next = n; found = refl; place = refl; gap = h.2 };
-    before = λ i m lt e. absurd (omega arith);
-  })
+  gap_head n rest (Refused spot offset r) h = (
+    place_of_next n,
+    h.0,
+    h.1,
+    record {
+      index = 0;
+      here = record { next = n; found = refl; place = refl; gap = h.2 };
+      before = λ i m lt e. absurd (omega arith);
+    },
+  )
   gap_head n rest (OutOfMemory error) h = tt
 
   gap_second : (n m : Next) (fault : CheckFault) → CoversAt state_order family (place_of_next n) t → NamesAt (place_of_next m) (IsGap family (place_of_next m) t) fault
       → Names (IsFirstGap family (n ∷ m ∷ []) t) fault
-  gap_second n m (Refused spot offset r) covered h = (place_of_next m, h.0, h.1, record {
-    index = 1;
-    here = record { next = m; found = refl; place = refl; gap = h.2 };
-    before = λ i x lt e. let zero_is : i ≡ 0 = omega arith in covered_one n covered 0 x (ap (λ k. slice_get (n ∷ []) k) (sym zero_is) ∙ at_head i x lt e);
-  })
+  gap_second n m (Refused spot offset r) covered h = (
+    place_of_next m,
+    h.0,
+    h.1,
+    record {
+      index = 1;
+      here = record { next = m; found = refl; place = refl; gap = h.2 };
+      before = λ i x lt e. let zero_is : i ≡ 0 = omega arith in covered_one n covered 0 x (ap (λ k. slice_get (n ∷ []) k) (sym zero_is) ∙ at_head i x lt e);
+    },
+  )
     where
       at_head : (i : ℕ) (x : Next) → i < 1 → slice_get (n ∷ m ∷ []) i ≡ Some x → slice_get (n ∷ []) i ≡ Some x
       at_head zero x lt e = e
@@ -99,7 +109,7 @@ module _ (family : Place → Option State) (t : State) where
     second_gap m n r is first h =
         let A : Moves → Type 0 = λ x. IfErr r (Names (IsFirstGap family (nexts_of fs x (abstract_of t)) t)) in
         subst A (sym is)
-          (err_map r _ _ (λ fault. gap_second (record { frames = fs; offset = m; state = abstract_of t }) (record { frames = fs; offset = n; state = abstract_of t }) fault first) h)
+        (err_map r _ _ (λ fault. gap_second (record { frames = fs; offset = m; state = abstract_of t }) (record { frames = fs; offset = n; state = abstract_of t }) fault first) h)
 
 -- each next abstract state of moves is the one
 pub same_states : (fs : List Frame) (ways : Moves) (b : Abstract) (i : ℕ) (n : Next) → slice_get (nexts_of fs ways b) i ≡ Some n → b ≡ n.state
@@ -122,26 +132,31 @@ module _ (s : Setting) (family : Place → Option State) (p : Place) (a : State)
     sound_here covered = record {
       safe = λ r x. let no_such : Ok (nexts_of p.0 ways (abstract_of t)) ≡ Err r = sym result ∙ x.refused in absurd (cc);
       closed = λ q u g.
-        let ok : Ok g.nexts ≡ Ok (nexts_of p.0 ways (abstract_of t)) = sym g.result ∙ result in
-        let same : g.nexts ≡ nexts_of p.0 ways (abstract_of t) = cc in
-        let found : slice_get (nexts_of p.0 ways (abstract_of t)) g.index ≡ Some g.next = ap (λ (ns : List Next). slice_get ns g.index) (sym same) ∙ g.found in
-        let state : u ≡ t = one_state u t g.in_range in_range (g.state_is ∙ sym (same_states p.0 ways (abstract_of t) g.index g.next found)) in
-        let place : place_of_next g.next ≡ q = λ i. (g.frames_are i, g.offset_is i) in
-        let C : Place × State → Type 0 = λ x. CoversAt state_order family x.0 x.1 in
-        let both : ◌≡◌ {A = Place × State} (place_of_next g.next, t) (q, u) = λ i. (place i, sym state i) in
-        subst C both (covered g.index g.next found);
+          let ok : Ok g.nexts ≡ Ok (nexts_of p.0 ways (abstract_of t)) = sym g.result ∙ result in
+          let same : g.nexts ≡ nexts_of p.0 ways (abstract_of t) = cc in
+          let found : slice_get (nexts_of p.0 ways (abstract_of t)) g.index ≡ Some g.next = ap (λ (ns : List Next). slice_get ns g.index) (sym same) ∙ g.found in
+          let state : u ≡ t = one_state u t g.in_range in_range (g.state_is ∙ sym (same_states p.0 ways (abstract_of t) g.index g.next found)) in
+          let place : place_of_next g.next ≡ q = λ i. (g.frames_are i, g.offset_is i) in
+          let C : Place × State → Type 0 = λ x. CoversAt state_order family x.0 x.1 in
+          let both : ◌≡◌ {A = Place × State} (place_of_next g.next, t) (q, u) = λ i. (place i, sym state i) in
+          subst C both (covered g.index g.next found);
     }
 
     pub broken_here : is_main_end s p.0 p.1 ≡ false → (fault : CheckFault) → Names (IsFirstGap family (nexts_of p.0 ways (abstract_of t)) t) fault → Names (BreaksAt s family p a) fault
-    broken_here running (Refused spot offset r) (q, e, f, first) = (q, e, f, leaves q r (record {
-      running = running;
-      nexts = nexts_of p.0 ways (abstract_of t);
-      result = result;
-      state = t;
-      in_range = in_range;
-      same = same_states p.0 ways (abstract_of t);
-      first = first;
-    }))
+    broken_here running (Refused spot offset r) (q, e, f, first) = (
+      q,
+      e,
+      f,
+      leaves q r (record {
+        running = running;
+        nexts = nexts_of p.0 ways (abstract_of t);
+        result = result;
+        state = t;
+        in_range = in_range;
+        same = same_states p.0 ways (abstract_of t);
+        first = first;
+      }),
+    )
     broken_here running (OutOfMemory error) h = tt
 
     pub sound_from : {T : Type 0} (r : Result T CheckFault) → IfOk r (λ _. AreCovered family (nexts_of p.0 ways (abstract_of t)) t) → IfOk r (λ _. IsSoundAt s family p a)

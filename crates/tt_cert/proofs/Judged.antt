@@ -1,6 +1,6 @@
 -- What the check of a whole family says.
-use Rattle.std.specs.Prelude.{◌≡◌, ℕ, Bool, true, false, Option, Some, None, List, [], Result, Ok, Err, IfOk, IfErr}
-use Rattle.std.proofs.Common.{refl, sym, ◌∙◌, ap, subst}
+use Rattle.std.specs.Prelude.{◌≡◌, ℕ, Bool, true, false, Option, Some, List, []}
+use Rattle.std.proofs.Common.{sym, ◌∙◌, ap, subst}
 use Rattle.tt_code.specs.Settings.{Setting}
 use Rattle.tt_code.specs.declared.machine.Frame.{Frame}
 use Rattle.tt_code.specs.declared.reason.Reason.{Reason}
@@ -20,7 +20,6 @@ use Rattle.tt_cert.specs.Checks.{AreSound, BreaksAt, IsBrokenFirst, IsFirstBreak
 use Rattle.tt_cert.specs.declared.checking.Landing.{Landing}
 use Rattle.tt_cert.specs.declared.checking.CheckFault.{CheckFault}
 use Rattle.tt_cert.specs.declared.checking.CheckFault.TheVariants.{Refused, OutOfMemory}
-use Rattle.tt_cert.proofs.Checked.{ok_map, err_map}
 
 pub not_both : (b : Bool) → b ≡ false → b ≡ true → ⊥
 not_both b f t = let no_such : false ≡ true = sym f ∙ t in cc
@@ -40,7 +39,7 @@ module _ (s : Setting) (functions : List (ℕ × ℕ)) (v : Contents) where
   pub good_here : IsFamily v → CoversAt state_order (family_of v) ([], 0) (start_of functions) → AreSound s (family_of v) → IsGood state_order (flow_of s functions) (family_of v)
   good_here family start sound =
       good_from_fine state_order (flow_of s functions) (family_of v) (λ p a at. family.in_range (number_of v.contexts p.0) p.1 a at) start
-        (λ p a at. ((sound p a at).safe, (sound p a at).closed))
+      (λ p a at. ((sound p a at).safe, (sound p a at).closed))
 
   pub safe_here : IsSettingInRange s → AreProgramsShort s → Rises functions → IsFamily v → CoversAt state_order (family_of v) ([], 0) (start_of functions)
       → AreSound s (family_of v) → IsSafe s functions (family_of v)

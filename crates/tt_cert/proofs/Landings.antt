@@ -1,7 +1,6 @@
 -- The family's state at a landing's place.
-use Rattle.std.specs.Prelude.{◌≡◌, ℕ, ◌<◌, Option, Some, None, List, length}
-use Rattle.std.proofs.Common.{refl, sym, ◌∙◌, ap, subst, arith}
-use Rattle.tt_code.specs.declared.machine.Frame.{Frame}
+use Rattle.std.specs.Prelude.{◌≡◌, ℕ, ◌<◌, Option, Some, None, length}
+use Rattle.std.proofs.Common.{refl, sym, ◌∙◌, subst}
 use Rattle.tt_code.specs.declared.reason.Reason.{Reason}
 use Rattle.tt_code.specs.declared.reason.Reason.TheVariants.{MissingPoint, NotCovered}
 use Rattle.tt_abs.specs.declared.state.State.{State}
@@ -9,10 +8,9 @@ use Rattle.tt_abs.specs.Families.{CoversAt}
 use Rattle.tt_abs.specs.StateFlow.{Place}
 use Rattle.tt_abs.specs.States.{state_order}
 use Rattle.tt_cert.specs.Contents.{Contents, HasContext, IsFamily, family_of, frames_at, number_of}
-use Rattle.tt_cert.specs.Numbers.{number_of-is, number_of-le}
+use Rattle.tt_cert.specs.Numbers.{number_of-is}
 use Rattle.tt_cert.specs.Places.{states_of}
-use Rattle.tt_cert.specs.Checks.{IsLanding, IsNumberOf, IsGap, NamesAt, spot_of}
-use Rattle.tt_cert.specs.declared.checking.Spot.{Spot}
+use Rattle.tt_cert.specs.Checks.{IsLanding, IsNumberOf, IsGap, NamesAt}
 use Rattle.tt_cert.specs.declared.checking.Landing.{Landing}
 use Rattle.tt_cert.specs.declared.checking.CheckFault.{CheckFault}
 use Rattle.tt_cert.specs.declared.checking.CheckFault.TheVariants.{Refused}

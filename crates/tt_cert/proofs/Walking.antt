@@ -1,17 +1,15 @@
 -- The walk over all states of a family.
-use Rattle.std.specs.Prelude.{◌≡◌, ◌≢◌, ◌⊎◌, ℕ, ◌+◌, ◌≤◌, ◌<◌, Bool, true, false, cond, Option, Some, None, List, [], ◌∷◌, ◌++◌, length, slice_get, zero, suc}
-use Rattle.std.specs.List.{All, AllByRecursion}
+use Rattle.std.specs.Prelude.{◌≡◌, ℕ, ◌<◌, true, false, cond, Some, List, [], ◌∷◌, ◌++◌, length, slice_get, zero, suc}
+use Rattle.std.specs.List.{AllByRecursion}
 use Rattle.std.specs.List.Sorted.{IsStrictlySortedBy}
-use Rattle.std.specs.Map.{keys_of, lookup}
+use Rattle.std.specs.Map.{keys_of}
 use Rattle.std.specs.BTreeMap.{is_at}
-use Rattle.std.specs.declared.cmp.Ordering.{Ordering}
 use Rattle.std.specs.declared.cmp.Ordering.TheVariants.{Less, Equal, Greater}
 use Rattle.std.specs.Ordering.{ordering_reverse}
 use Rattle.std.proofs.Common.{refl, sym, ◌∙◌, ap, subst, arith, inl, inr, append-nil, append_assoc, length-append}
 use Rattle.std.proofs.lemmas.Bool.{cases_lt, cases_eq, cases_Bool}
 use Rattle.std.proofs.lemmas.Cmp.{tied_itself}
 use Rattle.tt_code.specs.Settings.{Setting}
-use Rattle.tt_code.specs.declared.machine.Frame.{Frame}
 use Rattle.tt_abs.specs.declared.state.State.{State}
 use Rattle.tt_abs.specs.StateFlow.{Place}
 use Rattle.tt_abs.specs.States.{state_order}
@@ -38,18 +36,20 @@ seam (z ∷ zs) ys x = seam zs ys x
 entry_of : (es : List Entry) (key : ℕ × ℕ) (a : State) → states_of es key ≡ Some a → (i : ℕ) × (e : Entry) × (slice_get es i ≡ Some e) × (e.0 ≡ key) × (e.1 ≡ a)
 entry_of [] key a at = absurd (cc)
 entry_of (e ∷ es) key a at = elim (cases_Bool (is_at (place_cmp key) e.0)) [
-    inl here ↦
+  | inl here ↦
       let value : Some e.1 ≡ Some a = sym (ap (λ b. cond b (Some e.1) (states_of es key)) here) ∙ at in
       (0, e, refl, same_key here, cc)
   | inr apart ↦
       let rest : states_of es key ≡ Some a = sym (ap (λ b. cond b (Some e.1) (states_of es key)) apart) ∙ at in
       let (i, d, at_i, key_is, value_is) = entry_of es key a rest in
-      (suc i, d, at_i, key_is, value_is) ]
+      (suc i, d, at_i, key_is, value_is)
+]
   where
     same_key : is_at (place_cmp key) e.0 ≡ true → e.0 ≡ key
     same_key here = elim (cases_place e.0 key) [
-        inl same ↦ same
-      | inr other ↦ absurd (let no_such : true ≡ false = sym here ∙ places_apart key e.0 other in cc) ]
+      | inl same ↦ same
+      | inr other ↦ absurd (let no_such : true ≡ false = sym here ∙ places_apart key e.0 other in cc)
+    ]
 
 one_of_keys : (P : ℕ × ℕ → Type 0) (es : List Entry) (i : ℕ) (e : Entry) → AllByRecursion P (keys_of es) → slice_get es i ≡ Some e → P e.0
 one_of_keys P [] i e h at = absurd (cc)
@@ -90,15 +90,19 @@ module _ (s : Setting) (v : Contents) where
   pub so_far_step : (rest rest' : List Entry) (x : Entry) → IsSoundSoFar s v rest → rest ≡ x ∷ rest' → IsSoundEntry s v x → IsSoundSoFar s v rest'
   so_far_step rest rest' x (done, split, sound) rest_is here =
       let whole : v.states ≡ done ++ x ∷ rest' = split ∙ ap (λ l. done ++ l) rest_is in
-      let long = length-append done (x ∷ []) in
-      (done ++ x ∷ [], whole ∙ sym (append_assoc done (x ∷ []) rest'), λ i d lt at. elim (cases_lt i (length done)) [
-          inl less ↦ sound i d less at
-        | inr past ↦
-          let i_is : i ≡ length done = omega arith in
-          let both : Some x ≡ Some d = sym (ap (λ l. slice_get l (length done)) whole ∙ seam done rest' x) ∙ ap (slice_get v.states) (sym i_is) ∙ at in
-          let same : x ≡ d = cc in
-          let E : Entry → Type 0 = λ y. IsSoundEntry s v y in
-          subst E same here ])
+      let long = length-append done (x ∷ []) in (
+        done ++ x ∷ [],
+        whole ∙ sym (append_assoc done (x ∷ []) rest'),
+        λ i d lt at. elim (cases_lt i (length done)) [
+          | inl less ↦ sound i d less at
+          | inr past ↦
+              let i_is : i ≡ length done = omega arith in
+              let both : Some x ≡ Some d = sym (ap (λ l. slice_get l (length done)) whole ∙ seam done rest' x) ∙ ap (slice_get v.states) (sym i_is) ∙ at in
+              let same : x ≡ d = cc in
+              let E : Entry → Type 0 = λ y. IsSoundEntry s v y in
+              subst E same here
+        ],
+      )
 
   module _ (family : IsFamily v) where
     -- a found state is sound at its place where its entry is
@@ -141,28 +145,37 @@ module _ (s : Setting) (v : Contents) where
         where
           number : number_of v.contexts (frames_at v.contexts x.0.0) ≡ x.0.0
           number = number_at v x.0.0 family next_within
+
           less' : (e : Entry) → ◌≡◌ {A = ℕ × ℕ} e.0 (number_of v.contexts p.0, p.1) → place_cmp e.0 x.0 ≡ Less
           less' e key = ap (λ k. place_cmp k x.0) key ∙ ap (λ n. place_cmp (number_of v.contexts p.0, p.1) (n, x.0.1)) (sym number) ∙ less
+
           go : IsSoundSoFar s v rest → (i : ℕ) × (e : Entry) × (slice_get v.states i ≡ Some e) × (◌≡◌ {A = ℕ × ℕ} e.0 (number_of v.contexts p.0, p.1)) × (e.1 ≡ a) → IsSoundAt s (family_of v) p a
           go (done, split, sound) (i, e, at_i, key, value) =
               let whole : v.states ≡ done ++ x ∷ rest' = split ∙ ap (λ l. done ++ l) rest_is in
               let at_x : slice_get v.states (length done) ≡ Some x = ap (λ l. slice_get l (length done)) whole ∙ seam done rest' x in
               elim (cases_lt i (length done)) [
-                inl lt ↦ sound_of p a e at key value (sound i e lt at_i)
-              | inr ge ↦ absurd (elim (cases_eq i (length done)) [
-                    inl same ↦
+                | inl lt ↦ sound_of p a e at key value (sound i e lt at_i)
+                | inr ge ↦ absurd (elim (cases_eq i (length done)) [
+                  | inl same ↦
                       let both : Some e ≡ Some x = sym at_i ∙ ap (slice_get v.states) same ∙ at_x in
                       let one : e ≡ x = cc in
                       not_before_itself x.0 e.0 (ap (λ (y : Entry). y.0) one) (less' e key)
-                  | inr other ↦ not_after x.0 e.0 (sorted_at v.states (length done) i x e rises (omega arith) at_x at_i) (less' e key) ]) ]
+                  | inr other ↦ not_after x.0 e.0 (sorted_at v.states (length done) i x e rises (omega arith) at_x at_i) (less' e key)
+                ])
+              ]
 
       pub first_break : IsStrictlySortedBy place_cmp (keys_of v.states) → (fault : CheckFault)
           → Names (BreaksAt s (family_of v) (frames_at v.contexts x.0.0, x.0.1) x.1) fault → Names (IsFirstBreak s v) fault
-      first_break rises (Refused spot offset r) (q, e, f, breaks) = (q, e, f, record {
-        place = (frames_at v.contexts x.0.0, x.0.1);
-        state = x.1;
-        here = next_here;
-        breaks = breaks;
-        before = before rises;
-      })
+      first_break rises (Refused spot offset r) (q, e, f, breaks) = (
+        q,
+        e,
+        f,
+        record {
+          place = (frames_at v.contexts x.0.0, x.0.1);
+          state = x.1;
+          here = next_here;
+          breaks = breaks;
+          before = before rises;
+        },
+      )
       first_break rises (OutOfMemory error) h = tt

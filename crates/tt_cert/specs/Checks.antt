@@ -134,9 +134,9 @@ pub data IsBrokenFirst (s : Setting) (functions : List (ℕ × ℕ)) (contents :
   too_long : (IsShortEnough s s.kind → ⊥) → IsBrokenFirst s functions contents ([], s.limits.program_size) ProgramTooLong
   no_start : (r : Reason) → IsShortEnough s s.kind → IsGap (family_of contents) ([], 0) (start_of functions) r → IsBrokenFirst s functions contents ([], 0) r
   no_end : IsShortEnough s s.kind → CoversAt state_order (family_of contents) ([], 0) (start_of functions) → (EndsWell s s.kind (family_of contents) → ⊥)
-    → IsBrokenFirst s functions contents ([], size s.main) MissingPoint
+      → IsBrokenFirst s functions contents ([], size s.main) MissingPoint
   no_way : (q : Place) (r : Reason) → IsShortEnough s s.kind → CoversAt state_order (family_of contents) ([], 0) (start_of functions) → EndsWell s s.kind (family_of contents)
-    → IsFirstBreak s contents q r → IsBrokenFirst s functions contents q r
+      → IsFirstBreak s contents q r → IsBrokenFirst s functions contents q r
 
 -- a growth of memory was refused
 abbrev pub IsWantOfMemory : CheckFault → Type 0

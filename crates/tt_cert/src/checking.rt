@@ -40,7 +40,11 @@ pub enum Spot {
 pub enum CheckFault {
     /// What is broken first, and where: in which program, and at what offset there.
     #[error("{reason}")]
-    Refused { spot: Spot, offset: u32, reason: Reason },
+    Refused {
+        spot: Spot,
+        offset: u32,
+        reason: Reason,
+    },
     /// A growth of memory was refused, which says nothing of the certificate.
     #[error(transparent)]
     OutOfMemory(AllocError),
@@ -245,7 +249,11 @@ fn fault_at(place: &Landing, reason: Reason) -> CheckFault
 }
 
 /// Does the family's state at the place cover this one?
-fn check_covered(certificate: &Certificate, place: &Landing, state: &State) -> Result<(), CheckFault>
+fn check_covered(
+    certificate: &Certificate,
+    place: &Landing,
+    state: &State,
+) -> Result<(), CheckFault>
     ensures covered { (p : Place) → IsLanding certificate.now p place.now → IfOk result (λ _. CoversAt state_order (family_of certificate.now) p state.now) }
     ensures gap { (p : Place) → IsLanding certificate.now p place.now → IfErr result (NamesAt p (IsGap (family_of certificate.now) p state.now)) }
 {
@@ -266,7 +274,12 @@ fn check_covered(certificate: &Certificate, place: &Landing, state: &State) -> R
 }
 
 /// What the instruction at a place makes of a state, and where it leads.
-fn stepped(setting: &Setting<'_>, frames: &[Frame], place: &Landing, state: &mut State) -> Result<Moves, CheckFault>
+fn stepped(
+    setting: &Setting<'_>,
+    frames: &[Frame],
+    place: &Landing,
+    state: &mut State,
+) -> Result<Moves, CheckFault>
     ensures ok { IfOk result (λ m. outcome_on_cells (setting_of setting.now) (reverse frames.now) place.now.offset (abstract_of state.old) ≡ Ok (nexts_of (reverse frames.now) m (abstract_of state.new))) }
     ensures refused { IfErr result (NamesLanding place.now (λ r. outcome_on_cells (setting_of setting.now) (reverse frames.now) place.now.offset (abstract_of state.old) ≡ Err r)) }
     ensures in_range { state_order.InRange state.old → IfOk result (λ _. state_order.InRange state.new) }
@@ -288,7 +301,12 @@ fn stepped(setting: &Setting<'_>, frames: &[Frame], place: &Landing, state: &mut
 }
 
 /// Are the places to which moves lead from a context covered, by the same state?
-fn check_moves(certificate: &Certificate, context: u32, moves: Moves, state: &State) -> Result<(), CheckFault>
+fn check_moves(
+    certificate: &Certificate,
+    context: u32,
+    moves: Moves,
+    state: &State,
+) -> Result<(), CheckFault>
     requires there { context < length certificate.now.contexts }
     requires countable { AreCountable certificate.now.contexts }
     ensures covered { IfOk result (λ _. AreCovered (family_of certificate.now) (nexts_of (frames_at certificate.now.contexts context) moves (abstract_of state.now)) state.now) }
@@ -353,7 +371,11 @@ impl Calls {
 }
 
 /// Are all states sound, by rising contexts, and by rising offsets within one?
-fn check_states(alloc: Global, setting: &Setting<'_>, certificate: &Certificate) -> Result<(), CheckFault>
+fn check_states(
+    alloc: Global,
+    setting: &Setting<'_>,
+    certificate: &Certificate,
+) -> Result<(), CheckFault>
     requires { AreCountable certificate.now.contexts }
     ensures sound { IfOk result (λ _. AreSound (setting_of setting.now) (family_of certificate.now)) }
     ensures broken { IfErr result (Names (IsFirstBreak (setting_of setting.now) certificate.now)) }
@@ -403,7 +425,11 @@ fn has_end(setting: &Setting<'_>, certificate: &Certificate) -> bool
 }
 
 /// Is the program's start covered?
-fn check_start(alloc: Global, setting: &Setting<'_>, certificate: &Certificate) -> Result<(), CheckFault>
+fn check_start(
+    alloc: Global,
+    setting: &Setting<'_>,
+    certificate: &Certificate,
+) -> Result<(), CheckFault>
     requires { Rises setting.now.start.now }
     ensures covered { IfOk result (λ _. CoversAt state_order (family_of certificate.now) ([], 0) (start_of setting.now.start.now)) }
     ensures gap { IfErr result (NamesAt ([], 0) (IsGap (family_of certificate.now) ([], 0) (start_of setting.now.start.now))) }
@@ -414,6 +440,20 @@ fn check_start(alloc: Global, setting: &Setting<'_>, certificate: &Certificate) 
     check_covered(certificate, &place, &start)
 }
 
+/// Do all calls return to offsets of 32 bits, and can the turns of each be counted on in 32 bits?
+pub fn is_countable(certificate: &Certificate) -> bool
+    ensures { IsTrue result ↔ AreCountable certificate.now.contexts }
+{
+    for number in 1..certificate.contexts() {
+        if let Some((_, frame)) = certificate.context(number) {
+            if frame.call == u32::MAX || frame.turn == u32::MAX {
+                return false;
+            }
+        }
+    }
+    true
+}
+
 /// Is the family good for the program of this setting, all that a certificate has to be? In the order of the walk the first that
 /// isn't so is named: a glyph program longer than maxSizeOfInstructions; a start that isn't covered; a font program or a CVT program
 /// without a state at its end; then, by rising contexts and by rising offsets within one, a state that is refused at its place, or
@@ -421,7 +461,11 @@ fn check_start(alloc: Global, setting: &Setting<'_>, certificate: &Certificate) 
 ///
 /// # Errors
 /// `Refused` with what is broken first; `OutOfMemory`.
-pub fn check_full(alloc: Global, setting: &Setting<'_>, certificate: &Certificate) -> Result<(), CheckFault>
+pub fn check_full(
+    alloc: Global,
+    setting: &Setting<'_>,
+    certificate: &Certificate,
+) -> Result<(), CheckFault>
     requires rises { Rises setting.now.start.now }
     requires countable { AreCountable certificate.now.contexts }
     ensures good { IfOk result (λ _. IsGood state_order (flow_of (setting_of setting.now) setting.now.start.now) (family_of certificate.now)) }

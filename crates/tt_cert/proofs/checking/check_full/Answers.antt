@@ -24,14 +24,17 @@ returns-in-Err-clause-first c =
 pub returns-in-Err-clause-exact : goal.returns-in-Err-clause-exact
 returns-in-Err-clause-exact c = λ good.
     only_memory (setting_of c.args.setting.now) c.args.setting.now.start.now c.args.certificate.now good c.in-Err.fault
-      (start_broken (setting_of c.args.setting.now) c.args.setting.now.start.now c.args.certificate.now good.short c.in-Err.fault c.in-Err.ensures.gap)
+    (start_broken (setting_of c.args.setting.now) c.args.setting.now.start.now c.args.certificate.now good.short c.in-Err.fault c.in-Err.ensures.gap)
 
 pub returns-then-not-ends_well-clause-first : goal.returns-then-not-ends_well-clause-first
 returns-then-not-ends_well-clause-first c =
     let t : c.is_short.result ≡ true = search rules in
-    let f : c.ends_well.result ≡ false = search rules in
-    (([], size c.args.setting.now.main.now), refl, c.len.ensures.value,
-      no_end (c.is_short.ensures.0 t) c.in_default.ensures.covered (λ h. not_both c.ends_well.result f (c.ends_well.ensures.1 h)))
+    let f : c.ends_well.result ≡ false = search rules in (
+      ([], size c.args.setting.now.main.now),
+      refl,
+      c.len.ensures.value,
+      no_end (c.is_short.ensures.0 t) c.in_default.ensures.covered (λ h. not_both c.ends_well.result f (c.ends_well.ensures.1 h)),
+    )
 
 pub returns-then-not-ends_well-clause-exact : goal.returns-then-not-ends_well-clause-exact
 returns-then-not-ends_well-clause-exact c = λ good.
@@ -41,26 +44,26 @@ returns-then-not-ends_well-clause-exact c = λ good.
 pub returns-clause-good : goal.returns-clause-good
 returns-clause-good c =
     ok_map c.check_states.result _ _ (good_here (setting_of c.args.setting.now) c.args.setting.now.start.now c.args.certificate.now c.contexts.ensures.finished.0 c.in_default.ensures.covered)
-      c.check_states.ensures.sound
+    c.check_states.ensures.sound
 
 pub returns-clause-safe : goal.returns-clause-safe
 returns-clause-safe c =
     ok_map c.check_states.result _ _
-      (safe_here (setting_of c.args.setting.now) c.args.setting.now.start.now c.args.certificate.now c.is_within.ensures.range c.is_within.ensures.short c.requires.rises
-        c.contexts.ensures.finished.0 c.in_default.ensures.covered)
-      c.check_states.ensures.sound
+    (safe_here (setting_of c.args.setting.now) c.args.setting.now.start.now c.args.certificate.now c.is_within.ensures.range c.is_within.ensures.short c.requires.rises
+    c.contexts.ensures.finished.0 c.in_default.ensures.covered)
+    c.check_states.ensures.sound
 
 pub returns-clause-first : goal.returns-clause-first
 returns-clause-first c =
     let t : c.is_short.result ≡ true = search rules in
     let u : c.ends_well.result ≡ true = search rules in
     err_map c.check_states.result _ _
-      (way_broken (setting_of c.args.setting.now) c.args.setting.now.start.now c.args.certificate.now (c.is_short.ensures.0 t) c.in_default.ensures.covered (c.ends_well.ensures.0 u))
-      c.check_states.ensures.broken
+    (way_broken (setting_of c.args.setting.now) c.args.setting.now.start.now c.args.certificate.now (c.is_short.ensures.0 t) c.in_default.ensures.covered (c.ends_well.ensures.0 u))
+    c.check_states.ensures.broken
 
 pub returns-clause-exact : goal.returns-clause-exact
 returns-clause-exact c = λ good.
     err_map c.check_states.result _ _
-      (λ fault h. only_memory (setting_of c.args.setting.now) c.args.setting.now.start.now c.args.certificate.now good fault
-        (way_broken (setting_of c.args.setting.now) c.args.setting.now.start.now c.args.certificate.now good.short c.in_default.ensures.covered good.ends fault h))
-      c.check_states.ensures.broken
+    (λ fault h. only_memory (setting_of c.args.setting.now) c.args.setting.now.start.now c.args.certificate.now good fault
+    (way_broken (setting_of c.args.setting.now) c.args.setting.now.start.now c.args.certificate.now good.short c.in_default.ensures.covered good.ends fault h))
+    c.check_states.ensures.broken

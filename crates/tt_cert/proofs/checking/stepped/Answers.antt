@@ -10,4 +10,4 @@ pub returns-then-not-starts-clause-refused : goal.returns-then-not-starts-clause
 returns-then-not-starts-clause-refused c =
     let none : c.starts.result ≡ false = search rules in
     landing_refused c.args.place.now (λ r. outcome_on_cells (setting_of c.args.setting.now) (reverse c.args.frames.now) c.args.place.now.offset (abstract_of c.args.state.now) ≡ Err r) c.fault_at.result Target
-      c.fault_at.ensures (no_start (setting_of c.args.setting.now) (reverse c.args.frames.now) c.args.place.now.offset (abstract_of c.args.state.now) (sym c.starts.ensures ∙ none))
+    c.fault_at.ensures (no_start (setting_of c.args.setting.now) (reverse c.args.frames.now) c.args.place.now.offset (abstract_of c.args.state.now) (sym c.starts.ensures ∙ none))
