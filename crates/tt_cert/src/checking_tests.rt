@@ -49,7 +49,7 @@ fn certificate_of(alloc: Global, offsets: &[u32]) -> Option<Certificate> {
 }
 
 /// What the check tells of a program with the start state at each of these offsets.
-fn told(alloc: Global, program: &[u8], kind: Kind, offsets: &[u32]) -> Told
+fn answer(alloc: Global, program: &[u8], kind: Kind, offsets: &[u32]) -> Told
     requires { length program.now < 100 }
 {
     let (Ok(main), Some(certificate)) = (Program::cut(alloc, program), certificate_of(alloc, offsets)) else {
@@ -90,9 +90,9 @@ const TWO: [u8; 2] = [0x18, 0x18];
 
 #[test]
 fn good_families(rt: HostRuntime) {
-    assert_eq!(rt; told(rt.alloc(), &TWO, GLYPH, &[0, 1, 2]), Told::Good);
-    assert_eq!(rt; told(rt.alloc(), &TWO, Kind::Font, &[0, 1, 2]), Told::Good);
-    assert_eq!(rt; told(rt.alloc(), &[], GLYPH, &[0]), Told::Good);
+    assert_eq!(rt; answer(rt.alloc(), &TWO, GLYPH, &[0, 1, 2]), Told::Good);
+    assert_eq!(rt; answer(rt.alloc(), &TWO, Kind::Font, &[0, 1, 2]), Told::Good);
+    assert_eq!(rt; answer(rt.alloc(), &[], GLYPH, &[0]), Told::Good);
 }
 
 #[test]
@@ -110,6 +110,6 @@ fn what_is_broken_first(rt: HostRuntime) {
         (&[0xb0, 0x07], GLYPH, &[0, 2], Told::Refused(Spot::Main, 2, Reason::NotCovered)),
     ];
     for (program, kind, offsets, want) in table {
-        assert_eq!(rt; told(rt.alloc(), program, kind, offsets), want, "of {program:?} with {offsets:?}");
+        assert_eq!(rt; answer(rt.alloc(), program, kind, offsets), want, "of {program:?} with {offsets:?}");
     }
 }
