@@ -18,8 +18,9 @@ countable_first v family n f fs lt at =
 pub countable_step : (contexts : List (List Frame)) (count : ℕ) → AreCountableBelow contexts count
     → ((f : Frame) (fs : List Frame) → frames_at contexts count ≡ f ∷ fs → (f.call + 1 < 2 ^ 32) × (f.turn + 1 < 2 ^ 32)) → AreCountableBelow contexts (count + 1)
 countable_step contexts count before here n f fs lt at = elim (cases_lt n count) [
-    inl less ↦ before n f fs less at
-  | inr more ↦ let n_is : n ≡ count = omega arith in here f fs (ap (frames_at contexts) (sym n_is) ∙ at) ]
+  | inl less ↦ before n f fs less at
+  | inr more ↦ let n_is : n ≡ count = omega arith in here f fs (ap (frames_at contexts) (sym n_is) ∙ at)
+]
 
 pub countable_here : (contexts : List (List Frame)) (count : ℕ) (e : Frame) (rest : List Frame) → frames_at contexts count ≡ e ∷ rest → e.call < 2 ^ 32 → e.turn < 2 ^ 32
     → e.call ≢ 4294967295 → e.turn ≢ 4294967295 → (f : Frame) (fs : List Frame) → frames_at contexts count ≡ f ∷ fs → (f.call + 1 < 2 ^ 32) × (f.turn + 1 < 2 ^ 32)

@@ -52,7 +52,10 @@ fn certificate_of(alloc: Global, offsets: &[u32]) -> Option<Certificate> {
 fn answer(alloc: Global, program: &[u8], kind: Kind, offsets: &[u32]) -> Told
     requires { length program.now < 100 }
 {
-    let (Ok(main), Some(certificate)) = (Program::cut(alloc, program), certificate_of(alloc, offsets)) else {
+    let (Ok(main), Some(certificate)) = (
+        Program::cut(alloc, program),
+        certificate_of(alloc, offsets),
+    ) else {
         return Told::Nothing;
     };
     if !is_countable(&certificate) {
@@ -80,7 +83,13 @@ fn answer(alloc: Global, program: &[u8], kind: Kind, offsets: &[u32]) -> Told
     } = setting;
     match result {
         Ok(()) => Told::Good,
-        Err(CheckFault::Refused { spot, offset, reason }) => Told::Refused(spot, offset, reason),
+        Err(
+            CheckFault::Refused {
+                spot,
+                offset,
+                reason,
+            },
+        ) => Told::Refused(spot, offset, reason),
         Err(CheckFault::OutOfMemory(_)) => Told::Nothing,
     }
 }
@@ -91,25 +100,72 @@ const TWO: [u8; 2] = [0x18, 0x18];
 #[test]
 fn good_families(rt: HostRuntime) {
     assert_eq!(rt; answer(rt.alloc(), &TWO, GLYPH, &[0, 1, 2]), Told::Good);
-    assert_eq!(rt; answer(rt.alloc(), &TWO, Kind::Font, &[0, 1, 2]), Told::Good);
+    assert_eq!(rt;
+        answer(rt.alloc(), &TWO, Kind::Font, &[0, 1, 2]),
+        Told::Good
+    );
     assert_eq!(rt; answer(rt.alloc(), &[], GLYPH, &[0]), Told::Good);
 }
 
 #[test]
 fn what_is_broken_first(rt: HostRuntime) {
     let table: [(&[u8], Kind, &[u32], Told); 8] = [
-        (&[0x18; 4], GLYPH, &[], Told::Refused(Spot::Main, 3, Reason::ProgramTooLong)),
-        (&[0x18; 4], Kind::Cvt, &[], Told::Refused(Spot::Main, 0, Reason::MissingPoint)),
-        (&TWO, GLYPH, &[1, 2], Told::Refused(Spot::Main, 0, Reason::MissingPoint)),
-        (&TWO, Kind::Font, &[0], Told::Refused(Spot::Main, 2, Reason::MissingPoint)),
-        (&TWO, GLYPH, &[0], Told::Refused(Spot::Main, 1, Reason::MissingPoint)),
-        (&TWO, GLYPH, &[0, 1, 2, 3], Told::Refused(Spot::Main, 3, Reason::Target)),
+        (
+            &[0x18; 4],
+            GLYPH,
+            &[],
+            Told::Refused(Spot::Main, 3, Reason::ProgramTooLong),
+        ),
+        (
+            &[0x18; 4],
+            Kind::Cvt,
+            &[],
+            Told::Refused(Spot::Main, 0, Reason::MissingPoint),
+        ),
+        (
+            &TWO,
+            GLYPH,
+            &[1, 2],
+            Told::Refused(Spot::Main, 0, Reason::MissingPoint),
+        ),
+        (
+            &TWO,
+            Kind::Font,
+            &[0],
+            Told::Refused(Spot::Main, 2, Reason::MissingPoint),
+        ),
+        (
+            &TWO,
+            GLYPH,
+            &[0],
+            Told::Refused(Spot::Main, 1, Reason::MissingPoint),
+        ),
+        (
+            &TWO,
+            GLYPH,
+            &[0, 1, 2, 3],
+            Told::Refused(Spot::Main, 3, Reason::Target),
+        ),
         // SRP0 takes a number, and there is none.
-        (&[0x10], GLYPH, &[0, 1], Told::Refused(Spot::Main, 0, Reason::Underflow)),
+        (
+            &[0x10],
+            GLYPH,
+            &[0, 1],
+            Told::Refused(Spot::Main, 0, Reason::Underflow),
+        ),
         // PUSHB: the state behind it is deeper than the start.
-        (&[0xb0, 0x07], GLYPH, &[0, 2], Told::Refused(Spot::Main, 2, Reason::NotCovered)),
+        (
+            &[0xb0, 0x07],
+            GLYPH,
+            &[0, 2],
+            Told::Refused(Spot::Main, 2, Reason::NotCovered),
+        ),
     ];
     for (program, kind, offsets, want) in table {
-        assert_eq!(rt; answer(rt.alloc(), program, kind, offsets), want, "of {program:?} with {offsets:?}");
+        assert_eq!(rt;
+            answer(rt.alloc(), program, kind, offsets),
+            want,
+            "of {program:?} with {offsets:?}"
+        );
     }
 }
