@@ -5,3 +5,5 @@ pub mod Numbers
 pub mod Built
 pub mod Puts
 pub mod Rising
+pub mod GoodFamilies
+pub mod Checks

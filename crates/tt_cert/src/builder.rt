@@ -133,6 +133,18 @@ impl Builder {
         }
     }
 
+    /// The number of the context that has the parent's frames and one more.
+    pub fn number(&self, parent: u32, frame: Frame) -> Option<u32>
+        ensures none { parent < length self.now.contexts → result ≡ None → HasContext self.now.contexts (frame ∷ frames_at self.now.contexts parent) → ⊥ }
+        ensures some { IfSome result (λ number. (number < length self.now.contexts) × (frames_at self.now.contexts number ≡ frame ∷ frames_at self.now.contexts parent)) }
+    {
+        let key = (parent, frame.call, frame.body, frame.turn, frame.count);
+        match self.index.get(&key) {
+            Some(number) => Some(*number),
+            None => None,
+        }
+    }
+
     /// The number of the context that has the parent's frames and one more, which is added where it isn't there.
     ///
     /// # Errors

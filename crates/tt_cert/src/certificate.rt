@@ -8,7 +8,7 @@ ghost use Rattle.std.specs.Map.Iter.{ShowsInOrder, deref_pair};
 ghost use Rattle.tt_abs.specs.declared.state.State.{State as StateValue};
 ghost use Rattle.tt_cert.specs.Places.{place_cmp, states_of};
 ghost use Rattle.tt_cert.specs.Puts.{place_of};
-ghost use Rattle.tt_cert.specs.Contents.{family_of, frames_at, points_of};
+ghost use Rattle.tt_cert.specs.Contents.{HasContext, family_of, frames_at, points_of};
 ghost use Rattle.tt_cert.specs.Rising.{IsFinished};
 
 use crate::builder::Builder;
@@ -66,6 +66,14 @@ impl Certificate {
         ensures some { IfSome result (λ e. (number < length self.now.contexts) × (e.0 < number) × (frames_at self.now.contexts number ≡ e.1 ∷ frames_at self.now.contexts e.0)) }
     {
         self.builder.context(number)
+    }
+
+    /// The number of the context that has the parent's frames and one more.
+    pub fn number(&self, parent: u32, frame: Frame) -> Option<u32>
+        ensures none { parent < length self.now.contexts → result ≡ None → HasContext self.now.contexts (frame ∷ frames_at self.now.contexts parent) → ⊥ }
+        ensures some { IfSome result (λ number. (number < length self.now.contexts) × (frames_at self.now.contexts number ≡ frame ∷ frames_at self.now.contexts parent)) }
+    {
+        self.builder.number(parent, frame)
     }
 
     /// A context's frames, the outermost first.

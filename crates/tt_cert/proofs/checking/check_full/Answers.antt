@@ -1,0 +1,69 @@
+use Rattle.std.proofs.Common.{rules, ◌≡◌, true, false, refl, []}
+use Rattle.tt_code.specs.Cut.{size}
+use Rattle.tt_abs.specs.Settings.{setting_of}
+use Rattle.tt_cert.specs.Checks.{too_long, no_end}
+use Rattle.tt_cert.proofs.Checked.{ok_map, err_map}
+use Rattle.tt_cert.proofs.Judged.{good_here, safe_here, start_broken, way_broken, only_memory, not_both}
+use Rattle.tt_cert.proofs.checking.check_full.Goals as goal
+
+pub returns-then-not-is_short-clause-first : goal.returns-then-not-is_short-clause-first
+returns-then-not-is_short-clause-first c =
+    let f : c.is_short.result ≡ false = search rules in
+    (([], c.args.setting.now.limits.program_size), refl, c.from.ensures, too_long (λ h. not_both c.is_short.result f (c.is_short.ensures.1 h)))
+
+pub returns-then-not-is_short-clause-exact : goal.returns-then-not-is_short-clause-exact
+returns-then-not-is_short-clause-exact c = λ good.
+    let f : c.is_short.result ≡ false = search rules in
+    not_both c.is_short.result f (c.is_short.ensures.1 good.short)
+
+pub returns-in-Err-clause-first : goal.returns-in-Err-clause-first
+returns-in-Err-clause-first c =
+    let t : c.is_short.result ≡ true = search rules in
+    start_broken (setting_of c.args.setting.now) c.args.setting.now.start.now c.args.certificate.now (c.is_short.ensures.0 t) c.in-Err.fault c.in-Err.ensures.gap
+
+pub returns-in-Err-clause-exact : goal.returns-in-Err-clause-exact
+returns-in-Err-clause-exact c = λ good.
+    only_memory (setting_of c.args.setting.now) c.args.setting.now.start.now c.args.certificate.now good c.in-Err.fault
+    (start_broken (setting_of c.args.setting.now) c.args.setting.now.start.now c.args.certificate.now good.short c.in-Err.fault c.in-Err.ensures.gap)
+
+pub returns-then-not-ends_well-clause-first : goal.returns-then-not-ends_well-clause-first
+returns-then-not-ends_well-clause-first c =
+    let t : c.is_short.result ≡ true = search rules in
+    let f : c.ends_well.result ≡ false = search rules in (
+      ([], size c.args.setting.now.main.now),
+      refl,
+      c.len.ensures.value,
+      no_end (c.is_short.ensures.0 t) c.in_default.ensures.covered (λ h. not_both c.ends_well.result f (c.ends_well.ensures.1 h)),
+    )
+
+pub returns-then-not-ends_well-clause-exact : goal.returns-then-not-ends_well-clause-exact
+returns-then-not-ends_well-clause-exact c = λ good.
+    let f : c.ends_well.result ≡ false = search rules in
+    not_both c.ends_well.result f (c.ends_well.ensures.1 good.ends)
+
+pub returns-clause-good : goal.returns-clause-good
+returns-clause-good c =
+    ok_map c.check_states.result _ _ (good_here (setting_of c.args.setting.now) c.args.setting.now.start.now c.args.certificate.now c.contexts.ensures.finished.0 c.in_default.ensures.covered)
+    c.check_states.ensures.sound
+
+pub returns-clause-safe : goal.returns-clause-safe
+returns-clause-safe c =
+    ok_map c.check_states.result _ _
+    (safe_here (setting_of c.args.setting.now) c.args.setting.now.start.now c.args.certificate.now c.is_within.ensures.range c.is_within.ensures.short c.requires.rises
+    c.contexts.ensures.finished.0 c.in_default.ensures.covered)
+    c.check_states.ensures.sound
+
+pub returns-clause-first : goal.returns-clause-first
+returns-clause-first c =
+    let t : c.is_short.result ≡ true = search rules in
+    let u : c.ends_well.result ≡ true = search rules in
+    err_map c.check_states.result _ _
+    (way_broken (setting_of c.args.setting.now) c.args.setting.now.start.now c.args.certificate.now (c.is_short.ensures.0 t) c.in_default.ensures.covered (c.ends_well.ensures.0 u))
+    c.check_states.ensures.broken
+
+pub returns-clause-exact : goal.returns-clause-exact
+returns-clause-exact c = λ good.
+    err_map c.check_states.result _ _
+    (λ fault h. only_memory (setting_of c.args.setting.now) c.args.setting.now.start.now c.args.certificate.now good fault
+    (way_broken (setting_of c.args.setting.now) c.args.setting.now.start.now c.args.certificate.now good.short c.in_default.ensures.covered good.ends fault h))
+    c.check_states.ensures.broken

@@ -1,0 +1,144 @@
+-- What a check asks of a family beside goodness, and what it names where the family isn't good.
+use Rattle.std.specs.Prelude.{◌≡◌, ℕ, ◌<◌, ◌+◌, ◌^◌, nat_lt, if◌then◌else◌, false, Ok, Option, Some, None, List, [], ◌∷◌, length, reverse, slice_get}
+use Rattle.std.specs.declared.cmp.Ordering.TheVariants.{Less}
+use Rattle.tt_code.specs.Cut.{size}
+use Rattle.tt_code.specs.Settings.{CVT_BODIES, Setting, is_main_end}
+use Rattle.tt_code.specs.declared.machine.Frame.{Frame}
+use Rattle.tt_code.specs.declared.reason.Reason.{Reason}
+use Rattle.tt_code.specs.declared.reason.Reason.TheVariants.{MissingPoint, NotCovered, ProgramTooLong}
+use Rattle.tt_abs.specs.declared.state.State.{State}
+use Rattle.tt_abs.specs.Families.{CoversAt}
+use Rattle.tt_abs.specs.StateFlow.{Place, GivesState, RefusesState}
+use Rattle.tt_abs.specs.States.{abstract_of, start_of, state_order}
+use Rattle.tt_abs.specs.Transfers.{Next, outcome_on_cells}
+use Rattle.tt_cert.specs.Contents.{Contents, HasContext, family_of, frames_at, number_of}
+use Rattle.tt_cert.specs.GoodFamilies.{EndsWell, IsShortEnough}
+use Rattle.tt_cert.specs.Places.{place_cmp}
+use Rattle.tt_cert.specs.declared.checking.Spot.{Spot}
+use Rattle.tt_cert.specs.declared.checking.Spot.TheVariants.{Main, Font, Prep}
+use Rattle.tt_cert.specs.declared.checking.CheckFault.{CheckFault}
+use Rattle.tt_cert.specs.declared.checking.CheckFault.TheVariants.{Refused, OutOfMemory}
+use Rattle.tt_cert.specs.declared.checking.Calls.{Calls}
+use Rattle.tt_cert.specs.declared.checking.Landing.{Landing}
+
+-- in which program the innermost call's body stands, by its name
+abbrev pub spot_of_body : ℕ → Spot
+spot_of_body body = if nat_lt body CVT_BODIES then Font else Prep
+
+-- where a machine with these frames stands
+abbrev pub spot_of : List Frame → Spot
+spot_of [] = Main
+spot_of (f ∷ fs) = spot_of_body f.body
+
+-- each context's last call returns to an offset of 32 bits, and its next turn is a number of 32 bits
+abbrev pub AreCountable : List (List Frame) → Type 0
+AreCountable contexts = (n : ℕ) (f : Frame) (fs : List Frame) → n < length contexts → frames_at contexts n ≡ f ∷ fs → (f.call + 1 < 2 ^ 32) × (f.turn + 1 < 2 ^ 32)
+
+-- the context of this number, if there is one, is that of a place with these frames
+abbrev pub IsNumberOf : Contents → List Frame → Option ℕ → Type 0
+IsNumberOf contents frames None = HasContext contents.contexts frames → ⊥
+IsNumberOf contents frames (Some n) = (n < length contents.contexts) × (frames_at contents.contexts n ≡ frames)
+
+-- the landing stands for the place
+pub record IsLanding (contents : Contents) (place : Place) (landing : Landing) : Type 0 where
+  pub context : IsNumberOf contents place.0 landing.context
+  pub spot : landing.spot ≡ spot_of place.0
+  pub offset : landing.offset ≡ place.1
+
+-- the family has no state at the place, or none that covers this one
+abbrev pub IsGap : (Place → Option State) → Place → State → Reason → Type 0
+IsGap family q t MissingPoint = family q ≡ None
+IsGap family q t NotCovered = (u : State) × (family q ≡ Some u) × (state_order.Below t u → ⊥)
+IsGap family q t _ = ⊥
+
+-- the fault names the place and the reason; want of memory says nothing
+abbrev pub NamesAt : Place → (Reason → Type 0) → CheckFault → Type 0
+NamesAt p Is (Refused spot offset reason) = (spot ≡ spot_of p.0) × (offset ≡ p.1) × Is reason
+NamesAt p Is (OutOfMemory e) = Unit {0}
+
+-- the fault names the landing's place, and the reason
+abbrev pub NamesLanding : Landing → (Reason → Type 0) → CheckFault → Type 0
+NamesLanding l Is (Refused spot offset reason) = (spot ≡ l.spot) × (offset ≡ l.offset) × Is reason
+NamesLanding l Is (OutOfMemory e) = Unit {0}
+
+-- the fault names such a place, and the reason
+abbrev pub Names : (Place → Reason → Type 0) → CheckFault → Type 0
+Names Is (Refused spot offset reason) = (p : Place) × (spot ≡ spot_of p.0) × (offset ≡ p.1) × Is p reason
+Names Is (OutOfMemory e) = Unit {0}
+
+-- the place of a next abstract state
+abbrev pub place_of_next : Next → Place
+place_of_next n = (n.frames, n.offset)
+
+-- the family covers the state at each place that comes next
+abbrev pub AreCovered : (Place → Option State) → List Next → State → Type 0
+AreCovered family nexts t = (i : ℕ) (n : Next) → slice_get nexts i ≡ Some n → CoversAt state_order family (place_of_next n) t
+
+-- the family doesn't cover the state at the place that comes next by this number
+pub record IsGapAt (family : Place → Option State) (nexts : List Next) (t : State) (q : Place) (r : Reason) (i : ℕ) : Type 0 where
+  pub next : Next
+  pub found : slice_get nexts i ≡ Some next
+  pub place : place_of_next next ≡ q
+  pub gap : IsGap family q t r
+
+-- the first place that comes next at which the family doesn't cover the state
+pub record IsFirstGap (family : Place → Option State) (nexts : List Next) (t : State) (q : Place) (r : Reason) : Type 0 where
+  pub index : ℕ
+  pub here : IsGapAt family nexts t q r index
+  pub before : (i : ℕ) (n : Next) → i < index → slice_get nexts i ≡ Some n → CoversAt state_order family (place_of_next n) t
+
+-- the state isn't refused at the place, and the family covers what it gives
+pub record IsSoundAt (s : Setting) (family : Place → Option State) (p : Place) (a : State) : Type 0 where
+  pub safe : (r : Reason) → RefusesState s p a r → ⊥
+  pub closed : (q : Place) (t : State) → GivesState s p a q t → CoversAt state_order family q t
+
+-- the state gives another one, and this is the first place at which the family doesn't cover that
+pub record LeavesGap (s : Setting) (family : Place → Option State) (p : Place) (a : State) (q : Place) (r : Reason) : Type 0 where
+  pub running : is_main_end s p.0 p.1 ≡ false
+  pub nexts : List Next
+  pub result : outcome_on_cells s p.0 p.1 (abstract_of a) ≡ Ok nexts
+  pub state : State
+  pub in_range : state_order.InRange state
+  pub same : (i : ℕ) (n : Next) → slice_get nexts i ≡ Some n → abstract_of state ≡ n.state
+  pub first : IsFirstGap family nexts state q r
+
+-- What is broken of a state at its place, where it is named, and why: it is refused there, or it gives what isn't covered.
+pub data BreaksAt (s : Setting) (family : Place → Option State) (p : Place) (a : State) : Place → Reason → Type 0 where
+  refused : (r : Reason) → RefusesState s p a r → BreaksAt s family p a p r
+  leaves : (q : Place) (r : Reason) → LeavesGap s family p a q r → BreaksAt s family p a q r
+
+-- the calls are those of their context
+pub record AreCalls (contents : Contents) (calls : Calls) : Type 0 where
+  pub there : calls.context < length contents.contexts
+  pub frames : calls.frames.items ≡ reverse (frames_at contents.contexts calls.context)
+
+-- each state of the family is sound at its place
+abbrev pub AreSound : Setting → (Place → Option State) → Type 0
+AreSound s family = (p : Place) (a : State) → family p ≡ Some a → IsSoundAt s family p a
+
+-- one place comes before another, by the number of its context, and by its offset within one
+abbrev pub IsBefore : Contents → Place → Place → Type 0
+IsBefore contents p q = place_cmp (number_of contents.contexts p.0, p.1) (number_of contents.contexts q.0, q.1) ≡ Less
+
+-- a state at a place before which all are sound is broken
+pub record IsFirstBreak (s : Setting) (contents : Contents) (q : Place) (r : Reason) : Type 0 where
+  pub place : Place
+  pub state : State
+  pub here : family_of contents place ≡ Some state
+  pub breaks : BreaksAt s (family_of contents) place state q r
+  pub before : (p : Place) (a : State) → IsBefore contents p place → family_of contents p ≡ Some a → IsSoundAt s (family_of contents) p a
+
+-- What is broken first, where it is named, and why: a glyph program is too long; the start isn't covered; a font program or a CVT
+-- program has no state at its end; a state is broken.
+pub data IsBrokenFirst (s : Setting) (functions : List (ℕ × ℕ)) (contents : Contents) : Place → Reason → Type 0 where
+  too_long : (IsShortEnough s s.kind → ⊥) → IsBrokenFirst s functions contents ([], s.limits.program_size) ProgramTooLong
+  no_start : (r : Reason) → IsShortEnough s s.kind → IsGap (family_of contents) ([], 0) (start_of functions) r → IsBrokenFirst s functions contents ([], 0) r
+  no_end : IsShortEnough s s.kind → CoversAt state_order (family_of contents) ([], 0) (start_of functions) → (EndsWell s s.kind (family_of contents) → ⊥)
+      → IsBrokenFirst s functions contents ([], size s.main) MissingPoint
+  no_way : (q : Place) (r : Reason) → IsShortEnough s s.kind → CoversAt state_order (family_of contents) ([], 0) (start_of functions) → EndsWell s s.kind (family_of contents)
+      → IsFirstBreak s contents q r → IsBrokenFirst s functions contents q r
+
+-- a growth of memory was refused
+abbrev pub IsWantOfMemory : CheckFault → Type 0
+IsWantOfMemory (Refused spot offset reason) = ⊥
+IsWantOfMemory (OutOfMemory e) = Unit {0}

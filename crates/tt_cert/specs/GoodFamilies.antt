@@ -1,0 +1,40 @@
+-- What a checked family is: good, its stored indexes in range, with its end, and of a program that isn't too long.
+use Rattle.std.specs.Prelude.{◌≡◌, ℕ, ℤ, ◌<◌, ◌≤◌, Option, Some, List, []}
+use Rattle.tt_code.specs.Cut.{size}
+use Rattle.tt_code.specs.Settings.{Setting, Kind, FontProgram, CvtProgram, GlyphProgram}
+use Rattle.tt_abs.specs.declared.state.State.{State}
+use Rattle.tt_abs.specs.Entries.{listed}
+use Rattle.tt_abs.specs.Families.{IsGood}
+use Rattle.tt_abs.specs.StateFlow.{Place, flow_of}
+use Rattle.tt_abs.specs.States.{state_order}
+
+-- each listed storage index is below maxStorage
+abbrev pub IsStoredWithin : Setting → State → Type 0
+IsStoredWithin s a = (i : ℕ) (z : ℤ) → listed a.storage i ≡ Some z → i < s.limits.storage
+
+-- the storage indexes of each state of the family are
+abbrev pub AreStoredWithin : Setting → (Place → Option State) → Type 0
+AreStoredWithin s family = (p : Place) (a : State) → family p ≡ Some a → IsStoredWithin s a
+
+-- the family has a state at the main program's end
+abbrev pub HasEnd : Setting → (Place → Option State) → Type 0
+HasEnd s family = (end : State) × (family ([], size s.main) ≡ Some end)
+
+-- what is asked of the end: the font program and the CVT program come to theirs
+abbrev pub EndsWell : Setting → Kind → (Place → Option State) → Type 0
+EndsWell s FontProgram family = HasEnd s family
+EndsWell s CvtProgram family = HasEnd s family
+EndsWell s (GlyphProgram points contours) family = Unit {0}
+
+-- what is asked of the length: a glyph program has at most maxSizeOfInstructions bytes
+abbrev pub IsShortEnough : Setting → Kind → Type 0
+IsShortEnough s FontProgram = Unit {0}
+IsShortEnough s CvtProgram = Unit {0}
+IsShortEnough s (GlyphProgram points contours) = size s.main ≤ s.limits.program_size
+
+-- all that a checked family is
+pub record IsGoodFamily (s : Setting) (functions : List (ℕ × ℕ)) (family : Place → Option State) : Type 0 where
+  pub short : IsShortEnough s s.kind
+  pub good : IsGood state_order (flow_of s functions) family
+  pub ends : EndsWell s s.kind family
+  pub storage : AreStoredWithin s family

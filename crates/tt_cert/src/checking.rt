@@ -1,0 +1,498 @@
+//! The check of a certificate: whether its family is good for a program.
+
+ghost use Rattle.std.specs.Prelude.{◌≡◌, ◌↔◌, ◌<◌, [], ◌∷◌, ℕ, List, Some, Ok, Err, IfOk, IfErr, IsTrue, length, reverse};
+ghost use Rattle.tt_code.specs.Settings.{body_of as body_of_frames, body_offset as offset_of_body, is_body, is_main_end, program_of as program_of_frames, starts_in_body};
+ghost use Rattle.tt_code.specs.declared.machine.Frame.{Frame as AnyFrame};
+ghost use Rattle.tt_abs.specs.Moves.{frames_behind, nexts_of, offset_behind};
+ghost use Rattle.tt_abs.specs.Entries.{Rises};
+ghost use Rattle.tt_abs.specs.Families.{CoversAt, IsGood};
+ghost use Rattle.tt_abs.specs.Settings.{setting_of};
+ghost use Rattle.tt_abs.specs.StateFlow.{Place, flow_of};
+ghost use Rattle.tt_abs.specs.Soundness.{IsSafe};
+ghost use Rattle.tt_abs.specs.States.{abstract_of, start_of, state_order};
+ghost use Rattle.tt_abs.specs.Transfers.{outcome_on_cells};
+ghost use Rattle.tt_cert.specs.Checks.{AreCalls, AreCountable, AreCovered, AreSound, BreaksAt, IsBrokenFirst, IsFirstBreak, IsFirstGap, IsGap, IsLanding, IsSoundAt, IsWantOfMemory, Names, NamesAt, NamesLanding, spot_of, spot_of_body as spot_of_name};
+ghost use Rattle.tt_cert.specs.Contents.{family_of, frames_at};
+ghost use Rattle.tt_cert.specs.GoodFamilies.{EndsWell, HasEnd, IsGoodFamily, IsShortEnough};
+
+use crate::certificate::Certificate;
+use std::alloc::{AllocError, Global};
+use thiserror::Error;
+use tt_abs::{Kind, Move, Moves, Order, Point, Refusal, Setting, State, step};
+use tt_code::{Body, Frame, Program, Reason};
+
+/// Bodies of the CVT program are named by their offset and this.
+const CVT_BODIES: u32 = 1 << 31;
+
+/// In which program a place stands.
+#[derive(Clone, Copy, Debug, PartialEq, Eq)]
+pub enum Spot {
+    /// In the program that runs, outside all functions.
+    Main,
+    /// In a function's body in the font program.
+    Font,
+    /// In a function's body in the CVT program.
+    Prep,
+}
+
+/// Why a certificate is refused.
+#[derive(Debug, Drop, Error)]
+pub enum CheckFault {
+    /// What is broken first, and where: in which program, and at what offset there.
+    #[error("{reason}")]
+    Refused {
+        spot: Spot,
+        offset: u32,
+        reason: Reason,
+    },
+    /// A growth of memory was refused, which says nothing of the certificate.
+    #[error(transparent)]
+    OutOfMemory(AllocError),
+}
+
+impl From<AllocError> for CheckFault {
+    ghost use Rattle.std.specs.Prelude.{◌≡◌};
+    ghost use Rattle.tt_cert.specs.declared.checking.CheckFault.{CheckFault};
+
+    ghost from_gives = { λ r e. e ≡ CheckFault.OutOfMemory r };
+
+    fn from(error: AllocError) -> CheckFault {
+        CheckFault::OutOfMemory(error)
+    }
+}
+
+/// The calls of a context, the outermost first.
+#[derive(Drop)]
+struct Calls {
+    context: u32,
+    frames: Vec<Frame>,
+}
+
+/// A place: the number of its context, if the certificate has it, and the offset.
+#[derive(Clone, Copy)]
+struct Landing {
+    context: Option<u32>,
+    spot: Spot,
+    offset: u32,
+}
+
+/// The offset of a body in its program.
+fn body_offset(body: u32) -> u32
+    ensures { result ≡ offset_of_body body }
+{
+    if body < CVT_BODIES {
+        body
+    } else {
+        body - CVT_BODIES
+    }
+}
+
+/// In which program a function's body stands.
+fn spot_of_body(body: u32) -> Spot
+    ensures { result ≡ spot_of_name body }
+{
+    if body < CVT_BODIES {
+        Spot::Font
+    } else {
+        Spot::Prep
+    }
+}
+
+/// In which program a context stands.
+fn spot_of_context(certificate: &Certificate, context: u32) -> Spot
+    requires { context < length certificate.now.contexts }
+    ensures { result ≡ spot_of (frames_at certificate.now.contexts context) }
+{
+    certificate.contexts();
+    match certificate.context(context) {
+        Some((_, frame)) => spot_of_body(frame.body),
+        None => Spot::Main,
+    }
+}
+
+/// The place at an offset of a context.
+fn place_in(certificate: &Certificate, context: u32, offset: u32) -> Landing
+    requires { context < length certificate.now.contexts }
+    ensures { IsLanding certificate.now (frames_at certificate.now.contexts context, offset) result }
+{
+    Landing {
+        context: Some(context),
+        spot: spot_of_context(certificate, context),
+        offset,
+    }
+}
+
+/// The place where a function's body begins.
+fn place_entered(certificate: &Certificate, parent: u32, frame: Frame) -> Landing
+    requires { parent < length certificate.now.contexts }
+    ensures { IsLanding certificate.now (frame ∷ frames_at certificate.now.contexts parent, offset_of_body frame.body) result }
+{
+    Landing {
+        context: certificate.number(parent, frame),
+        spot: spot_of_body(frame.body),
+        offset: body_offset(frame.body),
+    }
+}
+
+/// The place to which the innermost call's next turn leads.
+fn place_of_turn(certificate: &Certificate, context: u32) -> Landing
+    requires there { context < length certificate.now.contexts }
+    requires countable { AreCountable certificate.now.contexts }
+    ensures { IsLanding certificate.now (frames_behind (frames_at certificate.now.contexts context) Move.NextTurn, offset_behind (frames_at certificate.now.contexts context) Move.NextTurn) result }
+{
+    certificate.contexts();
+    match certificate.context(context) {
+        Some((parent, frame)) => {
+            let turn = frame.turn + 1;
+            place_entered(certificate, parent, Frame { turn, ..frame })
+        }
+        None => place_in(certificate, 0, 0),
+    }
+}
+
+/// The place behind the innermost call.
+fn place_of_return(certificate: &Certificate, context: u32) -> Landing
+    requires there { context < length certificate.now.contexts }
+    requires countable { AreCountable certificate.now.contexts }
+    ensures { IsLanding certificate.now (frames_behind (frames_at certificate.now.contexts context) Move.Return, offset_behind (frames_at certificate.now.contexts context) Move.Return) result }
+{
+    certificate.contexts();
+    match certificate.context(context) {
+        Some((parent, frame)) => place_in(certificate, parent, frame.call + 1),
+        None => place_in(certificate, 0, 0),
+    }
+}
+
+/// The place to which a move leads from a context.
+fn place_behind(certificate: &Certificate, context: u32, way: Move) -> Landing
+    requires there { context < length certificate.now.contexts }
+    requires countable { AreCountable certificate.now.contexts }
+    ensures { IsLanding certificate.now (frames_behind (frames_at certificate.now.contexts context) way, offset_behind (frames_at certificate.now.contexts context) way) result }
+{
+    match way {
+        Move::To(offset) => place_in(certificate, context, offset),
+        Move::Enter(frame) => place_entered(certificate, context, frame),
+        Move::NextTurn => place_of_turn(certificate, context),
+        Move::Return => place_of_return(certificate, context),
+    }
+}
+
+/// The program in which a context's calls stand.
+fn program_of<'a>(setting: &Setting<'a>, frames: &[Frame]) -> &'a Program<'a>
+    ensures { result.now ≡ program_of_frames (setting_of setting.now) (reverse frames.now) }
+{
+    match frames {
+        [] => setting.main,
+        [.., frame] => {
+            if frame.body < CVT_BODIES {
+                setting.font
+            } else {
+                setting.prep
+            }
+        }
+    }
+}
+
+/// The body in which a context's calls stand.
+fn body_of(frames: &[Frame]) -> Body
+    ensures { result ≡ body_of_frames (reverse frames.now) }
+{
+    match frames {
+        [] => Body::Main,
+        [.., frame] => Body::Function(body_offset(frame.body)),
+    }
+}
+
+/// Are the two one body of the main program or of a function?
+fn is_same_body(body: Body, other: Body) -> bool
+    ensures { result ≡ is_body body (Some other) }
+{
+    match body {
+        Body::Main => match other {
+            Body::Main => true,
+            _ => false,
+        },
+        Body::Function(first) => match other {
+            Body::Function(second) => first == second,
+            _ => false,
+        },
+        Body::Instruction(_) => false,
+    }
+}
+
+/// Does an instruction of the innermost call's body start at the offset?
+fn starts(setting: &Setting<'_>, frames: &[Frame], offset: u32) -> bool
+    ensures { result ≡ starts_in_body (setting_of setting.now) (reverse frames.now) offset }
+{
+    match program_of(setting, frames).body_at(offset) {
+        Some(body) => is_same_body(body_of(frames), body),
+        None => false,
+    }
+}
+
+/// Is this the main program's end?
+fn is_end(setting: &Setting<'_>, frames: &[Frame], offset: u32) -> bool
+    ensures { result ≡ is_main_end (setting_of setting.now) (reverse frames.now) offset }
+{
+    frames.is_empty() && offset == setting.main.len()
+}
+
+/// The fault that the family has no state at a place, or none that covers what leads there.
+fn fault_at(place: &Landing, reason: Reason) -> CheckFault
+    ensures { result ≡ CheckFault.Refused place.now.spot place.now.offset reason }
+{
+    CheckFault::Refused {
+        spot: place.spot,
+        offset: place.offset,
+        reason,
+    }
+}
+
+/// Does the family's state at the place cover this one?
+fn check_covered(
+    certificate: &Certificate,
+    place: &Landing,
+    state: &State,
+) -> Result<(), CheckFault>
+    ensures covered { (p : Place) → IsLanding certificate.now p place.now → IfOk result (λ _. CoversAt state_order (family_of certificate.now) p state.now) }
+    ensures gap { (p : Place) → IsLanding certificate.now p place.now → IfErr result (NamesAt p (IsGap (family_of certificate.now) p state.now)) }
+{
+    certificate.contexts();
+    let Some(context) = place.context else {
+        return Err(fault_at(place, Reason::MissingPoint));
+    };
+    match certificate.state(context, place.offset) {
+        None => Err(fault_at(place, Reason::MissingPoint)),
+        Some(above) => {
+            if state.below(above) {
+                Ok(())
+            } else {
+                Err(fault_at(place, Reason::NotCovered))
+            }
+        }
+    }
+}
+
+/// What the instruction at a place makes of a state, and where it leads.
+fn stepped(
+    setting: &Setting<'_>,
+    frames: &[Frame],
+    place: &Landing,
+    state: &mut State,
+) -> Result<Moves, CheckFault>
+    ensures ok { IfOk result (λ m. outcome_on_cells (setting_of setting.now) (reverse frames.now) place.now.offset (abstract_of state.old) ≡ Ok (nexts_of (reverse frames.now) m (abstract_of state.new))) }
+    ensures refused { IfErr result (NamesLanding place.now (λ r. outcome_on_cells (setting_of setting.now) (reverse frames.now) place.now.offset (abstract_of state.old) ≡ Err r)) }
+    ensures in_range { state_order.InRange state.old → IfOk result (λ _. state_order.InRange state.new) }
+{
+    if !starts(setting, frames, place.offset) {
+        return Err(fault_at(place, Reason::Target));
+    }
+    let point = Point {
+        frames,
+        offset: place.offset,
+    };
+    match step(setting, &point, state) {
+        Ok(moves) => Ok(moves),
+        Err(refusal) => match refusal {
+            Refusal::Refused(reason) => Err(fault_at(place, reason)),
+            Refusal::OutOfMemory(error) => Err(CheckFault::OutOfMemory(error)),
+        },
+    }
+}
+
+/// Are the places to which moves lead from a context covered, by the same state?
+fn check_moves(
+    certificate: &Certificate,
+    context: u32,
+    moves: Moves,
+    state: &State,
+) -> Result<(), CheckFault>
+    requires there { context < length certificate.now.contexts }
+    requires countable { AreCountable certificate.now.contexts }
+    ensures covered { IfOk result (λ _. AreCovered (family_of certificate.now) (nexts_of (frames_at certificate.now.contexts context) moves (abstract_of state.now)) state.now) }
+    ensures gap { IfErr result (Names (IsFirstGap (family_of certificate.now) (nexts_of (frames_at certificate.now.contexts context) moves (abstract_of state.now)) state.now)) }
+{
+    match moves {
+        Moves::One(way) => {
+            let place = place_behind(certificate, context, way);
+            check_covered(certificate, &place, state)
+        }
+        Moves::Two(first, second) => {
+            let place = place_in(certificate, context, first);
+            if let Err(fault) = check_covered(certificate, &place, state) {
+                return Err(fault);
+            }
+            let place = place_in(certificate, context, second);
+            check_covered(certificate, &place, state)
+        }
+    }
+}
+
+/// Is a state sound at its place, an offset of these calls' context?
+fn check_state(
+    setting: &Setting<'_>,
+    certificate: &Certificate,
+    calls: &Calls,
+    offset: u32,
+    state: &State,
+) -> Result<(), CheckFault>
+    requires calls { AreCalls certificate.now calls.now }
+    requires countable { AreCountable certificate.now.contexts }
+    requires in_range { state_order.InRange state.now }
+    ensures sound { IfOk result (λ _. IsSoundAt (setting_of setting.now) (family_of certificate.now) (frames_at certificate.now.contexts calls.now.context, offset) state.now) }
+    ensures broken { IfErr result (Names (BreaksAt (setting_of setting.now) (family_of certificate.now) (frames_at certificate.now.contexts calls.now.context, offset) state.now)) }
+{
+    let place = place_in(certificate, calls.context, offset);
+    let frames = calls.frames.as_slice();
+    if is_end(setting, frames, offset) {
+        return Ok(());
+    }
+    let mut next = state.copied()?;
+    match stepped(setting, frames, &place, &mut next) {
+        Ok(moves) => check_moves(certificate, calls.context, moves, &next),
+        Err(fault) => Err(fault),
+    }
+}
+
+impl Calls {
+    /// Goes to another context, if it is another.
+    fn go_to(&mut self, certificate: &Certificate, context: u32) -> Result<(), AllocError>
+        requires calls { AreCalls certificate.now self.old }
+        requires there { context < length certificate.now.contexts }
+        ensures calls { IfOk result (λ _. AreCalls certificate.now self.new) }
+        ensures context { IfOk result (λ _. self.new.context ≡ context) }
+    {
+        if context != self.context {
+            self.frames = certificate.frames(*self.frames.allocator(), context)?;
+            self.context = context;
+        }
+        Ok(())
+    }
+}
+
+/// Are all states sound, by rising contexts, and by rising offsets within one?
+fn check_states(
+    alloc: Global,
+    setting: &Setting<'_>,
+    certificate: &Certificate,
+) -> Result<(), CheckFault>
+    requires { AreCountable certificate.now.contexts }
+    ensures sound { IfOk result (λ _. AreSound (setting_of setting.now) (family_of certificate.now)) }
+    ensures broken { IfErr result (Names (IsFirstBreak (setting_of setting.now) certificate.now)) }
+{
+    certificate.contexts();
+    let mut calls = Calls {
+        context: 0,
+        frames: Vec::new(alloc),
+    };
+    for (place, state) in certificate.states() {
+        let (context, offset) = *place;
+        calls.go_to(certificate, context)?;
+        if let Err(fault) = check_state(setting, certificate, &calls, offset, state) {
+            return Err(fault);
+        }
+    }
+    Ok(())
+}
+
+/// Is a glyph program within maxSizeOfInstructions?
+fn is_short(setting: &Setting<'_>) -> bool
+    ensures { IsTrue result ↔ IsShortEnough (setting_of setting.now) (setting_of setting.now).kind }
+{
+    match setting.kind {
+        Kind::Font => true,
+        Kind::Cvt => true,
+        Kind::Glyph { .. } => setting.main.len() <= u32::from(setting.limits.program_size),
+    }
+}
+
+/// Does a font program or a CVT program have a state at its end?
+fn ends_well(setting: &Setting<'_>, certificate: &Certificate) -> bool
+    ensures { IsTrue result ↔ EndsWell (setting_of setting.now) (setting_of setting.now).kind (family_of certificate.now) }
+{
+    match setting.kind {
+        Kind::Font => has_end(setting, certificate),
+        Kind::Cvt => has_end(setting, certificate),
+        Kind::Glyph { .. } => true,
+    }
+}
+
+/// Does the main program have a state at its end?
+fn has_end(setting: &Setting<'_>, certificate: &Certificate) -> bool
+    ensures { IsTrue result ↔ HasEnd (setting_of setting.now) (family_of certificate.now) }
+{
+    certificate.end_functions(setting.main.len()).is_some()
+}
+
+/// Is the program's start covered?
+fn check_start(
+    alloc: Global,
+    setting: &Setting<'_>,
+    certificate: &Certificate,
+) -> Result<(), CheckFault>
+    requires { Rises setting.now.start.now }
+    ensures covered { IfOk result (λ _. CoversAt state_order (family_of certificate.now) ([], 0) (start_of setting.now.start.now)) }
+    ensures gap { IfErr result (NamesAt ([], 0) (IsGap (family_of certificate.now) ([], 0) (start_of setting.now.start.now))) }
+{
+    certificate.contexts();
+    let start = State::start(alloc, setting.start)?;
+    let place = place_in(certificate, 0, 0);
+    check_covered(certificate, &place, &start)
+}
+
+/// Do all calls return to offsets of 32 bits, and can the turns of each be counted on in 32 bits?
+pub fn is_countable(certificate: &Certificate) -> bool
+    ensures { IsTrue result ↔ AreCountable certificate.now.contexts }
+{
+    for number in 1..certificate.contexts() {
+        if let Some((_, frame)) = certificate.context(number) {
+            if frame.call == u32::MAX || frame.turn == u32::MAX {
+                return false;
+            }
+        }
+    }
+    true
+}
+
+/// Is the family good for the program of this setting, all that a certificate has to be? In the order of the walk the first that
+/// isn't so is named: a glyph program longer than maxSizeOfInstructions; a start that isn't covered; a font program or a CVT program
+/// without a state at its end; then, by rising contexts and by rising offsets within one, a state that is refused at its place, or
+/// whose successor isn't covered, the smaller offset first.
+///
+/// # Errors
+/// `Refused` with what is broken first; `OutOfMemory`.
+pub fn check_full(
+    alloc: Global,
+    setting: &Setting<'_>,
+    certificate: &Certificate,
+) -> Result<(), CheckFault>
+    requires rises { Rises setting.now.start.now }
+    requires countable { AreCountable certificate.now.contexts }
+    ensures good { IfOk result (λ _. IsGood state_order (flow_of (setting_of setting.now) setting.now.start.now) (family_of certificate.now)) }
+    ensures safe { IfOk result (λ _. IsSafe (setting_of setting.now) setting.now.start.now (family_of certificate.now)) }
+    ensures ends { IfOk result (λ _. EndsWell (setting_of setting.now) (setting_of setting.now).kind (family_of certificate.now)) }
+    ensures short { IfOk result (λ _. IsShortEnough (setting_of setting.now) (setting_of setting.now).kind) }
+    ensures exact { IsGoodFamily (setting_of setting.now) setting.now.start.now (family_of certificate.now) → IfErr result IsWantOfMemory }
+    ensures first { IfErr result (Names (IsBrokenFirst (setting_of setting.now) setting.now.start.now certificate.now)) }
+{
+    setting.is_within();
+    certificate.contexts();
+    if !is_short(setting) {
+        return Err(CheckFault::Refused {
+            spot: Spot::Main,
+            offset: u32::from(setting.limits.program_size),
+            reason: Reason::ProgramTooLong,
+        });
+    }
+    if let Err(fault) = check_start(alloc, setting, certificate) {
+        return Err(fault);
+    }
+    if !ends_well(setting, certificate) {
+        return Err(CheckFault::Refused {
+            spot: Spot::Main,
+            offset: setting.main.len(),
+            reason: Reason::MissingPoint,
+        });
+    }
+    check_states(alloc, setting, certificate)
+}
