@@ -183,7 +183,7 @@ impl<'a> Setting<'a> {
     }
 
     /// The program in which a point stands.
-    pub(crate) fn program(&self, point: &Point<'_>) -> &'a Program<'a>
+    pub fn program(&self, point: &Point<'_>) -> &'a Program<'a>
         ensures { result.now ≡ program_of (setting_of self.now) (frames_of point.now) }
     {
         match point.frames {
@@ -210,7 +210,7 @@ impl<'a> Setting<'a> {
     }
 
     /// Does an instruction of the point's body start at the offset?
-    pub(crate) fn starts(&self, point: &Point<'_>, offset: u32) -> bool
+    pub fn starts(&self, point: &Point<'_>, offset: u32) -> bool
         ensures { result ≡ starts_in_body (setting_of self.now) (frames_of point.now) offset }
     {
         match self.program(point).body_at(offset) {
@@ -220,7 +220,7 @@ impl<'a> Setting<'a> {
     }
 
     /// Is the offset the main program's end, and the point the main program's?
-    pub(crate) fn is_end(&self, point: &Point<'_>, offset: u32) -> bool
+    pub fn is_end(&self, point: &Point<'_>, offset: u32) -> bool
         ensures { result ≡ is_main_end (setting_of self.now) (frames_of point.now) offset }
     {
         point.frames.is_empty() && offset == self.main.len()

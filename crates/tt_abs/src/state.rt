@@ -122,6 +122,13 @@ impl State {
         self.functions.as_slice()
     }
 
+    /// The storage cells that are known, by rising indexes, each with its number.
+    pub fn stored(&self) -> &[(u16, i32)]
+        ensures { result.now ≡ self.now.storage }
+    {
+        self.storage.as_slice()
+    }
+
     /// Says that the lists of a state rise by their numbers, as they always do.
     pub(crate) fn rises(&self)
         ensures functions { Rises self.now.functions }

@@ -17,7 +17,8 @@ use Rattle.tt_abs.specs.StateFlow.{Place}
 use Rattle.tt_abs.specs.States.{abstract_of, state_order}
 use Rattle.tt_abs.specs.Transfers.{Next, outcome_on_cells}
 use Rattle.tt_abs.proofs.StateParts.{one_state}
-use Rattle.tt_cert.specs.Checks.{AreCovered, BreaksAt, IsFirstGap, IsGap, IsSoundAt, Names, NamesAt, NamesLanding, place_of_next, refused, leaves, spot_of}
+use Rattle.tt_cert.specs.Checks.{AreCovered, BreaksAt, IsFirstGap, IsGap, IsSoundAt, Names, NamesAt, NamesLanding, place_of_next, refused, leaves}
+use Rattle.tt_cert.specs.Spots.{spot_of}
 use Rattle.tt_cert.specs.declared.checking.Landing.{Landing}
 use Rattle.tt_cert.specs.declared.checking.CheckFault.{CheckFault}
 use Rattle.tt_cert.specs.declared.checking.CheckFault.TheVariants.{Refused, OutOfMemory}

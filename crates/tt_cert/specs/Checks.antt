@@ -1,8 +1,8 @@
 -- What a check asks of a family beside goodness, and what it names where the family isn't good.
-use Rattle.std.specs.Prelude.{◌≡◌, ℕ, ◌<◌, ◌+◌, ◌^◌, nat_lt, if◌then◌else◌, false, Ok, Option, Some, None, List, [], ◌∷◌, length, reverse, slice_get}
+use Rattle.std.specs.Prelude.{◌≡◌, ℕ, ◌<◌, ◌+◌, ◌^◌, false, Ok, Option, Some, None, List, [], ◌∷◌, length, reverse, slice_get}
 use Rattle.std.specs.declared.cmp.Ordering.TheVariants.{Less}
 use Rattle.tt_code.specs.Cut.{size}
-use Rattle.tt_code.specs.Settings.{CVT_BODIES, Setting, is_main_end}
+use Rattle.tt_code.specs.Settings.{Setting, is_main_end}
 use Rattle.tt_code.specs.declared.machine.Frame.{Frame}
 use Rattle.tt_code.specs.declared.reason.Reason.{Reason}
 use Rattle.tt_code.specs.declared.reason.Reason.TheVariants.{MissingPoint, NotCovered, ProgramTooLong}
@@ -14,21 +14,11 @@ use Rattle.tt_abs.specs.Transfers.{Next, outcome_on_cells}
 use Rattle.tt_cert.specs.Contents.{Contents, HasContext, family_of, frames_at, number_of}
 use Rattle.tt_cert.specs.GoodFamilies.{EndsWell, IsShortEnough}
 use Rattle.tt_cert.specs.Places.{place_cmp}
-use Rattle.tt_cert.specs.declared.checking.Spot.{Spot}
-use Rattle.tt_cert.specs.declared.checking.Spot.TheVariants.{Main, Font, Prep}
+use Rattle.tt_cert.specs.Spots.{spot_of}
 use Rattle.tt_cert.specs.declared.checking.CheckFault.{CheckFault}
 use Rattle.tt_cert.specs.declared.checking.CheckFault.TheVariants.{Refused, OutOfMemory}
 use Rattle.tt_cert.specs.declared.checking.Calls.{Calls}
 use Rattle.tt_cert.specs.declared.checking.Landing.{Landing}
-
--- in which program the innermost call's body stands, by its name
-abbrev pub spot_of_body : ℕ → Spot
-spot_of_body body = if nat_lt body CVT_BODIES then Font else Prep
-
--- where a machine with these frames stands
-abbrev pub spot_of : List Frame → Spot
-spot_of [] = Main
-spot_of (f ∷ fs) = spot_of_body f.body
 
 -- each context's last call returns to an offset of 32 bits, and its next turn is a number of 32 bits
 abbrev pub AreCountable : List (List Frame) → Type 0

@@ -1,12 +1,14 @@
 -- What a checked family is: good, its stored indexes in range, with its end, and of a program that isn't too long.
-use Rattle.std.specs.Prelude.{◌≡◌, ℕ, ℤ, ◌<◌, ◌≤◌, Option, Some, List, []}
+use Rattle.std.specs.Prelude.{◌≡◌, ℕ, ℤ, ◌<◌, ◌≤◌, Option, Some, List, [], length}
 use Rattle.tt_code.specs.Cut.{size}
+use Rattle.tt_code.specs.declared.machine.Frame.{Frame}
 use Rattle.tt_code.specs.Settings.{Setting, Kind, FontProgram, CvtProgram, GlyphProgram}
 use Rattle.tt_abs.specs.declared.state.State.{State}
 use Rattle.tt_abs.specs.Entries.{listed}
 use Rattle.tt_abs.specs.Families.{IsGood}
 use Rattle.tt_abs.specs.StateFlow.{Place, flow_of}
 use Rattle.tt_abs.specs.States.{state_order}
+use Rattle.tt_cert.specs.Contents.{HasContext}
 
 -- each listed storage index is below maxStorage
 abbrev pub IsStoredWithin : Setting → State → Type 0
@@ -32,9 +34,14 @@ IsShortEnough s FontProgram = Unit {0}
 IsShortEnough s CvtProgram = Unit {0}
 IsShortEnough s (GlyphProgram points contours) = size s.main ≤ s.limits.program_size
 
+-- at most 65,535 contexts have states
+abbrev pub HasFewContexts : (Place → Option State) → Type 0
+HasFewContexts family = (contexts : List (List Frame)) × (length contexts ≤ 65535) × ((p : Place) (a : State) → family p ≡ Some a → HasContext contexts p.0)
+
 -- all that a checked family is
 pub record IsGoodFamily (s : Setting) (functions : List (ℕ × ℕ)) (family : Place → Option State) : Type 0 where
   pub short : IsShortEnough s s.kind
   pub good : IsGood state_order (flow_of s functions) family
   pub ends : EndsWell s s.kind family
   pub storage : AreStoredWithin s family
+  pub few : HasFewContexts family

@@ -6,4 +6,5 @@ pub mod Built
 pub mod Puts
 pub mod Rising
 pub mod GoodFamilies
+pub mod Spots
 pub mod Checks

@@ -11,11 +11,13 @@ ghost use Rattle.tt_abs.specs.StateFlow.{Place, flow_of};
 ghost use Rattle.tt_abs.specs.Soundness.{IsSafe};
 ghost use Rattle.tt_abs.specs.States.{abstract_of, start_of, state_order};
 ghost use Rattle.tt_abs.specs.Transfers.{outcome_on_cells};
-ghost use Rattle.tt_cert.specs.Checks.{AreCalls, AreCountable, AreCovered, AreSound, BreaksAt, IsBrokenFirst, IsFirstBreak, IsFirstGap, IsGap, IsLanding, IsSoundAt, IsWantOfMemory, Names, NamesAt, NamesLanding, spot_of, spot_of_body as spot_of_name};
+ghost use Rattle.tt_cert.specs.Checks.{AreCalls, AreCountable, AreCovered, AreSound, BreaksAt, IsBrokenFirst, IsFirstBreak, IsFirstGap, IsGap, IsLanding, IsSoundAt, IsWantOfMemory, Names, NamesAt, NamesLanding};
+ghost use Rattle.tt_cert.specs.Spots.{spot_of};
 ghost use Rattle.tt_cert.specs.Contents.{family_of, frames_at};
 ghost use Rattle.tt_cert.specs.GoodFamilies.{EndsWell, HasEnd, IsGoodFamily, IsShortEnough};
 
 use crate::certificate::Certificate;
+use crate::spot::Spot;
 use std::alloc::{AllocError, Global};
 use thiserror::Error;
 use tt_abs::{Kind, Move, Moves, Order, Point, Refusal, Setting, State, step};
@@ -23,17 +25,6 @@ use tt_code::{Body, Frame, Program, Reason};
 
 /// Bodies of the CVT program are named by their offset and this.
 const CVT_BODIES: u32 = 1 << 31;
-
-/// In which program a place stands.
-#[derive(Clone, Copy, Debug, PartialEq, Eq)]
-pub enum Spot {
-    /// In the program that runs, outside all functions.
-    Main,
-    /// In a function's body in the font program.
-    Font,
-    /// In a function's body in the CVT program.
-    Prep,
-}
 
 /// Why a certificate is refused.
 #[derive(Debug, Drop, Error)]
@@ -87,17 +78,6 @@ fn body_offset(body: u32) -> u32
     }
 }
 
-/// In which program a function's body stands.
-fn spot_of_body(body: u32) -> Spot
-    ensures { result ≡ spot_of_name body }
-{
-    if body < CVT_BODIES {
-        Spot::Font
-    } else {
-        Spot::Prep
-    }
-}
-
 /// In which program a context stands.
 fn spot_of_context(certificate: &Certificate, context: u32) -> Spot
     requires { context < length certificate.now.contexts }
@@ -105,7 +85,7 @@ fn spot_of_context(certificate: &Certificate, context: u32) -> Spot
 {
     certificate.contexts();
     match certificate.context(context) {
-        Some((_, frame)) => spot_of_body(frame.body),
+        Some((_, frame)) => Spot::of_body(frame.body),
         None => Spot::Main,
     }
 }
@@ -129,7 +109,7 @@ fn place_entered(certificate: &Certificate, parent: u32, frame: Frame) -> Landin
 {
     Landing {
         context: certificate.number(parent, frame),
-        spot: spot_of_body(frame.body),
+        spot: Spot::of_body(frame.body),
         offset: body_offset(frame.body),
     }
 }
@@ -396,7 +376,7 @@ fn check_states(
 }
 
 /// Is a glyph program within maxSizeOfInstructions?
-fn is_short(setting: &Setting<'_>) -> bool
+pub fn is_short(setting: &Setting<'_>) -> bool
     ensures { IsTrue result ↔ IsShortEnough (setting_of setting.now) (setting_of setting.now).kind }
 {
     match setting.kind {

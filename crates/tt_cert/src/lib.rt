@@ -8,11 +8,13 @@ pub mod checking;
 mod checking_tests;
 pub mod fault;
 mod finishing;
+pub mod spot;
 
 pub use builder::Builder;
 pub use certificate::Certificate;
-pub use checking::{CheckFault, Spot, check_full, is_countable};
+pub use checking::{CheckFault, check_full, is_countable, is_short};
 pub use fault::BuildFault;
+pub use spot::Spot;
 
 #[cfg(test)]
 mod tests;

@@ -1,0 +1,31 @@
+//! In which program a place stands.
+
+ghost use Rattle.std.specs.Prelude.{◌≡◌};
+ghost use Rattle.tt_cert.specs.Spots.{spot_of_body};
+
+/// Bodies of the CVT program are named by their offset and this.
+const CVT_BODIES: u32 = 1 << 31;
+
+/// In which program a place stands.
+#[derive(Clone, Copy, Debug, PartialEq, Eq)]
+pub enum Spot {
+    /// In the program that runs, outside all functions.
+    Main,
+    /// In a function's body in the font program.
+    Font,
+    /// In a function's body in the CVT program.
+    Prep,
+}
+
+impl Spot {
+    /// In which program a function's body stands, by its name.
+    pub fn of_body(body: u32) -> Spot
+        ensures { result ≡ spot_of_body body }
+    {
+        if body < CVT_BODIES {
+            Spot::Font
+        } else {
+            Spot::Prep
+        }
+    }
+}

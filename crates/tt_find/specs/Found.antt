@@ -1,0 +1,78 @@
+-- What the finder finds, and what makes its refusals right. (Cousot and Cousot, "Abstract interpretation": the least fixed point, by
+-- chaotic iteration.)
+use Rattle.std.specs.Prelude.{◌≡◌, ℕ, ◌≤◌, ◌<◌, Option, Some, List, [], length}
+use Rattle.tt_code.specs.Settings.{Setting}
+use Rattle.tt_code.specs.declared.machine.Frame.{Frame}
+use Rattle.tt_code.specs.declared.reason.Reason.{Reason}
+use Rattle.tt_code.specs.declared.reason.Reason.TheVariants.{DepthMismatch, NeverEnds, ProgramTooLong, TooManyContexts}
+use Rattle.tt_abs.specs.declared.state.State.{State}
+use Rattle.tt_abs.specs.Families.{Derived, IsBelowFamily, IsGood}
+use Rattle.tt_abs.specs.StateFlow.{Place, GivesState, RefusesState, flow_of}
+use Rattle.tt_abs.specs.States.{state_order}
+use Rattle.tt_cert.specs.Contents.{HasContext, frames_at}
+use Rattle.tt_cert.specs.GoodFamilies.{EndsWell, HasFewContexts, IsShortEnough}
+use Rattle.tt_cert.specs.Spots.{spot_of}
+use Rattle.tt_find.specs.declared.fault.FindFault.{FindFault}
+use Rattle.tt_find.specs.declared.fault.FindFault.TheVariants.{Refused, OutOfMemory}
+
+-- the state is derived at the place, in a program that starts with these functions
+abbrev pub IsDerived : Setting → List (ℕ × ℕ) → Place → State → Type 0
+IsDerived s functions = Derived state_order (flow_of s functions)
+
+-- each state of the family is derived, and the family is below each that is good
+pub record IsLeast (s : Setting) (functions : List (ℕ × ℕ)) (family : Place → Option State) : Type 0 where
+  pub derived : (p : Place) (a : State) → family p ≡ Some a → IsDerived s functions p a
+  pub below : (other : Place → Option State) → IsGood state_order (flow_of s functions) other → IsBelowFamily state_order family other
+
+-- no family of a program that isn't too long is good, whatever it has at the end
+abbrev pub NoneIsGood : Setting → List (ℕ × ℕ) → Type 0
+NoneIsGood s functions = (family : Place → Option State) → IsShortEnough s s.kind → IsGood state_order (flow_of s functions) family → HasFewContexts family → ⊥
+
+-- The family is good but for a state at the end, which a font program and a CVT program are asked for; and each of its states is derived,
+-- so that it has the joins of all derived states.
+pub record LacksEnd (s : Setting) (functions : List (ℕ × ℕ)) (family : Place → Option State) : Type 0 where
+  pub derived : (p : Place) (a : State) → family p ≡ Some a → IsDerived s functions p a
+  pub good : IsGood state_order (flow_of s functions) family
+  pub few : HasFewContexts family
+  pub endless : EndsWell s s.kind family → ⊥
+
+-- no two of these contexts are the same, and each has a derived state
+pub record AreDerivedContexts (s : Setting) (functions : List (ℕ × ℕ)) (contexts : List (List Frame)) : Type 0 where
+  pub distinct : (i j : ℕ) → i < length contexts → j < length contexts → frames_at contexts i ≡ frames_at contexts j → i ≡ j
+  pub derived : (i : ℕ) → i < length contexts → (offset : ℕ) × (a : State) × IsDerived s functions (frames_at contexts i, offset) a
+
+-- more than 65,535 contexts have derived states, and a derived state at the place gives one in one of them
+pub record EntersTooMany (s : Setting) (functions : List (ℕ × ℕ)) (p : Place) : Type 0 where
+  pub contexts : List (List Frame)
+  pub derived : AreDerivedContexts s functions contexts
+  pub many : 65535 < length contexts
+  pub state : State
+  pub here : IsDerived s functions p state
+  pub next : Place
+  pub next_state : State
+  pub gives : GivesState s p state next next_state
+  pub into : HasContext contexts next.0
+
+-- Why no family is found, and where: a glyph program is too long; a derived state is refused; two states that are derived at one place
+-- differ in depth; there are too many contexts; the joins of the derived states are a good family, but for the end.
+pub data IsJustified (s : Setting) (functions : List (ℕ × ℕ)) : Place → Reason → Type 0 where
+  too_long : (IsShortEnough s s.kind → ⊥) → IsJustified s functions ([], s.limits.program_size) ProgramTooLong
+  refused : (p : Place) (a : State) (r : Reason) → IsDerived s functions p a → RefusesState s p a r → IsJustified s functions p r
+  apart : (p : Place) (a b : State) → IsDerived s functions p a → IsDerived s functions p b → (state_order.SameDepth a b → ⊥) → IsJustified s functions p DepthMismatch
+  too_many : (p : Place) → EntersTooMany s functions p → IsJustified s functions p TooManyContexts
+  never_ends : (family : Place → Option State) → LacksEnd s functions family → IsJustified s functions ([], 0) NeverEnds
+
+-- the fault names such a place, and the reason; want of memory says nothing
+abbrev pub NamesPlace : (Place → Reason → Type 0) → FindFault → Type 0
+NamesPlace Is (Refused spot offset reason) = (p : Place) × (spot ≡ spot_of p.0) × (offset ≡ p.1) × Is p reason
+NamesPlace Is (OutOfMemory e) = Unit {0}
+
+-- a growth of memory was refused
+abbrev pub IsWantOfMemory : FindFault → Type 0
+IsWantOfMemory (Refused spot offset reason) = ⊥
+IsWantOfMemory (OutOfMemory e) = Unit {0}
+
+-- the end isn't reached
+abbrev pub IsNeverEnding : FindFault → Type 0
+IsNeverEnding (Refused spot offset reason) = reason ≡ NeverEnds
+IsNeverEnding (OutOfMemory e) = ⊥
