@@ -3,6 +3,9 @@
 
 pub mod fault;
 pub mod finder;
+mod following;
+mod reaching;
+mod table;
 
 pub use fault::FindFault;
 pub use finder::{Found, find};
