@@ -1,5 +1,5 @@
--- Words in which clap finds no fault name `bare`, and the texts of its numbers are numbers.
-use Rattle.std.proofs.Common.{◌≡◌, ◌<◌, Bool, true, false, List, [], ◌∷◌, Option, Some, None, length, refl, sym, ap, subst, ◌∙◌, inl, inr, arith, codes}
+-- Words in which clap finds no fault name `bare`, whose numbers are numbers then, or `verdict`.
+use Rattle.std.proofs.Common.{◌≡◌, ◌<◌, Bool, true, false, List, [], ◌∷◌, Option, Some, None, length, refl, sym, ap, subst, ◌∙◌, ◌⊎◌, inl, inr, arith, codes}
 use Rattle.std.specs.Prelude.{find, fold, option_map, option_and_then, is_some, not, pos, ◌&&◌, ◌||◌}
 use Rattle.std.specs.List.{list_all, list_any}
 use Rattle.std.specs.Option.{option_map_or}
@@ -207,26 +207,30 @@ number_among s rows id a level n = go (find (λ r. bytes_eq r.id id) rows) refl 
 
 -- ---- the whole command line
 
--- a command whose subcommands are `bare` and `help`
-pub record IsLine (a : App) (s helps : Shape) : Type 0 where
+-- a command whose subcommands are `bare`, `verdict` and `help`
+pub record IsLine (a : App) (s verdicts helps : Shape) : Type 0 where
   pub flags : OnlyHelp a.top.rules
   pub helped : a.top.disable_help_subcommand ≡ false
-  pub subs : a.subs ≡ s ∷ helps ∷ []
+  pub subs : a.subs ≡ s ∷ verdicts ∷ helps ∷ []
   pub leaf : IsLeaf s
   pub label : label_of s ≡ (codes "bare", [])
+  pub verdict_label : label_of verdicts ≡ (codes "verdict", [])
   pub help_label : label_of helps ≡ (codes "help", [])
 
 pub record NamesBare (s : Shape) (name : Text) (rows : List Row) : Type 0 where
   pub named : name ≡ codes "bare"
   pub level : LevelRows s rows
 
+abbrev pub NamesOne : Shape → Text → List Row → Type 0
+NamesOne s name rows = NamesBare s name rows ⊎ (name ≡ codes "verdict")
+
 pair_parts : (a b : Text) (x y : List Row) → ◌≡◌ {A = Option (Text × List Row)} (Some (a, x)) (Some (b, y)) → (a ≡ b) × (x ≡ y)
 pair_parts a b x y e = let p : ◌≡◌ {A = Text × List Row} (a, x) (b, y) = cc in (ap (λ q. q.0) p, ap (λ q. q.1) p)
 
-stop_bare : (a : App) (s helps : Shape) (line : IsLine a s helps) (stop : Option (Text × List Text)) (name : Text) (rows : List Row) → IsNotHelp stop → entered_fault a stop ≡ []
-    → entered a stop ≡ Some (name, rows) → NamesBare s name rows
-stop_bare a s helps line None name rows other e met = absurd cc
-stop_bare a s helps line (Some p) name rows other e met = go (rw line.subs at e) (rw line.subs at met)
+stop_names : (a : App) (s verdicts helps : Shape) (line : IsLine a s verdicts helps) (stop : Option (Text × List Text)) (name : Text) (rows : List Row) → IsNotHelp stop → entered_fault a stop ≡ []
+    → entered a stop ≡ Some (name, rows) → NamesOne s name rows
+stop_names a s verdicts helps line None name rows other e met = absurd cc
+stop_names a s verdicts helps line (Some p) name rows other e met = go (rw line.subs at e) (rw line.subs at met)
   where
     level : Shape → Kinds
     level t = level_fault t [] nothing_held p.1 false []
@@ -240,20 +244,26 @@ stop_bare a s helps line (Some p) name rows other e met = go (rw line.subs at e)
       | inr differs ↦ rw differs refl
     ])
 
-    go : option_map_or level (find (λ t. answers_to p.0 (label_of t)) (s ∷ helps ∷ [])) [] ≡ [] → option_map (λ t. rows_at t p.1) (find (λ t. answers_to p.0 (label_of t)) (s ∷ helps ∷ [])) ≡ Some (name, rows) → NamesBare s name rows
+    go : option_map_or level (find (λ t. answers_to p.0 (label_of t)) (s ∷ verdicts ∷ helps ∷ [])) [] ≡ []
+        → option_map (λ t. rows_at t p.1) (find (λ t. answers_to p.0 (label_of t)) (s ∷ verdicts ∷ helps ∷ [])) ≡ Some (name, rows) → NamesOne s name rows
     go f m = elim (true_or_false (answers_to p.0 (label_of s))) [
       | inl here ↦
           let parts = pair_parts s.name name (rows_after s.rules [] p.1) rows (rw here at m) in
-          record {
+          inl (record {
             named = sym parts.0 ∙ ap (λ (l : Text × List Text). l.0) line.label;
             level = subst (LevelRows s) parts.1 (level_rows s line.leaf p.1 (rw here at f));
-          }
-      | inr absent ↦ let bad = rw (absent, help_other) at m in absurd cc
+          })
+      | inr absent ↦ elim (true_or_false (answers_to p.0 (label_of verdicts))) [
+        | inl here ↦
+            let parts = pair_parts verdicts.name name (rows_after verdicts.rules [] p.1) rows (rw (absent, here) at m) in
+            inr (sym parts.0 ∙ ap (λ (l : Text × List Text). l.0) line.verdict_label)
+        | inr neither ↦ let bad = rw (absent, neither, help_other) at m in absurd cc
+      ]
     ]
 
-pub line_names : (a : App) (s helps : Shape) (line : IsLine a s helps) (words : List Text) (name : Text) (rows : List Row) → built_fault a nothing_held words ≡ []
-    → entered a (walk a.top.rules (names_of a) nothing_held words).stopped ≡ Some (name, rows) → NamesBare s name rows
-line_names a s helps line words name rows e met =
+pub line_names : (a : App) (s verdicts helps : Shape) (line : IsLine a s verdicts helps) (words : List Text) (name : Text) (rows : List Row) → built_fault a nothing_held words ≡ []
+    → entered a (walk a.top.rules (names_of a) nothing_held words).stopped ≡ Some (name, rows) → NamesOne s name rows
+line_names a s verdicts helps line words name rows e met =
     let parts = both_empty _ _ e in
     let walked_fits = walk_fits a.top (names_of a) line.flags (λ waiting word met is. line.helped) words (walk_from nothing_held) (nothing_fits a.top.rules) parts.0 in
-    stop_bare a s helps line (walk a.top.rules (names_of a) nothing_held words).stopped name rows walked_fits.stopped (both_empty _ _ parts.1).0 met
+    stop_names a s verdicts helps line (walk a.top.rules (names_of a) nothing_held words).stopped name rows walked_fits.stopped (both_empty _ _ parts.1).0 met

@@ -1,5 +1,5 @@
 -- From what clap says of a parse to what the words mean.
-use Rattle.std.proofs.Common.{◌≡◌, Bool, true, false, List, Option, Some, None, codes, refl, ap, ◌∙◌, option_map}
+use Rattle.std.proofs.Common.{◌≡◌, Bool, true, false, List, Option, Some, None, codes, refl, ap, ◌∙◌, inl, inr, option_map}
 use Rattle.std.specs.Prelude.{◌||◌}
 use Rattle.clap.specs.declared.parser.matches.ArgMatches.{ArgMatches}
 use Rattle.std.specs.Prelude.{is_some}
@@ -7,7 +7,7 @@ use Rattle.std.proofs.Common.{subst, sym}
 use Rattle.clap.specs.Words.{has_subcommand, subcommand_rows_of, App, Row, Text, is_simple, subcommand_of, takes}
 use Rattle.clap.proofs.OnLiterals.{clap_on_literals}
 use Rattle.hintcheck_words.specs.CommandLine.{hintcheck}
-use Rattle.hintcheck_words.specs.Requests.{HasNumbers, MeetsBare, Request, bare_request, is_taken, meaning, met, request_of}
+use Rattle.hintcheck_words.specs.Requests.{HasNumbers, MeetsSubcommand, Request, bare_request, is_taken, meaning, met, request_of, verdict_request}
 
 pub neither : (a b c : Bool) → a ≡ (b || c) → b ≡ false → c ≡ false → a ≡ false
 neither a b c e f g = rw (e, f, g) refl
@@ -40,6 +40,10 @@ pub means_bare : (words : List Text) (name : Text) (rows : List Row) (asked : Re
 unfolding meaning request_of
 means_bare words name rows asked found named same = rw (found, named, same) refl
 
+pub means_verdict : (words : List Text) (name : Text) (rows : List Row) (asked : Request) → met words ≡ Some (name, rows) → name ≡ codes "verdict" → asked ≡ verdict_request rows → meaning words ≡ Some asked
+unfolding meaning request_of
+means_verdict words name rows asked found named same = rw (found, named, same) refl
+
 some_mapped : {A B : Type 0} (f : A → B) (o : Option A) → is_some o ≡ true → (y : B) × (option_map f o ≡ Some y)
 some_mapped f None e = absurd cc
 some_mapped f (Some x) e = (f x, refl)
@@ -47,11 +51,14 @@ some_mapped f (Some x) e = (f x, refl)
 pub rows_met : (m : ArgMatches) → has_subcommand m ≡ true → (p : Text × List Row) × (subcommand_rows_of m ≡ Some p)
 rows_met m e = some_mapped _ _ e
 
-pub numbers_of : (found : Option (Text × List Row)) (name : Text) (rows : List Row) → MeetsBare found → found ≡ Some (name, rows) → HasNumbers rows
-numbers_of found name rows m e =
-    let both : ◌≡◌ {A = Option (Text × List Row)} (Some (codes "bare", m.rows)) (Some (name, rows)) = sym m.met ∙ e in
-    let pair : ◌≡◌ {A = Text × List Row} (codes "bare", m.rows) (name, rows) = cc in
-    subst HasNumbers (ap (λ (p : Text × List Row). p.1) pair) m.numbers
+same_pair : (name name' : Text) (rows rows' : List Row) → ◌≡◌ {A = Option (Text × List Row)} (Some (name, rows)) (Some (name', rows')) → (name ≡ name') × (rows ≡ rows')
+same_pair name name' rows rows' e =
+    let pair : ◌≡◌ {A = Text × List Row} (name, rows) (name', rows') = cc in
+    (ap (λ (p : Text × List Row). p.0) pair, ap (λ (p : Text × List Row). p.1) pair)
 
-pub named_bare : (found : Option (Text × List Row)) (name : Option Text) → MeetsBare found → name ≡ option_map (λ p. p.0) found → name ≡ Some (codes "bare")
-named_bare found name m e = e ∙ ap (option_map (λ p. p.0)) m.met
+-- a subcommand with the name `bare` has its numbers
+pub numbers_of : (found : Option (Text × List Row)) (name : Text) (rows : List Row) → MeetsSubcommand found → found ≡ Some (name, rows) → name ≡ codes "bare" → HasNumbers rows
+numbers_of found name rows (inl m) e named = subst HasNumbers (same_pair _ name m.rows rows (sym m.met ∙ e)).1 m.numbers
+numbers_of found name rows (inr m) e named =
+    let is : codes "verdict" ≡ codes "bare" = (same_pair _ name m.rows rows (sym m.met ∙ e)).0 ∙ named in
+    absurd cc

@@ -1,5 +1,6 @@
 -- The command line, in clap's words:
 --     hintcheck bare MAXP CVT POINTS CONTOURS [PROGRAM]
+--     hintcheck verdict FONT
 use Rattle.std.specs.Prelude.{codes, true, pos, Some}
 use Rattle.clap.specs.Words.{App, Rule, Text, new_app, new_rule, with_rule, with_subcommand}
 use Rattle.clap.specs.declared.builder.value_parser.ValueParser.TheVariants as parser
@@ -19,6 +20,9 @@ bare = with_rule (with_rule (with_rule (with_rule (with_rule (new_app (codes "ba
     (needed (codes "MAXP"))) (needed_number (codes "CVT"))) (needed_number (codes "POINTS")))
     (needed_number (codes "CONTOURS"))) (optional (codes "PROGRAM"))
 
+abbrev pub verdict : App
+verdict = with_rule (new_app (codes "verdict")) (needed (codes "FONT"))
+
 -- the program, which is told a subcommand always
 abbrev pub program : App
 program = record (new_app (codes "hintcheck")) {
@@ -26,4 +30,4 @@ program = record (new_app (codes "hintcheck")) {
 }
 
 unfoldable pub hintcheck : App
-hintcheck = with_subcommand program bare.top
+hintcheck = with_subcommand (with_subcommand program bare.top) verdict.top

@@ -1,5 +1,5 @@
 -- What the words of a command line ask for, by what clap says that a simple command's words mean.
-use Rattle.std.specs.Prelude.{◌≡◌, ℕ, Bool, codes, List, [], Option, Some, None, unwrap_or, option_map, option_and_then, pos, if◌then◌else◌, string_bytes}
+use Rattle.std.specs.Prelude.{◌≡◌, ◌⊎◌, ℕ, Bool, codes, List, [], Option, Some, None, unwrap_or, option_map, option_and_then, pos, if◌then◌else◌, string_bytes}
 use Rattle.std.specs.Str.{bytes_eq}
 use Rattle.std.specs.Str.Parse.{digits_value, without_leading_plus}
 use Rattle.clap.specs.Words.{IsSignedIn, Row, Text, first_of, one_of, subcommand_of, takes, without_minus}
@@ -12,6 +12,7 @@ use Rattle.hintcheck_words.specs.declared.words.TaskFault.TheVariants as fault
 -- a subcommand and its values
 pub data Request : Type 0 where
   bare : Text → ℕ → ℕ → ℕ → Option Text → Request
+  verdict : Text → Request
 
 -- the first text that an argument got, the number that it spells, and the text of one that may be left out
 abbrev pub text_in : List Row → Text → Text
@@ -33,9 +34,13 @@ unfoldable pub bare_request : List Row → Request
 bare_request rows = bare (text_in rows (codes "MAXP")) (number_in rows (codes "CVT")) (number_in rows (codes "POINTS"))
     (number_in rows (codes "CONTOURS")) (optional_in rows (codes "PROGRAM"))
 
+unfoldable pub verdict_request : List Row → Request
+verdict_request rows = verdict (text_in rows (codes "FONT"))
+
 -- what a subcommand asks for, with what its arguments got
 unfoldable pub request_of : Text × List Row → Option Request
-request_of p = if bytes_eq p.0 (codes "bare") then Some (bare_request p.1) else None
+request_of p = if bytes_eq p.0 (codes "bare") then Some (bare_request p.1)
+    else (if bytes_eq p.0 (codes "verdict") then Some (verdict_request p.1) else None)
 
 -- the subcommand that the words name, with what its arguments got
 unfoldable pub met : List Text → Option (Text × List Row)
@@ -61,9 +66,19 @@ pub record MeetsBare (found : Option (Text × List Row)) : Type 0 where
   pub met : found ≡ Some (codes "bare", rows)
   pub numbers : HasNumbers rows
 
+-- the subcommand is `verdict`
+pub record MeetsVerdict (found : Option (Text × List Row)) : Type 0 where
+  pub rows : List Row
+  pub met : found ≡ Some (codes "verdict", rows)
+
+-- the subcommand is one of the two
+abbrev pub MeetsSubcommand : Option (Text × List Row) → Type 0
+MeetsSubcommand found = MeetsBare found ⊎ MeetsVerdict found
+
 -- a task without where its texts lie in memory
 unfoldable pub asked : Task → Request
 asked (task.Bare maxp cvt points contours program) = bare (string_bytes maxp) cvt points contours (option_map (λ s. string_bytes s) program)
+asked (task.Verdict font) = verdict (string_bytes font)
 
 -- memory ran out
 unfoldable pub IsWantOfMemory : TaskFault → Type 0

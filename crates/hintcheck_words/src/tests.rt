@@ -32,12 +32,27 @@ fn reads_the_words_of_bare(rt: HostRuntime) -> Result<(), Fail> {
         points,
         contours,
         program,
-    } = read_words(rt.alloc(), &words)?;
+    } = read_words(rt.alloc(), &words)?
+    else {
+        panic!(rt; "another task");
+    };
     assert_eq!(rt; maxp.as_str(), "0001");
     assert_eq!(rt; (cvt, points, contours), (0, 65_535, 7));
     assert_eq!(rt; program.as_ref().map(|s| s.as_str()), Some("B1"));
-    let Task::Bare { program, .. } = read_words(rt.alloc(), &words[..6])?;
+    let Task::Bare { program, .. } = read_words(rt.alloc(), &words[..6])? else {
+        panic!(rt; "another task");
+    };
     assert!(rt; program.is_none());
+    Ok(())
+}
+
+#[test]
+fn reads_the_words_of_verdict(rt: HostRuntime) -> Result<(), Fail> {
+    let words = ["hintcheck", "verdict", "a.ttf"];
+    let Task::Verdict { font } = read_words(rt.alloc(), &words)? else {
+        panic!(rt; "another task");
+    };
+    assert_eq!(rt; font.as_str(), "a.ttf");
     Ok(())
 }
 
@@ -64,6 +79,14 @@ fn refuses_other_words(rt: HostRuntime) {
     assert_eq!(rt; refusal(alloc, &negative), Some(ErrorKind::UnknownArgument));
     let many = ["hintcheck", "bare", "00", "1", "1", "1", "00", "0"];
     assert_eq!(rt; refusal(alloc, &many), Some(ErrorKind::UnknownArgument));
+    assert_eq!(rt;
+        refusal(alloc, &["hintcheck", "verdict"]),
+        Some(ErrorKind::MissingRequiredArgument)
+    );
+    assert_eq!(rt;
+        refusal(alloc, &["hintcheck", "verdict", "a", "b"]),
+        Some(ErrorKind::UnknownArgument)
+    );
     assert_eq!(rt;
         refusal(alloc, &["hintcheck", "bear"]),
         Some(ErrorKind::InvalidSubcommand)

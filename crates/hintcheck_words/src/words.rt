@@ -1,7 +1,7 @@
 ghost use Rattle.std.specs.Prelude.{◌≡◌, IfErr, IfOk, IfSome, Some, true, false, map, option_map, string_bytes};
 ghost use Rattle.clap.specs.Words.{app_of, found_of, rows_of, rule_of, subcommand_rows_of};
-ghost use Rattle.hintcheck_words.specs.CommandLine.{bare, hintcheck, needed as needed_rule, needed_number as number_rule};
-ghost use Rattle.hintcheck_words.specs.Requests.{HasNumber, HasNumbers, IsWantOfMemory, MeetsBare, asked, bare_request, is_taken, meaning, met, number_in, optional_in, text_in};
+ghost use Rattle.hintcheck_words.specs.CommandLine.{bare, hintcheck, needed as needed_rule, needed_number as number_rule, verdict};
+ghost use Rattle.hintcheck_words.specs.Requests.{HasNumber, HasNumbers, IsWantOfMemory, MeetsSubcommand, asked, bare_request, is_taken, meaning, met, number_in, optional_in, text_in, verdict_request};
 
 use clap::error::ErrorKind;
 use clap::{Arg, ArgMatches, Command, value_parser};
@@ -20,6 +20,10 @@ pub enum Task {
         points: u16,
         contours: u16,
         program: Option<String>,
+    },
+    /// Checks all programs of the font file with this name.
+    Verdict {
+        font: String,
     },
 }
 
@@ -70,6 +74,14 @@ fn bare_command<'a>(alloc: Global) -> Result<Command<'a>, AllocError>
         .arg(Arg::new(alloc, "PROGRAM").help("The program, in hexadecimal digits"))
 }
 
+fn verdict_command<'a>(alloc: Global) -> Result<Command<'a>, AllocError>
+    ensures { IfOk result (λ c. app_of c ≡ verdict) }
+{
+    Command::new(alloc, "verdict")
+        .about("Checks all programs of a font file")
+        .arg(needed(alloc, "FONT", "The name of the file"))
+}
+
 fn command_line<'a>(alloc: Global) -> Result<Command<'a>, AllocError>
     ensures { IfOk result (λ c. app_of c ≡ hintcheck) }
 {
@@ -77,7 +89,8 @@ fn command_line<'a>(alloc: Global) -> Result<Command<'a>, AllocError>
         .about("Checks the hint programs of TrueType fonts")
         .subcommand_required(true)
         .bin_name("hintcheck")?
-        .subcommand(bare_command(alloc)?)
+        .subcommand(bare_command(alloc)?)?
+        .subcommand(verdict_command(alloc)?)
 }
 
 /// The text that the words give the argument, empty where they give none.
@@ -121,10 +134,18 @@ fn bare_task(alloc: Global, values: &ArgMatches<'_>) -> Result<Task, AllocError>
     })
 }
 
+fn verdict_task(alloc: Global, values: &ArgMatches<'_>) -> Result<Task, AllocError>
+    ensures { IfOk result (λ t. asked t ≡ verdict_request (rows_of (found_of values.now))) }
+{
+    Ok(Task::Verdict {
+        font: text(alloc, values, "FONT")?,
+    })
+}
+
 /// What the words give the arguments, and the subcommand that they name.
 fn matches_of<'a>(alloc: Global, words: &'a [&'a str]) -> Result<ArgMatches<'a>, TaskFault>
     ensures met { IfOk result (λ m. subcommand_rows_of m ≡ met (map (λ w. w.now) words.entry.now)) }
-    ensures meets { IfOk result (λ m. MeetsBare (subcommand_rows_of m)) }
+    ensures meets { IfOk result (λ m. MeetsSubcommand (subcommand_rows_of m)) }
     ensures refused { IfErr result (λ e. is_taken (map (λ w. w.now) words.entry.now) ≡ true → IsWantOfMemory e) }
 {
     let command = command_line(alloc)?;
@@ -147,6 +168,7 @@ pub fn read_words<'a>(alloc: Global, words: &'a [&'a str]) -> Result<Task, TaskF
     let matches = matches_of(alloc, words)?;
     match matches.subcommand() {
         Some(("bare", values)) => Ok(bare_task(alloc, values)?),
+        Some(("verdict", values)) => Ok(verdict_task(alloc, values)?),
         _ => unreachable!(),
     }
 }

@@ -6,8 +6,8 @@ use Rattle.clap.proofs.CallerLemmas.{subcommand_required}
 use Rattle.clap.proofs.SimpleLemmas.{plain_fields}
 use Rattle.std.proofs.Common.{ap, sym, subst}
 use Rattle.hintcheck_words.specs.CommandLine.{hintcheck}
-use Rattle.hintcheck_words.specs.Requests.{MeetsBare}
-use Rattle.hintcheck_words.proofs.Line.{fault_is, meets_bare}
+use Rattle.hintcheck_words.specs.Requests.{MeetsSubcommand}
+use Rattle.hintcheck_words.proofs.Line.{fault_is, meets_one}
 use Rattle.hintcheck_words.proofs.Meanings.{met_is, rows_met, takes_is}
 use Rattle.hintcheck_words.proofs.words.matches_of.Goals as goal
 
@@ -27,7 +27,7 @@ returns-in-Ok-clause-meets c =
     let p = rows_met m has in
     let is_met = met_is _ _ (subcommand_rows_of m) c.in_ok-command.ensures (λ s. (c.in-Ok.ensures.matches s).1) in
     let faultless = fault_is _ _ c.in_ok-command.ensures c.in-Ok.ensures.kinds in
-    subst MeetsBare (sym is_met) (meets_bare _ p.0.0 p.0.1 faultless (sym is_met ∙ p.1))
+    subst MeetsSubcommand (sym is_met) (meets_one _ p.0.0 p.0.1 faultless (sym is_met ∙ p.1))
 
 pub returns-in-OutOfMemory-clause-refused : goal.returns-in-OutOfMemory-clause-refused
 unfolding IsWantOfMemory
