@@ -22,3 +22,8 @@ pub record IsFileOrder (contexts : List (List Frame)) (order : List ℕ) : Type 
   pub once : (i j n : ℕ) → slice_get order i ≡ Some n → slice_get order j ≡ Some n → i ≡ j
   pub all : (n : ℕ) → n < length contexts → (i : ℕ) × (slice_get order i ≡ Some n)
   pub rising : IsRising (in_order contexts order)
+
+-- the place of each context in the order
+pub record ArePlaces (contexts : List (List Frame)) (order places : List ℕ) : Type 0 where
+  pub long : length places ≡ length contexts
+  pub at : (i n : ℕ) → slice_get order i ≡ Some n → slice_get places n ≡ Some i
