@@ -39,13 +39,11 @@ none_before {S} (d ∷ done) rest x rises =
     let apart = ap is_eq (place_total.antisymm x.0 d.0 ∙ ap ordering_reverse below) in
     lookup_tail (is_at (place_cmp x.0)) d done apart ∙ none_before done rest x (sorted_tail place_cmp d.0 (keys_of (done ++ x ∷ rest)) rises)
 
--- one more state stands there
-pub amount_step : (old new new' : Contents) (numbers : List (Option ℕ)) (place : ℕ × ℕ) (s : State) (n : ℕ) (changed : Bool) → IsFamily old
-    → AreMoved old.contexts new.contexts numbers → IsFoundAll old → IsStrictlySortedBy place_cmp (keys_of old.states) → slice_get numbers place.0 ≡ Some (Some n)
-    → PutsAt state_order (family_of new) (family_of new') (place_of new n place.1) s changed → Reweighs new new' (place_of new n place.1)
-    → (rest rest' : List ((ℕ × ℕ) × State)) → HasSoFar old new rest → rest ≡ (place, s) ∷ rest' → points_of new + length rest ≡ points_of old
-    → points_of new' + length rest' ≡ points_of old
-amount_step old new new' numbers place s n changed family moved all rises known put sums rest rest' so_far rest_is before =
+-- where the state that comes next is to stand there is none
+pub next_free : (old new : Contents) (numbers : List ℕ) (place : ℕ × ℕ) (s : State) (n : ℕ) → IsFamily old → AreMoved old.contexts new.contexts numbers → IsFoundAll old
+    → IsStrictlySortedBy place_cmp (keys_of old.states) → slice_get numbers place.0 ≡ Some n
+    → (rest rest' : List ((ℕ × ℕ) × State)) → HasSoFar old new rest → rest ≡ (place, s) ∷ rest' → family_of new (place_of new n place.1) ≡ None
+next_free old new numbers place s n family moved all rises known rest rest' so_far rest_is =
     let (done, split, same) = so_far in
     let split_here : old.states ≡ done ++ (place, s) ∷ rest' = split ∙ ap (λ l. done ++ l) rest_is in
     let found : states_of old.states place ≡ Some s = entry_found old done rest' (place, s) split_here all in
@@ -53,9 +51,14 @@ amount_step old new new' numbers place s n changed family moved all rises known 
     let number_is : number_of old.contexts (frames_at new.contexts n) ≡ place.0 =
     number_of-is old.contexts (frames_at new.contexts n) place.0 family.distinct (family.held place.0 place.1 s found) (sym frames_is) in
     let R : List ((ℕ × ℕ) × State) → Type 0 = λ l. IsStrictlySortedBy place_cmp (keys_of l) in
-    let none : family_of new (place_of new n place.1) ≡ None =
-    same (place_of new n place.1) ∙ ap (λ k. states_of done (k, place.1)) number_is ∙ none_before done rest' (place, s) (subst R split_here rises) in
-    let one = put_one (family_of new (place_of new n place.1)) (family_of new' (place_of new n place.1)) none put.here in
+    same (place_of new n place.1) ∙ ap (λ k. states_of done (k, place.1)) number_is ∙ none_before done rest' (place, s) (subst R split_here rises)
+
+-- one more state stands there
+pub amount_step : (old new new' : Contents) (place : List Frame × ℕ) (s : State) (changed : Bool) → family_of new place ≡ None
+    → PutsAt state_order (family_of new) (family_of new') place s changed → Reweighs new new' place
+    → (rest rest' : List ((ℕ × ℕ) × State)) (x : (ℕ × ℕ) × State) → rest ≡ x ∷ rest' → points_of new + length rest ≡ points_of old → points_of new' + length rest' ≡ points_of old
+amount_step old new new' place s changed none put sums rest rest' x rest_is before =
+    let one = put_one (family_of new place) (family_of new' place) none put.here in
     let sum = sums (λ s. 1) in
     let empty = ap (weigh (λ s. 1)) none in
     let new_is = ones new.states in
@@ -67,3 +70,6 @@ amount_step old new new' numbers place s n changed family moved all rises known 
     put_one None None e put = absurd put
     put_one None (Some u) e put = refl
     put_one (Some t) slot' e put = cc
+
+pub none_there : (slot : Option State) (s : State) → slot ≡ None → slot ≡ Some s → ⊥
+none_there slot s none some = let both : None ≡ Some s = sym none ∙ some in cc
