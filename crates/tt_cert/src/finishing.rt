@@ -2,7 +2,7 @@
 
 ghost use Rattle.std.specs.Prelude.{◌≡◌, ℕ, ◌<◌, List, [], Some, IfOk, IfErr, IsTrue, length, slice_get};
 ghost use Rattle.tt_code.specs.declared.machine.Frame.{Frame};
-ghost use Rattle.tt_cert.specs.Contents.{IsFamily, family_of};
+ghost use Rattle.tt_cert.specs.Contents.{IsFamily, family_of, points_of};
 ghost use Rattle.tt_cert.specs.Rising.{AreMoved, HaveAllNumbers, IsFinished, SameContents};
 
 use crate::builder::Builder;
@@ -66,6 +66,7 @@ fn move_states(old: &Builder, new: &mut Builder, numbers: &[Option<u32>]) -> Res
     requires moved { AreMoved old.now.contexts new.old.contexts numbers.now }
     ensures contexts { new.new.contexts ≡ new.old.contexts }
     ensures same { IfOk result (λ _. (point : List Frame × ℕ) → family_of new.new point ≡ family_of old.now point) }
+    ensures points { IfOk result (λ _. points_of new.new ≡ points_of old.now) }
 {
     for (place, state) in old.states() {
         let (context, offset) = *place;
@@ -100,7 +101,8 @@ fn move_contexts(
 
 /// The same family with its contexts in the order of the file.
 fn reordered(old: &Builder) -> Result<Builder, BuildFault>
-    ensures { IfOk result (λ new. SameContents old.now new) }
+    ensures same { IfOk result (λ new. SameContents old.now new) }
+    ensures points { IfOk result (λ new. points_of new ≡ points_of old.now) }
 {
     let alloc = old.allocator();
     let mut new = Builder::new(alloc);
@@ -122,6 +124,7 @@ impl Builder {
     /// If memory runs out: then the builder comes back as it was.
     pub fn finish(self) -> Result<Certificate, Builder>
         ensures same { IfOk result (λ certificate. SameContents self certificate) }
+        ensures points { IfOk result (λ certificate. points_of certificate ≡ points_of self) }
         ensures finished { IfOk result (λ certificate. IsFinished certificate) }
         ensures kept { IfErr result (λ builder. builder ≡ self) }
     {

@@ -2,6 +2,7 @@ use Rattle.std.proofs.Common.{arith, None, sym, subst, List, ◌∙◌}
 use Rattle.tt_code.specs.declared.machine.Frame.{Frame}
 use Rattle.tt_cert.specs.Rising.{AreMoved}
 use Rattle.tt_cert.proofs.Moves.{next_context, next_range, known_at, moved_there, HasSoFar-step, HasSoFar-end}
+use Rattle.tt_cert.proofs.Amounts.{amount_step}
 use Rattle.tt_cert.proofs.finishing.move_states.Goals as goal
 
 pub bounds : goal.bounds
@@ -35,4 +36,7 @@ loop-place-preserved c =
       same = HasSoFar-step c.args.old.now c.loop-place.new c.join_state.new.self c.args.numbers.now c.in-Some.place.now c.in-Some.state.now c.in-Some-numbers.number
           c.in_ok-join_state.field-0 c.states-place-items.ensures.family moved c.states-place-items.ensures.found (known_at _ _ _ None c.in-Some-numbers.is within)
           c.in_ok-join_state.ensures.put _ _ c.loop-place.invariant.same c.in-Some.ensures.steps;
+      points = amount_step c.args.old.now c.loop-place.new c.join_state.new.self c.args.numbers.now c.in-Some.place.now c.in-Some.state.now c.in-Some-numbers.number
+          c.in_ok-join_state.field-0 c.states-place-items.ensures.family moved c.states-place-items.ensures.found c.states-place-items.ensures.rises (known_at _ _ _ None c.in-Some-numbers.is within)
+          c.in_ok-join_state.ensures.put c.in_ok-join_state.ensures.sums _ _ c.loop-place.invariant.same c.in-Some.ensures.steps c.loop-place.invariant.points;
     }

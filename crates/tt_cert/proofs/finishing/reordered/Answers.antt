@@ -7,8 +7,8 @@ move_contexts-requires-clause-moved c =
     AreMoved-start c.args.old.now c.new-new.result c.in-Ok.numbers.items _ c.contexts.result c.contexts.ensures.family c.new-new.ensures.contexts c.as_mut_slice.ensures.value
     c.in-Ok.ensures.len c.contexts.ensures.value c.in-Ok.ensures.first
 
-pub returns : goal.returns
-returns c =
+pub returns-clause-same : goal.returns-clause-same
+returns-clause-same c =
     let long = c.in_ok-move_contexts.ensures.moved.long in
     let count = c.contexts.ensures.value in
     let first = c.in-Ok.ensures.len in
