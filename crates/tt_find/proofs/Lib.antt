@@ -4,3 +4,6 @@ pub mod Points
 pub mod Budget
 pub mod Ways
 pub mod Followed
+pub mod Starting
+pub mod Many
+pub mod Finished

@@ -37,3 +37,7 @@ none_marked marked k none hit =
 pub nothing_left : {A : Type 0} (xs : List A) → (0 < length xs → ⊥) → xs ≡ []
 nothing_left [] none = refl
 nothing_left (x ∷ xs) none = absurd (none (omega arith))
+
+-- sets of the same keys are the same
+pub same_set : (old new : BTreeSet (ℕ × ℕ)) → new.keys ≡ old.keys → old ≡ new
+same_set old new e = λ i. record { keys = sym e i }

@@ -9,3 +9,6 @@ mod table;
 
 pub use fault::FindFault;
 pub use finder::{Found, find};
+
+#[cfg(test)]
+mod tests;
