@@ -1,4 +1,1 @@
-pub mod ActLemmas
-pub mod PlaceLemmas
-pub mod RunLemmas
-pub mod JudgeLemmas
+pub mod LookLemmas
