@@ -1,1 +1,2 @@
 pub mod LookLemmas
+pub mod JudgeLemmas

@@ -163,16 +163,15 @@ glyph_no_good x is points contours k c h p r justified (inr none) g = none_known
 
 -- a family that is found and checked
 pub accepted : {F : Type 0} (x : Subject) (is : List Instruction) (s : Setting) (fs : List (ℕ × ℕ)) (found : Contents) (r : Result Contents F) → IsCutInto x is → x.setting is ≡ s → x.functions ≡ fs
-    → IsGoodFamily s fs (family_of found) → IsLeast s fs (family_of found) → ((p : Place) (a : State) → family_of found p ≡ Some a → FitsLimits s a)
-    → IfOk r (λ a. a ≡ found) → IfOk r (λ a. IsSafe s fs (family_of a)) → IfOk r (λ a. IsAccepted x is (family_of a))
-accepted x is s fs found (Err e) c es ef good least within same safe = tt
-accepted x is s fs found (Ok a) c es ef good least within same safe =
-    let P : Contents → Type 0 = λ t. IsGoodFamily s fs (family_of t) in
+    → IsLeast s fs (family_of found) → ((p : Place) (a : State) → family_of found p ≡ Some a → FitsLimits s a)
+    → IfOk r (λ a. a ≡ found) → IfOk r (λ a. IsGoodFamily s fs (family_of a)) → IfOk r (λ a. IsSafe s fs (family_of a)) → IfOk r (λ a. IsAccepted x is (family_of a))
+accepted x is s fs found (Err e) c es ef least within same good safe = tt
+accepted x is s fs found (Ok a) c es ef least within same good safe =
     let Q : Contents → Type 0 = λ t. IsLeast s fs (family_of t) in
     let R : Contents → Type 0 = λ t. (p : Place) (b : State) → family_of t p ≡ Some b → FitsLimits s b in
     let back = sym same in record {
       cut = c;
-      good = of_subject (λ t f. IsGoodFamily t f (family_of a)) x is s fs es ef (subst P back good);
+      good = of_subject (λ t f. IsGoodFamily t f (family_of a)) x is s fs es ef good;
       least = of_subject (λ t f. IsLeast t f (family_of a)) x is s fs es ef (subst Q back least);
       within = of_subject (λ t f. (p : Place) (b : State) → family_of a p ≡ Some b → FitsLimits t b) x is s fs es ef (subst R back within);
       safe = of_subject (λ t f. IsSafe t f (family_of a)) x is s fs es ef safe;

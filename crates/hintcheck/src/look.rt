@@ -14,7 +14,7 @@ ghost use Rattle.hintcheck.specs.Looks.{IfRefused, IsAccepted, IsLookedAt, IsWan
 use crate::verdict::{Name, Place, Refused};
 use std::alloc::{AllocError, Global};
 use tt_abs::Setting;
-use tt_cert::{Certificate, CheckFault, Spot, check_full, is_countable};
+use tt_cert::{Certificate, CheckFault, Spot, check_full};
 use tt_code::{CodeFault, Program, Reason};
 use tt_find::{FindFault, find};
 
@@ -98,13 +98,10 @@ fn checked(
 ) -> Result<Certificate, LookFault>
     requires { Rises setting.now.start.now }
     ensures same { IfOk result (λ accepted. accepted ≡ certificate) }
+    ensures good { IfOk result (λ accepted. IsGoodFamily (setting_of setting.now) setting.now.start.now (family_of accepted)) }
     ensures safe { IfOk result (λ accepted. IsSafe (setting_of setting.now) setting.now.start.now (family_of accepted)) }
     ensures exact { IsGoodFamily (setting_of setting.now) setting.now.start.now (family_of certificate) → IfErr result IsWantOfMemory }
 {
-    // To be removed once the check counts the calls itself.
-    if !is_countable(&certificate) {
-        return Err(LookFault::OutOfMemory(AllocError));
-    }
     match check_full(alloc, setting, &certificate) {
         Ok(()) => Ok(certificate),
         Err(CheckFault::Refused {

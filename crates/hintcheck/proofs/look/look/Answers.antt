@@ -9,7 +9,7 @@ use Rattle.hintcheck.proofs.look.look.Goals as goal
 pub returns-in-Ok-clause-accepted : goal.returns-in-Ok-clause-accepted
 returns-in-Ok-clause-accepted c = λ x looked.
     accepted x c.args.setting.now.main.now (setting_of c.args.setting.now) c.args.setting.now.start.now c.in-Ok.found.certificate c.checked.result
-    looked.cut looked.setting looked.functions c.in-Ok.ensures.good c.in-Ok.ensures.least c.in-Ok.ensures.within c.checked.ensures.same c.checked.ensures.safe
+    looked.cut looked.setting looked.functions c.in-Ok.ensures.least c.in-Ok.ensures.within c.checked.ensures.same c.checked.ensures.good c.checked.ensures.safe
 
 pub returns-in-Err-Refused-clause-refused : goal.returns-in-Err-Refused-clause-refused
 returns-in-Err-Refused-clause-refused c = λ x looked.
