@@ -158,10 +158,7 @@ fn loop_numbers(rt: HostRuntime) -> Result<(), Fail> {
 
 #[test]
 fn delta_exceptions(rt: HostRuntime) -> Result<(), Fail> {
-    let programs = [
-        ("b21000015d", None),
-        ("b8ffff5d", Some((3, Reason::Count))),
-    ];
+    let programs = [("b21000015d", None), ("b8ffff5d", Some((3, Reason::Count)))];
     assert_eq!(rt; misjudged(rt.alloc(), &LIMITS, &programs)?, None);
     Ok(())
 }
@@ -176,7 +173,10 @@ fn zones(rt: HostRuntime) -> Result<(), Fail> {
     assert_eq!(rt; misjudged(rt.alloc(), &LIMITS, &programs)?, None);
     let mut limits = LIMITS;
     limits[15] = 1;
-    assert_eq!(rt; refusal(rt.alloc(), &limits, "b00013")?, Some((2, Reason::Zone)));
+    assert_eq!(rt;
+        refusal(rt.alloc(), &limits, "b00013")?,
+        Some((2, Reason::Zone))
+    );
     Ok(())
 }
 
@@ -189,7 +189,10 @@ fn stored_numbers(rt: HostRuntime) -> Result<(), Fail> {
         ("b1010842b001432e", Some((7, Reason::Point))),
         ("b001432e", Some((3, Reason::UnknownOperand))),
         ("4b58b10102421bb101024259b001432e", None),
-        ("4b58b10102421bb101034259b001432e", Some((15, Reason::UnknownOperand))),
+        (
+            "4b58b10102421bb101034259b001432e",
+            Some((15, Reason::UnknownOperand)),
+        ),
     ];
     assert_eq!(rt; misjudged(rt.alloc(), &LIMITS, &programs)?, None);
     Ok(())
