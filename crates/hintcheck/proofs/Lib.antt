@@ -1,4 +1,2 @@
-pub mod ActLemmas
-pub mod PlaceLemmas
-pub mod RunLemmas
+pub mod LookLemmas
 pub mod JudgeLemmas
