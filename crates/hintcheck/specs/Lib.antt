@@ -3,4 +3,7 @@ pub mod Straight
 pub mod Bare
 pub mod Verdicts
 pub mod Judging
+pub mod Programs
+pub mod FontPrograms
+pub mod FontRanges
 pub mod Commands
