@@ -23,7 +23,7 @@ pub never_faults_from : (s : Setting) (functions : List (ℕ × ℕ)) (family : 
 never_faults_from s functions family Starts safe starts m n r start runs faults = (safe m n (starts m start) runs).1 r faults
 
 -- the place of a machine at the main program's end
-end_place : (s : Setting) (fs : List Frame) (o : ℕ) → is_main_end s fs o ≡ true → (fs, o) ≡ ([], size s.main)
+end_place : (s : Setting) (fs : List Frame) (o : ℕ) → is_main_end s fs o ≡ true → ◌≡◌ {A = Place} (fs, o) ([], size s.main)
 end_place s [] o e = λ i. ([], eqb-true o (size s.main) e i)
 end_place s (f ∷ fs) o e = absurd (cc)
 
@@ -33,7 +33,7 @@ pub end_functions_hold : (s : Setting) (functions : List (ℕ × ℕ)) (family :
     → (left : List (ℕ × ℕ)) → Leaves s Starts left → CoversFunctions end.functions left
 end_functions_hold s functions family Starts safe starts end at left l =
     let (u, here, covers) = (safe l.first l.last (starts l.first l.starts) l.runs).0 in
-    let place : (l.last.frames, l.last.offset) ≡ ([], size s.main) = end_place s l.last.frames l.last.offset l.ends in
+    let place : ◌≡◌ {A = Place} (l.last.frames, l.last.offset) ([], size s.main) = end_place s l.last.frames l.last.offset l.ends in
     let same : Some u ≡ Some end = sym here ∙ ap family place ∙ at in
     let e : u ≡ end = cc in
     let C : State → Type 0 = λ t. CoversFunctions t.functions l.last.functions in

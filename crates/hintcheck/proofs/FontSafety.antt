@@ -16,10 +16,11 @@ use Rattle.tt_abs.proofs.Soundness.{good_is_safe}
 use Rattle.tt_cert.specs.GoodFamilies.{IsGoodFamily}
 use Rattle.tt_font.specs.Reading.{FontData, GlyphData}
 use Rattle.hintcheck.specs.FontPrograms.{AreRefused, IsSafeFont, IsSafeGlyph, IsVerdict, all_looked_at, accepted, refused, cvt_refused, cvt_subject, font_of, font_refused, font_subject, glyph_subject, judgement_on, looked_at_all}
-use Rattle.hintcheck.specs.FontRanges.{AreFewBytes, IsFontInRange}
+use Rattle.hintcheck.specs.FontLooks.{AreFewBytes, IsFontInRange}
 use Rattle.hintcheck.specs.Programs.{EndsWith, HasLeastFamily}
 use Rattle.hintcheck.specs.Verdicts.{Judgement}
 use Rattle.hintcheck.specs.declared.verdict.Refused.{Refused}
+use Rattle.hintcheck.proofs.FontEnds.{functions_rise}
 use Rattle.hintcheck.proofs.FontRuns.{AllStartWith, cvt_starts, font_starts, glyph_starts, never_faults_from}
 
 -- programs of few bytes, cut
@@ -53,10 +54,6 @@ family_is_safe : (s : Setting) (functions : List (ℕ × ℕ)) (family : Place �
 family_is_safe s functions family depth main font prep rises good =
     good_is_safe s (record { depth = depth; main = main.bytes; font = font.bytes; prep = prep.bytes }) (record { main = main.short; font = font.short; prep = prep.short })
     functions rises family good.good
-
--- the functions of its states rise by number
-functions_rise : (s : Setting) (functions : List (ℕ × ℕ)) (family : Place → Option State) (p : Place) (a : State) → IsGoodFamily s functions family → family p ≡ Some a → Rises a.functions
-functions_rise s functions family p a good at = (good.good.in_range p a at).1.1.0.rises
 
 -- an accepted glyph program
 
