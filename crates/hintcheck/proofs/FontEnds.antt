@@ -1,24 +1,28 @@
 -- What is known at the ends of a font's programs, and what the next program is looked at with.
-use Rattle.std.specs.Prelude.{IfSome}
-use Rattle.std.proofs.Common.{◌≡◌, ℕ, List, [], ◌∷◌, Option, None, Some, refl, sym, ◌∙◌, ap, subst, Bor}
+use Rattle.std.specs.Prelude.{IfErr, IfSome}
+use Rattle.std.specs.Result.{IsErrAnd}
+use Rattle.std.proofs.Common.{◌≡◌, ℕ, List, [], ◌∷◌, Option, None, Some, Result, Ok, Err, refl, sym, ◌∙◌, ap, subst, Bor}
 use Rattle.tt_code.specs.Cut.{Instruction, size}
 use Rattle.tt_code.specs.Fonts.{Font}
 use Rattle.tt_code.specs.Settings.{Setting as MachineSetting, Kind as MachineKind, FontProgram, CvtProgram, GlyphProgram}
 use Rattle.tt_code.specs.declared.limits.Limits.{Limits}
+use Rattle.tt_abs.specs.declared.setting.Kind.TheVariants as kind
 use Rattle.tt_abs.specs.declared.setting.Setting.{Setting}
 use Rattle.tt_abs.specs.declared.state.State.{State}
 use Rattle.tt_abs.specs.Entries.{Rises}
-use Rattle.tt_abs.specs.Settings.{setting_of}
+use Rattle.tt_abs.specs.Settings.{kind_of, setting_of}
 use Rattle.tt_abs.specs.StateFlow.{FunctionsFit, Place}
 use Rattle.tt_cert.specs.GoodFamilies.{EndsWell, HasEnd, IsGoodFamily}
-use Rattle.tt_font.specs.Reading.{FontData}
-use Rattle.hintcheck.specs.FontLooks.{ComesToEnd, EndsLook, IsKnownAtEnd, IsOfSubject}
+use Rattle.tt_font.specs.Reading.{FontData, GlyphData}
+use Rattle.hintcheck.specs.FontLooks.{ComesToEnd, EndsLook, IsKnownAtEnd, IsOfSubject, subject_in}
 use Rattle.hintcheck.specs.FontPrograms.{cvt_refused, cvt_subject, font_refused, font_subject}
 use Rattle.hintcheck.specs.Looks.{IfRefused, IsAccepted, IsLookedAt}
-use Rattle.hintcheck.specs.Programs.{EndsWith, HasLeastFamily, IsRefusal, Subject}
+use Rattle.hintcheck.specs.Programs.{EndsWith, HasLeastFamily, IsCutInto, IsRefusal, Subject}
+use Rattle.hintcheck.specs.declared.fonts.Common.{Common}
 use Rattle.hintcheck.specs.declared.look.LookFault.{LookFault}
 use Rattle.hintcheck.specs.declared.look.LookFault.TheVariants.{Refused, OutOfMemory}
 use Rattle.hintcheck.specs.declared.verdict.Name.{Name}
+use Rattle.hintcheck.specs.declared.verdict.Name.TheVariants as name
 use Rattle.hintcheck.specs.declared.verdict.Refused.{Refused as AnyRefused}
 
 -- the functions of a good family's states rise by number
@@ -77,3 +81,19 @@ known_of_accepted x is family n found functions copy a size_is some e copied =
     let S : Option (Bor (List (ℕ × ℕ))) → Type 0 = λ o. IfSome o (λ fs. (end : State) × (family ([], n) ≡ Some end) × (fs.now ≡ end.functions)) in
     let (end, at, same) = subst S e some in
     known_at_end x is family end copy a (ap (λ (k : ℕ). family ([], k)) (sym size_is) ∙ at) (copied ∙ same)
+
+-- a glyph's program is looked at in the setting that has it
+pub glyph_looked : (common : Common) (id : ℕ) (g : GlyphData) (s : Setting) → IsCutInto (subject_in common id g) s.main.now → s.limits ≡ common.font.now.limits
+    → s.cvt ≡ common.font.now.cvt_count → s.kind ≡ kind.Glyph g.points g.contours → s.font.now ≡ common.fpgm.now → s.prep.now ≡ common.prep.now → s.start.now ≡ common.known.now
+    → IsLookedAt (subject_in common id g) (name.Glyph id) s
+glyph_looked common id g s is_cut limits cvt kind_is font prep start = record {
+  name = refl;
+  cut = is_cut;
+  setting = λ i. record { limits = sym limits i; cvt = sym cvt i; kind = sym (ap kind_of kind_is) i; main = s.main.now; font = sym font i; prep = sym prep i };
+  functions = sym start;
+}
+
+-- an error passed on
+pub passed_on : {T : Type 0} (r : Result T LookFault) (fault : LookFault) (P : LookFault → Type 0) → IsErrAnd r (λ x. x ≡ fault) → P fault → IfErr r P
+passed_on (Ok x) fault P is h = absurd is
+passed_on (Err x) fault P is h = subst P (sym is) h
