@@ -1,6 +1,4 @@
-pub mod ActLemmas
-pub mod PlaceLemmas
-pub mod RunLemmas
+pub mod LookLemmas
 pub mod JudgeLemmas
 pub mod FontRuns
 pub mod FontBytes

@@ -5,10 +5,7 @@ mod commands;
 pub mod judge;
 #[cfg(test)]
 mod judge_tests;
-mod numbers;
-mod pass;
-mod perform;
-mod stack;
+mod look;
 #[cfg(test)]
 mod tests;
 pub mod verdict;
