@@ -1,5 +1,5 @@
 use Rattle.std.specs.Option.{option_map}
-use Rattle.std.proofs.Common.{◌≡◌, ◌∷◌, [], ◌++◌, List, ℕ, Some, sym, ◌∙◌, ap, subst, arith, length}
+use Rattle.std.proofs.Common.{◌≡◌, ◌+◌, ◌∷◌, [], ◌++◌, List, ℕ, Some, sym, ◌∙◌, ap, subst, arith, length}
 use Rattle.tt_font.specs.GlyphParts.{glyph_data}
 use Rattle.hintcheck.specs.FontLooks.{AreRefusedBelow, font_in}
 use Rattle.hintcheck.specs.declared.verdict.Refused.{Refused}
