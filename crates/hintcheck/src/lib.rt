@@ -2,6 +2,9 @@
 #![tactic(auto)]
 
 mod commands;
+pub mod fonts;
+#[cfg(test)]
+mod fonts_tests;
 pub mod judge;
 #[cfg(test)]
 mod judge_tests;
