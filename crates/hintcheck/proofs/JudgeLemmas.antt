@@ -1,73 +1,80 @@
--- What a verdict tells of one program.
-use Rattle.std.proofs.Common.{◌≡◌, ℕ, zero, suc, ◌<◌, ◌≤◌, List, [], Option, None, Some, Result, Ok, Err, refl, ◌∙◌, ap, inl, inr, length, get_or, arith}
-use Rattle.std.specs.Prelude.{IfOk, IfNone, IfSome, All}
+-- What the look at a glyph program says of it.
+use Rattle.std.proofs.Common.{◌≡◌, ℕ, ◌≤◌, List, [], ◌∷◌, Result, Ok, Err, refl, sym, ◌∙◌, ap, subst, length, arith}
+use Rattle.std.specs.Prelude.{◌↔◌, All, IfErr}
+use Rattle.std.specs.Result.{IsErrAnd}
 use Rattle.tt_code.specs.Cut.{Instruction, IsCut, size}
-use Rattle.tt_code.specs.Grammar.{IsStructured}
 use Rattle.tt_code.specs.Fonts.{StartsGlyphProgram}
-use Rattle.tt_code.specs.declared.reason.Reason.TheVariants as reason
-use Rattle.tt_code.proofs.CutLemmas.{size_is}
-use Rattle.hintcheck.specs.Bare.{GlyphProgram, IsSafeAndCovered, IsCause}
-use Rattle.hintcheck.specs.Covered.{NeverFails, FailsFirst}
-use Rattle.hintcheck.specs.Judging.{IsRefusal, checked_program, refused_list}
-use Rattle.hintcheck.specs.Straight.{font_of, setting_of}
-use Rattle.hintcheck.specs.declared.pass.Glyph.{Glyph}
-use Rattle.hintcheck.specs.declared.pass.Refusal.{Refusal}
+use Rattle.tt_code.specs.declared.limits.Limits.{Limits}
+use Rattle.tt_code.proofs.CutLemmas.{one_cut, size_is}
+use Rattle.tt_abs.specs.declared.setting.Setting.{Setting}
+use Rattle.tt_abs.specs.declared.setting.Kind.{Kind}
+use Rattle.tt_abs.specs.declared.setting.Kind.TheVariants as kind
+use Rattle.tt_abs.specs.declared.state.State.{State}
+use Rattle.tt_abs.specs.Settings.{kind_of, setting_of}
+use Rattle.tt_abs.specs.StateFlow.{Place}
+use Rattle.hintcheck.specs.FontPrograms.{IsSafeGlyph}
+use Rattle.hintcheck.specs.Judging.{IsAtFault, IsFine, data_of, font_around, subject_of}
+use Rattle.hintcheck.specs.Looks.{IfRefused, IsAccepted, IsLookedAt}
+use Rattle.hintcheck.specs.Programs.{HasGoodFamily, IsCutInto, IsRefusal}
+use Rattle.hintcheck.specs.declared.judge.Glyph.{Glyph}
+use Rattle.hintcheck.specs.declared.look.LookFault.{LookFault}
+use Rattle.hintcheck.specs.declared.look.LookFault.TheVariants as fault
+use Rattle.hintcheck.specs.Verdicts.{Judgement}
+use Rattle.hintcheck.specs.declared.verdict.Name.TheVariants as name
 use Rattle.hintcheck.specs.declared.verdict.Refused.{Refused}
-use Rattle.hintcheck.proofs.RunLemmas.{never_faults}
 
-pub cut_size : (bytes : List ℕ) (is : List Instruction) → IsCut bytes is → size is ≡ length bytes
-cut_size bytes is cut = size_is is ∙ ap length cut.joined
+-- the empty program has no instructions
+pub no_instructions : (is : List Instruction) → IsCut [] is → is ≡ []
+no_instructions is cut = one_cut [] is [] cut (record { joined = refl; each = tt })
 
--- a program that can be cut, isn't too long, and whose runs never fail
-pub is_safe : (g : Glyph) (bytes : List ℕ) (is : List Instruction) → IsCut bytes is → IsStructured is → size is ≤ g.limits.program_size
-    → NeverFails (setting_of g is) (StartsGlyphProgram (font_of g)) → IsSafeAndCovered (checked_program g bytes)
-is_safe g bytes is cut structured short never = record {
-  safe = record {
-    short = omega (arith, cut_size bytes is cut);
-    instructions = is;
-    is_cut = cut;
-    structured = structured;
-    never_faults = never_faults (setting_of g is) (StartsGlyphProgram (font_of g)) never;
+-- this setting is the glyph program's
+pub is_looked_at : (g : Glyph) (bytes : List ℕ) (s : Setting) → IsCutInto (subject_of g bytes) s.main.now → s.limits ≡ g.limits → s.cvt ≡ g.cvt
+    → s.kind ≡ kind.Glyph g.points g.contours → s.font.now ≡ [] → s.prep.now ≡ [] → s.start.now ≡ [] → IsLookedAt (subject_of g bytes) (name.Glyph 0) s
+is_looked_at g bytes s cut limits cvt kind font prep start = record {
+  name = refl;
+  cut = cut;
+  setting = λ i. record {
+    limits = sym limits i;
+    cvt = sym cvt i;
+    kind = sym (ap kind_of kind) i;
+    main = s.main.now;
+    font = sym font i;
+    prep = sym prep i;
   };
-  never_fails = never;
+  functions = sym start;
 }
 
-pub has_failure : (g : Glyph) (bytes : List ℕ) (is : List Instruction) (f : Refusal) → IsCut bytes is → IsStructured is → size is ≤ g.limits.program_size
-    → FailsFirst (setting_of g is) (StartsGlyphProgram (font_of g)) f.offset f.reason → IsCause (checked_program g bytes) f.offset f.reason
-has_failure g bytes is f cut structured short fails =
-    inr (inr (inr (record { short = omega (arith, cut_size bytes is cut); instructions = is; is_cut = cut; structured = structured; fails = fails })))
+-- an accepted program is fine
+pub is_fine : (g : Glyph) (bytes : List ℕ) (is : List Instruction) (family : Place → Option State) → IsAccepted (subject_of g bytes) is family → IsFine g bytes
+is_fine g bytes is family a = record {
+  has = record { instructions = is; cut = a.cut; family = family; good = a.good };
+  safe = record {
+    short = omega (arith, a.good.short, size_is is, ap length a.cut.is_cut.joined);
+    instructions = is;
+    is_cut = a.cut.is_cut;
+    structured = a.cut.structured;
+    never_faults = λ m n r starts runs faults. (a.safe m n (record { fresh = starts.0; defined = λ k body e. absurd (cc) }) runs).1 r faults;
+  };
+}
 
-pub is_too_long : (g : Glyph) (bytes : List ℕ) (is : List Instruction) (offset : ℕ) → IsCut bytes is → IsStructured is → g.limits.program_size < size is → offset ≡ g.limits.program_size
-    → IsCause (checked_program g bytes) offset reason.ProgramTooLong
-is_too_long g bytes is offset cut structured long e =
-    inr (inr (inl (record { instructions = is; is_cut = cut; structured = structured; long = omega (arith, cut_size bytes is cut); at_limit = e; is_reason = refl })))
+-- and a refused one at fault
+pub is_at_fault : (g : Glyph) (bytes : List ℕ) (f : LookFault) → IfRefused f (IsRefusal (subject_of g bytes)) → IfRefused f (λ _. HasGoodFamily (subject_of g bytes) → ⊥)
+    → IfRefused f (IsAtFault g bytes)
+is_at_fault g bytes (fault.Refused r) refusal none = record { refusal = refusal; none_good = none }
+is_at_fault g bytes (fault.OutOfMemory e) refusal none = tt
 
--- answers that may be want of memory
+-- a fault that is passed on
+pub passed_on : {A : Type 0} (r : Result A LookFault) (e : LookFault) (P : LookFault → Type 0) → P e → IsErrAnd r (λ x. x ≡ e) → IfErr r P
+passed_on (Ok a) e P h k = tt
+passed_on (Err x) e P h k = subst P (sym k) h
 
-pub if_safe : {E : Type 0} (r : Result (Option Refusal) E) (P Q : Type 0) → (P → Q) → IfOk r (λ o. IfNone o P) → IfOk r (λ o. IfNone o Q)
-if_safe (Err e) P Q f h = tt
-if_safe (Ok None) P Q f h = f h
-if_safe (Ok (Some x)) P Q f h = tt
+-- where the program has a good family, none is listed as refused
+none_listed : (g : Glyph) (bytes : List ℕ) (rs : List Refused) → All (IsAtFault g bytes) rs → HasGoodFamily (subject_of g bytes) → rs ≡ []
+none_listed g bytes [] h has = refl
+none_listed g bytes (r ∷ rs) h has = absurd ((h 0 r (omega arith)).none_good has)
 
-pub if_failure : {E : Type 0} (r : Result (Option Refusal) E) (P Q : Refusal → Type 0) → ((x : Refusal) → P x → Q x) → IfOk r (λ o. IfSome o P) → IfOk r (λ o. IfSome o Q)
-if_failure (Err e) P Q f h = tt
-if_failure (Ok None) P Q f h = tt
-if_failure (Ok (Some x)) P Q f h = f x h
-
--- a refusal told
-
-pub told_safe : (g : GlyphProgram) (r : Option Refusal) → IfNone r (IsSafeAndCovered g) → refused_list r ≡ [] → IsSafeAndCovered g
-told_safe g None h e = h
-told_safe g (Some f) h e = absurd (cc)
-
-pub told_refused : (g : GlyphProgram) (r : Option Refusal) → IfSome r (λ f. IsCause g f.offset f.reason) → All (IsRefusal g) (refused_list r)
-told_refused g None h = λ k d less. absurd (omega arith)
-told_refused g (Some f) h = only_one
-  where
-    only_one : (k : ℕ) (d : Refused) → k < 1 → IsRefusal g (get_or (refused_list (Some f)) k d)
-    only_one zero d less = record { program = refl; place = refl; cause = h }
-    only_one (suc k) d less = absurd (omega arith)
-
-pub told_short : (r : Option Refusal) → length (refused_list r) ≤ 1
-told_short None = omega arith
-told_short (Some f) = omega arith
+pub is_exact : (g : Glyph) (bytes : List ℕ) (v : Judgement) (rs : List Refused) → v ≡ record { programs = 1; refused = rs } → (rs ≡ [] → IsFine g bytes) → All (IsAtFault g bytes) rs
+    → (v.refused ≡ []) ↔ HasGoodFamily (subject_of g bytes)
+is_exact g bytes v rs e fine faults =
+    let same : v.refused ≡ rs = ap (λ (w : Judgement). w.refused) e in
+    (λ none. (fine (sym same ∙ none)).has, λ has. same ∙ none_listed g bytes rs faults has)

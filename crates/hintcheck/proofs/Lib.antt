@@ -1,4 +1,7 @@
-pub mod ActLemmas
-pub mod PlaceLemmas
-pub mod RunLemmas
+pub mod LookLemmas
 pub mod JudgeLemmas
+pub mod FontEnds
+pub mod FontRuns
+pub mod FontBytes
+pub mod FontSafety
+pub mod FontLists

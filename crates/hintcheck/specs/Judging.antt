@@ -1,29 +1,36 @@
--- How a verdict tells of one glyph program.
-use Rattle.std.specs.Prelude.{◌≡◌, ℕ, List, [], ◌∷◌, Option, None, Some}
-use Rattle.hintcheck.specs.Bare.{GlyphProgram, IsCause}
-use Rattle.hintcheck.specs.Straight.{font_of}
-use Rattle.hintcheck.specs.declared.pass.Glyph.{Glyph}
-use Rattle.hintcheck.specs.declared.pass.Refusal.{Refusal}
+-- How one glyph program is judged.
+use Rattle.std.specs.Prelude.{◌≡◌, ℕ, List, []}
+use Rattle.tt_code.specs.Fonts.{Font}
+use Rattle.tt_font.specs.Reading.{GlyphData}
 use Rattle.tt_font.specs.declared.fault.FontFault.{FontFault}
 use Rattle.tt_font.specs.declared.fault.FontFault.TheVariants.{OutOfMemory}
+use Rattle.hintcheck.specs.FontPrograms.{IsSafeGlyph, glyph_subject}
+use Rattle.hintcheck.specs.Programs.{HasGoodFamily, IsRefusal, Subject}
+use Rattle.hintcheck.specs.declared.judge.Glyph.{Glyph}
 use Rattle.hintcheck.specs.declared.verdict.Refused.{Refused}
-use Rattle.hintcheck.specs.declared.verdict.Name.TheVariants as name
 
 -- a growth of memory was refused
 abbrev pub IsMemory : FontFault → Type 0
 IsMemory (OutOfMemory e) = Unit {0}
 IsMemory _ = ⊥
 
--- the only program is refused, at an offset and for a reason that is a cause
-pub record IsRefusal (g : GlyphProgram) (r : Refused) : Type 0 where
-  pub program : r.program ≡ name.Glyph 0
-  pub place : r.place.program ≡ name.Glyph 0
-  pub cause : IsCause g r.place.offset r.reason
+-- a font without a font program and a CVT program
+abbrev pub font_around : Glyph → Font
+font_around g = record { limits = g.limits; cvt = g.cvt; font_program = []; cvt_program = [] }
 
--- what a verdict tells of a refusal of the only program
-abbrev pub refused_list : Option Refusal → List Refused
-refused_list None = []
-refused_list (Some f) = record { program = name.Glyph 0; place = record { program = name.Glyph 0; offset = f.offset }; reason = f.reason } ∷ []
+abbrev pub data_of : Glyph → List ℕ → GlyphData
+data_of g bytes = record { points = g.points; contours = g.contours; program = bytes }
 
-abbrev pub checked_program : Glyph → List ℕ → GlyphProgram
-checked_program g bytes = record { font = font_of g; points = g.points; contours = g.contours; bytes = bytes }
+-- the glyph's program, as it is looked at
+abbrev pub subject_of : Glyph → List ℕ → Subject
+subject_of g bytes = glyph_subject (font_around g) [] 0 (data_of g bytes)
+
+-- the program has a good family, and no run of it faults
+pub record IsFine (g : Glyph) (bytes : List ℕ) : Type 0 where
+  pub has : HasGoodFamily (subject_of g bytes)
+  pub safe : IsSafeGlyph (font_around g) (data_of g bytes)
+
+-- the program is refused, and has no good family
+pub record IsAtFault (g : Glyph) (bytes : List ℕ) (r : Refused) : Type 0 where
+  pub refusal : IsRefusal (subject_of g bytes) r
+  pub none_good : HasGoodFamily (subject_of g bytes) → ⊥

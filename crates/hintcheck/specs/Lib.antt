@@ -1,6 +1,7 @@
-pub mod Covered
-pub mod Straight
-pub mod Bare
 pub mod Verdicts
+pub mod Programs
+pub mod FontPrograms
+pub mod Looks
+pub mod FontLooks
 pub mod Judging
 pub mod Commands

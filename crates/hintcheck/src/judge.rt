@@ -1,70 +1,92 @@
 //! The verdict on one program.
 
-ghost use Rattle.std.specs.Prelude.{◌≡◌, ◌≤◌, ◌<◌, ◌^◌, ◌⊎◌, [], All, IfErr, IfNone, IfOk, IfSome, None, OnOk, Some, Err, length};
-ghost use Rattle.hintcheck.specs.Bare.{IsCause, IsSafe, IsSafeAndCovered, glyph_program};
-ghost use Rattle.hintcheck.specs.Judging.{IsMemory, IsRefusal, checked_program, refused_list};
+ghost use Rattle.std.specs.Prelude.{◌≡◌, ◌≤◌, ◌<◌, ◌^◌, ◌⊎◌, ◌↔◌, [], All, IfErr, IfOk, None, OnOk, length};
+ghost use Rattle.hintcheck.specs.FontPrograms.{IsSafeGlyph, font_of, glyph_subject, one_glyph_font};
+ghost use Rattle.hintcheck.specs.Judging.{IsAtFault, IsFine, IsMemory};
+ghost use Rattle.hintcheck.specs.Looks.{IfRefused};
+ghost use Rattle.hintcheck.specs.Programs.{HasGoodFamily, IsRefusal};
+ghost use Rattle.tt_font.specs.Reading.{GlyphData};
 ghost use Rattle.tt_font.specs.Conditions.{maxp_fault};
 
-use crate::pass::{Glyph, Refusal, first_failure};
-use crate::verdict::{Name, Place, Refused, Verdict};
+use crate::look::{LookFault, cut, let_go, look};
+use crate::verdict::{Name, Refused, Verdict};
 use std::alloc::{AllocError, Global};
-use tt_code::{CodeFault, Program, Reason};
+use tt_abs::{Kind, Setting};
+use tt_code::{Limits, Program};
 use tt_font::{FontFault, read_maxp};
 
-/// Why the program of a glyph is refused, if it is.
-fn judge(alloc: Global, glyph: &Glyph, program: &[u8]) -> Result<Option<Refusal>, AllocError>
-    requires { length program.now < 2 ^ 31 }
-    ensures safe { IfOk result (λ r. IfNone r (IsSafeAndCovered (checked_program glyph.now program.now))) }
-    ensures cause { IfOk result (λ r. IfSome r (λ f. IsCause (checked_program glyph.now program.now) f.offset f.reason)) }
-{
-    let cut = match Program::cut(alloc, program) {
-        Ok(cut) => cut,
-        Err(CodeFault::CannotCut(offset)) => {
-            let reason = Reason::CannotCut;
-            return Ok(Some(Refusal { offset, reason }));
-        }
-        Err(CodeFault::Structure(offset)) => {
-            let reason = Reason::Structure;
-            return Ok(Some(Refusal { offset, reason }));
-        }
-        Err(CodeFault::OutOfMemory(error)) => return Err(error),
-    };
-    let greatest = u32::from(glyph.limits.program_size);
-    if cut.len() > greatest {
-        return Ok(Some(Refusal {
-            offset: greatest,
-            reason: Reason::ProgramTooLong,
-        }));
-    }
-    first_failure(alloc, glyph, &cut)
+/// What a glyph program is checked against, in a font whose font program and CVT program are empty.
+#[derive(Clone, Copy)]
+struct Glyph {
+    limits: Limits,
+    /// How many control values the font has.
+    cvt: u16,
+    /// How many points the glyph has, without the four phantom points.
+    points: u16,
+    contours: u16,
 }
 
-/// What a verdict tells of the only program, `g0`.
-fn refused_programs(alloc: Global, refusal: Option<Refusal>) -> Result<Vec<Refused>, AllocError>
-    ensures { IfOk result (λ v. v.items ≡ refused_list refusal) }
+/// The program without instructions.
+fn empty_program(alloc: Global) -> Result<Program<'static>, AllocError>
+    ensures { IfOk result (λ program. program ≡ []) }
+{
+    match Program::cut(alloc, &[]) {
+        Ok(program) => Ok(program),
+        // No instruction passes the end of an empty program, and its structure is right.
+        Err(_) => Err(AllocError),
+    }
+}
+
+/// Looks at the program of the glyph `g0`.
+fn look_at(alloc: Global, glyph: &Glyph, program: &[u8]) -> Result<(), LookFault>
+    requires { length program.now < 2 ^ 31 }
+    ensures fine { IfOk result (λ _. IsFine glyph.now program.now) }
+    ensures at_fault { IfErr result (λ fault. IfRefused fault (IsAtFault glyph.now program.now)) }
+{
+    let name = Name::Glyph(0);
+    let main = cut(alloc, name, program)?;
+    let empty = match empty_program(alloc) {
+        Ok(empty) => empty,
+        Err(error) => return Err(LookFault::OutOfMemory(error)),
+    };
+    let setting = Setting {
+        limits: glyph.limits,
+        cvt: u32::from(glyph.cvt),
+        kind: Kind::Glyph {
+            points: glyph.points,
+            contours: glyph.contours,
+        },
+        main: &main,
+        font: &empty,
+        prep: &empty,
+        start: &[],
+    };
+    let looked = look(alloc, name, &setting);
+    let_go(setting);
+    match looked {
+        Ok(_) => Ok(()),
+        Err(fault) => Err(fault),
+    }
+}
+
+/// The refused ones of the only program.
+fn refused_programs(
+    alloc: Global,
+    glyph: &Glyph,
+    program: &[u8],
+) -> Result<Vec<Refused>, AllocError>
+    requires { length program.now < 2 ^ 31 }
+    ensures fine { IfOk result (λ refused. refused.items ≡ [] → IsFine glyph.now program.now) }
+    ensures at_fault { IfOk result (λ refused. All (IsAtFault glyph.now program.now) refused.items) }
+    ensures one { IfOk result (λ refused. length refused.items ≤ 1) }
 {
     let mut refused = Vec::new(alloc);
-    if let Some(Refusal { offset, reason }) = refusal {
-        let program = Name::Glyph(0);
-        refused.push(Refused {
-            program,
-            place: Place { program, offset },
-            reason,
-        })?;
+    match look_at(alloc, glyph, program) {
+        Ok(()) => {}
+        Err(LookFault::Refused(refusal)) => refused.push(refusal)?,
+        Err(LookFault::OutOfMemory(error)) => return Err(error),
     }
     Ok(refused)
-}
-
-/// The verdict on the program of a glyph.
-fn verdict_of(alloc: Global, glyph: &Glyph, program: &[u8]) -> Result<Verdict, AllocError>
-    requires { length program.now < 2 ^ 31 }
-    ensures covered { IfOk result (λ v. v.refused ≡ [] → IsSafeAndCovered (checked_program glyph.now program.now)) }
-    ensures refused { IfOk result (λ v. All (IsRefusal (checked_program glyph.now program.now)) v.refused) }
-    ensures one { IfOk result (λ v. (v.programs ≡ 1) × (length v.refused ≤ 1)) }
-{
-    let refusal = judge(alloc, glyph, program)?;
-    let refused = refused_programs(alloc, refusal)?;
-    Ok(Verdict::new(1, refused))
 }
 
 /// The verdict on one glyph program, `g0`, of at most 65,535 bytes, in a font whose font program and CVT program are empty:
@@ -82,9 +104,12 @@ pub fn bare(
     program: &[u8],
 ) -> Result<Verdict, FontFault>
     requires { length program.now ≤ 65535 }
-    ensures accepted { IfOk result (λ v. v.refused ≡ [] → IsSafe (glyph_program maxp.now cvt points contours program.now)) }
-    ensures covered { IfOk result (λ v. v.refused ≡ [] → IsSafeAndCovered (glyph_program maxp.now cvt points contours program.now)) }
-    ensures refused { IfOk result (λ v. All (IsRefusal (glyph_program maxp.now cvt points contours program.now)) v.refused) }
+    ensures accepted { let glyph : GlyphData = record { points = points; contours = contours; program = program.now } in
+        IfOk result (λ v. v.refused ≡ [] → IsSafeGlyph (font_of (one_glyph_font maxp.now cvt glyph) [] []) glyph) }
+    ensures exact { let glyph : GlyphData = record { points = points; contours = contours; program = program.now } in
+        IfOk result (λ v. v.refused ≡ [] ↔ HasGoodFamily (glyph_subject (font_of (one_glyph_font maxp.now cvt glyph) [] []) [] 0 glyph)) }
+    ensures refused { let glyph : GlyphData = record { points = points; contours = contours; program = program.now } in
+        IfOk result (λ v. All (IsRefusal (glyph_subject (font_of (one_glyph_font maxp.now cvt glyph) [] []) [] 0 glyph)) v.refused) }
     ensures one { IfOk result (λ v. (v.programs ≡ 1) × (length v.refused ≤ 1)) }
     ensures fields { OnOk result (maxp_fault maxp.now ≡ None) }
     ensures faults { IfErr result (λ e. (maxp_fault maxp.now ≡ Some e) ⊎ (IsMemory e × (maxp_fault maxp.now ≡ None))) }
@@ -96,5 +121,8 @@ pub fn bare(
         points,
         contours,
     };
-    verdict_of(alloc, &glyph, program).map_err(FontFault::OutOfMemory)
+    match refused_programs(alloc, &glyph, program) {
+        Ok(refused) => Ok(Verdict::new(1, refused)),
+        Err(error) => Err(FontFault::OutOfMemory(error)),
+    }
 }

@@ -2,13 +2,13 @@
 #![tactic(auto)]
 
 mod commands;
+pub mod fonts;
+#[cfg(test)]
+mod fonts_tests;
 pub mod judge;
 #[cfg(test)]
 mod judge_tests;
-mod numbers;
-mod pass;
-mod perform;
-mod stack;
+mod look;
 #[cfg(test)]
 mod tests;
 pub mod verdict;

@@ -58,7 +58,7 @@ pub struct Point<'a> {
 }
 
 /// The offset of a body in its program.
-fn body_offset(body: u32) -> u32
+pub fn body_offset(body: u32) -> u32
     ensures { result ≡ offset_of_body body }
 {
     if body < CVT_BODIES {

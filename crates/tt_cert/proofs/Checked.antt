@@ -5,7 +5,7 @@ use Rattle.std.proofs.lemmas.List.{reverse-reverse}
 use Rattle.tt_code.specs.Settings.{Setting, is_main_end, starts_in_body}
 use Rattle.tt_code.specs.declared.machine.Frame.{Frame}
 use Rattle.tt_code.specs.declared.reason.Reason.{Reason}
-use Rattle.tt_code.specs.declared.reason.Reason.TheVariants.{Target}
+use Rattle.tt_code.specs.declared.reason.Reason.TheVariants.{Storage, Target}
 use Rattle.tt_abs.specs.declared.state.State.{State}
 use Rattle.tt_abs.specs.declared.moves.Move.{Move}
 use Rattle.tt_abs.specs.declared.moves.Moves.{Moves}
@@ -17,7 +17,8 @@ use Rattle.tt_abs.specs.StateFlow.{Place}
 use Rattle.tt_abs.specs.States.{abstract_of, state_order}
 use Rattle.tt_abs.specs.Transfers.{Next, outcome_on_cells}
 use Rattle.tt_abs.proofs.StateParts.{one_state}
-use Rattle.tt_cert.specs.Checks.{AreCovered, BreaksAt, IsFirstGap, IsGap, IsSoundAt, Names, NamesAt, NamesLanding, place_of_next, refused, leaves}
+use Rattle.tt_cert.specs.Checks.{AreCovered, BreaksAt, IsFirstGap, IsGap, IsSoundAt, Names, NamesAt, NamesLanding, place_of_next, told_offset, stores, refused, leaves}
+use Rattle.tt_cert.specs.GoodFamilies.{IsStoredWithin}
 use Rattle.tt_cert.specs.Spots.{spot_of}
 use Rattle.tt_cert.specs.declared.checking.Landing.{Landing}
 use Rattle.tt_cert.specs.declared.checking.CheckFault.{CheckFault}
@@ -121,16 +122,22 @@ same_states fs (moves.Two k l) b (suc zero) n e = let same : record { frames = f
 same_states fs (moves.Two k l) b (suc (suc i)) n e = absurd (cc)
 
 module _ (s : Setting) (family : Place → Option State) (p : Place) (a : State) where
-  -- nothing is asked of a state at the end
-  pub sound_at_end : is_main_end s p.0 p.1 ≡ true → IsSoundAt s family p a
-  sound_at_end ends = record {
+  pub stores_here : (fault : CheckFault) (l : Landing) → fault ≡ Refused l.spot l.offset Storage → l.spot ≡ spot_of p.0 → l.offset ≡ told_offset p.1 → (IsStoredWithin s a → ⊥)
+      → Names (BreaksAt s family p a) fault
+  stores_here fault l e at_spot at_offset above = let N : CheckFault → Type 0 = λ x. Names (BreaksAt s family p a) x in subst N (sym e) (p, at_spot, at_offset, stores above)
+
+  -- at the end storage indexes alone are looked at
+  pub sound_at_end : IsStoredWithin s a → is_main_end s p.0 p.1 ≡ true → IsSoundAt s family p a
+  sound_at_end stored ends = record {
+    stored = stored;
     safe = λ r x. let no_such : true ≡ false = sym ends ∙ x.running in absurd (cc);
     closed = λ q u g. let no_such : true ≡ false = sym ends ∙ g.running in absurd (cc);
   }
 
-  module _ (ways : Moves) (t : State) (in_range : state_order.InRange t) (result : outcome_on_cells s p.0 p.1 (abstract_of a) ≡ Ok (nexts_of p.0 ways (abstract_of t))) where
+  module _ (stored : IsStoredWithin s a) (ways : Moves) (t : State) (in_range : state_order.InRange t) (result : outcome_on_cells s p.0 p.1 (abstract_of a) ≡ Ok (nexts_of p.0 ways (abstract_of t))) where
     pub sound_here : AreCovered family (nexts_of p.0 ways (abstract_of t)) t → IsSoundAt s family p a
     sound_here covered = record {
+      stored = stored;
       safe = λ r x. let no_such : Ok (nexts_of p.0 ways (abstract_of t)) ≡ Err r = sym result ∙ x.refused in absurd (cc);
       closed = λ q u g.
           let ok : Ok g.nexts ≡ Ok (nexts_of p.0 ways (abstract_of t)) = sym g.result ∙ result in
@@ -148,7 +155,7 @@ module _ (s : Setting) (family : Place → Option State) (p : Place) (a : State)
       q,
       e,
       f,
-      leaves q r (record {
+      leaves q r stored (record {
         running = running;
         nexts = nexts_of p.0 ways (abstract_of t);
         result = result;
@@ -166,10 +173,10 @@ module _ (s : Setting) (family : Place → Option State) (p : Place) (a : State)
     pub broken_from : is_main_end s p.0 p.1 ≡ false → {T : Type 0} (r : Result T CheckFault) → IfErr r (Names (IsFirstGap family (nexts_of p.0 ways (abstract_of t)) t)) → IfErr r (Names (BreaksAt s family p a))
     broken_from running r h = err_map r _ _ (broken_here running) h
 
-  pub refused_here : (l : Landing) → l.spot ≡ spot_of p.0 → l.offset ≡ p.1 → is_main_end s p.0 p.1 ≡ false → (fault : CheckFault)
+  pub refused_here : IsStoredWithin s a → (l : Landing) → l.spot ≡ spot_of p.0 → l.offset ≡ told_offset p.1 → is_main_end s p.0 p.1 ≡ false → (fault : CheckFault)
       → NamesLanding l (λ r. outcome_on_cells s p.0 p.1 (abstract_of a) ≡ Err r) fault → Names (BreaksAt s family p a) fault
-  refused_here l at_spot at_offset running (Refused spot offset r) h = (p, h.0 ∙ at_spot, h.1 ∙ at_offset, refused r (record { running = running; refused = h.2 }))
-  refused_here l at_spot at_offset running (OutOfMemory error) h = tt
+  refused_here stored l at_spot at_offset running (Refused spot offset r) h = (p, h.0 ∙ at_spot, h.1 ∙ at_offset, refused r stored (record { running = running; refused = h.2 }))
+  refused_here stored l at_spot at_offset running (OutOfMemory error) h = tt
 
 -- frames that were turned round twice
 pub frames_back : (xs ys zs : List Frame) → xs ≡ ys → ys ≡ reverse zs → reverse xs ≡ zs

@@ -15,8 +15,8 @@ use Rattle.tt_abs.specs.StateFlow.{Place, AreProgramsShort, GivesState, flow_of}
 use Rattle.tt_abs.specs.States.{start_of, state_order}
 use Rattle.tt_abs.proofs.Soundness.{good_is_safe}
 use Rattle.tt_cert.specs.Contents.{Contents, IsFamily, family_of, frames_at, number_of}
-use Rattle.tt_cert.specs.GoodFamilies.{EndsWell, IsGoodFamily, IsShortEnough}
-use Rattle.tt_cert.specs.Checks.{AreSound, BreaksAt, IsBrokenFirst, IsFirstBreak, IsGap, IsLanding, IsWantOfMemory, LeavesGap, Names, NamesAt, refused, leaves, too_long, no_start, no_end, no_way}
+use Rattle.tt_cert.specs.GoodFamilies.{EndsWell, HasFewContexts, IsGoodFamily, IsShortEnough}
+use Rattle.tt_cert.specs.Checks.{AreSound, BreaksAt, IsBrokenFirst, IsFirstBreak, IsGap, IsLanding, IsWantOfMemory, LeavesGap, Names, NamesAt, stores, refused, leaves, too_long, no_start, no_end, no_way}
 use Rattle.tt_cert.specs.declared.checking.Landing.{Landing}
 use Rattle.tt_cert.specs.declared.checking.CheckFault.{CheckFault}
 use Rattle.tt_cert.specs.declared.checking.CheckFault.TheVariants.{Refused, OutOfMemory}
@@ -36,10 +36,24 @@ gap_not_covered family q t NotCovered (w, at', apart) (u, at, below) =
 gap_not_covered family q t _ gap c = absurd gap
 
 module _ (s : Setting) (functions : List (ℕ × ℕ)) (v : Contents) where
-  pub good_here : IsFamily v → CoversAt state_order (family_of v) ([], 0) (start_of functions) → AreSound s (family_of v) → IsGood state_order (flow_of s functions) (family_of v)
+  good_here : IsFamily v → CoversAt state_order (family_of v) ([], 0) (start_of functions) → AreSound s (family_of v) → IsGood state_order (flow_of s functions) (family_of v)
   good_here family start sound =
       good_from_fine state_order (flow_of s functions) (family_of v) (λ p a at. family.in_range (number_of v.contexts p.0) p.1 a at) start
       (λ p a at. ((sound p a at).safe, (sound p a at).closed))
+
+  -- the contexts of the certificate are all that have states
+  pub few_contexts : IsFamily v → HasFewContexts (family_of v)
+  few_contexts family = (v.contexts, family.few, λ p a at. family.held (number_of v.contexts p.0) p.1 a at)
+
+  pub family_here : IsShortEnough s s.kind → IsFamily v → CoversAt state_order (family_of v) ([], 0) (start_of functions) → EndsWell s s.kind (family_of v) → AreSound s (family_of v)
+      → IsGoodFamily s functions (family_of v)
+  family_here short family start ends sound = record {
+    short = short;
+    good = good_here family start sound;
+    ends = ends;
+    storage = λ p a at. (sound p a at).stored;
+    few = few_contexts family;
+  }
 
   pub safe_here : IsSettingInRange s → AreProgramsShort s → Rises functions → IsFamily v → CoversAt state_order (family_of v) ([], 0) (start_of functions)
       → AreSound s (family_of v) → IsSafe s functions (family_of v)
@@ -74,8 +88,9 @@ module _ (s : Setting) (functions : List (ℕ × ℕ)) (v : Contents) where
         gap_not_covered (family_of v) q l.state r l.first.here.gap (good.good.closed p a q l.state at gives)
 
     breaks_good : (p : Place) (a : State) (q : Place) (r : Reason) → family_of v p ≡ Some a → BreaksAt s (family_of v) p a q r → ⊥
-    breaks_good p a q r at (refused r' x) = good.good.safe p a r' at x
-    breaks_good p a q r at (leaves q' r' l) = gap_closed p a q' r' at l
+    breaks_good p a q r at (stores above) = above (good.storage p a at)
+    breaks_good p a q r at (refused r' stored x) = good.good.safe p a r' at x
+    breaks_good p a q r at (leaves q' r' stored l) = gap_closed p a q' r' at l
 
     broken_good : (q : Place) (r : Reason) → IsBrokenFirst s functions v q r → ⊥
     broken_good q r (too_long n) = n good.short

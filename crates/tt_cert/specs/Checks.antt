@@ -1,39 +1,40 @@
 -- What a check asks of a family beside goodness, and what it names where the family isn't good.
-use Rattle.std.specs.Prelude.{◌≡◌, ℕ, ◌<◌, ◌+◌, ◌^◌, false, Ok, Option, Some, None, List, [], ◌∷◌, length, reverse, slice_get}
+use Rattle.std.specs.Prelude.{◌≡◌, ℕ, ◌<◌, ◌^◌, min, false, Ok, Option, Some, None, List, [], ◌∷◌, length, reverse, slice_get}
 use Rattle.std.specs.declared.cmp.Ordering.TheVariants.{Less}
 use Rattle.tt_code.specs.Cut.{size}
 use Rattle.tt_code.specs.Settings.{Setting, is_main_end}
 use Rattle.tt_code.specs.declared.machine.Frame.{Frame}
 use Rattle.tt_code.specs.declared.reason.Reason.{Reason}
-use Rattle.tt_code.specs.declared.reason.Reason.TheVariants.{MissingPoint, NotCovered, ProgramTooLong}
+use Rattle.tt_code.specs.declared.reason.Reason.TheVariants.{MissingPoint, NotCovered, ProgramTooLong, Storage}
 use Rattle.tt_abs.specs.declared.state.State.{State}
 use Rattle.tt_abs.specs.Families.{CoversAt}
 use Rattle.tt_abs.specs.StateFlow.{Place, GivesState, RefusesState}
 use Rattle.tt_abs.specs.States.{abstract_of, start_of, state_order}
 use Rattle.tt_abs.specs.Transfers.{Next, outcome_on_cells}
-use Rattle.tt_cert.specs.Contents.{Contents, HasContext, family_of, frames_at, number_of}
-use Rattle.tt_cert.specs.GoodFamilies.{EndsWell, IsShortEnough}
-use Rattle.tt_cert.specs.Places.{place_cmp}
+use Rattle.tt_cert.specs.Contents.{Contents, family_of, frames_at, number_of}
+use Rattle.tt_cert.specs.GoodFamilies.{EndsWell, IsShortEnough, IsStoredWithin}
+use Rattle.tt_cert.specs.Places.{place_cmp, states_of}
 use Rattle.tt_cert.specs.Spots.{spot_of}
 use Rattle.tt_cert.specs.declared.checking.CheckFault.{CheckFault}
 use Rattle.tt_cert.specs.declared.checking.CheckFault.TheVariants.{Refused, OutOfMemory}
 use Rattle.tt_cert.specs.declared.checking.Calls.{Calls}
 use Rattle.tt_cert.specs.declared.checking.Landing.{Landing}
 
--- each context's last call returns to an offset of 32 bits, and its next turn is a number of 32 bits
-abbrev pub AreCountable : List (List Frame) → Type 0
-AreCountable contexts = (n : ℕ) (f : Frame) (fs : List Frame) → n < length contexts → frames_at contexts n ≡ f ∷ fs → (f.call + 1 < 2 ^ 32) × (f.turn + 1 < 2 ^ 32)
+-- an offset as a number of 32 bits: the largest one stands for those that are above
+abbrev pub told_offset : ℕ → ℕ
+told_offset offset = min offset 4294967295
 
--- the context of this number, if there is one, is that of a place with these frames
-abbrev pub IsNumberOf : Contents → List Frame → Option ℕ → Type 0
-IsNumberOf contents frames None = HasContext contents.contexts frames → ⊥
-IsNumberOf contents frames (Some n) = (n < length contents.contexts) × (frames_at contents.contexts n ≡ frames)
+-- the context of this number has the place's frames, and the offset is the place's; where there is no number, the family has no state
+-- at the place
+abbrev pub IsFoundBy : Contents → Place → Option ℕ → ℕ → Type 0
+IsFoundBy contents place None offset = family_of contents place ≡ None
+IsFoundBy contents place (Some n) offset = (n < length contents.contexts) × (frames_at contents.contexts n ≡ place.0) × (offset ≡ place.1)
 
 -- the landing stands for the place
 pub record IsLanding (contents : Contents) (place : Place) (landing : Landing) : Type 0 where
-  pub context : IsNumberOf contents place.0 landing.context
+  pub found : IsFoundBy contents place landing.context landing.offset
   pub spot : landing.spot ≡ spot_of place.0
-  pub offset : landing.offset ≡ place.1
+  pub offset : landing.offset ≡ told_offset place.1
 
 -- the family has no state at the place, or none that covers this one
 abbrev pub IsGap : (Place → Option State) → Place → State → Reason → Type 0
@@ -43,7 +44,7 @@ IsGap family q t _ = ⊥
 
 -- the fault names the place and the reason; want of memory says nothing
 abbrev pub NamesAt : Place → (Reason → Type 0) → CheckFault → Type 0
-NamesAt p Is (Refused spot offset reason) = (spot ≡ spot_of p.0) × (offset ≡ p.1) × Is reason
+NamesAt p Is (Refused spot offset reason) = (spot ≡ spot_of p.0) × (offset ≡ told_offset p.1) × Is reason
 NamesAt p Is (OutOfMemory e) = Unit {0}
 
 -- the fault names the landing's place, and the reason
@@ -53,7 +54,7 @@ NamesLanding l Is (OutOfMemory e) = Unit {0}
 
 -- the fault names such a place, and the reason
 abbrev pub Names : (Place → Reason → Type 0) → CheckFault → Type 0
-Names Is (Refused spot offset reason) = (p : Place) × (spot ≡ spot_of p.0) × (offset ≡ p.1) × Is p reason
+Names Is (Refused spot offset reason) = (p : Place) × (spot ≡ spot_of p.0) × (offset ≡ told_offset p.1) × Is p reason
 Names Is (OutOfMemory e) = Unit {0}
 
 -- the place of a next abstract state
@@ -77,8 +78,9 @@ pub record IsFirstGap (family : Place → Option State) (nexts : List Next) (t :
   pub here : IsGapAt family nexts t q r index
   pub before : (i : ℕ) (n : Next) → i < index → slice_get nexts i ≡ Some n → CoversAt state_order family (place_of_next n) t
 
--- the state isn't refused at the place, and the family covers what it gives
+-- the state's storage indexes are below maxStorage, it isn't refused at the place, and the family covers what it gives
 pub record IsSoundAt (s : Setting) (family : Place → Option State) (p : Place) (a : State) : Type 0 where
+  pub stored : IsStoredWithin s a
   pub safe : (r : Reason) → RefusesState s p a r → ⊥
   pub closed : (q : Place) (t : State) → GivesState s p a q t → CoversAt state_order family q t
 
@@ -92,15 +94,25 @@ pub record LeavesGap (s : Setting) (family : Place → Option State) (p : Place)
   pub same : (i : ℕ) (n : Next) → slice_get nexts i ≡ Some n → abstract_of state ≡ n.state
   pub first : IsFirstGap family nexts state q r
 
--- What is broken of a state at its place, where it is named, and why: it is refused there, or it gives what isn't covered.
+-- What is broken first of a state at its place, where it is named, and why: it lists a storage index that isn't below maxStorage; it is
+-- refused there; it gives what isn't covered.
 pub data BreaksAt (s : Setting) (family : Place → Option State) (p : Place) (a : State) : Place → Reason → Type 0 where
-  refused : (r : Reason) → RefusesState s p a r → BreaksAt s family p a p r
-  leaves : (q : Place) (r : Reason) → LeavesGap s family p a q r → BreaksAt s family p a q r
+  stores : (IsStoredWithin s a → ⊥) → BreaksAt s family p a p Storage
+  refused : (r : Reason) → IsStoredWithin s a → RefusesState s p a r → BreaksAt s family p a p r
+  leaves : (q : Place) (r : Reason) → IsStoredWithin s a → LeavesGap s family p a q r → BreaksAt s family p a q r
 
 -- the calls are those of their context
 pub record AreCalls (contents : Contents) (calls : Calls) : Type 0 where
   pub there : calls.context < length contents.contexts
   pub frames : calls.frames.items ≡ reverse (frames_at contents.contexts calls.context)
+
+-- the innermost call has one more turn
+abbrev pub HasNextTurn : List Frame → Type 0
+HasNextTurn frames = (f : Frame) (fs : List Frame) → frames ≡ f ∷ fs → f.turn < f.count
+
+-- the states of the contexts before this one stand at offsets of 32 bits
+abbrev pub AreToldBefore : Contents → ℕ → Type 0
+AreToldBefore contents context = (c o : ℕ) (a : State) → c < context → states_of contents.states (c, o) ≡ Some a → o < 2 ^ 32
 
 -- each state of the family is sound at its place
 abbrev pub AreSound : Setting → (Place → Option State) → Type 0

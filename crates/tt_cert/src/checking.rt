@@ -1,17 +1,17 @@
 //! The check of a certificate: whether its family is good for a program.
 
-ghost use Rattle.std.specs.Prelude.{◌≡◌, ◌↔◌, ◌<◌, [], ◌∷◌, ℕ, List, Some, Ok, Err, IfOk, IfErr, IsTrue, length, reverse};
-ghost use Rattle.tt_code.specs.Settings.{body_of as body_of_frames, body_offset as offset_of_body, is_body, is_main_end, program_of as program_of_frames, starts_in_body};
-ghost use Rattle.tt_code.specs.declared.machine.Frame.{Frame as AnyFrame};
+ghost use Rattle.std.specs.Prelude.{◌≡◌, ◌↔◌, ◌+◌, ◌<◌, [], ◌∷◌, Ok, Err, IfOk, IfErr, IsTrue, length};
+ghost use Rattle.std.specs.List.{All};
+ghost use Rattle.tt_code.specs.Settings.{body_offset as offset_of_body};
 ghost use Rattle.tt_abs.specs.Moves.{frames_behind, nexts_of, offset_behind};
 ghost use Rattle.tt_abs.specs.Entries.{Rises};
-ghost use Rattle.tt_abs.specs.Families.{CoversAt, IsGood};
-ghost use Rattle.tt_abs.specs.Settings.{setting_of};
-ghost use Rattle.tt_abs.specs.StateFlow.{Place, flow_of};
+ghost use Rattle.tt_abs.specs.Families.{CoversAt};
+ghost use Rattle.tt_abs.specs.Settings.{frames_of, setting_of};
+ghost use Rattle.tt_abs.specs.StateFlow.{Place};
 ghost use Rattle.tt_abs.specs.Soundness.{IsSafe};
 ghost use Rattle.tt_abs.specs.States.{abstract_of, start_of, state_order};
 ghost use Rattle.tt_abs.specs.Transfers.{outcome_on_cells};
-ghost use Rattle.tt_cert.specs.Checks.{AreCalls, AreCountable, AreCovered, AreSound, BreaksAt, IsBrokenFirst, IsFirstBreak, IsFirstGap, IsGap, IsLanding, IsSoundAt, IsWantOfMemory, Names, NamesAt, NamesLanding};
+ghost use Rattle.tt_cert.specs.Checks.{AreCalls, AreCovered, AreSound, AreToldBefore, BreaksAt, HasNextTurn, IsBrokenFirst, IsFirstBreak, IsFirstGap, IsGap, IsLanding, IsSoundAt, IsWantOfMemory, Names, NamesAt, NamesLanding};
 ghost use Rattle.tt_cert.specs.Spots.{spot_of};
 ghost use Rattle.tt_cert.specs.Contents.{family_of, frames_at};
 ghost use Rattle.tt_cert.specs.GoodFamilies.{EndsWell, HasEnd, IsGoodFamily, IsShortEnough};
@@ -20,11 +20,9 @@ use crate::certificate::Certificate;
 use crate::spot::Spot;
 use std::alloc::{AllocError, Global};
 use thiserror::Error;
+use tt_abs::setting::body_offset;
 use tt_abs::{Kind, Move, Moves, Order, Point, Refusal, Setting, State, step};
-use tt_code::{Body, Frame, Program, Reason};
-
-/// Bodies of the CVT program are named by their offset and this.
-const CVT_BODIES: u32 = 1 << 31;
+use tt_code::{Frame, Reason};
 
 /// Why a certificate is refused.
 #[derive(Debug, Drop, Error)]
@@ -67,17 +65,6 @@ struct Landing {
     offset: u32,
 }
 
-/// The offset of a body in its program.
-fn body_offset(body: u32) -> u32
-    ensures { result ≡ offset_of_body body }
-{
-    if body < CVT_BODIES {
-        body
-    } else {
-        body - CVT_BODIES
-    }
-}
-
 /// In which program a context stands.
 fn spot_of_context(certificate: &Certificate, context: u32) -> Spot
     requires { context < length certificate.now.contexts }
@@ -93,7 +80,8 @@ fn spot_of_context(certificate: &Certificate, context: u32) -> Spot
 /// The place at an offset of a context.
 fn place_in(certificate: &Certificate, context: u32, offset: u32) -> Landing
     requires { context < length certificate.now.contexts }
-    ensures { IsLanding certificate.now (frames_at certificate.now.contexts context, offset) result }
+    ensures landing { IsLanding certificate.now (frames_at certificate.now.contexts context, offset) result }
+    ensures offset { result.offset ≡ offset }
 {
     Landing {
         context: Some(context),
@@ -107,6 +95,7 @@ fn place_entered(certificate: &Certificate, parent: u32, frame: Frame) -> Landin
     requires { parent < length certificate.now.contexts }
     ensures { IsLanding certificate.now (frame ∷ frames_at certificate.now.contexts parent, offset_of_body frame.body) result }
 {
+    certificate.contexts();
     Landing {
         context: certificate.number(parent, frame),
         spot: Spot::of_body(frame.body),
@@ -114,10 +103,10 @@ fn place_entered(certificate: &Certificate, parent: u32, frame: Frame) -> Landin
     }
 }
 
-/// The place to which the innermost call's next turn leads.
+/// The place to which the innermost call's next turn leads, where it has one more.
 fn place_of_turn(certificate: &Certificate, context: u32) -> Landing
     requires there { context < length certificate.now.contexts }
-    requires countable { AreCountable certificate.now.contexts }
+    requires turn { HasNextTurn (frames_at certificate.now.contexts context) }
     ensures { IsLanding certificate.now (frames_behind (frames_at certificate.now.contexts context) Move.NextTurn, offset_behind (frames_at certificate.now.contexts context) Move.NextTurn) result }
 {
     certificate.contexts();
@@ -130,15 +119,32 @@ fn place_of_turn(certificate: &Certificate, context: u32) -> Landing
     }
 }
 
+/// The place behind a call in a context whose states stand at offsets of 32 bits.
+fn place_after(certificate: &Certificate, context: u32, call: u32) -> Landing
+    requires there { context < length certificate.now.contexts }
+    requires told { AreToldBefore certificate.now (context + 1) }
+    ensures { IsLanding certificate.now (frames_at certificate.now.contexts context, call + 1) result }
+{
+    certificate.contexts();
+    match call.checked_add(1) {
+        Some(offset) => place_in(certificate, context, offset),
+        None => Landing {
+            context: None,
+            spot: spot_of_context(certificate, context),
+            offset: u32::MAX,
+        },
+    }
+}
+
 /// The place behind the innermost call.
 fn place_of_return(certificate: &Certificate, context: u32) -> Landing
     requires there { context < length certificate.now.contexts }
-    requires countable { AreCountable certificate.now.contexts }
+    requires told { AreToldBefore certificate.now context }
     ensures { IsLanding certificate.now (frames_behind (frames_at certificate.now.contexts context) Move.Return, offset_behind (frames_at certificate.now.contexts context) Move.Return) result }
 {
     certificate.contexts();
     match certificate.context(context) {
-        Some((parent, frame)) => place_in(certificate, parent, frame.call + 1),
+        Some((parent, frame)) => place_after(certificate, parent, frame.call),
         None => place_in(certificate, 0, 0),
     }
 }
@@ -146,7 +152,8 @@ fn place_of_return(certificate: &Certificate, context: u32) -> Landing
 /// The place to which a move leads from a context.
 fn place_behind(certificate: &Certificate, context: u32, way: Move) -> Landing
     requires there { context < length certificate.now.contexts }
-    requires countable { AreCountable certificate.now.contexts }
+    requires told { AreToldBefore certificate.now context }
+    requires turn { way ≡ Move.NextTurn → HasNextTurn (frames_at certificate.now.contexts context) }
     ensures { IsLanding certificate.now (frames_behind (frames_at certificate.now.contexts context) way, offset_behind (frames_at certificate.now.contexts context) way) result }
 {
     match way {
@@ -155,66 +162,6 @@ fn place_behind(certificate: &Certificate, context: u32, way: Move) -> Landing
         Move::NextTurn => place_of_turn(certificate, context),
         Move::Return => place_of_return(certificate, context),
     }
-}
-
-/// The program in which a context's calls stand.
-fn program_of<'a>(setting: &Setting<'a>, frames: &[Frame]) -> &'a Program<'a>
-    ensures { result.now ≡ program_of_frames (setting_of setting.now) (reverse frames.now) }
-{
-    match frames {
-        [] => setting.main,
-        [.., frame] => {
-            if frame.body < CVT_BODIES {
-                setting.font
-            } else {
-                setting.prep
-            }
-        }
-    }
-}
-
-/// The body in which a context's calls stand.
-fn body_of(frames: &[Frame]) -> Body
-    ensures { result ≡ body_of_frames (reverse frames.now) }
-{
-    match frames {
-        [] => Body::Main,
-        [.., frame] => Body::Function(body_offset(frame.body)),
-    }
-}
-
-/// Are the two one body of the main program or of a function?
-fn is_same_body(body: Body, other: Body) -> bool
-    ensures { result ≡ is_body body (Some other) }
-{
-    match body {
-        Body::Main => match other {
-            Body::Main => true,
-            _ => false,
-        },
-        Body::Function(first) => match other {
-            Body::Function(second) => first == second,
-            _ => false,
-        },
-        Body::Instruction(_) => false,
-    }
-}
-
-/// Does an instruction of the innermost call's body start at the offset?
-fn starts(setting: &Setting<'_>, frames: &[Frame], offset: u32) -> bool
-    ensures { result ≡ starts_in_body (setting_of setting.now) (reverse frames.now) offset }
-{
-    match program_of(setting, frames).body_at(offset) {
-        Some(body) => is_same_body(body_of(frames), body),
-        None => false,
-    }
-}
-
-/// Is this the main program's end?
-fn is_end(setting: &Setting<'_>, frames: &[Frame], offset: u32) -> bool
-    ensures { result ≡ is_main_end (setting_of setting.now) (reverse frames.now) offset }
-{
-    frames.is_empty() && offset == setting.main.len()
 }
 
 /// The fault that the family has no state at a place, or none that covers what leads there.
@@ -253,25 +200,28 @@ fn check_covered(
     }
 }
 
+/// Are the indexes of these storage cells below the limit?
+fn are_stored_within(stored: &[(u16, i32)], limit: u16) -> bool
+    ensures { IsTrue result ↔ All (λ cell. cell.0 < limit) stored.now }
+{
+    stored.iter().all(|cell| cell.0 < limit)
+}
+
 /// What the instruction at a place makes of a state, and where it leads.
 fn stepped(
     setting: &Setting<'_>,
-    frames: &[Frame],
+    point: &Point<'_>,
     place: &Landing,
     state: &mut State,
 ) -> Result<Moves, CheckFault>
-    ensures ok { IfOk result (λ m. outcome_on_cells (setting_of setting.now) (reverse frames.now) place.now.offset (abstract_of state.old) ≡ Ok (nexts_of (reverse frames.now) m (abstract_of state.new))) }
-    ensures refused { IfErr result (NamesLanding place.now (λ r. outcome_on_cells (setting_of setting.now) (reverse frames.now) place.now.offset (abstract_of state.old) ≡ Err r)) }
+    ensures ok { IfOk result (λ m. outcome_on_cells (setting_of setting.now) (frames_of point.now) point.now.offset (abstract_of state.old) ≡ Ok (nexts_of (frames_of point.now) m (abstract_of state.new))) }
+    ensures refused { IfErr result (NamesLanding place.now (λ r. outcome_on_cells (setting_of setting.now) (frames_of point.now) point.now.offset (abstract_of state.old) ≡ Err r)) }
     ensures in_range { state_order.InRange state.old → IfOk result (λ _. state_order.InRange state.new) }
 {
-    if !starts(setting, frames, place.offset) {
+    if !setting.starts(point, point.offset) {
         return Err(fault_at(place, Reason::Target));
     }
-    let point = Point {
-        frames,
-        offset: place.offset,
-    };
-    match step(setting, &point, state) {
+    match step(setting, point, state) {
         Ok(moves) => Ok(moves),
         Err(refusal) => match refusal {
             Refusal::Refused(reason) => Err(fault_at(place, reason)),
@@ -288,7 +238,8 @@ fn check_moves(
     state: &State,
 ) -> Result<(), CheckFault>
     requires there { context < length certificate.now.contexts }
-    requires countable { AreCountable certificate.now.contexts }
+    requires told { AreToldBefore certificate.now context }
+    requires turn { moves ≡ Moves.One Move.NextTurn → HasNextTurn (frames_at certificate.now.contexts context) }
     ensures covered { IfOk result (λ _. AreCovered (family_of certificate.now) (nexts_of (frames_at certificate.now.contexts context) moves (abstract_of state.now)) state.now) }
     ensures gap { IfErr result (Names (IsFirstGap (family_of certificate.now) (nexts_of (frames_at certificate.now.contexts context) moves (abstract_of state.now)) state.now)) }
 {
@@ -317,18 +268,24 @@ fn check_state(
     state: &State,
 ) -> Result<(), CheckFault>
     requires calls { AreCalls certificate.now calls.now }
-    requires countable { AreCountable certificate.now.contexts }
+    requires told { AreToldBefore certificate.now calls.now.context }
     requires in_range { state_order.InRange state.now }
     ensures sound { IfOk result (λ _. IsSoundAt (setting_of setting.now) (family_of certificate.now) (frames_at certificate.now.contexts calls.now.context, offset) state.now) }
     ensures broken { IfErr result (Names (BreaksAt (setting_of setting.now) (family_of certificate.now) (frames_at certificate.now.contexts calls.now.context, offset) state.now)) }
 {
     let place = place_in(certificate, calls.context, offset);
-    let frames = calls.frames.as_slice();
-    if is_end(setting, frames, offset) {
+    if !are_stored_within(state.stored(), setting.limits.storage) {
+        return Err(fault_at(&place, Reason::Storage));
+    }
+    let point = Point {
+        frames: calls.frames.as_slice(),
+        offset,
+    };
+    if setting.is_end(&point, offset) {
         return Ok(());
     }
     let mut next = state.copied()?;
-    match stepped(setting, frames, &place, &mut next) {
+    match stepped(setting, &point, &place, &mut next) {
         Ok(moves) => check_moves(certificate, calls.context, moves, &next),
         Err(fault) => Err(fault),
     }
@@ -356,7 +313,6 @@ fn check_states(
     setting: &Setting<'_>,
     certificate: &Certificate,
 ) -> Result<(), CheckFault>
-    requires { AreCountable certificate.now.contexts }
     ensures sound { IfOk result (λ _. AreSound (setting_of setting.now) (family_of certificate.now)) }
     ensures broken { IfErr result (Names (IsFirstBreak (setting_of setting.now) certificate.now)) }
 {
@@ -420,24 +376,11 @@ fn check_start(
     check_covered(certificate, &place, &start)
 }
 
-/// Do all calls return to offsets of 32 bits, and can the turns of each be counted on in 32 bits?
-pub fn is_countable(certificate: &Certificate) -> bool
-    ensures { IsTrue result ↔ AreCountable certificate.now.contexts }
-{
-    for number in 1..certificate.contexts() {
-        if let Some((_, frame)) = certificate.context(number) {
-            if frame.call == u32::MAX || frame.turn == u32::MAX {
-                return false;
-            }
-        }
-    }
-    true
-}
-
 /// Is the family good for the program of this setting, all that a certificate has to be? In the order of the walk the first that
 /// isn't so is named: a glyph program longer than maxSizeOfInstructions; a start that isn't covered; a font program or a CVT program
-/// without a state at its end; then, by rising contexts and by rising offsets within one, a state that is refused at its place, or
-/// whose successor isn't covered, the smaller offset first.
+/// without a state at its end; then, by rising contexts and by rising offsets within one, a state that lists a storage index that isn't
+/// below maxStorage, that is refused at its place, or whose successor isn't covered, the smaller offset first. The contexts may hold any
+/// frames: behind a call at offset 4,294,967,295 there is no state, and the place there is named with that offset.
 ///
 /// # Errors
 /// `Refused` with what is broken first; `OutOfMemory`.
@@ -447,11 +390,8 @@ pub fn check_full(
     certificate: &Certificate,
 ) -> Result<(), CheckFault>
     requires rises { Rises setting.now.start.now }
-    requires countable { AreCountable certificate.now.contexts }
-    ensures good { IfOk result (λ _. IsGood state_order (flow_of (setting_of setting.now) setting.now.start.now) (family_of certificate.now)) }
+    ensures family { IfOk result (λ _. IsGoodFamily (setting_of setting.now) setting.now.start.now (family_of certificate.now)) }
     ensures safe { IfOk result (λ _. IsSafe (setting_of setting.now) setting.now.start.now (family_of certificate.now)) }
-    ensures ends { IfOk result (λ _. EndsWell (setting_of setting.now) (setting_of setting.now).kind (family_of certificate.now)) }
-    ensures short { IfOk result (λ _. IsShortEnough (setting_of setting.now) (setting_of setting.now).kind) }
     ensures exact { IsGoodFamily (setting_of setting.now) setting.now.start.now (family_of certificate.now) → IfErr result IsWantOfMemory }
     ensures first { IfErr result (Names (IsBrokenFirst (setting_of setting.now) setting.now.start.now certificate.now)) }
 {

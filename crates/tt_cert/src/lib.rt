@@ -12,7 +12,7 @@ pub mod spot;
 
 pub use builder::Builder;
 pub use certificate::Certificate;
-pub use checking::{CheckFault, check_full, is_countable, is_short};
+pub use checking::{CheckFault, check_full, is_short};
 pub use fault::BuildFault;
 pub use spot::Spot;
 

@@ -1,15 +1,15 @@
-use Rattle.std.proofs.Common.{rules, ◌≡◌, true, false, refl, []}
+use Rattle.std.proofs.Common.{rules, arith, ◌≡◌, true, false, refl, []}
 use Rattle.tt_code.specs.Cut.{size}
 use Rattle.tt_abs.specs.Settings.{setting_of}
 use Rattle.tt_cert.specs.Checks.{too_long, no_end}
 use Rattle.tt_cert.proofs.Checked.{ok_map, err_map}
-use Rattle.tt_cert.proofs.Judged.{good_here, safe_here, start_broken, way_broken, only_memory, not_both}
+use Rattle.tt_cert.proofs.Judged.{family_here, safe_here, start_broken, way_broken, only_memory, not_both}
 use Rattle.tt_cert.proofs.checking.check_full.Goals as goal
 
 pub returns-then-not-is_short-clause-first : goal.returns-then-not-is_short-clause-first
 returns-then-not-is_short-clause-first c =
     let f : c.is_short.result ≡ false = search rules in
-    (([], c.args.setting.now.limits.program_size), refl, c.from.ensures, too_long (λ h. not_both c.is_short.result f (c.is_short.ensures.1 h)))
+    (([], c.args.setting.now.limits.program_size), refl, omega arith, too_long (λ h. not_both c.is_short.result f (c.is_short.ensures.1 h)))
 
 pub returns-then-not-is_short-clause-exact : goal.returns-then-not-is_short-clause-exact
 returns-then-not-is_short-clause-exact c = λ good.
@@ -32,7 +32,7 @@ returns-then-not-ends_well-clause-first c =
     let f : c.ends_well.result ≡ false = search rules in (
       ([], size c.args.setting.now.main.now),
       refl,
-      c.len.ensures.value,
+      omega arith,
       no_end (c.is_short.ensures.0 t) c.in_default.ensures.covered (λ h. not_both c.ends_well.result f (c.ends_well.ensures.1 h)),
     )
 
@@ -41,9 +41,13 @@ returns-then-not-ends_well-clause-exact c = λ good.
     let f : c.ends_well.result ≡ false = search rules in
     not_both c.ends_well.result f (c.ends_well.ensures.1 good.ends)
 
-pub returns-clause-good : goal.returns-clause-good
-returns-clause-good c =
-    ok_map c.check_states.result _ _ (good_here (setting_of c.args.setting.now) c.args.setting.now.start.now c.args.certificate.now c.contexts.ensures.finished.0 c.in_default.ensures.covered)
+pub returns-clause-family : goal.returns-clause-family
+returns-clause-family c =
+    let t : c.is_short.result ≡ true = search rules in
+    let u : c.ends_well.result ≡ true = search rules in
+    ok_map c.check_states.result _ _
+    (family_here (setting_of c.args.setting.now) c.args.setting.now.start.now c.args.certificate.now (c.is_short.ensures.0 t) c.contexts.ensures.finished.0 c.in_default.ensures.covered
+    (c.ends_well.ensures.0 u))
     c.check_states.ensures.sound
 
 pub returns-clause-safe : goal.returns-clause-safe

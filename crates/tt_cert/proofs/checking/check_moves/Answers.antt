@@ -7,7 +7,7 @@ pub returns-in-Err-clause-gap : goal.returns-in-Err-clause-gap
 returns-in-Err-clause-gap c =
     let fs = frames_at c.args.certificate.now.contexts c.args.context in
     first_gap (family_of c.args.certificate.now) c.args.state.now fs c.args.moves c.in-Two.first c.in-Two.second c.in-Err.fault c.in-Two.is
-    (c.in-Err.ensures.gap (fs, c.in-Two.first) c.place_in-place.ensures)
+    (c.in-Err.ensures.gap (fs, c.in-Two.first) c.place_in-place.ensures.landing)
 
 pub returns-in-One-clause-covered : goal.returns-in-One-clause-covered
 returns-in-One-clause-covered c =
@@ -25,12 +25,12 @@ pub returns-in_default-clause-covered : goal.returns-in_default-clause-covered
 returns-in_default-clause-covered c =
     let fs = frames_at c.args.certificate.now.contexts c.args.context in
     two_covered (family_of c.args.certificate.now) c.args.state.now fs c.args.moves c.in-Two.first c.in-Two.second c.check_covered-in-Two-2.result c.in-Two.is
-    (c.in_default.ensures.covered (fs, c.in-Two.first) c.place_in-place.ensures)
-    (c.check_covered-in-Two-2.ensures.covered (fs, c.in-Two.second) c.place_in-place-in-Two.ensures)
+    (c.in_default.ensures.covered (fs, c.in-Two.first) c.place_in-place.ensures.landing)
+    (c.check_covered-in-Two-2.ensures.covered (fs, c.in-Two.second) c.place_in-place-in-Two.ensures.landing)
 
 pub returns-in_default-clause-gap : goal.returns-in_default-clause-gap
 returns-in_default-clause-gap c =
     let fs = frames_at c.args.certificate.now.contexts c.args.context in
     second_gap (family_of c.args.certificate.now) c.args.state.now fs c.args.moves c.in-Two.first c.in-Two.second c.check_covered-in-Two-2.result c.in-Two.is
-    (c.in_default.ensures.covered (fs, c.in-Two.first) c.place_in-place.ensures)
-    (c.check_covered-in-Two-2.ensures.gap (fs, c.in-Two.second) c.place_in-place-in-Two.ensures)
+    (c.in_default.ensures.covered (fs, c.in-Two.first) c.place_in-place.ensures.landing)
+    (c.check_covered-in-Two-2.ensures.gap (fs, c.in-Two.second) c.place_in-place-in-Two.ensures.landing)

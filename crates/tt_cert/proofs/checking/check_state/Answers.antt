@@ -1,40 +1,79 @@
-use Rattle.std.proofs.Common.{◌≡◌, sym, ◌∙◌, ap, subst, false}
-use Rattle.tt_abs.specs.declared.state.State.{State}
-use Rattle.tt_abs.specs.Settings.{setting_of}
-use Rattle.tt_abs.specs.States.{state_order}
+use Rattle.std.proofs.Common.{rules, ◌≡◌, refl, sym, ◌∙◌, ap, subst, true, false, Ok, reverse}
 use Rattle.tt_code.specs.Settings.{is_main_end}
+use Rattle.tt_abs.specs.declared.state.State.{State}
+use Rattle.tt_abs.specs.Moves.{nexts_of}
+use Rattle.tt_abs.specs.Settings.{setting_of}
+use Rattle.tt_abs.specs.States.{abstract_of, state_order}
+use Rattle.tt_abs.specs.Transfers.{outcome_on_cells}
 use Rattle.tt_cert.specs.Contents.{family_of, frames_at}
-use Rattle.tt_cert.proofs.Checked.{frames_back, outcome_moved, refusal_moved, sound_from, broken_from, refused_here}
+use Rattle.tt_cert.specs.GoodFamilies.{IsStoredWithin}
+use Rattle.tt_cert.proofs.Checked.{frames_back, outcome_moved, refusal_moved, stores_here, sound_at_end, sound_from, broken_from, refused_here}
+use Rattle.tt_cert.proofs.Listing.{stored_within, stored_above}
+use Rattle.tt_cert.proofs.Turns.{turn_left}
 use Rattle.tt_cert.proofs.checking.check_state.Goals as goal
+
+pub returns-then-not-are_stored_within-clause-broken : goal.returns-then-not-are_stored_within-clause-broken
+returns-then-not-are_stored_within-clause-broken c =
+    let fs = frames_at c.args.certificate.now.contexts c.args.calls.now.context in
+    let above : c.are_stored_within.result ≡ false = search rules in
+    stores_here (setting_of c.args.setting.now) (family_of c.args.certificate.now) (fs, c.args.offset) c.args.state.now c.fault_at.result c.place_in-place.result c.fault_at.ensures
+    c.place_in-place.ensures.landing.spot c.place_in-place.ensures.landing.offset
+    (stored_above (setting_of c.args.setting.now) c.args.state.now c.stored.result.now c.are_stored_within.result c.stored.ensures c.are_stored_within.ensures above)
+
+pub returns-then-is_end-clause-sound : goal.returns-then-is_end-clause-sound
+returns-then-is_end-clause-sound c =
+    let S = setting_of c.args.setting.now in
+    let fs = frames_at c.args.certificate.now.contexts c.args.calls.now.context in
+    let within : c.are_stored_within.result ≡ true = search rules in
+    let back = frames_back c.as_slice.result.now _ fs c.as_slice.ensures.value c.requires.calls.frames in
+    let ends : is_main_end S fs c.args.offset ≡ true = ap (λ f. is_main_end S f c.args.offset) (sym back) ∙ sym c.is_end.ensures ∙ c.if-is_end.true in
+    sound_at_end S (family_of c.args.certificate.now) (fs, c.args.offset) c.args.state.now
+    (stored_within S c.args.state.now c.stored.result.now c.are_stored_within.result c.stored.ensures c.are_stored_within.ensures within) ends
+
+pub check_moves-requires-clause-turn : goal.check_moves-requires-clause-turn
+check_moves-requires-clause-turn c =
+    let S = setting_of c.args.setting.now in
+    let fs = frames_at c.args.certificate.now.contexts c.args.calls.now.context in
+    let back = frames_back c.as_slice.result.now _ fs c.as_slice.ensures.value c.requires.calls.frames in
+    let outcome : outcome_on_cells S fs c.args.offset (abstract_of c.args.state.now) ≡ Ok (nexts_of fs c.in-Ok.moves (abstract_of c.stepped.new.state)) =
+    outcome_moved S fs _ c.args.offset _ c.args.state.now _ back refl c.in_ok-next.ensures c.in-Ok.moves c.stepped.new.state c.in-Ok.ensures.ok in
+    turn_left S fs c.args.offset (abstract_of c.args.state.now) (abstract_of c.stepped.new.state) c.in-Ok.moves outcome
 
 pub returns-in-Ok-clause-sound : goal.returns-in-Ok-clause-sound
 returns-in-Ok-clause-sound c =
     let S = setting_of c.args.setting.now in
     let fs = frames_at c.args.certificate.now.contexts c.args.calls.now.context in
-    let back = frames_back c.as_slice-frames.result.now _ fs c.as_slice-frames.ensures.value c.requires.calls.frames in
+    let within : c.are_stored_within.result ≡ true = search rules in
+    let back = frames_back c.as_slice.result.now _ fs c.as_slice.ensures.value c.requires.calls.frames in
     let R : State → Type 0 = λ x. state_order.InRange x in
-    sound_from S (family_of c.args.certificate.now) (fs, c.args.offset) c.args.state.now c.in-Ok.moves c.stepped.new.state
+    sound_from S (family_of c.args.certificate.now) (fs, c.args.offset) c.args.state.now
+    (stored_within S c.args.state.now c.stored.result.now c.are_stored_within.result c.stored.ensures c.are_stored_within.ensures within) c.in-Ok.moves c.stepped.new.state
     (c.in-Ok.ensures.in_range (subst R (sym c.in_ok-next.ensures) c.requires.in_range))
-    (outcome_moved S fs _ c.args.offset _ c.args.state.now _ back c.place_in-place.ensures.offset c.in_ok-next.ensures c.in-Ok.moves c.stepped.new.state c.in-Ok.ensures.ok)
+    (outcome_moved S fs _ c.args.offset _ c.args.state.now _ back refl c.in_ok-next.ensures c.in-Ok.moves c.stepped.new.state c.in-Ok.ensures.ok)
     c.check_moves.result c.check_moves.ensures.covered
 
 pub returns-in-Ok-clause-broken : goal.returns-in-Ok-clause-broken
 returns-in-Ok-clause-broken c =
     let S = setting_of c.args.setting.now in
     let fs = frames_at c.args.certificate.now.contexts c.args.calls.now.context in
-    let back = frames_back c.as_slice-frames.result.now _ fs c.as_slice-frames.ensures.value c.requires.calls.frames in
+    let within : c.are_stored_within.result ≡ true = search rules in
+    let back = frames_back c.as_slice.result.now _ fs c.as_slice.ensures.value c.requires.calls.frames in
     let running : is_main_end S fs c.args.offset ≡ false = ap (λ f. is_main_end S f c.args.offset) (sym back) ∙ sym c.is_end.ensures ∙ c.if-is_end.false in
     let R : State → Type 0 = λ x. state_order.InRange x in
-    broken_from S (family_of c.args.certificate.now) (fs, c.args.offset) c.args.state.now c.in-Ok.moves c.stepped.new.state
+    broken_from S (family_of c.args.certificate.now) (fs, c.args.offset) c.args.state.now
+    (stored_within S c.args.state.now c.stored.result.now c.are_stored_within.result c.stored.ensures c.are_stored_within.ensures within) c.in-Ok.moves c.stepped.new.state
     (c.in-Ok.ensures.in_range (subst R (sym c.in_ok-next.ensures) c.requires.in_range))
-    (outcome_moved S fs _ c.args.offset _ c.args.state.now _ back c.place_in-place.ensures.offset c.in_ok-next.ensures c.in-Ok.moves c.stepped.new.state c.in-Ok.ensures.ok)
+    (outcome_moved S fs _ c.args.offset _ c.args.state.now _ back refl c.in_ok-next.ensures c.in-Ok.moves c.stepped.new.state c.in-Ok.ensures.ok)
     running c.check_moves.result c.check_moves.ensures.gap
 
 pub returns-clause-broken : goal.returns-clause-broken
 returns-clause-broken c =
     let S = setting_of c.args.setting.now in
     let fs = frames_at c.args.certificate.now.contexts c.args.calls.now.context in
-    let back = frames_back c.as_slice-frames.result.now _ fs c.as_slice-frames.ensures.value c.requires.calls.frames in
+    let within : c.are_stored_within.result ≡ true = search rules in
+    let back = frames_back c.as_slice.result.now _ fs c.as_slice.ensures.value c.requires.calls.frames in
     let running : is_main_end S fs c.args.offset ≡ false = ap (λ f. is_main_end S f c.args.offset) (sym back) ∙ sym c.is_end.ensures ∙ c.if-is_end.false in
-    refused_here S (family_of c.args.certificate.now) (fs, c.args.offset) c.args.state.now c.place_in-place.result c.place_in-place.ensures.spot c.place_in-place.ensures.offset running c.in-Err.fault
-    (refusal_moved S fs _ c.args.offset _ c.args.state.now _ back c.place_in-place.ensures.offset c.in_ok-next.ensures c.place_in-place.result c.in-Err.fault c.in-Err.ensures.refused)
+    refused_here S (family_of c.args.certificate.now) (fs, c.args.offset) c.args.state.now
+    (stored_within S c.args.state.now c.stored.result.now c.are_stored_within.result c.stored.ensures c.are_stored_within.ensures within) c.place_in-place.result
+    c.place_in-place.ensures.landing.spot c.place_in-place.ensures.landing.offset running c.in-Err.fault
+    (refusal_moved S fs _ c.args.offset _ c.args.state.now _ back refl c.in_ok-next.ensures c.place_in-place.result c.in-Err.fault c.in-Err.ensures.refused)

@@ -1,0 +1,99 @@
+-- What is known at the ends of a font's programs, and what the next program is looked at with.
+use Rattle.std.specs.Prelude.{IfErr, IfSome}
+use Rattle.std.specs.Result.{IsErrAnd}
+use Rattle.std.proofs.Common.{◌≡◌, ℕ, List, [], ◌∷◌, Option, None, Some, Result, Ok, Err, refl, sym, ◌∙◌, ap, subst, Bor}
+use Rattle.tt_code.specs.Cut.{Instruction, size}
+use Rattle.tt_code.specs.Fonts.{Font}
+use Rattle.tt_code.specs.Settings.{Setting as MachineSetting, Kind as MachineKind, FontProgram, CvtProgram, GlyphProgram}
+use Rattle.tt_code.specs.declared.limits.Limits.{Limits}
+use Rattle.tt_abs.specs.declared.setting.Kind.TheVariants as kind
+use Rattle.tt_abs.specs.declared.setting.Setting.{Setting}
+use Rattle.tt_abs.specs.declared.state.State.{State}
+use Rattle.tt_abs.specs.Entries.{Rises}
+use Rattle.tt_abs.specs.Settings.{kind_of, setting_of}
+use Rattle.tt_abs.specs.StateFlow.{FunctionsFit, Place}
+use Rattle.tt_cert.specs.GoodFamilies.{EndsWell, HasEnd, IsGoodFamily}
+use Rattle.tt_font.specs.Reading.{FontData, GlyphData}
+use Rattle.hintcheck.specs.FontLooks.{ComesToEnd, EndsLook, IsKnownAtEnd, IsOfSubject, subject_in}
+use Rattle.hintcheck.specs.FontPrograms.{cvt_refused, cvt_subject, font_refused, font_subject}
+use Rattle.hintcheck.specs.Looks.{IfRefused, IsAccepted, IsLookedAt}
+use Rattle.hintcheck.specs.Programs.{EndsWith, HasLeastFamily, IsCutInto, IsRefusal, Subject}
+use Rattle.hintcheck.specs.declared.fonts.Common.{Common}
+use Rattle.hintcheck.specs.declared.look.LookFault.{LookFault}
+use Rattle.hintcheck.specs.declared.look.LookFault.TheVariants.{Refused, OutOfMemory}
+use Rattle.hintcheck.specs.declared.verdict.Name.{Name}
+use Rattle.hintcheck.specs.declared.verdict.Name.TheVariants as name
+use Rattle.hintcheck.specs.declared.verdict.Refused.{Refused as AnyRefused}
+
+-- the functions of a good family's states rise by number
+pub functions_rise : (s : MachineSetting) (functions : List (ℕ × ℕ)) (family : Place → Option State) (p : Place) (a : State) → IsGoodFamily s functions family → family p ≡ Some a → Rises a.functions
+functions_rise s functions family p a good at = (good.good.in_range p a at).1.1.0.rises
+
+-- what an accepted program knows at its end
+pub known_at_end : (x : Subject) (is : List Instruction) (family : Place → Option State) (end : State) (functions : List (ℕ × ℕ)) → IsAccepted x is family
+    → family ([], size is) ≡ Some end → functions ≡ end.functions → IsKnownAtEnd x is functions
+known_at_end x is family end functions a at e = record {
+  ends = record { cut = a.cut; family = family; good = a.good; least = a.least; end = end; at_end = at; functions_are = sym e };
+  rises = let R : List (ℕ × ℕ) → Type 0 = λ fs. Rises fs in subst R (sym e) (functions_rise (x.setting is) x.functions family ([], size is) end a.good at);
+  fits = let F : List (ℕ × ℕ) → Type 0 = λ fs. FunctionsFit (x.setting is) fs in subst F (sym e) (a.within ([], size is) end at).functions;
+}
+
+-- an accepted program has its least family
+pub least_of : (x : Subject) (is : List Instruction) (family : Place → Option State) → IsAccepted x is family → HasLeastFamily x
+least_of x is family a = record { instructions = is; cut = a.cut; family = family; good = a.good; least = a.least }
+
+-- an accepted font program or CVT program has a state at its end
+
+has_end : (s : MachineSetting) (k : MachineKind) (family : Place → Option State) → ComesToEnd k → EndsWell s k family → HasEnd s family
+has_end s FontProgram family comes h = h
+has_end s CvtProgram family comes h = h
+has_end s (GlyphProgram points contours) family comes h = absurd comes
+
+pub end_is_there : (name : Name) (s : Setting) (family : Place → Option State) → IsOfSubject name s → ComesToEnd (setting_of s).kind
+    → ((x : Subject) → IsLookedAt x name s → IsAccepted x s.main.now family) → family ([], size s.main.now) ≡ None → ⊥
+end_is_there name s family of comes accepted none =
+    let (x, looked) = of in
+    let E : MachineSetting → Type 0 = λ t. EndsWell t t.kind family in
+    let (end, at) = has_end (setting_of s) (setting_of s).kind family comes (subst E looked.setting (accepted x looked).good.ends) in
+    let no_such : None ≡ Some end = sym none ∙ at in absurd (cc)
+
+-- settings with the same limits and the same number of control values
+pub same_setting : (l l' : Limits) (n n' : ℕ) (k : MachineKind) (main font prep : List Instruction) → l ≡ l' → n ≡ n'
+    → ◌≡◌ {A = MachineSetting} (record { limits = l; cvt = n; kind = k; main = main; font = font; prep = prep }) (record { limits = l'; cvt = n'; kind = k; main = main; font = font; prep = prep })
+same_setting l l' n n' k main font prep el en = λ i. record { limits = el i; cvt = en i; kind = k; main = main; font = font; prep = prep }
+
+-- a refused font program and a refused CVT program end the look
+
+pub font_ends_look : (d : FontData) (fault : LookFault) → IfRefused fault (IsRefusal (font_subject d)) → IfRefused fault (EndsLook d)
+font_ends_look d (Refused r) is = font_refused r is
+font_ends_look d (OutOfMemory e) is = tt
+
+pub cvt_ends_look : (d : FontData) (f : List Instruction) (functions : List (ℕ × ℕ)) (fault : LookFault) → EndsWith (font_subject d) f functions
+    → IfRefused fault (IsRefusal (cvt_subject d f functions)) → IfRefused fault (EndsLook d)
+cvt_ends_look d f functions (Refused r) ends is = cvt_refused f functions r ends is
+cvt_ends_look d f functions (OutOfMemory e) ends is = tt
+
+-- the functions of an accepted program, as the code reads and copies them
+pub known_of_accepted : (x : Subject) (is : List Instruction) (family : Place → Option State) (n : ℕ) (found : Option (Bor (List (ℕ × ℕ)))) (functions : Bor (List (ℕ × ℕ))) (copy : List (ℕ × ℕ))
+    → IsAccepted x is family → n ≡ size is → IfSome found (λ fs. (end : State) × (family ([], n) ≡ Some end) × (fs.now ≡ end.functions)) → found ≡ Some functions
+    → copy ≡ functions.now → IsKnownAtEnd x is copy
+known_of_accepted x is family n found functions copy a size_is some e copied =
+    let S : Option (Bor (List (ℕ × ℕ))) → Type 0 = λ o. IfSome o (λ fs. (end : State) × (family ([], n) ≡ Some end) × (fs.now ≡ end.functions)) in
+    let (end, at, same) = subst S e some in
+    known_at_end x is family end copy a (ap (λ (k : ℕ). family ([], k)) (sym size_is) ∙ at) (copied ∙ same)
+
+-- a glyph's program is looked at in the setting that has it
+pub glyph_looked : (common : Common) (id : ℕ) (g : GlyphData) (s : Setting) → IsCutInto (subject_in common id g) s.main.now → s.limits ≡ common.font.now.limits
+    → s.cvt ≡ common.font.now.cvt_count → s.kind ≡ kind.Glyph g.points g.contours → s.font.now ≡ common.fpgm.now → s.prep.now ≡ common.prep.now → s.start.now ≡ common.known.now
+    → IsLookedAt (subject_in common id g) (name.Glyph id) s
+glyph_looked common id g s is_cut limits cvt kind_is font prep start = record {
+  name = refl;
+  cut = is_cut;
+  setting = λ i. record { limits = sym limits i; cvt = sym cvt i; kind = sym (ap kind_of kind_is) i; main = s.main.now; font = sym font i; prep = sym prep i };
+  functions = sym start;
+}
+
+-- an error passed on
+pub passed_on : {T : Type 0} (r : Result T LookFault) (fault : LookFault) (P : LookFault → Type 0) → IsErrAnd r (λ x. x ≡ fault) → P fault → IfErr r P
+passed_on (Ok x) fault P is h = absurd is
+passed_on (Err x) fault P is h = subst P (sym is) h

@@ -1,0 +1,123 @@
+-- A verdict that refuses no program of a font makes it safe.
+use Rattle.std.specs.Prelude.{◌^◌, slice_get}
+use Rattle.std.specs.List.{AllByRecursion, concat}
+use Rattle.std.proofs.Common.{◌≡◌, ℕ, zero, suc, ◌+◌, ◌<◌, ◌≤◌, List, [], ◌∷◌, ◌++◌, Option, None, Some, length, refl, sym, ◌∙◌, ap, subst, arith}
+use Rattle.tt_code.specs.Cut.{Instruction, IsCut, size}
+use Rattle.tt_code.specs.Fonts.{Font, font_setting, cvt_setting, glyph_setting, StartsFontProgram, StartsCvtProgram, StartsGlyphProgram}
+use Rattle.tt_code.specs.Settings.{Setting}
+use Rattle.tt_code.proofs.CutLemmas.{size_is}
+use Rattle.tt_abs.specs.declared.state.State.{State}
+use Rattle.tt_abs.specs.Entries.{Rises}
+use Rattle.tt_abs.specs.Ranges.{AreBytes, IsSettingInRange}
+use Rattle.tt_abs.specs.Soundness.{IsSafe}
+use Rattle.tt_abs.specs.StateFlow.{AreProgramsShort, Place}
+use Rattle.tt_abs.specs.States.{state_order}
+use Rattle.tt_abs.proofs.Soundness.{good_is_safe}
+use Rattle.tt_cert.specs.GoodFamilies.{IsGoodFamily}
+use Rattle.tt_font.specs.Reading.{FontData, GlyphData}
+use Rattle.hintcheck.specs.FontPrograms.{AreRefused, IsSafeFont, IsSafeGlyph, IsVerdict, all_looked_at, accepted, refused, cvt_refused, cvt_subject, font_of, font_refused, font_subject, glyph_subject, judgement_on, looked_at_all}
+use Rattle.hintcheck.specs.FontLooks.{AreFewBytes, IsFontInRange}
+use Rattle.hintcheck.specs.Programs.{EndsWith, HasLeastFamily}
+use Rattle.hintcheck.specs.Verdicts.{Judgement}
+use Rattle.hintcheck.specs.declared.verdict.Refused.{Refused}
+use Rattle.hintcheck.proofs.FontEnds.{functions_rise}
+use Rattle.hintcheck.proofs.FontRuns.{AllStartWith, cvt_starts, font_starts, glyph_starts, never_faults_from}
+
+-- programs of few bytes, cut
+
+record AreInRange (is : List Instruction) : Type 0 where
+  bytes : AllByRecursion AreBytes is
+  short : size is < 2 ^ 31
+
+front : (xs ys : List ℕ) → AreBytes (xs ++ ys) → AreBytes xs
+front [] ys h = tt
+front (x ∷ xs) ys h = (h.0, front xs ys h.1)
+
+behind : (xs ys : List ℕ) → AreBytes (xs ++ ys) → AreBytes ys
+behind [] ys h = h
+behind (x ∷ xs) ys h = behind xs ys h.1
+
+each_of_bytes : (is : List Instruction) → AreBytes (concat is) → AllByRecursion AreBytes is
+each_of_bytes [] h = tt
+each_of_bytes (i ∷ is) h = (front i (concat is) h, each_of_bytes is (behind i (concat is) h))
+
+cut_in_range : (xs : List ℕ) (is : List Instruction) → AreFewBytes xs → IsCut xs is → AreInRange is
+cut_in_range xs is h cut = record {
+  bytes = each_of_bytes is (subst AreBytes (sym cut.joined) h.bytes);
+  short = let e : size is ≡ length xs = size_is is ∙ ap length cut.joined in let few = h.few in omega arith;
+}
+
+-- a good family is safe
+
+family_is_safe : (s : Setting) (functions : List (ℕ × ℕ)) (family : Place → Option State) → s.limits.stack < 2 ^ 16 → AreInRange s.main → AreInRange s.font → AreInRange s.prep
+    → Rises functions → IsGoodFamily s functions family → IsSafe s functions family
+family_is_safe s functions family depth main font prep rises good =
+    good_is_safe s (record { depth = depth; main = main.bytes; font = font.bytes; prep = prep.bytes }) (record { main = main.short; font = font.short; prep = prep.short })
+    functions rises family good.good
+
+-- an accepted glyph program
+
+module _ (d : FontData) (range : IsFontInRange d) (f p : List Instruction) (font_range : AreInRange f) (prep_range : AreInRange p)
+    (known : List (ℕ × ℕ)) (rises : Rises known) (starts : AllStartWith (StartsGlyphProgram (font_of d f p)) known) where
+  glyph_is_safe : (id : ℕ) (g : GlyphData) → AreFewBytes g.program → HasLeastFamily (glyph_subject (font_of d f p) known id g) → IsSafeGlyph (font_of d f p) g
+  glyph_is_safe id g few h =
+      let s : Setting = glyph_setting (font_of d f p) g.points g.contours h.instructions in
+      let e : size h.instructions ≡ length g.program = size_is h.instructions ∙ ap length h.cut.is_cut.joined in
+      let short : size h.instructions ≤ d.limits.program_size = h.good.short in
+      record {
+        short = omega arith;
+        instructions = h.instructions;
+        is_cut = h.cut.is_cut;
+        structured = h.cut.structured;
+        never_faults = never_faults_from s known h.family (StartsGlyphProgram (font_of d f p))
+            (family_is_safe s known h.family range.depth (cut_in_range g.program h.instructions few h.cut.is_cut) font_range prep_range rises h.good) starts;
+      }
+
+  -- where none of the glyph programs is refused, each has its least family
+  none_refused : (id : ℕ) (gs : List GlyphData) (rs : List Refused) → AreRefused (font_of d f p) known id gs rs → rs ≡ []
+      → (k : ℕ) (g : GlyphData) → slice_get gs k ≡ Some g → (n : ℕ) × HasLeastFamily (glyph_subject (font_of d f p) known n g)
+  none_refused id gs rs (all_looked_at n) e k g at = absurd (cc)
+  none_refused id gs rs (accepted n x xs qs least rest) e zero g at =
+      let G : GlyphData → Type 0 = λ y. HasLeastFamily (glyph_subject (font_of d f p) known n y) in
+      let same : x ≡ g = cc in (n, subst G same least)
+  none_refused id gs rs (accepted n x xs qs least rest) e (suc k) g at = none_refused (n + 1) xs qs rest e k g at
+  none_refused id gs rs (refused n x xs r qs is rest) e k g at = absurd (cc)
+
+  glyphs_are_safe : AreRefused (font_of d f p) known 0 d.glyphs [] → (id : ℕ) (g : GlyphData) → slice_get d.glyphs id ≡ Some g → IsSafeGlyph (font_of d f p) g
+  glyphs_are_safe h id g at = let (n, least) = none_refused 0 d.glyphs [] h refl id g at in glyph_is_safe n g (range.glyphs id g at) least
+
+-- the font
+
+all_looked_at_safe : (d : FontData) → IsFontInRange d → (f p : List Instruction) (functions known : List (ℕ × ℕ)) → EndsWith (font_subject d) f functions
+    → EndsWith (cvt_subject d f functions) p known → AreRefused (font_of d f p) known 0 d.glyphs [] → IsSafeFont d
+all_looked_at_safe d range f p functions known font cvt glyphs =
+    let F : Font = font_of d f p in
+    let f_range = cut_in_range d.fpgm f range.fpgm font.cut.is_cut in
+    let p_range = cut_in_range d.prep p range.prep cvt.cut.is_cut in
+    let font_safe : IsSafe (font_setting F) [] font.family = family_is_safe (font_setting F) [] font.family range.depth f_range f_range f_range tt font.good in
+    let R : List (ℕ × ℕ) → Type 0 = λ fs. Rises fs in
+    let rises : Rises functions = subst R font.functions_are (functions_rise (font_setting F) [] font.family ([], size f) font.end font.good font.at_end) in
+    let C : List (ℕ × ℕ) → Type 0 = λ fs. AllStartWith (StartsCvtProgram F) fs in
+    let cvt_start : AllStartWith (StartsCvtProgram F) functions = subst C font.functions_are (cvt_starts F font.family font.end font_safe font.at_end) in
+    let cvt_safe : IsSafe (cvt_setting F) functions cvt.family = family_is_safe (cvt_setting F) functions cvt.family range.depth p_range f_range p_range rises cvt.good in
+    let known_rises : Rises known = subst R cvt.functions_are (functions_rise (cvt_setting F) functions cvt.family ([], size p) cvt.end cvt.good cvt.at_end) in
+    let G : List (ℕ × ℕ) → Type 0 = λ fs. AllStartWith (StartsGlyphProgram F) fs in
+    let glyph_start : AllStartWith (StartsGlyphProgram F) known = subst G cvt.functions_are (glyph_starts F functions cvt.family cvt.end cvt_start cvt_safe cvt.at_end) in
+    record {
+      font_program = f;
+      font_cut = font.cut.is_cut;
+      font_structured = font.cut.structured;
+      cvt_program = p;
+      cvt_cut = cvt.cut.is_cut;
+      cvt_structured = cvt.cut.structured;
+      font_never_faults = never_faults_from (font_setting F) [] font.family (StartsFontProgram F) font_safe (font_starts F);
+      cvt_never_faults = never_faults_from (cvt_setting F) functions cvt.family (StartsCvtProgram F) cvt_safe cvt_start;
+      glyphs = glyphs_are_safe d range f p f_range p_range known known_rises glyph_start glyphs;
+    }
+
+pub font_is_safe : (d : FontData) → IsFontInRange d → (v : Judgement) → IsVerdict d v → v.refused ≡ [] → IsSafeFont d
+font_is_safe d range v (font_refused r is) e = absurd (cc)
+font_is_safe d range v (cvt_refused f functions r ends is) e = absurd (cc)
+font_is_safe d range v (looked_at_all f p functions known rs font cvt glyphs) e =
+    let N : List Refused → Type 0 = λ rs. AreRefused (font_of d f p) known 0 d.glyphs rs in
+    all_looked_at_safe d range f p functions known font cvt (subst N e glyphs)

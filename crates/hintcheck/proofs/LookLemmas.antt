@@ -1,0 +1,216 @@
+-- Why a program that is looked at is accepted or refused.
+use Rattle.std.proofs.Common.{◌≡◌, ◌⊎◌, inl, inr, ℕ, List, [], Option, Some, Result, Ok, Err, refl, sym, ◌∙◌, ap, subst}
+use Rattle.std.specs.Prelude.{IfErr, IfOk}
+use Rattle.tt_code.specs.Cut.{Instruction, IsCut, CannotBeCut, size}
+use Rattle.tt_code.specs.Grammar.{IsFault}
+use Rattle.tt_code.specs.Settings.{Kind, FontProgram, CvtProgram, GlyphProgram, Setting}
+use Rattle.tt_code.specs.declared.reason.Reason.{Reason}
+use Rattle.tt_code.specs.declared.reason.Reason.TheVariants as reason
+use Rattle.tt_code.proofs.CutLemmas.{one_cut}
+use Rattle.tt_code.proofs.ProgramLemmas.{no_fault}
+use Rattle.tt_abs.specs.declared.state.State.{State}
+use Rattle.tt_abs.specs.Entries.{Rises}
+use Rattle.tt_abs.specs.Families.{IsBelowFamily, IsGood}
+use Rattle.tt_abs.specs.FamilyLaws.{none_where_refused}
+use Rattle.tt_abs.specs.Ranges.{IsSettingInRange}
+use Rattle.tt_abs.specs.Soundness.{IsSafe}
+use Rattle.tt_abs.specs.StateFlow.{AreProgramsShort, FitsLimits, FunctionsFit, Place, flow_of, height_of}
+use Rattle.tt_abs.specs.States.{state_laws, state_order}
+use Rattle.tt_abs.proofs.FlowOfStates.{state_flow_laws}
+use Rattle.tt_cert.specs.Contents.{Contents, family_of}
+use Rattle.tt_cert.specs.GoodFamilies.{EndsWell, HasEnd, IsGoodFamily}
+use Rattle.tt_cert.specs.Spots.{spot_of}
+use Rattle.tt_cert.specs.declared.spot.Spot.{Spot}
+use Rattle.tt_find.specs.declared.fault.FindFault.{FindFault}
+use Rattle.tt_find.specs.declared.fault.FindFault.TheVariants as find_fault
+use Rattle.tt_find.specs.Found.{IsJustified, IsLeast, IsNeverEnding, IsWantOfMemory as IsWantOfFindMemory, LacksEnd, NamesPlace, NoneIsGood, too_long, refused, apart, too_many, never_ends}
+use Rattle.hintcheck.specs.Programs.{HasGoodFamily, HasLeastFamily, IsCause, IsCutInto, IsRefusal, Subject, no_cut, no_structure, no_family, program_at}
+use Rattle.hintcheck.specs.Looks.{IfRefused, IsAccepted, IsWantOfMemory, told_at}
+use Rattle.hintcheck.specs.declared.look.LookFault.{LookFault}
+use Rattle.hintcheck.specs.declared.look.LookFault.TheVariants as fault
+use Rattle.hintcheck.specs.declared.verdict.Name.{Name}
+use Rattle.hintcheck.specs.declared.verdict.Refused.{Refused as AnyRefused}
+
+-- what holds of a setting and its functions holds of a subject that has them
+pub of_subject : (P : Setting → List (ℕ × ℕ) → Type 0) (x : Subject) (is : List Instruction) (s : Setting) (fs : List (ℕ × ℕ)) → x.setting is ≡ s → x.functions ≡ fs
+    → P s fs → P (x.setting is) x.functions
+of_subject P x is s fs es ef h =
+    let Q : List (ℕ × ℕ) → Type 0 = λ f. P (x.setting is) f in
+    let R : Setting → Type 0 = λ t. P t fs in
+    subst Q (sym ef) (subst R (sym es) h)
+
+-- a program has one list of instructions
+pub known_cut : (x : Subject) (is js : List Instruction) → IsCutInto x is → IsCutInto x js → js ≡ is
+known_cut x is js c d = one_cut x.bytes js is d.is_cut c.is_cut
+
+-- the good family of a program whose instructions are known
+pub known_good : (x : Subject) (is : List Instruction) → IsCutInto x is → HasGoodFamily x
+    → (family : Place → Option State) × IsGoodFamily (x.setting is) x.functions family
+known_good x is c g =
+    let P : List Instruction → Type 0 = λ t. IsGoodFamily (x.setting t) x.functions g.family in
+    (g.family, subst P (known_cut x is g.instructions c g.cut) g.good)
+
+-- and its least family
+pub known_least : (x : Subject) (is : List Instruction) → IsCutInto x is → HasLeastFamily x
+    → (family : Place → Option State) × IsGoodFamily (x.setting is) x.functions family × IsLeast (x.setting is) x.functions family
+known_least x is c l =
+    let P : List Instruction → Type 0 = λ t. IsGoodFamily (x.setting t) x.functions l.family in
+    let Q : List Instruction → Type 0 = λ t. IsLeast (x.setting t) x.functions l.family in
+    let e = known_cut x is l.instructions c l.cut in
+    (l.family, subst P e l.good, subst Q e l.least)
+
+-- what has the least family has a good one
+pub good_of_least : (x : Subject) → HasLeastFamily x → HasGoodFamily x
+good_of_least x l = record { instructions = l.instructions; cut = l.cut; family = l.family; good = l.good }
+
+-- what is told of a refusal
+pub is_refusal : (x : Subject) (called : Name) (at : Place) (spot : Spot) (offset : ℕ) (r : Reason) → x.name ≡ called → spot ≡ spot_of at.0 → offset ≡ at.1
+    → IsCause x at r → (HasLeastFamily x → ⊥) → ((r ≡ reason.NeverEnds) ⊎ (HasGoodFamily x → ⊥)) → IsRefusal x (told_at called spot offset r)
+is_refusal x called at spot offset r en es eo cause no_least no_good = record {
+  program = sym en;
+  at = at;
+  spot = same_program called x.name spot (spot_of at.0) (sym en) es;
+  offset = eo;
+  cause = cause;
+  no_least = no_least;
+  no_good = no_good;
+}
+  where
+    same_program : (a b : Name) (s t : Spot) → a ≡ b → s ≡ t → program_at a s ≡ program_at b t
+    same_program a b s t e f = ap (λ n. program_at n s) e ∙ ap (λ p. program_at b p) f
+
+-- the refusal of a program that has no good family
+pub without_good : (x : Subject) (called : Name) (at : Place) (spot : Spot) (offset : ℕ) (r : Reason) → x.name ≡ called → spot ≡ spot_of at.0 → offset ≡ at.1
+    → IsCause x at r → (HasGoodFamily x → ⊥) → IsRefusal x (told_at called spot offset r)
+without_good x called at spot offset r en es eo cause none =
+    is_refusal x called at spot offset r en es eo cause (λ l. none (good_of_least x l)) (inr none)
+
+-- bytes that aren't cut
+
+pub not_cut : (x : Subject) (offset : ℕ) → CannotBeCut x.bytes offset → HasGoodFamily x → ⊥
+not_cut x offset cannot g = cannot.uncut g.instructions g.cut.is_cut
+
+pub not_structured : (x : Subject) (is : List Instruction) (offset : ℕ) → IsCut x.bytes is → IsFault is offset → HasGoodFamily x → ⊥
+not_structured x is offset cut fault g = no_fault x.bytes is g.instructions offset cut g.cut.is_cut g.cut.structured fault
+
+-- programs that never end
+
+-- what a program's flow asks of its setting and of its functions
+pub record HasFlow (s : Setting) (functions : List (ℕ × ℕ)) : Type 0 where
+  pub range : IsSettingInRange s
+  pub short : AreProgramsShort s
+  pub rises : Rises functions
+  pub fits : FunctionsFit s functions
+
+-- where a program has a good family, and is refused for never ending, a family lacks the end
+pub lacks_end : (s : Setting) (fs : List (ℕ × ℕ)) → HasFlow s fs → (p : Place) (r : Reason) → IsJustified s fs p r → r ≡ reason.NeverEnds
+    → (family : Place → Option State) → IsGood state_order (flow_of s fs) family → (other : Place → Option State) × LacksEnd s fs other
+lacks_end s fs h p r (too_long long) e family good = absurd (cc)
+lacks_end s fs h p r (refused q a r' d refuses) e family good =
+    absurd (none_where_refused state_order (flow_of s fs) (height_of s) state_laws (state_flow_laws s h.range h.short fs h.rises h.fits) q a r' d refuses family good)
+lacks_end s fs h p r (apart q a b da db differ) e family good = absurd (cc)
+lacks_end s fs h p r (too_many q enters) e family good = absurd (cc)
+lacks_end s fs h p r (never_ends other lacks) e family good = (other, lacks)
+
+-- the end that a family has, each family above it has
+ends_above : (s : Setting) (k : Kind) (family other : Place → Option State) → IsBelowFamily state_order family other → EndsWell s k family → EndsWell s k other
+ends_above s FontProgram family other below (a, at) = let (u, at', under) = below ([], size s.main) a at in (u, at')
+ends_above s CvtProgram family other below (a, at) = let (u, at', under) = below ([], size s.main) a at in (u, at')
+ends_above s (GlyphProgram points contours) family other below h = tt
+
+-- the least family of a program comes to the end, if any does
+pub least_ends : (s : Setting) (fs : List (ℕ × ℕ)) → HasFlow s fs → (p : Place) (r : Reason) → IsJustified s fs p r → r ≡ reason.NeverEnds
+    → (family : Place → Option State) → IsGoodFamily s fs family → IsLeast s fs family → ⊥
+least_ends s fs h p r justified e family good least =
+    let (other, lacks) = lacks_end s fs h p r justified e family good.good in
+    lacks.endless (ends_above s s.kind family other (least.below other lacks.good) good.ends)
+
+-- a glyph program isn't asked for its end
+pub glyph_ends : (s : Setting) (fs : List (ℕ × ℕ)) (points contours : ℕ) → s.kind ≡ GlyphProgram points contours → HasFlow s fs → (p : Place) (r : Reason)
+    → IsJustified s fs p r → r ≡ reason.NeverEnds → (family : Place → Option State) → IsGoodFamily s fs family → ⊥
+glyph_ends s fs points contours k h p r justified e family good =
+    let (other, lacks) = lacks_end s fs h p r justified e family good.good in
+    let P : Kind → Type 0 = λ t. EndsWell s t other in
+    lacks.endless (subst P (sym k) tt)
+
+-- what the finder says of a refusal, besides its cause
+abbrev pub IsNoFamily : Setting → List (ℕ × ℕ) → Reason → Type 0
+IsNoFamily s fs r = (r ≡ reason.NeverEnds) ⊎ NoneIsGood s fs
+
+none_known : (x : Subject) (is : List Instruction) → IsCutInto x is → NoneIsGood (x.setting is) x.functions → HasGoodFamily x → ⊥
+none_known x is c none g = let (family, good) = known_good x is c g in none family good.short good.good good.few
+
+-- a program for which no family is found has no least one
+pub found_no_least : (x : Subject) (is : List Instruction) → IsCutInto x is → HasFlow (x.setting is) x.functions → (p : Place) (r : Reason)
+    → IsJustified (x.setting is) x.functions p r → IsNoFamily (x.setting is) x.functions r → HasLeastFamily x → ⊥
+found_no_least x is c h p r justified (inl e) l =
+    let (family, good, least) = known_least x is c l in least_ends (x.setting is) x.functions h p r justified e family good least
+found_no_least x is c h p r justified (inr none) l = none_known x is c none (good_of_least x l)
+
+-- unless it never ends, it has no good one
+pub found_no_good : (x : Subject) (is : List Instruction) → IsCutInto x is → (r : Reason) → IsNoFamily (x.setting is) x.functions r → (r ≡ reason.NeverEnds) ⊎ (HasGoodFamily x → ⊥)
+found_no_good x is c r (inl e) = inl e
+found_no_good x is c r (inr none) = inr (none_known x is c none)
+
+-- and so it is with a glyph program in any case
+pub glyph_no_good : (x : Subject) (is : List Instruction) (points contours : ℕ) → (x.setting is).kind ≡ GlyphProgram points contours → IsCutInto x is
+    → HasFlow (x.setting is) x.functions → (p : Place) (r : Reason) → IsJustified (x.setting is) x.functions p r → IsNoFamily (x.setting is) x.functions r → HasGoodFamily x → ⊥
+glyph_no_good x is points contours k c h p r justified (inl e) g =
+    let (family, good) = known_good x is c g in glyph_ends (x.setting is) x.functions points contours k h p r justified e family good
+glyph_no_good x is points contours k c h p r justified (inr none) g = none_known x is c none g
+
+-- the answers
+
+-- a family that is found and checked
+pub accepted : {F : Type 0} (x : Subject) (is : List Instruction) (s : Setting) (fs : List (ℕ × ℕ)) (found : Contents) (r : Result Contents F) → IsCutInto x is → x.setting is ≡ s → x.functions ≡ fs
+    → IsLeast s fs (family_of found) → ((p : Place) (a : State) → family_of found p ≡ Some a → FitsLimits s a)
+    → IfOk r (λ a. a ≡ found) → IfOk r (λ a. IsGoodFamily s fs (family_of a)) → IfOk r (λ a. IsSafe s fs (family_of a)) → IfOk r (λ a. IsAccepted x is (family_of a))
+accepted x is s fs found (Err e) c es ef least within same good safe = tt
+accepted x is s fs found (Ok a) c es ef least within same good safe =
+    let Q : Contents → Type 0 = λ t. IsLeast s fs (family_of t) in
+    let R : Contents → Type 0 = λ t. (p : Place) (b : State) → family_of t p ≡ Some b → FitsLimits s b in
+    let back = sym same in record {
+      cut = c;
+      good = of_subject (λ t f. IsGoodFamily t f (family_of a)) x is s fs es ef good;
+      least = of_subject (λ t f. IsLeast t f (family_of a)) x is s fs es ef (subst Q back least);
+      within = of_subject (λ t f. (p : Place) (b : State) → family_of a p ≡ Some b → FitsLimits t b) x is s fs es ef (subst R back within);
+      safe = of_subject (λ t f. IsSafe t f (family_of a)) x is s fs es ef safe;
+    }
+
+-- want of memory refuses nothing
+pub refuses_nothing : {T : Type 0} (r : Result T LookFault) (Is : AnyRefused → Type 0) → IfErr r IsWantOfMemory → IfErr r (λ f. IfRefused f Is)
+refuses_nothing (Ok a) Is h = tt
+refuses_nothing (Err (fault.Refused v)) Is h = absurd h
+refuses_nothing (Err (fault.OutOfMemory e)) Is h = tt
+
+-- a refusal that is told
+pub told : (f : LookFault) (r : AnyRefused) (Is : AnyRefused → Type 0) → f ≡ fault.Refused r → Is r → IfRefused f Is
+told f r Is e h = let P : LookFault → Type 0 = λ t. IfRefused t Is in subst P (sym e) h
+
+-- what the finder says, in a subject's words
+
+pub found_refusal : (x : Subject) (is : List Instruction) (s : Setting) (fs : List (ℕ × ℕ)) (called : Name) (p : Place) (spot : Spot) (offset : ℕ) (r : Reason) → x.name ≡ called
+    → IsCutInto x is → x.setting is ≡ s → x.functions ≡ fs → HasFlow s fs → spot ≡ spot_of p.0 → offset ≡ p.1 → IsJustified s fs p r → IsNoFamily s fs r
+    → IsRefusal x (told_at called spot offset r)
+found_refusal x is s fs called p spot offset r en c es ef h at_spot at_offset justified none =
+    let h' = of_subject HasFlow x is s fs es ef h in
+    let justified' = of_subject (λ t f. IsJustified t f p r) x is s fs es ef justified in
+    let none' = of_subject (λ t f. IsNoFamily t f r) x is s fs es ef none in
+    is_refusal x called p spot offset r en at_spot at_offset (no_family is p r c justified') (found_no_least x is c h' p r justified' none') (found_no_good x is c r none')
+
+pub glyph_without_good : (x : Subject) (is : List Instruction) (s : Setting) (fs : List (ℕ × ℕ)) (points contours : ℕ) (p : Place) (r : Reason) → IsCutInto x is → x.setting is ≡ s
+    → x.functions ≡ fs → s.kind ≡ GlyphProgram points contours → HasFlow s fs → IsJustified s fs p r → IsNoFamily s fs r → HasGoodFamily x → ⊥
+glyph_without_good x is s fs points contours p r c es ef k h justified none =
+    glyph_no_good x is points contours (ap (λ (t : Setting). t.kind) es ∙ k) c (of_subject HasFlow x is s fs es ef h) p r
+    (of_subject (λ t f. IsJustified t f p r) x is s fs es ef justified) (of_subject (λ t f. IsNoFamily t f r) x is s fs es ef none)
+
+-- the finder's refusal names its place
+pub named : (s : Setting) (fs : List (ℕ × ℕ)) (f : FindFault) (spot : Spot) (offset : ℕ) (r : Reason) → f ≡ find_fault.Refused spot offset r → NamesPlace (IsJustified s fs) f
+    → (p : Place) × (spot ≡ spot_of p.0) × (offset ≡ p.1) × IsJustified s fs p r
+named s fs f spot offset r e h = let P : FindFault → Type 0 = λ t. NamesPlace (IsJustified s fs) t in subst P e h
+
+pub no_family_at : (s : Setting) (fs : List (ℕ × ℕ)) (f : FindFault) (spot : Spot) (offset : ℕ) (r : Reason) → f ≡ find_fault.Refused spot offset r
+    → IsWantOfFindMemory f ⊎ (IsNeverEnding f ⊎ NoneIsGood s fs) → IsNoFamily s fs r
+no_family_at s fs f spot offset r e (inl h) = let P : FindFault → Type 0 = λ t. IsWantOfFindMemory t in absurd (subst P e h)
+no_family_at s fs f spot offset r e (inr (inl h)) = let P : FindFault → Type 0 = λ t. IsNeverEnding t in inl (subst P e h)
+no_family_at s fs f spot offset r e (inr (inr h)) = inr h

@@ -1,0 +1,36 @@
+use Rattle.std.specs.Option.{option_map}
+use Rattle.std.proofs.Common.{◌≡◌, ◌+◌, ◌∷◌, [], ◌++◌, List, ℕ, Some, sym, ◌∙◌, ap, subst, arith, length}
+use Rattle.tt_font.specs.GlyphParts.{glyph_data}
+use Rattle.hintcheck.specs.FontLooks.{AreRefusedBelow, font_in}
+use Rattle.hintcheck.specs.declared.verdict.Refused.{Refused}
+use Rattle.hintcheck.proofs.FontLists.{accepted_next, all_below, refused_next}
+use Rattle.hintcheck.proofs.fonts.refused_glyphs.Goals as goal
+use Rattle.hintcheck.proofs.fonts.refused_glyphs.Goals.{in-Ok, in-Err-Refused+in_ok-push-in-Err-Refused}
+
+pub look_at_glyph-requires-clause-few : goal.look_at_glyph-requires-clause-few
+look_at_glyph-requires-clause-few c =
+    (c.requires.range.glyphs c.loop-id.id (glyph_data c.unwrap-glyph.result) (sym c.glyph.ensures ∙ ap (option_map glyph_data) c.unwrap-glyph.ensures)).few
+
+pub loop-id-preserved : goal.loop-id-preserved
+loop-id-preserved c =
+    let font = font_in c.args.common.now in
+    let known = c.args.common.now.known.now in
+    let glyphs = c.args.common.now.font.now.glyphs in
+    let glyph = glyph_data c.unwrap-glyph.result in
+    let at = sym c.glyph.ensures ∙ ap (option_map glyph_data) c.unwrap-glyph.ensures in
+    let B : List Refused → Type 0 = λ rs. AreRefusedBelow font known glyphs (c.loop-id.id + 1) rs in
+    elim c.match-look_at_glyph.branch [
+      in-Ok w ↦
+        let same : c.match-look_at_glyph.refused.items ≡ c.loop-id.refused.items = ap (λ v. v.items) w.refused-is in
+        subst B (sym same) (accepted_next font known glyphs c.loop-id.id glyph c.loop-id.refused.items c.loop-id.invariant at w.in-Ok.ensures.least)
+    | in-Err-Refused+in_ok-push-in-Err-Refused w ↦
+        let same : c.match-look_at_glyph.refused.items ≡ c.loop-id.refused.items ++ w.in-Err-Refused.refusal ∷ [] =
+            ap (λ v. v.items) w.refused-is ∙ w.in_ok-push-in-Err-Refused.ensures.items in
+        subst B (sym same) (refused_next font known glyphs c.loop-id.id glyph c.loop-id.refused.items w.in-Err-Refused.refusal c.loop-id.invariant at (let e = w.in-Err-Refused.field-0-is in w.in-Err-Refused.ensures.refused))
+    ]
+
+pub returns : goal.returns
+returns c =
+    let n : c.loop-id.id ≡ length c.args.common.now.font.now.glyphs = omega (arith, c.loop-id-test.false, c.loop-id.auto.id-end, c.glyph_count-id-end.ensures) in
+    let B : ℕ → Type 0 = λ k. AreRefusedBelow (font_in c.args.common.now) c.args.common.now.known.now c.args.common.now.font.now.glyphs k c.loop-id.refused.items in
+    all_below (font_in c.args.common.now) c.args.common.now.known.now c.args.common.now.font.now.glyphs c.loop-id.refused.items (subst B n c.loop-id.invariant)

@@ -1,0 +1,26 @@
+use Rattle.std.proofs.Common.{refl}
+use Rattle.tt_cert.specs.Contents.{family_of}
+use Rattle.hintcheck.specs.Judging.{IsAtFault, subject_of}
+use Rattle.hintcheck.specs.Looks.{IfRefused}
+use Rattle.hintcheck.proofs.JudgeLemmas.{is_at_fault, is_fine, is_looked_at, passed_on}
+use Rattle.hintcheck.proofs.judge.look_at.Goals as goal
+
+pub returns-in_err-main-clause-at_fault : goal.returns-in_err-main-clause-at_fault
+returns-in_err-main-clause-at_fault c =
+    let x = subject_of c.args.glyph.now c.args.program.now in
+    passed_on c.from_residual.result c.in_err-main.field-0.0 (λ f. IfRefused f (IsAtFault c.args.glyph.now c.args.program.now))
+    (is_at_fault c.args.glyph.now c.args.program.now c.in_err-main.field-0.0 (c.in_err-main.ensures.refused x refl refl) (c.in_err-main.ensures.none_good x refl))
+    c.from_residual.ensures.1
+
+pub returns-in-Ok-looked-clause-fine : goal.returns-in-Ok-looked-clause-fine
+returns-in-Ok-looked-clause-fine c =
+    let x = subject_of c.args.glyph.now c.args.program.now in
+    is_fine c.args.glyph.now c.args.program.now _ (family_of c.in-Ok-looked.field-0)
+    (c.in-Ok-looked.ensures.accepted x (is_looked_at c.args.glyph.now c.args.program.now _ (c.in_ok-main.ensures.cut x refl) refl c.from.ensures refl c.in-Ok.ensures c.in-Ok.ensures refl))
+
+pub returns-clause-at_fault : goal.returns-clause-at_fault
+returns-clause-at_fault c =
+    let x = subject_of c.args.glyph.now c.args.program.now in
+    let looked = is_looked_at c.args.glyph.now c.args.program.now _ (c.in_ok-main.ensures.cut x refl) refl c.from.ensures refl c.in-Ok.ensures c.in-Ok.ensures refl in
+    is_at_fault c.args.glyph.now c.args.program.now c.in-Err-looked.fault (c.in-Err-looked.ensures.refused x looked)
+    (c.in-Err-looked.ensures.none_good x c.args.glyph.now.points c.args.glyph.now.contours looked refl)

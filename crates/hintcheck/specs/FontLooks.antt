@@ -1,0 +1,64 @@
+-- How far the look at a font's programs has come. (Representation: no public clause cites it.)
+use Rattle.std.specs.Prelude.{◌≡◌, ℕ, ◌<◌, ◌^◌, List, [], ◌∷◌, ◌++◌, Some, drop, length, slice_get}
+use Rattle.tt_code.specs.Cut.{Instruction}
+use Rattle.tt_code.specs.Fonts.{Font}
+use Rattle.tt_code.specs.Settings.{Kind, FontProgram, CvtProgram, GlyphProgram}
+use Rattle.tt_abs.specs.Entries.{Rises}
+use Rattle.tt_abs.specs.Ranges.{AreBytes}
+use Rattle.tt_abs.specs.StateFlow.{FunctionsFit}
+use Rattle.tt_abs.specs.declared.setting.Setting.{Setting}
+use Rattle.tt_abs.specs.Settings.{setting_of}
+use Rattle.tt_font.specs.Reading.{FontData, GlyphData}
+use Rattle.hintcheck.specs.FontPrograms.{AreRefused, IsVerdict, font_of, glyph_subject, judgement_on}
+use Rattle.hintcheck.specs.Looks.{IsLookedAt}
+use Rattle.hintcheck.specs.Programs.{EndsWith, Subject}
+use Rattle.hintcheck.specs.declared.fonts.Common.{Common}
+use Rattle.hintcheck.specs.declared.verdict.Name.{Name}
+use Rattle.hintcheck.specs.declared.verdict.Refused.{Refused}
+
+-- fewer than 2^31 bytes
+pub record AreFewBytes (xs : List ℕ) : Type 0 where
+  pub bytes : AreBytes xs
+  pub few : length xs < 2 ^ 31
+
+-- So is each program of the font; and the greatest depth is a number of 16 bits.
+pub record IsFontInRange (d : FontData) : Type 0 where
+  pub depth : d.limits.stack < 2 ^ 16
+  pub fpgm : AreFewBytes d.fpgm
+  pub prep : AreFewBytes d.prep
+  pub glyphs : (id : ℕ) (g : GlyphData) → slice_get d.glyphs id ≡ Some g → AreFewBytes g.program
+
+-- a program is looked at in this setting
+abbrev pub IsOfSubject : Name → Setting → Type 0
+IsOfSubject name s = (x : Subject) × IsLookedAt x name s
+
+-- a font program or a CVT program, which come to their ends
+abbrev pub ComesToEnd : Kind → Type 0
+ComesToEnd FontProgram = Unit {0}
+ComesToEnd CvtProgram = Unit {0}
+ComesToEnd (GlyphProgram points contours) = ⊥
+
+-- these functions are known at the program's end, by rising numbers and within the limits
+pub record IsKnownAtEnd (x : Subject) (instructions : List Instruction) (functions : List (ℕ × ℕ)) : Type 0 where
+  pub ends : EndsWith x instructions functions
+  pub rises : Rises functions
+  pub fits : FunctionsFit (x.setting instructions) functions
+
+-- the font, and a glyph's program as it is looked at
+abbrev pub font_in : Common → Font
+font_in c = font_of c.font.now c.fpgm.now c.prep.now
+
+abbrev pub subject_in : Common → ℕ → GlyphData → Subject
+subject_in c id g = glyph_subject (font_in c) c.known.now id g
+
+-- these are the refused ones of the glyph programs below a number: with those of the others they are those of all
+abbrev pub AreRefusedBelow : Font → List (ℕ × ℕ) → List GlyphData → ℕ → List Refused → Type 0
+AreRefusedBelow font functions glyphs id rs = (others : List Refused) → AreRefused font functions id (drop id glyphs) others → AreRefused font functions 0 glyphs (rs ++ others)
+
+-- the verdict on the font is that these programs are refused
+abbrev pub AreAllRefused : FontData → List Refused → Type 0
+AreAllRefused d rs = IsVerdict d (judgement_on d rs)
+
+-- a refusal that ends the look
+abbrev pub EndsLook : FontData → Refused → Type 0
+EndsLook d r = AreAllRefused d (r ∷ [])

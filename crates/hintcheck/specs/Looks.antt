@@ -1,0 +1,47 @@
+-- What the look at one program answers.
+use Rattle.std.specs.Prelude.{◌≡◌, ℕ, List, Option, Some}
+use Rattle.tt_code.specs.Cut.{Instruction}
+use Rattle.tt_code.specs.declared.reason.Reason.{Reason}
+use Rattle.tt_abs.specs.declared.setting.Setting.{Setting}
+use Rattle.tt_abs.specs.declared.state.State.{State}
+use Rattle.tt_abs.specs.Settings.{setting_of}
+use Rattle.tt_abs.specs.Soundness.{IsSafe}
+use Rattle.tt_abs.specs.StateFlow.{FitsLimits, Place}
+use Rattle.tt_cert.specs.GoodFamilies.{IsGoodFamily}
+use Rattle.tt_cert.specs.declared.spot.Spot.{Spot}
+use Rattle.tt_find.specs.Found.{IsLeast}
+use Rattle.hintcheck.specs.Programs.{IsCutInto, Subject, program_at}
+use Rattle.hintcheck.specs.declared.look.LookFault.{LookFault}
+use Rattle.hintcheck.specs.declared.look.LookFault.TheVariants.{Refused, OutOfMemory}
+use Rattle.hintcheck.specs.declared.verdict.Name.{Name}
+use Rattle.hintcheck.specs.declared.verdict.Refused.{Refused as AnyRefused}
+
+-- this is the program that is looked at by this name in this setting
+pub record IsLookedAt (x : Subject) (called : Name) (s : Setting) : Type 0 where
+  pub name : x.name ≡ called
+  pub cut : IsCutInto x s.main.now
+  pub setting : x.setting s.main.now ≡ setting_of s
+  pub functions : x.functions ≡ s.start.now
+
+-- The program has these instructions, and the family is good for it, the least that is, and within the font's limits; so every machine that a
+-- run comes to is covered, and doesn't fault.
+pub record IsAccepted (x : Subject) (instructions : List Instruction) (family : Place → Option State) : Type 0 where
+  pub cut : IsCutInto x instructions
+  pub good : IsGoodFamily (x.setting instructions) x.functions family
+  pub least : IsLeast (x.setting instructions) x.functions family
+  pub within : (p : Place) (a : State) → family p ≡ Some a → FitsLimits (x.setting instructions) a
+  pub safe : IsSafe (x.setting instructions) x.functions family
+
+-- what is told of a program by this name that is refused at a place
+abbrev pub told_at : Name → Spot → ℕ → Reason → AnyRefused
+told_at called spot offset r = record { program = called; place = record { program = program_at called spot; offset = offset }; reason = r }
+
+-- so it is with the refusal that the fault names; want of memory says nothing
+abbrev pub IfRefused : LookFault → (AnyRefused → Type 0) → Type 0
+IfRefused (Refused r) Is = Is r
+IfRefused (OutOfMemory e) Is = Unit {0}
+
+-- a growth of memory was refused
+abbrev pub IsWantOfMemory : LookFault → Type 0
+IsWantOfMemory (Refused r) = ⊥
+IsWantOfMemory (OutOfMemory e) = Unit {0}
