@@ -1,7 +1,7 @@
 -- What a command says of the count of failed writes to its output, and its exit status at a fault.
 use Rattle.std.specs.Prelude.{◌≡◌, ◌≤◌, ℕ, Result, Ok, Err}
-use Rattle.hintcheck.specs.declared.commands.CommandFault.{CommandFault}
-use Rattle.hintcheck.specs.declared.commands.CommandFault.TheVariants as fault
+use Rattle.hintcheck.specs.declared.commands.faults.CommandFault.{CommandFault}
+use Rattle.hintcheck.specs.declared.commands.faults.CommandFault.TheVariants as fault
 use Rattle.tt_font.specs.declared.fault.FontFault.{FontFault}
 use Rattle.tt_font.specs.declared.fault.FontFault.TheVariants as font
 

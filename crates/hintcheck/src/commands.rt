@@ -1,93 +1,30 @@
 //! What the words of a command line ask for, done: a verdict or a fault in lines for the user, and
 //! the exit status.
 
-ghost use Rattle.std.specs.Prelude.{◌≡◌, ◌≤◌, ◌⊎◌, IfErr, IfOk};
+ghost use Rattle.std.specs.Prelude.{◌≡◌, ◌≤◌, ◌<◌, ◌⊎◌, IfErr, IfOk};
 ghost use Rattle.tt_stream.specs.Streams.{CountsPrintFailure};
 ghost use Rattle.hintcheck.specs.Commands.{IsNoWriteFault, TellsFailure, status_of};
 
+mod faults;
+
 use crate::judge::bare;
 use crate::verdict::{Name, Verdict};
-use hintcheck_words::{Task, TaskFault, WordFault, read_words, word_bytes};
+use faults::CommandFault;
+use hintcheck_words::{Task, TaskFault, read_words, word_bytes};
 use std::alloc::{AllocError, Global};
-use std::fmt;
-use thiserror::Error;
+use std::fs;
+use std::io::Read;
+use std::marker::Brand;
+use std::rt::Files;
+use std::sync::ledger::{Blank, Ledger};
 use tt_font::FontFault;
-use tt_stream::{PrintFailed, Sink};
+use tt_stream::{Counted, PrintFailed, ReadFault, Sink, read_all};
 
 /// The exit status where every program is accepted, or help was asked for.
 const ACCEPTED: u8 = 0;
 
 /// The exit status where a program is refused.
 const REFUSED: u8 = 1;
-
-/// The exit status where the words or what they name can't be read, or the output not be written.
-const UNREADABLE: u8 = 2;
-
-/// The exit status where memory ran out.
-const OUT_OF_MEMORY: u8 = 3;
-
-/// A font's fault, whose text begins with its number.
-#[derive(Debug, Drop)]
-struct Numbered(FontFault);
-
-impl fmt::Display for Numbered {
-    fn fmt<W: fmt::Write>(&self, f: &mut fmt::Formatter<W>) -> fmt::Result {
-        let number = self.0.number();
-        write!(f, "{number} {}", self.0)
-    }
-}
-
-/// Why a command gives no verdict: the line for the user, behind `fault: `.
-#[derive(Debug, Drop, Error)]
-enum CommandFault {
-    /// The words are none of the command line. The text is clap's, and stands alone.
-    #[error("{0}")]
-    Usage(TaskFault),
-    #[error("words: MAXP")]
-    MaxpWord,
-    #[error("words: PROGRAM")]
-    ProgramWord,
-    #[error("{0}")]
-    Font(Numbered),
-    #[error("9 out of memory")]
-    OutOfMemory,
-    #[error("45 write")]
-    Write,
-}
-
-impl From<PrintFailed> for CommandFault {
-    ghost use Rattle.hintcheck.specs.declared.commands.CommandFault.TheVariants.{Write};
-
-    ghost from_gives = { λ _ fault. fault ≡ Write };
-
-    fn from(_failed: PrintFailed) -> CommandFault {
-        CommandFault::Write
-    }
-}
-
-impl CommandFault {
-    /// The fault of a word of hexadecimal digits, which is `bad` where it spells no bytes.
-    fn of_word(fault: WordFault, bad: CommandFault) -> CommandFault
-        requires { IsNoWriteFault bad }
-        ensures { IsNoWriteFault result }
-    {
-        match fault {
-            WordFault::BadWord => bad,
-            WordFault::OutOfMemory(AllocError) => CommandFault::OutOfMemory,
-        }
-    }
-
-    fn status(&self) -> u8
-        ensures { result ≡ status_of self.now }
-    {
-        match self {
-            CommandFault::OutOfMemory | CommandFault::Font(Numbered(FontFault::OutOfMemory(_))) => {
-                OUT_OF_MEMORY
-            },
-            _ => UNREADABLE,
-        }
-    }
-}
 
 /// Prints the verdict: a line for each refused program, and a last line.
 fn print_verdict<O: Sink>(out: &mut O, verdict: &Verdict) -> Result<(), PrintFailed>
@@ -131,28 +68,69 @@ fn bare_verdict(
         fault,
         CommandFault::ProgramWord,
     ))?;
-    bare(alloc, &maxp, cvt, points, contours, &program).map_err(|fault| CommandFault::Font(Numbered(
-        fault,
-    )))
+    bare(alloc, &maxp, cvt, points, contours, &program).map_err(CommandFault::of_font)
+}
+
+/// All bytes that are left in the file.
+fn file_bytes<L: Ledger, F: Read + Drop>(
+    alloc: Global,
+    file: F,
+    blank: Blank,
+) -> Result<Vec<u8>, ReadFault>
+    requires { (blank.name ≡ L.name) × (blank.parts ≡ L.parts) × (0 < blank.parts) }
+{
+    let mut source = Counted::<F, L>::new(file, blank);
+    read_all(alloc, &mut source)
+}
+
+/// The verdict on all programs of a font, whose file has these bytes.
+fn font_verdict(_alloc: Global, _font: &[u8]) -> Result<Verdict, FontFault> {
+    Err(FontFault::OutOfMemory(AllocError))
+}
+
+/// The verdict on all programs of the font file with this name.
+fn file_verdict<R: Files + AllocGlobal>(rt: &R, name: &str) -> Result<Verdict, CommandFault>
+    ensures { IfErr result IsNoWriteFault }
+{
+    let Ok(file) = fs::open(rt, name) else {
+        return Err(CommandFault::Read);
+    };
+    let bytes = file_bytes::<Brand, _>(rt.alloc(), file, Blank::new(1))
+        .map_err(CommandFault::of_reading)?;
+    font_verdict(rt.alloc(), &bytes).map_err(CommandFault::of_font)
+}
+
+/// The verdict that the task asks for.
+fn verdict_on<R: Files + AllocGlobal>(rt: &R, task: &Task) -> Result<Verdict, CommandFault>
+    ensures { IfErr result IsNoWriteFault }
+{
+    match task {
+        Task::Bare {
+            maxp,
+            cvt,
+            points,
+            contours,
+            program,
+        } => {
+            let program = program.as_ref().map_or("", |word| word.as_str());
+            bare_verdict(rt.alloc(), maxp, *cvt, *points, *contours, program)
+        }
+        Task::Verdict { font } => file_verdict(rt, font),
+    }
 }
 
 /// Does what the words ask for, and answers the exit status.
-fn run<O: Sink>(alloc: Global, words: &[&str], out: &mut O) -> Result<u8, CommandFault>
+fn run<R: Files + AllocGlobal, O: Sink>(
+    rt: &R,
+    words: &[&str],
+    out: &mut O,
+) -> Result<u8, CommandFault>
     ensures status { IfOk result (λ status. status ≤ 1) }
     ensures failures { TellsFailure result (O.failures out.old) (O.failures out.new) }
 {
-    match read_words(alloc, words) {
-        Ok(
-            Task::Bare {
-                maxp,
-                cvt,
-                points,
-                contours,
-                program,
-            },
-        ) => {
-            let program = program.as_ref().map_or("", |word| word.as_str());
-            let verdict = bare_verdict(alloc, &maxp, cvt, points, contours, program)?;
+    match read_words(rt.alloc(), words) {
+        Ok(task) => {
+            let verdict = verdict_on(rt, &task)?;
             print_verdict(out, &verdict)?;
             Ok(if verdict.accepted() {
                 ACCEPTED
@@ -174,7 +152,7 @@ fn run<O: Sink>(alloc: Global, words: &[&str], out: &mut O) -> Result<u8, Comman
 /// Does what the words of a command line ask for, prints the answer to `out` or a fault to `err`,
 /// and answers the exit status: 0 accepted, 1 refused, 2 words, input or output that can't be read
 /// or written, 3 out of memory. The first word is the program's own name. Printing takes no memory.
-pub fn command<R: AllocGlobal, O: Sink, E: Sink>(
+pub fn command<R: Files + AllocGlobal, O: Sink, E: Sink>(
     rt: &R,
     words: &[&str],
     out: &mut O,
@@ -185,7 +163,7 @@ pub fn command<R: AllocGlobal, O: Sink, E: Sink>(
     ensures unwritten { O.failures out.new ≡ O.failures out.old ⊎ (result ≡ 2 × O.failures out.old ≤ O.failures out.new) }
     ensures untold { E.failures err.old ≤ E.failures err.new }
 {
-    match run(rt.alloc(), words, out) {
+    match run(rt, words, out) {
         Ok(status) => status,
         Err(fault) => tell(err, &fault),
     }

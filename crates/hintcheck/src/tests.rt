@@ -4,6 +4,7 @@ use crate::command;
 use std::io;
 use std::io::{ErrorKind, Write};
 use std::marker::Brand;
+use std::rt::Files;
 use std::sync::ledger::{Blank, Ledger};
 use tt_stream::Counted;
 
@@ -37,7 +38,7 @@ impl Write for Narrow {
 }
 
 /// The exit status at these words, and both writers afterwards.
-fn run<L: Ledger, M: Ledger, R: AllocGlobal>(
+fn run<L: Ledger, M: Ledger, R: Files + AllocGlobal>(
     rt: &R,
     words: &[&str],
     out: Narrow,
@@ -55,7 +56,7 @@ fn run<L: Ledger, M: Ledger, R: AllocGlobal>(
 }
 
 /// The exit status at these words, and what stands on writers with room for so many bytes.
-fn printed<R: AllocGlobal>(
+fn printed<R: Files + AllocGlobal>(
     rt: &R,
     words: &[&str],
     out_room: usize,
@@ -110,7 +111,7 @@ fn tells_faults_of_maxp(rt: HostRuntime) {
 }
 
 /// Whether words that clap refuses are told to the error output alone, with status 2.
-fn is_refused<R: AllocGlobal>(rt: &R, words: &[&str]) -> bool {
+fn is_refused<R: Files + AllocGlobal>(rt: &R, words: &[&str]) -> bool {
     let (status, out, err) = printed(rt, words, ROOM, ROOM);
     status == 2 && out.is_empty() && err.starts_with(b"error: ")
 }
@@ -119,6 +120,8 @@ fn is_refused<R: AllocGlobal>(rt: &R, words: &[&str]) -> bool {
 fn refuses_other_words(rt: HostRuntime) {
     assert!(rt; is_refused(&rt, &["hintcheck"]));
     assert!(rt; is_refused(&rt, &["hintcheck", "bear"]));
+    assert!(rt; is_refused(&rt, &["hintcheck", "verdict"]));
+    assert!(rt; is_refused(&rt, &["hintcheck", "verdict", "a.ttf", "b.ttf"]));
     assert!(rt; is_refused(&rt, &["hintcheck", "bare", LIMITS, "10", "4"]));
     assert!(rt; is_refused(&rt, &["hintcheck", "bare", LIMITS, "65536", "4", "1"]));
     assert!(rt; is_refused(&rt, &["hintcheck", "bare", LIMITS, "-1", "4", "1"]));
@@ -131,7 +134,7 @@ fn refuses_other_words(rt: HostRuntime) {
 }
 
 /// Whether help is printed to the output alone, with status 0.
-fn is_helped<R: AllocGlobal>(rt: &R, words: &[&str]) -> bool {
+fn is_helped<R: Files + AllocGlobal>(rt: &R, words: &[&str]) -> bool {
     let (status, out, err) = printed(rt, words, ROOM, ROOM);
     status == 0 && !out.is_empty() && err.is_empty()
 }
@@ -197,4 +200,15 @@ fn takes_no_program_as_an_empty_one(rt: HostRuntime) {
     assert_eq!(rt; status, 0);
     assert_eq!(rt; out.as_slice(), b"accepted: 1 programs\n".as_slice());
     assert_eq!(rt; err.len(), 0);
+}
+
+#[test]
+fn tells_unreadable_files(rt: HostRuntime) {
+    // No file has the first name, and the second is that of a folder, which can be opened.
+    for name in ["no such file.ttf", "."] {
+        let (status, out, err) = printed(&rt, &["hintcheck", "verdict", name], ROOM, ROOM);
+        assert_eq!(rt; status, 2, "{name}");
+        assert_eq!(rt; out.len(), 0);
+        assert_eq!(rt; err.as_slice(), b"fault: 44 read\n".as_slice());
+    }
 }

@@ -7,12 +7,13 @@ use hintcheck::command;
 use std::io::{ErrorKind, Write};
 use std::marker::Brand;
 use std::process::ExitCode;
+use std::rt::Files;
 use std::sync::ledger::{Blank, Ledger};
 use std::{env, io};
 use tt_stream::Counted;
 
 /// Runs the command on streams whose failed writes are counted, and answers the exit status.
-fn run<L: Ledger, M: Ledger, R: AllocGlobal, O: Write + Drop, E: Write + Drop>(
+fn run<L: Ledger, M: Ledger, R: Files + AllocGlobal, O: Write + Drop, E: Write + Drop>(
     rt: &R,
     words: &[&str],
     out: O,

@@ -1,0 +1,102 @@
+//! Why a command gives no verdict.
+
+ghost use Rattle.std.specs.Prelude.{◌≡◌};
+ghost use Rattle.hintcheck.specs.Commands.{IsNoWriteFault, status_of};
+
+use hintcheck_words::{TaskFault, WordFault};
+use std::alloc::AllocError;
+use std::fmt;
+use thiserror::Error;
+use tt_font::FontFault;
+use tt_stream::{PrintFailed, ReadFault};
+
+/// The exit status where the words or what they name can't be read, or the output not be written.
+const UNREADABLE: u8 = 2;
+
+/// The exit status where memory ran out.
+const OUT_OF_MEMORY: u8 = 3;
+
+/// A font's fault, whose text begins with its number.
+#[derive(Debug, Drop)]
+pub(crate) struct Numbered(FontFault);
+
+impl fmt::Display for Numbered {
+    fn fmt<W: fmt::Write>(&self, f: &mut fmt::Formatter<W>) -> fmt::Result {
+        let number = self.0.number();
+        write!(f, "{number} {}", self.0)
+    }
+}
+
+/// Why a command gives no verdict: the line for the user, behind `fault: `.
+#[derive(Debug, Drop, Error)]
+pub(crate) enum CommandFault {
+    /// The words are none of the command line. The text is clap's, and stands alone.
+    #[error("{0}")]
+    Usage(TaskFault),
+    /// The word spells no bytes.
+    #[error("words: MAXP")]
+    MaxpWord,
+    /// The word spells no bytes.
+    #[error("words: PROGRAM")]
+    ProgramWord,
+    #[error("{0}")]
+    Font(Numbered),
+    #[error("9 out of memory")]
+    OutOfMemory,
+    /// A file can't be opened or read.
+    #[error("44 read")]
+    Read,
+    /// The output can't be written.
+    #[error("45 write")]
+    Write,
+}
+
+impl From<PrintFailed> for CommandFault {
+    ghost use Rattle.hintcheck.specs.declared.commands.faults.CommandFault.TheVariants.{Write};
+
+    ghost from_gives = { λ _ fault. fault ≡ Write };
+
+    fn from(_failed: PrintFailed) -> CommandFault {
+        CommandFault::Write
+    }
+}
+
+impl CommandFault {
+    /// The fault of a word of hexadecimal digits, which is `bad` where it spells no bytes.
+    pub(crate) fn of_word(fault: WordFault, bad: CommandFault) -> CommandFault
+        requires { IsNoWriteFault bad }
+        ensures { IsNoWriteFault result }
+    {
+        match fault {
+            WordFault::BadWord => bad,
+            WordFault::OutOfMemory(AllocError) => CommandFault::OutOfMemory,
+        }
+    }
+
+    pub(crate) fn of_font(fault: FontFault) -> CommandFault
+        ensures { IsNoWriteFault result }
+    {
+        CommandFault::Font(Numbered(fault))
+    }
+
+    pub(crate) fn of_reading(fault: ReadFault) -> CommandFault
+        ensures { IsNoWriteFault result }
+    {
+        match fault {
+            ReadFault::Read => CommandFault::Read,
+            ReadFault::OutOfMemory(AllocError) => CommandFault::OutOfMemory,
+        }
+    }
+
+    /// The exit status.
+    pub(crate) fn status(&self) -> u8
+        ensures { result ≡ status_of self.now }
+    {
+        match self {
+            CommandFault::OutOfMemory | CommandFault::Font(Numbered(FontFault::OutOfMemory(_))) => {
+                OUT_OF_MEMORY
+            },
+            _ => UNREADABLE,
+        }
+    }
+}
