@@ -121,6 +121,39 @@ fn finished_contexts(rt: HostRuntime) -> Result<(), Fail> {
 }
 
 #[test]
+fn contexts_in_the_order_of_the_file(rt: HostRuntime) -> Result<(), Fail> {
+    let mut builder = Builder::new(rt.alloc());
+    let frame = call_at(5);
+    let later = Frame { turn: 2, ..frame };
+    let fewer = Frame { count: 0, ..frame };
+    let lower = Frame { body: 6, ..frame };
+    for below in [later, frame, fewer, lower, call_at(4)] {
+        let parent = add(&mut builder, 0, below)?;
+        add(&mut builder, parent, call_at(parent))?;
+        let state = state_of(rt.alloc(), parent as i32, 0)?;
+        assert_eq!(rt; put(&mut builder, parent, 3, &state), Ok(true));
+    }
+    let Ok(certificate) = builder.finish() else {
+        return Err(Fail::new("no certificate"));
+    };
+    assert_eq!(rt; certificate.contexts(), 11);
+    assert_eq!(rt; certificate.points(), 5);
+    let parents = [call_at(4), lower, fewer, frame, later];
+    let old_numbers = [9, 7, 5, 3, 1];
+    for i in 0..5 {
+        let number = i as u32 + 1;
+        let old = old_numbers[i];
+        assert_eq!(rt; certificate.context(number), Some((0, parents[i])));
+        assert_eq!(rt; certificate.context(number + 5), Some((number, call_at(old))));
+        assert_eq!(rt;
+            certificate.state(number, 3).and_then(|state| state.cell(0)),
+            Some(Cell::Known(old as i32))
+        );
+    }
+    Ok(())
+}
+
+#[test]
 fn functions_at_the_end(rt: HostRuntime) -> Result<(), Fail> {
     let mut builder = Builder::new(rt.alloc());
     put(&mut builder, 0, 12, &start_of(rt.alloc())?)?;
