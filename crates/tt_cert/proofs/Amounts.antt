@@ -1,5 +1,5 @@
 -- How many states have moved from one builder to another.
-use Rattle.std.specs.Prelude.{◌≡◌, ℕ, ◌+◌, Bool, Option, Some, None, List, [], ◌∷◌, ◌++◌, length, slice_get, zero, suc}
+use Rattle.std.specs.Prelude.{◌≡◌, ℕ, ◌+◌, Bool, Option, Some, None, List, [], ◌∷◌, ◌++◌, length, slice_get}
 use Rattle.std.specs.declared.cmp.Ordering.TheVariants.{Less}
 use Rattle.std.specs.Ordering.{is_eq, ordering_reverse}
 use Rattle.std.specs.List.{sum_by, AllByRecursion}
@@ -15,7 +15,7 @@ use Rattle.tt_abs.specs.declared.state.State.{State}
 use Rattle.tt_abs.specs.States.{state_order}
 use Rattle.tt_cert.specs.Places.{place_cmp, states_of, PutGives, PutsAt}
 use Rattle.tt_cert.specs.Puts.{Reweighs, place_of, weigh}
-use Rattle.tt_cert.specs.Contents.{Contents, IsFamily, family_of, frames_at, number_of, points_of, total}
+use Rattle.tt_cert.specs.Contents.{Contents, IsFamily, family_of, frames_at, number_of, points_of}
 use Rattle.tt_cert.specs.Numbers.{number_of-is}
 use Rattle.tt_cert.specs.Rising.{AreMoved}
 use Rattle.tt_cert.proofs.Moves.{HasSoFar, IsFoundAll, entry_found}

@@ -1,12 +1,10 @@
 -- The numbers that were found are in the order of the file.
-use Rattle.std.specs.Prelude.{◌≡◌, ◌≢◌, ◌⊎◌, ◌==◌, ◌||◌, ℕ, ◌+◌, ◌-◌, ◌≤◌, ◌<◌, Bool, true, false, Option, Some, None, List, [], ◌∷◌, ◌++◌, length, map, slice_index_or, slice_get, zero, suc}
+use Rattle.std.specs.Prelude.{◌≡◌, ◌==◌, ◌||◌, ℕ, ◌+◌, ◌≤◌, ◌<◌, true, Option, Some, List, [], ◌∷◌, length, slice_index_or, slice_get, zero, suc}
 use Rattle.std.specs.declared.cmp.Ordering.TheVariants.{Less, Equal}
 use Rattle.std.specs.List.{list_any, IsDistinct}
-use Rattle.std.specs.Map.{values_of}
-use Rattle.std.specs.BTreeMap.{BTreeMap, get}
+use Rattle.std.specs.BTreeMap.{BTreeMap}
 use Rattle.std.proofs.Common.{refl, sym, ◌∙◌, ap, subst, arith, inl, inr}
-use Rattle.std.proofs.lemmas.Bool.{cases_Bool, cases_lt, cases_eq}
-use Rattle.std.proofs.lemmas.Bool.Decides.{nat_tests}
+use Rattle.std.proofs.lemmas.Bool.{cases_Bool, cases_lt}
 use Rattle.std.proofs.lemmas.Cmp.{tied_itself}
 use Rattle.std.proofs.lemmas.Map.Keys.{IsDistinct-from_apart}
 use Rattle.std.proofs.lemmas.Map.Steps.{length-le_from_distinct_below}
@@ -14,12 +12,12 @@ use Rattle.std.proofs.lemmas.Option.{slice_get_within, slice_get-get_or, get_or_
 use Rattle.tt_code.specs.declared.machine.Frame.{Frame}
 use Rattle.tt_abs.specs.declared.state.State.{State}
 use Rattle.tt_cert.specs.Contexts.{frames_of}
-use Rattle.tt_cert.specs.Contents.{Contents, IsFamily, frames_at}
+use Rattle.tt_cert.specs.Contents.{Contents, frames_at}
 use Rattle.tt_cert.specs.Built.{Key, key_cmp, key_of, IsBuilt}
 use Rattle.tt_cert.specs.Rising.{StandsAt, IsRising}
 use Rattle.tt_cert.specs.FileOrder.{in_order, IsFileOrder}
 use Rattle.tt_cert.proofs.Adding.{at_entry, length_is, family_is, cons_same, key_same, frame_same}
-use Rattle.tt_cert.proofs.Queues.{IsQueue, IsFound, under, map_back, map_at, is_number}
+use Rattle.tt_cert.proofs.Queues.{IsQueue, under, map_back, map_at, is_number}
 use Rattle.tt_cert.proofs.Rising.{entry_at, key_total}
 
 -- the frame of a key

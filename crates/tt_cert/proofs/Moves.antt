@@ -1,18 +1,15 @@
 -- Contexts and states that move from one builder to another.
-use Rattle.std.specs.Prelude.{◌≡◌, ◌≢◌, ◌⊎◌, ◌↔◌, true, false, Bool, cond, ℕ, ◌+◌, ◌≤◌, ◌<◌, Option, Some, None, List, [], ◌∷◌, ◌++◌, length, slice_index_or, slice_get, slice_set, take, zero, suc}
+use Rattle.std.specs.Prelude.{◌≡◌, ◌↔◌, true, false, Bool, cond, ℕ, ◌<◌, Option, Some, None, List, [], ◌∷◌, ◌++◌, length, slice_index_or, slice_get}
 use Rattle.std.specs.List.{All}
 use Rattle.std.specs.Map.{lookup}
 use Rattle.std.specs.BTreeMap.{is_at}
 use Rattle.std.specs.Ordering.{is_eq}
 use Rattle.std.proofs.Common.{refl, sym, ◌∙◌, ap, subst, arith, inl, inr, append-nil, append_assoc, length-append}
-use Rattle.std.proofs.Math.ListN.{get_or-append}
 use Rattle.std.proofs.Math.Seq.{get_or-append_seam}
-use Rattle.std.proofs.lemmas.Bool.{cases_lt, cases_eq, cases_Bool}
-use Rattle.std.proofs.lemmas.Option.{slice_get_within, slice_get-get_or}
+use Rattle.std.proofs.lemmas.Option.{slice_get-get_or}
 use Rattle.std.proofs.lemmas.Cmp.{tied_itself}
 use Rattle.tt_code.specs.declared.machine.Frame.{Frame}
 use Rattle.tt_abs.specs.declared.state.State.{State}
-use Rattle.tt_abs.specs.Orders.{Order, IsLeastAbove}
 use Rattle.tt_abs.specs.States.{state_order, state_laws}
 use Rattle.tt_cert.specs.Places.{place_cmp, states_of, PutsAt, PutGives}
 use Rattle.tt_cert.specs.Puts.{place_of}
@@ -193,15 +190,3 @@ pub SameContents-moved : (old new : Contents) (contexts : List (List Frame)) (nu
 SameContents-moved old new contexts numbers moved same family =
     let C : List (List Frame) → Type 0 = λ x. (frames : List Frame) → HasContext old.contexts frames ↔ HasContext x frames in
     record { contexts = subst C (sym same) (SameContexts-from old.contexts contexts numbers moved); family = family }
-
--- as much of a list as its first part is long is the first part
-pub take_first : {A : Type 0} (xs ys : List A) (n : ℕ) → n ≡ length xs → take n (xs ++ ys) ≡ xs
-take_first {A} xs ys n same = ap (λ k. take k (xs ++ ys)) same ∙ go xs
-  where
-    take_none : (l : List A) → take 0 l ≡ []
-    take_none [] = refl
-    take_none (x ∷ l) = refl
-
-    go : (zs : List A) → take (length zs) (zs ++ ys) ≡ zs
-    go [] = take_none ys
-    go (z ∷ zs) = ap (λ l. z ∷ l) (go zs)

@@ -1,23 +1,22 @@
 -- The numbers of contexts as they are found, level by level.
-use Rattle.std.specs.Prelude.{◌≡◌, ◌≢◌, ◌⊎◌, ◌==◌, ◌&&◌, not, ℕ, ◌+◌, ◌-◌, ◌≤◌, ◌<◌, Bool, true, false, cond, Option, Some, None, List, [], ◌∷◌, ◌++◌, length, map, slice_index_or, slice_get, zero, suc}
+use Rattle.std.specs.Prelude.{◌≡◌, ◌≢◌, ◌⊎◌, ◌==◌, ◌&&◌, not, ℕ, ◌+◌, ◌≤◌, ◌<◌, true, false, cond, Some, List, [], ◌∷◌, ◌++◌, length, map, slice_index_or, slice_get, zero, suc}
 use Rattle.std.specs.declared.cmp.Ordering.{Ordering}
 use Rattle.std.specs.declared.cmp.Ordering.TheVariants.{Less, Equal, Greater}
-use Rattle.std.specs.Ordering.{nat_cmp, ordering_then, is_eq, is_le}
+use Rattle.std.specs.Ordering.{nat_cmp, ordering_then, is_le}
 use Rattle.std.specs.Cmp.{nat_cmp_is}
-use Rattle.std.specs.List.{filter, list_any, IsDistinct}
+use Rattle.std.specs.List.{filter}
 use Rattle.std.specs.List.Sorted.{IsStrictlySortedBy}
 use Rattle.std.specs.Map.{keys_of, values_of}
 use Rattle.std.specs.BTreeMap.{BTreeMap, get, is_at, IsOrdered}
 use Rattle.std.specs.BTreeMap.Range.{range_contains, entries_between}
 use Rattle.std.specs.declared.ops.Bound.TheVariants.{Included, Excluded}
-use Rattle.std.proofs.Common.{refl, sym, ◌∙◌, ap, subst, arith, inl, inr, length-append, append_assoc, append-nil}
-use Rattle.std.proofs.lemmas.Bool.{cases_Bool, cases_lt, cases_eq}
+use Rattle.std.proofs.Common.{refl, sym, ◌∙◌, ap, subst, arith, inl, inr}
+use Rattle.std.proofs.lemmas.Bool.{cases_Bool, cases_lt}
 use Rattle.std.proofs.lemmas.Bool.Decides.{nat_tests}
-use Rattle.std.proofs.lemmas.Cmp.{tied_itself}
 use Rattle.std.proofs.lemmas.List.Kept.{IsStrictlySortedBy-filter}
 use Rattle.std.proofs.lemmas.Map.Entries.{btree_map_get_place, place_from_lookup, length-values_of, length-keys_of}
 use Rattle.std.proofs.lemmas.Map.Keys.{Less-from_sorted}
-use Rattle.std.proofs.lemmas.Option.{slice_get_within, slice_get-get_or, get_or_from_slice_get}
+use Rattle.std.proofs.lemmas.Option.{slice_get_within, get_or_from_slice_get}
 use Rattle.tt_cert.specs.Built.{Key, key_cmp}
 use Rattle.tt_cert.specs.FileOrder.{children}
 use Rattle.tt_cert.proofs.Adding.{keys_apart, cases_key}
@@ -324,11 +323,3 @@ module _ (index : BTreeMap Key ℕ) (order order' : List ℕ) (i p : ℕ) (queue
 pub children_first : (items : List ℕ) (entries rest rest' : List (Key × ℕ)) (p : ℕ) → rest' ≡ rest → rest ≡ entries_between key_cmp (Included (least p)) (Excluded (least (p + 1))) entries
     → items ++ values_of rest' ≡ items ++ children entries p
 children_first items entries rest rest' p same all = ap (λ (l : List (Key × ℕ)). items ++ values_of l) (same ∙ all ∙ between_kin entries p)
-
-pub children_step : (items items' all : List ℕ) (rest rest' : List (Key × ℕ)) (x : Key × ℕ) → items ++ values_of rest ≡ all → rest ≡ x ∷ rest' → items' ≡ items ++ x.1 ∷ []
-    → items' ++ values_of rest' ≡ all
-children_step items items' all rest rest' x before one more =
-    ap (λ (l : List ℕ). l ++ values_of rest') more ∙ append_assoc items (x.1 ∷ []) (values_of rest') ∙ sym (ap (λ (l : List (Key × ℕ)). items ++ values_of l) one) ∙ before
-
-pub children_last : (items all : List ℕ) (rest : List (Key × ℕ)) → items ++ values_of rest ≡ all → rest ≡ [] → items ≡ all
-children_last items all rest before none = sym (append-nil items) ∙ sym (ap (λ (l : List (Key × ℕ)). items ++ values_of l) none) ∙ before

@@ -1,12 +1,11 @@
 -- Contexts that get the places of an order as their numbers.
-use Rattle.std.specs.Prelude.{◌≡◌, ◌≢◌, ◌⊎◌, ℕ, ◌+◌, ◌≤◌, ◌<◌, Some, Ok, Err, IfErr, IsErrAnd, Option, Result, List, [], ◌∷◌, ◌++◌, length, map, slice_index_or, slice_get, slice_set, take, zero, suc}
-use Rattle.std.proofs.Common.{refl, sym, ◌∙◌, ap, subst, arith, inl, inr, length-append}
-use Rattle.std.proofs.Math.ListN.{get_or-append}
-use Rattle.std.proofs.lemmas.Bool.{cases_lt, cases_eq}
-use Rattle.std.proofs.lemmas.List.{take_more, map-append, length-take}
+use Rattle.std.specs.Prelude.{◌≡◌, ◌≢◌, ◌⊎◌, ℕ, ◌+◌, ◌≤◌, ◌<◌, Some, Ok, Err, IfErr, IsErrAnd, Option, Result, List, [], ◌∷◌, ◌++◌, length, slice_index_or, slice_get, slice_set, take, zero, suc}
+use Rattle.std.proofs.Common.{refl, sym, ◌∙◌, ap, subst, arith, inl, inr}
+use Rattle.std.proofs.lemmas.Bool.{cases_lt}
+use Rattle.std.proofs.lemmas.List.{take_more, map-append}
 use Rattle.std.proofs.lemmas.Option.{slice_get_within, slice_get-get_or, get_or_from_slice_get}
 use Rattle.tt_code.specs.declared.machine.Frame.{Frame}
-use Rattle.tt_cert.specs.Contents.{Contents, IsFamily, HasContext, AddsContext, frames_at}
+use Rattle.tt_cert.specs.Contents.{Contents, IsFamily, AddsContext, frames_at}
 use Rattle.tt_cert.specs.Rising.{AreMoved}
 use Rattle.tt_cert.specs.declared.fault.BuildFault.{BuildFault}
 use Rattle.tt_cert.specs.declared.fault.BuildFault.TheVariants.{DepthMismatch, TooManyContexts, OutOfMemory}
@@ -191,19 +190,13 @@ module _ (v : Contents) (order : List ℕ) (family : IsFamily v) (file : IsFileO
         has_context v.contexts m (frames_at (in_order v.contexts order) n) (file.within n m at_m) (sym (frames_in_order v.contexts order n m at_m));
   }
 
-module _ {A B : Type 0} where
-  -- a fault that is none of the others is want of memory
-  pub memory_only : (result : Result A BuildFault) (r : Result B BuildFault) (e : BuildFault) → result ≡ Err e → (result ≡ Err TooManyContexts → ⊥) → (result ≡ Err DepthMismatch → ⊥)
-      → IsErrAnd r (λ x. x ≡ e) → IfErr r (λ x. x ≡ OutOfMemory)
-  memory_only result r TooManyContexts is few deep passed = absurd (few is)
-  memory_only result r DepthMismatch is few deep passed = absurd (deep is)
-  memory_only result (Ok b) OutOfMemory is few deep passed = tt
-  memory_only result (Err e) OutOfMemory is few deep passed = passed
-
--- a fault that is passed on
-pub memory_passed : {B : Type 0} (r : Result B BuildFault) (e : BuildFault) → e ≡ OutOfMemory → IsErrAnd r (λ x. x ≡ e) → IfErr r (λ x. x ≡ OutOfMemory)
-memory_passed (Ok b) e is passed = tt
-memory_passed (Err x) e is passed = passed ∙ is
+-- a fault that is none of the others is want of memory
+pub memory_only : {A B : Type 0} (result : Result A BuildFault) (r : Result B BuildFault) (e : BuildFault) → result ≡ Err e → (result ≡ Err TooManyContexts → ⊥) → (result ≡ Err DepthMismatch → ⊥)
+    → IsErrAnd r (λ x. x ≡ e) → IfErr r (λ x. x ≡ OutOfMemory)
+memory_only result r TooManyContexts is few deep passed = absurd (few is)
+memory_only result r DepthMismatch is few deep passed = absurd (deep is)
+memory_only result (Ok b) OutOfMemory is few deep passed = tt
+memory_only result (Err e) OutOfMemory is few deep passed = passed
 
 module _ (v : Contents) (order places : List ℕ) (i : ℕ) (family : IsFamily v) (file : IsFileOrder v.contexts order) (some : 0 < i) (lt : i < length order) where
   here : slice_get order i ≡ Some (slice_index_or order i 0)

@@ -1,20 +1,20 @@
 -- Entries whose keys rise, as contexts.
-use Rattle.std.specs.Prelude.{◌≡◌, ◌⊎◌, true, ℕ, ◌+◌, ◌-◌, ◌≤◌, ◌<◌, Option, Some, None, List, [], ◌∷◌, length, slice_index_or, slice_get, zero, suc}
+use Rattle.std.specs.Prelude.{◌≡◌, true, ℕ, ◌+◌, ◌-◌, ◌≤◌, ◌<◌, Some, List, length, slice_index_or, slice_get, zero, suc}
 use Rattle.std.specs.declared.cmp.Ordering.{Ordering}
 use Rattle.std.specs.declared.cmp.Ordering.TheVariants.{Less, Equal, Greater}
 use Rattle.std.specs.Ordering.{is_lt}
 use Rattle.std.specs.BTreeMap.{BTreeMap}
 use Rattle.std.specs.Cmp.{IsTotalOrder}
-use Rattle.std.proofs.Common.{refl, sym, ◌∙◌, ap, subst, arith, inl, inr}
-use Rattle.std.proofs.lemmas.Bool.{cases_lt, cases_eq}
+use Rattle.std.proofs.Common.{refl, sym, ◌∙◌, ap, arith, inl, inr}
+use Rattle.std.proofs.lemmas.Bool.{cases_lt}
 use Rattle.std.proofs.lemmas.Cmp.{then_total, on_total, nat_cmp_total}
 use Rattle.std.proofs.lemmas.Option.{slice_get_within, slice_get-get_or}
 use Rattle.tt_code.specs.declared.machine.Frame.{Frame}
 use Rattle.tt_abs.specs.declared.state.State.{State}
 use Rattle.tt_cert.specs.Contexts.{frames_of}
-use Rattle.tt_cert.specs.Contents.{Contents, IsFamily, frames_at}
+use Rattle.tt_cert.specs.Contents.{Contents, frames_at}
 use Rattle.tt_cert.specs.Built.{Key, key_cmp, key_of, IsBuilt, RisesByKey}
-use Rattle.tt_cert.specs.Rising.{StandsAt, IsRising, IsFinished}
+use Rattle.tt_cert.specs.Rising.{StandsAt, IsFinished}
 use Rattle.tt_cert.proofs.Adding.{no_frame, at_entry, length_is, family_is, cons_same, key_same}
 
 pub key_total : IsTotalOrder key_cmp

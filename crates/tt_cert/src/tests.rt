@@ -121,6 +121,27 @@ fn finished_contexts(rt: HostRuntime) -> Result<(), Fail> {
 }
 
 #[test]
+fn contexts_in_the_order_of_the_file(rt: HostRuntime) -> Result<(), Fail> {
+    let mut builder = Builder::new(rt.alloc());
+    let frame = call_at(5);
+    let later = Frame { turn: 2, ..frame };
+    let fewer = Frame { count: 0, ..frame };
+    let lower = Frame { body: 6, ..frame };
+    add(&mut builder, 0, later)?;
+    add(&mut builder, 0, frame)?;
+    add(&mut builder, 0, fewer)?;
+    add(&mut builder, 0, lower)?;
+    let Ok(certificate) = builder.finish() else {
+        return Err(Fail::new("no certificate"));
+    };
+    assert_eq!(rt; certificate.context(1), Some((0, lower)));
+    assert_eq!(rt; certificate.context(2), Some((0, fewer)));
+    assert_eq!(rt; certificate.context(3), Some((0, frame)));
+    assert_eq!(rt; certificate.context(4), Some((0, later)));
+    Ok(())
+}
+
+#[test]
 fn functions_at_the_end(rt: HostRuntime) -> Result<(), Fail> {
     let mut builder = Builder::new(rt.alloc());
     put(&mut builder, 0, 12, &start_of(rt.alloc())?)?;

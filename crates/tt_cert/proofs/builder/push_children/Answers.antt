@@ -1,4 +1,4 @@
-use Rattle.tt_cert.proofs.Queues.{children_first, children_step, children_last}
+use Rattle.tt_cert.proofs.Queues.{children_first}
 use Rattle.tt_cert.proofs.builder.push_children.Goals as goal
 
 pub loop-number-init : goal.loop-number-init

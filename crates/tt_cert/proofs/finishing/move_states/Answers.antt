@@ -1,9 +1,9 @@
-use Rattle.std.proofs.Common.{arith, sym, subst, List, ◌∙◌}
+use Rattle.std.proofs.Common.{sym, subst, List, ◌∙◌}
 use Rattle.std.proofs.lemmas.Option.{slice_get-get_or}
 use Rattle.tt_code.specs.declared.machine.Frame.{Frame}
 use Rattle.tt_cert.specs.Rising.{AreMoved}
 use Rattle.tt_cert.proofs.Amounts.{amount_step, next_free, none_there}
-use Rattle.tt_cert.proofs.Moves.{next_context, next_range, moved_there, HasSoFar-step, HasSoFar-end}
+use Rattle.tt_cert.proofs.Moves.{next_context, next_range, moved_there, HasSoFar-step}
 use Rattle.tt_cert.proofs.Renumbering.{memory_only}
 use Rattle.tt_cert.proofs.finishing.move_states.Goals as goal
 

@@ -1,6 +1,4 @@
-use Rattle.std.proofs.Common.{◌≡◌, ℕ, ◌+◌, List, ◌++◌, length}
-use Rattle.tt_abs.specs.declared.state.State.{State}
-use Rattle.tt_code.specs.declared.machine.Frame.{Frame}
+use Rattle.std.proofs.Common.{◌≡◌, ◌+◌, length}
 use Rattle.tt_cert.specs.Contents.{IsFamily, points_of}
 use Rattle.tt_cert.proofs.Moves.{HasSoFar}
 use Rattle.tt_cert.proofs.finishing.move_states.Given as goal

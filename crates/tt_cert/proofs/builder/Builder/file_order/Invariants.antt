@@ -1,4 +1,3 @@
-use Rattle.std.proofs.Common.{ℕ}
 use Rattle.tt_cert.proofs.Queues.{IsQueue}
 use Rattle.tt_cert.proofs.builder.Builder.file_order.Given as goal
 
