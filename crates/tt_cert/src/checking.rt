@@ -27,7 +27,7 @@ use tt_code::{Frame, Reason};
 /// Why a certificate is refused.
 #[derive(Debug, Drop, Error)]
 pub enum CheckFault {
-    /// What is broken first, and where: in which program, and at what offset there.
+    /// What is broken first, and where: in which program, and at what offset there, 4,294,967,295 for one that is above.
     #[error("{reason}")]
     Refused {
         spot: Spot,
@@ -57,7 +57,8 @@ struct Calls {
     frames: Vec<Frame>,
 }
 
-/// A place: the number of its context, if the certificate has it, and the offset.
+/// A place: the number of its context, in which program it stands, and its offset there. Where there is no number, the certificate
+/// has no state at the place.
 #[derive(Clone, Copy)]
 struct Landing {
     context: Option<u32>,
