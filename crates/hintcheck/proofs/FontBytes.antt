@@ -1,8 +1,7 @@
 -- Each program of a font that was read is a list of fewer than 2^31 bytes.
-use Rattle.std.specs.Prelude.{◌==◌, nat_le, if◌then◌else◌, ◌&&◌, ◌-◌, ◌*◌, ◌^◌, slice_get, slice_range, slice_index_or}
-use Rattle.std.specs.List.{AllByRecursion}
+use Rattle.std.specs.Prelude.{◌==◌, nat_le, if◌then◌else◌, ◌&&◌, ◌-◌, ◌*◌, ◌^◌, slice_get, slice_range}
 use Rattle.std.specs.Option.{option_map_or}
-use Rattle.std.proofs.Common.{◌≡◌, ℕ, zero, suc, ◌+◌, ◌<◌, ◌≤◌, List, [], ◌∷◌, Option, None, Some, Bool, true, false, length, take, drop, get_or, refl, sym, ◌∙◌, ap, subst, arith}
+use Rattle.std.proofs.Common.{◌≡◌, ℕ, zero, suc, ◌+◌, ◌<◌, ◌≤◌, List, [], ◌∷◌, Option, None, Some, Bool, true, false, length, take, drop, get_or, refl, sym, subst, arith}
 use Rattle.std.proofs.lemmas.Bool.{leb-true}
 use Rattle.std.proofs.lemmas.Option.{get_or_from_slice_get, slice_get_within}
 use Rattle.tt_abs.specs.Ranges.{AreBytes}
@@ -76,8 +75,8 @@ at_few place glyph h =
 composite_few : (glyph : List ℕ) → AreBytes glyph → HasFewBytes (composite_program glyph (last_of (components glyph)))
 composite_few glyph h =
     elim (last_of (components glyph)) as (λ o. HasFewBytes (composite_program glyph o)) [
-      None ↦ tt
-    | Some last ↦ either (has_instructions last.flags) (program_at last.after glyph) (Some []) (at_few last.after glyph h) none_few
+      | None ↦ tt
+      | Some last ↦ either (has_instructions last.flags) (program_at last.after glyph) (Some []) (at_few last.after glyph h) none_few
     ]
 
 program_few : (glyph : List ℕ) → AreBytes glyph → HasFewBytes (program_of glyph)

@@ -1,9 +1,8 @@
 -- What is known at the ends of a font's programs, and what the next program is looked at with.
 use Rattle.std.specs.Prelude.{IfErr, IfSome}
 use Rattle.std.specs.Result.{IsErrAnd}
-use Rattle.std.proofs.Common.{◌≡◌, ℕ, List, [], ◌∷◌, Option, None, Some, Result, Ok, Err, refl, sym, ◌∙◌, ap, subst, Bor}
+use Rattle.std.proofs.Common.{◌≡◌, ℕ, List, [], Option, None, Some, Result, Ok, Err, refl, sym, ◌∙◌, ap, subst, Bor}
 use Rattle.tt_code.specs.Cut.{Instruction, size}
-use Rattle.tt_code.specs.Fonts.{Font}
 use Rattle.tt_code.specs.Settings.{Setting as MachineSetting, Kind as MachineKind, FontProgram, CvtProgram, GlyphProgram}
 use Rattle.tt_code.specs.declared.limits.Limits.{Limits}
 use Rattle.tt_abs.specs.declared.setting.Kind.TheVariants as kind
@@ -23,7 +22,6 @@ use Rattle.hintcheck.specs.declared.look.LookFault.{LookFault}
 use Rattle.hintcheck.specs.declared.look.LookFault.TheVariants.{Refused, OutOfMemory}
 use Rattle.hintcheck.specs.declared.verdict.Name.{Name}
 use Rattle.hintcheck.specs.declared.verdict.Name.TheVariants as name
-use Rattle.hintcheck.specs.declared.verdict.Refused.{Refused as AnyRefused}
 
 -- the functions of a good family's states rise by number
 pub functions_rise : (s : MachineSetting) (functions : List (ℕ × ℕ)) (family : Place → Option State) (p : Place) (a : State) → IsGoodFamily s functions family → family p ≡ Some a → Rises a.functions

@@ -1,10 +1,9 @@
 -- Runs of a font's programs one after the other: each starts with the functions that are known where the one before it ends.
-use Rattle.std.proofs.Common.{◌≡◌, ℕ, List, [], ◌∷◌, Option, None, Some, Bool, true, false, refl, sym, ◌∙◌, ap, subst, arith}
+use Rattle.std.proofs.Common.{◌≡◌, ℕ, List, [], ◌∷◌, Option, Some, true, sym, ◌∙◌, ap, subst}
 use Rattle.std.proofs.lemmas.Bool.{eqb-true}
-use Rattle.tt_code.specs.Control.{body_named}
-use Rattle.tt_code.specs.Cut.{Instruction, size}
-use Rattle.tt_code.specs.Fonts.{Font, Leaves, StartsFontProgram, StartsCvtProgram, StartsGlyphProgram, font_setting, cvt_setting, glyph_setting}
-use Rattle.tt_code.specs.Runs.{NeverFaults, is_at_end}
+use Rattle.tt_code.specs.Cut.{size}
+use Rattle.tt_code.specs.Fonts.{Font, Leaves, StartsFontProgram, StartsCvtProgram, StartsGlyphProgram, font_setting, cvt_setting}
+use Rattle.tt_code.specs.Runs.{NeverFaults}
 use Rattle.tt_code.specs.Settings.{Setting, is_main_end}
 use Rattle.tt_code.specs.States.{Machine}
 use Rattle.tt_code.specs.declared.machine.Frame.{Frame}

@@ -1,21 +1,20 @@
 -- A verdict that refuses no program of a font makes it safe.
 use Rattle.std.specs.Prelude.{◌^◌, slice_get}
 use Rattle.std.specs.List.{AllByRecursion, concat}
-use Rattle.std.proofs.Common.{◌≡◌, ℕ, zero, suc, ◌+◌, ◌<◌, ◌≤◌, List, [], ◌∷◌, ◌++◌, Option, None, Some, length, refl, sym, ◌∙◌, ap, subst, arith}
+use Rattle.std.proofs.Common.{◌≡◌, ℕ, zero, suc, ◌+◌, ◌<◌, ◌≤◌, List, [], ◌∷◌, ◌++◌, Option, Some, length, refl, sym, ◌∙◌, ap, subst, arith}
 use Rattle.tt_code.specs.Cut.{Instruction, IsCut, size}
 use Rattle.tt_code.specs.Fonts.{Font, font_setting, cvt_setting, glyph_setting, StartsFontProgram, StartsCvtProgram, StartsGlyphProgram}
 use Rattle.tt_code.specs.Settings.{Setting}
 use Rattle.tt_code.proofs.CutLemmas.{size_is}
 use Rattle.tt_abs.specs.declared.state.State.{State}
 use Rattle.tt_abs.specs.Entries.{Rises}
-use Rattle.tt_abs.specs.Ranges.{AreBytes, IsSettingInRange}
+use Rattle.tt_abs.specs.Ranges.{AreBytes}
 use Rattle.tt_abs.specs.Soundness.{IsSafe}
-use Rattle.tt_abs.specs.StateFlow.{AreProgramsShort, Place}
-use Rattle.tt_abs.specs.States.{state_order}
+use Rattle.tt_abs.specs.StateFlow.{Place}
 use Rattle.tt_abs.proofs.Soundness.{good_is_safe}
 use Rattle.tt_cert.specs.GoodFamilies.{IsGoodFamily}
 use Rattle.tt_font.specs.Reading.{FontData, GlyphData}
-use Rattle.hintcheck.specs.FontPrograms.{AreRefused, IsSafeFont, IsSafeGlyph, IsVerdict, all_looked_at, accepted, refused, cvt_refused, cvt_subject, font_of, font_refused, font_subject, glyph_subject, judgement_on, looked_at_all}
+use Rattle.hintcheck.specs.FontPrograms.{AreRefused, IsSafeFont, IsSafeGlyph, IsVerdict, all_looked_at, accepted, refused, cvt_refused, cvt_subject, font_of, font_refused, font_subject, glyph_subject, looked_at_all}
 use Rattle.hintcheck.specs.FontLooks.{AreFewBytes, IsFontInRange}
 use Rattle.hintcheck.specs.Programs.{EndsWith, HasLeastFamily}
 use Rattle.hintcheck.specs.Verdicts.{Judgement}

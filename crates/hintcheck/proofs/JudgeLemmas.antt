@@ -1,5 +1,5 @@
 -- What the look at a glyph program says of it.
-use Rattle.std.proofs.Common.{◌≡◌, ℕ, ◌≤◌, List, [], ◌∷◌, Option, Some, Result, Ok, Err, refl, sym, ◌∙◌, ap, subst, length, arith}
+use Rattle.std.proofs.Common.{◌≡◌, ℕ, List, [], ◌∷◌, Option, Result, Ok, Err, refl, sym, ◌∙◌, ap, subst, length, arith}
 use Rattle.std.specs.Prelude.{◌↔◌, All, IfErr}
 use Rattle.std.specs.Result.{IsErrAnd}
 use Rattle.tt_code.specs.Cut.{Instruction, IsCut}

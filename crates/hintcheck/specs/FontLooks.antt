@@ -7,7 +7,6 @@ use Rattle.tt_abs.specs.Entries.{Rises}
 use Rattle.tt_abs.specs.Ranges.{AreBytes}
 use Rattle.tt_abs.specs.StateFlow.{FunctionsFit}
 use Rattle.tt_abs.specs.declared.setting.Setting.{Setting}
-use Rattle.tt_abs.specs.Settings.{setting_of}
 use Rattle.tt_font.specs.Reading.{FontData, GlyphData}
 use Rattle.hintcheck.specs.FontPrograms.{AreRefused, IsVerdict, font_of, glyph_subject, judgement_on}
 use Rattle.hintcheck.specs.Looks.{IsLookedAt}

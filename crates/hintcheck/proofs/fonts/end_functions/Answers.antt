@@ -1,5 +1,3 @@
-use Rattle.std.proofs.Common.{◌≡◌, ℕ, Option, Some, sym, ◌∙◌, ap, subst}
-use Rattle.tt_code.specs.Cut.{size}
 use Rattle.tt_cert.specs.Contents.{family_of}
 use Rattle.hintcheck.proofs.FontEnds.{known_of_accepted}
 use Rattle.hintcheck.proofs.fonts.end_functions.Goals as goal

@@ -1,5 +1,4 @@
-use Rattle.std.proofs.Common.{◌≡◌, ℕ, List, refl, sym, subst}
-use Rattle.tt_code.specs.Cut.{Instruction}
+use Rattle.std.proofs.Common.{ℕ, List, refl, sym, subst}
 use Rattle.hintcheck.specs.FontLooks.{EndsLook}
 use Rattle.hintcheck.specs.FontPrograms.{AreRefused, cvt_subject, font_of, font_subject, looked_at_all}
 use Rattle.hintcheck.specs.Looks.{IfRefused}

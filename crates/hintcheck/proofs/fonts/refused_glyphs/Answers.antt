@@ -1,5 +1,5 @@
 use Rattle.std.specs.Option.{option_map}
-use Rattle.std.proofs.Common.{◌≡◌, ◌+◌, ◌∷◌, [], ◌++◌, List, ℕ, Some, sym, ◌∙◌, ap, subst, arith, length}
+use Rattle.std.proofs.Common.{◌≡◌, ◌+◌, ◌∷◌, [], ◌++◌, List, ℕ, sym, ◌∙◌, ap, subst, arith, length}
 use Rattle.tt_font.specs.GlyphParts.{glyph_data}
 use Rattle.hintcheck.specs.FontLooks.{AreRefusedBelow, font_in, subject_in}
 use Rattle.hintcheck.specs.Looks.{IfRefused}
@@ -23,15 +23,15 @@ loop-id-preserved c =
     let at = sym c.glyph.ensures ∙ ap (option_map glyph_data) c.unwrap-glyph.ensures in
     let B : List Refused → Type 0 = λ rs. AreRefusedBelow font known glyphs (c.loop-id.id + 1) rs in
     elim c.match-look_at_glyph.branch [
-      in-Ok w ↦
-        let same : c.match-look_at_glyph.refused.items ≡ c.loop-id.refused.items = ap (λ v. v.items) w.refused-is in
-        subst B (sym same) (accepted_next font known glyphs c.loop-id.id glyph c.loop-id.refused.items c.loop-id.invariant at w.in-Ok.ensures.least)
-    | in-Err-Refused+in_ok-push-in-Err-Refused w ↦
-        let same : c.match-look_at_glyph.refused.items ≡ c.loop-id.refused.items ++ w.in-Err-Refused.refusal ∷ [] =
-            ap (λ v. v.items) w.refused-is ∙ w.in_ok-push-in-Err-Refused.ensures.items in
-        let R : LookFault → Type 0 = λ fault. IfRefused fault (IsRefusal (subject_in c.args.common.now c.loop-id.id glyph)) in
-        let is = subst R w.in-Err-Refused.field-0-is w.in-Err-Refused.ensures.refused in
-        subst B (sym same) (refused_next font known glyphs c.loop-id.id glyph c.loop-id.refused.items w.in-Err-Refused.refusal c.loop-id.invariant at is)
+      | in-Ok w ↦
+          let same : c.match-look_at_glyph.refused.items ≡ c.loop-id.refused.items = ap (λ v. v.items) w.refused-is in
+          subst B (sym same) (accepted_next font known glyphs c.loop-id.id glyph c.loop-id.refused.items c.loop-id.invariant at w.in-Ok.ensures.least)
+      | in-Err-Refused+in_ok-push-in-Err-Refused w ↦
+          let same : c.match-look_at_glyph.refused.items ≡ c.loop-id.refused.items ++ w.in-Err-Refused.refusal ∷ [] =
+          ap (λ v. v.items) w.refused-is ∙ w.in_ok-push-in-Err-Refused.ensures.items in
+          let R : LookFault → Type 0 = λ fault. IfRefused fault (IsRefusal (subject_in c.args.common.now c.loop-id.id glyph)) in
+          let is = subst R w.in-Err-Refused.field-0-is w.in-Err-Refused.ensures.refused in
+          subst B (sym same) (refused_next font known glyphs c.loop-id.id glyph c.loop-id.refused.items w.in-Err-Refused.refusal c.loop-id.invariant at is)
     ]
 
 pub returns : goal.returns
