@@ -1,19 +1,15 @@
 -- What the look at a glyph program says of it.
-use Rattle.std.proofs.Common.{◌≡◌, ℕ, ◌≤◌, List, [], ◌∷◌, Result, Ok, Err, refl, sym, ◌∙◌, ap, subst, length, arith}
+use Rattle.std.proofs.Common.{◌≡◌, ℕ, ◌≤◌, List, [], ◌∷◌, Option, Some, Result, Ok, Err, refl, sym, ◌∙◌, ap, subst, length, arith}
 use Rattle.std.specs.Prelude.{◌↔◌, All, IfErr}
 use Rattle.std.specs.Result.{IsErrAnd}
-use Rattle.tt_code.specs.Cut.{Instruction, IsCut, size}
-use Rattle.tt_code.specs.Fonts.{StartsGlyphProgram}
-use Rattle.tt_code.specs.declared.limits.Limits.{Limits}
+use Rattle.tt_code.specs.Cut.{Instruction, IsCut}
 use Rattle.tt_code.proofs.CutLemmas.{one_cut, size_is}
 use Rattle.tt_abs.specs.declared.setting.Setting.{Setting}
-use Rattle.tt_abs.specs.declared.setting.Kind.{Kind}
 use Rattle.tt_abs.specs.declared.setting.Kind.TheVariants as kind
 use Rattle.tt_abs.specs.declared.state.State.{State}
-use Rattle.tt_abs.specs.Settings.{kind_of, setting_of}
+use Rattle.tt_abs.specs.Settings.{kind_of}
 use Rattle.tt_abs.specs.StateFlow.{Place}
-use Rattle.hintcheck.specs.FontPrograms.{IsSafeGlyph}
-use Rattle.hintcheck.specs.Judging.{IsAtFault, IsFine, data_of, font_around, subject_of}
+use Rattle.hintcheck.specs.Judging.{IsAtFault, IsFine, subject_of}
 use Rattle.hintcheck.specs.Looks.{IfRefused, IsAccepted, IsLookedAt}
 use Rattle.hintcheck.specs.Programs.{HasGoodFamily, IsCutInto, IsRefusal}
 use Rattle.hintcheck.specs.declared.judge.Glyph.{Glyph}

@@ -1,5 +1,5 @@
 -- Why a program that is looked at is accepted or refused.
-use Rattle.std.proofs.Common.{◌≡◌, ◌⊎◌, inl, inr, ℕ, List, [], Option, Some, Result, Ok, Err, refl, sym, ◌∙◌, ap, subst}
+use Rattle.std.proofs.Common.{◌≡◌, ◌⊎◌, inl, inr, ℕ, List, [], Option, Some, Result, Ok, Err, sym, ◌∙◌, ap, subst}
 use Rattle.std.specs.Prelude.{IfErr, IfOk}
 use Rattle.tt_code.specs.Cut.{Instruction, IsCut, CannotBeCut, size}
 use Rattle.tt_code.specs.Grammar.{IsFault}
@@ -18,13 +18,13 @@ use Rattle.tt_abs.specs.StateFlow.{AreProgramsShort, FitsLimits, FunctionsFit, P
 use Rattle.tt_abs.specs.States.{state_laws, state_order}
 use Rattle.tt_abs.proofs.FlowOfStates.{state_flow_laws}
 use Rattle.tt_cert.specs.Contents.{Contents, family_of}
-use Rattle.tt_cert.specs.GoodFamilies.{EndsWell, HasEnd, IsGoodFamily}
+use Rattle.tt_cert.specs.GoodFamilies.{EndsWell, IsGoodFamily}
 use Rattle.tt_cert.specs.Spots.{spot_of}
 use Rattle.tt_cert.specs.declared.spot.Spot.{Spot}
 use Rattle.tt_find.specs.declared.fault.FindFault.{FindFault}
 use Rattle.tt_find.specs.declared.fault.FindFault.TheVariants as find_fault
 use Rattle.tt_find.specs.Found.{IsJustified, IsLeast, IsNeverEnding, IsWantOfMemory as IsWantOfFindMemory, LacksEnd, NamesPlace, NoneIsGood, too_long, refused, apart, too_many, never_ends}
-use Rattle.hintcheck.specs.Programs.{HasGoodFamily, HasLeastFamily, IsCause, IsCutInto, IsRefusal, Subject, no_cut, no_structure, no_family, program_at}
+use Rattle.hintcheck.specs.Programs.{HasGoodFamily, HasLeastFamily, IsCause, IsCutInto, IsRefusal, Subject, no_family, program_at}
 use Rattle.hintcheck.specs.Looks.{IfRefused, IsAccepted, IsWantOfMemory, told_at}
 use Rattle.hintcheck.specs.declared.look.LookFault.{LookFault}
 use Rattle.hintcheck.specs.declared.look.LookFault.TheVariants as fault

@@ -1,5 +1,5 @@
 -- How one glyph program is judged.
-use Rattle.std.specs.Prelude.{◌≡◌, ℕ, List, []}
+use Rattle.std.specs.Prelude.{ℕ, List, []}
 use Rattle.tt_code.specs.Fonts.{Font}
 use Rattle.tt_font.specs.Reading.{GlyphData}
 use Rattle.tt_font.specs.declared.fault.FontFault.{FontFault}

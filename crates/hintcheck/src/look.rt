@@ -54,11 +54,7 @@ fn refused_at(name: Name, spot: Spot, offset: u32, reason: Reason) -> LookFault
 ///
 /// # Errors
 /// `Refused` where they can't be cut or their structure is wrong; `OutOfMemory`.
-pub(crate) fn cut<'a>(
-    alloc: Global,
-    name: Name,
-    bytes: &'a [u8],
-) -> Result<Program<'a>, LookFault>
+pub(crate) fn cut<'a>(alloc: Global, name: Name, bytes: &'a [u8]) -> Result<Program<'a>, LookFault>
     requires { length bytes.now < 2 ^ 31 }
     ensures cut { (x : Subject) → x.bytes ≡ bytes.entry.now → IfOk result (λ program. IsCutInto x program) }
     ensures refused { (x : Subject) → x.name ≡ name → x.bytes ≡ bytes.entry.now → IfErr result (λ fault. IfRefused fault (IsRefusal x)) }
@@ -104,11 +100,13 @@ fn checked(
 {
     match check_full(alloc, setting, &certificate) {
         Ok(()) => Ok(certificate),
-        Err(CheckFault::Refused {
-            spot,
-            offset,
-            reason,
-        }) => Err(refused_at(name, spot, offset, reason)),
+        Err(
+            CheckFault::Refused {
+                spot,
+                offset,
+                reason,
+            },
+        ) => Err(refused_at(name, spot, offset, reason)),
         Err(CheckFault::OutOfMemory(error)) => Err(LookFault::OutOfMemory(error)),
     }
 }
@@ -133,11 +131,13 @@ pub(crate) fn look(
     setting.is_within();
     match find(alloc, setting) {
         Ok(found) => checked(alloc, name, setting, found.certificate),
-        Err(FindFault::Refused {
-            spot,
-            offset,
-            reason,
-        }) => Err(refused_at(name, spot, offset, reason)),
+        Err(
+            FindFault::Refused {
+                spot,
+                offset,
+                reason,
+            },
+        ) => Err(refused_at(name, spot, offset, reason)),
         Err(FindFault::OutOfMemory(error)) => Err(LookFault::OutOfMemory(error)),
     }
 }

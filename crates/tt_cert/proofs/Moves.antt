@@ -16,9 +16,9 @@ use Rattle.tt_abs.specs.Orders.{Order, IsLeastAbove}
 use Rattle.tt_abs.specs.States.{state_order, state_laws}
 use Rattle.tt_cert.specs.Places.{place_cmp, states_of, PutsAt, PutGives}
 use Rattle.tt_cert.specs.Puts.{place_of}
-use Rattle.tt_cert.specs.Contents.{Contents, IsFamily, HasContext, AddsContext, frames_at, family_of, number_of}
+use Rattle.tt_cert.specs.Contents.{Contents, IsFamily, HasContext, frames_at, family_of, number_of}
 use Rattle.tt_cert.specs.Numbers.{at-number_of, number_of-is, number_of-place}
-use Rattle.tt_cert.specs.Rising.{AreMoved, HaveAllNumbers, SameContents}
+use Rattle.tt_cert.specs.Rising.{AreMoved, SameContents}
 use Rattle.tt_cert.proofs.Puts.{cases_place, places_apart}
 use Rattle.tt_cert.proofs.Putting.{place_total}
 
@@ -30,107 +30,18 @@ HasSoFar old new rest =
 pub has_context : (contexts : List (List Frame)) (c : ℕ) (frames : List Frame) → c < length contexts → frames_at contexts c ≡ frames → HasContext contexts frames
 has_context contexts c frames lt at = let most = number_of-place contexts frames c lt at in omega arith
 
--- contexts that are there stay when one is added
-stays : (new new' : List (List Frame)) (frames : List Frame) (n k : ℕ) → AddsContext new new' frames n → k < length new → (k < length new') × (frames_at new' k ≡ frames_at new k)
-stays new new' frames n k adds lt = elim adds.how [
-  | inl old ↦ let e = ap length old.1 in (omega arith, ap (λ x. frames_at x k) old.1)
-  | inr more ↦
-      let e = ap length more.2 in
-      let long = length-append new (frames ∷ []) in
-      (omega arith, ap (λ x. frames_at x k) more.2 ∙ get_or-append new (frames ∷ []) [] k lt)
-]
-
--- a context that wasn't there is the one that was added
-fresh : (new new' : List (List Frame)) (frames : List Frame) (n k : ℕ) → AddsContext new new' frames n → (k < length new → ⊥) → k < length new' → k ≡ n
-fresh new new' frames n k adds absent lt = elim adds.how [
-  | inl old ↦ let e = ap length old.1 in absurd (absent (omega arith))
-  | inr more ↦
-      let e = ap length more.2 in
-      let long = length-append new (frames ∷ []) in
-      let last = more.1 in
-      elim (cases_lt k (length new)) [ inl less ↦ absurd (absent less) | inr ge ↦ omega arith ]
-]
-
-set_cases : {A : Type 0} (xs : List A) (i : ℕ) (y : A) (k : ℕ) (z : A) → slice_get (slice_set xs i y) k ≡ Some z → ((k ≡ i) × (y ≡ z)) ⊎ (slice_get xs k ≡ Some z)
-set_cases [] i y k z at = inr at
-set_cases (x ∷ xs) zero y zero z at = inl (refl, cc)
-set_cases (x ∷ xs) zero y (suc k) z at = inr at
-set_cases (x ∷ xs) (suc i) y zero z at = inr at
-set_cases (x ∷ xs) (suc i) y (suc k) z at = elim (set_cases xs i y k z at) [ inl new ↦ inl (let e = new.0 in omega arith, new.1) | inr old ↦ inr old ]
-
-set_length : {A : Type 0} (xs : List A) (i : ℕ) (y : A) → length (slice_set xs i y) ≡ length xs
-set_length [] i y = refl
-set_length (x ∷ xs) zero y = refl
-set_length (x ∷ xs) (suc i) y = let ih = set_length xs i y in omega arith
-
-pub AreMoved-step : (old new new' : List (List Frame)) (numbers : List (Option ℕ)) (c p m n : ℕ) (frame : Frame) → AreMoved old new numbers
-    → c < length old → frames_at old c ≡ frame ∷ frames_at old p → slice_get numbers p ≡ Some (Some m) → AddsContext new new' (frame ∷ frames_at new m) n
-    → AreMoved old new' (slice_set numbers c (Some n))
-AreMoved-step old new new' numbers c p m n frame moved lt at known adds =
-    let parents = (moved.moved p m known).1 in
-    let child : frames_at new' n ≡ frames_at old c = adds.at ∙ ap (λ (x : List Frame). frame ∷ x) parents ∙ sym at in
-    record {
-      long = set_length numbers c (Some n) ∙ moved.long;
-      moved = λ c' n' known'. elim (set_cases numbers c (Some n) c' (Some n') known') [
-        | inl now ↦
-            let one : Some n ≡ Some n' = now.1 in
-            let n_is : n ≡ n' = cc in
-            let there = adds.there in
-            (omega arith, ap (frames_at new') (sym n_is) ∙ child ∙ ap (frames_at old) (sym now.0))
-        | inr before ↦
-            let (lt', same) = moved.moved c' n' before in
-            let stay = stays new new' (frame ∷ frames_at new m) n n' adds lt' in
-            (stay.0, stay.1 ∙ same)
-      ];
-      mine = λ k lt'. elim (cases_lt k (length new)) [
-        | inl less ↦
-            let H : List Frame → Type 0 = λ x. HasContext old x in
-            subst H (sym (stays new new' (frame ∷ frames_at new m) n k adds less).1) (moved.mine k less)
-        | inr ge ↦
-            let k_is = fresh new new' (frame ∷ frames_at new m) n k adds (λ less. omega arith) lt' in
-            has_context old c (frames_at new' k) lt (sym child ∙ ap (frames_at new') (sym k_is))
-      ];
-    }
-
-pub AreMoved-first : (old new : List (List Frame)) (numbers : List (Option ℕ)) → 0 < length old → frames_at old 0 ≡ [] → new ≡ [] ∷ [] → length numbers ≡ length old
-    → ((c n : ℕ) → slice_get numbers c ≡ Some (Some n) → (c ≡ 0) × (n ≡ 0)) → AreMoved old new numbers
-AreMoved-first old new numbers some main new_is long first =
-    let one : length new ≡ 1 = ap length new_is in
-    let at : frames_at new 0 ≡ [] = ap (λ x. frames_at x 0) new_is in
-    record {
-      long = long;
-      moved = λ c n known.
-          let (c_is, n_is) = first c n known in
-          (omega arith, ap (frames_at new) n_is ∙ at ∙ sym main ∙ ap (frames_at old) (sym c_is));
-      mine = λ n lt.
-          let n_is : n ≡ 0 = omega arith in
-          has_context old 0 (frames_at new n) some (main ∙ sym at ∙ ap (frames_at new) (sym n_is));
-    }
-
 -- where each context has a new number the contexts are the same
-pub SameContexts-from : (old new : List (List Frame)) (numbers : List (Option ℕ)) → AreMoved old new numbers → HaveAllNumbers numbers
-    → (frames : List Frame) → HasContext old frames ↔ HasContext new frames
-SameContexts-from old new numbers moved all frames = (
+pub SameContexts-from : (old new : List (List Frame)) (numbers : List ℕ) → AreMoved old new numbers → (frames : List Frame) → HasContext old frames ↔ HasContext new frames
+SameContexts-from old new numbers moved frames = (
   (λ has.
       let long = moved.long in
-      let (n, known) = all (number_of old frames) (omega arith) in
-      let (lt, same) = moved.moved (number_of old frames) n known in
-      has_context new n frames lt (same ∙ at-number_of old frames has)),
+      let known = slice_get-get_or numbers (number_of old frames) 0 (omega arith) in
+      let (lt, same) = moved.moved (number_of old frames) (slice_index_or numbers (number_of old frames) 0) known in
+      has_context new (slice_index_or numbers (number_of old frames) 0) frames lt (same ∙ at-number_of old frames has)),
   (λ has.
       let H : List Frame → Type 0 = λ x. HasContext old x in
       subst H (at-number_of new frames has) (moved.mine (number_of new frames) has)),
 )
-
--- a new number that was read
-pub known_at : (numbers : List (Option ℕ)) (c n : ℕ) (d : Option ℕ) → slice_index_or numbers c d ≡ Some n → c < length numbers → slice_get numbers c ≡ Some (Some n)
-known_at numbers c n d at lt = slice_get-get_or numbers c d lt ∙ ap Some at
-
-pub all_step : (numbers : List (Option ℕ)) (i n : ℕ) (d : Option ℕ) → ((c : ℕ) → c < i → (n : ℕ) × (slice_get numbers c ≡ Some (Some n))) → i < length numbers
-    → slice_index_or numbers i d ≡ Some n → (c : ℕ) → c < i + 1 → (n : ℕ) × (slice_get numbers c ≡ Some (Some n))
-all_step numbers i n d before lt at c less = elim (cases_lt c i) [
-  | inl old ↦ before c old
-  | inr new ↦ let c_is : c ≡ i = omega arith in (n, ap (slice_get numbers) c_is ∙ known_at numbers i n d at lt)
-]
 
 module _ {K X : Type 0} (test : K → Bool) where
   lookup_append_some : (xs ys : List (K × X)) (v : X) → lookup test xs ≡ Some v → lookup test (xs ++ ys) ≡ Some v
@@ -178,9 +89,9 @@ put_same (Some t) (Some u) s changed put ranged before =
     let below : state_order.Below t s = subst B (sym same) (state_laws.reflexive s) in
     ap Some (state_laws.antisymmetric u s put.0.in_range ranged (put.0.least s ranged below (state_laws.reflexive s)) put.0.right)
 
-module _ (old new new' : Contents) (numbers : List (Option ℕ)) (place : ℕ × ℕ) (s : State) (n : ℕ) (changed : Bool)
+module _ (old new new' : Contents) (numbers : List ℕ) (place : ℕ × ℕ) (s : State) (n : ℕ) (changed : Bool)
     (family : IsFamily old) (moved : AreMoved old.contexts new.contexts numbers) (all : IsFoundAll old)
-    (known : slice_get numbers place.0 ≡ Some (Some n)) (put : PutsAt state_order (family_of new) (family_of new') (place_of new n place.1) s changed)
+    (known : slice_get numbers place.0 ≡ Some n) (put : PutsAt state_order (family_of new) (family_of new') (place_of new n place.1) s changed)
     (rest rest' done : List ((ℕ × ℕ) × State)) (split : old.states ≡ done ++ rest)
     (same : (point : List Frame × ℕ) → family_of new point ≡ states_of done (number_of old.contexts point.0, point.1))
     (rest_is : rest ≡ (place, s) ∷ rest') where
@@ -245,8 +156,8 @@ pub next_found : (old new : Contents) (rest rest' : List ((ℕ × ℕ) × State)
 next_found old new rest rest' x so_far rest_is all =
     let (done, split, same) = so_far in entry_found old done rest' x (split ∙ ap (λ l. done ++ l) rest_is) all
 
-pub HasSoFar-step : (old new new' : Contents) (numbers : List (Option ℕ)) (place : ℕ × ℕ) (s : State) (n : ℕ) (changed : Bool) → IsFamily old
-    → AreMoved old.contexts new.contexts numbers → IsFoundAll old → slice_get numbers place.0 ≡ Some (Some n)
+pub HasSoFar-step : (old new new' : Contents) (numbers : List ℕ) (place : ℕ × ℕ) (s : State) (n : ℕ) (changed : Bool) → IsFamily old
+    → AreMoved old.contexts new.contexts numbers → IsFoundAll old → slice_get numbers place.0 ≡ Some n
     → PutsAt state_order (family_of new) (family_of new') (place_of new n place.1) s changed
     → (rest rest' : List ((ℕ × ℕ) × State)) → HasSoFar old new rest → rest ≡ (place, s) ∷ rest' → HasSoFar old new' rest'
 HasSoFar-step old new new' numbers place s n changed family moved all known put rest rest' so_far rest_is =
@@ -259,7 +170,7 @@ HasSoFar-end old new rest so_far none p =
     let whole : old.states ≡ done = split ∙ ap (λ l. done ++ l) none ∙ append-nil done in
     same p ∙ ap (λ l. states_of l (number_of old.contexts p.0, p.1)) (sym whole)
 
-pub next_context : (old new : Contents) (contexts : List (List Frame)) (numbers : List (Option ℕ)) (rest rest' : List ((ℕ × ℕ) × State)) (x : (ℕ × ℕ) × State) → IsFamily old
+pub next_context : (old new : Contents) (contexts : List (List Frame)) (numbers : List ℕ) (rest rest' : List ((ℕ × ℕ) × State)) (x : (ℕ × ℕ) × State) → IsFamily old
     → AreMoved old.contexts contexts numbers → HasSoFar old new rest → rest ≡ x ∷ rest' → IsFoundAll old → x.0.0 < length numbers
 next_context old new contexts numbers rest rest' x family moved so_far rest_is all =
     let lt = family.held x.0.0 x.0.1 x.1 (next_found old new rest rest' x so_far rest_is all) in
@@ -270,25 +181,18 @@ pub next_range : (old new : Contents) (rest rest' : List ((ℕ × ℕ) × State)
     → IsFoundAll old → state_order.InRange x.1
 next_range old new rest rest' x family so_far rest_is all = family.in_range x.0.0 x.0.1 x.1 (next_found old new rest rest' x so_far rest_is all)
 
-pub moved_there : (old contexts new : List (List Frame)) (numbers : List (Option ℕ)) (c n : ℕ) → AreMoved old contexts numbers → new ≡ contexts
-    → slice_get numbers c ≡ Some (Some n) → n < length new
-moved_there old contexts new numbers c n moved same known =
+pub moved_there : (old contexts new : List (List Frame)) (numbers : List ℕ) (c d : ℕ) → AreMoved old contexts numbers → new ≡ contexts → c < length numbers
+    → slice_index_or numbers c d < length new
+moved_there old contexts new numbers c d moved same lt =
     let e = ap length same in
-    let lt = (moved.moved c n known).0 in
+    let known = (moved.moved c (slice_index_or numbers c d) (slice_get-get_or numbers c d lt)).0 in
     omega arith
 
-pub SameContents-moved : (old new : Contents) (contexts : List (List Frame)) (numbers numbers' : List (Option ℕ)) → AreMoved old.contexts contexts numbers → numbers' ≡ numbers
-    → HaveAllNumbers numbers' → new.contexts ≡ contexts → ((p : List Frame × ℕ) → family_of new p ≡ family_of old p) → SameContents old new
-SameContents-moved old new contexts numbers numbers' moved one all same family =
-    let A : List (Option ℕ) → Type 0 = λ x. HaveAllNumbers x in
+pub SameContents-moved : (old new : Contents) (contexts : List (List Frame)) (numbers : List ℕ) → AreMoved old.contexts contexts numbers → new.contexts ≡ contexts
+    → ((p : List Frame × ℕ) → family_of new p ≡ family_of old p) → SameContents old new
+SameContents-moved old new contexts numbers moved same family =
     let C : List (List Frame) → Type 0 = λ x. (frames : List Frame) → HasContext old.contexts frames ↔ HasContext x frames in
-    record { contexts = subst C (sym same) (SameContexts-from old.contexts contexts numbers moved (subst A one all)); family = family }
-
-pub AreMoved-start : (old new : Contents) (numbers numbers' : List (Option ℕ)) (count : ℕ) → IsFamily old → new.contexts ≡ [] ∷ [] → numbers' ≡ numbers → length numbers ≡ count
-    → count ≡ length old.contexts → ((c n : ℕ) → slice_get numbers c ≡ Some (Some n) → (c ≡ 0) × (n ≡ 0)) → AreMoved old.contexts new.contexts numbers'
-AreMoved-start old new numbers numbers' count family first same long counts known =
-    let M : List (Option ℕ) → Type 0 = λ x. AreMoved old.contexts new.contexts x in
-    subst M (sym same) (AreMoved-first old.contexts new.contexts numbers family.some family.main first (long ∙ counts) known)
+    record { contexts = subst C (sym same) (SameContexts-from old.contexts contexts numbers moved); family = family }
 
 -- as much of a list as its first part is long is the first part
 pub take_first : {A : Type 0} (xs ys : List A) (n : ℕ) → n ≡ length xs → take n (xs ++ ys) ≡ xs

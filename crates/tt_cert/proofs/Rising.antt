@@ -28,7 +28,7 @@ key_total =
     (on_total (λ (k : Key). k.4) nat_cmp_total)
 
 -- the entry at an index that is there
-entry_at : (entries : List (ℕ × Frame)) (i : ℕ) → i < length entries → (e : ℕ × Frame) × (slice_get entries i ≡ Some e)
+pub entry_at : (entries : List (ℕ × Frame)) (i : ℕ) → i < length entries → (e : ℕ × Frame) × (slice_get entries i ≡ Some e)
 entry_at entries i lt = (slice_index_or entries i (0, no_frame), slice_get-get_or entries i (0, no_frame) lt)
 
 -- an entry's key is above that of each one before

@@ -1,6 +1,6 @@
 -- The next turn of a call: what leads there ends a turn that isn't the last.
 use Rattle.std.specs.Prelude.{◌≡◌, ℕ, ℤ, pos, negsuc, ◌+◌, ◌<◌, nat_lt, nat_le, not, if◌then◌else◌, Bool, true, false, Option, Some, None, List, [], ◌∷◌, Ok, Err, length, zero, suc}
-use Rattle.std.proofs.Common.{refl, sym, ◌∙◌, ap, subst, arith}
+use Rattle.std.proofs.Common.{refl, ap, subst, arith}
 use Rattle.std.proofs.lemmas.Bool.{ltb-true}
 use Rattle.tt_code.specs.Cut.{Instruction}
 use Rattle.tt_code.specs.Operands.{top}

@@ -5,6 +5,7 @@ pub mod Numbers
 pub mod Built
 pub mod Puts
 pub mod Rising
+pub mod FileOrder
 pub mod GoodFamilies
 pub mod Spots
 pub mod Checks

@@ -1,5 +1,5 @@
 -- Contexts in the order of the file, and two contents with one family.
-use Rattle.std.specs.Prelude.{◌≡◌, ◌↔◌, ℕ, ◌<◌, Option, Some, List, ◌∷◌, length, slice_get}
+use Rattle.std.specs.Prelude.{◌≡◌, ◌↔◌, ℕ, ◌<◌, Some, List, ◌∷◌, length, slice_get}
 use Rattle.std.specs.declared.cmp.Ordering.TheVariants.{Less}
 use Rattle.tt_code.specs.declared.machine.Frame.{Frame}
 use Rattle.tt_cert.specs.Contents.{Contents, HasContext, IsFamily, family_of, frames_at}
@@ -23,12 +23,8 @@ pub record SameContents (old new : Contents) : Type 0 where
 abbrev pub IsFinished : Contents → Type 0
 IsFinished contents = IsFamily contents × IsRising contents.contexts
 
--- a new number that is known leads to the same frames, and each new context is an old one
-pub record AreMoved (old new : List (List Frame)) (numbers : List (Option ℕ)) : Type 0 where
+-- each context has a new number, which leads to the same frames, and each new context is an old one
+pub record AreMoved (old new : List (List Frame)) (numbers : List ℕ) : Type 0 where
   pub long : length numbers ≡ length old
-  pub moved : (c n : ℕ) → slice_get numbers c ≡ Some (Some n) → (n < length new) × (frames_at new n ≡ frames_at old c)
+  pub moved : (c n : ℕ) → slice_get numbers c ≡ Some n → (n < length new) × (frames_at new n ≡ frames_at old c)
   pub mine : (n : ℕ) → n < length new → HasContext old (frames_at new n)
-
--- each context has a new number
-abbrev pub HaveAllNumbers : List (Option ℕ) → Type 0
-HaveAllNumbers numbers = (c : ℕ) → c < length numbers → (n : ℕ) × (slice_get numbers c ≡ Some (Some n))

@@ -1,6 +1,6 @@
 //! Contexts by number, and abstract states by context and offset.
 
-ghost use Rattle.std.specs.Prelude.{◌≡◌, ◌≢◌, ◌⊎◌, ℕ, ◌<◌, ◌≤◌, None, Some, [], ◌∷◌, Err, IfOk, IfSome, IsTrue, OnErr, length, reverse};
+ghost use Rattle.std.specs.Prelude.{◌≡◌, ◌≢◌, ◌⊎◌, ℕ, ◌<◌, ◌≤◌, None, Some, [], ◌∷◌, ◌++◌, Err, IfOk, IfSome, IsTrue, OnErr, length, reverse};
 ghost use Rattle.std.specs.List.{All};
 ghost use Rattle.std.specs.List.Sorted.{IsStrictlySortedBy};
 ghost use Rattle.std.specs.Map.{keys_of};
@@ -9,7 +9,9 @@ ghost use Rattle.tt_abs.specs.declared.state.State.{State as StateValue};
 ghost use Rattle.tt_abs.specs.States.{state_order};
 ghost use Rattle.tt_cert.specs.Places.{PutsAt, place_cmp, states_of};
 ghost use Rattle.tt_cert.specs.Puts.{Reweighs, place_of};
-ghost use Rattle.tt_cert.specs.Built.{RisesByKey, key_of as key_of_entry};
+ghost use Rattle.tt_cert.specs.Built.{RisesByKey, key_cmp, key_of as key_of_entry};
+ghost use Rattle.std.specs.BTreeMap.{IsOrdered};
+ghost use Rattle.tt_cert.specs.FileOrder.{IsFileOrder, children};
 ghost use Rattle.tt_cert.specs.Rising.{IsFinished};
 ghost use Rattle.tt_cert.specs.Contents.{AddsContext, HasContext, IsFamily, family_of, frames_at, points_of};
 
@@ -79,11 +81,12 @@ fn push_children(
     index: &BTreeMap<Key, u32>,
     parent: u32,
     order: &mut Vec<u32>,
-) -> Result<(), AllocError> {
-    for (key, number) in index.range((parent, 0, 0, 0, 0)..) {
-        if key.0 != parent {
-            break;
-        }
+) -> Result<(), AllocError>
+    requires { parent < 65535 }
+    ensures pushed { IfOk result (λ _. order.new.items ≡ order.old.items ++ children index.now.entries parent) }
+    ensures ordered { IsOrdered key_cmp index.now }
+{
+    for (_, number) in index.range((parent, 0, 0, 0, 0)..(parent + 1, 0, 0, 0, 0)) {
         order.push(*number)?;
     }
     Ok(())
@@ -289,11 +292,14 @@ impl Builder {
         *self.entries.allocator()
     }
 
-    /// The numbers of the contexts, each behind its parent's, by depth and then by the order of the parents and of the frames.
-    pub(crate) fn file_order(&self) -> Result<Vec<u32>, AllocError> {
+    /// The numbers of the contexts in the order of the file: each behind its parent's, by depth, and then by the order of the
+    /// parents and of the frames.
+    pub(crate) fn file_order(&self) -> Result<Vec<u32>, AllocError>
+        ensures { IfOk result (λ order. IsFileOrder self.now.contexts order.items) }
+    {
         let mut order = Vec::new(self.allocator());
         order.push(0)?;
-        for i in 0..self.entries.len() {
+        for i in 0..self.contexts() as usize {
             let Some(parent) = order.get(i) else {
                 break;
             };

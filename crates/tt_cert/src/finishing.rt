@@ -1,117 +1,111 @@
 //! Certificates from builders: contexts get their numbers in order.
 
-ghost use Rattle.std.specs.Prelude.{◌≡◌, ℕ, ◌<◌, List, [], Some, IfOk, IfErr, IsTrue, length, slice_get};
+ghost use Rattle.std.specs.Prelude.{◌≡◌, ℕ, ◌+◌, ◌<◌, List, [], ◌∷◌, IfOk, IfErr, length, take};
 ghost use Rattle.tt_code.specs.declared.machine.Frame.{Frame};
-ghost use Rattle.tt_cert.specs.Contents.{IsFamily, family_of};
-ghost use Rattle.tt_cert.specs.Rising.{AreMoved, HaveAllNumbers, IsFinished, SameContents};
+ghost use Rattle.tt_cert.specs.Contents.{IsFamily, family_of, points_of};
+ghost use Rattle.tt_cert.specs.FileOrder.{ArePlaces, IsFileOrder, in_order};
+ghost use Rattle.tt_cert.specs.Rising.{AreMoved, IsFinished, SameContents};
 
 use crate::builder::Builder;
 use crate::certificate::Certificate;
 use crate::fault::BuildFault;
-use std::alloc::{AllocError, Global};
+use std::alloc::AllocError;
 
-/// No new numbers yet, but that the empty context keeps its own.
-fn first_numbers(alloc: Global, count: u32) -> Result<Vec<Option<u32>>, AllocError>
-    requires { 0 < count }
-    ensures len { IfOk result (λ numbers. length numbers.items ≡ count) }
-    ensures first { IfOk result (λ numbers. (c n : ℕ) → slice_get numbers.items c ≡ Some (Some n) → (c ≡ 0) × (n ≡ 0)) }
+/// The place of each context in the order.
+fn places_in(old: &Builder, order: &[u32]) -> Result<Vec<u32>, AllocError>
+    requires { IsFileOrder old.now.contexts order.now }
+    ensures { IfOk result (λ places. ArePlaces old.now.contexts order.now places.items) }
 {
-    let mut numbers = Vec::new(alloc);
-    numbers.push(Some(0))?;
-    for _ in 1..count {
-        numbers.push(None)?;
+    let mut places = vec![in old.allocator(); 0; old.contexts() as usize]?;
+    for i in 0..order.len() {
+        places[order[i] as usize] = i as u32;
     }
-    Ok(numbers)
+    Ok(places)
 }
 
-/// Adds a context to the new builder, if its parent has a new number, and keeps its number there.
+/// Adds the context at a place of the order to the new builder, which has those before it.
 fn move_context(
     old: &Builder,
-    number: u32,
+    order: &[u32],
+    place: usize,
+    places: &[u32],
     new: &mut Builder,
-    numbers: &mut [Option<u32>],
 ) -> Result<(), BuildFault>
-    requires family { IsFamily new.old }
-    requires moved { AreMoved old.now.contexts new.old.contexts numbers.old }
-    ensures moved { IfOk result (λ _. AreMoved old.now.contexts new.new.contexts numbers.new) }
-    ensures family { IsFamily new.new }
+    requires order { IsFileOrder old.now.contexts order.now }
+    requires place { (0 < place) × (place < length order.now) }
+    requires places { ArePlaces old.now.contexts order.now places.now }
+    requires before { new.old.contexts ≡ in_order old.now.contexts (take place order.now) }
+    ensures moved { IfOk result (λ _. new.new.contexts ≡ in_order old.now.contexts (take (place + 1) order.now)) }
     ensures states { new.new.states ≡ new.old.states }
+    ensures family { IsFamily new.new }
+    ensures memory { IfErr result (λ fault. fault ≡ BuildFault.OutOfMemory) }
 {
-    let Some((parent, frame)) = old.context(number) else {
+    let _count = old.contexts();
+    let Some((parent, frame)) = old.context(order[place]) else {
         return Ok(());
     };
-    let Some(parent) = numbers[parent as usize] else {
-        return Ok(());
-    };
-    numbers[number as usize] = Some(new.add_context(parent, frame)?);
+    new.add_context(places[parent as usize], frame)?;
     Ok(())
 }
 
-/// Has each context a new number?
-fn all_moved(numbers: &[Option<u32>]) -> bool
-    ensures { IsTrue result → HaveAllNumbers numbers.now }
+/// Adds the contexts to the new builder, which has the empty one, in this order.
+fn move_contexts(
+    old: &Builder,
+    order: &[u32],
+    places: &[u32],
+    new: &mut Builder,
+) -> Result<(), BuildFault>
+    requires order { IsFileOrder old.now.contexts order.now }
+    requires places { ArePlaces old.now.contexts order.now places.now }
+    requires before { new.old.contexts ≡ [] ∷ [] }
+    requires family { IsFamily new.old }
+    ensures moved { IfOk result (λ _. new.new.contexts ≡ in_order old.now.contexts order.now) }
+    ensures states { new.new.states ≡ new.old.states }
+    ensures family { IsFamily new.new }
+    ensures memory { IfErr result (λ fault. fault ≡ BuildFault.OutOfMemory) }
 {
-    for i in 0..numbers.len() {
-        let Some(_) = numbers[i] else {
-            return false;
-        };
+    let _count = old.contexts();
+    for place in 1..order.len() {
+        move_context(old, order, place, places, new)?;
     }
-    true
+    Ok(())
 }
 
 /// Puts copies of all states into the new builder, which has the same contexts and no state.
-fn move_states(old: &Builder, new: &mut Builder, numbers: &[Option<u32>]) -> Result<(), BuildFault>
+fn move_states(old: &Builder, new: &mut Builder, numbers: &[u32]) -> Result<(), BuildFault>
     requires family { IsFamily new.old }
     requires empty { new.old.states ≡ [] }
     requires moved { AreMoved old.now.contexts new.old.contexts numbers.now }
     ensures contexts { new.new.contexts ≡ new.old.contexts }
     ensures same { IfOk result (λ _. (point : List Frame × ℕ) → family_of new.new point ≡ family_of old.now point) }
+    ensures points { IfOk result (λ _. points_of new.new ≡ points_of old.now) }
+    ensures family { IsFamily new.new }
+    ensures memory { IfErr result (λ fault. fault ≡ BuildFault.OutOfMemory) }
 {
     for (place, state) in old.states() {
         let (context, offset) = *place;
-        let Some(number) = numbers[context as usize] else {
-            return Err(BuildFault::OutOfMemory);
-        };
-        new.join_state(number, offset, state)?;
-    }
-    Ok(())
-}
-
-/// Adds the contexts to the new builder in the order of the file.
-fn move_contexts(
-    old: &Builder,
-    new: &mut Builder,
-    numbers: &mut [Option<u32>],
-) -> Result<(), BuildFault>
-    requires family { IsFamily new.old }
-    requires moved { AreMoved old.now.contexts new.old.contexts numbers.old }
-    ensures moved { IfOk result (λ _. AreMoved old.now.contexts new.new.contexts numbers.new) }
-    ensures family { IsFamily new.new }
-    ensures states { new.new.states ≡ new.old.states }
-{
-    let Ok(order) = old.file_order() else {
-        return Err(BuildFault::OutOfMemory);
-    };
-    for i in 0..order.len() {
-        move_context(old, order[i], new, numbers)?;
+        new.join_state(numbers[context as usize], offset, state)?;
     }
     Ok(())
 }
 
 /// The same family with its contexts in the order of the file.
 fn reordered(old: &Builder) -> Result<Builder, BuildFault>
-    ensures { IfOk result (λ new. SameContents old.now new) }
+    ensures same { IfOk result (λ new. SameContents old.now new) }
+    ensures points { IfOk result (λ new. points_of new ≡ points_of old.now) }
+    ensures finished { IfOk result (λ new. IsFinished new) }
+    ensures memory { IfErr result (λ fault. fault ≡ BuildFault.OutOfMemory) }
 {
-    let alloc = old.allocator();
-    let mut new = Builder::new(alloc);
-    let Ok(mut numbers) = first_numbers(alloc, old.contexts()) else {
+    let _count = old.contexts();
+    let Ok(order) = old.file_order() else {
         return Err(BuildFault::OutOfMemory);
     };
-    move_contexts(old, &mut new, numbers.as_mut_slice())?;
-    if !all_moved(numbers.as_slice()) {
+    let Ok(places) = places_in(old, order.as_slice()) else {
         return Err(BuildFault::OutOfMemory);
-    }
-    move_states(old, &mut new, numbers.as_slice())?;
+    };
+    let mut new = Builder::new(old.allocator());
+    move_contexts(old, order.as_slice(), places.as_slice(), &mut new)?;
+    move_states(old, &mut new, places.as_slice())?;
     Ok(new)
 }
 
@@ -122,6 +116,7 @@ impl Builder {
     /// If memory runs out: then the builder comes back as it was.
     pub fn finish(self) -> Result<Certificate, Builder>
         ensures same { IfOk result (λ certificate. SameContents self certificate) }
+        ensures points { IfOk result (λ certificate. points_of certificate ≡ points_of self) }
         ensures finished { IfOk result (λ certificate. IsFinished certificate) }
         ensures kept { IfErr result (λ builder. builder ≡ self) }
     {
@@ -131,9 +126,6 @@ impl Builder {
         let Ok(new) = reordered(&self) else {
             return Err(self);
         };
-        if !new.is_rising() {
-            return Err(self);
-        }
         Ok(Certificate::of(new))
     }
 }

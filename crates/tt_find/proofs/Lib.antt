@@ -1,0 +1,9 @@
+pub mod Sound
+pub mod Marks
+pub mod Points
+pub mod Budget
+pub mod Ways
+pub mod Followed
+pub mod Starting
+pub mod Many
+pub mod Finished

@@ -1,24 +1,109 @@
 //! The finder: from the start, the state at the smallest point that is new or has changed is carried on, until none is left.
 
-ghost use Rattle.std.specs.Prelude.{◌≡◌, ◌⊎◌, ℕ, ◌+◌, ◌*◌, ◌≤◌, Option, Some, IfOk, IfErr};
+ghost use Rattle.std.specs.Prelude.{◌≡◌, ◌⊎◌, ◌↔◌, ℕ, ◌+◌, ◌*◌, ◌≤◌, [], Option, Some, IfOk, IfErr, IsTrue};
 ghost use Rattle.tt_abs.specs.declared.state.State.{State as AnyState};
 ghost use Rattle.tt_abs.specs.Entries.{Rises};
 ghost use Rattle.tt_abs.specs.Settings.{setting_of};
 ghost use Rattle.tt_abs.specs.StateFlow.{FitsLimits, FunctionsFit, Place, height_of};
 ghost use Rattle.tt_cert.specs.Contents.{family_of, points_of};
-ghost use Rattle.tt_cert.specs.GoodFamilies.{IsGoodFamily};
+ghost use Rattle.tt_cert.specs.GoodFamilies.{EndsWell, HasEnd, IsGoodFamily};
 ghost use Rattle.tt_find.specs.Found.{IsJustified, IsLeast, IsNeverEnding, IsWantOfMemory, LacksEnd, NamesPlace, NoneIsGood};
+ghost use Rattle.tt_find.specs.Tables.{HasLaws, IsWhole};
 
 use crate::fault::FindFault;
+use crate::following::follow;
+use crate::table::Table;
 use std::alloc::{AllocError, Global};
-use tt_abs::Setting;
-use tt_cert::Certificate;
+use std::collections::BTreeSet;
+use tt_abs::laws::flow_laws;
+use tt_abs::{Kind, Setting, State};
+use tt_cert::{Builder, Certificate, Spot, is_short};
+use tt_code::Reason;
 
 /// A family that was found, and how many updates made it: the first state of a point is one, and each change of it one more.
 #[derive(Drop)]
 pub struct Found {
     pub certificate: Certificate,
     pub updates: u64,
+}
+
+/// Says that the laws of the program's flow hold, and that no count of updates is too great, as it always is.
+fn has_laws(setting: &Setting<'_>)
+    requires rises { Rises setting.now.start.now }
+    requires fits { FunctionsFit (setting_of setting.now) setting.now.start.now }
+    ensures { HasLaws (setting_of setting.now) setting.now.start.now }
+{
+    flow_laws();
+    setting.is_within();
+    prove!(u32::from(setting.limits.functions) < 1 << 16);
+    prove!(u32::from(setting.limits.storage) < 1 << 16);
+}
+
+/// The table with the start alone.
+fn start_table(alloc: Global, setting: &Setting<'_>) -> Result<Table, AllocError>
+    requires rises { Rises setting.now.start.now }
+    requires laws { HasLaws (setting_of setting.now) setting.now.start.now }
+    ensures { IfOk result (IsWhole (setting_of setting.now) setting.now.start.now) }
+{
+    let state = State::start(alloc, setting.start)?;
+    let mut table = Table {
+        builder: Builder::new(alloc),
+        marked: BTreeSet::new(alloc),
+        updates: 0,
+    };
+    let Ok(()) = table.put(0, 0, state) else {
+        return Err(AllocError);
+    };
+    Ok(table)
+}
+
+/// The table when no point is left that is new or has changed.
+fn filled(alloc: Global, setting: &Setting<'_>) -> Result<Table, FindFault>
+    requires rises { Rises setting.now.start.now }
+    requires laws { HasLaws (setting_of setting.now) setting.now.start.now }
+    ensures whole { IfOk result (IsWhole (setting_of setting.now) setting.now.start.now) }
+    ensures none { IfOk result (λ table. table.marked.keys ≡ []) }
+    ensures justified { IfErr result (NamesPlace (IsJustified (setting_of setting.now) setting.now.start.now)) }
+{
+    let mut table = start_table(alloc, setting)?;
+    while let Some((context, offset)) = table.marked.pop_first() {
+        if let Err(fault) = follow(&mut table, alloc, setting, context, offset) {
+            return Err(fault);
+        }
+    }
+    Ok(table)
+}
+
+/// Has the main program's end a state?
+fn has_end(setting: &Setting<'_>, builder: &Builder) -> bool
+    ensures { IsTrue result ↔ HasEnd (setting_of setting.now) (family_of builder.now) }
+{
+    match builder.state(0, setting.main.len()) {
+        Some(_) => true,
+        None => false,
+    }
+}
+
+/// Does a font program or a CVT program come to its end?
+fn ends_well(setting: &Setting<'_>, builder: &Builder) -> bool
+    ensures { IsTrue result ↔ EndsWell (setting_of setting.now) (setting_of setting.now).kind (family_of builder.now) }
+{
+    match setting.kind {
+        Kind::Font => has_end(setting, builder),
+        Kind::Cvt => has_end(setting, builder),
+        Kind::Glyph { .. } => true,
+    }
+}
+
+/// The fault at a place of the main program.
+fn refused_in_main(offset: u32, reason: Reason) -> FindFault
+    ensures { result ≡ FindFault.Refused Spot.Main offset reason }
+{
+    FindFault::Refused {
+        spot: Spot::Main,
+        offset,
+        reason,
+    }
 }
 
 /// The least family that is good for the program of this setting. The smallest point that is new or has changed is taken first, by the
@@ -42,5 +127,23 @@ pub fn find(alloc: Global, setting: &Setting<'_>) -> Result<Found, FindFault>
     ensures never_ends { (family : Place → Option AnyState) → LacksEnd (setting_of setting.now) setting.now.start.now family
         → IfOk result (λ _. ⊥) × IfErr result (λ fault. IsWantOfMemory fault ⊎ IsNeverEnding fault) }
 {
-    Err(FindFault::OutOfMemory(AllocError))
+    has_laws(setting);
+    if !is_short(setting) {
+        let most = u32::from(setting.limits.program_size);
+        return Err(refused_in_main(most, Reason::ProgramTooLong));
+    }
+    let table = match filled(alloc, setting) {
+        Ok(table) => table,
+        Err(fault) => return Err(fault),
+    };
+    if !ends_well(setting, &table.builder) {
+        return Err(refused_in_main(0, Reason::NeverEnds));
+    }
+    let Ok(certificate) = table.builder.finish() else {
+        return Err(FindFault::OutOfMemory(AllocError));
+    };
+    Ok(Found {
+        certificate,
+        updates: table.updates,
+    })
 }

@@ -3,6 +3,12 @@
 
 pub mod fault;
 pub mod finder;
+mod following;
+mod reaching;
+mod table;
 
 pub use fault::FindFault;
 pub use finder::{Found, find};
+
+#[cfg(test)]
+mod tests;

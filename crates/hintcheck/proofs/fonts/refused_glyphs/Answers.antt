@@ -1,7 +1,10 @@
 use Rattle.std.specs.Option.{option_map}
 use Rattle.std.proofs.Common.{◌≡◌, ◌+◌, ◌∷◌, [], ◌++◌, List, ℕ, Some, sym, ◌∙◌, ap, subst, arith, length}
 use Rattle.tt_font.specs.GlyphParts.{glyph_data}
-use Rattle.hintcheck.specs.FontLooks.{AreRefusedBelow, font_in}
+use Rattle.hintcheck.specs.FontLooks.{AreRefusedBelow, font_in, subject_in}
+use Rattle.hintcheck.specs.Looks.{IfRefused}
+use Rattle.hintcheck.specs.Programs.{IsRefusal}
+use Rattle.hintcheck.specs.declared.look.LookFault.{LookFault}
 use Rattle.hintcheck.specs.declared.verdict.Refused.{Refused}
 use Rattle.hintcheck.proofs.FontLists.{accepted_next, all_below, refused_next}
 use Rattle.hintcheck.proofs.fonts.refused_glyphs.Goals as goal
@@ -26,7 +29,9 @@ loop-id-preserved c =
     | in-Err-Refused+in_ok-push-in-Err-Refused w ↦
         let same : c.match-look_at_glyph.refused.items ≡ c.loop-id.refused.items ++ w.in-Err-Refused.refusal ∷ [] =
             ap (λ v. v.items) w.refused-is ∙ w.in_ok-push-in-Err-Refused.ensures.items in
-        subst B (sym same) (refused_next font known glyphs c.loop-id.id glyph c.loop-id.refused.items w.in-Err-Refused.refusal c.loop-id.invariant at (let e = w.in-Err-Refused.field-0-is in w.in-Err-Refused.ensures.refused))
+        let R : LookFault → Type 0 = λ fault. IfRefused fault (IsRefusal (subject_in c.args.common.now c.loop-id.id glyph)) in
+        let is = subst R w.in-Err-Refused.field-0-is w.in-Err-Refused.ensures.refused in
+        subst B (sym same) (refused_next font known glyphs c.loop-id.id glyph c.loop-id.refused.items w.in-Err-Refused.refusal c.loop-id.invariant at is)
     ]
 
 pub returns : goal.returns

@@ -1,5 +1,5 @@
-use Rattle.std.proofs.Common.{◌≡◌, ℕ, List, [], Err, refl, sym, ap, subst}
-use Rattle.tt_code.specs.Cut.{Instruction, CannotBeCut, IsCut}
+use Rattle.std.proofs.Common.{ℕ, List, [], Err, refl, sym, ap, subst}
+use Rattle.tt_code.specs.Cut.{CannotBeCut, IsCut}
 use Rattle.tt_code.specs.declared.reason.Reason.TheVariants as reason
 use Rattle.tt_cert.specs.declared.spot.Spot.TheVariants as spot
 use Rattle.hintcheck.specs.Looks.{told_at}

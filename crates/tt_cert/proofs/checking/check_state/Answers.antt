@@ -1,4 +1,4 @@
-use Rattle.std.proofs.Common.{rules, ◌≡◌, refl, sym, ◌∙◌, ap, subst, true, false, Ok, reverse}
+use Rattle.std.proofs.Common.{rules, ◌≡◌, refl, sym, ◌∙◌, ap, subst, true, false, Ok}
 use Rattle.tt_code.specs.Settings.{is_main_end}
 use Rattle.tt_abs.specs.declared.state.State.{State}
 use Rattle.tt_abs.specs.Moves.{nexts_of}
@@ -6,7 +6,6 @@ use Rattle.tt_abs.specs.Settings.{setting_of}
 use Rattle.tt_abs.specs.States.{abstract_of, state_order}
 use Rattle.tt_abs.specs.Transfers.{outcome_on_cells}
 use Rattle.tt_cert.specs.Contents.{family_of, frames_at}
-use Rattle.tt_cert.specs.GoodFamilies.{IsStoredWithin}
 use Rattle.tt_cert.proofs.Checked.{frames_back, outcome_moved, refusal_moved, stores_here, sound_at_end, sound_from, broken_from, refused_here}
 use Rattle.tt_cert.proofs.Listing.{stored_within, stored_above}
 use Rattle.tt_cert.proofs.Turns.{turn_left}

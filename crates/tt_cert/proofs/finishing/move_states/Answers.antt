@@ -1,11 +1,14 @@
-use Rattle.std.proofs.Common.{arith, None, sym, subst, List, ◌∙◌}
+use Rattle.std.proofs.Common.{arith, sym, subst, List, ◌∙◌}
+use Rattle.std.proofs.lemmas.Option.{slice_get-get_or}
 use Rattle.tt_code.specs.declared.machine.Frame.{Frame}
 use Rattle.tt_cert.specs.Rising.{AreMoved}
-use Rattle.tt_cert.proofs.Moves.{next_context, next_range, known_at, moved_there, HasSoFar-step, HasSoFar-end}
+use Rattle.tt_cert.proofs.Amounts.{amount_step, next_free, none_there}
+use Rattle.tt_cert.proofs.Moves.{next_context, next_range, moved_there, HasSoFar-step, HasSoFar-end}
+use Rattle.tt_cert.proofs.Renumbering.{memory_only}
 use Rattle.tt_cert.proofs.finishing.move_states.Goals as goal
 
-pub bounds : goal.bounds
-bounds c =
+pub bounds-numbers-context : goal.bounds-numbers-context
+bounds-numbers-context c =
     next_context c.args.old.now c.loop-place.new c.args.new.now.contexts c.args.numbers.now _ _ (c.in-Some.place.now, c.in-Some.state.now) c.states-place-items.ensures.family
     c.requires.moved c.loop-place.invariant.same c.in-Some.ensures.steps c.states-place-items.ensures.found
 
@@ -13,26 +16,41 @@ pub join_state-requires-clause-there : goal.join_state-requires-clause-there
 join_state-requires-clause-there c =
     let within = next_context c.args.old.now c.loop-place.new c.args.new.now.contexts c.args.numbers.now _ _ (c.in-Some.place.now, c.in-Some.state.now) c.states-place-items.ensures.family
     c.requires.moved c.loop-place.invariant.same c.in-Some.ensures.steps c.states-place-items.ensures.found in
-    moved_there c.args.old.now.contexts c.args.new.now.contexts c.loop-place.new.contexts c.args.numbers.now c.in-Some.place.now.0 c.in-Some-numbers.number c.requires.moved
-    c.loop-place.invariant.contexts (known_at _ _ _ None c.in-Some-numbers.is within)
+    moved_there c.args.old.now.contexts c.args.new.now.contexts c.loop-place.new.contexts c.args.numbers.now c.in-Some.place.now.0 0 c.requires.moved c.loop-place.invariant.contexts within
 
 pub join_state-requires-clause-theirs : goal.join_state-requires-clause-theirs
 join_state-requires-clause-theirs c =
     next_range c.args.old.now c.loop-place.new _ _ (c.in-Some.place.now, c.in-Some.state.now) c.states-place-items.ensures.family
     c.loop-place.invariant.same c.in-Some.ensures.steps c.states-place-items.ensures.found
 
+pub returns-in_err-join_state-clause-memory : goal.returns-in_err-join_state-clause-memory
+returns-in_err-join_state-clause-memory c =
+    let within = next_context c.args.old.now c.loop-place.new c.args.new.now.contexts c.args.numbers.now _ _ (c.in-Some.place.now, c.in-Some.state.now) c.states-place-items.ensures.family
+    c.requires.moved c.loop-place.invariant.same c.in-Some.ensures.steps c.states-place-items.ensures.found in
+    let M : List (List Frame) → Type 0 = λ x. AreMoved c.args.old.now.contexts x c.args.numbers.now in
+    let free = next_free c.args.old.now c.loop-place.new c.args.numbers.now c.in-Some.place.now c.in-Some.state.now _ c.states-place-items.ensures.family
+    (subst M (sym c.loop-place.invariant.contexts) c.requires.moved) c.states-place-items.ensures.found c.states-place-items.ensures.rises
+    (slice_get-get_or c.args.numbers.now c.in-Some.place.now.0 0 within) _ _ c.loop-place.invariant.same c.in-Some.ensures.steps in
+    memory_only c.join_state.result c.from_residual.result c.in_err-join_state.field-0.0 c.in_err-join_state.was c.join_state.ensures.few
+    (λ deep. let (s, at, _) = c.join_state.ensures.depth deep in none_there _ s free at) c.from_residual.ensures.1
+
 pub loop-place-preserved : goal.loop-place-preserved
 loop-place-preserved c =
     let within = next_context c.args.old.now c.loop-place.new c.args.new.now.contexts c.args.numbers.now _ _ (c.in-Some.place.now, c.in-Some.state.now) c.states-place-items.ensures.family
     c.requires.moved c.loop-place.invariant.same c.in-Some.ensures.steps c.states-place-items.ensures.found in
+    let known = slice_get-get_or c.args.numbers.now c.in-Some.place.now.0 0 within in
     let M : List (List Frame) → Type 0 = λ x. AreMoved c.args.old.now.contexts x c.args.numbers.now in
     let moved = subst M (sym c.loop-place.invariant.contexts) c.requires.moved in
+    let free = next_free c.args.old.now c.loop-place.new c.args.numbers.now c.in-Some.place.now c.in-Some.state.now _ c.states-place-items.ensures.family
+    moved c.states-place-items.ensures.found c.states-place-items.ensures.rises known _ _ c.loop-place.invariant.same c.in-Some.ensures.steps in
     record {
       can_next = tt;
       is_finite = tt;
       family = c.in_ok-join_state.ensures.family;
       contexts = c.in_ok-join_state.ensures.contexts ∙ c.loop-place.invariant.contexts;
-      same = HasSoFar-step c.args.old.now c.loop-place.new c.join_state.new.self c.args.numbers.now c.in-Some.place.now c.in-Some.state.now c.in-Some-numbers.number
-          c.in_ok-join_state.field-0 c.states-place-items.ensures.family moved c.states-place-items.ensures.found (known_at _ _ _ None c.in-Some-numbers.is within)
+      same = HasSoFar-step c.args.old.now c.loop-place.new c.join_state.new.self c.args.numbers.now c.in-Some.place.now c.in-Some.state.now _
+          c.in_ok-join_state.field-0 c.states-place-items.ensures.family moved c.states-place-items.ensures.found known
           c.in_ok-join_state.ensures.put _ _ c.loop-place.invariant.same c.in-Some.ensures.steps;
+      points = amount_step c.args.old.now c.loop-place.new c.join_state.new.self _ c.in-Some.state.now c.in_ok-join_state.field-0 free
+          c.in_ok-join_state.ensures.put c.in_ok-join_state.ensures.sums _ _ (c.in-Some.place.now, c.in-Some.state.now) c.in-Some.ensures.steps c.loop-place.invariant.points;
     }

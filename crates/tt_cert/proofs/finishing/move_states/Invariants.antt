@@ -1,7 +1,7 @@
-use Rattle.std.proofs.Common.{◌≡◌, ℕ, List, ◌++◌}
+use Rattle.std.proofs.Common.{◌≡◌, ℕ, ◌+◌, List, ◌++◌, length}
 use Rattle.tt_abs.specs.declared.state.State.{State}
 use Rattle.tt_code.specs.declared.machine.Frame.{Frame}
-use Rattle.tt_cert.specs.Contents.{IsFamily}
+use Rattle.tt_cert.specs.Contents.{IsFamily, points_of}
 use Rattle.tt_cert.proofs.Moves.{HasSoFar}
 use Rattle.tt_cert.proofs.finishing.move_states.Given as goal
 
@@ -12,4 +12,5 @@ invariant-loop-place l = record {
   family : IsFamily l.new;
   contexts : l.new.contexts ≡ l.initial.new.contexts;
   same : HasSoFar l.old l.new l.place-iterator;
+  points : points_of l.new + length l.place-iterator ≡ points_of l.old;
 }

@@ -1,0 +1,15 @@
+use Rattle.std.proofs.Common.{arith, ◌+◌, cond, true, ◌≡◌, ap, sym}
+use Rattle.tt_find.proofs.Marks.{marks_inserted}
+use Rattle.tt_find.proofs.table.Table.put.Goals as goal
+
+pub returns-clause-put : goal.returns-clause-put
+returns-clause-put c = record {
+  changed = c.in-Ok.changed;
+  put = c.in-Ok.ensures.put;
+  sums = c.in-Ok.ensures.sums;
+  contexts = c.in-Ok.ensures.contexts;
+  family = c.in-Ok.ensures.family;
+  marks = marks_inserted _ _ _ _ c.in_default.ensures.updates;
+  updates = let one : cond c.in-Ok.changed 1 0 ≡ 1 = ap (λ b. cond b 1 0) c.if-not-changed.false in ap (λ n. c.args.self.now.updates + n) (sym one);
+  risen = record { marks = let l = c.in_default.ensures.len in grind (arith); updates = omega arith };
+}

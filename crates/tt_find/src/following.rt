@@ -1,0 +1,112 @@
+//! One point that is new or has changed: its state is carried on, and what it gives is put.
+
+ghost use Rattle.std.specs.Prelude.{◌≡◌, ◌<◌, IfErr, IfOk, length};
+ghost use Rattle.tt_abs.specs.Moves.{IsRefusedFor, LeadsBy, outcome_at};
+ghost use Rattle.tt_abs.specs.Settings.{setting_of};
+ghost use Rattle.tt_abs.specs.States.{state_order};
+ghost use Rattle.tt_cert.specs.Contents.{family_of};
+ghost use Rattle.tt_cert.specs.Puts.{place_of};
+ghost use Rattle.tt_find.specs.Found.{IsJustified, NamesPlace};
+ghost use Rattle.tt_find.specs.Tables.{HasLaws, HasRisen, IsCarried, IsRefusedAt, IsSound, IsWhole};
+
+use crate::fault::FindFault;
+use crate::reaching::reach;
+use crate::table::{Table, refused_at};
+use std::alloc::{AllocError, Global};
+use tt_abs::{Moves, Point, Refusal, Setting, State, step};
+use tt_cert::{BuildFault, Builder};
+use tt_code::Reason;
+
+/// What the instruction at a point makes of a state, and where it leads.
+fn stepped(
+    setting: &Setting<'_>,
+    point: &Point<'_>,
+    state: &mut State,
+) -> Result<Moves, Refusal>
+    ensures ok { IfOk result (λ m. LeadsBy point.now (outcome_at setting.now point.now state.old) m state.new) }
+    ensures refused { IfErr result (IsRefusedFor (outcome_at setting.now point.now state.old)) }
+    ensures in_range { state_order.InRange state.old → IfOk result (λ _. state_order.InRange state.new) }
+{
+    if !setting.starts(point, point.offset) {
+        return Err(Refusal::Refused(Reason::Target));
+    }
+    step(setting, point, state)
+}
+
+/// Where the state at a point leads, and with what. None where there is no state, and at the main program's end.
+fn carried(
+    builder: &Builder,
+    alloc: Global,
+    setting: &Setting<'_>,
+    context: u32,
+    offset: u32,
+) -> Result<Option<(Moves, State)>, FindFault>
+    requires { context < length builder.now.contexts }
+    ensures carried { IfOk result (IsCarried (setting_of setting.now) (family_of builder.now) (place_of builder.now context offset)) }
+    ensures refused { IfErr result (NamesPlace (IsRefusedAt (setting_of setting.now) (family_of builder.now) (place_of builder.now context offset))) }
+{
+    let Some(state) = builder.state(context, offset) else {
+        return Ok(None);
+    };
+    let frames = builder.frames(alloc, context)?;
+    let point = Point {
+        frames: frames.as_slice(),
+        offset,
+    };
+    if setting.is_end(&point, offset) {
+        return Ok(None);
+    }
+    let mut next = state.copied()?;
+    match stepped(setting, &point, &mut next) {
+        Ok(moves) => Ok(Some((moves, next))),
+        Err(Refusal::Refused(reason)) => Err(refused_at(builder, context, offset, reason)),
+        Err(Refusal::OutOfMemory(error)) => Err(FindFault::OutOfMemory(error)),
+    }
+}
+
+/// Carries the state at a point on, and puts what it gives; of two ways the one to the smaller offset first.
+///
+/// # Errors
+/// `Refused`, if the state is refused there, or enters a context too many; or for two states of different depths, where they meet.
+/// `OutOfMemory`.
+pub(crate) fn follow(
+    table: &mut Table,
+    alloc: Global,
+    setting: &Setting<'_>,
+    context: u32,
+    offset: u32,
+) -> Result<(), FindFault>
+    requires laws { HasLaws (setting_of setting.now) setting.now.start.now }
+    requires there { context < length table.old.builder.contexts }
+    requires sound { IsSound (setting_of setting.now) setting.now.start.now table.old (λ p. p ≡ place_of table.old.builder context offset) (λ _ _. ⊥) }
+    ensures whole { IfOk result (λ _. IsWhole (setting_of setting.now) setting.now.start.now table.new) }
+    ensures risen { IfOk result (λ _. HasRisen table.old table.new) }
+    ensures justified { IfErr result (NamesPlace (IsJustified (setting_of setting.now) setting.now.start.now)) }
+{
+    let carried = match carried(&table.builder, alloc, setting, context, offset) {
+        Ok(carried) => carried,
+        Err(fault) => return Err(fault),
+    };
+    let Some((moves, state)) = carried else {
+        return Ok(());
+    };
+    match moves {
+        Moves::One(way) => {
+            let (number, at) = match reach(&mut table.builder, context, way) {
+                Ok(place) => place,
+                Err(BuildFault::TooManyContexts) => {
+                    return Err(refused_at(&table.builder, context, offset, Reason::TooManyContexts));
+                }
+                Err(_) => return Err(FindFault::OutOfMemory(AllocError)),
+            };
+            table.put(number, at, state)
+        }
+        Moves::Two(first, second) => {
+            let copy = state.copied()?;
+            if let Err(fault) = table.put(context, first, copy) {
+                return Err(fault);
+            }
+            table.put(context, second, state)
+        }
+    }
+}

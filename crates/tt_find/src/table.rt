@@ -1,0 +1,84 @@
+//! The family so far, and what is still to be carried on.
+
+ghost use Rattle.std.specs.Prelude.{◌≡◌, ◌<◌, IfOk, IfErr, length};
+ghost use Rattle.tt_abs.specs.States.{state_order};
+ghost use Rattle.tt_cert.specs.Contents.{family_of, frames_at};
+ghost use Rattle.tt_cert.specs.Puts.{place_of};
+ghost use Rattle.tt_cert.specs.Spots.{spot_of};
+ghost use Rattle.tt_find.specs.Found.{NamesPlace};
+ghost use Rattle.tt_find.specs.Tables.{IsApart, IsPut};
+
+use crate::fault::FindFault;
+use std::alloc::AllocError;
+use std::collections::BTreeSet;
+use tt_abs::State;
+use tt_cert::{BuildFault, Builder, Spot};
+use tt_code::Reason;
+
+/// The family so far, the points whose state is new or has changed, each as its context's number and its offset, and how many updates
+/// were made.
+#[derive(Drop)]
+pub(crate) struct Table {
+    pub builder: Builder,
+    pub marked: BTreeSet<(u32, u32)>,
+    pub updates: u64,
+}
+
+/// In which program a context stands.
+fn spot_of_context(builder: &Builder, context: u32) -> Spot
+    requires { context < length builder.now.contexts }
+    ensures { result ≡ spot_of (frames_at builder.now.contexts context) }
+{
+    builder.contexts();
+    match builder.context(context) {
+        Some((_, frame)) => Spot::of_body(frame.body),
+        None => Spot::Main,
+    }
+}
+
+/// The fault that names a point for this reason.
+pub(crate) fn refused_at(
+    builder: &Builder,
+    context: u32,
+    offset: u32,
+    reason: Reason,
+) -> FindFault
+    requires { context < length builder.now.contexts }
+    ensures { result ≡ FindFault.Refused (spot_of (frames_at builder.now.contexts context)) offset reason }
+{
+    FindFault::Refused {
+        spot: spot_of_context(builder, context),
+        offset,
+        reason,
+    }
+}
+
+impl Table {
+    /// Puts a state at a point. If it is new there or makes a change, the point is marked, and one update counted.
+    ///
+    /// # Errors
+    /// `Refused` for a state of another depth, at the point; `OutOfMemory`.
+    pub(crate) fn put(&mut self, context: u32, offset: u32, state: State) -> Result<(), FindFault>
+        requires there { context < length self.old.builder.contexts }
+        requires in_range { state_order.InRange state }
+        requires room { self.old.updates < 18446744073709551615 }
+        ensures put { IfOk result (λ _. IsPut self.old self.new context offset state) }
+        ensures apart { IfErr result (NamesPlace (IsApart (family_of self.old.builder) (place_of self.old.builder context offset) state)) }
+    {
+        let changed = match self.builder.put_state(context, offset, state) {
+            Ok(changed) => changed,
+            Err(BuildFault::DepthMismatch) => {
+                return Err(refused_at(&self.builder, context, offset, Reason::DepthMismatch));
+            }
+            Err(_) => return Err(FindFault::OutOfMemory(AllocError)),
+        };
+        if !changed {
+            return Ok(());
+        }
+        if let Err(_) = self.marked.insert((context, offset)) {
+            return Err(FindFault::OutOfMemory(AllocError));
+        }
+        self.updates += 1;
+        Ok(())
+    }
+}
