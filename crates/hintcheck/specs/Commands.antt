@@ -1,5 +1,5 @@
 -- What a command says of the count of failed writes to its output, and its exit status at a fault.
-use Rattle.std.specs.Prelude.{◌≡◌, ◌≤◌, ℕ, Result, Ok, Err}
+use Rattle.std.specs.Prelude.{◌≡◌, ◌≤◌, ℕ, List, Option, IfSome, Result, Ok, Err}
 use Rattle.hintcheck.specs.declared.commands.faults.CommandFault.{CommandFault}
 use Rattle.hintcheck.specs.declared.commands.faults.CommandFault.TheVariants as fault
 use Rattle.tt_font.specs.declared.fault.FontFault.{FontFault}
@@ -25,3 +25,7 @@ abbrev pub TellsFailure : {T : Type 0} → Result T CommandFault → ℕ → ℕ
 TellsFailure (Ok done) old new = new ≡ old
 TellsFailure (Err fault.Write) old new = old ≤ new
 TellsFailure (Err other) old new = new ≡ old
+
+-- these are the bytes that were left, where those are known
+abbrev pub HasAll : Option (List ℕ) → List ℕ → Type 0
+HasAll left bytes = IfSome left (λ known. bytes ≡ known)

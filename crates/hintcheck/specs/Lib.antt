@@ -5,3 +5,4 @@ pub mod Looks
 pub mod FontLooks
 pub mod Judging
 pub mod Commands
+pub mod MeansSafe

@@ -1,12 +1,15 @@
 //! What the words of a command line ask for, done: a verdict or a fault in lines for the user, and
 //! the exit status.
 
-ghost use Rattle.std.specs.Prelude.{◌≡◌, ◌≤◌, ◌<◌, ◌⊎◌, IfErr, IfOk};
+ghost use Rattle.std.specs.Prelude.{◌≡◌, ◌≤◌, ◌<◌, ◌⊎◌, ℕ, IfErr, IfOk, List, [], map, option_map, string_bytes, true, unwrap_or};
 ghost use Rattle.tt_stream.specs.Streams.{CountsPrintFailure};
-ghost use Rattle.hintcheck.specs.Commands.{IsNoWriteFault, TellsFailure, status_of};
+ghost use Rattle.hintcheck_words.specs.Requests.{asked, is_taken};
+ghost use Rattle.hintcheck.specs.Commands.{HasAll, IsNoWriteFault, TellsFailure, status_of};
+ghost use Rattle.hintcheck.specs.MeansSafe.{HoldSafeFont, IsSafeRequest, MeansSafe, SpellSafeGlyph};
 
 mod faults;
 
+use crate::fonts;
 use crate::judge::bare;
 use crate::verdict::{Name, Verdict};
 use faults::CommandFault;
@@ -17,8 +20,7 @@ use std::io::Read;
 use std::marker::Brand;
 use std::rt::Files;
 use std::sync::ledger::{Blank, Ledger};
-use tt_font::FontFault;
-use tt_stream::{Counted, PrintFailed, ReadFault, Sink, read_all};
+use tt_stream::{Counted, PrintFailed, Sink, read_all};
 
 /// The exit status where every program is accepted, or help was asked for.
 const ACCEPTED: u8 = 0;
@@ -58,7 +60,8 @@ fn bare_verdict(
     contours: u16,
     program: &str,
 ) -> Result<Verdict, CommandFault>
-    ensures { IfErr result IsNoWriteFault }
+    ensures safe { IfOk result (λ verdict. verdict.refused ≡ [] → SpellSafeGlyph maxp.now cvt points contours program.now) }
+    ensures fault { IfErr result IsNoWriteFault }
 {
     let maxp = word_bytes(alloc, maxp).map_err(|fault| CommandFault::of_word(
         fault,
@@ -71,38 +74,46 @@ fn bare_verdict(
     bare(alloc, &maxp, cvt, points, contours, &program).map_err(CommandFault::of_font)
 }
 
-/// All bytes that are left in the file.
-fn file_bytes<L: Ledger, F: Read + Drop>(
+/// The verdict on all programs of a font, whose bytes are those that are left in the file.
+fn verdict_on_bytes<L: Ledger, F: Read + Drop>(
     alloc: Global,
     file: F,
     blank: Blank,
-) -> Result<Vec<u8>, ReadFault>
+) -> Result<Verdict, CommandFault>
     requires { (blank.name ≡ L.name) × (blank.parts ≡ L.parts) × (0 < blank.parts) }
+    ensures safe { IfOk result (λ verdict. verdict.refused ≡ [] → (bytes : List ℕ) × HasAll (F.remaining file) bytes × HoldSafeFont bytes) }
+    ensures fault { IfErr result IsNoWriteFault }
 {
     let mut source = Counted::<F, L>::new(file, blank);
-    read_all(alloc, &mut source)
-}
-
-/// The verdict on all programs of a font, whose file has these bytes.
-fn font_verdict(_alloc: Global, _font: &[u8]) -> Result<Verdict, FontFault> {
-    Err(FontFault::OutOfMemory(AllocError))
+    let bytes = read_all(alloc, &mut source).map_err(CommandFault::of_reading)?;
+    fonts::verdict(alloc, &bytes).map_err(CommandFault::of_font)
 }
 
 /// The verdict on all programs of the font file with this name.
 fn file_verdict<R: Files + AllocGlobal>(rt: &R, name: &str) -> Result<Verdict, CommandFault>
-    ensures { IfErr result IsNoWriteFault }
+    ensures safe { IfOk result (λ verdict. verdict.refused ≡ [] → (bytes : List ℕ) × HoldSafeFont bytes) }
+    ensures fault { IfErr result IsNoWriteFault }
 {
     let Ok(file) = fs::open(rt, name) else {
         return Err(CommandFault::Read);
     };
-    let bytes = file_bytes::<Brand, _>(rt.alloc(), file, Blank::new(1))
-        .map_err(CommandFault::of_reading)?;
-    font_verdict(rt.alloc(), &bytes).map_err(CommandFault::of_font)
+    verdict_on_bytes::<Brand, _>(rt.alloc(), file, Blank::new(1))
+}
+
+/// The word, empty where it is left out.
+fn word_or_empty(word: &Option<String>) -> &str
+    ensures { result.now ≡ unwrap_or (option_map (λ s. string_bytes s) word.now) [] }
+{
+    match word {
+        Some(word) => word.as_str(),
+        None => "",
+    }
 }
 
 /// The verdict that the task asks for.
 fn verdict_on<R: Files + AllocGlobal>(rt: &R, task: &Task) -> Result<Verdict, CommandFault>
-    ensures { IfErr result IsNoWriteFault }
+    ensures safe { IfOk result (λ verdict. verdict.refused ≡ [] → IsSafeRequest (asked task.now)) }
+    ensures fault { IfErr result IsNoWriteFault }
 {
     match task {
         Task::Bare {
@@ -111,10 +122,14 @@ fn verdict_on<R: Files + AllocGlobal>(rt: &R, task: &Task) -> Result<Verdict, Co
             points,
             contours,
             program,
-        } => {
-            let program = program.as_ref().map_or("", |word| word.as_str());
-            bare_verdict(rt.alloc(), maxp, *cvt, *points, *contours, program)
-        }
+        } => bare_verdict(
+            rt.alloc(),
+            maxp,
+            *cvt,
+            *points,
+            *contours,
+            word_or_empty(program),
+        ),
         Task::Verdict { font } => file_verdict(rt, font),
     }
 }
@@ -126,6 +141,7 @@ fn run<R: Files + AllocGlobal, O: Sink>(
     out: &mut O,
 ) -> Result<u8, CommandFault>
     ensures status { IfOk result (λ status. status ≤ 1) }
+    ensures safe { IfOk result (λ status. status ≡ 0 → is_taken (map (λ w. w.now) words.entry.now) ≡ true → MeansSafe (map (λ w. w.now) words.entry.now)) }
     ensures failures { TellsFailure result (O.failures out.old) (O.failures out.new) }
 {
     match read_words(rt.alloc(), words) {
@@ -159,6 +175,8 @@ pub fn command<R: Files + AllocGlobal, O: Sink, E: Sink>(
     err: &mut E,
 ) -> u8
     ensures statuses { result ≤ 3 }
+    // Where the command line takes the words and the status is 0, what they ask for is safe.
+    ensures safe { result ≡ 0 → is_taken (map (λ w. w.now) words.entry.now) ≡ true → MeansSafe (map (λ w. w.now) words.entry.now) }
     // A write to `out` failed only where the status says so.
     ensures unwritten { O.failures out.new ≡ O.failures out.old ⊎ (result ≡ 2 × O.failures out.old ≤ O.failures out.new) }
     ensures untold { E.failures err.old ≤ E.failures err.new }

@@ -1,11 +1,13 @@
 ghost use Rattle.std.specs.Prelude.{◌≡◌, ◌<◌};
 
 use crate::command;
-use std::io;
+use hintcheck_words::word_bytes;
+use std::{env, fs, io, process};
 use std::io::{ErrorKind, Write};
 use std::marker::Brand;
 use std::rt::Files;
 use std::sync::ledger::{Blank, Ledger};
+use std::test::Fail;
 use tt_stream::Counted;
 
 /// Limits: storage 4, functions 2, stack 8, programs of 64 bytes, zones 2, twilight points 4.
@@ -211,4 +213,70 @@ fn tells_unreadable_files(rt: HostRuntime) {
         assert_eq!(rt; out.len(), 0);
         assert_eq!(rt; err.as_slice(), b"fault: 44 read\n".as_slice());
     }
+}
+
+/// A font file up to its `maxp` table, in hexadecimal digits: the header and records of `glyf`, `head`, `loca`, `maxp` and `prep`; then
+/// `head` and `loca`. `maxp` and a CVT program of 4 bytes follow.
+const FONT: [&str; 8] = [
+    "000100000005000000000000",
+    "676C7966000000000000005C00000000",
+    "68656164000000000000005C00000036",
+    "6C6F6361000000000000009400000004",
+    "6D617870000000000000009800000020",
+    "7072657000000000000000B800000004",
+    "0000000000000000000000000000000000000000000000000000000000000000000000000000000000000000000000000000000000000000",
+    "00000000",
+];
+
+/// The exit status at `verdict` of a file with these bytes, and what stands on the two outputs.
+fn verdict_on_file(
+    rt: &HostRuntime,
+    name: &str,
+    words: &[&str],
+) -> Result<(u8, Vec<u8>, Vec<u8>), Fail> {
+    let alloc = rt.alloc();
+    let mut bytes = Vec::new(alloc);
+    for word in words {
+        bytes.extend_from_slice(&word_bytes(alloc, word)?)?;
+    }
+    let process = process::id(rt.process());
+    let name = format!(in alloc; "hintcheck-{process}-{name}.ttf")?;
+    let path = env::temp_dir(rt)?.join(alloc, name)?;
+    fs::write(rt, path.as_str(), bytes.as_slice())?;
+    let printed = printed(rt, &["hintcheck", "verdict", path.as_str()], ROOM, ROOM);
+    fs::remove_file(rt, path.as_str())?;
+    Ok(printed)
+}
+
+#[test]
+fn prints_verdicts_on_files(rt: HostRuntime) -> Result<(), Fail> {
+    let cases = [
+        ("accepted", "B0002100", 0, "accepted: 3 programs\n"),
+        (
+            "refused",
+            "B0002121",
+            1,
+            "refused p at p:3: 26 underflow\nrefused: cvt program\n",
+        ),
+    ];
+    for (name, program, want, text) in cases {
+        let mut words = Vec::new(rt.alloc());
+        words.extend_from_slice(&FONT)?;
+        words.push(LIMITS)?;
+        words.push(program)?;
+        let (status, out, err) = verdict_on_file(&rt, name, &words)?;
+        assert_eq!(rt; status, want, "{name}");
+        assert_eq!(rt; out.as_slice(), text.as_bytes());
+        assert_eq!(rt; err.len(), 0);
+    }
+    Ok(())
+}
+
+#[test]
+fn tells_faults_of_files(rt: HostRuntime) -> Result<(), Fail> {
+    let (status, out, err) = verdict_on_file(&rt, "empty", &[])?;
+    assert_eq!(rt; status, 2);
+    assert_eq!(rt; out.len(), 0);
+    assert_eq!(rt; err.as_slice(), b"fault: 2 directory truncated\n".as_slice());
+    Ok(())
 }

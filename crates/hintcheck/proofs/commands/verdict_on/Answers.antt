@@ -1,0 +1,11 @@
+use Rattle.std.proofs.lemmas.Result.{IfOk-weaker}
+use Rattle.hintcheck_words.specs.Requests.{asked}
+use Rattle.hintcheck.proofs.commands.verdict_on.Goals as goal
+
+pub returns-in-Bare-clause-safe : goal.returns-in-Bare-clause-safe
+unfolding asked
+returns-in-Bare-clause-safe g c = IfOk-weaker c.bare_verdict.result _ _ (λ v safe none. rw c.in-Bare.is (rw (← c.deref.ensures, ← c.word_or_empty.ensures) (safe none))) c.bare_verdict.ensures.safe
+
+pub returns-in-Verdict-clause-safe : goal.returns-in-Verdict-clause-safe
+unfolding asked
+returns-in-Verdict-clause-safe g c = IfOk-weaker c.file_verdict.result _ _ (λ v safe none. rw c.in-Verdict.is (safe none)) c.file_verdict.ensures.safe
