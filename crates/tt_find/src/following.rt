@@ -91,12 +91,8 @@ pub(crate) fn follow(
             let (number, at) = match reach(&mut table.builder, context, way) {
                 Ok(place) => place,
                 Err(BuildFault::TooManyContexts) => {
-                    return Err(refused_at(
-                        &table.builder,
-                        context,
-                        offset,
-                        Reason::TooManyContexts,
-                    ));
+                    let reason = Reason::TooManyContexts;
+                    return Err(refused_at(&table.builder, context, offset, reason));
                 }
                 Err(_) => return Err(FindFault::OutOfMemory(AllocError)),
             };
