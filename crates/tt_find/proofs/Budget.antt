@@ -4,12 +4,11 @@ use Rattle.std.specs.List.{sum_by}
 use Rattle.std.specs.Map.{values_of}
 use Rattle.std.proofs.Common.{refl, sym, ◌∙◌, ap, subst, arith, mul-le-mul_right}
 use Rattle.std.proofs.lemmas.List.Sums.{sum_by-cons}
-use Rattle.tt_code.specs.declared.machine.Frame.{Frame}
 use Rattle.tt_abs.specs.declared.state.State.{State}
 use Rattle.tt_abs.specs.Orders.{Order, OrderLaws}
 use Rattle.tt_abs.specs.Families.{IsFamilyInRange}
 use Rattle.tt_abs.specs.StateFlow.{Place}
-use Rattle.tt_cert.specs.Contents.{Contents, IsFamily, family_of, number_of, points_of, total}
+use Rattle.tt_cert.specs.Contents.{Contents, IsFamily, family_of, number_of, total}
 use Rattle.tt_cert.specs.Places.{PutGives, PutsAt, states_of}
 use Rattle.tt_cert.specs.Puts.{Reweighs, place_of, weigh}
 use Rattle.tt_find.specs.Tables.{IsWithinBudget}
@@ -36,7 +35,7 @@ module _ (o : Order State) (order : OrderLaws o) (h : ℕ) where
       let pm : points' * (1 + h) ≡ points * (1 + h) = ap (λ x. x * (1 + h)) pe in
       let falls : o.left u ≤ o.left a = order.left_falls a u (ranged a refl) gives.0.in_range gives.0.left in
       let apart : o.left u ≢ o.left a = λ e. let one : a ≡ u = order.left_strict a u (ranged a refl) gives.0.in_range gives.0.left e in
-        let no_such : true ≡ false = gives.1.1 (sym one) in cc in
+      let no_such : true ≡ false = gives.1.1 (sym one) in cc in
       (omega arith, omega arith)
   spent_from points points' left left' updates (Some a) (Some u) t false gives ranged low l p spent counted =
       let pe : points' ≡ points = omega arith in
@@ -53,8 +52,8 @@ module _ (o : Order State) (order : OrderLaws o) (h : ℕ) where
       let ones = sum_ones v.states in
       let ones' = sum_ones v'.states in
       let both = spent_from (total (λ _. 1) v) (total (λ _. 1) v') (total o.left v) (total o.left v') updates (family_of v (place_of v c off)) (family_of v' (place_of v c off)) t changed
-        put.here (λ s is. ranged (place_of v c off) s is) low (sums o.left) (sums (λ _. 1))
-        (let s = budget.spent in let m = ap (λ x. x * (1 + h)) ones in omega arith) (let n = budget.counted in omega arith) in
+      put.here (λ s is. ranged (place_of v c off) s is) low (sums o.left) (sums (λ _. 1))
+      (let s = budget.spent in let m = ap (λ x. x * (1 + h)) ones in omega arith) (let n = budget.counted in omega arith) in
       let s = both.0 in
       let n = both.1 in
       let m = ap (λ x. x * (1 + h)) ones' in

@@ -7,19 +7,19 @@ use Rattle.tt_code.specs.declared.machine.Frame.{Frame}
 use Rattle.tt_code.specs.declared.reason.Reason.{Reason}
 use Rattle.tt_code.specs.declared.reason.Reason.TheVariants.{NeverEnds}
 use Rattle.tt_abs.specs.declared.state.State.{State}
-use Rattle.tt_abs.specs.Families.{IsBelowFamily, IsGood}
+use Rattle.tt_abs.specs.Families.{IsGood}
 use Rattle.tt_abs.specs.FamilyLaws.{derived_below, derived_is, none_where_apart, none_where_refused}
 use Rattle.tt_abs.specs.StateFlow.{FitsLimits, Place, flow_of, height_of}
 use Rattle.tt_abs.specs.States.{state_laws, state_order}
-use Rattle.tt_cert.specs.Contents.{Contents, HasContext, IsFamily, family_of, points_of}
+use Rattle.tt_cert.specs.Contents.{Contents, IsFamily, family_of, points_of}
 use Rattle.tt_cert.specs.GoodFamilies.{EndsWell, HasEnd, HasFewContexts, IsGoodFamily, IsShortEnough}
 use Rattle.tt_cert.specs.Places.{states_of}
 use Rattle.tt_cert.specs.Puts.{family_at}
 use Rattle.tt_find.specs.declared.fault.FindFault.{FindFault}
 use Rattle.tt_find.specs.declared.fault.FindFault.TheVariants.{Refused, OutOfMemory}
 use Rattle.tt_find.specs.declared.table.Table.{Table}
-use Rattle.tt_find.specs.Found.{AreDerivedContexts, EntersTooMany, IsDerived, IsJustified, IsLeast, IsNeverEnding, IsWantOfMemory, LacksEnd, NamesPlace, NoneIsGood, too_long, refused, apart, too_many, never_ends}
-use Rattle.tt_find.specs.Tables.{HasLaws, IsMarked, IsSound, IsTable, IsWhole}
+use Rattle.tt_find.specs.Found.{AreDerivedContexts, IsDerived, IsJustified, IsLeast, IsNeverEnding, IsWantOfMemory, LacksEnd, NamesPlace, NoneIsGood, too_long, refused, apart, too_many, never_ends}
+use Rattle.tt_find.specs.Tables.{HasLaws, IsMarked, IsWhole}
 use Rattle.tt_find.proofs.Many.{few_from_all}
 use Rattle.tt_find.proofs.Marks.{none_marked}
 use Rattle.tt_find.proofs.Points.{has_number, same_or_apart}
@@ -83,9 +83,9 @@ module _ (s : Setting) (functions : List (ℕ × ℕ)) (laws : HasLaws s functio
       → IsGood state_order (flow_of s functions) family → HasFewContexts family → ⊥
   none_where_many contexts derived many family good (ys, few, has) =
       let most = few_from_all contexts ys derived.distinct (λ i lt.
-        let (off, a, d) = derived.derived i lt in
-        let (u, at, below) = derived_below state_order (flow_of s functions) (height_of s) state_laws laws.flow family good _ a d in
-        has _ u at) in
+      let (off, a, d) = derived.derived i lt in
+      let (u, at, below) = derived_below state_order (flow_of s functions) (height_of s) state_laws laws.flow family good _ a d in
+      has _ u at) in
       absurd (omega arith)
 
   -- what justifies a refusal leaves no good family, or the end isn't reached

@@ -1,5 +1,5 @@
 -- What the steps of `follow` leave of the finder's table, and what justifies its refusals.
-use Rattle.std.specs.Prelude.{◌≡◌, ℕ, ◌+◌, ◌<◌, ◌^◌, cond, Option, Some, None, List, [], ◌∷◌, ◌++◌, Result, IfOk, IfErr, length}
+use Rattle.std.specs.Prelude.{◌≡◌, ℕ, ◌<◌, Option, Some, None, List, [], ◌∷◌, ◌++◌, Result, IfOk, IfErr, length}
 use Rattle.std.proofs.Common.{refl, sym, ◌∙◌, ap, subst, arith, inl, inr, length-append}
 use Rattle.std.proofs.Math.ListN.{get_or-append}
 use Rattle.std.proofs.Math.Seq.{get_or-append_seam}
@@ -24,7 +24,7 @@ use Rattle.tt_cert.proofs.Checked.{err_map, ok_map}
 use Rattle.tt_find.specs.declared.fault.FindFault.{FindFault}
 use Rattle.tt_find.specs.declared.fault.FindFault.TheVariants.{Refused, OutOfMemory}
 use Rattle.tt_find.specs.declared.table.Table.{Table}
-use Rattle.tt_find.specs.Found.{AreDerivedContexts, EntersTooMany, IsDerived, IsJustified, NamesPlace, refused, apart, too_many}
+use Rattle.tt_find.specs.Found.{AreDerivedContexts, IsDerived, IsJustified, NamesPlace, refused, apart, too_many}
 use Rattle.tt_find.specs.Tables.{HasLaws, HasRisen, IsApart, IsCarried, IsCarriedOn, IsCountable, IsPut, IsRefusedAt, IsSound, IsTable, IsWhole, IsWithinBudget, Pends, places_behind}
 use Rattle.tt_find.proofs.Budget.{budget_put, budget_same, room_for, updates_fit}
 use Rattle.tt_find.proofs.Points.{table_grown, table_none, table_opened, table_put}
@@ -119,17 +119,17 @@ module _ (s : Setting) (functions : List (ℕ × ℕ)) (laws : HasLaws s functio
       → NamesPlace (IsRefusedAt s (family_of table.builder) at) fault → NamesPlace (IsJustified s functions) fault
   refused_left table at Here Rest sound fault h =
       names_map (IsRefusedAt s (family_of table.builder) at) (IsJustified s functions) (λ p r x.
-        let J : Place → Type 0 = λ y. IsJustified s functions y r in
-        subst J (sym x.place) (refused at x.state r (sound.kept.sound.derived at x.state x.found) x.refused)) fault h
+      let J : Place → Type 0 = λ y. IsJustified s functions y r in
+      subst J (sym x.place) (refused at x.state r (sound.kept.sound.derived at x.state x.found) x.refused)) fault h
 
   -- two derived states that differ in depth
   pub apart_left : (table : Table) (at : Place) (t : State) (qs : List Place) → IsSound s functions table (λ _. ⊥) (Pends (at ∷ qs) t) → (fault : FindFault)
       → NamesPlace (IsApart (family_of table.builder) at t) fault → NamesPlace (IsJustified s functions) fault
   apart_left table at t qs sound fault h =
       names_map (IsApart (family_of table.builder) at t) (IsJustified s functions) (λ p r x.
-        let J : Place × Reason → Type 0 = λ y. IsJustified s functions y.0 y.1 in
-        let both : ◌≡◌ {A = Place × Reason} (at, DepthMismatch) (p, r) = λ i. (sym x.place i, sym x.reason i) in
-        subst J both (apart at x.state t (sound.kept.sound.derived at x.state x.found) (sound.kept.sound.rest_derived at t (inl (refl, refl))) x.apart)) fault h
+      let J : Place × Reason → Type 0 = λ y. IsJustified s functions y.0 y.1 in
+      let both : ◌≡◌ {A = Place × Reason} (at, DepthMismatch) (p, r) = λ i. (sym x.place i, sym x.reason i) in
+      subst J both (apart at x.state t (sound.kept.sound.derived at x.state x.found) (sound.kept.sound.rest_derived at t (inl (refl, refl))) x.apart)) fault h
 
   -- one context too many
   derived_contexts : (table : Table) (q : Place) (t : State) → IsSound s functions table (λ _. ⊥) (Pends (q ∷ []) t) → (HasContext table.builder.contexts q.0 → ⊥)
@@ -153,9 +153,9 @@ module _ (s : Setting) (functions : List (ℕ × ℕ)) (laws : HasLaws s functio
           | inr ge_i ↦
               let i_is : i ≡ length xs = omega arith in
               elim (cases_lt j (length xs)) [
-              | inl lt_j ↦ absurd (has j lt_j (sym (old j lt_j) ∙ sym same ∙ ap (frames_at (xs ++ y ∷ [])) i_is ∙ last))
-              | inr ge_j ↦ omega arith
-            ]
+                | inl lt_j ↦ absurd (has j lt_j (sym (old j lt_j) ∙ sym same ∙ ap (frames_at (xs ++ y ∷ [])) i_is ∙ last))
+                | inr ge_j ↦ omega arith
+              ]
         ];
         derived = λ i lt. elim (cases_lt i (length xs)) [
           | inl lt_i ↦

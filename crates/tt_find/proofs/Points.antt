@@ -1,5 +1,5 @@
 -- The steps of the finder on its table, for any order and flow of states.
-use Rattle.std.specs.Prelude.{◌≡◌, ◌≢◌, ◌⊎◌, ◌↔◌, ℕ, ◌+◌, ◌<◌, ◌≤◌, Bool, true, false, Option, Some, None, List, [], ◌∷◌, ◌++◌, length}
+use Rattle.std.specs.Prelude.{◌≡◌, ◌≢◌, ◌⊎◌, ◌↔◌, ℕ, ◌<◌, Bool, true, false, Some, None, List, [], ◌∷◌, ◌++◌, length}
 use Rattle.std.specs.BTreeSet.{BTreeSet, Updates, contains}
 use Rattle.std.proofs.Common.{refl, sym, ◌∙◌, ap, subst, arith, inl, inr, length-append}
 use Rattle.std.proofs.Math.ListN.{get_or-append}
@@ -17,7 +17,7 @@ use Rattle.tt_cert.specs.Numbers.{at-number_of, number_of-append, number_of-appe
 use Rattle.tt_cert.specs.Places.{PutsAt, place_cmp, states_of}
 use Rattle.tt_cert.specs.Puts.{number_at, place_of}
 use Rattle.tt_cert.proofs.Puts.{cases_place, places_apart}
-use Rattle.tt_find.specs.Tables.{IsMarked, IsTable, IsSoundFamily, MarksMore, Pends}
+use Rattle.tt_find.specs.Tables.{IsMarked, IsTable, MarksMore, Pends}
 use Rattle.tt_find.proofs.Sound.{sound_opened, sound_put}
 
 pub same_or_apart : (p q : Place) → (p ≡ q) ⊎ (p ≢ q)
@@ -111,7 +111,7 @@ module _ (o : Order State) (f : Flow Place State) where
   table_appended v marked Rest frames off t table d absent family' =
       let long = length-append v.contexts (frames ∷ []) in
       let was = λ (p : Place) (s : State) (at : states_of v.states (number_of (v.contexts ++ frames ∷ []) p.0, p.1) ≡ Some s).
-        ap (λ n. states_of v.states (n, p.1)) (sym (old_number p s at)) ∙ at in
+      ap (λ n. states_of v.states (n, p.1)) (sym (old_number p s at)) ∙ at in
       record {
         family = family';
         entered = λ i lt. elim (cases_lt i (length v.contexts)) [
@@ -148,9 +148,11 @@ module _ (o : Order State) (f : Flow Place State) where
             let lt = table.family.held (number_of (v.contexts ++ frames ∷ []) p.0) p.1 s at in
             omega arith)
       ]
+
       cover_still : (p : Place) (s : State) → CoversAt o (family_of v) p s → CoversAt o (family_of (record { contexts = v.contexts ++ frames ∷ []; states = v.states })) p s
       cover_still p s (u, at, below) =
           (u, ap (λ n. states_of v.states (n, p.1)) (number_of-append v.contexts frames p.0 (has_number v p u table.family at)) ∙ at, below)
+
       free : (p : Place) (s : State) → states_of v.states (number_of (v.contexts ++ frames ∷ []) p.0, p.1) ≡ Some s
           → (IsMarked (record { contexts = v.contexts ++ frames ∷ []; states = v.states }) marked p ⊎ ⊥ → ⊥) → IsMarked v marked p ⊎ ⊥ → ⊥
       free p s at unmarked m = elim m [

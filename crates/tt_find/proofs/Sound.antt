@@ -1,8 +1,8 @@
 -- What a put, and carrying a point on, leave of a sound family.
-use Rattle.std.specs.Prelude.{◌≡◌, ◌≢◌, ℕ, ◌⊎◌, ◌↔◌, Bool, true, false, Option, Some, None}
+use Rattle.std.specs.Prelude.{◌≡◌, ◌≢◌, ◌⊎◌, ◌↔◌, Bool, true, false, Option, Some, None}
 use Rattle.std.proofs.Common.{refl, sym, ◌∙◌, ap, subst, inl, inr}
 use Rattle.tt_code.specs.declared.reason.Reason.{Reason}
-use Rattle.tt_abs.specs.Orders.{Order, OrderLaws, IsLeastAbove}
+use Rattle.tt_abs.specs.Orders.{Order, OrderLaws}
 use Rattle.tt_abs.specs.Flows.{Flow}
 use Rattle.tt_abs.specs.Families.{CoversAt, Derived, moved, joined, IsGood}
 use Rattle.tt_cert.specs.Places.{PutGives, PutsAt}
@@ -88,14 +88,15 @@ module _ {P S : Type 0} (o : Order S) (laws : OrderLaws o) where
           closed = λ p s q' t' at free gives. elim (sound.closed p s q' t' (was c refl p s at free) (λ m. free (more p m)) gives) [
             | inl covered ↦ inl (covers_still old new rises q' t' covered)
             | inr later ↦ elim (fewer q' t' later) [
-                | inl still ↦ inr still
-                | inr now ↦ inl (let C : P × S → Type 0 = λ x. CoversAt o new x.0 x.1 in subst C (both now) covers)
-              ]
+              | inl still ↦ inr still
+              | inr now ↦ inl (let C : P × S → Type 0 = λ x. CoversAt o new x.0 x.1 in subst C (both now) covers)
+            ]
           ];
         }
       where
         both : {p : P} {s : S} → (p ≡ q) × (s ≡ t) → ◌≡◌ {A = P × S} (q, t) (p, s)
         both h = λ i. (sym h.0 i, sym h.1 i)
+
         was : (b : Bool) → c ≡ b → (p : P) (s : S) → new p ≡ Some s → (Marked' p → ⊥) → old p ≡ Some s
         was true e p s at free = elim (same_or_apart p q) [
           | inl same ↦ absurd (free (let M : P → Type 0 = Marked' in subst M (sym same) (mark e)))

@@ -1,5 +1,5 @@
 -- The finder's first table.
-use Rattle.std.specs.Prelude.{◌≡◌, ◌⊎◌, ℕ, ◌+◌, ◌<◌, Bool, true, cond, Option, Some, None, List, [], ◌∷◌, length}
+use Rattle.std.specs.Prelude.{◌≡◌, ◌⊎◌, ℕ, ◌+◌, Bool, true, cond, Option, Some, None, List, [], ◌∷◌, length}
 use Rattle.std.specs.BTreeSet.{BTreeSet, contains}
 use Rattle.std.proofs.Common.{refl, sym, ◌∙◌, ap, subst, arith, inl, inr}
 use Rattle.tt_code.specs.Settings.{Setting}
@@ -33,11 +33,11 @@ module _ (o : Order State) (f : Flow Place State) (order : OrderLaws o) where
       record {
         family = family;
         entered = λ i lt.
-          let zero_is : i ≡ 0 = omega arith in
-          let frames : frames_at v'.contexts i ≡ [] = ap (frames_at v'.contexts) zero_is ∙ ap (λ x. frames_at x 0) lists in
-          let D : Place → Type 0 = λ x. Derived o f x f.start in
-          let E : List Frame → Type 0 = λ x. Derived o f (x, 0) f.start in
-          (0, f.start, subst E (sym frames) (subst D entry started));
+            let zero_is : i ≡ 0 = omega arith in
+            let frames : frames_at v'.contexts i ≡ [] = ap (frames_at v'.contexts) zero_is ∙ ap (λ x. frames_at x 0) lists in
+            let D : Place → Type 0 = λ x. Derived o f x f.start in
+            let E : List Frame → Type 0 = λ x. Derived o f (x, 0) f.start in
+            (0, f.start, subst E (sym frames) (subst D entry started));
         held = λ c b m. elim (marks.back (c, b) m) [
           | inl old ↦ absurd (none_marked marked (c, b) none old)
           | inr here ↦ let e : c ≡ 0 = ap (λ (x : ℕ × ℕ). x.0) here in omega arith
@@ -53,9 +53,9 @@ module _ (o : Order State) (f : Flow Place State) (order : OrderLaws o) where
           ];
           rest_derived = λ p s never. absurd never;
           start =
-            let (u, is, below) = gives_covers o order (family_of v (place_of v 0 0)) t (family_of v' (place_of v 0 0)) changed put.here in
-            let B : State → Type 0 = λ x. o.Below x u in
-            (u, ap (family_of v') (sym place) ∙ is, subst B start below);
+              let (u, is, below) = gives_covers o order (family_of v (place_of v 0 0)) t (family_of v' (place_of v 0 0)) changed put.here in
+              let B : State → Type 0 = λ x. o.Below x u in
+              (u, ap (family_of v') (sym place) ∙ is, subst B start below);
           safe = λ p s n at unmarked refused. absurd (marked_all p s at unmarked);
           closed = λ p s q u at unmarked given. absurd (marked_all p s at unmarked);
         };
@@ -63,14 +63,17 @@ module _ (o : Order State) (f : Flow Place State) (order : OrderLaws o) where
     where
       blank : (p : Place) → family_of v p ≡ None
       blank p = ap (λ (x : List ((ℕ × ℕ) × State)). states_of x (number_of v.contexts p.0, p.1)) states
+
       slot_is : (slot old : Option State) → old ≡ None → PutGives o old t slot changed → (s : State) → slot ≡ Some s → s ≡ t
       slot_is None None e g s at = absurd g
       slot_is (Some u) None e g s at = let ue : u ≡ s = cc in sym ue ∙ g.0
       slot_is slot (Some a) e g s at = absurd (let no_such : Some a ≡ None = e in cc)
+
       is_new : (x y : Option State) → x ≡ None → PutGives o x t y changed → changed ≡ true
       is_new None None e g = absurd g
       is_new None (Some u) e g = g.1
       is_new (Some a) y e g = absurd (let no_such : Some a ≡ None = e in cc)
+
       marked_all : (p : Place) (s : State) → family_of v' p ≡ Some s → (IsMarked v' marked' p ⊎ ⊥ → ⊥) → ⊥
       marked_all p s at unmarked = elim (same_or_apart p (place_of v 0 0)) [
         | inl here ↦

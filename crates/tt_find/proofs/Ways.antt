@@ -1,5 +1,5 @@
 -- What a state gives that was carried on, as what is still to be put.
-use Rattle.std.specs.Prelude.{◌≡◌, ◌↔◌, ℕ, true, false, List, [], ◌∷◌, Ok, Err, Some, slice_get, zero, suc}
+use Rattle.std.specs.Prelude.{◌≡◌, ◌↔◌, ℕ, true, false, List, Ok, Err, Some, slice_get, zero, suc}
 use Rattle.std.proofs.Common.{refl, sym, ◌∙◌, ap, subst, inl, inr}
 use Rattle.tt_code.specs.Settings.{Setting, is_main_end}
 use Rattle.tt_code.specs.declared.machine.Frame.{Frame}
@@ -14,8 +14,7 @@ use Rattle.tt_abs.specs.Transfers.{Next, outcome_on_cells}
 use Rattle.tt_abs.proofs.StateParts.{one_state}
 use Rattle.tt_cert.specs.Checks.{place_of_next}
 use Rattle.tt_cert.proofs.Checked.{same_states}
-use Rattle.tt_find.specs.Tables.{IsCarriedOn, Pends, places_behind}
-
+use Rattle.tt_find.specs.Tables.{Pends, places_behind}
 
 pends_at : (fs : List Frame) (ways : Moves) (t : State) (i : ℕ) (n : Next) → slice_get (nexts_of fs ways (abstract_of t)) i ≡ Some n → Pends (places_behind fs ways) t (place_of_next n) t
 pends_at fs (moves.One way) t zero n e =

@@ -1,9 +1,9 @@
 //! Why no family is found.
 
 use std::alloc::AllocError;
+use thiserror::Error;
 use tt_cert::Spot;
 use tt_code::Reason;
-use thiserror::Error;
 
 /// Why no family of abstract states is found for a program.
 #[derive(Debug, Drop, Error)]

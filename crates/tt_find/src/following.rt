@@ -18,11 +18,7 @@ use tt_cert::{BuildFault, Builder};
 use tt_code::Reason;
 
 /// What the instruction at a point makes of a state, and where it leads.
-fn stepped(
-    setting: &Setting<'_>,
-    point: &Point<'_>,
-    state: &mut State,
-) -> Result<Moves, Refusal>
+fn stepped(setting: &Setting<'_>, point: &Point<'_>, state: &mut State) -> Result<Moves, Refusal>
     ensures ok { IfOk result (λ m. LeadsBy point.now (outcome_at setting.now point.now state.old) m state.new) }
     ensures refused { IfErr result (IsRefusedFor (outcome_at setting.now point.now state.old)) }
     ensures in_range { state_order.InRange state.old → IfOk result (λ _. state_order.InRange state.new) }
@@ -95,7 +91,8 @@ pub(crate) fn follow(
             let (number, at) = match reach(&mut table.builder, context, way) {
                 Ok(place) => place,
                 Err(BuildFault::TooManyContexts) => {
-                    return Err(refused_at(&table.builder, context, offset, Reason::TooManyContexts));
+                    let reason = Reason::TooManyContexts;
+                    return Err(refused_at(&table.builder, context, offset, reason));
                 }
                 Err(_) => return Err(FindFault::OutOfMemory(AllocError)),
             };

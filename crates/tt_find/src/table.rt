@@ -37,12 +37,7 @@ fn spot_of_context(builder: &Builder, context: u32) -> Spot
 }
 
 /// The fault that names a point for this reason.
-pub(crate) fn refused_at(
-    builder: &Builder,
-    context: u32,
-    offset: u32,
-    reason: Reason,
-) -> FindFault
+pub(crate) fn refused_at(builder: &Builder, context: u32, offset: u32, reason: Reason) -> FindFault
     requires { context < length builder.now.contexts }
     ensures { result ≡ FindFault.Refused (spot_of (frames_at builder.now.contexts context)) offset reason }
 {

@@ -204,12 +204,18 @@ fn called_functions(rt: HostRuntime) {
         // PUSHW 32,767, 32,767; ADD; PUSHB 1; ADD; PUSHB 0; LOOPCALL.
         (
             &EMPTY,
-            &[0xb9, 0x7f, 0xff, 0x7f, 0xff, 0x60, 0xb0, 0x01, 0x60, 0xb0, 0x00, 0x2a],
+            &[
+                0xb9, 0x7f, 0xff, 0x7f, 0xff, 0x60, 0xb0, 0x01, 0x60, 0xb0, 0x00, 0x2a,
+            ],
             Told::Refused(Spot::Font, 3, Reason::TooManyContexts),
         ),
     ];
     for (font, program, want) in table {
-        assert_eq!(rt; with_function(rt.alloc(), font, program), want, "of {font:?} and {program:?}");
+        assert_eq!(rt;
+            with_function(rt.alloc(), font, program),
+            want,
+            "of {font:?} and {program:?}"
+        );
     }
 }
 

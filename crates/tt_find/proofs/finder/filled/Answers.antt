@@ -28,7 +28,7 @@ loop-context-smaller c =
 pub returns-clause-whole : goal.returns-clause-whole
 returns-clause-whole c =
     let W : BTreeSet (ℕ × ℕ) → Type 0 = λ x.
-      IsWhole (setting_of c.args.setting.now) c.args.setting.now.start.now (record { builder = c.loop-context.table.builder; marked = x; updates = c.loop-context.table.updates }) in
+    IsWhole (setting_of c.args.setting.now) c.args.setting.now.start.now (record { builder = c.loop-context.table.builder; marked = x; updates = c.loop-context.table.updates }) in
     subst W (same_set c.loop-context.table.marked c.pop_first.new.self c.in_default.ensures.unchanged) c.loop-context.invariant
 
 pub returns-clause-none : goal.returns-clause-none

@@ -1,9 +1,9 @@
-use Rattle.std.proofs.Common.{rules, ◌≡◌, ◌∙◌, refl, ap, sym, subst, true, false, []}
-use Rattle.std.specs.Prelude.{Option, Some}
+use Rattle.std.proofs.Common.{rules, ◌≡◌, ◌∙◌, ap, sym, subst, true, false, []}
+use Rattle.std.specs.Prelude.{Option}
 use Rattle.tt_code.specs.declared.reason.Reason.TheVariants.{NeverEnds, ProgramTooLong}
 use Rattle.tt_abs.specs.declared.state.State.{State}
 use Rattle.tt_abs.specs.Settings.{setting_of}
-use Rattle.tt_abs.specs.StateFlow.{FitsLimits, Place}
+use Rattle.tt_abs.specs.StateFlow.{Place}
 use Rattle.tt_cert.specs.Contents.{family_of}
 use Rattle.tt_cert.specs.GoodFamilies.{IsGoodFamily}
 use Rattle.tt_cert.specs.declared.spot.Spot.TheVariants.{Main}

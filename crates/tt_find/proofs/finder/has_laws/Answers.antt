@@ -1,4 +1,4 @@
-use Rattle.std.proofs.Common.{rules, arith}
+use Rattle.std.proofs.Common.{arith}
 use Rattle.tt_abs.specs.Settings.{setting_of}
 use Rattle.tt_find.proofs.finder.has_laws.Goals as goal
 

@@ -1,4 +1,4 @@
-use Rattle.std.proofs.Common.{refl, sym, ◌∙◌, ◌≡◌, ap, subst, false, reverse}
+use Rattle.std.proofs.Common.{refl, sym, ◌∙◌, ◌≡◌, ap, subst, reverse}
 use Rattle.tt_code.specs.Settings.{is_main_end}
 use Rattle.tt_abs.specs.declared.state.State.{State}
 use Rattle.tt_abs.specs.Settings.{setting_of}

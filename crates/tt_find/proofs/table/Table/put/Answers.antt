@@ -1,4 +1,4 @@
-use Rattle.std.proofs.Common.{arith, ◌+◌, cond, true, ◌≡◌, ap, sym}
+use Rattle.std.proofs.Common.{arith, ◌+◌, cond, ◌≡◌, ap, sym}
 use Rattle.tt_find.proofs.Marks.{marks_inserted}
 use Rattle.tt_find.proofs.table.Table.put.Goals as goal
 
