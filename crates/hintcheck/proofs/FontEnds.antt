@@ -1,26 +1,24 @@
 -- What is known at the ends of a font's programs, and what the next program is looked at with.
 use Rattle.std.specs.Prelude.{IfErr, IfSome}
 use Rattle.std.specs.Result.{IsErrAnd}
-use Rattle.std.proofs.Common.{◌≡◌, ℕ, List, [], Option, None, Some, Result, Ok, Err, refl, sym, ◌∙◌, ap, subst, Bor}
+use Rattle.std.proofs.Common.{◌≡◌, ℕ, List, [], Option, Some, Result, Ok, Err, refl, sym, ◌∙◌, ap, subst, Bor}
 use Rattle.tt_code.specs.Cut.{Instruction, size}
-use Rattle.tt_code.specs.Settings.{Setting as MachineSetting, Kind as MachineKind, FontProgram, CvtProgram, GlyphProgram}
-use Rattle.tt_code.specs.declared.limits.Limits.{Limits}
+use Rattle.tt_code.specs.Settings.{Setting as MachineSetting}
 use Rattle.tt_abs.specs.declared.setting.Kind.TheVariants as kind
 use Rattle.tt_abs.specs.declared.setting.Setting.{Setting}
 use Rattle.tt_abs.specs.declared.state.State.{State}
 use Rattle.tt_abs.specs.Entries.{Rises}
-use Rattle.tt_abs.specs.Settings.{kind_of, setting_of}
+use Rattle.tt_abs.specs.Settings.{kind_of}
 use Rattle.tt_abs.specs.StateFlow.{FunctionsFit, Place}
-use Rattle.tt_cert.specs.GoodFamilies.{EndsWell, HasEnd, IsGoodFamily}
+use Rattle.tt_cert.specs.GoodFamilies.{IsGoodFamily}
 use Rattle.tt_font.specs.Reading.{FontData, GlyphData}
-use Rattle.hintcheck.specs.FontLooks.{ComesToEnd, EndsLook, IsKnownAtEnd, IsOfSubject, subject_in}
+use Rattle.hintcheck.specs.FontLooks.{EndsLook, IsKnownAtEnd, subject_in}
 use Rattle.hintcheck.specs.FontPrograms.{cvt_refused, cvt_subject, font_refused, font_subject}
 use Rattle.hintcheck.specs.Looks.{IfRefused, IsAccepted, IsLookedAt}
 use Rattle.hintcheck.specs.Programs.{EndsWith, HasLeastFamily, IsCutInto, IsRefusal, Subject}
 use Rattle.hintcheck.specs.declared.fonts.Common.{Common}
 use Rattle.hintcheck.specs.declared.look.LookFault.{LookFault}
 use Rattle.hintcheck.specs.declared.look.LookFault.TheVariants.{Refused, OutOfMemory}
-use Rattle.hintcheck.specs.declared.verdict.Name.{Name}
 use Rattle.hintcheck.specs.declared.verdict.Name.TheVariants as name
 
 -- the functions of a good family's states rise by number
@@ -39,26 +37,6 @@ known_at_end x is family end functions a at e = record {
 -- an accepted program has its least family
 pub least_of : (x : Subject) (is : List Instruction) (family : Place → Option State) → IsAccepted x is family → HasLeastFamily x
 least_of x is family a = record { instructions = is; cut = a.cut; family = family; good = a.good; least = a.least }
-
--- an accepted font program or CVT program has a state at its end
-
-has_end : (s : MachineSetting) (k : MachineKind) (family : Place → Option State) → ComesToEnd k → EndsWell s k family → HasEnd s family
-has_end s FontProgram family comes h = h
-has_end s CvtProgram family comes h = h
-has_end s (GlyphProgram points contours) family comes h = absurd comes
-
-pub end_is_there : (name : Name) (s : Setting) (family : Place → Option State) → IsOfSubject name s → ComesToEnd (setting_of s).kind
-    → ((x : Subject) → IsLookedAt x name s → IsAccepted x s.main.now family) → family ([], size s.main.now) ≡ None → ⊥
-end_is_there name s family of comes accepted none =
-    let (x, looked) = of in
-    let E : MachineSetting → Type 0 = λ t. EndsWell t t.kind family in
-    let (end, at) = has_end (setting_of s) (setting_of s).kind family comes (subst E looked.setting (accepted x looked).good.ends) in
-    let no_such : None ≡ Some end = sym none ∙ at in absurd (cc)
-
--- settings with the same limits and the same number of control values
-pub same_setting : (l l' : Limits) (n n' : ℕ) (k : MachineKind) (main font prep : List Instruction) → l ≡ l' → n ≡ n'
-    → ◌≡◌ {A = MachineSetting} (record { limits = l; cvt = n; kind = k; main = main; font = font; prep = prep }) (record { limits = l'; cvt = n'; kind = k; main = main; font = font; prep = prep })
-same_setting l l' n n' k main font prep el en = λ i. record { limits = el i; cvt = en i; kind = k; main = main; font = font; prep = prep }
 
 -- a refused font program and a refused CVT program end the look
 
