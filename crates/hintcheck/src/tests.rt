@@ -2,12 +2,12 @@ ghost use Rattle.std.specs.Prelude.{◌≡◌, ◌<◌};
 
 use crate::command;
 use hintcheck_words::word_bytes;
-use std::{env, fs, io, process};
 use std::io::{ErrorKind, Write};
 use std::marker::Brand;
 use std::rt::Files;
 use std::sync::ledger::{Blank, Ledger};
 use std::test::Fail;
+use std::{env, fs, io, process};
 use tt_stream::Counted;
 
 /// Limits: storage 4, functions 2, stack 8, programs of 64 bytes, zones 2, twilight points 4.
@@ -277,6 +277,9 @@ fn tells_faults_of_files(rt: HostRuntime) -> Result<(), Fail> {
     let (status, out, err) = verdict_on_file(&rt, "empty", &[])?;
     assert_eq!(rt; status, 2);
     assert_eq!(rt; out.len(), 0);
-    assert_eq!(rt; err.as_slice(), b"fault: 2 directory truncated\n".as_slice());
+    assert_eq!(rt;
+        err.as_slice(),
+        b"fault: 2 directory truncated\n".as_slice()
+    );
     Ok(())
 }
