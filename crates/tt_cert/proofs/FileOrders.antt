@@ -151,10 +151,12 @@ module _ (entries : List (ℕ × Frame)) (index : BTreeMap Key ℕ) (states : Li
       let (p, k, _, before, parent, x_is, at_k) = entry_found a x at in
       let at_n = number_at a x at in
       let lt = slice_get_within order (suc a) x.1 at_n in
-      let long = length-in_order v.contexts order in
-      (omega arith, omega arith,
-      frames_in_order v.contexts order (suc a) x.1 at_n ∙ ap (frames_at v.contexts) x_is ∙ at_entry entries index states v is built k (p, frame_of x.0) at_k
-      ∙ ap (λ l. frame_of x.0 ∷ l) (sym (frames_in_order v.contexts order x.0.0 p parent)))
+      let long = length-in_order v.contexts order in (
+        omega arith,
+        omega arith,
+        frames_in_order v.contexts order (suc a) x.1 at_n ∙ ap (frames_at v.contexts) x_is ∙ at_entry entries index states v is built k (p, frame_of x.0) at_k
+            ∙ ap (λ l. frame_of x.0 ∷ l) (sym (frames_in_order v.contexts order x.0.0 p parent)),
+      )
 
   distinct : (a b : ℕ) → a < length (in_order v.contexts order) → b < length (in_order v.contexts order)
       → frames_at (in_order v.contexts order) a ≡ frames_at (in_order v.contexts order) b → a ≡ b
