@@ -21,8 +21,8 @@ pub record HoldSafeFont (bytes : List ℕ) : Type 0 where
   pub reads : Reads bytes font
   pub safe : IsSafeFont font
 
--- What is asked for is safe: the glyph program of `bare`, no digits being no bytes; for `verdict` the font in the bytes that were read. No
--- contract of the runtime tells which bytes a file has.
+-- What is asked for is safe: the glyph program of `bare`, no digits being no bytes. For `verdict`, some bytes hold a safe font: no contract of
+-- the runtime tells which bytes a file has, so that these can't be named here.
 abbrev pub IsSafeRequest : Request → Type 0
 IsSafeRequest (bare maxp cvt points contours program) = SpellSafeGlyph maxp cvt points contours (unwrap_or program [])
 IsSafeRequest (verdict font) = (bytes : List ℕ) × HoldSafeFont bytes
