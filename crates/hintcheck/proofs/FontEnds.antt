@@ -19,7 +19,7 @@ use Rattle.hintcheck.specs.Programs.{EndsWith, HasLeastFamily, IsCutInto, IsRefu
 use Rattle.hintcheck.specs.declared.fonts.Common.{Common}
 use Rattle.hintcheck.specs.declared.look.LookFault.{LookFault}
 use Rattle.hintcheck.specs.declared.look.LookFault.TheVariants.{Refused, OutOfMemory}
-use Rattle.hintcheck.specs.declared.verdict.Name.TheVariants as name
+use Rattle.hintcheck.specs.declared.report.Name.TheVariants as name
 
 -- the functions of a good family's states rise by number
 pub functions_rise : (s : MachineSetting) (functions : List (ℕ × ℕ)) (family : Place → Option State) (p : Place) (a : State) → IsGoodFamily s functions family → family p ≡ Some a → Rises a.functions

@@ -7,7 +7,7 @@ use Rattle.tt_font.specs.Reading.{GlyphData}
 use Rattle.hintcheck.specs.FontLooks.{AreRefusedBelow}
 use Rattle.hintcheck.specs.FontPrograms.{AreRefused, accepted, all_looked_at, glyph_subject, refused}
 use Rattle.hintcheck.specs.Programs.{HasLeastFamily, IsRefusal}
-use Rattle.hintcheck.specs.declared.verdict.Refused.{Refused}
+use Rattle.hintcheck.specs.declared.report.Refused.{Refused}
 
 -- a glyph stands before those behind it
 dropped_at : (gs : List GlyphData) (id : ℕ) (g : GlyphData) → slice_get gs id ≡ Some g → drop id gs ≡ g ∷ drop (suc id) gs

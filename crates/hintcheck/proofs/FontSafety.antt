@@ -18,7 +18,7 @@ use Rattle.hintcheck.specs.FontPrograms.{AreRefused, IsSafeFont, IsSafeGlyph, Is
 use Rattle.hintcheck.specs.FontLooks.{AreFewBytes, IsFontInRange}
 use Rattle.hintcheck.specs.Programs.{EndsWith, HasLeastFamily}
 use Rattle.hintcheck.specs.Verdicts.{Judgement}
-use Rattle.hintcheck.specs.declared.verdict.Refused.{Refused}
+use Rattle.hintcheck.specs.declared.report.Refused.{Refused}
 use Rattle.hintcheck.proofs.FontEnds.{functions_rise}
 use Rattle.hintcheck.proofs.FontRuns.{AllStartWith, cvt_starts, font_starts, glyph_starts, never_faults_from}
 

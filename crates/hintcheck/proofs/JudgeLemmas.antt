@@ -16,8 +16,8 @@ use Rattle.hintcheck.specs.declared.judge.Glyph.{Glyph}
 use Rattle.hintcheck.specs.declared.look.LookFault.{LookFault}
 use Rattle.hintcheck.specs.declared.look.LookFault.TheVariants as fault
 use Rattle.hintcheck.specs.Verdicts.{Judgement}
-use Rattle.hintcheck.specs.declared.verdict.Name.TheVariants as name
-use Rattle.hintcheck.specs.declared.verdict.Refused.{Refused}
+use Rattle.hintcheck.specs.declared.report.Name.TheVariants as name
+use Rattle.hintcheck.specs.declared.report.Refused.{Refused}
 
 -- the empty program has no instructions
 pub no_instructions : (is : List Instruction) → IsCut [] is → is ≡ []

@@ -28,8 +28,8 @@ use Rattle.hintcheck.specs.Programs.{HasGoodFamily, HasLeastFamily, IsCause, IsC
 use Rattle.hintcheck.specs.Looks.{IfRefused, IsAccepted, IsWantOfMemory, told_at}
 use Rattle.hintcheck.specs.declared.look.LookFault.{LookFault}
 use Rattle.hintcheck.specs.declared.look.LookFault.TheVariants as fault
-use Rattle.hintcheck.specs.declared.verdict.Name.{Name}
-use Rattle.hintcheck.specs.declared.verdict.Refused.{Refused as AnyRefused}
+use Rattle.hintcheck.specs.declared.report.Name.{Name}
+use Rattle.hintcheck.specs.declared.report.Refused.{Refused as AnyRefused}
 
 -- what holds of a setting and its functions holds of a subject that has them
 pub of_subject : (P : Setting → List (ℕ × ℕ) → Type 0) (x : Subject) (is : List Instruction) (s : Setting) (fs : List (ℕ × ℕ)) → x.setting is ≡ s → x.functions ≡ fs

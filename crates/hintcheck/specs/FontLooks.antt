@@ -12,8 +12,8 @@ use Rattle.hintcheck.specs.FontPrograms.{AreRefused, IsVerdict, font_of, glyph_s
 use Rattle.hintcheck.specs.Looks.{IsLookedAt}
 use Rattle.hintcheck.specs.Programs.{EndsWith, Subject}
 use Rattle.hintcheck.specs.declared.fonts.Common.{Common}
-use Rattle.hintcheck.specs.declared.verdict.Name.{Name}
-use Rattle.hintcheck.specs.declared.verdict.Refused.{Refused}
+use Rattle.hintcheck.specs.declared.report.Name.{Name}
+use Rattle.hintcheck.specs.declared.report.Refused.{Refused}
 
 -- fewer than 2^31 bytes
 pub record AreFewBytes (xs : List ℕ) : Type 0 where

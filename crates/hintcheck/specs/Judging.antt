@@ -7,7 +7,7 @@ use Rattle.tt_font.specs.declared.fault.FontFault.TheVariants.{OutOfMemory}
 use Rattle.hintcheck.specs.FontPrograms.{IsSafeGlyph, glyph_subject}
 use Rattle.hintcheck.specs.Programs.{HasGoodFamily, IsRefusal, Subject}
 use Rattle.hintcheck.specs.declared.judge.Glyph.{Glyph}
-use Rattle.hintcheck.specs.declared.verdict.Refused.{Refused}
+use Rattle.hintcheck.specs.declared.report.Refused.{Refused}
 
 -- a growth of memory was refused
 abbrev pub IsMemory : FontFault → Type 0

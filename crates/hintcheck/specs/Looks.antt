@@ -13,8 +13,8 @@ use Rattle.tt_find.specs.Found.{IsLeast}
 use Rattle.hintcheck.specs.Programs.{IsCutInto, Subject, program_at}
 use Rattle.hintcheck.specs.declared.look.LookFault.{LookFault}
 use Rattle.hintcheck.specs.declared.look.LookFault.TheVariants.{Refused, OutOfMemory}
-use Rattle.hintcheck.specs.declared.verdict.Name.{Name}
-use Rattle.hintcheck.specs.declared.verdict.Refused.{Refused as AnyRefused}
+use Rattle.hintcheck.specs.declared.report.Name.{Name}
+use Rattle.hintcheck.specs.declared.report.Refused.{Refused as AnyRefused}
 
 -- this is the program that is looked at by this name in this setting
 pub record IsLookedAt (x : Subject) (called : Name) (s : Setting) : Type 0 where

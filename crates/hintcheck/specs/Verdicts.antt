@@ -1,6 +1,6 @@
 -- Verdicts as contracts see them.
 use Rattle.std.specs.Prelude.{ℕ, List}
-use Rattle.hintcheck.specs.declared.verdict.Refused.{Refused}
+use Rattle.hintcheck.specs.declared.report.Refused.{Refused}
 
 pub record Judgement : Type 0 where
   -- how many programs there are

@@ -11,7 +11,7 @@ mod faults;
 
 use crate::fonts;
 use crate::judge::bare;
-use crate::verdict::{Name, Verdict};
+use crate::report::{Name, Verdict};
 use faults::CommandFault;
 use hintcheck_words::{Task, TaskFault, read_words, word_bytes};
 use std::alloc::{AllocError, Global};

@@ -14,8 +14,8 @@ ghost use Rattle.hintcheck.specs.FontPrograms.{AreRefused, IsSafeFont, IsVerdict
 ghost use Rattle.hintcheck.specs.Looks.{IfRefused, IsLookedAt};
 ghost use Rattle.hintcheck.specs.Programs.{HasLeastFamily, IsCutInto, IsRefusal, Subject};
 
-use crate::look::{LookFault, cut, let_go, look};
-use crate::verdict::{Name, Refused, Verdict};
+use crate::look::{LookFault, cut, look};
+use crate::report::{Name, Refused, Verdict};
 use std::alloc::{AllocError, Global};
 use tt_abs::{Kind, Setting};
 use tt_code::Program;
@@ -62,9 +62,7 @@ fn look_at_font_program(
         prep: fpgm,
         start: &[],
     };
-    let functions = end_functions(alloc, Name::Font, &setting);
-    let_go(setting);
-    functions
+    end_functions(alloc, Name::Font, &setting)
 }
 
 /// Looks at the CVT program, which starts with the functions that are known where the font program ends: those that are known at its own
@@ -91,9 +89,7 @@ fn look_at_cvt_program(
         prep,
         start: functions,
     };
-    let known = end_functions(alloc, Name::Cvt, &setting);
-    let_go(setting);
-    known
+    end_functions(alloc, Name::Cvt, &setting)
 }
 
 /// What the glyph programs of a font share: the font, its two other programs, and the functions that are known where the CVT program
@@ -133,9 +129,7 @@ fn look_at_glyph(
         prep: common.prep,
         start: common.known,
     };
-    let looked = look(alloc, name, &setting);
-    let_go(setting);
-    match looked {
+    match look(alloc, name, &setting) {
         Ok(_) => Ok(()),
         Err(fault) => Err(fault),
     }

@@ -8,8 +8,8 @@ ghost use Rattle.hintcheck.specs.Programs.{HasGoodFamily, IsRefusal};
 ghost use Rattle.tt_font.specs.Reading.{GlyphData};
 ghost use Rattle.tt_font.specs.Conditions.{maxp_fault};
 
-use crate::look::{LookFault, cut, let_go, look};
-use crate::verdict::{Name, Refused, Verdict};
+use crate::look::{LookFault, cut, look};
+use crate::report::{Name, Refused, Verdict};
 use std::alloc::{AllocError, Global};
 use tt_abs::{Kind, Setting};
 use tt_code::{Limits, Program};
@@ -61,9 +61,7 @@ fn look_at(alloc: Global, glyph: &Glyph, program: &[u8]) -> Result<(), LookFault
         prep: &empty,
         start: &[],
     };
-    let looked = look(alloc, name, &setting);
-    let_go(setting);
-    match looked {
+    match look(alloc, name, &setting) {
         Ok(_) => Ok(()),
         Err(fault) => Err(fault),
     }

@@ -9,11 +9,12 @@ pub mod judge;
 #[cfg(test)]
 mod judge_tests;
 mod look;
+pub mod report;
 #[cfg(test)]
 mod tests;
-pub mod verdict;
 
 pub use commands::command;
+pub use fonts::verdict;
 pub use judge::bare;
+pub use report::{Name, Place, Refused, Verdict};
 pub use tt_font::{FontFault, Tag, read_maxp};
-pub use verdict::{Name, Place, Refused, Verdict};

@@ -11,7 +11,7 @@ ghost use Rattle.tt_cert.specs.GoodFamilies.{IsGoodFamily};
 ghost use Rattle.hintcheck.specs.Programs.{HasGoodFamily, IsCutInto, IsRefusal, Subject, program_at as program_at_spot};
 ghost use Rattle.hintcheck.specs.Looks.{IfRefused, IsAccepted, IsLookedAt, IsWantOfMemory, told_at};
 
-use crate::verdict::{Name, Place, Refused};
+use crate::report::{Name, Place, Refused};
 use std::alloc::{AllocError, Global};
 use tt_abs::Setting;
 use tt_cert::{Certificate, CheckFault, Spot, check_full};
@@ -70,19 +70,6 @@ pub(crate) fn cut<'a>(alloc: Global, name: Name, bytes: &'a [u8]) -> Result<Prog
         }
         Err(CodeFault::OutOfMemory(error)) => Err(LookFault::OutOfMemory(error)),
     }
-}
-
-/// Lets a setting go, which isn't let go by itself.
-pub(crate) fn let_go(setting: Setting<'_>) {
-    let Setting {
-        limits: _limits,
-        cvt: _cvt,
-        kind: _kind,
-        main: _main,
-        font: _font,
-        prep: _prep,
-        start: _start,
-    } = setting;
 }
 
 /// The certificate, if the check accepts it.

@@ -33,6 +33,7 @@ pub enum Kind {
 }
 
 /// What a program may rely on. For the font program all three programs are one, for the CVT program `prep` is `main`.
+#[derive(Clone, Copy)]
 pub struct Setting<'a> {
     pub limits: Limits,
     /// How many control values the font has.

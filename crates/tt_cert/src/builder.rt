@@ -14,8 +14,10 @@ ghost use Rattle.std.specs.BTreeMap.{IsOrdered};
 ghost use Rattle.tt_cert.specs.FileOrder.{IsFileOrder, children};
 ghost use Rattle.tt_cert.specs.Rising.{IsFinished};
 ghost use Rattle.tt_cert.specs.Contents.{AddsContext, HasContext, IsFamily, family_of, frames_at, points_of};
+ghost use Rattle.tt_cert.specs.Spots.{spot_of};
 
 use crate::fault::BuildFault;
+use crate::spot::Spot;
 use std::alloc::{AllocError, Global};
 use std::collections::BTreeMap;
 use std::collections::btree_map::Iter;
@@ -133,6 +135,18 @@ impl Builder {
         match self.entries.get(number as usize - 1) {
             Some(entry) => Some(*entry),
             None => None,
+        }
+    }
+
+    /// In which program a context stands.
+    pub fn spot(&self, context: u32) -> Spot
+        requires { context < length self.now.contexts }
+        ensures { result ≡ spot_of (frames_at self.now.contexts context) }
+    {
+        self.contexts();
+        match self.context(context) {
+            Some((_, frame)) => Spot::of_body(frame.body),
+            None => Spot::Main,
         }
     }
 

@@ -11,8 +11,10 @@ ghost use Rattle.tt_cert.specs.Places.{place_cmp, states_of};
 ghost use Rattle.tt_cert.specs.Puts.{place_of};
 ghost use Rattle.tt_cert.specs.Contents.{HasContext, family_of, frames_at, points_of};
 ghost use Rattle.tt_cert.specs.Rising.{IsFinished};
+ghost use Rattle.tt_cert.specs.Spots.{spot_of};
 
 use crate::builder::Builder;
+use crate::spot::Spot;
 use std::alloc::{AllocError, Global};
 use std::collections::btree_map::Iter;
 use std::marker::Model;
@@ -67,6 +69,14 @@ impl Certificate {
         ensures some { IfSome result (λ e. (number < length self.now.contexts) × (e.0 < number) × (frames_at self.now.contexts number ≡ e.1 ∷ frames_at self.now.contexts e.0)) }
     {
         self.builder.context(number)
+    }
+
+    /// In which program a context stands.
+    pub fn spot(&self, context: u32) -> Spot
+        requires { context < length self.now.contexts }
+        ensures { result ≡ spot_of (frames_at self.now.contexts context) }
+    {
+        self.builder.spot(context)
     }
 
     /// The number of the context that has the parent's frames and one more.

@@ -12,7 +12,6 @@ ghost use Rattle.tt_abs.specs.Soundness.{IsSafe};
 ghost use Rattle.tt_abs.specs.States.{abstract_of, start_of, state_order};
 ghost use Rattle.tt_abs.specs.Transfers.{outcome_on_cells};
 ghost use Rattle.tt_cert.specs.Checks.{AreCalls, AreCovered, AreSound, AreToldBefore, BreaksAt, HasNextTurn, IsBrokenFirst, IsFirstBreak, IsFirstGap, IsGap, IsLanding, IsSoundAt, IsWantOfMemory, Names, NamesAt, NamesLanding};
-ghost use Rattle.tt_cert.specs.Spots.{spot_of};
 ghost use Rattle.tt_cert.specs.Contents.{family_of, frames_at};
 ghost use Rattle.tt_cert.specs.GoodFamilies.{EndsWell, HasEnd, IsGoodFamily, IsShortEnough};
 
@@ -66,18 +65,6 @@ struct Landing {
     offset: u32,
 }
 
-/// In which program a context stands.
-fn spot_of_context(certificate: &Certificate, context: u32) -> Spot
-    requires { context < length certificate.now.contexts }
-    ensures { result ≡ spot_of (frames_at certificate.now.contexts context) }
-{
-    certificate.contexts();
-    match certificate.context(context) {
-        Some((_, frame)) => Spot::of_body(frame.body),
-        None => Spot::Main,
-    }
-}
-
 /// The place at an offset of a context.
 fn place_in(certificate: &Certificate, context: u32, offset: u32) -> Landing
     requires { context < length certificate.now.contexts }
@@ -86,7 +73,7 @@ fn place_in(certificate: &Certificate, context: u32, offset: u32) -> Landing
 {
     Landing {
         context: Some(context),
-        spot: spot_of_context(certificate, context),
+        spot: certificate.spot(context),
         offset,
     }
 }
@@ -131,7 +118,7 @@ fn place_after(certificate: &Certificate, context: u32, call: u32) -> Landing
         Some(offset) => place_in(certificate, context, offset),
         None => Landing {
             context: None,
-            spot: spot_of_context(certificate, context),
+            spot: certificate.spot(context),
             offset: u32::MAX,
         },
     }

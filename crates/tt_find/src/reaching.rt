@@ -7,22 +7,9 @@ ghost use Rattle.tt_cert.specs.Contents.{AddsContext, HasContext, IsFamily, fram
 ghost use Rattle.tt_find.specs.Tables.{IsCountable};
 
 use tt_abs::Move;
+use tt_abs::setting::body_offset;
 use tt_cert::{BuildFault, Builder};
 use tt_code::Frame;
-
-/// Bodies of the CVT program are named by their offset and this.
-const CVT_BODIES: u32 = 1 << 31;
-
-/// The offset of a body in its program.
-fn body_offset(body: u32) -> u32
-    ensures { result ≡ offset_of_body body }
-{
-    if body < CVT_BODIES {
-        body
-    } else {
-        body - CVT_BODIES
-    }
-}
 
 /// The point where a call's body begins, whose context is added where it isn't there.
 ///

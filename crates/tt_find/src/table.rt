@@ -12,7 +12,7 @@ use crate::fault::FindFault;
 use std::alloc::AllocError;
 use std::collections::BTreeSet;
 use tt_abs::State;
-use tt_cert::{BuildFault, Builder, Spot};
+use tt_cert::{BuildFault, Builder};
 use tt_code::Reason;
 
 /// The family so far, the points whose state is new or has changed, each as its context's number and its offset, and how many updates
@@ -24,25 +24,13 @@ pub(crate) struct Table {
     pub updates: u64,
 }
 
-/// In which program a context stands.
-fn spot_of_context(builder: &Builder, context: u32) -> Spot
-    requires { context < length builder.now.contexts }
-    ensures { result ≡ spot_of (frames_at builder.now.contexts context) }
-{
-    builder.contexts();
-    match builder.context(context) {
-        Some((_, frame)) => Spot::of_body(frame.body),
-        None => Spot::Main,
-    }
-}
-
 /// The fault that names a point for this reason.
 pub(crate) fn refused_at(builder: &Builder, context: u32, offset: u32, reason: Reason) -> FindFault
     requires { context < length builder.now.contexts }
     ensures { result ≡ FindFault.Refused (spot_of (frames_at builder.now.contexts context)) offset reason }
 {
     FindFault::Refused {
-        spot: spot_of_context(builder, context),
+        spot: builder.spot(context),
         offset,
         reason,
     }

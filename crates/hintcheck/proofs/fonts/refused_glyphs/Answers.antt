@@ -5,7 +5,7 @@ use Rattle.hintcheck.specs.FontLooks.{AreRefusedBelow, font_in, subject_in}
 use Rattle.hintcheck.specs.Looks.{IfRefused}
 use Rattle.hintcheck.specs.Programs.{IsRefusal}
 use Rattle.hintcheck.specs.declared.look.LookFault.{LookFault}
-use Rattle.hintcheck.specs.declared.verdict.Refused.{Refused}
+use Rattle.hintcheck.specs.declared.report.Refused.{Refused}
 use Rattle.hintcheck.proofs.FontLists.{accepted_next, all_below, refused_next}
 use Rattle.hintcheck.proofs.fonts.refused_glyphs.Goals as goal
 use Rattle.hintcheck.proofs.fonts.refused_glyphs.Goals.{in-Ok, in-Err-Refused+in_ok-push-in-Err-Refused}

@@ -7,6 +7,6 @@ returns-in-None c =
     let above : 2 ^ 32 ≤ c.args.call + 1 = omega (arith, c.in-None.ensures) in
     record {
       found = no_state_above c.args.certificate.now c.args.context (c.args.call + 1) c.contexts.ensures.finished.0 c.requires.there c.requires.told above;
-      spot = c.spot_of_context.ensures;
+      spot = c.spot.ensures;
       offset = omega arith;
     }
