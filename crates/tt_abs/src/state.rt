@@ -71,6 +71,17 @@ impl State {
         })
     }
 
+    /// Becomes the same as another state, in the memory that it has where that is enough.
+    ///
+    /// # Errors
+    /// If memory runs out; then the state says nothing.
+    pub fn copy_from(&mut self, other: &State) -> Result<(), AllocError>
+        ensures { OnOk result (self.new ≡ other.now) }
+    {
+        *self = other.copied()?;
+        Ok(())
+    }
+
     /// How many cells the stack has.
     pub fn depth(&self) -> usize
         ensures { result ≡ length self.now.stack }

@@ -4,7 +4,6 @@ ghost use Rattle.std.specs.Prelude.{◌≡◌, ◌≢◌, ◌⊎◌, ℕ, ◌<�
 ghost use Rattle.std.specs.List.{All};
 ghost use Rattle.std.specs.List.Sorted.{IsStrictlySortedBy};
 ghost use Rattle.std.specs.Map.{keys_of};
-ghost use Rattle.std.specs.Map.Iter.{ShowsInOrder, deref_pair};
 ghost use Rattle.tt_abs.specs.declared.state.State.{State as StateValue};
 ghost use Rattle.tt_abs.specs.States.{state_order};
 ghost use Rattle.tt_cert.specs.Places.{PutsAt, place_cmp, states_of};
@@ -18,9 +17,9 @@ ghost use Rattle.tt_cert.specs.Spots.{spot_of};
 
 use crate::fault::BuildFault;
 use crate::spot::Spot;
+use crate::states::States;
 use std::alloc::{AllocError, Global};
 use std::collections::BTreeMap;
-use std::collections::btree_map::Iter;
 use std::marker::Model;
 use tt_abs::{Order, State};
 use tt_code::Frame;
@@ -225,14 +224,15 @@ impl Builder {
 
     /// The states with their contexts and offsets, by rising context, and by rising offset within one: each point that has a
     /// state comes once.
-    pub fn states(&self) -> Iter<'_, (u32, u32), State>
+    pub fn states(&self) -> States<'_>
         ensures rest { result ≡ self.now.states }
         ensures rises { IsStrictlySortedBy place_cmp (keys_of self.now.states) }
         ensures found { All (λ e. states_of self.now.states e.0 ≡ Some e.1) self.now.states }
-        ensures runs { ShowsInOrder (deref_pair {K = ℕ × ℕ} {X = StateValue}) }
         ensures family { IsFamily self.now }
     {
-        self.states.iter()
+        States {
+            entries: self.states.iter(),
+        }
     }
 
     /// Puts a state at a point, by a join where there is one, and answers whether the state there is new or has changed.
@@ -292,6 +292,15 @@ impl Builder {
             return Err(BuildFault::OutOfMemory);
         };
         self.put_state(context, offset, copy)
+    }
+
+    /// Takes all states and all contexts but the empty one away, and keeps the memory.
+    pub fn clear(&mut self)
+        ensures contexts { self.new.contexts ≡ [] ∷ [] }
+        ensures states { self.new.states ≡ [] }
+        ensures family { IsFamily self.new }
+    {
+        *self = Builder::new(self.allocator());
     }
 
     /// Do the contexts rise?

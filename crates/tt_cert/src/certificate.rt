@@ -4,19 +4,18 @@ ghost use Rattle.std.specs.Prelude.{◌≡◌, ◌⊎◌, ◌<◌, ◌≤◌, �
 ghost use Rattle.std.specs.List.{All};
 ghost use Rattle.std.specs.List.Sorted.{IsStrictlySortedBy};
 ghost use Rattle.std.specs.Map.{keys_of};
-ghost use Rattle.std.specs.Map.Iter.{ShowsInOrder, deref_pair};
 ghost use Rattle.tt_abs.specs.Entries.{Rises};
 ghost use Rattle.tt_abs.specs.declared.state.State.{State as StateValue};
 ghost use Rattle.tt_cert.specs.Places.{place_cmp, states_of};
 ghost use Rattle.tt_cert.specs.Puts.{place_of};
-ghost use Rattle.tt_cert.specs.Contents.{HasContext, family_of, frames_at, points_of};
+ghost use Rattle.tt_cert.specs.Contents.{HasContext, IsFamily, family_of, frames_at, points_of};
 ghost use Rattle.tt_cert.specs.Rising.{IsFinished};
 ghost use Rattle.tt_cert.specs.Spots.{spot_of};
 
 use crate::builder::Builder;
 use crate::spot::Spot;
+use crate::states::States;
 use std::alloc::{AllocError, Global};
-use std::collections::btree_map::Iter;
 use std::marker::Model;
 use tt_abs::State;
 use tt_code::Frame;
@@ -109,14 +108,24 @@ impl Certificate {
 
     /// The states with their contexts and offsets, by rising context, and by rising offset within one: each point that has a
     /// state comes once.
-    pub fn states(&self) -> Iter<'_, (u32, u32), State>
+    pub fn states(&self) -> States<'_>
         ensures rest { result ≡ self.now.states }
         ensures rises { IsStrictlySortedBy place_cmp (keys_of self.now.states) }
         ensures found { All (λ e. states_of self.now.states e.0 ≡ Some e.1) self.now.states }
-        ensures runs { ShowsInOrder (deref_pair {K = ℕ × ℕ} {X = StateValue}) }
         ensures finished { IsFinished self.now }
     {
         self.builder.states()
+    }
+
+    /// A builder in the certificate's memory: the empty context alone, and no state.
+    pub fn into_builder(self) -> Builder
+        ensures contexts { result.contexts ≡ [] ∷ [] }
+        ensures states { result.states ≡ [] }
+        ensures family { IsFamily result }
+    {
+        let mut builder = self.builder;
+        builder.clear();
+        builder
     }
 
     /// The functions that are known at the end of a program of this length, where no call is open: by rising numbers, each

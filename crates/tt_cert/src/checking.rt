@@ -309,8 +309,8 @@ fn check_states(
         context: 0,
         frames: Vec::new(alloc),
     };
-    for (place, state) in certificate.states() {
-        let (context, offset) = *place;
+    let mut states = certificate.states();
+    while let Some((context, offset, state)) = states.take_first() {
         calls.go_to(certificate, context)?;
         if let Err(fault) = check_state(setting, certificate, &calls, offset, state) {
             return Err(fault);

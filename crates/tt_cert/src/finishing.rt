@@ -82,8 +82,8 @@ fn move_states(old: &Builder, new: &mut Builder, numbers: &[u32]) -> Result<(), 
     ensures family { IsFamily new.new }
     ensures memory { IfErr result (λ fault. fault ≡ BuildFault.OutOfMemory) }
 {
-    for (place, state) in old.states() {
-        let (context, offset) = *place;
+    let mut states = old.states();
+    while let Some((context, offset, state)) = states.take_first() {
         new.join_state(numbers[context as usize], offset, state)?;
     }
     Ok(())

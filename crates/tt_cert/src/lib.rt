@@ -9,12 +9,14 @@ mod checking_tests;
 pub mod fault;
 mod finishing;
 pub mod spot;
+pub mod states;
 
 pub use builder::Builder;
 pub use certificate::Certificate;
 pub use checking::{CheckFault, check_full, is_short};
 pub use fault::BuildFault;
 pub use spot::Spot;
+pub use states::States;
 
 #[cfg(test)]
 mod tests;

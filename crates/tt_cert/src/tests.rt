@@ -107,8 +107,9 @@ fn finished_contexts(rt: HostRuntime) -> Result<(), Fail> {
         [call_at(9), call_at(3)].as_slice()
     );
     let mut points = Vec::new(rt.alloc());
-    for (place, _) in certificate.states() {
-        points.push(*place)?;
+    let mut states = certificate.states();
+    while let Some((context, offset, _)) = states.take_first() {
+        points.push((context, offset))?;
     }
     assert_eq!(rt;
         points.as_slice(),
