@@ -231,6 +231,17 @@ impl<T: Copy> Entries<T> {
         Entries::from_slice(alloc, self.entries.as_slice())
     }
 
+    /// Becomes a list with the same entries, in the memory that it has where that is enough.
+    ///
+    /// # Errors
+    /// If memory runs out; then the list says nothing.
+    pub fn copy_from(&mut self, other: &Entries<T>) -> Result<(), AllocError>
+        ensures { OnOk result (self.new ≡ other.now) }
+    {
+        self.entries.clear();
+        self.entries.extend_from_slice(other.entries.as_slice())
+    }
+
     /// The entries, by rising numbers.
     pub fn as_slice(&self) -> &[(u16, T)]
         ensures value { result.now ≡ self.now }

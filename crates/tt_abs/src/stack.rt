@@ -149,6 +149,17 @@ impl Stack {
         })
     }
 
+    /// Becomes a stack of the same cells, in the memory that it has where that is enough.
+    ///
+    /// # Errors
+    /// If memory runs out; then the stack says nothing.
+    pub fn copy_from(&mut self, other: &Stack) -> Result<(), AllocError>
+        ensures { OnOk result (self.new ≡ other.now) }
+    {
+        self.cells.clear();
+        self.cells.extend_from_slice(other.cells.as_slice())
+    }
+
     /// Becomes the least stack above both, cell by cell, without memory.
     pub fn raise(&mut self, other: &Stack)
         requires { length self.old ≡ length other.now }

@@ -78,8 +78,10 @@ impl State {
     pub fn copy_from(&mut self, other: &State) -> Result<(), AllocError>
         ensures { OnOk result (self.new ≡ other.now) }
     {
-        *self = other.copied()?;
-        Ok(())
+        self.stack.copy_from(&other.stack)?;
+        self.graphics = other.graphics;
+        self.functions.copy_from(&other.functions)?;
+        self.storage.copy_from(&other.storage)
     }
 
     /// How many cells the stack has.

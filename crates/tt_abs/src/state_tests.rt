@@ -124,6 +124,31 @@ fn copies(rt: HostRuntime) -> Result<(), Fail> {
 }
 
 #[test]
+fn copies_over_others(rt: HostRuntime) -> Result<(), Fail> {
+    let mut state = with_stack(rt.alloc(), &[Known(1), Unknown])?;
+    state.set_storage(3, Known(-1))?;
+    state.set_rp(Reference::Rp1, Known(4));
+    let mut longer = with_stack(rt.alloc(), &[Known(7); 40])?;
+    longer.define(5, 50)?;
+    longer.set_storage(2, Known(6))?;
+    longer.set_storage(3, Known(6))?;
+    longer.copy_from(&state)?;
+    assert_eq!(rt; longer.below(&state), true);
+    assert_eq!(rt; state.below(&longer), true);
+    assert_eq!(rt; longer.depth(), 2);
+    assert_eq!(rt; longer.rp(Reference::Rp1), Known(4));
+    assert_eq!(rt; longer.stored(), [(3, -1)].as_slice());
+    let mut shorter = State::start(rt.alloc(), &[])?;
+    let full = with_stack(rt.alloc(), &[Known(7); 40])?;
+    shorter.copy_from(&full)?;
+    assert_eq!(rt; shorter.below(&full), true);
+    assert_eq!(rt; full.below(&shorter), true);
+    assert_eq!(rt; shorter.depth(), 40);
+    assert_eq!(rt; shorter.cell(39), Some(Known(7)));
+    Ok(())
+}
+
+#[test]
 fn calls_of_stacks(rt: HostRuntime) -> Result<(), Fail> {
     let mut stack = Stack::new(rt.alloc());
     for number in 0..20 {
