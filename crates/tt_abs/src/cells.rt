@@ -1,7 +1,8 @@
 //! What is known of a number, and of a zone pointer.
 
+ghost use Rattle.std.specs.Prelude.{◌≡◌};
 ghost use Rattle.tt_abs.specs.Orders.{IsLeastAbove};
-ghost use Rattle.tt_abs.specs.CellOrders.{cell_order, zone_order};
+ghost use Rattle.tt_abs.specs.CellOrders.{cell_order, is_known, number_or_zero, zone_order};
 
 use crate::order::{AbsFault, Order};
 use std::alloc::Global;
@@ -32,6 +33,26 @@ impl MadeWith<Global> for Cell {
 }
 
 impl Cell {
+    /// Is the number known?
+    fn is_known(self) -> bool
+        ensures { result ≡ is_known self }
+    {
+        match self {
+            Cell::Known(_) => true,
+            Cell::Unknown => false,
+        }
+    }
+
+    /// The number, and 0 where it is unknown.
+    fn number_or_zero(self) -> i32
+        ensures { result ≡ number_or_zero self }
+    {
+        match self {
+            Cell::Known(number) => number,
+            Cell::Unknown => 0,
+        }
+    }
+
     /// The least cell above both: what they have in common.
     pub fn joined(self, other: Cell) -> Cell
         ensures { IsLeastAbove cell_order self other result }
@@ -46,12 +67,11 @@ impl Order for Cell {
 
     ghost order = { cell_order };
 
+    // Without a branch, so that a loop over cells can become vector code.
     fn below(&self, other: &Cell) -> bool {
-        match (*self, *other) {
-            (Cell::Known(mine), Cell::Known(theirs)) => mine == theirs,
-            (Cell::Unknown, Cell::Known(_)) => false,
-            (_, Cell::Unknown) => true,
-        }
+        let (mine, theirs) = (*self, *other);
+        let is_same = mine.number_or_zero() == theirs.number_or_zero();
+        !theirs.is_known() | (mine.is_known() & is_same)
     }
 
     fn join(&mut self, other: &Cell) -> Result<bool, AbsFault> {

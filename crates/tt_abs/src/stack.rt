@@ -37,12 +37,11 @@ fn cells_below(mine: &[Cell], theirs: &[Cell]) -> bool
     if mine.len() != theirs.len() {
         return false;
     }
+    let mut all = true;
     for i in 0..mine.len() {
-        if !mine[i].below(&theirs[i]) {
-            return false;
-        }
+        all = all & mine[i].below(&theirs[i]);
     }
-    true
+    all
 }
 
 /// Makes each cell the least one above it and its partner.
