@@ -14,3 +14,7 @@ unchanged_by_below {S} {o} laws a b c false in_a least says = (
   λ h. cc,
   λ e. let P : S → Type 0 = λ x. o.Below b x in let bad : false ≡ true = says.1 (subst P e least.right) in cc,
 )
+
+-- a value is the least above itself and one below it
+pub least_is_first : {S : Type 0} {o : Order S} → OrderLaws o → (a b : S) → o.InRange a → o.Below b a → IsLeastAbove o a b a
+least_is_first laws a b in_a below = record { in_range = in_a; left = laws.reflexive a; right = below; least = λ d _ p _. p }

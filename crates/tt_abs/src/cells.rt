@@ -105,7 +105,7 @@ impl Order for ZoneCell {
     ghost order = { zone_order };
 
     fn below(&self, other: &ZoneCell) -> bool {
-        *self == *other || *other == ZoneCell::Either
+        (*self == *other) | (*other == ZoneCell::Either)
     }
 
     fn join(&mut self, other: &ZoneCell) -> Result<bool, AbsFault> {

@@ -141,8 +141,8 @@ fn behind<'a, T: EntryValue>(entries: &'a [(u16, T)], entry: &(u16, T)) -> &'a [
     }
 }
 
-/// Whether the first list has all the entries of the second.
-fn lists_all<T: EntryValue>(mine: &[(u16, T)], theirs: &[(u16, T)]) -> bool
+/// Whether the first list has all the entries of the second, which goes by along the first.
+fn passes_all<T: EntryValue>(mine: &[(u16, T)], theirs: &[(u16, T)]) -> bool
     requires mine_rise { Rises mine.now }
     requires theirs_rise { Rises theirs.now }
     ensures { IsTrue result ↔ EntriesBelow mine.now theirs.now }
@@ -152,6 +152,20 @@ fn lists_all<T: EntryValue>(mine: &[(u16, T)], theirs: &[(u16, T)]) -> bool
         missing = behind(missing, entry);
     }
     missing.is_empty()
+}
+
+/// Whether the first list has all the entries of the second. Of two lists of one length, each has all those of the other exactly if
+/// they are the same.
+fn lists_all<T: EntryValue>(mine: &[(u16, T)], theirs: &[(u16, T)]) -> bool
+    requires mine_rise { Rises mine.now }
+    requires theirs_rise { Rises theirs.now }
+    ensures { IsTrue result ↔ EntriesBelow mine.now theirs.now }
+{
+    if mine.len() == theirs.len() {
+        mine == theirs
+    } else {
+        passes_all(mine, theirs)
+    }
 }
 
 /// The entries from a number on.

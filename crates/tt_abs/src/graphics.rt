@@ -32,12 +32,12 @@ impl Order for Graphics<Cell, ZoneCell> {
 
     fn below(&self, other: &Graphics<Cell, ZoneCell>) -> bool {
         self.rp0.below(&other.rp0)
-            && self.rp1.below(&other.rp1)
-            && self.rp2.below(&other.rp2)
-            && self.zp0.below(&other.zp0)
-            && self.zp1.below(&other.zp1)
-            && self.zp2.below(&other.zp2)
-            && self.loop_number.below(&other.loop_number)
+            & self.rp1.below(&other.rp1)
+            & self.rp2.below(&other.rp2)
+            & self.zp0.below(&other.zp0)
+            & self.zp1.below(&other.zp1)
+            & self.zp2.below(&other.zp2)
+            & self.loop_number.below(&other.loop_number)
     }
 
     fn join(&mut self, other: &Graphics<Cell, ZoneCell>) -> Result<bool, AbsFault> {

@@ -253,12 +253,14 @@ impl Order for State {
         if self.stack.len() != other.stack.len() {
             return Err(AbsFault::DepthMismatch);
         }
-        let changed = !other.below(self);
+        if other.below(self) {
+            return Ok(false);
+        }
         self.stack.raise(&other.stack);
         self.graphics = joined_graphics(&self.graphics, &other.graphics);
         self.functions.join(&other.functions)?;
         self.storage.join(&other.storage)?;
-        Ok(changed)
+        Ok(true)
     }
 
     ghost laws = { state_laws };
