@@ -1,6 +1,6 @@
 //! The check of a certificate: whether its family is good for a program.
 
-ghost use Rattle.std.specs.Prelude.{◌≡◌, ◌↔◌, ◌+◌, ◌<◌, [], ◌∷◌, Ok, Err, IfOk, IfErr, IsTrue, length};
+ghost use Rattle.std.specs.Prelude.{◌≡◌, ◌↔◌, ◌+◌, ◌^◌, ◌<◌, [], ◌∷◌, Ok, Err, IfOk, IfErr, IsTrue, length};
 ghost use Rattle.std.specs.List.{All};
 ghost use Rattle.tt_code.specs.Settings.{body_offset as offset_of_body};
 ghost use Rattle.tt_abs.specs.Moves.{frames_behind, nexts_of, offset_behind};
@@ -260,6 +260,7 @@ fn check_state(
     requires in_range { state_order.InRange state.now }
     ensures sound { IfOk result (λ _. IsSoundAt (setting_of setting.now) (family_of certificate.now) (frames_at certificate.now.contexts calls.now.context, offset) state.now) }
     ensures broken { IfErr result (Names (BreaksAt (setting_of setting.now) (family_of certificate.now) (frames_at certificate.now.contexts calls.now.context, offset) state.now)) }
+    ensures within { offset < 2 ^ 32 }
 {
     let place = place_in(certificate, calls.context, offset);
     if !are_stored_within(state.stored(), setting.limits.storage) {
