@@ -247,13 +247,14 @@ fn check_moves(
     }
 }
 
-/// Is a state sound at its place, an offset of these calls' context?
+/// Is a state sound at its place, an offset of these calls' context? What comes of it is made in the memory of `next`.
 fn check_state(
     setting: &Setting<'_>,
     certificate: &Certificate,
     calls: &Calls,
     offset: u32,
     state: &State,
+    next: &mut State,
 ) -> Result<(), CheckFault>
     requires calls { AreCalls certificate.now calls.now }
     requires told { AreToldBefore certificate.now calls.now.context }
@@ -273,9 +274,9 @@ fn check_state(
     if setting.is_end(&point, offset) {
         return Ok(());
     }
-    let mut next = state.copied()?;
-    match stepped(setting, &point, &place, &mut next) {
-        Ok(moves) => check_moves(certificate, calls.context, moves, &next),
+    next.copy_from(state)?;
+    match stepped(setting, &point, &place, next) {
+        Ok(moves) => check_moves(certificate, calls.context, moves, next),
         Err(fault) => Err(fault),
     }
 }
@@ -310,10 +311,11 @@ fn check_states(
         context: 0,
         frames: Vec::new(alloc),
     };
+    let mut next = State::start(alloc, &[])?;
     let mut states = certificate.states();
     while let Some((context, offset, state)) = states.take_first() {
         calls.go_to(certificate, context)?;
-        if let Err(fault) = check_state(setting, certificate, &calls, offset, state) {
+        if let Err(fault) = check_state(setting, certificate, &calls, offset, state, &mut next) {
             return Err(fault);
         }
     }
