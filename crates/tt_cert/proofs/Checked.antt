@@ -17,10 +17,9 @@ use Rattle.tt_abs.specs.StateFlow.{Place}
 use Rattle.tt_abs.specs.States.{abstract_of, state_order}
 use Rattle.tt_abs.specs.Transfers.{Next, outcome_on_cells}
 use Rattle.tt_abs.proofs.StateParts.{one_state}
-use Rattle.tt_cert.specs.Checks.{AreCovered, BreaksAt, IsFirstGap, IsGap, IsSoundAt, Names, NamesAt, NamesLanding, place_of_next, told_offset, stores, refused, leaves}
+use Rattle.tt_cert.specs.Checks.{AreCovered, BreaksAt, IsFirstGap, IsGap, IsSoundAt, Names, NamesAt, place_of_next, told_offset, stores, refused, leaves}
 use Rattle.tt_cert.specs.GoodFamilies.{IsStoredWithin}
 use Rattle.tt_cert.specs.Spots.{spot_of}
-use Rattle.tt_cert.specs.declared.checking.Landing.{Landing}
 use Rattle.tt_cert.specs.declared.checking.CheckFault.{CheckFault}
 use Rattle.tt_cert.specs.declared.checking.CheckFault.TheVariants.{Refused, OutOfMemory}
 
@@ -36,9 +35,6 @@ err_map (Err e) P Q f p = f e p
 pub no_start : (s : Setting) (fs : List Frame) (at : ℕ) (a : Abstract) → starts_in_body s fs at ≡ false → outcome_on_cells s fs at a ≡ Err Target
 unfolding outcome_on_cells
 no_start s fs at a none = rw none refl
-
-pub landing_refused : (l : Landing) (Is : Reason → Type 0) (fault : CheckFault) (r : Reason) → fault ≡ Refused l.spot l.offset r → Is r → NamesLanding l Is fault
-landing_refused l Is fault r e h = let N : CheckFault → Type 0 = λ x. NamesLanding l Is x in subst N (sym e) (refl, refl, h)
 
 module _ (family : Place → Option State) (t : State) where
   covered_one : (n : Next) → CoversAt state_order family (place_of_next n) t → AreCovered family (n ∷ []) t
@@ -122,9 +118,8 @@ same_states fs (moves.Two k l) b (suc zero) n e = let same : record { frames = f
 same_states fs (moves.Two k l) b (suc (suc i)) n e = absurd (cc)
 
 module _ (s : Setting) (family : Place → Option State) (p : Place) (a : State) where
-  pub stores_here : (fault : CheckFault) (l : Landing) → fault ≡ Refused l.spot l.offset Storage → l.spot ≡ spot_of p.0 → l.offset ≡ told_offset p.1 → (IsStoredWithin s a → ⊥)
-      → Names (BreaksAt s family p a) fault
-  stores_here fault l e at_spot at_offset above = let N : CheckFault → Type 0 = λ x. Names (BreaksAt s family p a) x in subst N (sym e) (p, at_spot, at_offset, stores above)
+  pub stores_here : (fault : CheckFault) → fault ≡ Refused (spot_of p.0) (told_offset p.1) Storage → (IsStoredWithin s a → ⊥) → Names (BreaksAt s family p a) fault
+  stores_here fault e above = let N : CheckFault → Type 0 = λ x. Names (BreaksAt s family p a) x in subst N (sym e) (p, refl, refl, stores above)
 
   -- at the end storage indexes alone are looked at
   pub sound_at_end : IsStoredWithin s a → is_main_end s p.0 p.1 ≡ true → IsSoundAt s family p a
@@ -173,10 +168,11 @@ module _ (s : Setting) (family : Place → Option State) (p : Place) (a : State)
     pub broken_from : is_main_end s p.0 p.1 ≡ false → {T : Type 0} (r : Result T CheckFault) → IfErr r (Names (IsFirstGap family (nexts_of p.0 ways (abstract_of t)) t)) → IfErr r (Names (BreaksAt s family p a))
     broken_from running r h = err_map r _ _ (broken_here running) h
 
-  pub refused_here : IsStoredWithin s a → (l : Landing) → l.spot ≡ spot_of p.0 → l.offset ≡ told_offset p.1 → is_main_end s p.0 p.1 ≡ false → (fault : CheckFault)
-      → NamesLanding l (λ r. outcome_on_cells s p.0 p.1 (abstract_of a) ≡ Err r) fault → Names (BreaksAt s family p a) fault
-  refused_here stored l at_spot at_offset running (Refused spot offset r) h = (p, h.0 ∙ at_spot, h.1 ∙ at_offset, refused r stored (record { running = running; refused = h.2 }))
-  refused_here stored l at_spot at_offset running (OutOfMemory error) h = tt
+  pub refused_here : IsStoredWithin s a → is_main_end s p.0 p.1 ≡ false → (fault : CheckFault) (r : Reason) → fault ≡ Refused (spot_of p.0) (told_offset p.1) r
+      → outcome_on_cells s p.0 p.1 (abstract_of a) ≡ Err r → Names (BreaksAt s family p a) fault
+  refused_here stored running fault r e h =
+      let N : CheckFault → Type 0 = λ x. Names (BreaksAt s family p a) x in
+      subst N (sym e) (p, refl, refl, refused r stored (record { running = running; refused = h }))
 
 -- frames that were turned round twice
 pub frames_back : (xs ys zs : List Frame) → xs ≡ ys → ys ≡ reverse zs → reverse xs ≡ zs
@@ -192,8 +188,7 @@ module _ (s : Setting) (fs gs : List Frame) (o o' : ℕ) (a a' : State) (frames 
       let P : List Frame × ℕ × State → Type 0 = λ x. outcome_on_cells s x.0 x.1 (abstract_of x.2) ≡ Ok (nexts_of x.0 ways (abstract_of t)) in
       subst P all_three h
 
-  pub refusal_moved : (l : Landing) (fault : CheckFault) → NamesLanding l (λ r. outcome_on_cells s gs o' (abstract_of a') ≡ Err r) fault
-      → NamesLanding l (λ r. outcome_on_cells s fs o (abstract_of a) ≡ Err r) fault
-  refusal_moved l fault h =
-      let P : List Frame × ℕ × State → Type 0 = λ x. NamesLanding l (λ r. outcome_on_cells s x.0 x.1 (abstract_of x.2) ≡ Err r) fault in
+  pub refusal_moved : (r : Reason) → outcome_on_cells s gs o' (abstract_of a') ≡ Err r → outcome_on_cells s fs o (abstract_of a) ≡ Err r
+  refusal_moved r h =
+      let P : List Frame × ℕ × State → Type 0 = λ x. outcome_on_cells s x.0 x.1 (abstract_of x.2) ≡ Err r in
       subst P all_three h

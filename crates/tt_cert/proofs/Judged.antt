@@ -2,7 +2,6 @@
 use Rattle.std.specs.Prelude.{◌≡◌, ℕ, Bool, true, false, Option, Some, List, []}
 use Rattle.std.proofs.Common.{sym, ◌∙◌, ap, subst}
 use Rattle.tt_code.specs.Settings.{Setting}
-use Rattle.tt_code.specs.declared.machine.Frame.{Frame}
 use Rattle.tt_code.specs.declared.reason.Reason.{Reason}
 use Rattle.tt_code.specs.declared.reason.Reason.TheVariants.{MissingPoint, NotCovered}
 use Rattle.tt_abs.specs.declared.state.State.{State}
@@ -14,18 +13,14 @@ use Rattle.tt_abs.specs.Soundness.{IsSafe}
 use Rattle.tt_abs.specs.StateFlow.{Place, AreProgramsShort, GivesState, flow_of}
 use Rattle.tt_abs.specs.States.{start_of, state_order}
 use Rattle.tt_abs.proofs.Soundness.{good_is_safe}
-use Rattle.tt_cert.specs.Contents.{Contents, IsFamily, family_of, frames_at, number_of}
+use Rattle.tt_cert.specs.Contents.{Contents, IsFamily, family_of, number_of}
 use Rattle.tt_cert.specs.GoodFamilies.{EndsWell, HasFewContexts, IsGoodFamily, IsShortEnough}
-use Rattle.tt_cert.specs.Checks.{AreSound, BreaksAt, IsBrokenFirst, IsFirstBreak, IsGap, IsLanding, IsWantOfMemory, LeavesGap, Names, NamesAt, stores, refused, leaves, too_long, no_start, no_end, no_way}
-use Rattle.tt_cert.specs.declared.checking.Landing.{Landing}
+use Rattle.tt_cert.specs.Checks.{AreSound, BreaksAt, IsBrokenFirst, IsFirstBreak, IsGap, IsWantOfMemory, LeavesGap, Names, NamesAt, stores, refused, leaves, too_long, no_start, no_end, no_way}
 use Rattle.tt_cert.specs.declared.checking.CheckFault.{CheckFault}
 use Rattle.tt_cert.specs.declared.checking.CheckFault.TheVariants.{Refused, OutOfMemory}
 
 pub not_both : (b : Bool) → b ≡ false → b ≡ true → ⊥
 not_both b f t = let no_such : false ≡ true = sym f ∙ t in cc
-
-pub main_landing : (v : Contents) (o : ℕ) (l : Landing) → IsFamily v → IsLanding v (frames_at v.contexts 0, o) l → IsLanding v ([], o) l
-main_landing v o l family h = let L : List Frame → Type 0 = λ x. IsLanding v (x, o) l in subst L family.main h
 
 gap_not_covered : (family : Place → Option State) (q : Place) (t : State) (r : Reason) → IsGap family q t r → CoversAt state_order family q t → ⊥
 gap_not_covered family q t MissingPoint none (u, at, below) = cc

@@ -19,22 +19,16 @@ use Rattle.tt_cert.specs.declared.checking.CheckFault.{CheckFault}
 use Rattle.tt_cert.specs.declared.checking.CheckFault.TheVariants.{Refused, OutOfMemory}
 use Rattle.tt_cert.specs.declared.checking.Calls.{Calls}
 use Rattle.tt_cert.specs.declared.checking.Landing.{Landing}
+use Rattle.tt_cert.specs.declared.checking.Landing.TheVariants.{In, Nowhere}
 
 -- an offset as a number of 32 bits: the largest one stands for those that are above
 abbrev pub told_offset : ℕ → ℕ
 told_offset offset = min offset 4294967295
 
--- the context of this number has the place's frames, and the offset is the place's; where there is no number, the family has no state
--- at the place
-abbrev pub IsFoundBy : Contents → Place → Option ℕ → ℕ → Type 0
-IsFoundBy contents place None offset = family_of contents place ≡ None
-IsFoundBy contents place (Some n) offset = (n < length contents.contexts) × (frames_at contents.contexts n ≡ place.0) × (offset ≡ place.1)
-
--- the landing stands for the place
-pub record IsLanding (contents : Contents) (place : Place) (landing : Landing) : Type 0 where
-  pub found : IsFoundBy contents place landing.context landing.offset
-  pub spot : landing.spot ≡ spot_of place.0
-  pub offset : landing.offset ≡ told_offset place.1
+-- the landing stands for the place: it is an offset of the context that has the place's frames, or the family has no state there
+abbrev pub IsLanding : Contents → Place → Landing → Type 0
+IsLanding contents place (In n offset) = (n < length contents.contexts) × (frames_at contents.contexts n ≡ place.0) × (offset ≡ place.1)
+IsLanding contents place (Nowhere spot offset) = (family_of contents place ≡ None) × (spot ≡ spot_of place.0) × (offset ≡ told_offset place.1)
 
 -- the family has no state at the place, or none that covers this one
 abbrev pub IsGap : (Place → Option State) → Place → State → Reason → Type 0
@@ -46,11 +40,6 @@ IsGap family q t _ = ⊥
 abbrev pub NamesAt : Place → (Reason → Type 0) → CheckFault → Type 0
 NamesAt p Is (Refused spot offset reason) = (spot ≡ spot_of p.0) × (offset ≡ told_offset p.1) × Is reason
 NamesAt p Is (OutOfMemory e) = Unit {0}
-
--- the fault names the landing's place, and the reason
-abbrev pub NamesLanding : Landing → (Reason → Type 0) → CheckFault → Type 0
-NamesLanding l Is (Refused spot offset reason) = (spot ≡ l.spot) × (offset ≡ l.offset) × Is reason
-NamesLanding l Is (OutOfMemory e) = Unit {0}
 
 -- the fault names such a place, and the reason
 abbrev pub Names : (Place → Reason → Type 0) → CheckFault → Type 0

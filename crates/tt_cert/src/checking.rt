@@ -1,17 +1,17 @@
 //! The check of a certificate: whether its family is good for a program.
 
-ghost use Rattle.std.specs.Prelude.{◌≡◌, ◌↔◌, ◌+◌, ◌<◌, [], ◌∷◌, Ok, Err, IfOk, IfErr, IsTrue, length};
+ghost use Rattle.std.specs.Prelude.{◌≡◌, ◌↔◌, ◌+◌, ◌^◌, ◌<◌, [], ◌∷◌, Ok, Err, IfOk, IfErr, IsTrue, length};
 ghost use Rattle.std.specs.List.{All};
 ghost use Rattle.tt_code.specs.Settings.{body_offset as offset_of_body};
-ghost use Rattle.tt_abs.specs.Moves.{frames_behind, nexts_of, offset_behind};
+ghost use Rattle.tt_abs.specs.Moves.{IsRefusedFor, frames_behind, nexts_of, offset_behind};
 ghost use Rattle.tt_abs.specs.Entries.{Rises};
 ghost use Rattle.tt_abs.specs.Families.{CoversAt};
 ghost use Rattle.tt_abs.specs.Settings.{frames_of, setting_of};
-ghost use Rattle.tt_abs.specs.StateFlow.{Place};
 ghost use Rattle.tt_abs.specs.Soundness.{IsSafe};
 ghost use Rattle.tt_abs.specs.States.{abstract_of, start_of, state_order};
 ghost use Rattle.tt_abs.specs.Transfers.{outcome_on_cells};
-ghost use Rattle.tt_cert.specs.Checks.{AreCalls, AreCovered, AreSound, AreToldBefore, BreaksAt, HasNextTurn, IsBrokenFirst, IsFirstBreak, IsFirstGap, IsGap, IsLanding, IsSoundAt, IsWantOfMemory, Names, NamesAt, NamesLanding};
+ghost use Rattle.tt_cert.specs.Checks.{AreCalls, AreCovered, AreSound, AreToldBefore, BreaksAt, HasNextTurn, IsBrokenFirst, IsFirstBreak, IsFirstGap, IsGap, IsLanding, IsSoundAt, IsWantOfMemory, Names, NamesAt, told_offset};
+ghost use Rattle.tt_cert.specs.Spots.{spot_of};
 ghost use Rattle.tt_cert.specs.Contents.{family_of, frames_at};
 ghost use Rattle.tt_cert.specs.GoodFamilies.{EndsWell, HasEnd, IsGoodFamily, IsShortEnough};
 
@@ -56,26 +56,13 @@ struct Calls {
     frames: Vec<Frame>,
 }
 
-/// A place: the number of its context, in which program it stands, and its offset there. Where there is no number, the certificate
-/// has no state at the place.
+/// Where a move leads.
 #[derive(Clone, Copy)]
-struct Landing {
-    context: Option<u32>,
-    spot: Spot,
-    offset: u32,
-}
-
-/// The place at an offset of a context.
-fn place_in(certificate: &Certificate, context: u32, offset: u32) -> Landing
-    requires { context < length certificate.now.contexts }
-    ensures landing { IsLanding certificate.now (frames_at certificate.now.contexts context, offset) result }
-    ensures offset { result.offset ≡ offset }
-{
-    Landing {
-        context: Some(context),
-        spot: certificate.spot(context),
-        offset,
-    }
+enum Landing {
+    /// To an offset of the context of this number.
+    In { context: u32, offset: u32 },
+    /// To a place at which the certificate has no state.
+    Nowhere { spot: Spot, offset: u32 },
 }
 
 /// The place where a function's body begins.
@@ -84,10 +71,13 @@ fn place_entered(certificate: &Certificate, parent: u32, frame: Frame) -> Landin
     ensures { IsLanding certificate.now (frame ∷ frames_at certificate.now.contexts parent, offset_of_body frame.body) result }
 {
     certificate.contexts();
-    Landing {
-        context: certificate.number(parent, frame),
-        spot: Spot::of_body(frame.body),
-        offset: body_offset(frame.body),
+    let offset = body_offset(frame.body);
+    match certificate.number(parent, frame) {
+        Some(context) => Landing::In { context, offset },
+        None => Landing::Nowhere {
+            spot: Spot::of_body(frame.body),
+            offset,
+        },
     }
 }
 
@@ -103,7 +93,10 @@ fn place_of_turn(certificate: &Certificate, context: u32) -> Landing
             let turn = frame.turn + 1;
             place_entered(certificate, parent, Frame { turn, ..frame })
         }
-        None => place_in(certificate, 0, 0),
+        None => Landing::In {
+            context: 0,
+            offset: 0,
+        },
     }
 }
 
@@ -115,9 +108,8 @@ fn place_after(certificate: &Certificate, context: u32, call: u32) -> Landing
 {
     certificate.contexts();
     match call.checked_add(1) {
-        Some(offset) => place_in(certificate, context, offset),
-        None => Landing {
-            context: None,
+        Some(offset) => Landing::In { context, offset },
+        None => Landing::Nowhere {
             spot: certificate.spot(context),
             offset: u32::MAX,
         },
@@ -133,7 +125,10 @@ fn place_of_return(certificate: &Certificate, context: u32) -> Landing
     certificate.contexts();
     match certificate.context(context) {
         Some((parent, frame)) => place_after(certificate, parent, frame.call),
-        None => place_in(certificate, 0, 0),
+        None => Landing::In {
+            context: 0,
+            offset: 0,
+        },
     }
 }
 
@@ -145,46 +140,68 @@ fn place_behind(certificate: &Certificate, context: u32, way: Move) -> Landing
     ensures { IsLanding certificate.now (frames_behind (frames_at certificate.now.contexts context) way, offset_behind (frames_at certificate.now.contexts context) way) result }
 {
     match way {
-        Move::To(offset) => place_in(certificate, context, offset),
+        Move::To(offset) => Landing::In { context, offset },
         Move::Enter(frame) => place_entered(certificate, context, frame),
         Move::NextTurn => place_of_turn(certificate, context),
         Move::Return => place_of_return(certificate, context),
     }
 }
 
-/// The fault that the family has no state at a place, or none that covers what leads there.
-fn fault_at(place: &Landing, reason: Reason) -> CheckFault
-    ensures { result ≡ CheckFault.Refused place.now.spot place.now.offset reason }
+/// The fault that is told of an offset of a context.
+fn fault_in(certificate: &Certificate, context: u32, offset: u32, reason: Reason) -> CheckFault
+    requires { context < length certificate.now.contexts }
+    ensures { result ≡ CheckFault.Refused (spot_of (frames_at certificate.now.contexts context)) (told_offset offset) reason }
 {
     CheckFault::Refused {
-        spot: place.spot,
-        offset: place.offset,
+        spot: certificate.spot(context),
+        offset,
         reason,
     }
 }
 
-/// Does the family's state at the place cover this one?
+/// Does the family's state at an offset of a context cover this one?
 fn check_covered(
     certificate: &Certificate,
-    place: &Landing,
+    context: u32,
+    offset: u32,
     state: &State,
 ) -> Result<(), CheckFault>
-    ensures covered { (p : Place) → IsLanding certificate.now p place.now → IfOk result (λ _. CoversAt state_order (family_of certificate.now) p state.now) }
-    ensures gap { (p : Place) → IsLanding certificate.now p place.now → IfErr result (NamesAt p (IsGap (family_of certificate.now) p state.now)) }
+    requires { context < length certificate.now.contexts }
+    ensures covered { IfOk result (λ _. CoversAt state_order (family_of certificate.now) (frames_at certificate.now.contexts context, offset) state.now) }
+    ensures gap { IfErr result (NamesAt (frames_at certificate.now.contexts context, offset) (IsGap (family_of certificate.now) (frames_at certificate.now.contexts context, offset) state.now)) }
 {
-    certificate.contexts();
-    let Some(context) = place.context else {
-        return Err(fault_at(place, Reason::MissingPoint));
-    };
-    match certificate.state(context, place.offset) {
-        None => Err(fault_at(place, Reason::MissingPoint)),
+    match certificate.state(context, offset) {
+        None => Err(fault_in(certificate, context, offset, Reason::MissingPoint)),
         Some(above) => {
             if state.below(above) {
                 Ok(())
             } else {
-                Err(fault_at(place, Reason::NotCovered))
+                Err(fault_in(certificate, context, offset, Reason::NotCovered))
             }
         }
+    }
+}
+
+/// Is the place to which a move leads from a context covered?
+fn check_way(
+    certificate: &Certificate,
+    context: u32,
+    way: Move,
+    state: &State,
+) -> Result<(), CheckFault>
+    requires there { context < length certificate.now.contexts }
+    requires told { AreToldBefore certificate.now context }
+    requires turn { way ≡ Move.NextTurn → HasNextTurn (frames_at certificate.now.contexts context) }
+    ensures covered { IfOk result (λ _. CoversAt state_order (family_of certificate.now) (frames_behind (frames_at certificate.now.contexts context) way, offset_behind (frames_at certificate.now.contexts context) way) state.now) }
+    ensures gap { IfErr result (NamesAt (frames_behind (frames_at certificate.now.contexts context) way, offset_behind (frames_at certificate.now.contexts context) way) (IsGap (family_of certificate.now) (frames_behind (frames_at certificate.now.contexts context) way, offset_behind (frames_at certificate.now.contexts context) way) state.now)) }
+{
+    match place_behind(certificate, context, way) {
+        Landing::In { context, offset } => check_covered(certificate, context, offset, state),
+        Landing::Nowhere { spot, offset } => Err(CheckFault::Refused {
+            spot,
+            offset,
+            reason: Reason::MissingPoint,
+        }),
     }
 }
 
@@ -195,27 +212,16 @@ fn are_stored_within(stored: &[(u16, i32)], limit: u16) -> bool
     stored.iter().all(|cell| cell.0 < limit)
 }
 
-/// What the instruction at a place makes of a state, and where it leads.
-fn stepped(
-    setting: &Setting<'_>,
-    point: &Point<'_>,
-    place: &Landing,
-    state: &mut State,
-) -> Result<Moves, CheckFault>
+/// What the instruction at a point makes of a state, and where it leads.
+fn stepped(setting: &Setting<'_>, point: &Point<'_>, state: &mut State) -> Result<Moves, Refusal>
     ensures ok { IfOk result (λ m. outcome_on_cells (setting_of setting.now) (frames_of point.now) point.now.offset (abstract_of state.old) ≡ Ok (nexts_of (frames_of point.now) m (abstract_of state.new))) }
-    ensures refused { IfErr result (NamesLanding place.now (λ r. outcome_on_cells (setting_of setting.now) (frames_of point.now) point.now.offset (abstract_of state.old) ≡ Err r)) }
+    ensures refused { IfErr result (IsRefusedFor (outcome_on_cells (setting_of setting.now) (frames_of point.now) point.now.offset (abstract_of state.old))) }
     ensures in_range { state_order.InRange state.old → IfOk result (λ _. state_order.InRange state.new) }
 {
     if !setting.starts(point, point.offset) {
-        return Err(fault_at(place, Reason::Target));
+        return Err(Refusal::Refused(Reason::Target));
     }
-    match step(setting, point, state) {
-        Ok(moves) => Ok(moves),
-        Err(refusal) => match refusal {
-            Refusal::Refused(reason) => Err(fault_at(place, reason)),
-            Refusal::OutOfMemory(error) => Err(CheckFault::OutOfMemory(error)),
-        },
-    }
+    step(setting, point, state)
 }
 
 /// Are the places to which moves lead from a context covered, by the same state?
@@ -232,38 +238,34 @@ fn check_moves(
     ensures gap { IfErr result (Names (IsFirstGap (family_of certificate.now) (nexts_of (frames_at certificate.now.contexts context) moves (abstract_of state.now)) state.now)) }
 {
     match moves {
-        Moves::One(way) => {
-            let place = place_behind(certificate, context, way);
-            check_covered(certificate, &place, state)
-        }
+        Moves::One(way) => check_way(certificate, context, way, state),
         Moves::Two(first, second) => {
-            let place = place_in(certificate, context, first);
-            if let Err(fault) = check_covered(certificate, &place, state) {
+            if let Err(fault) = check_covered(certificate, context, first, state) {
                 return Err(fault);
             }
-            let place = place_in(certificate, context, second);
-            check_covered(certificate, &place, state)
+            check_covered(certificate, context, second, state)
         }
     }
 }
 
-/// Is a state sound at its place, an offset of these calls' context?
+/// Is a state sound at its place, an offset of these calls' context? What comes of it is made in the memory of `next`.
 fn check_state(
     setting: &Setting<'_>,
     certificate: &Certificate,
     calls: &Calls,
     offset: u32,
     state: &State,
+    next: &mut State,
 ) -> Result<(), CheckFault>
     requires calls { AreCalls certificate.now calls.now }
     requires told { AreToldBefore certificate.now calls.now.context }
     requires in_range { state_order.InRange state.now }
     ensures sound { IfOk result (λ _. IsSoundAt (setting_of setting.now) (family_of certificate.now) (frames_at certificate.now.contexts calls.now.context, offset) state.now) }
     ensures broken { IfErr result (Names (BreaksAt (setting_of setting.now) (family_of certificate.now) (frames_at certificate.now.contexts calls.now.context, offset) state.now)) }
+    ensures within { offset < 2 ^ 32 }
 {
-    let place = place_in(certificate, calls.context, offset);
     if !are_stored_within(state.stored(), setting.limits.storage) {
-        return Err(fault_at(&place, Reason::Storage));
+        return Err(fault_in(certificate, calls.context, offset, Reason::Storage));
     }
     let point = Point {
         frames: calls.frames.as_slice(),
@@ -272,10 +274,11 @@ fn check_state(
     if setting.is_end(&point, offset) {
         return Ok(());
     }
-    let mut next = state.copied()?;
-    match stepped(setting, &point, &place, &mut next) {
-        Ok(moves) => check_moves(certificate, calls.context, moves, &next),
-        Err(fault) => Err(fault),
+    next.copy_from(state)?;
+    match stepped(setting, &point, next) {
+        Ok(moves) => check_moves(certificate, calls.context, moves, next),
+        Err(Refusal::Refused(reason)) => Err(fault_in(certificate, calls.context, offset, reason)),
+        Err(Refusal::OutOfMemory(error)) => Err(CheckFault::OutOfMemory(error)),
     }
 }
 
@@ -309,10 +312,11 @@ fn check_states(
         context: 0,
         frames: Vec::new(alloc),
     };
+    let mut next = State::start(alloc, &[])?;
     let mut states = certificate.states();
     while let Some((context, offset, state)) = states.take_first() {
         calls.go_to(certificate, context)?;
-        if let Err(fault) = check_state(setting, certificate, &calls, offset, state) {
+        if let Err(fault) = check_state(setting, certificate, &calls, offset, state, &mut next) {
             return Err(fault);
         }
     }
@@ -360,8 +364,7 @@ fn check_start(
 {
     certificate.contexts();
     let start = State::start(alloc, setting.start)?;
-    let place = place_in(certificate, 0, 0);
-    check_covered(certificate, &place, &start)
+    check_covered(certificate, 0, 0, &start)
 }
 
 /// Is the family good for the program of this setting, all that a certificate has to be? In the order of the walk the first that

@@ -15,8 +15,7 @@ pub returns-then-not-are_stored_within-clause-broken : goal.returns-then-not-are
 returns-then-not-are_stored_within-clause-broken c =
     let fs = frames_at c.args.certificate.now.contexts c.args.calls.now.context in
     let above : c.are_stored_within.result ≡ false = search rules in
-    stores_here (setting_of c.args.setting.now) (family_of c.args.certificate.now) (fs, c.args.offset) c.args.state.now c.fault_at.result c.place_in-place.result c.fault_at.ensures
-    c.place_in-place.ensures.landing.spot c.place_in-place.ensures.landing.offset
+    stores_here (setting_of c.args.setting.now) (family_of c.args.certificate.now) (fs, c.args.offset) c.args.state.now c.fault_in.result c.fault_in.ensures
     (stored_above (setting_of c.args.setting.now) c.args.state.now c.stored.result.now c.are_stored_within.result c.stored.ensures c.are_stored_within.ensures above)
 
 pub returns-then-is_end-clause-sound : goal.returns-then-is_end-clause-sound
@@ -35,7 +34,7 @@ check_moves-requires-clause-turn c =
     let fs = frames_at c.args.certificate.now.contexts c.args.calls.now.context in
     let back = frames_back c.as_slice.result.now _ fs c.as_slice.ensures.value c.requires.calls.frames in
     let outcome : outcome_on_cells S fs c.args.offset (abstract_of c.args.state.now) ≡ Ok (nexts_of fs c.in-Ok.moves (abstract_of c.stepped.new.state)) =
-    outcome_moved S fs _ c.args.offset _ c.args.state.now _ back refl c.in_ok-next.ensures c.in-Ok.moves c.stepped.new.state c.in-Ok.ensures.ok in
+    outcome_moved S fs _ c.args.offset _ c.args.state.now _ back refl c.in_ok-copy_from.ensures c.in-Ok.moves c.stepped.new.state c.in-Ok.ensures.ok in
     turn_left S fs c.args.offset (abstract_of c.args.state.now) (abstract_of c.stepped.new.state) c.in-Ok.moves outcome
 
 pub returns-in-Ok-clause-sound : goal.returns-in-Ok-clause-sound
@@ -47,8 +46,8 @@ returns-in-Ok-clause-sound c =
     let R : State → Type 0 = λ x. state_order.InRange x in
     sound_from S (family_of c.args.certificate.now) (fs, c.args.offset) c.args.state.now
     (stored_within S c.args.state.now c.stored.result.now c.are_stored_within.result c.stored.ensures c.are_stored_within.ensures within) c.in-Ok.moves c.stepped.new.state
-    (c.in-Ok.ensures.in_range (subst R (sym c.in_ok-next.ensures) c.requires.in_range))
-    (outcome_moved S fs _ c.args.offset _ c.args.state.now _ back refl c.in_ok-next.ensures c.in-Ok.moves c.stepped.new.state c.in-Ok.ensures.ok)
+    (c.in-Ok.ensures.in_range (subst R (sym c.in_ok-copy_from.ensures) c.requires.in_range))
+    (outcome_moved S fs _ c.args.offset _ c.args.state.now _ back refl c.in_ok-copy_from.ensures c.in-Ok.moves c.stepped.new.state c.in-Ok.ensures.ok)
     c.check_moves.result c.check_moves.ensures.covered
 
 pub returns-in-Ok-clause-broken : goal.returns-in-Ok-clause-broken
@@ -61,18 +60,18 @@ returns-in-Ok-clause-broken c =
     let R : State → Type 0 = λ x. state_order.InRange x in
     broken_from S (family_of c.args.certificate.now) (fs, c.args.offset) c.args.state.now
     (stored_within S c.args.state.now c.stored.result.now c.are_stored_within.result c.stored.ensures c.are_stored_within.ensures within) c.in-Ok.moves c.stepped.new.state
-    (c.in-Ok.ensures.in_range (subst R (sym c.in_ok-next.ensures) c.requires.in_range))
-    (outcome_moved S fs _ c.args.offset _ c.args.state.now _ back refl c.in_ok-next.ensures c.in-Ok.moves c.stepped.new.state c.in-Ok.ensures.ok)
+    (c.in-Ok.ensures.in_range (subst R (sym c.in_ok-copy_from.ensures) c.requires.in_range))
+    (outcome_moved S fs _ c.args.offset _ c.args.state.now _ back refl c.in_ok-copy_from.ensures c.in-Ok.moves c.stepped.new.state c.in-Ok.ensures.ok)
     running c.check_moves.result c.check_moves.ensures.gap
 
-pub returns-clause-broken : goal.returns-clause-broken
-returns-clause-broken c =
+pub returns-in-Err-Refused-clause-broken : goal.returns-in-Err-Refused-clause-broken
+returns-in-Err-Refused-clause-broken c =
     let S = setting_of c.args.setting.now in
     let fs = frames_at c.args.certificate.now.contexts c.args.calls.now.context in
     let within : c.are_stored_within.result ≡ true = search rules in
     let back = frames_back c.as_slice.result.now _ fs c.as_slice.ensures.value c.requires.calls.frames in
     let running : is_main_end S fs c.args.offset ≡ false = ap (λ f. is_main_end S f c.args.offset) (sym back) ∙ sym c.is_end.ensures ∙ c.if-is_end.false in
     refused_here S (family_of c.args.certificate.now) (fs, c.args.offset) c.args.state.now
-    (stored_within S c.args.state.now c.stored.result.now c.are_stored_within.result c.stored.ensures c.are_stored_within.ensures within) c.place_in-place.result
-    c.place_in-place.ensures.landing.spot c.place_in-place.ensures.landing.offset running c.in-Err.fault
-    (refusal_moved S fs _ c.args.offset _ c.args.state.now _ back refl c.in_ok-next.ensures c.place_in-place.result c.in-Err.fault c.in-Err.ensures.refused)
+    (stored_within S c.args.state.now c.stored.result.now c.are_stored_within.result c.stored.ensures c.are_stored_within.ensures within) running c.fault_in-in-Err-Refused.result
+    c.in-Err-Refused.reason c.fault_in-in-Err-Refused.ensures
+    (refusal_moved S fs _ c.args.offset _ c.args.state.now _ back refl c.in_ok-copy_from.ensures c.in-Err-Refused.reason (rw c.in-Err-Refused.field-0-is at c.in-Err-Refused.ensures.refused))
