@@ -13,6 +13,7 @@ ghost use Rattle.tt_find.specs.Tables.{HasLaws, IsWhole};
 use crate::fault::FindFault;
 use crate::following::follow;
 use crate::table::Table;
+use crate::walk::Walk;
 use std::alloc::{AllocError, Global};
 use std::collections::BTreeSet;
 use tt_abs::laws::flow_laws;
@@ -51,7 +52,7 @@ fn start_table(alloc: Global, setting: &Setting<'_>) -> Result<Table, AllocError
         marked: BTreeSet::new(alloc),
         updates: 0,
     };
-    let Ok(()) = table.put(0, 0, state) else {
+    let Ok(()) = table.put(0, 0, &state) else {
         return Err(AllocError);
     };
     Ok(table)
@@ -66,8 +67,9 @@ fn filled(alloc: Global, setting: &Setting<'_>) -> Result<Table, FindFault>
     ensures justified { IfErr result (NamesPlace (IsJustified (setting_of setting.now) setting.now.start.now)) }
 {
     let mut table = start_table(alloc, setting)?;
+    let mut walk = Walk::start(alloc)?;
     while let Some((context, offset)) = table.marked.pop_first() {
-        if let Err(fault) = follow(&mut table, alloc, setting, context, offset) {
+        if let Err(fault) = follow(&mut table, &mut walk, setting, context, offset) {
             return Err(fault);
         }
     }

@@ -6,6 +6,7 @@ pub mod finder;
 mod following;
 mod reaching;
 mod table;
+mod walk;
 
 pub use fault::FindFault;
 pub use finder::{Found, find};
