@@ -9,7 +9,7 @@ mod table;
 mod walk;
 
 pub use fault::FindFault;
-pub use finder::{Found, find};
+pub use finder::{Found, find, find_in};
 
 #[cfg(test)]
 mod tests;
