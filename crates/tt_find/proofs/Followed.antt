@@ -49,8 +49,8 @@ risen_on a b c h k =
 -- a move leads to its place alone, with what is still to be put there
 module _ (s : Setting) (functions : List (ℕ × ℕ)) (laws : HasLaws s functions) where
   -- there is nothing to be carried on
-  pub whole_left : (table : Table) (p : Place) → IsSound s functions table (λ q. q ≡ p) (λ _ _. ⊥) → IsCarried s (family_of table.builder) p None → IsWhole s functions table
-  whole_left table p sound none = go (family_of table.builder p) refl
+  pub whole_left : (table : Table) (p : Place) (t : State) → IsSound s functions table (λ q. q ≡ p) (λ _ _. ⊥) → IsCarried s (family_of table.builder) p None t → IsWhole s functions table
+  whole_left table p t sound none = go (family_of table.builder p) refl
     where
       go : (x : Option State) → family_of table.builder p ≡ x → IsWhole s functions table
       go None e = record { kept = table_none state_order (flow_of s functions) table.builder table.marked p sound.kept e; budget = sound.budget }
@@ -230,29 +230,25 @@ module _ (s : Setting) (functions : List (ℕ × ℕ)) (laws : HasLaws s functio
         let C : Moves → Type 0 = λ x. IsCarriedOn s (family_of table.builder) (place_of table.builder c off) x t in
         sound_left table (place_of table.builder c off) (moves.Two m n) t sound (subst C is on)
 
-    pub first_apart : (m n : ℕ) (copy : State) (fault : FindFault) → ways ≡ moves.Two m n → copy ≡ t
-        → NamesPlace (IsApart (family_of table.builder) (place_of table.builder c m) copy) fault → NamesPlace (IsJustified s functions) fault
-    first_apart m n copy fault is same differ =
-        let A : State → Type 0 = λ x. NamesPlace (IsApart (family_of table.builder) (place_of table.builder c m) x) fault in
-        apart_left table (place_of table.builder c m) t (place_of table.builder c n ∷ []) (both_wait m n is) fault (subst A same differ)
+    pub first_apart : (m n : ℕ) (fault : FindFault) → ways ≡ moves.Two m n
+        → NamesPlace (IsApart (family_of table.builder) (place_of table.builder c m) t) fault → NamesPlace (IsJustified s functions) fault
+    first_apart m n fault is differ = apart_left table (place_of table.builder c m) t (place_of table.builder c n ∷ []) (both_wait m n is) fault differ
 
-    second_waits : (m n : ℕ) (copy : State) (mid : Table) → ways ≡ moves.Two m n → copy ≡ t → IsPut table mid c m copy → IsSound s functions mid (λ _. ⊥) (Pends (place_of mid.builder c n ∷ []) t)
-    second_waits m n copy mid is same put =
-        let P : State → Type 0 = λ x. IsPut table mid c m x in
+    second_waits : (m n : ℕ) (mid : Table) → ways ≡ moves.Two m n → IsPut table mid c m t → IsSound s functions mid (λ _. ⊥) (Pends (place_of mid.builder c n ∷ []) t)
+    second_waits m n mid is put =
         let W : List (List Frame) → Type 0 = λ x. IsSound s functions mid (λ _. ⊥) (Pends ((frames_at x c, n) ∷ []) t) in
-        subst W (sym put.contexts) (sound_put table mid c m t (place_of table.builder c n ∷ []) (both_wait m n is) there (subst P same put))
+        subst W (sym put.contexts) (sound_put table mid c m t (place_of table.builder c n ∷ []) (both_wait m n is) there put)
 
-    pub second_put : {T : Type 0} (r : Result T FindFault) (m n : ℕ) (copy : State) (mid new : Table) → ways ≡ moves.Two m n → copy ≡ t → IsPut table mid c m copy
+    pub second_put : {T : Type 0} (r : Result T FindFault) (m n : ℕ) (mid new : Table) → ways ≡ moves.Two m n → IsPut table mid c m t
         → IfOk r (λ _. IsPut mid new c n t) → IfOk r (λ _. IsWhole s functions new)
-    second_put r m n copy mid new is same put h =
+    second_put r m n mid new is put h =
         let W : List (List Frame) → Type 0 = λ x. c < length x in
-        ok_map r _ _ (sound_put mid new c n t [] (second_waits m n copy mid is same put) (subst W (sym put.contexts) there)) h
+        ok_map r _ _ (sound_put mid new c n t [] (second_waits m n mid is put) (subst W (sym put.contexts) there)) h
 
-    pub second_apart : {T : Type 0} (r : Result T FindFault) (m n : ℕ) (copy : State) (mid : Table) → ways ≡ moves.Two m n → copy ≡ t → IsPut table mid c m copy
+    pub second_apart : {T : Type 0} (r : Result T FindFault) (m n : ℕ) (mid : Table) → ways ≡ moves.Two m n → IsPut table mid c m t
         → IfErr r (NamesPlace (IsApart (family_of mid.builder) (place_of mid.builder c n) t)) → IfErr r (NamesPlace (IsJustified s functions))
-    second_apart r m n copy mid is same put h =
-        err_map r _ _ (apart_left mid (place_of mid.builder c n) t [] (second_waits m n copy mid is same put)) h
+    second_apart r m n mid is put h =
+        err_map r _ _ (apart_left mid (place_of mid.builder c n) t [] (second_waits m n mid is put)) h
 
-pub on_some : (s : Setting) (family : Place → Option State) (p : Place) (x : Option (Moves × State)) (ways : Moves) (t : State) → x ≡ Some (ways, t) → IsCarried s family p x
-    → IsCarriedOn s family p ways t
-on_some s family p x ways t e h = let C : Option (Moves × State) → Type 0 = λ y. IsCarried s family p y in subst C e h
+pub on_some : (s : Setting) (family : Place → Option State) (p : Place) (x : Option Moves) (ways : Moves) (t : State) → x ≡ Some ways → IsCarried s family p x t → IsCarriedOn s family p ways t
+on_some s family p x ways t e h = let C : Option Moves → Type 0 = λ y. IsCarried s family p y t in subst C e h

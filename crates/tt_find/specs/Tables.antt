@@ -1,5 +1,5 @@
 -- What the finder keeps of the family so far, the points that are still to be carried on, and the count of updates.
-use Rattle.std.specs.Prelude.{◌≡◌, ℕ, ◌+◌, ◌*◌, ◌≤◌, ◌<◌, ◌^◌, ◌⊎◌, Bool, true, false, cond, Option, Some, None, List, [], ◌∷◌, Ok, length}
+use Rattle.std.specs.Prelude.{◌≡◌, ℕ, ◌+◌, ◌*◌, ◌≤◌, ◌<◌, ◌^◌, ◌⊎◌, Bool, true, false, cond, Option, Some, None, List, [], ◌∷◌, Ok, length, reverse}
 use Rattle.std.specs.BTreeSet.{BTreeSet, btree_set_len, contains}
 use Rattle.tt_code.specs.Settings.{Setting, is_main_end}
 use Rattle.tt_code.specs.declared.machine.Frame.{Frame}
@@ -19,6 +19,7 @@ use Rattle.tt_cert.specs.Contents.{Contents, IsFamily, family_of, frames_at, num
 use Rattle.tt_cert.specs.Places.{PutsAt, place_cmp}
 use Rattle.tt_cert.specs.Puts.{Reweighs, place_of}
 use Rattle.tt_find.specs.declared.table.Table.{Table}
+use Rattle.tt_find.specs.declared.walk.Walk.{Walk}
 
 -- Each value is derived, as is each that is still to be put; the start is covered; what isn't marked isn't refused, and what it gives is
 -- covered or still to be put. Marked: the points that are still to be carried on; Rest: what is still to be put.
@@ -115,10 +116,15 @@ pub record IsCarriedOn (s : Setting) (family : Place → Option State) (p : Plac
   pub result : outcome_on_cells s p.0 p.1 (abstract_of state) ≡ Ok (nexts_of p.0 ways (abstract_of t))
   pub in_range : state_order.InRange t
 
--- the family's state at the place was carried on; or there is none, or the place is the main program's end
-abbrev pub IsCarried : Setting → (Place → Option State) → Place → Option (Moves × State) → Type 0
-IsCarried s family p None = (a : State) → family p ≡ Some a → is_main_end s p.0 p.1 ≡ true
-IsCarried s family p (Some carried) = IsCarriedOn s family p carried.0 carried.1
+-- the family's state at the place was carried on, with this state left; or there is none, or the place is the main program's end
+abbrev pub IsCarried : Setting → (Place → Option State) → Place → Option Moves → State → Type 0
+IsCarried s family p None t = (a : State) → family p ≡ Some a → is_main_end s p.0 p.1 ≡ true
+IsCarried s family p (Some ways) t = IsCarriedOn s family p ways t
+
+-- the walk's calls are those of its context
+pub record IsWalk (contexts : List (List Frame)) (walk : Walk) : Type 0 where
+  pub there : walk.context < length contexts
+  pub calls : walk.frames.items ≡ reverse (frames_at contexts walk.context)
 
 -- the context's last call returns to an offset of 32 bits, and its next turn is a number of 32 bits
 abbrev pub IsCountable : List (List Frame) → ℕ → Type 0

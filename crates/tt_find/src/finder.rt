@@ -1,11 +1,11 @@
 //! The finder: from the start, the state at the smallest point that is new or has changed is carried on, until none is left.
 
-ghost use Rattle.std.specs.Prelude.{◌≡◌, ◌⊎◌, ◌↔◌, ℕ, ◌+◌, ◌*◌, ◌≤◌, [], Option, Some, IfOk, IfErr, IsTrue};
+ghost use Rattle.std.specs.Prelude.{◌≡◌, ◌⊎◌, ◌↔◌, ℕ, ◌+◌, ◌*◌, ◌≤◌, [], ◌∷◌, Option, Some, IfOk, IfErr, IsTrue};
 ghost use Rattle.tt_abs.specs.declared.state.State.{State as AnyState};
 ghost use Rattle.tt_abs.specs.Entries.{Rises};
 ghost use Rattle.tt_abs.specs.Settings.{setting_of};
 ghost use Rattle.tt_abs.specs.StateFlow.{FitsLimits, FunctionsFit, Place, height_of};
-ghost use Rattle.tt_cert.specs.Contents.{family_of, points_of};
+ghost use Rattle.tt_cert.specs.Contents.{IsFamily, family_of, points_of};
 ghost use Rattle.tt_cert.specs.GoodFamilies.{EndsWell, HasEnd, IsGoodFamily};
 ghost use Rattle.tt_find.specs.Found.{IsJustified, IsLeast, IsNeverEnding, IsWantOfMemory, LacksEnd, NamesPlace, NoneIsGood};
 ghost use Rattle.tt_find.specs.Tables.{HasLaws, IsWhole};
@@ -13,6 +13,7 @@ ghost use Rattle.tt_find.specs.Tables.{HasLaws, IsWhole};
 use crate::fault::FindFault;
 use crate::following::follow;
 use crate::table::Table;
+use crate::walk::Walk;
 use std::alloc::{AllocError, Global};
 use std::collections::BTreeSet;
 use tt_abs::laws::flow_laws;
@@ -39,35 +40,40 @@ fn has_laws(setting: &Setting<'_>)
     prove!(u32::from(setting.limits.storage) < 1 << 16);
 }
 
-/// The table with the start alone.
-fn start_table(alloc: Global, setting: &Setting<'_>) -> Result<Table, AllocError>
+/// The table with the start alone, in the memory of a builder that has the empty context alone and no state.
+fn start_table(alloc: Global, builder: Builder, setting: &Setting<'_>) -> Result<Table, AllocError>
+    requires contexts { builder.contexts ≡ [] ∷ [] }
+    requires states { builder.states ≡ [] }
     requires rises { Rises setting.now.start.now }
     requires laws { HasLaws (setting_of setting.now) setting.now.start.now }
     ensures { IfOk result (IsWhole (setting_of setting.now) setting.now.start.now) }
 {
     let state = State::start(alloc, setting.start)?;
     let mut table = Table {
-        builder: Builder::new(alloc),
+        builder,
         marked: BTreeSet::new(alloc),
         updates: 0,
     };
-    let Ok(()) = table.put(0, 0, state) else {
+    let Ok(()) = table.put(0, 0, &state) else {
         return Err(AllocError);
     };
     Ok(table)
 }
 
-/// The table when no point is left that is new or has changed.
-fn filled(alloc: Global, setting: &Setting<'_>) -> Result<Table, FindFault>
+/// The table when no point is left that is new or has changed, in the memory of a builder that has the empty context alone and no state.
+fn filled(alloc: Global, builder: Builder, setting: &Setting<'_>) -> Result<Table, FindFault>
+    requires contexts { builder.contexts ≡ [] ∷ [] }
+    requires states { builder.states ≡ [] }
     requires rises { Rises setting.now.start.now }
     requires laws { HasLaws (setting_of setting.now) setting.now.start.now }
     ensures whole { IfOk result (IsWhole (setting_of setting.now) setting.now.start.now) }
     ensures none { IfOk result (λ table. table.marked.keys ≡ []) }
     ensures justified { IfErr result (NamesPlace (IsJustified (setting_of setting.now) setting.now.start.now)) }
 {
-    let mut table = start_table(alloc, setting)?;
+    let mut table = start_table(alloc, builder, setting)?;
+    let mut walk = Walk::start(alloc)?;
     while let Some((context, offset)) = table.marked.pop_first() {
-        if let Err(fault) = follow(&mut table, alloc, setting, context, offset) {
+        if let Err(fault) = follow(&mut table, &mut walk, setting, context, offset) {
             return Err(fault);
         }
     }
@@ -127,12 +133,35 @@ pub fn find(alloc: Global, setting: &Setting<'_>) -> Result<Found, FindFault>
     ensures never_ends { (family : Place → Option AnyState) → LacksEnd (setting_of setting.now) setting.now.start.now family
         → IfOk result (λ _. ⊥) × IfErr result (λ fault. IsWantOfMemory fault ⊎ IsNeverEnding fault) }
 {
+    find_in(alloc, Builder::new(alloc), setting)
+}
+
+/// The least family as `find` finds it, in the memory of a builder that has the empty context alone and no state.
+///
+/// # Errors
+/// As `find`.
+pub fn find_in(alloc: Global, builder: Builder, setting: &Setting<'_>) -> Result<Found, FindFault>
+    requires contexts { builder.contexts ≡ [] ∷ [] }
+    requires states { builder.states ≡ [] }
+    requires family { IsFamily builder }
+    requires rises { Rises setting.now.start.now }
+    requires fits { FunctionsFit (setting_of setting.now) setting.now.start.now }
+    ensures good { IfOk result (λ found. IsGoodFamily (setting_of setting.now) setting.now.start.now (family_of found.certificate)) }
+    ensures least { IfOk result (λ found. IsLeast (setting_of setting.now) setting.now.start.now (family_of found.certificate)) }
+    ensures within { IfOk result (λ found. (p : Place) (a : AnyState) → family_of found.certificate p ≡ Some a → FitsLimits (setting_of setting.now) a) }
+    ensures at_least { IfOk result (λ found. points_of found.certificate ≤ found.updates) }
+    ensures at_most { IfOk result (λ found. found.updates ≤ points_of found.certificate * (1 + height_of (setting_of setting.now))) }
+    ensures justified { IfErr result (NamesPlace (IsJustified (setting_of setting.now) setting.now.start.now)) }
+    ensures none_good { IfErr result (λ fault. IsWantOfMemory fault ⊎ IsNeverEnding fault ⊎ NoneIsGood (setting_of setting.now) setting.now.start.now) }
+    ensures never_ends { (family : Place → Option AnyState) → LacksEnd (setting_of setting.now) setting.now.start.now family
+        → IfOk result (λ _. ⊥) × IfErr result (λ fault. IsWantOfMemory fault ⊎ IsNeverEnding fault) }
+{
     has_laws(setting);
     if !is_short(setting) {
         let most = u32::from(setting.limits.program_size);
         return Err(refused_in_main(most, Reason::ProgramTooLong));
     }
-    let table = match filled(alloc, setting) {
+    let table = match filled(alloc, builder, setting) {
         Ok(table) => table,
         Err(fault) => return Err(fault),
     };

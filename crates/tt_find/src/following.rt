@@ -7,12 +7,13 @@ ghost use Rattle.tt_abs.specs.States.{state_order};
 ghost use Rattle.tt_cert.specs.Contents.{family_of};
 ghost use Rattle.tt_cert.specs.Puts.{place_of};
 ghost use Rattle.tt_find.specs.Found.{IsJustified, NamesPlace};
-ghost use Rattle.tt_find.specs.Tables.{HasLaws, HasRisen, IsCarried, IsRefusedAt, IsSound, IsWhole};
+ghost use Rattle.tt_find.specs.Tables.{HasLaws, HasRisen, IsCarried, IsRefusedAt, IsSound, IsWalk, IsWhole};
 
 use crate::fault::FindFault;
 use crate::reaching::reach;
 use crate::table::{Table, refused_at};
-use std::alloc::{AllocError, Global};
+use crate::walk::Walk;
+use std::alloc::AllocError;
 use tt_abs::{Moves, Point, Refusal, Setting, State, step};
 use tt_cert::{BuildFault, Builder};
 use tt_code::Reason;
@@ -29,32 +30,35 @@ fn stepped(setting: &Setting<'_>, point: &Point<'_>, state: &mut State) -> Resul
     step(setting, point, state)
 }
 
-/// Where the state at a point leads, and with what. None where there is no state, and at the main program's end.
+/// Where the state at a point leads; with what it leads there the walk holds then. None where there is no state, and at the main
+/// program's end.
 fn carried(
     builder: &Builder,
-    alloc: Global,
+    walk: &mut Walk,
     setting: &Setting<'_>,
     context: u32,
     offset: u32,
-) -> Result<Option<(Moves, State)>, FindFault>
-    requires { context < length builder.now.contexts }
-    ensures carried { IfOk result (IsCarried (setting_of setting.now) (family_of builder.now) (place_of builder.now context offset)) }
+) -> Result<Option<Moves>, FindFault>
+    requires there { context < length builder.now.contexts }
+    requires walk { IsWalk builder.now.contexts walk.old }
+    ensures carried { IfOk result (λ moves. IsCarried (setting_of setting.now) (family_of builder.now) (place_of builder.now context offset) moves walk.new.state) }
+    ensures walk { IfOk result (λ _. IsWalk builder.now.contexts walk.new) }
     ensures refused { IfErr result (NamesPlace (IsRefusedAt (setting_of setting.now) (family_of builder.now) (place_of builder.now context offset))) }
 {
     let Some(state) = builder.state(context, offset) else {
         return Ok(None);
     };
-    let frames = builder.frames(alloc, context)?;
+    walk.go_to(builder, context)?;
     let point = Point {
-        frames: frames.as_slice(),
+        frames: walk.frames.as_slice(),
         offset,
     };
     if setting.is_end(&point, offset) {
         return Ok(None);
     }
-    let mut next = state.copied()?;
-    match stepped(setting, &point, &mut next) {
-        Ok(moves) => Ok(Some((moves, next))),
+    walk.state.copy_from(state)?;
+    match stepped(setting, &point, &mut walk.state) {
+        Ok(moves) => Ok(Some(moves)),
         Err(Refusal::Refused(reason)) => Err(refused_at(builder, context, offset, reason)),
         Err(Refusal::OutOfMemory(error)) => Err(FindFault::OutOfMemory(error)),
     }
@@ -67,23 +71,25 @@ fn carried(
 /// `OutOfMemory`.
 pub(crate) fn follow(
     table: &mut Table,
-    alloc: Global,
+    walk: &mut Walk,
     setting: &Setting<'_>,
     context: u32,
     offset: u32,
 ) -> Result<(), FindFault>
     requires laws { HasLaws (setting_of setting.now) setting.now.start.now }
     requires there { context < length table.old.builder.contexts }
+    requires walk { IsWalk table.old.builder.contexts walk.old }
     requires sound { IsSound (setting_of setting.now) setting.now.start.now table.old (λ p. p ≡ place_of table.old.builder context offset) (λ _ _. ⊥) }
     ensures whole { IfOk result (λ _. IsWhole (setting_of setting.now) setting.now.start.now table.new) }
     ensures risen { IfOk result (λ _. HasRisen table.old table.new) }
+    ensures walk { IfOk result (λ _. IsWalk table.new.builder.contexts walk.new) }
     ensures justified { IfErr result (NamesPlace (IsJustified (setting_of setting.now) setting.now.start.now)) }
 {
-    let carried = match carried(&table.builder, alloc, setting, context, offset) {
+    let carried = match carried(&table.builder, walk, setting, context, offset) {
         Ok(carried) => carried,
         Err(fault) => return Err(fault),
     };
-    let Some((moves, state)) = carried else {
+    let Some(moves) = carried else {
         return Ok(());
     };
     match moves {
@@ -96,14 +102,13 @@ pub(crate) fn follow(
                 }
                 Err(_) => return Err(FindFault::OutOfMemory(AllocError)),
             };
-            table.put(number, at, state)
+            table.put(number, at, &walk.state)
         }
         Moves::Two(first, second) => {
-            let copy = state.copied()?;
-            if let Err(fault) = table.put(context, first, copy) {
+            if let Err(fault) = table.put(context, first, &walk.state) {
                 return Err(fault);
             }
-            table.put(context, second, state)
+            table.put(context, second, &walk.state)
         }
     }
 }

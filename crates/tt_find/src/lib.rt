@@ -6,9 +6,10 @@ pub mod finder;
 mod following;
 mod reaching;
 mod table;
+mod walk;
 
 pub use fault::FindFault;
-pub use finder::{Found, find};
+pub use finder::{Found, find, find_in};
 
 #[cfg(test)]
 mod tests;

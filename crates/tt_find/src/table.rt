@@ -41,14 +41,14 @@ impl Table {
     ///
     /// # Errors
     /// `Refused` for a state of another depth, at the point; `OutOfMemory`.
-    pub(crate) fn put(&mut self, context: u32, offset: u32, state: State) -> Result<(), FindFault>
+    pub(crate) fn put(&mut self, context: u32, offset: u32, state: &State) -> Result<(), FindFault>
         requires there { context < length self.old.builder.contexts }
-        requires in_range { state_order.InRange state }
+        requires in_range { state_order.InRange state.now }
         requires room { self.old.updates < 18446744073709551615 }
-        ensures put { IfOk result (λ _. IsPut self.old self.new context offset state) }
-        ensures apart { IfErr result (NamesPlace (IsApart (family_of self.old.builder) (place_of self.old.builder context offset) state)) }
+        ensures put { IfOk result (λ _. IsPut self.old self.new context offset state.now) }
+        ensures apart { IfErr result (NamesPlace (IsApart (family_of self.old.builder) (place_of self.old.builder context offset) state.now)) }
     {
-        let changed = match self.builder.put_state(context, offset, state) {
+        let changed = match self.builder.join_state(context, offset, state) {
             Ok(changed) => changed,
             Err(BuildFault::DepthMismatch) => {
                 return Err(refused_at(&self.builder, context, offset, Reason::DepthMismatch));

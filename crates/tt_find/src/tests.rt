@@ -8,8 +8,8 @@ ghost use Rattle.tt_abs.specs.StateFlow.{FunctionsFit};
 use crate::*;
 use std::alloc::Global;
 use std::test::Fail;
-use tt_abs::{Kind, Setting};
-use tt_cert::Spot;
+use tt_abs::{Kind, Order, Setting};
+use tt_cert::{Certificate, Spot};
 use tt_code::{Limits, Program, Reason};
 
 /// What the finder tells.
@@ -245,4 +245,87 @@ fn ends_and_lengths(rt: HostRuntime) {
     for (program, kind, want) in table {
         assert_eq!(rt; alone(rt.alloc(), program, kind), want, "of {program:?}");
     }
+}
+
+/// Have two certificates the same states at the first offsets of a context?
+fn are_same_in(one: &Certificate, other: &Certificate, context: u32, length: u32) -> bool {
+    for offset in 0..length {
+        let same = match (one.state(context, offset), other.state(context, offset)) {
+            (None, None) => true,
+            (Some(a), Some(b)) => a.below(b) && b.below(a),
+            _ => false,
+        };
+        if !same {
+            return false;
+        }
+    }
+    true
+}
+
+/// Are two certificates the same, whose offsets are below a length?
+fn are_same(one: &Certificate, other: &Certificate, length: u32) -> bool {
+    if one.contexts() != other.contexts() || one.points() != other.points() {
+        return false;
+    }
+    for context in 0..one.contexts() {
+        if one.context(context) != other.context(context) {
+            return false;
+        }
+        if !are_same_in(one, other, context, length) {
+            return false;
+        }
+    }
+    true
+}
+
+/// Is the same found of a setting in the memory of what was found of another one as in memory of its own?
+fn is_found_again(alloc: Global, used: &Setting<'_>, setting: &Setting<'_>) -> bool
+    requires used_rises { Rises used.now.start.now }
+    requires used_fits { FunctionsFit (setting_of used.now) used.now.start.now }
+    requires rises { Rises setting.now.start.now }
+    requires fits { FunctionsFit (setting_of setting.now) setting.now.start.now }
+{
+    let (Ok(used), Ok(alone)) = (find(alloc, used), find(alloc, setting)) else {
+        return false;
+    };
+    match find_in(alloc, used.certificate.into_builder(), setting) {
+        Ok(again) => {
+            again.updates == alone.updates && are_same(&again.certificate, &alone.certificate, 64)
+        }
+        Err(_) => false,
+    }
+}
+
+#[test]
+fn memory_of_another_certificate(rt: HostRuntime) {
+    let alloc = rt.alloc();
+    // PUSHB 1, 2, 3, 3, 0; LOOPCALL.
+    let used = Program::cut(alloc, &[0xb4, 0x01, 0x02, 0x03, 0x03, 0x00, 0x2a]);
+    // MPPEM; IF, PUSHB 1; ELSE, PUSHB 2; EIF; PUSHB 0; CALL.
+    let main = Program::cut(
+        alloc,
+        &[
+            0x4b, 0x58, 0xb0, 0x01, 0x1b, 0xb0, 0x02, 0x59, 0xb0, 0x00, 0x2b,
+        ],
+    );
+    let (Ok(font), Ok(used), Ok(main)) = (Program::cut(alloc, &POPPING), used, main) else {
+        assert!(rt; false, "the programs can be cut");
+        return;
+    };
+    let setting = Setting {
+        limits: LIMITS,
+        cvt: 10,
+        kind: GLYPH,
+        main: &main,
+        font: &font,
+        prep: &font,
+        start: &[(0, 3)],
+    };
+    let before = Setting {
+        main: &used,
+        ..setting
+    };
+    assert!(rt; is_found_again(alloc, &before, &setting));
+    assert!(rt; is_found_again(alloc, &setting, &before));
+    assert!(rt; is_found_again(alloc, &setting, &setting));
 }

@@ -10,13 +10,13 @@ use Rattle.tt_find.proofs.Points.{table_popped}
 use Rattle.tt_find.proofs.finder.filled.Goals as goal
 
 pub follow-requires-clause-there : goal.follow-requires-clause-there
-follow-requires-clause-there c = c.loop-context.invariant.kept.held c.in-Some.context c.in-Some.offset c.in-Some.ensures.member
+follow-requires-clause-there c = c.loop-context.invariant.whole.kept.held c.in-Some.context c.in-Some.offset c.in-Some.ensures.member
 
 pub follow-requires-clause-sound : goal.follow-requires-clause-sound
 follow-requires-clause-sound c = record {
   kept = table_popped state_order (flow_of (setting_of c.args.setting.now) c.args.setting.now.start.now) c.loop-context.table.builder c.loop-context.table.marked c.pop_first.new.self
-      c.in-Some.context c.in-Some.offset c.loop-context.invariant.kept c.in-Some.ensures.member c.in-Some.ensures.updates;
-  budget = c.loop-context.invariant.budget;
+      c.in-Some.context c.in-Some.offset c.loop-context.invariant.whole.kept c.in-Some.ensures.member c.in-Some.ensures.updates;
+  budget = c.loop-context.invariant.whole.budget;
 }
 
 pub loop-context-smaller : goal.loop-context-smaller
@@ -29,7 +29,7 @@ pub returns-clause-whole : goal.returns-clause-whole
 returns-clause-whole c =
     let W : BTreeSet (ℕ × ℕ) → Type 0 = λ x.
     IsWhole (setting_of c.args.setting.now) c.args.setting.now.start.now (record { builder = c.loop-context.table.builder; marked = x; updates = c.loop-context.table.updates }) in
-    subst W (same_set c.loop-context.table.marked c.pop_first.new.self c.in_default.ensures.unchanged) c.loop-context.invariant
+    subst W (same_set c.loop-context.table.marked c.pop_first.new.self c.in_default.ensures.unchanged) c.loop-context.invariant.whole
 
 pub returns-clause-none : goal.returns-clause-none
 returns-clause-none c =

@@ -2,11 +2,11 @@ use Rattle.std.proofs.Common.{◌+◌, ◌*◌, ◌-◌}
 use Rattle.std.specs.BTreeSet.{btree_set_len}
 use Rattle.tt_abs.specs.Settings.{setting_of}
 use Rattle.tt_abs.specs.StateFlow.{height_of}
-use Rattle.tt_find.specs.Tables.{IsWhole}
+use Rattle.tt_find.specs.Tables.{IsWalk, IsWhole}
 use Rattle.tt_find.proofs.finder.filled.Given as goal
 
 abbrev pub invariant-loop-context : goal.invariant-loop-context
-invariant-loop-context l = IsWhole (setting_of l.setting) l.setting.start.now l.table
+invariant-loop-context l = record { whole : IsWhole (setting_of l.setting) l.setting.start.now l.table; walk : IsWalk l.table.builder.contexts l.walk }
 
 abbrev pub decreases-loop-context : goal.decreases-loop-context
 decreases-loop-context l = 2 * (4294967295 * (1 + height_of (setting_of l.setting)) - l.table.updates) + btree_set_len l.table.marked

@@ -12,7 +12,7 @@ use Rattle.tt_find.specs.declared.fault.FindFault.TheVariants.{Refused}
 use Rattle.tt_find.specs.Found.{IsJustified, IsLeast, never_ends, too_long}
 use Rattle.tt_find.proofs.Finished.{fits_of, lacks_end, least_left, never_both, never_ends_from, none_good_from, same_family, whole_good}
 use Rattle.tt_find.proofs.Followed.{names_at}
-use Rattle.tt_find.proofs.finder.find.Goals as goal
+use Rattle.tt_find.proofs.finder.find_in.Goals as goal
 
 pub returns-then-not-is_short-clause-justified : goal.returns-then-not-is_short-clause-justified
 returns-then-not-is_short-clause-justified c =
