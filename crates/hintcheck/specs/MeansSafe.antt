@@ -1,9 +1,11 @@
--- What the exit status 0 says: what was asked for is safe.
-use Rattle.std.specs.Prelude.{◌≡◌, ℕ, List, [], Some, unwrap_or}
+-- What the exit statuses 0 and 1 say: what was asked for is safe, or refused.
+use Rattle.std.specs.Prelude.{◌≡◌, ◌≢◌, ℕ, List, [], Some, unwrap_or}
 use Rattle.tt_font.specs.Reading.{FontData, GlyphData, Reads}
 use Rattle.hintcheck_words.specs.HexWords.{Spells}
 use Rattle.hintcheck_words.specs.Requests.{Request, bare, meaning, verdict}
-use Rattle.hintcheck.specs.FontPrograms.{IsSafeFont, IsSafeGlyph, font_of, one_glyph_font}
+use Rattle.hintcheck.specs.FontPrograms.{IsSafeFont, IsSafeGlyph, IsVerdict, font_of, glyph_subject, one_glyph_font}
+use Rattle.hintcheck.specs.Programs.{HasGoodFamily}
+use Rattle.hintcheck.specs.Verdicts.{Judgement}
 
 -- The words spell a `maxp` table and a glyph program, which is safe in a font of this glyph alone.
 pub record SpellSafeGlyph (maxp : List ℕ) (cvt points contours : ℕ) (program : List ℕ) : Type 0 where
@@ -32,3 +34,32 @@ pub record MeansSafe (words : List (List ℕ)) : Type 0 where
   pub request : Request
   pub meant : meaning words ≡ Some request
   pub safe : IsSafeRequest request
+
+-- The words spell a `maxp` table and a glyph program for which no family of abstract states is good, in a font of this glyph alone.
+pub record SpellRefusedGlyph (maxp : List ℕ) (cvt points contours : ℕ) (program : List ℕ) : Type 0 where
+  pub table : List ℕ
+  pub table_spelled : Spells maxp table
+  pub glyph : GlyphData
+  pub points_are : glyph.points ≡ points
+  pub contours_are : glyph.contours ≡ contours
+  pub program_spelled : Spells program glyph.program
+  pub none_good : HasGoodFamily (glyph_subject (font_of (one_glyph_font table cvt glyph) [] []) [] 0 glyph) → ⊥
+
+-- The bytes hold a font, and its verdict names refused programs.
+pub record HoldRefusedFont (bytes : List ℕ) : Type 0 where
+  pub font : FontData
+  pub reads : Reads bytes font
+  pub judgement : Judgement
+  pub given : IsVerdict font judgement
+  pub some : judgement.refused ≢ []
+
+-- What is asked for is refused, as it is safe above.
+abbrev pub IsRefusedRequest : Request → Type 0
+IsRefusedRequest (bare maxp cvt points contours program) = SpellRefusedGlyph maxp cvt points contours (unwrap_or program [])
+IsRefusedRequest (verdict font) = (bytes : List ℕ) × HoldRefusedFont bytes
+
+-- The words ask for something, which is refused.
+pub record MeansRefused (words : List (List ℕ)) : Type 0 where
+  pub request : Request
+  pub meant : meaning words ≡ Some request
+  pub refused : IsRefusedRequest request

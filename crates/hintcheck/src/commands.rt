@@ -1,11 +1,11 @@
 //! What the words of a command line ask for, done: a verdict or a fault in lines for the user, and
 //! the exit status.
 
-ghost use Rattle.std.specs.Prelude.{◌≡◌, ◌≤◌, ◌<◌, ◌⊎◌, ℕ, IfErr, IfOk, List, [], map, option_map, string_bytes, true, unwrap_or};
+ghost use Rattle.std.specs.Prelude.{◌≡◌, ◌≢◌, ◌≤◌, ◌<◌, ◌⊎◌, ℕ, IfErr, IfOk, List, [], map, option_map, string_bytes, true, unwrap_or};
 ghost use Rattle.tt_stream.specs.Streams.{CountsPrintFailure};
 ghost use Rattle.hintcheck_words.specs.Requests.{asked, is_taken};
 ghost use Rattle.hintcheck.specs.Commands.{HasAll, IsNoWriteFault, TellsFailure, status_of};
-ghost use Rattle.hintcheck.specs.MeansSafe.{HoldSafeFont, IsSafeRequest, MeansSafe, SpellSafeGlyph};
+ghost use Rattle.hintcheck.specs.MeansSafe.{HoldRefusedFont, HoldSafeFont, IsRefusedRequest, IsSafeRequest, MeansRefused, MeansSafe, SpellRefusedGlyph, SpellSafeGlyph};
 
 mod faults;
 
@@ -61,6 +61,7 @@ fn bare_verdict(
     program: &str,
 ) -> Result<Verdict, CommandFault>
     ensures safe { IfOk result (λ verdict. verdict.refused ≡ [] → SpellSafeGlyph maxp.now cvt points contours program.now) }
+    ensures refused { IfOk result (λ verdict. verdict.refused ≢ [] → SpellRefusedGlyph maxp.now cvt points contours program.now) }
     ensures fault { IfErr result IsNoWriteFault }
 {
     let maxp = word_bytes(alloc, maxp).map_err(|fault| CommandFault::of_word(
@@ -71,7 +72,10 @@ fn bare_verdict(
         fault,
         CommandFault::ProgramWord,
     ))?;
-    bare(alloc, &maxp, cvt, points, contours, &program).map_err(CommandFault::of_font)
+    match bare(alloc, &maxp, cvt, points, contours, &program) {
+        Ok(verdict) => Ok(verdict),
+        Err(fault) => Err(CommandFault::of_font(fault)),
+    }
 }
 
 /// The verdict on all programs of a font, whose bytes are those that are left in the file.
@@ -82,6 +86,7 @@ fn verdict_on_bytes<L: Ledger, F: Read + Drop>(
 ) -> Result<Verdict, CommandFault>
     requires { (blank.name ≡ L.name) × (blank.parts ≡ L.parts) × (0 < blank.parts) }
     ensures safe { IfOk result (λ verdict. verdict.refused ≡ [] → (bytes : List ℕ) × HasAll (F.remaining file) bytes × HoldSafeFont bytes) }
+    ensures refused { IfOk result (λ verdict. verdict.refused ≢ [] → (bytes : List ℕ) × HasAll (F.remaining file) bytes × HoldRefusedFont bytes) }
     ensures fault { IfErr result IsNoWriteFault }
 {
     let mut source = Counted::<F, L>::new(file, blank);
@@ -92,6 +97,7 @@ fn verdict_on_bytes<L: Ledger, F: Read + Drop>(
 /// The verdict on all programs of the font file with this name.
 fn file_verdict<R: Files + AllocGlobal>(rt: &R, name: &str) -> Result<Verdict, CommandFault>
     ensures safe { IfOk result (λ verdict. verdict.refused ≡ [] → (bytes : List ℕ) × HoldSafeFont bytes) }
+    ensures refused { IfOk result (λ verdict. verdict.refused ≢ [] → (bytes : List ℕ) × HoldRefusedFont bytes) }
     ensures fault { IfErr result IsNoWriteFault }
 {
     let Ok(file) = fs::open(rt, name) else {
@@ -113,6 +119,7 @@ fn word_or_empty(word: &Option<String>) -> &str
 /// The verdict that the task asks for.
 fn verdict_on<R: Files + AllocGlobal>(rt: &R, task: &Task) -> Result<Verdict, CommandFault>
     ensures safe { IfOk result (λ verdict. verdict.refused ≡ [] → IsSafeRequest (asked task.now)) }
+    ensures refused { IfOk result (λ verdict. verdict.refused ≢ [] → IsRefusedRequest (asked task.now)) }
     ensures fault { IfErr result IsNoWriteFault }
 {
     match task {
@@ -142,6 +149,7 @@ fn run<R: Files + AllocGlobal, O: Sink>(
 ) -> Result<u8, CommandFault>
     ensures status { IfOk result (λ status. status ≤ 1) }
     ensures safe { IfOk result (λ status. status ≡ 0 → is_taken (map (λ w. w.now) words.entry.now) ≡ true → MeansSafe (map (λ w. w.now) words.entry.now)) }
+    ensures refused { IfOk result (λ status. status ≡ 1 → MeansRefused (map (λ w. w.now) words.entry.now)) }
     ensures failures { TellsFailure result (O.failures out.old) (O.failures out.new) }
 {
     match read_words(rt.alloc(), words) {
@@ -177,6 +185,8 @@ pub fn command<R: Files + AllocGlobal, O: Sink, E: Sink>(
     ensures statuses { result ≤ 3 }
     // Where the command line takes the words and the status is 0, what they ask for is safe.
     ensures safe { result ≡ 0 → is_taken (map (λ w. w.now) words.entry.now) ≡ true → MeansSafe (map (λ w. w.now) words.entry.now) }
+    // Where the status is 1, the words ask for something, which is refused.
+    ensures refused { result ≡ 1 → MeansRefused (map (λ w. w.now) words.entry.now) }
     // A write to `out` failed only where the status says so.
     ensures unwritten { O.failures out.new ≡ O.failures out.old ⊎ (result ≡ 2 × O.failures out.old ≤ O.failures out.new) }
     ensures untold { E.failures err.old ≤ E.failures err.new }

@@ -17,7 +17,9 @@ ghost use Rattle.hintcheck.specs.Programs.{HasLeastFamily, IsCutInto, IsRefusal,
 use crate::look::{LookFault, cut, look};
 use crate::report::{Name, Refused, Verdict};
 use std::alloc::{AllocError, Global};
+use std::mem;
 use tt_abs::{Kind, Setting};
+use tt_cert::Builder;
 use tt_code::Program;
 use tt_font::{Font, FontFault, GlyphPart};
 
@@ -34,7 +36,7 @@ fn end_functions(
     ensures known { (x : Subject) → IsLookedAt x name setting.now → IfOk result (λ functions. IsKnownAtEnd x setting.now.main.now functions.items) }
     ensures refused { (x : Subject) → IsLookedAt x name setting.now → IfErr result (λ fault. IfRefused fault (IsRefusal x)) }
 {
-    let certificate = look(alloc, name, setting)?;
+    let certificate = look(alloc, Builder::new(alloc), name, setting)?;
     // An accepted font program or CVT program has a state at its end.
     let functions = certificate.end_functions(setting.main.len()).unwrap();
     match Vec::from_slice(alloc, functions) {
@@ -102,13 +104,14 @@ struct Common<'a> {
     known: &'a [(u16, u32)],
 }
 
-/// Looks at the program of the glyph with this number.
+/// Looks at the program of the glyph with this number, in a builder's memory, which comes back where the program is accepted.
 fn look_at_glyph(
     alloc: Global,
+    memory: Builder,
     common: &Common<'_>,
     id: u16,
     glyph: &GlyphPart<'_>,
-) -> Result<(), LookFault>
+) -> Result<Builder, LookFault>
     requires few { length glyph.now.program.now < 2 ^ 31 }
     requires rises { Rises common.now.known.now }
     requires fits { FunctionsFit (font_setting (font_in common.now)) common.now.known.now }
@@ -129,13 +132,14 @@ fn look_at_glyph(
         prep: common.prep,
         start: common.known,
     };
-    match look(alloc, name, &setting) {
-        Ok(_) => Ok(()),
+    match look(alloc, memory, name, &setting) {
+        Ok(certificate) => Ok(certificate.into_builder()),
         Err(fault) => Err(fault),
     }
 }
 
-/// Looks at each glyph program: the refused ones, by rising numbers of their glyphs.
+/// Looks at each glyph program: the refused ones, by rising numbers of their glyphs. Each program is looked at in the memory of those
+/// before.
 fn refused_glyphs(alloc: Global, common: &Common<'_>) -> Result<Vec<Refused>, AllocError>
     requires range { IsFontInRange common.now.font.now }
     requires rises { Rises common.now.known.now }
@@ -143,10 +147,12 @@ fn refused_glyphs(alloc: Global, common: &Common<'_>) -> Result<Vec<Refused>, Al
     ensures { IfOk result (λ refused. AreRefused (font_in common.now) common.now.known.now 0 common.now.font.now.glyphs refused.items) }
 {
     let mut refused = Vec::new(alloc);
+    let mut memory = Builder::new(alloc);
     for id in 0..common.font.glyph_count() {
         let glyph = common.font.glyph(id).unwrap();
-        match look_at_glyph(alloc, common, id, &glyph) {
-            Ok(()) => {}
+        let builder = mem::replace(&mut memory, Builder::new(alloc));
+        match look_at_glyph(alloc, builder, common, id, &glyph) {
+            Ok(builder) => memory = builder,
             Err(LookFault::Refused(refusal)) => refused.push(refusal)?,
             Err(LookFault::OutOfMemory(error)) => return Err(error),
         }

@@ -12,6 +12,7 @@ use crate::look::{LookFault, cut, look};
 use crate::report::{Name, Refused, Verdict};
 use std::alloc::{AllocError, Global};
 use tt_abs::{Kind, Setting};
+use tt_cert::Builder;
 use tt_code::{Limits, Program};
 use tt_font::{FontFault, read_maxp};
 
@@ -61,7 +62,7 @@ fn look_at(alloc: Global, glyph: &Glyph, program: &[u8]) -> Result<(), LookFault
         prep: &empty,
         start: &[],
     };
-    match look(alloc, name, &setting) {
+    match look(alloc, Builder::new(alloc), name, &setting) {
         Ok(_) => Ok(()),
         Err(fault) => Err(fault),
     }

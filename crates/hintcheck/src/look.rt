@@ -14,9 +14,9 @@ ghost use Rattle.hintcheck.specs.Looks.{IfRefused, IsAccepted, IsLookedAt, IsWan
 use crate::report::{Name, Place, Refused};
 use std::alloc::{AllocError, Global};
 use tt_abs::Setting;
-use tt_cert::{Certificate, CheckFault, Spot, check_full};
+use tt_cert::{Builder, Certificate, CheckFault, Spot, check_full};
 use tt_code::{CodeFault, Program, Reason};
-use tt_find::{FindFault, find};
+use tt_find::{FindFault, find_in};
 
 /// Why a program isn't accepted.
 #[derive(Drop)]
@@ -98,13 +98,14 @@ fn checked(
     }
 }
 
-/// Looks at the program of this name and this setting, whose family of abstract states is found and then checked. A family that is found
-/// passes the check, which alone accepts.
+/// Looks at the program of this name and this setting, whose family of abstract states is found in a builder's memory and then checked. A
+/// family that is found passes the check, which alone accepts.
 ///
 /// # Errors
 /// `Refused` where no family is found; `OutOfMemory`.
 pub(crate) fn look(
     alloc: Global,
+    memory: Builder,
     name: Name,
     setting: &Setting<'_>,
 ) -> Result<Certificate, LookFault>
@@ -116,7 +117,7 @@ pub(crate) fn look(
         → IfErr result (λ fault. IfRefused fault (λ _. HasGoodFamily x → ⊥)) }
 {
     setting.is_within();
-    match find(alloc, setting) {
+    match find_in(alloc, memory, setting) {
         Ok(found) => checked(alloc, name, setting, found.certificate),
         Err(
             FindFault::Refused {

@@ -9,3 +9,11 @@ returns-in-Bare-clause-safe g c = IfOk-weaker c.bare_verdict.result _ _ (λ v sa
 pub returns-in-Verdict-clause-safe : goal.returns-in-Verdict-clause-safe
 unfolding asked
 returns-in-Verdict-clause-safe g c = IfOk-weaker c.file_verdict.result _ _ (λ v safe none. rw c.in-Verdict.is (safe none)) c.file_verdict.ensures.safe
+
+pub returns-in-Bare-clause-refused : goal.returns-in-Bare-clause-refused
+unfolding asked
+returns-in-Bare-clause-refused g c = IfOk-weaker c.bare_verdict.result _ _ (λ v refused some. rw c.in-Bare.is (rw (← c.deref.ensures, ← c.word_or_empty.ensures) (refused some))) c.bare_verdict.ensures.refused
+
+pub returns-in-Verdict-clause-refused : goal.returns-in-Verdict-clause-refused
+unfolding asked
+returns-in-Verdict-clause-refused g c = IfOk-weaker c.file_verdict.result _ _ (λ v refused some. rw c.in-Verdict.is (refused some)) c.file_verdict.ensures.refused
