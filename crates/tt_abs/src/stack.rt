@@ -13,10 +13,13 @@ use std::marker::Model;
 /// How many cells a stack may have at most.
 const MOST_CELLS: usize = 0x7fff_ffff;
 
+/// So many cells need no allocation.
+const INLINE_CELLS: usize = 16;
+
 /// A stack of cells, which contracts see top first. Up to 16 cells need no allocation.
 #[derive(Drop)]
 pub struct Stack {
-    cells: SmallVec<Cell, 16>,
+    cells: SmallVec<Cell, INLINE_CELLS>,
 }
 
 impl Model for Stack {
@@ -143,9 +146,14 @@ impl Stack {
     pub fn copied(&self) -> Result<Stack, AllocError>
         ensures { IfOk result (λ copy. copy ≡ self.now) }
     {
-        Ok(Stack {
-            cells: SmallVec::from_slice(*self.cells.allocator(), self.cells.as_slice())?,
-        })
+        let alloc = *self.cells.allocator();
+        let cells = self.cells.as_slice();
+        let cells = if cells.len() <= INLINE_CELLS {
+            SmallVec::from_slice(alloc, cells)?
+        } else {
+            SmallVec::from_vec(Vec::from_slice(alloc, cells)?)
+        };
+        Ok(Stack { cells })
     }
 
     /// Becomes a stack of the same cells, in the memory that it has where that is enough.
