@@ -37,27 +37,3 @@ cases_place (a, b) (c, d) = elim (cases_eq a c) [
   | inl e ↦ elim (cases_eq b d) [ inl e' ↦ inl (cc) | inr f ↦ inr (λ g. f (ap (λ (x : ℕ × ℕ). x.1) g)) ]
   | inr f ↦ inr (λ g. f (ap (λ (x : ℕ × ℕ). x.0) g))
 ]
-
-module _ {S : Type 0} (o : Order S) where
-  pub PutsAt-written : (m n : BTreeMap (ℕ × ℕ) S) (k : ℕ × ℕ) (old u t : S) (changed : Bool) → Some old ≡ states_of m.entries k → WritesThrough place_cmp (place_cmp k) m u n
-      → IsLeastAbove o old t u → (IsFalse changed ↔ (u ≡ old)) → PutsAt o (states_of m.entries) (states_of n.entries) k t changed
-  PutsAt-written m n k old u t changed had writes least unchanged =
-      let there : IsSome (get_by (place_cmp k) m) = ap is_some (sym had) in
-      let updates : UpdatesBy place_cmp (place_cmp k) m n (Some u) = writes.3 there in
-      let now : states_of n.entries k ≡ Some u = updates.1 in
-      let G : Option S × Option S → Type 0 = λ x. PutGives o x.0 t x.1 changed in
-      let same : (Some old, Some u) ≡ (states_of m.entries k, states_of n.entries k) = cc in
-      let pair : PutGives o (Some old) t (Some u) changed = (least, unchanged) in
-      record { here = subst G same pair; elsewhere = λ p apart. updates.2 p (places_apart k p apart) }
-
-  pub PutsAt-added : (m m' n : BTreeMap (ℕ × ℕ) S) (k : ℕ × ℕ) (u t : S) → None ≡ states_of m.entries k → m' ≡ m → UpdatesBy place_cmp (place_cmp k) m' n (Some u)
-      → u ≡ t → PutsAt o (states_of m.entries) (states_of n.entries) k t true
-  PutsAt-added m m' n k u t had before updates' copy =
-      let U : BTreeMap (ℕ × ℕ) S → Type 0 = λ x. UpdatesBy place_cmp (place_cmp k) x n (Some u) in
-      let updates : UpdatesBy place_cmp (place_cmp k) m n (Some u) = subst U before updates' in
-      let now : states_of n.entries k ≡ Some u = updates.1 in
-      let G : Option S × Option S → Type 0 = λ x. PutGives o x.0 t x.1 true in
-      let none : Option S = None in
-      let same : (none, Some u) ≡ (states_of m.entries k, states_of n.entries k) = cc in
-      let pair : PutGives o none t (Some u) true = (copy, refl) in
-      record { here = subst G same pair; elsewhere = λ p apart. updates.2 p (places_apart k p apart) }

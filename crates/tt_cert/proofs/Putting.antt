@@ -1,5 +1,5 @@
 -- What a put leaves of a builder.
-use Rattle.std.specs.Prelude.{◌≡◌, ◌≢◌, ◌⊎◌, ◌↔◌, ℕ, ◌+◌, ◌≤◌, ◌<◌, Bool, true, false, Option, Some, None, List, [], ◌∷◌, ◌++◌, length, slice_index_or, unwrap_or, cond}
+use Rattle.std.specs.Prelude.{◌≡◌, ◌≢◌, ◌⊎◌, ◌↔◌, ℕ, ◌+◌, ◌≤◌, ◌<◌, Bool, true, false, Option, Some, None, List, [], ◌∷◌, ◌++◌, length, slice_index_or, unwrap_or, Ok, Err, IfOk, OnOk, OnErr, Result}
 use Rattle.std.specs.declared.cmp.Ordering.{Ordering}
 use Rattle.std.specs.Ordering.{nat_cmp}
 use Rattle.std.specs.Cmp.{IsTotalOrder}
@@ -18,8 +18,10 @@ use Rattle.tt_code.specs.declared.machine.Frame.{Frame}
 use Rattle.tt_cert.specs.Places.{place_cmp, states_of, PutGives, PutsAt}
 use Rattle.tt_cert.specs.Contexts.{frames_of}
 use Rattle.tt_cert.specs.Contents.{Contents, IsFamily, family_of, frames_at, total}
-use Rattle.tt_cert.specs.Puts.{Reweighs, place_of, weigh, PutsAt-family, Reweighs-family, family_at}
+use Rattle.tt_cert.specs.Puts.{Reweighs, ReweighsStates, place_of, weigh, PutsAt-family, Reweighs-family, family_at}
 use Rattle.tt_cert.specs.Built.{Key, IsBuilt}
+use Rattle.tt_cert.specs.declared.fault.BuildFault.{BuildFault}
+use Rattle.tt_cert.specs.declared.fault.BuildFault.TheVariants.{DepthMismatch}
 use Rattle.tt_cert.proofs.Puts.{cases_place}
 use Rattle.tt_cert.proofs.Adding.{family_is, contexts_is}
 
@@ -100,13 +102,6 @@ module _ (entries : List (ℕ × Frame)) (index : BTreeMap Key ℕ) (states stat
       PutsAt-family state_order v (record { contexts = frames_of entries; states = states' }) c off t changed (family_is entries index states v is built)
       (contexts_is entries index states v is built) within (subst P states_is put)
 
-  pub put_sums : ((w : State → ℕ) → sum_by w (values_of states') + weigh w (states_of states (c, off)) ≡ sum_by w (values_of states) + weigh w (states_of states' (c, off)))
-      → Reweighs v (record { contexts = frames_of entries; states = states' }) (place_of v c off)
-  put_sums sums =
-      let P : List ((ℕ × ℕ) × State) → Type 0 = λ x. (w : State → ℕ) → sum_by w (values_of states') + weigh w (states_of x (c, off)) ≡ sum_by w (values_of x) + weigh w (states_of states' (c, off)) in
-      Reweighs-family v (record { contexts = frames_of entries; states = states' }) c off (family_is entries index states v is built)
-      (contexts_is entries index states v is built) within (subst P states_is sums)
-
 module _ (entries : List (ℕ × Frame)) (index : BTreeMap Key ℕ) (states : List ((ℕ × ℕ) × State)) (v : Contents)
     (is : ◌≡◌ {A = Contents} (record { contexts = frames_of entries; states = states }) v) (built : IsBuilt entries index states) where
   pub number_state : (k : ℕ × ℕ) (x : Option State) → x ≡ states_of states k → states_of v.states k ≡ x
@@ -124,67 +119,39 @@ module _ (entries : List (ℕ × Frame)) (index : BTreeMap Key ℕ) (states : Li
       let F : List ((ℕ × ℕ) × State) → Type 0 = λ x. All (λ (e : (ℕ × ℕ) × State). states_of x e.0 ≡ Some e.1) x in
       subst F (ap (λ (x : Contents). x.states) is) all
 
-  -- the state that stands at a point is in range
-  pub old_in_range : (c off : ℕ) (s : State) → Some s ≡ states_of states (c, off) → state_order.InRange s
-  old_in_range c off s at = built.family.in_range c off s (sym at)
-
-  -- what is said of the depth of the state that stands at a point
-  pub point_depth : (c off : ℕ) (old : State) → c < length v.contexts → Some old ≡ states_of states (c, off) → (t : State) → state_order.SameDepth old t
-      → (s : State) → family_of v (place_of v c off) ≡ Some s → state_order.SameDepth s t
-  point_depth c off old within at t deep s has =
-      let both : Some old ≡ Some s = sym (point_state c off (Some old) within at) ∙ has in
-      let same : old ≡ s = cc in
-      let D : State → Type 0 = λ x. state_order.SameDepth x t in
-      subst D same deep
-
-  -- where no state stands nothing is to be said
-  pub point_none : (c off : ℕ) → c < length v.contexts → None ≡ states_of states (c, off) → (t : State)
-      → (s : State) → family_of v (place_of v c off) ≡ Some s → state_order.SameDepth s t
-  point_none c off within at t s has =
-      let both : None ≡ Some s = sym (point_state c off None within at) ∙ has in
-      absurd (cc)
-
-  pub same_built : (states' : List ((ℕ × ℕ) × State)) → states' ≡ states → IsBuilt entries index states'
+  same_built : (states' : List ((ℕ × ℕ) × State)) → states' ≡ states → IsBuilt entries index states'
   same_built states' same = let B : List ((ℕ × ℕ) × State) → Type 0 = λ x. IsBuilt entries index x in subst B (sym same) built
 
-  pub same_kept : (states' : List ((ℕ × ℕ) × State)) → states' ≡ states → ◌≡◌ {A = Contents} (record { contexts = frames_of entries; states = states' }) v
-  same_kept states' same = ap (λ (x : List ((ℕ × ℕ) × State)). let y : Contents = record { contexts = frames_of entries; states = x } in y) same ∙ is
+  -- what a put into the states is to the family
+  module _ (states' : List ((ℕ × ℕ) × State)) (c off : ℕ) (within : c < length v.contexts) (t : State) (ranged : state_order.InRange t) where
+    pub joined_built : (r : Result Bool BuildFault) → IfOk r (λ changed. PutsAt state_order (states_of states) (states_of states') (c, off) t changed)
+        → OnOk r (length states' ≤ 4294967295) → OnErr r (states' ≡ states) → IsBuilt entries index states'
+    joined_built (Ok changed) put fits kept = put_built entries index states states' v is built c off within t changed put ranged fits
+    joined_built (Err e) put fits kept = same_built states' kept
 
-  pub same_family : (states' : List ((ℕ × ℕ) × State)) → states' ≡ states → IsFamily (record { contexts = frames_of entries; states = states' })
-  same_family states' same = (same_built states' same).family
+    pub joined_puts : (r : Result Bool BuildFault) → IfOk r (λ changed. PutsAt state_order (states_of states) (states_of states') (c, off) t changed)
+        → IfOk r (λ changed. PutsAt state_order (family_of v) (family_of (record { contexts = frames_of entries; states = states' })) (place_of v c off) t changed)
+    joined_puts (Ok changed) put = put_puts entries index states states' v is built c off within t changed put ranged
+    joined_puts (Err e) put = tt
 
-  pub few_states : length states ≤ 4294967295
-  few_states = built.family.fits
+    pub joined_sums : (r : Result Bool BuildFault) → IfOk r (λ _. ReweighsStates states states' (c, off))
+        → IfOk r (λ _. Reweighs v (record { contexts = frames_of entries; states = states' }) (place_of v c off))
+    joined_sums (Ok changed) sums =
+        let P : List ((ℕ × ℕ) × State) → Type 0 = λ x. ReweighsStates x states' (c, off) in
+        Reweighs-family v (record { contexts = frames_of entries; states = states' }) c off (family_is entries index states v is built)
+        (contexts_is entries index states v is built) within (subst P (ap (λ (x : Contents). x.states) is) sums)
+    joined_sums (Err e) sums = tt
 
--- a write of the same value
-pub same_written : (m n : BTreeMap (ℕ × ℕ) State) (k : ℕ × ℕ) (old u : State) → Some old ≡ states_of m.entries k → WritesThrough place_cmp (place_cmp k) m u n → u ≡ old
-    → n.entries ≡ m.entries
-same_written m n k old u had writes same =
-    writes.0 ∙ ap (set_value (is_at (place_cmp k)) m.entries) same ∙ set_value_same (is_at (place_cmp k)) m.entries old (sym had)
+    pub joined_depth : (r : Result Bool BuildFault)
+        → (r ≡ Err DepthMismatch → (s : State) × (states_of states (c, off) ≡ Some s) × (state_order.SameDepth s t → ⊥))
+        → r ≡ Err DepthMismatch → (s : State) × (family_of v (place_of v c off) ≡ Some s) × (state_order.SameDepth s t → ⊥)
+    joined_depth r deep refused = let (s, at, apart) = deep refused in (s, point_state c off (Some s) within (sym at), apart)
 
-pub now_written : (m n : BTreeMap (ℕ × ℕ) State) (k : ℕ × ℕ) (old u : State) → Some old ≡ states_of m.entries k → WritesThrough place_cmp (place_cmp k) m u n
-    → states_of n.entries k ≡ Some u
-now_written m n k old u had writes =
-    let there : IsSome (get_by (place_cmp k) m) = ap is_some (sym had) in
-    let updates : UpdatesBy place_cmp (place_cmp k) m n (Some u) = writes.3 there in
-    updates.1
+    pub joined_joined : (r : Result Bool BuildFault) → IfOk r (λ _. (s : State) → states_of states (c, off) ≡ Some s → state_order.SameDepth s t)
+        → IfOk r (λ _. (s : State) → family_of v (place_of v c off) ≡ Some s → state_order.SameDepth s t)
+    joined_joined (Ok changed) deep = λ s at. deep s (sym (point_state c off (states_of states (c, off)) within refl) ∙ at)
+    joined_joined (Err e) deep = tt
 
 pub copied_some : (o : Option (Bor State)) (x y : Option State) → option_copied o ≡ x → y ≡ x → IfSome o (λ s. y ≡ Some s.now)
 copied_some None x y e f = tt
 copied_some (Some s) x y e f = f ∙ sym e
-
-one_at_most : (b : Bool) → cond b 0 1 ≤ 1
-one_at_most true = omega arith
-one_at_most false = omega arith
-
--- an insert of what wasn't there, into the map that a look-up gave back
-pub added_fits : (m n : BTreeMap (ℕ × ℕ) State) (len : ℕ) (b : Bool) → len ≡ length m.entries → len < 4294967295 → length n.entries ≡ length m.entries + cond b 0 1
-    → length n.entries ≤ 4294967295
-added_fits m n len b e lt more = let one = one_at_most b in omega arith
-
-pub added_sums : (m m' n : BTreeMap (ℕ × ℕ) State) (k : ℕ × ℕ) (t : State) → m' ≡ m → UpdatesBy place_cmp (place_cmp k) m' n (Some t)
-    → n.entries ≡ insert_entry place_cmp m'.entries k t → IsOrdered place_cmp m'
-    → (w : State → ℕ) → sum_by w (values_of n.entries) + weigh w (states_of m.entries k) ≡ sum_by w (values_of m.entries) + weigh w (states_of n.entries k)
-added_sums m m' n k t same updates writes ordered =
-    let P : BTreeMap (ℕ × ℕ) State → Type 0 = λ x. (w : State → ℕ) → sum_by w (values_of n.entries) + weigh w (states_of x.entries k) ≡ sum_by w (values_of x.entries) + weigh w (states_of n.entries k) in
-    subst P same (sums_added m'.entries n.entries k t updates.1 writes ordered)

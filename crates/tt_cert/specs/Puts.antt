@@ -1,6 +1,8 @@
 -- A put of a state into the contents, as a family sees it, and what it does to sums over all states.
 use Rattle.std.specs.Prelude.{◌≡◌, ◌≢◌, ◌⊎◌, ℕ, ◌+◌, ◌≤◌, ◌<◌, Bool, true, false, Option, Some, None, List, [], ◌∷◌, ◌++◌, length, slice_index_or}
 use Rattle.std.proofs.Common.{refl, sym, ◌∙◌, ap, subst, arith, inl, inr}
+use Rattle.std.specs.List.{sum_by}
+use Rattle.std.specs.Map.{values_of}
 use Rattle.tt_abs.specs.Orders.{Order}
 use Rattle.tt_code.specs.declared.machine.Frame.{Frame}
 use Rattle.tt_cert.specs.Places.{states_of, PutGives, PutsAt}
@@ -13,7 +15,11 @@ abbrev pub weigh : (State → ℕ) → Option State → ℕ
 weigh w None = 0
 weigh w (Some s) = w s
 
--- whatever states weigh, all together weigh the more by what the state at the point does
+-- whatever states weigh, all together weigh the more by what the state at the place does
+abbrev pub ReweighsStates : List ((ℕ × ℕ) × State) → List ((ℕ × ℕ) × State) → ℕ × ℕ → Type 0
+ReweighsStates old new place = (w : State → ℕ) → sum_by w (values_of new) + weigh w (states_of old place) ≡ sum_by w (values_of old) + weigh w (states_of new place)
+
+-- the same of the contents and a point
 abbrev pub Reweighs : Contents → Contents → List Frame × ℕ → Type 0
 Reweighs old new place = (w : State → ℕ) → total w new + weigh w (family_of old place) ≡ total w old + weigh w (family_of new place)
 
@@ -52,8 +58,7 @@ PutsAt-family o old new c off t changed family same lt put =
         λ i. (frames i, second i)
 
 pub Reweighs-family : (old new : Contents) (c off : ℕ) → IsFamily old → new.contexts ≡ old.contexts → c < length old.contexts
-    → ((w : State → ℕ) → total w new + weigh w (states_of old.states (c, off)) ≡ total w old + weigh w (states_of new.states (c, off)))
-    → Reweighs old new (place_of old c off)
+    → ReweighsStates old.states new.states (c, off) → Reweighs old new (place_of old c off)
 Reweighs-family old new c off family same lt sums w =
     let old_is : states_of old.states (c, off) ≡ family_of old (place_of old c off) = sym (family_at old c off family lt) in
     let new_is : family_of new (place_of old c off) ≡ states_of new.states (c, off) =

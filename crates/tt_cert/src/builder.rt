@@ -17,18 +17,16 @@ ghost use Rattle.tt_cert.specs.Spots.{spot_of};
 
 use crate::fault::BuildFault;
 use crate::spot::Spot;
+use crate::state_table::StateTable;
 use crate::states::States;
 use std::alloc::{AllocError, Global};
 use std::collections::BTreeMap;
 use std::marker::Model;
-use tt_abs::{Order, State};
+use tt_abs::State;
 use tt_code::Frame;
 
 /// At most so many contexts are kept, the empty one counted.
 const MOST_CONTEXTS: u32 = 65_535;
-
-/// At most so many states are kept.
-const MOST_STATES: usize = 4_294_967_295;
 
 /// A family of states that grows. A context is a list of calls that haven't returned; contexts have numbers in the order in
 /// which they were added, and the empty one is number 0. A point is a context and an offset.
@@ -39,7 +37,7 @@ pub struct Builder {
     /// The number of each context but the empty one, by parent, call, body, turn and count.
     index: BTreeMap<Key, u32>,
     /// The states by context and offset.
-    states: BTreeMap<(u32, u32), State>,
+    states: StateTable,
 }
 
 impl Model for Builder {
@@ -49,9 +47,9 @@ impl Model for Builder {
 
     ghost Value = { Contents };
 
-    ghost view = { λ b. record { contexts = frames_of b.entries.items; states = b.states.entries } };
+    ghost view = { λ b. record { contexts = frames_of b.entries.items; states = b.states } };
 
-    ghost invariant = { λ b. IsBuilt b.entries.items b.index b.states.entries };
+    ghost invariant = { λ b. IsBuilt b.entries.items b.index b.states };
 }
 
 /// The parent, call, body, turn and count of a context, by which contexts rise.
@@ -103,7 +101,7 @@ impl Builder {
         Builder {
             entries: Vec::new(alloc),
             index: BTreeMap::new(alloc),
-            states: BTreeMap::new(alloc),
+            states: StateTable::new(alloc),
         }
     }
 
@@ -120,7 +118,7 @@ impl Builder {
         ensures value { result ≡ points_of self.now }
         ensures family { IsFamily self.now }
     {
-        self.states.len() as u32
+        self.states.len()
     }
 
     /// A context's parent and last frame. The empty context has none, nor has a number under which there is no context.
@@ -219,7 +217,7 @@ impl Builder {
         ensures at { context < length self.now.contexts → family_of self.now (place_of self.now context offset) ≡ states_of self.now.states (context, offset) }
         ensures family { IsFamily self.now }
     {
-        self.states.get(&(context, offset))
+        self.states.get(context, offset)
     }
 
     /// The states with their contexts and offsets, by rising context, and by rising offset within one: each point that has a
@@ -230,46 +228,14 @@ impl Builder {
         ensures found { All (λ e. states_of self.now.states e.0 ≡ Some e.1) self.now.states }
         ensures family { IsFamily self.now }
     {
-        States {
-            entries: self.states.iter(),
-        }
+        self.states.iter()
     }
 
-    /// Puts a state at a point, by a join where there is one, and answers whether the state there is new or has changed.
+    /// Puts a state at a point, by a join where there is one and by a copy else, and answers whether the state there is new or
+    /// has changed.
     ///
     /// # Errors
     /// `DepthMismatch` exactly if a state of another depth stands there; `OutOfMemory`. Then the builder stays as it is.
-    pub fn put_state(&mut self, context: u32, offset: u32, state: State) -> Result<bool, BuildFault>
-        requires there { context < length self.old.contexts }
-        requires theirs { state_order.InRange state }
-        ensures put { IfOk result (λ changed. PutsAt state_order (family_of self.old) (family_of self.new) (place_of self.old context offset) state changed) }
-        ensures sums { IfOk result (λ _. Reweighs self.old self.new (place_of self.old context offset)) }
-        ensures depth { result ≡ Err BuildFault.DepthMismatch → (s : StateValue) × (family_of self.old (place_of self.old context offset) ≡ Some s) × (state_order.SameDepth s state → ⊥) }
-        ensures joined { IfOk result (λ _. (s : StateValue) → family_of self.old (place_of self.old context offset) ≡ Some s → state_order.SameDepth s state) }
-        ensures contexts { self.new.contexts ≡ self.old.contexts }
-        ensures few { result ≢ Err BuildFault.TooManyContexts }
-        ensures kept { OnErr result (self.new ≡ self.old) }
-        ensures family { IsFamily self.new }
-    {
-        if let Some(old) = self.states.get_mut(&(context, offset)) {
-            let Ok(changed) = old.join(&state) else {
-                return Err(BuildFault::DepthMismatch);
-            };
-            return Ok(changed);
-        }
-        if self.states.len() >= MOST_STATES {
-            return Err(BuildFault::OutOfMemory);
-        }
-        if let Err(_) = self.states.insert((context, offset), state) {
-            return Err(BuildFault::OutOfMemory);
-        }
-        Ok(true)
-    }
-
-    /// Puts a copy of a state at a point, as `put_state` does.
-    ///
-    /// # Errors
-    /// As `put_state`.
     pub fn join_state(
         &mut self,
         context: u32,
@@ -287,11 +253,7 @@ impl Builder {
         ensures kept { OnErr result (self.new ≡ self.old) }
         ensures family { IsFamily self.new }
     {
-        let _family = self.points();
-        let Ok(copy) = state.copied() else {
-            return Err(BuildFault::OutOfMemory);
-        };
-        self.put_state(context, offset, copy)
+        self.states.join(context, offset, state)
     }
 
     /// Takes all states and all contexts but the empty one away, and keeps the memory.
@@ -300,7 +262,9 @@ impl Builder {
         ensures states { self.new.states ≡ [] }
         ensures family { IsFamily self.new }
     {
-        *self = Builder::new(self.allocator());
+        self.entries.clear();
+        self.index.clear();
+        self.states.clear();
     }
 
     /// Do the contexts rise?

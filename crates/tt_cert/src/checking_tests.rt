@@ -66,7 +66,7 @@ fn put(builder: &mut Builder, context: u32, offset: u32, state: State) -> Option
     if context >= builder.contexts() {
         return None;
     }
-    match builder.put_state(context, offset, state) {
+    match builder.join_state(context, offset, &state) {
         Ok(_) => Some(()),
         Err(_) => None,
     }

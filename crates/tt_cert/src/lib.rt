@@ -9,6 +9,7 @@ mod checking_tests;
 pub mod fault;
 mod finishing;
 pub mod spot;
+mod state_table;
 pub mod states;
 
 pub use builder::Builder;

@@ -9,16 +9,22 @@ use tt_abs::State;
 /// The states that are still to come, with their contexts and offsets.
 #[derive(Drop)]
 pub struct States<'a> {
-    pub(crate) entries: Iter<'a, (u32, u32), State>,
+    /// The slots of the points that are still to come.
+    pub(crate) places: Iter<'a, (u32, u32), u32>,
+    /// The states in the slots.
+    pub(crate) slots: &'a [State],
 }
 
 impl<'a> Model for States<'a> {
     ghost use Rattle.std.specs.Prelude.{List, ℕ};
     ghost use Rattle.tt_abs.specs.declared.state.State.{State as StateValue};
+    ghost use Rattle.tt_cert.specs.Tables.{AreSlots, table_of};
 
     ghost Value = { List ((ℕ × ℕ) × StateValue) };
 
-    ghost view = { λ s. s.entries };
+    ghost view = { λ s. table_of s.slots.now s.places };
+
+    ghost invariant = { λ s. AreSlots s.slots.now s.places };
 }
 
 impl<'a> States<'a> {
@@ -27,9 +33,7 @@ impl<'a> States<'a> {
         ensures none { result ≡ None → self.old ≡ [] }
         ensures some { IfSome result (λ e. self.old ≡ ((e.0, e.1), e.2.now) ∷ self.new) }
     {
-        match self.entries.next() {
-            Some((place, state)) => Some((place.0, place.1, state)),
-            None => None,
-        }
+        let (place, number) = self.places.next()?;
+        Some((place.0, place.1, &self.slots[*number as usize]))
     }
 }

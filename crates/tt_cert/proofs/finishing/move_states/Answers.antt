@@ -9,48 +9,46 @@ use Rattle.tt_cert.proofs.finishing.move_states.Goals as goal
 
 pub bounds-numbers-context : goal.bounds-numbers-context
 bounds-numbers-context c =
-    next_context c.args.old.now c.loop-place.new c.args.new.now.contexts c.args.numbers.now _ _ (c.in-Some.place.now, c.in-Some.state.now) c.states-place-items.ensures.family
-    c.requires.moved c.loop-place.invariant.same c.in-Some.ensures.steps c.states-place-items.ensures.found
+    next_context c.args.old.now c.loop-context.new c.args.new.now.contexts c.args.numbers.now _ _ ((c.in-Some.context, c.in-Some.offset), c.in-Some.state.now) c.states-states.ensures.family
+    c.requires.moved c.loop-context.invariant.same c.in-Some.ensures.some c.states-states.ensures.found
 
 pub join_state-requires-clause-there : goal.join_state-requires-clause-there
 join_state-requires-clause-there c =
-    let within = next_context c.args.old.now c.loop-place.new c.args.new.now.contexts c.args.numbers.now _ _ (c.in-Some.place.now, c.in-Some.state.now) c.states-place-items.ensures.family
-    c.requires.moved c.loop-place.invariant.same c.in-Some.ensures.steps c.states-place-items.ensures.found in
-    moved_there c.args.old.now.contexts c.args.new.now.contexts c.loop-place.new.contexts c.args.numbers.now c.in-Some.place.now.0 0 c.requires.moved c.loop-place.invariant.contexts within
+    let within = next_context c.args.old.now c.loop-context.new c.args.new.now.contexts c.args.numbers.now _ _ ((c.in-Some.context, c.in-Some.offset), c.in-Some.state.now) c.states-states.ensures.family
+    c.requires.moved c.loop-context.invariant.same c.in-Some.ensures.some c.states-states.ensures.found in
+    moved_there c.args.old.now.contexts c.args.new.now.contexts c.loop-context.new.contexts c.args.numbers.now c.in-Some.context 0 c.requires.moved c.loop-context.invariant.contexts within
 
 pub join_state-requires-clause-theirs : goal.join_state-requires-clause-theirs
 join_state-requires-clause-theirs c =
-    next_range c.args.old.now c.loop-place.new _ _ (c.in-Some.place.now, c.in-Some.state.now) c.states-place-items.ensures.family
-    c.loop-place.invariant.same c.in-Some.ensures.steps c.states-place-items.ensures.found
+    next_range c.args.old.now c.loop-context.new _ _ ((c.in-Some.context, c.in-Some.offset), c.in-Some.state.now) c.states-states.ensures.family
+    c.loop-context.invariant.same c.in-Some.ensures.some c.states-states.ensures.found
 
 pub returns-in_err-join_state-clause-memory : goal.returns-in_err-join_state-clause-memory
 returns-in_err-join_state-clause-memory c =
-    let within = next_context c.args.old.now c.loop-place.new c.args.new.now.contexts c.args.numbers.now _ _ (c.in-Some.place.now, c.in-Some.state.now) c.states-place-items.ensures.family
-    c.requires.moved c.loop-place.invariant.same c.in-Some.ensures.steps c.states-place-items.ensures.found in
+    let within = next_context c.args.old.now c.loop-context.new c.args.new.now.contexts c.args.numbers.now _ _ ((c.in-Some.context, c.in-Some.offset), c.in-Some.state.now) c.states-states.ensures.family
+    c.requires.moved c.loop-context.invariant.same c.in-Some.ensures.some c.states-states.ensures.found in
     let M : List (List Frame) → Type 0 = λ x. AreMoved c.args.old.now.contexts x c.args.numbers.now in
-    let free = next_free c.args.old.now c.loop-place.new c.args.numbers.now c.in-Some.place.now c.in-Some.state.now _ c.states-place-items.ensures.family
-    (subst M (sym c.loop-place.invariant.contexts) c.requires.moved) c.states-place-items.ensures.found c.states-place-items.ensures.rises
-    (slice_get-get_or c.args.numbers.now c.in-Some.place.now.0 0 within) _ _ c.loop-place.invariant.same c.in-Some.ensures.steps in
+    let free = next_free c.args.old.now c.loop-context.new c.args.numbers.now (c.in-Some.context, c.in-Some.offset) c.in-Some.state.now _ c.states-states.ensures.family
+    (subst M (sym c.loop-context.invariant.contexts) c.requires.moved) c.states-states.ensures.found c.states-states.ensures.rises
+    (slice_get-get_or c.args.numbers.now c.in-Some.context 0 within) _ _ c.loop-context.invariant.same c.in-Some.ensures.some in
     memory_only c.join_state.result c.from_residual.result c.in_err-join_state.field-0.0 c.in_err-join_state.was c.join_state.ensures.few
     (λ deep. let (s, at, _) = c.join_state.ensures.depth deep in none_there _ s free at) c.from_residual.ensures.1
 
-pub loop-place-preserved : goal.loop-place-preserved
-loop-place-preserved c =
-    let within = next_context c.args.old.now c.loop-place.new c.args.new.now.contexts c.args.numbers.now _ _ (c.in-Some.place.now, c.in-Some.state.now) c.states-place-items.ensures.family
-    c.requires.moved c.loop-place.invariant.same c.in-Some.ensures.steps c.states-place-items.ensures.found in
-    let known = slice_get-get_or c.args.numbers.now c.in-Some.place.now.0 0 within in
+pub loop-context-preserved : goal.loop-context-preserved
+loop-context-preserved c =
+    let within = next_context c.args.old.now c.loop-context.new c.args.new.now.contexts c.args.numbers.now _ _ ((c.in-Some.context, c.in-Some.offset), c.in-Some.state.now) c.states-states.ensures.family
+    c.requires.moved c.loop-context.invariant.same c.in-Some.ensures.some c.states-states.ensures.found in
+    let known = slice_get-get_or c.args.numbers.now c.in-Some.context 0 within in
     let M : List (List Frame) → Type 0 = λ x. AreMoved c.args.old.now.contexts x c.args.numbers.now in
-    let moved = subst M (sym c.loop-place.invariant.contexts) c.requires.moved in
-    let free = next_free c.args.old.now c.loop-place.new c.args.numbers.now c.in-Some.place.now c.in-Some.state.now _ c.states-place-items.ensures.family
-    moved c.states-place-items.ensures.found c.states-place-items.ensures.rises known _ _ c.loop-place.invariant.same c.in-Some.ensures.steps in
+    let moved = subst M (sym c.loop-context.invariant.contexts) c.requires.moved in
+    let free = next_free c.args.old.now c.loop-context.new c.args.numbers.now (c.in-Some.context, c.in-Some.offset) c.in-Some.state.now _ c.states-states.ensures.family
+    moved c.states-states.ensures.found c.states-states.ensures.rises known _ _ c.loop-context.invariant.same c.in-Some.ensures.some in
     record {
-      can_next = tt;
-      is_finite = tt;
       family = c.in_ok-join_state.ensures.family;
-      contexts = c.in_ok-join_state.ensures.contexts ∙ c.loop-place.invariant.contexts;
-      same = HasSoFar-step c.args.old.now c.loop-place.new c.join_state.new.self c.args.numbers.now c.in-Some.place.now c.in-Some.state.now _
-          c.in_ok-join_state.field-0 c.states-place-items.ensures.family moved c.states-place-items.ensures.found known
-          c.in_ok-join_state.ensures.put _ _ c.loop-place.invariant.same c.in-Some.ensures.steps;
-      points = amount_step c.args.old.now c.loop-place.new c.join_state.new.self _ c.in-Some.state.now c.in_ok-join_state.field-0 free
-          c.in_ok-join_state.ensures.put c.in_ok-join_state.ensures.sums _ _ (c.in-Some.place.now, c.in-Some.state.now) c.in-Some.ensures.steps c.loop-place.invariant.points;
+      contexts = c.in_ok-join_state.ensures.contexts ∙ c.loop-context.invariant.contexts;
+      same = HasSoFar-step c.args.old.now c.loop-context.new c.join_state.new.self c.args.numbers.now (c.in-Some.context, c.in-Some.offset) c.in-Some.state.now _
+          c.in_ok-join_state.field-0 c.states-states.ensures.family moved c.states-states.ensures.found known
+          c.in_ok-join_state.ensures.put _ _ c.loop-context.invariant.same c.in-Some.ensures.some;
+      points = amount_step c.args.old.now c.loop-context.new c.join_state.new.self _ c.in-Some.state.now c.in_ok-join_state.field-0 free
+          c.in_ok-join_state.ensures.put c.in_ok-join_state.ensures.sums _ _ ((c.in-Some.context, c.in-Some.offset), c.in-Some.state.now) c.in-Some.ensures.some c.loop-context.invariant.points;
     }

@@ -14,12 +14,12 @@ loop-at-init c = record {
 
 pub loop-at-smaller : goal.loop-at-smaller
 loop-at-smaller c =
-    (context_some _ _ _ (record { contexts = frames_of c.self.inside.entries.items; states = c.self.inside.states.entries }) refl c.self.invariant c.self.inside.entries.items refl c.loop-at.at
+    (context_some _ _ _ (record { contexts = frames_of c.self.inside.entries.items; states = c.self.inside.states }) refl c.self.invariant c.self.inside.entries.items refl c.loop-at.at
     (omega arith) c.index-entry.result.now c.index-entry.ensures (let w = c.loop-at.invariant.within in omega arith)).1
 
 pub loop-at-preserved : goal.loop-at-preserved
 loop-at-preserved c =
-    let step = context_some _ _ _ (record { contexts = frames_of c.self.inside.entries.items; states = c.self.inside.states.entries }) refl c.self.invariant c.self.inside.entries.items refl c.loop-at.at
+    let step = context_some _ _ _ (record { contexts = frames_of c.self.inside.entries.items; states = c.self.inside.states }) refl c.self.invariant c.self.inside.entries.items refl c.loop-at.at
     (omega arith) c.index-entry.result.now c.index-entry.ensures (let w = c.loop-at.invariant.within in omega arith) in
     let less = step.1 in
     let w = c.loop-at.invariant.within in

@@ -1,0 +1,166 @@
+//! States by context and offset, in slots that are used again.
+
+ghost use Rattle.std.specs.Prelude.{◌≡◌, ◌≢◌, ℕ, ◌≤◌, true, None, Some, [], Err, IfOk, IfErr, OnErr, OnOk, length, slice_get};
+ghost use Rattle.std.specs.Option.{option_copied};
+ghost use Rattle.std.specs.List.{All};
+ghost use Rattle.std.specs.List.Sorted.{IsStrictlySortedBy};
+ghost use Rattle.std.specs.Map.{keys_of};
+ghost use Rattle.tt_abs.specs.declared.state.State.{State as StateValue};
+ghost use Rattle.tt_abs.specs.States.{state_order};
+ghost use Rattle.tt_cert.specs.Places.{PutsAt, place_cmp, states_of};
+ghost use Rattle.tt_cert.specs.Puts.{ReweighsStates};
+ghost use Rattle.tt_cert.specs.Tables.{AgreesBelow};
+
+use crate::fault::BuildFault;
+use crate::states::States;
+use std::alloc::{AllocError, Global};
+use std::collections::BTreeMap;
+use std::marker::Model;
+use tt_abs::{Order, State};
+
+/// At most so many states are kept.
+const MOST_STATES: usize = 4_294_967_295;
+
+/// States by context and offset, in slots that are used again.
+#[derive(Drop)]
+pub(crate) struct StateTable {
+    /// The slot of each point. The points have the first slots, one each.
+    places: BTreeMap<(u32, u32), u32>,
+    /// The states in the slots. What lies behind the slots of the points is kept for its memory alone.
+    slots: Vec<State>,
+}
+
+impl Model for StateTable {
+    ghost use Rattle.std.specs.Prelude.{List, ℕ};
+    ghost use Rattle.tt_abs.specs.declared.state.State.{State as StateValue};
+    ghost use Rattle.tt_cert.specs.Tables.{IsTable, table_of};
+
+    ghost Value = { List ((ℕ × ℕ) × StateValue) };
+
+    ghost view = { λ t. table_of t.slots.items t.places.entries };
+
+    ghost invariant = { λ t. IsTable t.slots.items t.places.entries };
+}
+
+/// Makes a slot that is there, or the next one, hold a copy of a state.
+///
+/// # Errors
+/// If memory runs out; then the slot says nothing.
+fn fill(slots: &mut Vec<State>, number: usize, state: &State) -> Result<(), AllocError>
+    requires { number ≤ length slots.old.items }
+    ensures filled { OnOk result (slice_get slots.new.items number ≡ Some state.now) }
+    ensures below { AgreesBelow number slots.old.items slots.new.items }
+    ensures long { length slots.old.items ≤ length slots.new.items }
+{
+    if number < slots.len() {
+        let slot = &mut slots[number];
+        return slot.copy_from(state);
+    }
+    let copy = state.copied()?;
+    slots.push(copy)?;
+    Ok(())
+}
+
+impl StateTable {
+    /// No state.
+    pub(crate) fn new(alloc: Global) -> Self
+        ensures { result ≡ [] }
+    {
+        StateTable {
+            places: BTreeMap::new(alloc),
+            slots: Vec::new(alloc),
+        }
+    }
+
+    /// How many states there are.
+    pub(crate) fn len(&self) -> u32
+        ensures { result ≡ length self.now }
+    {
+        self.places.len() as u32
+    }
+
+    /// The state at a point.
+    pub(crate) fn get(&self, context: u32, offset: u32) -> Option<&State>
+        ensures { option_copied result ≡ states_of self.now (context, offset) }
+    {
+        match self.places.get(&(context, offset)) {
+            Some(number) => Some(&self.slots[*number as usize]),
+            None => None,
+        }
+    }
+
+    /// The states with their contexts and offsets, by rising context, and by rising offset within one.
+    pub(crate) fn iter(&self) -> States<'_>
+        ensures rest { result ≡ self.now }
+        ensures rises { IsStrictlySortedBy place_cmp (keys_of self.now) }
+        ensures found { All (λ e. states_of self.now e.0 ≡ Some e.1) self.now }
+    {
+        States {
+            places: self.places.iter(),
+            slots: self.slots.as_slice(),
+        }
+    }
+
+    /// Puts a state at a point, by a join where there is one, and answers whether the state there is new or has changed.
+    ///
+    /// # Errors
+    /// `DepthMismatch` exactly if a state of another depth stands there; `OutOfMemory`. Then the states stay as they are.
+    pub(crate) fn join(
+        &mut self,
+        context: u32,
+        offset: u32,
+        state: &State,
+    ) -> Result<bool, BuildFault>
+        requires mine { (s : StateValue) → states_of self.old (context, offset) ≡ Some s → state_order.InRange s }
+        requires theirs { state_order.InRange state.now }
+        ensures put { IfOk result (λ changed. PutsAt state_order (states_of self.old) (states_of self.new) (context, offset) state.now changed) }
+        ensures sums { IfOk result (λ _. ReweighsStates self.old self.new (context, offset)) }
+        ensures depth { result ≡ Err BuildFault.DepthMismatch → (s : StateValue) × (states_of self.old (context, offset) ≡ Some s) × (state_order.SameDepth s state.now → ⊥) }
+        ensures joined { IfOk result (λ _. (s : StateValue) → states_of self.old (context, offset) ≡ Some s → state_order.SameDepth s state.now) }
+        ensures few { result ≢ Err BuildFault.TooManyContexts }
+        ensures kept { OnErr result (self.new ≡ self.old) }
+        ensures fits { OnOk result (length self.new ≤ 4294967295) }
+    {
+        if let Some(number) = self.places.get(&(context, offset)) {
+            let slot = &mut self.slots[*number as usize];
+            let Ok(changed) = slot.join(state) else {
+                return Err(BuildFault::DepthMismatch);
+            };
+            return Ok(changed);
+        }
+        self.add(context, offset, state)?;
+        Ok(true)
+    }
+
+    /// Puts a copy of a state at a point that has none.
+    ///
+    /// # Errors
+    /// `OutOfMemory`; then the states stay as they are.
+    fn add(&mut self, context: u32, offset: u32, state: &State) -> Result<(), BuildFault>
+        requires { states_of self.old (context, offset) ≡ None }
+        ensures put { OnOk result (PutsAt state_order (states_of self.old) (states_of self.new) (context, offset) state.now true) }
+        ensures sums { OnOk result (ReweighsStates self.old self.new (context, offset)) }
+        ensures memory { IfErr result (λ fault. fault ≡ BuildFault.OutOfMemory) }
+        ensures kept { OnErr result (self.new ≡ self.old) }
+        ensures fits { OnOk result (length self.new ≤ 4294967295) }
+    {
+        let number = self.places.len();
+        if number >= MOST_STATES {
+            return Err(BuildFault::OutOfMemory);
+        }
+        if let Err(_) = fill(&mut self.slots, number, state) {
+            return Err(BuildFault::OutOfMemory);
+        }
+        if let Err(_) = self.places.insert((context, offset), number as u32) {
+            return Err(BuildFault::OutOfMemory);
+        }
+        Ok(())
+    }
+
+    /// Takes all states away, and keeps their memory.
+    pub(crate) fn clear(&mut self)
+        ensures { self.new ≡ [] }
+    {
+        self.places.clear();
+    }
+}
