@@ -3,18 +3,10 @@ use Rattle.std.specs.Prelude.{◌≡◌, ℕ, ◌+◌, ◌<◌, ◌≤◌, ◌^�
 use Rattle.std.proofs.Common.{refl, sym, ◌∙◌, arith}
 use Rattle.tt_abs.specs.declared.state.State.{State}
 use Rattle.tt_abs.specs.StateFlow.{Place}
-use Rattle.tt_cert.specs.Contents.{Contents, HasContext, IsFamily, family_of, frames_at, number_of}
+use Rattle.tt_cert.specs.Contents.{Contents, IsFamily, family_of, frames_at, number_of}
 use Rattle.tt_cert.specs.Numbers.{number_of-is}
 use Rattle.tt_cert.specs.Places.{states_of}
 use Rattle.tt_cert.specs.Checks.{AreToldBefore}
-
--- where no context has the frames there is no state
-pub no_state : (v : Contents) (p : Place) → IsFamily v → (HasContext v.contexts p.0 → ⊥) → family_of v p ≡ None
-no_state v p family absent = go (family_of v p) refl
-  where
-    go : (x : Option State) → family_of v p ≡ x → family_of v p ≡ None
-    go None e = e
-    go (Some u) e = absurd (absent (family.held (number_of v.contexts p.0) p.1 u e))
 
 -- a context's state is the family's
 pub state_there : (v : Contents) (p : Place) (n o : ℕ) → IsFamily v → n < length v.contexts → frames_at v.contexts n ≡ p.0 → o ≡ p.1

@@ -1,8 +1,9 @@
 -- The walk over all states of a family.
-use Rattle.std.specs.Prelude.{◌≡◌, ℕ, ◌<◌, ◌^◌, true, false, cond, Some, List, [], ◌∷◌, ◌++◌, length, slice_get, zero, suc}
+use Rattle.std.specs.Prelude.{◌≡◌, ℕ, ◌<◌, ◌^◌, true, false, cond, Option, Some, None, IfSome, List, [], ◌∷◌, ◌++◌, length, slice_get, zero, suc}
 use Rattle.std.specs.List.{AllByRecursion}
 use Rattle.std.specs.List.Sorted.{IsStrictlySortedBy}
 use Rattle.std.specs.Map.{keys_of}
+use Rattle.std.specs.Borrow.{Bor}
 use Rattle.std.specs.BTreeMap.{is_at}
 use Rattle.std.specs.declared.cmp.Ordering.TheVariants.{Less, Equal, Greater}
 use Rattle.std.specs.Cmp.{nat_cmp_is}
@@ -18,7 +19,7 @@ use Rattle.tt_cert.specs.Contents.{Contents, IsFamily, family_of, frames_at, num
 use Rattle.tt_cert.specs.Numbers.{at-number_of}
 use Rattle.tt_cert.specs.Places.{place_cmp, states_of}
 use Rattle.tt_cert.specs.Puts.{number_at}
-use Rattle.tt_cert.specs.Checks.{AreSound, AreToldBefore, BreaksAt, IsBefore, IsFirstBreak, IsSoundAt, Names}
+use Rattle.tt_cert.specs.Checks.{AreSound, AreToldBefore, BreaksAt, IsBefore, IsEntry, IsFirstBreak, IsSoundAt, Names}
 use Rattle.tt_cert.specs.declared.checking.CheckFault.{CheckFault}
 use Rattle.tt_cert.specs.declared.checking.CheckFault.TheVariants.{Refused, OutOfMemory}
 use Rattle.tt_cert.proofs.Puts.{cases_place, places_apart}
@@ -88,6 +89,21 @@ IsSoundEntry s v e = IsSoundAt s (family_of v) (frames_at v.contexts e.0.0, e.0.
 abbrev pub IsCheckedEntry : Setting → Contents → Entry → Type 0
 IsCheckedEntry s v e = IsSoundEntry s v e × (e.0.1 < 2 ^ 32)
 
+-- what is still to come where one entry was read ahead
+abbrev pub to_come : Option (ℕ × ℕ × Bor State) → List Entry → List Entry
+to_come None entries = []
+to_come (Some e) entries = ((e.0, e.1), e.2.now) ∷ entries
+
+pub taken : (next : Option (ℕ × ℕ × Bor State)) (entries entries' : List Entry) → (next ≡ None → entries ≡ [])
+    → IfSome next (λ (e : ℕ × ℕ × Bor State). entries ≡ ((e.0, e.1), e.2.now) ∷ entries') → entries ≡ to_come next entries'
+taken None entries entries' none some = none refl
+taken (Some e) entries entries' none some = some
+
+-- where none was read ahead none is to come
+pub ended : (next : Option (ℕ × ℕ × Bor State)) (entries : List Entry) → ((e : ℕ × ℕ × Bor State) → next ≡ Some e → ⊥) → to_come next entries ≡ []
+ended None entries none = refl
+ended (Some e) entries none = absurd (none e refl)
+
 -- the entries that came before the rest are checked
 abbrev pub IsCheckedSoFar : Setting → Contents → List Entry → Type 0
 IsCheckedSoFar s v rest = (done : List Entry) × (v.states ≡ done ++ rest) × ((i : ℕ) (e : Entry) → i < length done → slice_get v.states i ≡ Some e → IsCheckedEntry s v e)
@@ -112,6 +128,19 @@ module _ (s : Setting) (v : Contents) where
               subst E same here
         ],
       )
+
+  -- the entry that is read first is one of the family, and so is the one behind an entry
+  pub read_first : (next : Option (ℕ × ℕ × Bor State)) (entries' : List Entry) → v.states ≡ to_come next entries' → IsFoundAll v → IsEntry v next
+  read_first None entries' whole all = tt
+  read_first (Some e) entries' whole all = entry_found v [] entries' ((e.0, e.1), e.2.now) whole all
+
+  pub read_behind : (rest entries entries' : List Entry) (x : Entry) (next : Option (ℕ × ℕ × Bor State)) → IsCheckedSoFar s v rest → rest ≡ x ∷ entries → entries ≡ to_come next entries'
+      → IsFoundAll v → IsEntry v next
+  read_behind rest entries entries' x None so_far rest_is entries_are all = tt
+  read_behind rest entries entries' x (Some e) (done, split, checked) rest_is entries_are all =
+      let y : Entry = ((e.0, e.1), e.2.now) in
+      let whole : v.states ≡ done ++ x ∷ y ∷ entries' = split ∙ ap (λ l. done ++ l) (rest_is ∙ ap (λ l. x ∷ l) entries_are) in
+      entry_found v (done ++ x ∷ []) entries' y (whole ∙ sym (append_assoc done (x ∷ []) (y ∷ entries'))) all
 
   module _ (family : IsFamily v) where
     -- a found state is sound at its place where its entry is

@@ -1,6 +1,7 @@
 -- What a check asks of a family beside goodness, and what it names where the family isn't good.
-use Rattle.std.specs.Prelude.{◌≡◌, ℕ, ◌<◌, ◌^◌, min, false, Ok, Option, Some, None, List, [], ◌∷◌, length, reverse, slice_get}
+use Rattle.std.specs.Prelude.{◌≡◌, ℕ, ◌<◌, ◌^◌, min, false, Ok, Option, Some, None, IfSome, List, [], ◌∷◌, length, reverse, slice_get}
 use Rattle.std.specs.declared.cmp.Ordering.TheVariants.{Less}
+use Rattle.std.specs.Borrow.{Bor}
 use Rattle.tt_code.specs.Cut.{size}
 use Rattle.tt_code.specs.Settings.{Setting, is_main_end}
 use Rattle.tt_code.specs.declared.machine.Frame.{Frame}
@@ -17,7 +18,7 @@ use Rattle.tt_cert.specs.Places.{place_cmp, states_of}
 use Rattle.tt_cert.specs.Spots.{spot_of}
 use Rattle.tt_cert.specs.declared.checking.CheckFault.{CheckFault}
 use Rattle.tt_cert.specs.declared.checking.CheckFault.TheVariants.{Refused, OutOfMemory}
-use Rattle.tt_cert.specs.declared.checking.Calls.{Calls}
+use Rattle.tt_cert.specs.declared.checking.Walk.{Walk}
 use Rattle.tt_cert.specs.declared.checking.Landing.{Landing}
 use Rattle.tt_cert.specs.declared.checking.Landing.TheVariants.{In, Nowhere}
 
@@ -90,10 +91,15 @@ pub data BreaksAt (s : Setting) (family : Place → Option State) (p : Place) (a
   refused : (r : Reason) → IsStoredWithin s a → RefusesState s p a r → BreaksAt s family p a p r
   leaves : (q : Place) (r : Reason) → IsStoredWithin s a → LeavesGap s family p a q r → BreaksAt s family p a q r
 
--- the calls are those of their context
-pub record AreCalls (contents : Contents) (calls : Calls) : Type 0 where
-  pub there : calls.context < length contents.contexts
-  pub frames : calls.frames.items ≡ reverse (frames_at contents.contexts calls.context)
+-- the state, if it is one, stands at its context and offset
+abbrev pub IsEntry : Contents → Option (ℕ × ℕ × Bor State) → Type 0
+IsEntry contents entry = IfSome entry (λ (e : ℕ × ℕ × Bor State). states_of contents.states (e.0, e.1) ≡ Some e.2.now)
+
+-- the walk's calls are those of its context, and what comes next is a state of the family
+pub record IsWalk (contents : Contents) (walk : Walk) : Type 0 where
+  pub there : walk.context < length contents.contexts
+  pub frames : walk.frames.items ≡ reverse (frames_at contents.contexts walk.context)
+  pub next : IsEntry contents walk.next
 
 -- the innermost call has one more turn
 abbrev pub HasNextTurn : List Frame → Type 0

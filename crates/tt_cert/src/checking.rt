@@ -1,6 +1,6 @@
 //! The check of a certificate: whether its family is good for a program.
 
-ghost use Rattle.std.specs.Prelude.{◌≡◌, ◌↔◌, ◌+◌, ◌^◌, ◌<◌, [], ◌∷◌, Ok, Err, IfOk, IfErr, IsTrue, length};
+ghost use Rattle.std.specs.Prelude.{◌≡◌, ◌↔◌, ◌+◌, ◌^◌, ◌<◌, [], ◌∷◌, None, Some, Ok, Err, IfOk, IfErr, IfSome, IsTrue, length};
 ghost use Rattle.std.specs.List.{All};
 ghost use Rattle.tt_code.specs.Settings.{body_offset as offset_of_body};
 ghost use Rattle.tt_abs.specs.Moves.{IsRefusedFor, frames_behind, nexts_of, offset_behind};
@@ -10,7 +10,7 @@ ghost use Rattle.tt_abs.specs.Settings.{frames_of, setting_of};
 ghost use Rattle.tt_abs.specs.Soundness.{IsSafe};
 ghost use Rattle.tt_abs.specs.States.{abstract_of, start_of, state_order};
 ghost use Rattle.tt_abs.specs.Transfers.{outcome_on_cells};
-ghost use Rattle.tt_cert.specs.Checks.{AreCalls, AreCovered, AreSound, AreToldBefore, BreaksAt, HasNextTurn, IsBrokenFirst, IsFirstBreak, IsFirstGap, IsGap, IsLanding, IsSoundAt, IsWantOfMemory, Names, NamesAt, told_offset};
+ghost use Rattle.tt_cert.specs.Checks.{AreCovered, AreSound, AreToldBefore, BreaksAt, HasNextTurn, IsBrokenFirst, IsEntry, IsFirstBreak, IsFirstGap, IsGap, IsLanding, IsSoundAt, IsWalk, IsWantOfMemory, Names, NamesAt, told_offset};
 ghost use Rattle.tt_cert.specs.Spots.{spot_of};
 ghost use Rattle.tt_cert.specs.Contents.{family_of, frames_at};
 ghost use Rattle.tt_cert.specs.GoodFamilies.{EndsWell, HasEnd, IsGoodFamily, IsShortEnough};
@@ -49,11 +49,13 @@ impl From<AllocError> for CheckFault {
     }
 }
 
-/// The calls of a context, the outermost first.
+/// Where a walk through the states stands: a context and its calls, the outermost first, and the state that comes next, with its
+/// context and offset.
 #[derive(Drop)]
-struct Calls {
+struct Walk<'a> {
     context: u32,
     frames: Vec<Frame>,
+    next: Option<(u32, u32, &'a State)>,
 }
 
 /// Where a move leads.
@@ -159,18 +161,41 @@ fn fault_in(certificate: &Certificate, context: u32, offset: u32, reason: Reason
     }
 }
 
+/// The family's state at an offset of a context. Mostly it is the one that comes next in the walk, which needs no look-up.
+fn state_at<'a>(
+    certificate: &'a Certificate,
+    next: Option<(u32, u32, &'a State)>,
+    context: u32,
+    offset: u32,
+) -> Option<&'a State>
+    requires there { context < length certificate.now.contexts }
+    requires next { IsEntry certificate.now next }
+    ensures none { result ≡ None → family_of certificate.now (frames_at certificate.now.contexts context, offset) ≡ None }
+    ensures some { IfSome result (λ state. family_of certificate.now (frames_at certificate.now.contexts context, offset) ≡ Some state.now) }
+{
+    certificate.contexts();
+    if let Some((next_context, next_offset, state)) = next {
+        if next_context == context && next_offset == offset {
+            return Some(state);
+        }
+    }
+    certificate.state(context, offset)
+}
+
 /// Does the family's state at an offset of a context cover this one?
 fn check_covered(
     certificate: &Certificate,
+    next: Option<(u32, u32, &State)>,
     context: u32,
     offset: u32,
     state: &State,
 ) -> Result<(), CheckFault>
-    requires { context < length certificate.now.contexts }
+    requires there { context < length certificate.now.contexts }
+    requires next { IsEntry certificate.now next }
     ensures covered { IfOk result (λ _. CoversAt state_order (family_of certificate.now) (frames_at certificate.now.contexts context, offset) state.now) }
     ensures gap { IfErr result (NamesAt (frames_at certificate.now.contexts context, offset) (IsGap (family_of certificate.now) (frames_at certificate.now.contexts context, offset) state.now)) }
 {
-    match certificate.state(context, offset) {
+    match state_at(certificate, next, context, offset) {
         None => Err(fault_in(certificate, context, offset, Reason::MissingPoint)),
         Some(above) => {
             if state.below(above) {
@@ -182,21 +207,27 @@ fn check_covered(
     }
 }
 
-/// Is the place to which a move leads from a context covered?
+/// Is the place to which a move leads from the walk's context covered?
 fn check_way(
     certificate: &Certificate,
-    context: u32,
+    walk: &Walk<'_>,
     way: Move,
     state: &State,
 ) -> Result<(), CheckFault>
-    requires there { context < length certificate.now.contexts }
-    requires told { AreToldBefore certificate.now context }
-    requires turn { way ≡ Move.NextTurn → HasNextTurn (frames_at certificate.now.contexts context) }
-    ensures covered { IfOk result (λ _. CoversAt state_order (family_of certificate.now) (frames_behind (frames_at certificate.now.contexts context) way, offset_behind (frames_at certificate.now.contexts context) way) state.now) }
-    ensures gap { IfErr result (NamesAt (frames_behind (frames_at certificate.now.contexts context) way, offset_behind (frames_at certificate.now.contexts context) way) (IsGap (family_of certificate.now) (frames_behind (frames_at certificate.now.contexts context) way, offset_behind (frames_at certificate.now.contexts context) way) state.now)) }
+    requires walk { IsWalk certificate.now walk.now }
+    requires told { AreToldBefore certificate.now walk.now.context }
+    requires turn { way ≡ Move.NextTurn → HasNextTurn (frames_at certificate.now.contexts walk.now.context) }
+    ensures covered { IfOk result (λ _. CoversAt state_order (family_of certificate.now) (frames_behind (frames_at certificate.now.contexts walk.now.context) way, offset_behind (frames_at certificate.now.contexts walk.now.context) way) state.now) }
+    ensures gap { IfErr result (NamesAt (frames_behind (frames_at certificate.now.contexts walk.now.context) way, offset_behind (frames_at certificate.now.contexts walk.now.context) way) (IsGap (family_of certificate.now) (frames_behind (frames_at certificate.now.contexts walk.now.context) way, offset_behind (frames_at certificate.now.contexts walk.now.context) way) state.now)) }
 {
-    match place_behind(certificate, context, way) {
-        Landing::In { context, offset } => check_covered(certificate, context, offset, state),
+    match place_behind(certificate, walk.context, way) {
+        Landing::In { context, offset } => check_covered(
+            certificate,
+            walk.next,
+            context,
+            offset,
+            state,
+        ),
         Landing::Nowhere { spot, offset } => Err(CheckFault::Refused {
             spot,
             offset,
@@ -224,71 +255,72 @@ fn stepped(setting: &Setting<'_>, point: &Point<'_>, state: &mut State) -> Resul
     step(setting, point, state)
 }
 
-/// Are the places to which moves lead from a context covered, by the same state?
+/// Are the places to which moves lead from the walk's context covered, by the same state?
 fn check_moves(
     certificate: &Certificate,
-    context: u32,
+    walk: &Walk<'_>,
     moves: Moves,
     state: &State,
 ) -> Result<(), CheckFault>
-    requires there { context < length certificate.now.contexts }
-    requires told { AreToldBefore certificate.now context }
-    requires turn { moves ≡ Moves.One Move.NextTurn → HasNextTurn (frames_at certificate.now.contexts context) }
-    ensures covered { IfOk result (λ _. AreCovered (family_of certificate.now) (nexts_of (frames_at certificate.now.contexts context) moves (abstract_of state.now)) state.now) }
-    ensures gap { IfErr result (Names (IsFirstGap (family_of certificate.now) (nexts_of (frames_at certificate.now.contexts context) moves (abstract_of state.now)) state.now)) }
+    requires walk { IsWalk certificate.now walk.now }
+    requires told { AreToldBefore certificate.now walk.now.context }
+    requires turn { moves ≡ Moves.One Move.NextTurn → HasNextTurn (frames_at certificate.now.contexts walk.now.context) }
+    ensures covered { IfOk result (λ _. AreCovered (family_of certificate.now) (nexts_of (frames_at certificate.now.contexts walk.now.context) moves (abstract_of state.now)) state.now) }
+    ensures gap { IfErr result (Names (IsFirstGap (family_of certificate.now) (nexts_of (frames_at certificate.now.contexts walk.now.context) moves (abstract_of state.now)) state.now)) }
 {
     match moves {
-        Moves::One(way) => check_way(certificate, context, way, state),
+        Moves::One(way) => check_way(certificate, walk, way, state),
         Moves::Two(first, second) => {
-            if let Err(fault) = check_covered(certificate, context, first, state) {
+            if let Err(fault) = check_covered(certificate, walk.next, walk.context, first, state) {
                 return Err(fault);
             }
-            check_covered(certificate, context, second, state)
+            check_covered(certificate, walk.next, walk.context, second, state)
         }
     }
 }
 
-/// Is a state sound at its place, an offset of these calls' context? What comes of it is made in the memory of `next`.
+/// Is a state sound at its place, an offset of the walk's context? What comes of it is made in the memory of `given`.
 fn check_state(
     setting: &Setting<'_>,
     certificate: &Certificate,
-    calls: &Calls,
+    walk: &Walk<'_>,
     offset: u32,
     state: &State,
-    next: &mut State,
+    given: &mut State,
 ) -> Result<(), CheckFault>
-    requires calls { AreCalls certificate.now calls.now }
-    requires told { AreToldBefore certificate.now calls.now.context }
+    requires walk { IsWalk certificate.now walk.now }
+    requires told { AreToldBefore certificate.now walk.now.context }
     requires in_range { state_order.InRange state.now }
-    ensures sound { IfOk result (λ _. IsSoundAt (setting_of setting.now) (family_of certificate.now) (frames_at certificate.now.contexts calls.now.context, offset) state.now) }
-    ensures broken { IfErr result (Names (BreaksAt (setting_of setting.now) (family_of certificate.now) (frames_at certificate.now.contexts calls.now.context, offset) state.now)) }
+    ensures sound { IfOk result (λ _. IsSoundAt (setting_of setting.now) (family_of certificate.now) (frames_at certificate.now.contexts walk.now.context, offset) state.now) }
+    ensures broken { IfErr result (Names (BreaksAt (setting_of setting.now) (family_of certificate.now) (frames_at certificate.now.contexts walk.now.context, offset) state.now)) }
     ensures within { offset < 2 ^ 32 }
 {
     if !are_stored_within(state.stored(), setting.limits.storage) {
-        return Err(fault_in(certificate, calls.context, offset, Reason::Storage));
+        return Err(fault_in(certificate, walk.context, offset, Reason::Storage));
     }
     let point = Point {
-        frames: calls.frames.as_slice(),
+        frames: walk.frames.as_slice(),
         offset,
     };
     if setting.is_end(&point, offset) {
         return Ok(());
     }
-    next.copy_from(state)?;
-    match stepped(setting, &point, next) {
-        Ok(moves) => check_moves(certificate, calls.context, moves, next),
-        Err(Refusal::Refused(reason)) => Err(fault_in(certificate, calls.context, offset, reason)),
+    given.copy_from(state)?;
+    match stepped(setting, &point, given) {
+        Ok(moves) => check_moves(certificate, walk, moves, given),
+        Err(Refusal::Refused(reason)) => Err(fault_in(certificate, walk.context, offset, reason)),
         Err(Refusal::OutOfMemory(error)) => Err(CheckFault::OutOfMemory(error)),
     }
 }
 
-impl Calls {
+impl<'a> Walk<'a> {
     /// Goes to another context, if it is another.
     fn go_to(&mut self, certificate: &Certificate, context: u32) -> Result<(), AllocError>
-        requires calls { AreCalls certificate.now self.old }
+        requires walk { IsWalk certificate.now self.old }
         requires there { context < length certificate.now.contexts }
-        ensures calls { IfOk result (λ _. AreCalls certificate.now self.new) }
+        ensures walk { IfOk result (λ _. IsWalk certificate.now self.new) }
         ensures context { IfOk result (λ _. self.new.context ≡ context) }
+        ensures next { IfOk result (λ _. self.new.next ≡ self.old.next) }
     {
         if context != self.context {
             self.frames = certificate.frames(*self.frames.allocator(), context)?;
@@ -308,15 +340,17 @@ fn check_states(
     ensures broken { IfErr result (Names (IsFirstBreak (setting_of setting.now) certificate.now)) }
 {
     certificate.contexts();
-    let mut calls = Calls {
+    let mut given = State::start(alloc, &[])?;
+    let mut states = certificate.states();
+    let mut walk = Walk {
         context: 0,
         frames: Vec::new(alloc),
+        next: states.take_first(),
     };
-    let mut next = State::start(alloc, &[])?;
-    let mut states = certificate.states();
-    while let Some((context, offset, state)) = states.take_first() {
-        calls.go_to(certificate, context)?;
-        if let Err(fault) = check_state(setting, certificate, &calls, offset, state, &mut next) {
+    while let Some((context, offset, state)) = walk.next {
+        walk.next = states.take_first();
+        walk.go_to(certificate, context)?;
+        if let Err(fault) = check_state(setting, certificate, &walk, offset, state, &mut given) {
             return Err(fault);
         }
     }
@@ -364,7 +398,7 @@ fn check_start(
 {
     certificate.contexts();
     let start = State::start(alloc, setting.start)?;
-    check_covered(certificate, 0, 0, &start)
+    check_covered(certificate, None, 0, 0, &start)
 }
 
 /// Is the family good for the program of this setting, all that a certificate has to be? In the order of the walk the first that

@@ -4,30 +4,30 @@ use Rattle.tt_cert.proofs.checking.check_moves.Goals as goal
 
 pub returns-in-Err-clause-gap : goal.returns-in-Err-clause-gap
 returns-in-Err-clause-gap c =
-    let fs = frames_at c.args.certificate.now.contexts c.args.context in
+    let fs = frames_at c.args.certificate.now.contexts c.args.walk.now.context in
     first_gap (family_of c.args.certificate.now) c.args.state.now fs c.args.moves c.in-Two.first c.in-Two.second c.in-Err.fault c.in-Two.is
     c.in-Err.ensures.gap
 
 pub returns-in-One-clause-covered : goal.returns-in-One-clause-covered
 returns-in-One-clause-covered c =
-    let fs = frames_at c.args.certificate.now.contexts c.args.context in
+    let fs = frames_at c.args.certificate.now.contexts c.args.walk.now.context in
     one_covered (family_of c.args.certificate.now) c.args.state.now fs c.args.moves c.in-One.way c.check_way.result c.in-One.is
     c.check_way.ensures.covered
 
 pub returns-in-One-clause-gap : goal.returns-in-One-clause-gap
 returns-in-One-clause-gap c =
-    let fs = frames_at c.args.certificate.now.contexts c.args.context in
+    let fs = frames_at c.args.certificate.now.contexts c.args.walk.now.context in
     one_gap (family_of c.args.certificate.now) c.args.state.now fs c.args.moves c.in-One.way c.check_way.result c.in-One.is
     c.check_way.ensures.gap
 
 pub returns-in_default-clause-covered : goal.returns-in_default-clause-covered
 returns-in_default-clause-covered c =
-    let fs = frames_at c.args.certificate.now.contexts c.args.context in
+    let fs = frames_at c.args.certificate.now.contexts c.args.walk.now.context in
     two_covered (family_of c.args.certificate.now) c.args.state.now fs c.args.moves c.in-Two.first c.in-Two.second c.check_covered-in-Two.result c.in-Two.is
     c.in_default.ensures.covered c.check_covered-in-Two.ensures.covered
 
 pub returns-in_default-clause-gap : goal.returns-in_default-clause-gap
 returns-in_default-clause-gap c =
-    let fs = frames_at c.args.certificate.now.contexts c.args.context in
+    let fs = frames_at c.args.certificate.now.contexts c.args.walk.now.context in
     second_gap (family_of c.args.certificate.now) c.args.state.now fs c.args.moves c.in-Two.first c.in-Two.second c.check_covered-in-Two.result c.in-Two.is
     c.in_default.ensures.covered c.check_covered-in-Two.ensures.gap

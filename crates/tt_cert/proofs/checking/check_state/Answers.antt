@@ -13,7 +13,7 @@ use Rattle.tt_cert.proofs.checking.check_state.Goals as goal
 
 pub returns-then-not-are_stored_within-clause-broken : goal.returns-then-not-are_stored_within-clause-broken
 returns-then-not-are_stored_within-clause-broken c =
-    let fs = frames_at c.args.certificate.now.contexts c.args.calls.now.context in
+    let fs = frames_at c.args.certificate.now.contexts c.args.walk.now.context in
     let above : c.are_stored_within.result ≡ false = search rules in
     stores_here (setting_of c.args.setting.now) (family_of c.args.certificate.now) (fs, c.args.offset) c.args.state.now c.fault_in.result c.fault_in.ensures
     (stored_above (setting_of c.args.setting.now) c.args.state.now c.stored.result.now c.are_stored_within.result c.stored.ensures c.are_stored_within.ensures above)
@@ -21,9 +21,9 @@ returns-then-not-are_stored_within-clause-broken c =
 pub returns-then-is_end-clause-sound : goal.returns-then-is_end-clause-sound
 returns-then-is_end-clause-sound c =
     let S = setting_of c.args.setting.now in
-    let fs = frames_at c.args.certificate.now.contexts c.args.calls.now.context in
+    let fs = frames_at c.args.certificate.now.contexts c.args.walk.now.context in
     let within : c.are_stored_within.result ≡ true = search rules in
-    let back = frames_back c.as_slice.result.now _ fs c.as_slice.ensures.value c.requires.calls.frames in
+    let back = frames_back c.as_slice.result.now _ fs c.as_slice.ensures.value c.requires.walk.frames in
     let ends : is_main_end S fs c.args.offset ≡ true = ap (λ f. is_main_end S f c.args.offset) (sym back) ∙ sym c.is_end.ensures ∙ c.if-is_end.true in
     sound_at_end S (family_of c.args.certificate.now) (fs, c.args.offset) c.args.state.now
     (stored_within S c.args.state.now c.stored.result.now c.are_stored_within.result c.stored.ensures c.are_stored_within.ensures within) ends
@@ -31,8 +31,8 @@ returns-then-is_end-clause-sound c =
 pub check_moves-requires-clause-turn : goal.check_moves-requires-clause-turn
 check_moves-requires-clause-turn c =
     let S = setting_of c.args.setting.now in
-    let fs = frames_at c.args.certificate.now.contexts c.args.calls.now.context in
-    let back = frames_back c.as_slice.result.now _ fs c.as_slice.ensures.value c.requires.calls.frames in
+    let fs = frames_at c.args.certificate.now.contexts c.args.walk.now.context in
+    let back = frames_back c.as_slice.result.now _ fs c.as_slice.ensures.value c.requires.walk.frames in
     let outcome : outcome_on_cells S fs c.args.offset (abstract_of c.args.state.now) ≡ Ok (nexts_of fs c.in-Ok.moves (abstract_of c.stepped.new.state)) =
     outcome_moved S fs _ c.args.offset _ c.args.state.now _ back refl c.in_ok-copy_from.ensures c.in-Ok.moves c.stepped.new.state c.in-Ok.ensures.ok in
     turn_left S fs c.args.offset (abstract_of c.args.state.now) (abstract_of c.stepped.new.state) c.in-Ok.moves outcome
@@ -40,9 +40,9 @@ check_moves-requires-clause-turn c =
 pub returns-in-Ok-clause-sound : goal.returns-in-Ok-clause-sound
 returns-in-Ok-clause-sound c =
     let S = setting_of c.args.setting.now in
-    let fs = frames_at c.args.certificate.now.contexts c.args.calls.now.context in
+    let fs = frames_at c.args.certificate.now.contexts c.args.walk.now.context in
     let within : c.are_stored_within.result ≡ true = search rules in
-    let back = frames_back c.as_slice.result.now _ fs c.as_slice.ensures.value c.requires.calls.frames in
+    let back = frames_back c.as_slice.result.now _ fs c.as_slice.ensures.value c.requires.walk.frames in
     let R : State → Type 0 = λ x. state_order.InRange x in
     sound_from S (family_of c.args.certificate.now) (fs, c.args.offset) c.args.state.now
     (stored_within S c.args.state.now c.stored.result.now c.are_stored_within.result c.stored.ensures c.are_stored_within.ensures within) c.in-Ok.moves c.stepped.new.state
@@ -53,9 +53,9 @@ returns-in-Ok-clause-sound c =
 pub returns-in-Ok-clause-broken : goal.returns-in-Ok-clause-broken
 returns-in-Ok-clause-broken c =
     let S = setting_of c.args.setting.now in
-    let fs = frames_at c.args.certificate.now.contexts c.args.calls.now.context in
+    let fs = frames_at c.args.certificate.now.contexts c.args.walk.now.context in
     let within : c.are_stored_within.result ≡ true = search rules in
-    let back = frames_back c.as_slice.result.now _ fs c.as_slice.ensures.value c.requires.calls.frames in
+    let back = frames_back c.as_slice.result.now _ fs c.as_slice.ensures.value c.requires.walk.frames in
     let running : is_main_end S fs c.args.offset ≡ false = ap (λ f. is_main_end S f c.args.offset) (sym back) ∙ sym c.is_end.ensures ∙ c.if-is_end.false in
     let R : State → Type 0 = λ x. state_order.InRange x in
     broken_from S (family_of c.args.certificate.now) (fs, c.args.offset) c.args.state.now
@@ -67,9 +67,9 @@ returns-in-Ok-clause-broken c =
 pub returns-in-Err-Refused-clause-broken : goal.returns-in-Err-Refused-clause-broken
 returns-in-Err-Refused-clause-broken c =
     let S = setting_of c.args.setting.now in
-    let fs = frames_at c.args.certificate.now.contexts c.args.calls.now.context in
+    let fs = frames_at c.args.certificate.now.contexts c.args.walk.now.context in
     let within : c.are_stored_within.result ≡ true = search rules in
-    let back = frames_back c.as_slice.result.now _ fs c.as_slice.ensures.value c.requires.calls.frames in
+    let back = frames_back c.as_slice.result.now _ fs c.as_slice.ensures.value c.requires.walk.frames in
     let running : is_main_end S fs c.args.offset ≡ false = ap (λ f. is_main_end S f c.args.offset) (sym back) ∙ sym c.is_end.ensures ∙ c.if-is_end.false in
     refused_here S (family_of c.args.certificate.now) (fs, c.args.offset) c.args.state.now
     (stored_within S c.args.state.now c.stored.result.now c.are_stored_within.result c.stored.ensures c.are_stored_within.ensures within) running c.fault_in-in-Err-Refused.result

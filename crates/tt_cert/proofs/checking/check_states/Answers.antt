@@ -1,50 +1,71 @@
-use Rattle.std.proofs.Common.{rules, ℕ, subst, sym, refl}
+use Rattle.std.proofs.Common.{rules, ◌≡◌, ℕ, List, ◌∷◌, ap, subst, sym, ◌∙◌, refl}
 use Rattle.tt_abs.specs.Settings.{setting_of}
+use Rattle.tt_abs.specs.declared.state.State.{State}
 use Rattle.tt_cert.specs.Checks.{AreToldBefore, BreaksAt, IsSoundAt, Names}
 use Rattle.tt_cert.specs.Contents.{family_of, frames_at}
-use Rattle.tt_cert.proofs.Walking.{so_far_start, so_far_step, so_far_end, next_within, next_in_range, told_before, first_break}
+use Rattle.tt_cert.proofs.Walking.{IsCheckedSoFar, ended, first_break, next_in_range, next_within, read_behind, read_first, so_far_end, so_far_start, so_far_step, taken, to_come, told_before}
 use Rattle.tt_cert.proofs.checking.check_states.Goals as goal
+
+pub loop-walk-init : goal.loop-walk-init
+loop-walk-init c =
+    let S = setting_of c.args.setting.now in
+    let v = c.args.certificate.now in
+    let rest_is = taken c.take_first.result c.states-states.result c.take_first.new.self c.take_first.ensures.none c.take_first.ensures.some in
+    let whole = sym c.states-states.ensures.rest ∙ rest_is in
+    record {
+      walk = record { there = search rules; frames = search rules; next = read_first S v c.take_first.result c.take_first.new.self whole c.states-states.ensures.found };
+      checked = so_far_start S v _ (sym whole);
+    }
+
+pub go_to-requires-clause-walk : goal.go_to-requires-clause-walk
+go_to-requires-clause-walk c = record {
+  there = c.loop-walk.invariant.walk.there;
+  frames = c.loop-walk.invariant.walk.frames;
+  next = read_behind (setting_of c.args.setting.now) c.args.certificate.now _ c.loop-walk.states c.take_first-walk.new.self ((c.in-Some.context, c.in-Some.offset), c.in-Some.state.now)
+      c.take_first-walk.result c.loop-walk.invariant.checked (ap (λ n. to_come n c.loop-walk.states) c.in-Some.is)
+      (taken c.take_first-walk.result c.loop-walk.states c.take_first-walk.new.self c.take_first-walk.ensures.none c.take_first-walk.ensures.some) c.states-states.ensures.found;
+}
 
 pub go_to-requires-clause-there : goal.go_to-requires-clause-there
 go_to-requires-clause-there c =
-    next_within (setting_of c.args.setting.now) c.args.certificate.now c.contexts.ensures.finished.0 _ _ ((c.in-Some.context, c.in-Some.offset), c.in-Some.state.now)
-    c.loop-context.invariant.checked c.in-Some.ensures.some c.states-states.ensures.found
+    next_within (setting_of c.args.setting.now) c.args.certificate.now c.contexts.ensures.finished.0 _ c.loop-walk.states ((c.in-Some.context, c.in-Some.offset), c.in-Some.state.now)
+    c.loop-walk.invariant.checked (ap (λ n. to_come n c.loop-walk.states) c.in-Some.is) c.states-states.ensures.found
 
 pub check_state-requires-clause-in_range : goal.check_state-requires-clause-in_range
 check_state-requires-clause-in_range c =
-    next_in_range (setting_of c.args.setting.now) c.args.certificate.now c.contexts.ensures.finished.0 _ _ ((c.in-Some.context, c.in-Some.offset), c.in-Some.state.now)
-    c.loop-context.invariant.checked c.in-Some.ensures.some c.states-states.ensures.found
+    next_in_range (setting_of c.args.setting.now) c.args.certificate.now c.contexts.ensures.finished.0 _ c.loop-walk.states ((c.in-Some.context, c.in-Some.offset), c.in-Some.state.now)
+    c.loop-walk.invariant.checked (ap (λ n. to_come n c.loop-walk.states) c.in-Some.is) c.states-states.ensures.found
 
 pub check_state-requires-clause-told : goal.check_state-requires-clause-told
 check_state-requires-clause-told c =
     let T : ℕ → Type 0 = λ k. AreToldBefore c.args.certificate.now k in
     subst T (sym c.in_ok-go_to.ensures.context)
-    (told_before (setting_of c.args.setting.now) c.args.certificate.now c.contexts.ensures.finished.0 _ _ ((c.in-Some.context, c.in-Some.offset), c.in-Some.state.now)
-    c.loop-context.invariant.checked c.in-Some.ensures.some c.states-states.ensures.found c.states-states.ensures.rises)
+    (told_before (setting_of c.args.setting.now) c.args.certificate.now c.contexts.ensures.finished.0 _ c.loop-walk.states ((c.in-Some.context, c.in-Some.offset), c.in-Some.state.now)
+    c.loop-walk.invariant.checked (ap (λ n. to_come n c.loop-walk.states) c.in-Some.is) c.states-states.ensures.found c.states-states.ensures.rises)
 
 pub returns-in-Err-clause-broken : goal.returns-in-Err-clause-broken
 returns-in-Err-clause-broken c =
     let v = c.args.certificate.now in
     let B : ℕ → Type 0 = λ k. Names (BreaksAt (setting_of c.args.setting.now) (family_of v) (frames_at v.contexts k, c.in-Some.offset) c.in-Some.state.now) c.in-Err.fault in
-    first_break (setting_of c.args.setting.now) v c.contexts.ensures.finished.0 _ _ ((c.in-Some.context, c.in-Some.offset), c.in-Some.state.now) c.loop-context.invariant.checked
-    c.in-Some.ensures.some c.states-states.ensures.found c.states-states.ensures.rises c.in-Err.fault (subst B c.in_ok-go_to.ensures.context c.in-Err.ensures.broken)
+    first_break (setting_of c.args.setting.now) v c.contexts.ensures.finished.0 _ c.loop-walk.states ((c.in-Some.context, c.in-Some.offset), c.in-Some.state.now)
+    c.loop-walk.invariant.checked (ap (λ n. to_come n c.loop-walk.states) c.in-Some.is) c.states-states.ensures.found c.states-states.ensures.rises c.in-Err.fault
+    (subst B c.in_ok-go_to.ensures.context c.in-Err.ensures.broken)
 
-pub loop-context-init : goal.loop-context-init
-loop-context-init c = record {
-  calls = search rules;
-  checked = so_far_start (setting_of c.args.setting.now) c.args.certificate.now _ c.states-states.ensures.rest;
-}
-
-pub loop-context-preserved : goal.loop-context-preserved
-loop-context-preserved c =
+pub loop-walk-preserved : goal.loop-walk-preserved
+loop-walk-preserved c =
+    let S = setting_of c.args.setting.now in
     let v = c.args.certificate.now in
-    let B : ℕ → Type 0 = λ k. IsSoundAt (setting_of c.args.setting.now) (family_of v) (frames_at v.contexts k, c.in-Some.offset) c.in-Some.state.now in
+    let B : ℕ → Type 0 = λ k. IsSoundAt S (family_of v) (frames_at v.contexts k, c.in-Some.offset) c.in-Some.state.now in
+    let F : List ((ℕ × ℕ) × State) → Type 0 = λ l. IsCheckedSoFar S v l in
+    let rest_is = taken c.take_first-walk.result c.loop-walk.states c.take_first-walk.new.self c.take_first-walk.ensures.none c.take_first-walk.ensures.some in
+    let moved = rest_is ∙ ap (λ n. to_come n c.take_first-walk.new.self) (sym c.in_ok-go_to.ensures.next) in
     record {
-      calls = c.in_ok-go_to.ensures.calls;
-      checked = so_far_step (setting_of c.args.setting.now) v _ _ ((c.in-Some.context, c.in-Some.offset), c.in-Some.state.now) c.loop-context.invariant.checked c.in-Some.ensures.some
-          (subst B c.in_ok-go_to.ensures.context c.in_default-check_state.ensures.sound, c.check_state.ensures.within);
+      walk = c.in_ok-go_to.ensures.walk;
+      checked = subst F moved
+          (so_far_step S v _ c.loop-walk.states ((c.in-Some.context, c.in-Some.offset), c.in-Some.state.now) c.loop-walk.invariant.checked
+          (ap (λ n. to_come n c.loop-walk.states) c.in-Some.is) (subst B c.in_ok-go_to.ensures.context c.in_default-check_state.ensures.sound, c.check_state.ensures.within));
     }
 
 pub returns-clause-sound : goal.returns-clause-sound
 returns-clause-sound c =
-    so_far_end (setting_of c.args.setting.now) c.args.certificate.now c.contexts.ensures.finished.0 _ c.loop-context.invariant.checked (c.in_default.ensures.none refl)
+    so_far_end (setting_of c.args.setting.now) c.args.certificate.now c.contexts.ensures.finished.0 _ c.loop-walk.invariant.checked (ended _ c.loop-walk.states c.in_default.not-Some)
