@@ -21,7 +21,7 @@ use Rattle.tt_find.specs.declared.table.Table.{Table}
 use Rattle.tt_find.specs.Found.{AreDerivedContexts, IsDerived, IsJustified, IsLeast, IsNeverEnding, IsWantOfMemory, LacksEnd, NamesPlace, NoneIsGood, too_long, refused, apart, too_many, never_ends}
 use Rattle.tt_find.specs.Tables.{HasLaws, IsMarked, IsWhole}
 use Rattle.tt_find.proofs.Many.{few_from_all}
-use Rattle.tt_find.proofs.Marks.{none_marked}
+use Rattle.tt_find.proofs.Marked.{none_marked}
 use Rattle.tt_find.proofs.Points.{has_number, same_or_apart}
 use Rattle.tt_find.proofs.Sound.{good_from_sound}
 
@@ -40,7 +40,7 @@ module _ (s : Setting) (functions : List (ℕ × ℕ)) (laws : HasLaws s functio
 
   -- nothing is marked
   module _ (table : Table) (whole : IsWhole s functions table) where
-    pub good_left : table.marked.keys ≡ [] → IsGood state_order (flow_of s functions) (family_of table.builder)
+    pub good_left : table.marked ≡ [] → IsGood state_order (flow_of s functions) (family_of table.builder)
     good_left none =
         let sound = whole.kept.sound in
         good_from_sound state_order state_laws (flow_of s functions) same_or_apart range_of (family_of table.builder) (record {
@@ -63,7 +63,7 @@ module _ (s : Setting) (functions : List (ℕ × ℕ)) (laws : HasLaws s functio
     pub few_left : HasFewContexts (family_of table.builder)
     few_left = (table.builder.contexts, whole.kept.family.few, λ p a at. has_number table.builder p a whole.kept.family at)
 
-    pub whole_good : table.marked.keys ≡ [] → IsShortEnough s s.kind → EndsWell s s.kind (family_of table.builder) → IsGoodFamily s functions (family_of table.builder)
+    pub whole_good : table.marked ≡ [] → IsShortEnough s s.kind → EndsWell s s.kind (family_of table.builder) → IsGoodFamily s functions (family_of table.builder)
     whole_good none short ends = record {
       short = short;
       good = good_left none;
@@ -72,7 +72,7 @@ module _ (s : Setting) (functions : List (ℕ × ℕ)) (laws : HasLaws s functio
       few = few_left;
     }
 
-    pub lacks_end : table.marked.keys ≡ [] → (EndsWell s s.kind (family_of table.builder) → ⊥) → LacksEnd s functions (family_of table.builder)
+    pub lacks_end : table.marked ≡ [] → (EndsWell s s.kind (family_of table.builder) → ⊥) → LacksEnd s functions (family_of table.builder)
     lacks_end none endless = record { derived = whole.kept.sound.derived; good = good_left none; few = few_left; endless = endless }
 
     pub at_most_left : table.updates ≤ points_of table.builder * (1 + height_of s)

@@ -1,5 +1,5 @@
 pub mod Sound
-pub mod Marks
+pub mod Marked
 pub mod Points
 pub mod Budget
 pub mod Ways

@@ -1,6 +1,5 @@
 -- The steps of the finder on its table, for any order and flow of states.
 use Rattle.std.specs.Prelude.{◌≡◌, ◌≢◌, ◌⊎◌, ◌↔◌, ℕ, ◌<◌, Bool, true, false, Some, None, List, [], ◌∷◌, ◌++◌, length}
-use Rattle.std.specs.BTreeSet.{BTreeSet, Updates, contains}
 use Rattle.std.proofs.Common.{refl, sym, ◌∙◌, ap, subst, arith, inl, inr, length-append}
 use Rattle.std.proofs.Math.ListN.{get_or-append}
 use Rattle.std.proofs.Math.Seq.{get_or-append_seam}
@@ -14,10 +13,12 @@ use Rattle.tt_abs.specs.Families.{CoversAt, Derived}
 use Rattle.tt_abs.specs.StateFlow.{Place}
 use Rattle.tt_cert.specs.Contents.{AddsContext, Contents, HasContext, IsFamily, family_of, frames_at, number_of, same_frames}
 use Rattle.tt_cert.specs.Numbers.{at-number_of, number_of-append, number_of-append_past, number_of-le, same_frames-decides}
-use Rattle.tt_cert.specs.Places.{PutsAt, place_cmp, states_of}
+use Rattle.tt_cert.specs.Places.{PutsAt, states_of}
 use Rattle.tt_cert.specs.Puts.{number_at, place_of}
-use Rattle.tt_cert.proofs.Puts.{cases_place, places_apart}
+use Rattle.tt_cert.proofs.Puts.{cases_place}
+use Rattle.tt_find.specs.Marks.{has_mark}
 use Rattle.tt_find.specs.Tables.{IsMarked, IsTable, MarksMore, Pends}
+use Rattle.tt_find.proofs.Marked.{mark_behind, mark_here}
 use Rattle.tt_find.proofs.Sound.{sound_opened, sound_put}
 
 pub same_or_apart : (p q : Place) → (p ≡ q) ⊎ (p ≢ q)
@@ -45,8 +46,8 @@ frames_stay old new frames n c adds lt = elim adds.how [
 
 module _ (o : Order State) (f : Flow Place State) where
   -- a table whose marks say less of points with states
-  pub table_freed : (v : Contents) (marked marked' : BTreeSet (ℕ × ℕ)) (Here Here' : Place → Type 0)
-      → IsTable o f v marked Here (λ _ _. ⊥) → ((k : ℕ × ℕ) → contains place_cmp marked' k ≡ true → contains place_cmp marked k ≡ true)
+  pub table_freed : (v : Contents) (marked marked' : List (ℕ × ℕ)) (Here Here' : Place → Type 0)
+      → IsTable o f v marked Here (λ _ _. ⊥) → ((k : ℕ × ℕ) → has_mark marked' k ≡ true → has_mark marked k ≡ true)
       → ((p : Place) (s : State) → family_of v p ≡ Some s → IsMarked v marked p ⊎ Here p → IsMarked v marked' p ⊎ Here' p)
       → IsTable o f v marked' Here' (λ _ _. ⊥)
   table_freed v marked marked' Here Here' table fewer free = record {
@@ -63,18 +64,19 @@ module _ (o : Order State) (f : Flow Place State) where
   }
 
   -- a point is taken out of the set
-  pub table_popped : (v : Contents) (marked marked' : BTreeSet (ℕ × ℕ)) (c off : ℕ) → IsTable o f v marked (λ _. ⊥) (λ _ _. ⊥) → contains place_cmp marked (c, off) ≡ true
-      → Updates place_cmp marked marked' (c, off) false → IsTable o f v marked' (λ p. p ≡ place_of v c off) (λ _ _. ⊥)
-  table_popped v marked marked' c off table member updates =
+  pub table_popped : (v : Contents) (marked marked' : List (ℕ × ℕ)) (c off : ℕ) → IsTable o f v marked (λ _. ⊥) (λ _ _. ⊥) → marked ≡ (c, off) ∷ marked'
+      → IsTable o f v marked' (λ p. p ≡ place_of v c off) (λ _ _. ⊥)
+  table_popped v marked marked' c off table is =
+      let is_at_k = λ (k : ℕ × ℕ). ap (λ (x : List (ℕ × ℕ)). has_mark x k) is in
       table_freed v marked marked' (λ _. ⊥) (λ p. p ≡ place_of v c off) table
       (λ k m. elim (cases_place k (c, off)) [
-        | inl same ↦ ap (contains place_cmp marked) same ∙ member
-        | inr apart ↦ sym (updates.2 k (places_apart (c, off) k apart)) ∙ m
+        | inl same ↦ ap (has_mark marked) same ∙ is_at_k (c, off) ∙ mark_here (c, off) marked'
+        | inr apart ↦ is_at_k k ∙ mark_behind (c, off) k marked' apart ∙ m
       ])
       (λ p s at m. elim m [
         | inr never ↦ absurd never
         | inl hit ↦ elim (cases_place (number_of v.contexts p.0, p.1) (c, off)) [
-          | inr apart ↦ inl (updates.2 (number_of v.contexts p.0, p.1) (places_apart (c, off) (number_of v.contexts p.0, p.1) apart) ∙ hit)
+          | inr apart ↦ inl (sym (mark_behind (c, off) (number_of v.contexts p.0, p.1) marked' apart) ∙ sym (is_at_k (number_of v.contexts p.0, p.1)) ∙ hit)
           | inl same ↦
               let n : number_of v.contexts p.0 ≡ c = ap (λ (x : ℕ × ℕ). x.0) same in
               let b : p.1 ≡ off = ap (λ (x : ℕ × ℕ). x.1) same in
@@ -84,7 +86,7 @@ module _ (o : Order State) (f : Flow Place State) where
       ])
 
   -- the point was carried on
-  pub table_opened : OrderLaws o → (v : Contents) (marked : BTreeSet (ℕ × ℕ)) (q : Place) (s : State) (Rest : Place → State → Type 0)
+  pub table_opened : OrderLaws o → (v : Contents) (marked : List (ℕ × ℕ)) (q : Place) (s : State) (Rest : Place → State → Type 0)
       → IsTable o f v marked (λ p. p ≡ q) (λ _ _. ⊥) → family_of v q ≡ Some s
       → ((r : Reason) → f.Refuses q s r → ⊥) → ((p : Place) (t : State) → Rest p t ↔ f.Gives q s p t)
       → IsTable o f v marked (λ _. ⊥) Rest
@@ -97,7 +99,7 @@ module _ (o : Order State) (f : Flow Place State) where
   }
 
   -- there is no state at the point
-  pub table_none : (v : Contents) (marked : BTreeSet (ℕ × ℕ)) (q : Place) → IsTable o f v marked (λ p. p ≡ q) (λ _ _. ⊥) → family_of v q ≡ None
+  pub table_none : (v : Contents) (marked : List (ℕ × ℕ)) (q : Place) → IsTable o f v marked (λ p. p ≡ q) (λ _ _. ⊥) → family_of v q ≡ None
       → IsTable o f v marked (λ _. ⊥) (λ _ _. ⊥)
   table_none v marked q table none = table_freed v marked marked (λ p. p ≡ q) (λ _. ⊥) table (λ k m. m) (λ p s at m. elim m [
     | inl hit ↦ inl hit
@@ -105,7 +107,7 @@ module _ (o : Order State) (f : Flow Place State) where
   ])
 
   -- one more context
-  table_appended : (v : Contents) (marked : BTreeSet (ℕ × ℕ)) (Rest : Place → State → Type 0) (frames : List Frame) (off : ℕ) (t : State)
+  table_appended : (v : Contents) (marked : List (ℕ × ℕ)) (Rest : Place → State → Type 0) (frames : List Frame) (off : ℕ) (t : State)
       → IsTable o f v marked (λ _. ⊥) Rest → Derived o f (frames, off) t → (HasContext v.contexts frames → ⊥) → IsFamily (record { contexts = v.contexts ++ frames ∷ []; states = v.states })
       → IsTable o f (record { contexts = v.contexts ++ frames ∷ []; states = v.states }) marked (λ _. ⊥) Rest
   table_appended v marked Rest frames off t table d absent family' =
@@ -156,12 +158,12 @@ module _ (o : Order State) (f : Flow Place State) where
       free : (p : Place) (s : State) → states_of v.states (number_of (v.contexts ++ frames ∷ []) p.0, p.1) ≡ Some s
           → (IsMarked (record { contexts = v.contexts ++ frames ∷ []; states = v.states }) marked p ⊎ ⊥ → ⊥) → IsMarked v marked p ⊎ ⊥ → ⊥
       free p s at unmarked m = elim m [
-        | inl hit ↦ unmarked (inl (ap (λ n. contains place_cmp marked (n, p.1)) (old_number p s at) ∙ hit))
+        | inl hit ↦ unmarked (inl (ap (λ n. has_mark marked (n, p.1)) (old_number p s at) ∙ hit))
         | inr never ↦ never
       ]
 
   -- a context may have been added
-  pub table_grown : (v v' : Contents) (marked : BTreeSet (ℕ × ℕ)) (Rest : Place → State → Type 0) (frames : List Frame) (number off : ℕ) (t : State)
+  pub table_grown : (v v' : Contents) (marked : List (ℕ × ℕ)) (Rest : Place → State → Type 0) (frames : List Frame) (number off : ℕ) (t : State)
       → IsTable o f v marked (λ _. ⊥) Rest → AddsContext v.contexts v'.contexts frames number → v'.states ≡ v.states → IsFamily v' → Derived o f (frames, off) t
       → IsTable o f v' marked (λ _. ⊥) Rest
   table_grown v v' marked Rest frames number off t table adds states family d = elim adds.how [
@@ -176,7 +178,7 @@ module _ (o : Order State) (f : Flow Place State) where
   ]
 
   -- the first of what waits was put
-  pub table_put : OrderLaws o → (v v' : Contents) (marked marked' : BTreeSet (ℕ × ℕ)) (c off : ℕ) (t : State) (changed : Bool) (qs : List Place)
+  pub table_put : OrderLaws o → (v v' : Contents) (marked marked' : List (ℕ × ℕ)) (c off : ℕ) (t : State) (changed : Bool) (qs : List Place)
       → IsTable o f v marked (λ _. ⊥) (Pends (place_of v c off ∷ qs) t) → c < length v.contexts
       → PutsAt o (family_of v) (family_of v') (place_of v c off) t changed → v'.contexts ≡ v.contexts → IsFamily v' → MarksMore marked marked' (c, off) changed
       → IsTable o f v' marked' (λ _. ⊥) (Pends qs t)
@@ -195,8 +197,8 @@ module _ (o : Order State) (f : Flow Place State) where
             (Pends (place_of v c off ∷ qs) t) (Pends qs t) (place_of v c off) t changed table.sound put (inl (refl, refl))
             (λ p s waits. elim waits [ inl now ↦ inr now | inr still ↦ inl still ]) (λ p s still. inr still)
             (λ p m. elim m [
-              | inl hit ↦ inl (ap (λ n. contains place_cmp marked' (n, p.1)) (n_same p.0) ∙ marks.more (number_of v.contexts p.0, p.1) hit)
+              | inl hit ↦ inl (ap (λ n. has_mark marked' (n, p.1)) (n_same p.0) ∙ marks.more (number_of v.contexts p.0, p.1) hit)
               | inr never ↦ absurd never
             ])
-            (λ is. inl (ap (λ n. contains place_cmp marked' (n, off)) (n_same (frames_at v.contexts c) ∙ number_at v c table.family lt) ∙ marks.here is));
+            (λ is. inl (ap (λ n. has_mark marked' (n, off)) (n_same (frames_at v.contexts c) ∙ number_at v c table.family lt) ∙ marks.here is));
       }

@@ -1,6 +1,5 @@
 -- The finder's first table.
 use Rattle.std.specs.Prelude.{◌≡◌, ◌⊎◌, ℕ, ◌+◌, Bool, true, cond, Option, Some, None, List, [], ◌∷◌, length}
-use Rattle.std.specs.BTreeSet.{BTreeSet, contains}
 use Rattle.std.proofs.Common.{refl, sym, ◌∙◌, ap, subst, arith, inl, inr}
 use Rattle.tt_code.specs.Settings.{Setting}
 use Rattle.tt_code.specs.declared.machine.Frame.{Frame}
@@ -12,18 +11,19 @@ use Rattle.tt_abs.specs.Orders.{Order, OrderLaws}
 use Rattle.tt_abs.specs.StateFlow.{Place, flow_of, height_of}
 use Rattle.tt_abs.specs.States.{start_of, state_laws, state_order}
 use Rattle.tt_cert.specs.Contents.{Contents, IsFamily, family_of, frames_at, number_of}
-use Rattle.tt_cert.specs.Places.{PutGives, PutsAt, place_cmp, states_of}
+use Rattle.tt_cert.specs.Places.{PutGives, PutsAt, states_of}
 use Rattle.tt_cert.specs.Puts.{place_of}
+use Rattle.tt_find.specs.Marks.{has_mark}
 use Rattle.tt_find.specs.declared.table.Table.{Table}
 use Rattle.tt_find.specs.Tables.{HasLaws, IsMarked, IsPut, IsTable, IsWhole, IsWithinBudget, MarksMore}
 use Rattle.tt_find.proofs.Budget.{budget_start}
-use Rattle.tt_find.proofs.Marks.{none_marked}
+use Rattle.tt_find.proofs.Marked.{none_marked}
 use Rattle.tt_find.proofs.Points.{same_or_apart}
 use Rattle.tt_find.proofs.Sound.{gives_covers}
 
 module _ (o : Order State) (f : Flow Place State) (order : OrderLaws o) where
   -- the start alone
-  table_start : (v v' : Contents) (marked marked' : BTreeSet (ℕ × ℕ)) (t : State) (changed : Bool) → f.entry ≡ ([], 0) → t ≡ f.start → v.contexts ≡ [] ∷ [] → v.states ≡ [] → marked.keys ≡ []
+  table_start : (v v' : Contents) (marked marked' : List (ℕ × ℕ)) (t : State) (changed : Bool) → f.entry ≡ ([], 0) → t ≡ f.start → v.contexts ≡ [] ∷ [] → v.states ≡ [] → marked ≡ []
       → PutsAt o (family_of v) (family_of v') (place_of v 0 0) t changed → v'.contexts ≡ v.contexts → IsFamily v' → MarksMore marked marked' (0, 0) changed
       → IsTable o f v' marked' (λ _. ⊥) (λ _ _. ⊥)
   table_start v v' marked marked' t changed entry start contexts states none put same family marks =
@@ -82,12 +82,12 @@ module _ (o : Order State) (f : Flow Place State) (order : OrderLaws o) where
             let b : p.1 ≡ 0 = ap (λ (x : Place). x.1) here in
             let n : number_of v'.contexts p.0 ≡ 0 = (λ i. number_of (lists i) (frames i)) in
             let changed_is = is_new (family_of v (place_of v 0 0)) (family_of v' (place_of v 0 0)) (blank (place_of v 0 0)) put.here in
-            unmarked (inl (ap (λ (x : ℕ × ℕ). contains place_cmp marked' x) (λ i. (n i, b i)) ∙ marks.here changed_is))
+            unmarked (inl (ap (λ (x : ℕ × ℕ). has_mark marked' x) (λ i. (n i, b i)) ∙ marks.here changed_is))
         | inr apart ↦ let no_such : None ≡ Some s = sym (put.elsewhere p apart ∙ blank p) ∙ at in cc
       ]
 
 pub whole_start : (s : Setting) (functions : List (ℕ × ℕ)) → HasLaws s functions → (old new : Table) (t : State) → t ≡ start_of functions → old.builder.contexts ≡ [] ∷ [] → old.builder.states ≡ []
-    → old.marked.keys ≡ [] → old.updates ≡ 0 → IsPut old new 0 0 t → IsWhole s functions new
+    → old.marked ≡ [] → old.updates ≡ 0 → IsPut old new 0 0 t → IsWhole s functions new
 whole_start s functions laws old new t start contexts states none zero_is put =
     let D : State → Type 0 = λ x. Derived state_order (flow_of s functions) ([], 0) x in
     let d : D t = subst D (sym start) started in

@@ -1,6 +1,5 @@
 -- What the finder keeps of the family so far, the points that are still to be carried on, and the count of updates.
 use Rattle.std.specs.Prelude.{◌≡◌, ℕ, ◌+◌, ◌*◌, ◌≤◌, ◌<◌, ◌^◌, ◌⊎◌, Bool, true, false, cond, Option, Some, None, List, [], ◌∷◌, Ok, length, reverse}
-use Rattle.std.specs.BTreeSet.{BTreeSet, btree_set_len, contains}
 use Rattle.tt_code.specs.Settings.{Setting, is_main_end}
 use Rattle.tt_code.specs.declared.machine.Frame.{Frame}
 use Rattle.tt_code.specs.declared.reason.Reason.{Reason}
@@ -16,8 +15,9 @@ use Rattle.tt_abs.specs.StateFlow.{Place, RefusesState, flow_of, height_of}
 use Rattle.tt_abs.specs.States.{abstract_of, state_order}
 use Rattle.tt_abs.specs.Transfers.{outcome_on_cells}
 use Rattle.tt_cert.specs.Contents.{Contents, IsFamily, family_of, frames_at, number_of, points_of, total}
-use Rattle.tt_cert.specs.Places.{PutsAt, place_cmp}
+use Rattle.tt_cert.specs.Places.{PutsAt}
 use Rattle.tt_cert.specs.Puts.{Reweighs, place_of}
+use Rattle.tt_find.specs.Marks.{has_mark}
 use Rattle.tt_find.specs.declared.table.Table.{Table}
 use Rattle.tt_find.specs.declared.walk.Walk.{Walk}
 
@@ -31,15 +31,15 @@ pub record IsSoundFamily {P S : Type 0} (o : Order S) (f : Flow P S) (family : P
   pub closed : (p : P) (s : S) (q : P) (t : S) → family p ≡ Some s → (Marked p → ⊥) → f.Gives p s q t → CoversAt o family q t ⊎ Rest q t
 
 -- whether a set of contexts and offsets has the place's
-abbrev pub IsMarked : Contents → BTreeSet (ℕ × ℕ) → Place → Type 0
-IsMarked contents marked p = contains place_cmp marked (number_of contents.contexts p.0, p.1) ≡ true
+abbrev pub IsMarked : Contents → List (ℕ × ℕ) → Place → Type 0
+IsMarked contents marked p = has_mark marked (number_of contents.contexts p.0, p.1) ≡ true
 
 -- Each context was entered with a derived state; each marked point's context is there; the family is sound. Here: a place that is being
 -- carried on.
-pub record IsTable (o : Order State) (f : Flow Place State) (contents : Contents) (marked : BTreeSet (ℕ × ℕ)) (Here : Place → Type 0) (Rest : Place → State → Type 0) : Type 0 where
+pub record IsTable (o : Order State) (f : Flow Place State) (contents : Contents) (marked : List (ℕ × ℕ)) (Here : Place → Type 0) (Rest : Place → State → Type 0) : Type 0 where
   pub family : IsFamily contents
   pub entered : (i : ℕ) → i < length contents.contexts → (offset : ℕ) × (a : State) × Derived o f (frames_at contents.contexts i, offset) a
-  pub held : (c offset : ℕ) → contains place_cmp marked (c, offset) ≡ true → c < length contents.contexts
+  pub held : (c offset : ℕ) → has_mark marked (c, offset) ≡ true → c < length contents.contexts
   pub sound : IsSoundFamily o f (family_of contents) (λ p. IsMarked contents marked p ⊎ Here p) Rest
 
 -- each point took one update, and each rise of its state one more at most
@@ -63,14 +63,14 @@ IsWhole s functions table = IsSound s functions table (λ _. ⊥) (λ _ _. ⊥)
 
 -- for each point that was marked there was an update
 pub record HasRisen (old new : Table) : Type 0 where
-  pub marks : btree_set_len new.marked + old.updates ≤ btree_set_len old.marked + new.updates
+  pub marks : length new.marked + old.updates ≤ length old.marked + new.updates
   pub updates : old.updates ≤ new.updates
 
 -- what is marked stays so, and where there was a change this point is; nothing else is marked
-pub record MarksMore (old new : BTreeSet (ℕ × ℕ)) (point : ℕ × ℕ) (changed : Bool) : Type 0 where
-  pub more : (q : ℕ × ℕ) → contains place_cmp old q ≡ true → contains place_cmp new q ≡ true
-  pub here : changed ≡ true → contains place_cmp new point ≡ true
-  pub back : (q : ℕ × ℕ) → contains place_cmp new q ≡ true → (contains place_cmp old q ≡ true) ⊎ (q ≡ point)
+pub record MarksMore (old new : List (ℕ × ℕ)) (point : ℕ × ℕ) (changed : Bool) : Type 0 where
+  pub more : (q : ℕ × ℕ) → has_mark old q ≡ true → has_mark new q ≡ true
+  pub here : changed ≡ true → has_mark new point ≡ true
+  pub back : (q : ℕ × ℕ) → has_mark new q ≡ true → (has_mark old q ≡ true) ⊎ (q ≡ point)
 
 -- the state was put at the point; if it was new there or made a change, the point was marked, and one update counted
 pub record IsPut (old new : Table) (context offset : ℕ) (state : State) : Type 0 where

@@ -12,10 +12,10 @@ ghost use Rattle.tt_find.specs.Tables.{HasLaws, IsWhole};
 
 use crate::fault::FindFault;
 use crate::following::follow;
+use crate::marks::Marks;
 use crate::table::Table;
 use crate::walk::Walk;
 use std::alloc::{AllocError, Global};
-use std::collections::BTreeSet;
 use tt_abs::laws::flow_laws;
 use tt_abs::{Kind, Setting, State};
 use tt_cert::{Builder, Certificate, Spot, is_short};
@@ -51,7 +51,7 @@ fn start_table(alloc: Global, builder: Builder, setting: &Setting<'_>) -> Result
     let state = State::start(alloc, setting.start)?;
     let mut table = Table {
         builder,
-        marked: BTreeSet::new(alloc),
+        marked: Marks::new(alloc),
         updates: 0,
     };
     let Ok(()) = table.put(0, 0, &state) else {
@@ -67,7 +67,7 @@ fn filled(alloc: Global, builder: Builder, setting: &Setting<'_>) -> Result<Tabl
     requires rises { Rises setting.now.start.now }
     requires laws { HasLaws (setting_of setting.now) setting.now.start.now }
     ensures whole { IfOk result (IsWhole (setting_of setting.now) setting.now.start.now) }
-    ensures none { IfOk result (λ table. table.marked.keys ≡ []) }
+    ensures none { IfOk result (λ table. table.marked ≡ []) }
     ensures justified { IfErr result (NamesPlace (IsJustified (setting_of setting.now) setting.now.start.now)) }
 {
     let mut table = start_table(alloc, builder, setting)?;

@@ -4,6 +4,7 @@
 pub mod fault;
 pub mod finder;
 mod following;
+mod marks;
 mod reaching;
 mod table;
 mod walk;

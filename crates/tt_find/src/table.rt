@@ -9,8 +9,8 @@ ghost use Rattle.tt_find.specs.Found.{NamesPlace};
 ghost use Rattle.tt_find.specs.Tables.{IsApart, IsPut};
 
 use crate::fault::FindFault;
+use crate::marks::Marks;
 use std::alloc::AllocError;
-use std::collections::BTreeSet;
 use tt_abs::State;
 use tt_cert::{BuildFault, Builder};
 use tt_code::Reason;
@@ -20,7 +20,7 @@ use tt_code::Reason;
 #[derive(Drop)]
 pub(crate) struct Table {
     pub builder: Builder,
-    pub marked: BTreeSet<(u32, u32)>,
+    pub marked: Marks,
     pub updates: u64,
 }
 

@@ -1,5 +1,4 @@
-use Rattle.std.proofs.Common.{◌+◌, ◌*◌, ◌-◌}
-use Rattle.std.specs.BTreeSet.{btree_set_len}
+use Rattle.std.proofs.Common.{◌+◌, ◌*◌, ◌-◌, length}
 use Rattle.tt_abs.specs.Settings.{setting_of}
 use Rattle.tt_abs.specs.StateFlow.{height_of}
 use Rattle.tt_find.specs.Tables.{IsWalk, IsWhole}
@@ -9,4 +8,4 @@ abbrev pub invariant-loop-context : goal.invariant-loop-context
 invariant-loop-context l = record { whole : IsWhole (setting_of l.setting) l.setting.start.now l.table; walk : IsWalk l.table.builder.contexts l.walk }
 
 abbrev pub decreases-loop-context : goal.decreases-loop-context
-decreases-loop-context l = 2 * (4294967295 * (1 + height_of (setting_of l.setting)) - l.table.updates) + btree_set_len l.table.marked
+decreases-loop-context l = 2 * (4294967295 * (1 + height_of (setting_of l.setting)) - l.table.updates) + length l.table.marked

@@ -1,5 +1,5 @@
-use Rattle.std.proofs.Common.{arith, ◌+◌, cond, ◌≡◌, ap, sym}
-use Rattle.tt_find.proofs.Marks.{marks_inserted}
+use Rattle.std.proofs.Common.{arith, ◌+◌, cond, ◌≡◌, ap, length, sym}
+use Rattle.tt_find.proofs.Marked.{length-insert_key, marks_inserted}
 use Rattle.tt_find.proofs.table.Table.put.Goals as goal
 
 pub returns-clause-put : goal.returns-clause-put
@@ -9,7 +9,7 @@ returns-clause-put c = record {
   sums = c.in-Ok.ensures.sums;
   contexts = c.in-Ok.ensures.contexts;
   family = c.in-Ok.ensures.family;
-  marks = marks_inserted _ _ _ _ c.in_default.ensures.updates;
+  marks = marks_inserted _ _ _ _ c.in_default.ensures.ok;
   updates = let one : cond c.in-Ok.changed 1 0 ≡ 1 = ap (λ b. cond b 1 0) c.if-not-changed.false in ap (λ n. c.args.self.now.updates + n) (sym one);
-  risen = record { marks = let l = c.in_default.ensures.len in grind (arith); updates = omega arith };
+  risen = record { marks = let l = length-insert_key c.args.self.now.marked (c.args.context, c.args.offset) in let e = ap length c.in_default.ensures.ok in omega arith; updates = omega arith };
 }
