@@ -5,7 +5,7 @@ ghost use Rattle.tt_abs.specs.declared.state.State.{State as AnyState};
 ghost use Rattle.tt_abs.specs.Entries.{Rises};
 ghost use Rattle.tt_abs.specs.Settings.{setting_of};
 ghost use Rattle.tt_abs.specs.StateFlow.{FitsLimits, FunctionsFit, Place, height_of};
-ghost use Rattle.tt_cert.specs.Contents.{IsFamily, family_of, points_of};
+ghost use Rattle.tt_cert.specs.Contents.{family_of, points_of};
 ghost use Rattle.tt_cert.specs.GoodFamilies.{EndsWell, HasEnd, IsGoodFamily};
 ghost use Rattle.tt_find.specs.Found.{IsJustified, IsLeast, IsNeverEnding, IsWantOfMemory, LacksEnd, NamesPlace, NoneIsGood};
 ghost use Rattle.tt_find.specs.Tables.{HasLaws, IsWhole};
@@ -40,15 +40,15 @@ fn has_laws(setting: &Setting<'_>)
     prove!(u32::from(setting.limits.storage) < 1 << 16);
 }
 
-/// The table with the start alone, in the memory of a builder that has the empty context alone and no state.
+/// The table with the start alone, in a builder's memory.
 fn start_table(alloc: Global, builder: Builder, setting: &Setting<'_>) -> Result<Table, AllocError>
-    requires contexts { builder.contexts ≡ [] ∷ [] }
-    requires states { builder.states ≡ [] }
     requires rises { Rises setting.now.start.now }
     requires laws { HasLaws (setting_of setting.now) setting.now.start.now }
     ensures { IfOk result (IsWhole (setting_of setting.now) setting.now.start.now) }
 {
     let state = State::start(alloc, setting.start)?;
+    let mut builder = builder;
+    builder.clear();
     let mut table = Table {
         builder,
         marked: Marks::new(alloc),
@@ -60,10 +60,8 @@ fn start_table(alloc: Global, builder: Builder, setting: &Setting<'_>) -> Result
     Ok(table)
 }
 
-/// The table when no point is left that is new or has changed, in the memory of a builder that has the empty context alone and no state.
+/// The table when no point is left that is new or has changed, in a builder's memory.
 fn filled(alloc: Global, builder: Builder, setting: &Setting<'_>) -> Result<Table, FindFault>
-    requires contexts { builder.contexts ≡ [] ∷ [] }
-    requires states { builder.states ≡ [] }
     requires rises { Rises setting.now.start.now }
     requires laws { HasLaws (setting_of setting.now) setting.now.start.now }
     ensures whole { IfOk result (IsWhole (setting_of setting.now) setting.now.start.now) }
@@ -136,14 +134,11 @@ pub fn find(alloc: Global, setting: &Setting<'_>) -> Result<Found, FindFault>
     find_in(alloc, Builder::new(alloc), setting)
 }
 
-/// The least family as `find` finds it, in the memory of a builder that has the empty context alone and no state.
+/// The least family as `find` finds it, in the memory of a builder; what that builder holds is taken away.
 ///
 /// # Errors
 /// As `find`.
 pub fn find_in(alloc: Global, builder: Builder, setting: &Setting<'_>) -> Result<Found, FindFault>
-    requires contexts { builder.contexts ≡ [] ∷ [] }
-    requires states { builder.states ≡ [] }
-    requires family { IsFamily builder }
     requires rises { Rises setting.now.start.now }
     requires fits { FunctionsFit (setting_of setting.now) setting.now.start.now }
     ensures good { IfOk result (λ found. IsGoodFamily (setting_of setting.now) setting.now.start.now (family_of found.certificate)) }
