@@ -1,13 +1,24 @@
 -- Which of the glyph programs are refused, glyph by glyph.
-use Rattle.std.specs.Prelude.{slice_get}
-use Rattle.std.proofs.Common.{◌≡◌, ℕ, zero, suc, ◌+◌, List, [], ◌∷◌, ◌++◌, Some, length, drop, sym, ◌∙◌, ap, subst, arith, append_assoc, append-nil}
+use Rattle.std.specs.Prelude.{slice_get, ◌<◌, Option, None}
+use Rattle.std.specs.Option.{IsSome, option_map}
+use Rattle.std.proofs.lemmas.Option.{slice_get-get_or}
+use Rattle.std.proofs.Common.{◌≡◌, ℕ, zero, suc, ◌+◌, List, [], ◌∷◌, ◌++◌, Some, length, drop, sym, ◌∙◌, ap, subst, arith, append_assoc, append-nil, refl}
 use Rattle.std.proofs.lemmas.List.{drop_all}
 use Rattle.tt_code.specs.Fonts.{Font}
+use Rattle.tt_font.specs.GlyphParts.{glyph_data}
 use Rattle.tt_font.specs.Reading.{GlyphData}
+use Rattle.tt_font.specs.declared.glyph_part.GlyphPart.{GlyphPart}
 use Rattle.hintcheck.specs.FontLooks.{AreRefusedBelow}
 use Rattle.hintcheck.specs.FontPrograms.{AreRefused, accepted, all_looked_at, glyph_subject, refused}
 use Rattle.hintcheck.specs.Programs.{HasLeastFamily, IsRefusal}
 use Rattle.hintcheck.specs.declared.report.Refused.{Refused}
+
+-- a number below that of the glyphs has its glyph
+pub glyph_there : (part : Option GlyphPart) (gs : List GlyphData) (id : ℕ) → option_map glyph_data part ≡ slice_get gs id → id < length gs → IsSome part
+glyph_there (Some part) gs id at lt = refl
+glyph_there None gs id at lt =
+    let there = at ∙ slice_get-get_or gs id (record { points = 0; contours = 0; program = [] }) lt in
+    absurd (cc)
 
 -- a glyph stands before those behind it
 dropped_at : (gs : List GlyphData) (id : ℕ) (g : GlyphData) → slice_get gs id ≡ Some g → drop id gs ≡ g ∷ drop (suc id) gs

@@ -104,14 +104,14 @@ struct Common<'a> {
     known: &'a [(u16, u32)],
 }
 
-/// Looks at the program of the glyph with this number, in a builder's memory, which comes back where the program is accepted.
+/// Looks at the program of the glyph with this number, in a builder's memory, which the builder has again where the program is accepted.
 fn look_at_glyph(
     alloc: Global,
-    memory: Builder,
+    memory: &mut Builder,
     common: &Common<'_>,
     id: u16,
     glyph: &GlyphPart<'_>,
-) -> Result<Builder, LookFault>
+) -> Result<(), LookFault>
     requires few { length glyph.now.program.now < 2 ^ 31 }
     requires rises { Rises common.now.known.now }
     requires fits { FunctionsFit (font_setting (font_in common.now)) common.now.known.now }
@@ -132,8 +132,12 @@ fn look_at_glyph(
         prep: common.prep,
         start: common.known,
     };
-    match look(alloc, memory, name, &setting) {
-        Ok(certificate) => Ok(certificate.into_builder()),
+    let builder = mem::replace(memory, Builder::new(alloc));
+    match look(alloc, builder, name, &setting) {
+        Ok(certificate) => {
+            *memory = certificate.into_builder();
+            Ok(())
+        }
         Err(fault) => Err(fault),
     }
 }
@@ -150,9 +154,8 @@ fn refused_glyphs(alloc: Global, common: &Common<'_>) -> Result<Vec<Refused>, Al
     let mut memory = Builder::new(alloc);
     for id in 0..common.font.glyph_count() {
         let glyph = common.font.glyph(id).unwrap();
-        let builder = mem::replace(&mut memory, Builder::new(alloc));
-        match look_at_glyph(alloc, builder, common, id, &glyph) {
-            Ok(builder) => memory = builder,
+        match look_at_glyph(alloc, &mut memory, common, id, &glyph) {
+            Ok(()) => {}
             Err(LookFault::Refused(refusal)) => refused.push(refusal)?,
             Err(LookFault::OutOfMemory(error)) => return Err(error),
         }

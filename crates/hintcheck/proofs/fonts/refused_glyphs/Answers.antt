@@ -6,9 +6,14 @@ use Rattle.hintcheck.specs.Looks.{IfRefused}
 use Rattle.hintcheck.specs.Programs.{IsRefusal}
 use Rattle.hintcheck.specs.declared.look.LookFault.{LookFault}
 use Rattle.hintcheck.specs.declared.report.Refused.{Refused}
-use Rattle.hintcheck.proofs.FontLists.{accepted_next, all_below, refused_next}
+use Rattle.hintcheck.proofs.FontLists.{accepted_next, all_below, glyph_there, refused_next}
 use Rattle.hintcheck.proofs.fonts.refused_glyphs.Goals as goal
 use Rattle.hintcheck.proofs.fonts.refused_glyphs.Goals.{in-Ok, in-Err-Refused+in_ok-push-in-Err-Refused}
+
+pub unwrap-glyph-requires : goal.unwrap-glyph-requires
+unwrap-glyph-requires c =
+    glyph_there c.glyph.result c.args.common.now.font.now.glyphs c.loop-id.id c.glyph.ensures
+    (omega (arith, c.loop-id-test.true, c.glyph_count-id-end.ensures))
 
 pub look_at_glyph-requires-clause-few : goal.look_at_glyph-requires-clause-few
 look_at_glyph-requires-clause-few c =
