@@ -1,4 +1,5 @@
 pub mod Reversed
+pub mod CodedCells
 pub mod StackOrders
 pub mod CoverageLemmas
 pub mod Fronts

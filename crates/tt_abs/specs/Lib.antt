@@ -5,6 +5,7 @@ pub mod Transfers
 pub mod Covers
 pub mod Settings
 pub mod Stacks
+pub mod Codes
 pub mod Taken
 pub mod Steps
 pub mod Computes

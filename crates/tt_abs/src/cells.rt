@@ -67,7 +67,7 @@ impl Order for Cell {
 
     ghost order = { cell_order };
 
-    // Without a branch, so that a loop over cells can become vector code.
+    // Without a branch, since known and unknown cells come in no order that a processor could guess.
     fn below(&self, other: &Cell) -> bool {
         let (mine, theirs) = (*self, *other);
         let is_same = mine.number_or_zero() == theirs.number_or_zero();

@@ -3,6 +3,7 @@
 
 pub mod cells;
 mod changes;
+mod codes;
 mod compute;
 mod control;
 pub mod entries;

@@ -1,10 +1,12 @@
 //! The stack of cells.
 
-ghost use Rattle.std.specs.Prelude.{◌≡◌, ℕ, ◌↔◌, ◌<◌, ◌+◌, ◌^◌, [], ◌∷◌, length, drop, remove, reverse, slice_get, IsTrue, IfSome, OnOk, OnErr, IfOk};
+ghost use Rattle.std.specs.Prelude.{◌≡◌, ℕ, ◌↔◌, ◌<◌, ◌+◌, ◌^◌, [], ◌∷◌, length, drop, remove, reverse, slice_get, slice_index, IsTrue, IfSome, OnOk, OnErr, IfOk};
 ghost use Rattle.tt_abs.specs.Orders.{IsLeastAbove};
-ghost use Rattle.tt_abs.specs.Stacks.{IsLeastCell, StackBelow, StackInRange, cell_at, first, stack_order};
+ghost use Rattle.tt_abs.specs.Codes.{cell_of_code, cells_of};
+ghost use Rattle.tt_abs.specs.Stacks.{IsLeastCell, StackBelow, first, stack_order};
 
 use crate::cells::Cell;
+use crate::codes::{cell_of, code_of, is_below, joined};
 use crate::order::{AbsFault, Order};
 use smallvec::SmallVec;
 use std::alloc::{AllocError, Global};
@@ -19,41 +21,43 @@ const INLINE_CELLS: usize = 16;
 /// A stack of cells, which contracts see top first. Up to 16 cells need no allocation.
 #[derive(Drop)]
 pub struct Stack {
-    cells: SmallVec<Cell, INLINE_CELLS>,
+    codes: SmallVec<u64, INLINE_CELLS>,
 }
 
 impl Model for Stack {
     ghost use Rattle.std.specs.Prelude.{List, length, reverse, ◌<◌, ◌^◌};
     ghost use Rattle.tt_abs.specs.declared.cells.Cell.{Cell};
+    ghost use Rattle.tt_abs.specs.Codes.{cells_of};
 
     ghost Value = { List Cell };
 
-    ghost view = { λ s. reverse s.cells.items };
+    ghost view = { λ s. reverse (cells_of s.codes.items) };
 
-    ghost invariant = { λ s. length s.cells.items < 2 ^ 31 };
+    ghost invariant = { λ s. length s.codes.items < 2 ^ 31 };
 }
 
 /// Whether the cells are as many, and each is below its partner.
-fn cells_below(mine: &[Cell], theirs: &[Cell]) -> bool
-    ensures { IsTrue result ↔ StackBelow mine.now theirs.now }
+fn cells_below(mine: &[u64], theirs: &[u64]) -> bool
+    ensures { IsTrue result ↔ StackBelow (cells_of mine.now) (cells_of theirs.now) }
 {
     if mine.len() != theirs.len() {
         return false;
     }
+    // Without a branch, so that the loop can become vector code.
     let mut all = true;
     for i in 0..mine.len() {
-        all = all & mine[i].below(&theirs[i]);
+        all = all & is_below(mine[i], theirs[i]);
     }
     all
 }
 
 /// Makes each cell the least one above it and its partner.
-fn join_cells(mine: &mut [Cell], theirs: &[Cell])
+fn join_cells(mine: &mut [u64], theirs: &[u64])
     requires { length mine.old ≡ length theirs.now }
-    ensures { (k : ℕ) → IsLeastCell (cell_at mine.old k) (cell_at theirs.now k) (cell_at mine.new k) }
+    ensures { (k : ℕ) → k < length mine.old → IsLeastCell (cell_of_code (slice_index mine.old k)) (cell_of_code (slice_index theirs.now k)) (cell_of_code (slice_index mine.new k)) }
 {
     for i in 0..mine.len() {
-        mine[i] = mine[i].joined(theirs[i]);
+        mine[i] = joined(mine[i], theirs[i]);
     }
 }
 
@@ -63,7 +67,7 @@ impl Stack {
         ensures { result ≡ [] }
     {
         Stack {
-            cells: SmallVec::new(alloc),
+            codes: SmallVec::new(alloc),
         }
     }
 
@@ -72,7 +76,7 @@ impl Stack {
         ensures value { result ≡ length self.now }
         ensures small { result < 2 ^ 31 }
     {
-        self.cells.len()
+        self.codes.len()
     }
 
     /// Puts a cell on top.
@@ -83,10 +87,10 @@ impl Stack {
         ensures ok { OnOk result (self.new ≡ cell ∷ self.old) }
         ensures err { OnErr result (self.new ≡ self.old) }
     {
-        if self.cells.len() >= MOST_CELLS {
+        if self.codes.len() >= MOST_CELLS {
             return Err(AllocError);
         }
-        self.cells.push(cell)?;
+        self.codes.push(code_of(cell))?;
         Ok(())
     }
 
@@ -95,9 +99,9 @@ impl Stack {
         ensures cell { result ≡ first (drop taken self.now) }
         ensures room { IfSome result (λ _. taken + 1 < 2 ^ 64) }
     {
-        let cells = self.cells.as_slice();
-        if taken < cells.len() {
-            Some(cells[cells.len() - 1 - taken])
+        let codes = self.codes.as_slice();
+        if taken < codes.len() {
+            Some(cell_of(codes[codes.len() - 1 - taken]))
         } else {
             None
         }
@@ -107,15 +111,20 @@ impl Stack {
     pub fn above(&self, others: usize) -> Option<Cell>
         ensures { result ≡ slice_get (reverse self.now) others }
     {
-        self.cells.as_slice().get(others).copied()
+        let codes = self.codes.as_slice();
+        if others < codes.len() {
+            Some(cell_of(codes[others]))
+        } else {
+            None
+        }
     }
 
     /// Takes so many cells from the top away, or all of them if there are fewer.
     pub fn cut(&mut self, count: usize)
         ensures { self.new ≡ drop count self.old }
     {
-        let depth = self.cells.len();
-        self.cells.truncate(depth.saturating_sub(count));
+        let depth = self.codes.len();
+        self.codes.truncate(depth.saturating_sub(count));
     }
 
     /// Takes one cell out, by its place from the top: 0 is the top.
@@ -123,20 +132,20 @@ impl Stack {
         requires { place < length self.old }
         ensures { self.new ≡ remove self.old place }
     {
-        let depth = self.cells.len();
-        self.cells.remove(depth - 1 - place);
+        let depth = self.codes.len();
+        self.codes.remove(depth - 1 - place);
     }
 
     /// Takes all cells away.
     pub fn clear(&mut self)
         ensures { self.new ≡ [] }
     {
-        self.cells.clear();
+        self.codes.clear();
     }
 
     /// Where its memory comes from.
     pub(crate) fn allocator(&self) -> Global {
-        *self.cells.allocator()
+        *self.codes.allocator()
     }
 
     /// A stack of the same cells.
@@ -146,14 +155,14 @@ impl Stack {
     pub fn copied(&self) -> Result<Stack, AllocError>
         ensures { IfOk result (λ copy. copy ≡ self.now) }
     {
-        let alloc = *self.cells.allocator();
-        let cells = self.cells.as_slice();
-        let cells = if cells.len() <= INLINE_CELLS {
-            SmallVec::from_slice(alloc, cells)?
+        let alloc = *self.codes.allocator();
+        let codes = self.codes.as_slice();
+        let codes = if codes.len() <= INLINE_CELLS {
+            SmallVec::from_slice(alloc, codes)?
         } else {
-            SmallVec::from_vec(Vec::from_slice(alloc, cells)?)
+            SmallVec::from_vec(Vec::from_slice(alloc, codes)?)
         };
-        Ok(Stack { cells })
+        Ok(Stack { codes })
     }
 
     /// Becomes a stack of the same cells, in the memory that it has where that is enough.
@@ -163,8 +172,8 @@ impl Stack {
     pub fn copy_from(&mut self, other: &Stack) -> Result<(), AllocError>
         ensures { OnOk result (self.new ≡ other.now) }
     {
-        self.cells.clear();
-        self.cells.extend_from_slice(other.cells.as_slice())
+        self.codes.clear();
+        self.codes.extend_from_slice(other.codes.as_slice())
     }
 
     /// Becomes the least stack above both, cell by cell, without memory.
@@ -172,7 +181,7 @@ impl Stack {
         requires { length self.old ≡ length other.now }
         ensures { IsLeastAbove stack_order self.old other.now self.new }
     {
-        join_cells(self.cells.as_mut_slice(), other.cells.as_slice());
+        join_cells(self.codes.as_mut_slice(), other.codes.as_slice());
     }
 }
 
@@ -183,7 +192,7 @@ impl Order for Stack {
     ghost order = { stack_order };
 
     fn below(&self, other: &Stack) -> bool {
-        cells_below(self.cells.as_slice(), other.cells.as_slice())
+        cells_below(self.codes.as_slice(), other.codes.as_slice())
     }
 
     fn join(&mut self, other: &Stack) -> Result<bool, AbsFault> {

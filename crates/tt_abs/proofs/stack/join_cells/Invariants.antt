@@ -1,10 +1,11 @@
-use Rattle.std.proofs.Common.{◌≡◌, ℕ, length, ◌<◌, ◌≤◌}
-use Rattle.tt_abs.specs.Stacks.{cell_at, IsLeastCell}
+use Rattle.std.proofs.Common.{◌≡◌, ℕ, length, ◌<◌, ◌≤◌, get_or}
+use Rattle.tt_abs.specs.Codes.{cell_of_code}
+use Rattle.tt_abs.specs.Stacks.{IsLeastCell}
 use Rattle.tt_abs.proofs.stack.join_cells.Given as goal
 
 abbrev pub invariant-loop-i : goal.invariant-loop-i
 invariant-loop-i l = record {
   depth : length l.mine ≡ length l.theirs;
-  done : (k : ℕ) → k < l.i → IsLeastCell (cell_at l.initial.mine k) (cell_at l.theirs k) (cell_at l.mine k);
-  rest : (k : ℕ) → l.i ≤ k → cell_at l.mine k ≡ cell_at l.initial.mine k;
+  done : (k : ℕ) → k < l.i → IsLeastCell (cell_of_code (get_or l.initial.mine k 0)) (cell_of_code (get_or l.theirs k 0)) (cell_of_code (get_or l.mine k 0));
+  rest : (k : ℕ) → l.i ≤ k → get_or l.mine k 0 ≡ get_or l.initial.mine k 0;
 }
