@@ -142,6 +142,54 @@ fn contexts_in_the_order_of_the_file(rt: HostRuntime) -> Result<(), Fail> {
     Ok(())
 }
 
+/// Puts states into the main program and a context, whose last frame is a call there.
+fn put_some(alloc: Global, builder: &mut Builder, call: u32, second: i32) -> Result<(), Fail> {
+    let context = add(builder, 0, call_at(call))?;
+    let state = state_of(alloc, 1, second)?;
+    put(builder, 0, 7, &state)?;
+    put(builder, context, 3, &state)?;
+    put(builder, context, 2, &start_of(alloc)?)?;
+    Ok(())
+}
+
+/// Do the contexts and the states look as `put_some` leaves them in an empty builder?
+fn has_some(builder: &Builder, call: u32, second: i32) -> bool {
+    let at = |context, offset, cell| {
+        builder
+            .state(context, offset)
+            .and_then(|state| state.cell(cell))
+    };
+    builder.contexts() == 2
+        && builder.context(1) == Some((0, call_at(call)))
+        && builder.points() == 3
+        && at(0, 7, 0) == Some(Cell::Known(1))
+        && at(0, 7, 1) == Some(Cell::Known(second))
+        && at(1, 3, 1) == Some(Cell::Known(second))
+        && builder.state(1, 2).map(State::depth) == Some(0)
+        && builder.state(1, 7).is_none()
+}
+
+#[test]
+fn cleared_builders(rt: HostRuntime) -> Result<(), Fail> {
+    let mut builder = Builder::new(rt.alloc());
+    put_some(rt.alloc(), &mut builder, 5, 2)?;
+    put(&mut builder, 0, 1, &start_of(rt.alloc())?)?;
+    builder.clear();
+    assert_eq!(rt; builder.contexts(), 1);
+    assert_eq!(rt; builder.points(), 0);
+    assert_eq!(rt; builder.state(0, 7).is_none(), true);
+    assert_eq!(rt; builder.states().take_first().is_none(), true);
+    put_some(rt.alloc(), &mut builder, 4, 9)?;
+    assert_eq!(rt; has_some(&builder, 4, 9), true);
+    let Ok(certificate) = builder.finish() else {
+        return Err(Fail::new("no certificate"));
+    };
+    let mut builder = certificate.into_builder();
+    put_some(rt.alloc(), &mut builder, 6, 8)?;
+    assert_eq!(rt; has_some(&builder, 6, 8), true);
+    Ok(())
+}
+
 #[test]
 fn functions_at_the_end(rt: HostRuntime) -> Result<(), Fail> {
     let mut builder = Builder::new(rt.alloc());
