@@ -152,41 +152,46 @@ fn put_some(alloc: Global, builder: &mut Builder, call: u32, second: i32) -> Res
     Ok(())
 }
 
-/// Do the contexts and the states look as `put_some` leaves them in an empty builder?
-fn has_some(builder: &Builder, call: u32, second: i32) -> bool {
-    let at = |context, offset, cell| {
-        builder
-            .state(context, offset)
-            .and_then(|state| state.cell(cell))
-    };
-    builder.contexts() == 2
-        && builder.context(1) == Some((0, call_at(call)))
-        && builder.points() == 3
-        && at(0, 7, 0) == Some(Cell::Known(1))
-        && at(0, 7, 1) == Some(Cell::Known(second))
-        && at(1, 3, 1) == Some(Cell::Known(second))
-        && builder.state(1, 2).map(State::depth) == Some(0)
-        && builder.state(1, 7).is_none()
+/// The second cell from the bottom of the stack at a point.
+fn second_cell(builder: &Builder, context: u32, offset: u32) -> Option<Cell> {
+    match builder.state(context, offset) {
+        Some(state) => state.cell(1),
+        None => None,
+    }
 }
 
 #[test]
 fn cleared_builders(rt: HostRuntime) -> Result<(), Fail> {
     let mut builder = Builder::new(rt.alloc());
     put_some(rt.alloc(), &mut builder, 5, 2)?;
-    put(&mut builder, 0, 1, &start_of(rt.alloc())?)?;
     builder.clear();
     assert_eq!(rt; builder.contexts(), 1);
     assert_eq!(rt; builder.points(), 0);
-    assert_eq!(rt; builder.state(0, 7).is_none(), true);
-    assert_eq!(rt; builder.states().take_first().is_none(), true);
+    assert_eq!(rt; second_cell(&builder, 0, 7), None);
     put_some(rt.alloc(), &mut builder, 4, 9)?;
-    assert_eq!(rt; has_some(&builder, 4, 9), true);
+    assert_eq!(rt; builder.contexts(), 2);
+    assert_eq!(rt; builder.context(1), Some((0, call_at(4))));
+    assert_eq!(rt; builder.points(), 3);
+    assert_eq!(rt; second_cell(&builder, 0, 7), Some(Cell::Known(9)));
+    assert_eq!(rt; second_cell(&builder, 1, 3), Some(Cell::Known(9)));
+    assert_eq!(rt; second_cell(&builder, 1, 2), None);
+    Ok(())
+}
+
+#[test]
+fn builder_in_the_memory_of_a_certificate(rt: HostRuntime) -> Result<(), Fail> {
+    let mut builder = Builder::new(rt.alloc());
+    put_some(rt.alloc(), &mut builder, 5, 2)?;
     let Ok(certificate) = builder.finish() else {
         return Err(Fail::new("no certificate"));
     };
     let mut builder = certificate.into_builder();
-    put_some(rt.alloc(), &mut builder, 6, 8)?;
-    assert_eq!(rt; has_some(&builder, 6, 8), true);
+    assert_eq!(rt; builder.contexts(), 1);
+    assert_eq!(rt; builder.points(), 0);
+    put_some(rt.alloc(), &mut builder, 4, 9)?;
+    assert_eq!(rt; builder.context(1), Some((0, call_at(4))));
+    assert_eq!(rt; builder.points(), 3);
+    assert_eq!(rt; second_cell(&builder, 1, 3), Some(Cell::Known(9)));
     Ok(())
 }
 
