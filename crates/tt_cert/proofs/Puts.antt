@@ -1,14 +1,13 @@
 -- What a map with one write is, as a function from places.
-use Rattle.std.specs.Prelude.{◌≡◌, ◌≢◌, ◌↔◌, ◌⊎◌, ◌<◌, ℕ, Bool, true, false, Option, Some, None, IsSome, IsFalse, is_some}
+use Rattle.std.specs.Prelude.{◌≡◌, ◌≢◌, ◌⊎◌, ◌<◌, ℕ, false}
 use Rattle.std.specs.declared.cmp.Ordering.{Ordering}
 use Rattle.std.specs.declared.cmp.Ordering.TheVariants.{Less, Equal, Greater}
 use Rattle.std.specs.Ordering.{nat_cmp, ordering_then, is_eq}
 use Rattle.std.specs.Cmp.{nat_cmp_is}
-use Rattle.std.specs.BTreeMap.{BTreeMap, get, get_by, is_at, UpdatesBy, WritesThrough}
-use Rattle.std.proofs.Common.{refl, sym, ◌∙◌, ap, subst, arith, inl, inr}
+use Rattle.std.specs.BTreeMap.{is_at}
+use Rattle.std.proofs.Common.{refl, sym, ap, arith, inl, inr}
 use Rattle.std.proofs.lemmas.Bool.{cases_lt, cases_eq}
-use Rattle.tt_abs.specs.Orders.{Order, IsLeastAbove}
-use Rattle.tt_cert.specs.Places.{place_cmp, states_of, PutGives, PutsAt}
+use Rattle.tt_cert.specs.Places.{place_cmp}
 
 pub numbers_apart : (x y : ℕ) → x ≢ y → is_eq (nat_cmp x y) ≡ false
 numbers_apart x y apart = elim (cases_lt x y) [

@@ -1,14 +1,11 @@
 -- What a put leaves of a builder.
-use Rattle.std.specs.Prelude.{◌≡◌, ◌≢◌, ◌⊎◌, ◌↔◌, ℕ, ◌+◌, ◌≤◌, ◌<◌, Bool, true, false, Option, Some, None, List, [], ◌∷◌, ◌++◌, length, slice_index_or, unwrap_or, Ok, Err, IfOk, OnOk, OnErr, Result}
-use Rattle.std.specs.declared.cmp.Ordering.{Ordering}
-use Rattle.std.specs.Ordering.{nat_cmp}
+use Rattle.std.specs.Prelude.{◌≡◌, ℕ, ◌+◌, ◌≤◌, ◌<◌, Bool, Option, Some, None, List, length, unwrap_or, Ok, Err, IfOk, OnOk, OnErr, Result}
 use Rattle.std.specs.Cmp.{IsTotalOrder}
-use Rattle.std.specs.Option.{option_map, option_copied, IsSome, is_some, IfSome}
+use Rattle.std.specs.Option.{option_map, option_copied, IfSome}
 use Rattle.std.specs.List.{sum_by, All}
 use Rattle.std.specs.List.Sorted.{IsStrictlySortedBy}
-use Rattle.std.specs.Map.{values_of, keys_of, set_value, lookup}
-use Rattle.std.specs.BTreeMap.{BTreeMap, is_at, insert_entry, get_by, UpdatesBy, WritesThrough, IsOrdered}
-use Rattle.std.proofs.lemmas.Map.Steps.{set_value_same}
+use Rattle.std.specs.Map.{values_of, keys_of, set_value}
+use Rattle.std.specs.BTreeMap.{BTreeMap, is_at, insert_entry}
 use Rattle.std.proofs.Common.{refl, sym, ◌∙◌, ap, subst, arith, inl, inr, Bor}
 use Rattle.std.proofs.lemmas.Cmp.{then_total, on_total, nat_cmp_total}
 use Rattle.std.proofs.lemmas.Map.Entries.{sum_by-set_value, sum_by-insert_entry}
@@ -17,7 +14,7 @@ use Rattle.tt_abs.specs.States.{state_order}
 use Rattle.tt_code.specs.declared.machine.Frame.{Frame}
 use Rattle.tt_cert.specs.Places.{place_cmp, states_of, PutGives, PutsAt}
 use Rattle.tt_cert.specs.Contexts.{frames_of}
-use Rattle.tt_cert.specs.Contents.{Contents, IsFamily, family_of, frames_at, total}
+use Rattle.tt_cert.specs.Contents.{Contents, IsFamily, family_of}
 use Rattle.tt_cert.specs.Puts.{Reweighs, ReweighsStates, place_of, weigh, PutsAt-family, Reweighs-family, family_at}
 use Rattle.tt_cert.specs.Built.{Key, IsBuilt}
 use Rattle.tt_cert.specs.declared.fault.BuildFault.{BuildFault}

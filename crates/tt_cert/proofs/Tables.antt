@@ -1,17 +1,17 @@
 -- What becomes of a table of states when a slot is written or a place gets one.
-use Rattle.std.specs.Prelude.{◌≡◌, ◌≢◌, ◌↔◌, ◌⊎◌, ℕ, ◌+◌, ◌≤◌, ◌<◌, Bool, true, false, IsFalse, cond, Option, Some, None, List, [], ◌∷◌, length, slice_index_or, slice_set, slice_get, zero, suc}
+use Rattle.std.specs.Prelude.{◌≡◌, ◌≢◌, ◌↔◌, ◌⊎◌, ℕ, ◌+◌, ◌≤◌, ◌<◌, Bool, true, false, IsFalse, cond, Option, Some, None, List, [], ◌∷◌, length, slice_index_or, slice_set, slice_get, suc}
 use Rattle.std.specs.declared.cmp.Ordering.{Ordering}
 use Rattle.std.specs.declared.cmp.Ordering.TheVariants.{Less, Equal, Greater}
-use Rattle.std.specs.Ordering.{eq_by_cmp, match_ordering}
+use Rattle.std.specs.Ordering.{match_ordering}
 use Rattle.std.specs.Option.{option_map, is_some}
 use Rattle.std.specs.List.{All}
 use Rattle.std.specs.List.Sorted.{IsStrictlySortedBy}
-use Rattle.std.specs.Map.{keys_of, set_value, lookup}
+use Rattle.std.specs.Map.{keys_of, set_value}
 use Rattle.std.specs.BTreeMap.{BTreeMap, is_at, insert_entry, UpdatesBy}
 use Rattle.std.proofs.Common.{refl, sym, ◌∙◌, ap, subst, arith, inl, inr}
-use Rattle.std.proofs.lemmas.Bool.{cases_lt, cases_eq, cases_Bool}
+use Rattle.std.proofs.lemmas.Bool.{cases_lt, cases_Bool}
 use Rattle.std.proofs.lemmas.Cmp.{eq_by_cmp_equiv, tied_itself}
-use Rattle.std.proofs.lemmas.List.{length-set, get_or-set_same, get_or-set_other}
+use Rattle.std.proofs.lemmas.List.{get_or-set_same, get_or-set_other}
 use Rattle.std.proofs.lemmas.Map.Entries.{lookup_from_place, place_from_lookup}
 use Rattle.std.proofs.lemmas.Map.Keys.{IsDistinct-from_sorted, Less-from_sorted}
 use Rattle.std.proofs.lemmas.Option.{slice_get-map, slice_get_read, slice_get_within, slice_get-get_or, get_or_from_slice_get}
@@ -28,11 +28,11 @@ abbrev Slots : Type 0
 Slots = List ((ℕ × ℕ) × ℕ)
 
 -- an entry's value is what its place has
-pub entry_at : {X : Type 0} (es : List ((ℕ × ℕ) × X)) (i : ℕ) (e : (ℕ × ℕ) × X) → IsStrictlySortedBy place_cmp (keys_of es) → slice_get es i ≡ Some e
+entry_at : {X : Type 0} (es : List ((ℕ × ℕ) × X)) (i : ℕ) (e : (ℕ × ℕ) × X) → IsStrictlySortedBy place_cmp (keys_of es) → slice_get es i ≡ Some e
     → states_of es e.0 ≡ Some e.1
 entry_at es i e rises at = lookup_from_place (eq_by_cmp_equiv place_total) es i e.0 e.1 (IsDistinct-from_sorted place_cmp (keys_of es) rises) at
 
-pub keys_of-table : (slots : List State) (es : Slots) → keys_of (table_of slots es) ≡ keys_of es
+keys_of-table : (slots : List State) (es : Slots) → keys_of (table_of slots es) ≡ keys_of es
 keys_of-table slots [] = refl
 keys_of-table slots (e ∷ es) = ap (λ l. e.0 ∷ l) (keys_of-table slots es)
 
@@ -40,7 +40,7 @@ pub length-table : (slots : List State) (es : Slots) → length (table_of slots 
 length-table slots [] = refl
 length-table slots (e ∷ es) = let ih = length-table slots es in omega arith
 
-pub states_of-table : (slots : List State) (es : Slots) (p : ℕ × ℕ) → states_of (table_of slots es) p ≡ option_map (state_in slots) (states_of es p)
+states_of-table : (slots : List State) (es : Slots) (p : ℕ × ℕ) → states_of (table_of slots es) p ≡ option_map (state_in slots) (states_of es p)
 states_of-table slots [] p = refl
 states_of-table slots (e ∷ es) p =
     elim (is_at (place_cmp p) e.0) as (λ b. cond b (Some (state_in slots e.1)) (states_of (table_of slots es) p) ≡ option_map (state_in slots) (cond b (Some e.1) (states_of es p))) [
@@ -153,7 +153,7 @@ module _ (slots : List State) (es : Slots) (table : IsTable slots es) where
       go None e = refl
       go (Some n) e = absurd (cc)
 
-  pub index_once : (i j : ℕ) (d e : (ℕ × ℕ) × ℕ) → slice_get es i ≡ Some d → slice_get es j ≡ Some e → d.1 ≡ e.1 → i ≡ j
+  index_once : (i j : ℕ) (d e : (ℕ × ℕ) × ℕ) → slice_get es i ≡ Some d → slice_get es j ≡ Some e → d.1 ≡ e.1 → i ≡ j
   index_once i j d e at_i at_j same =
       let here = entry_at es i d table.rises at_i in
       let there = entry_at es j e table.rises at_j in
@@ -178,17 +178,8 @@ puts_from old new k t changed before after before_is after_is gives elsewhere =
 
 -- a write of the slot of a place
 module _ (slots : List State) (es : Slots) (table : IsTable slots es) (k : ℕ × ℕ) (n : ℕ) (at : Some n ≡ states_of es k) where
-  pub set_table_is : (u : State) → table_of (slice_set slots n u) es ≡ set_value (is_at (place_cmp k)) (table_of slots es) u
+  set_table_is : (u : State) → table_of (slice_set slots n u) es ≡ set_value (is_at (place_cmp k)) (table_of slots es) u
   set_table_is u = set_table slots es k n u (index_once slots es table) (sym at) (slot_there slots es table k n at)
-
-  pub IsTable-set : (u : State) → IsTable (slice_set slots n u) es
-  IsTable-set u = record {
-    rises = table.rises;
-    first = table.first;
-    once = table.once;
-    enough = let long = length-set slots n u in let enough = table.enough in omega arith;
-    fits = table.fits;
-  }
 
   state_now : (u : State) → Some u ≡ states_of (table_of (slice_set slots n u) es) k
   state_now u =
@@ -211,17 +202,6 @@ module _ (slots : List State) (es : Slots) (table : IsTable slots es) (k : ℕ �
     Reweighs-set u =
         sums_written t (table_of (slice_set slots n u) es) k old u old_is (sym (state_now u)) (set_table_is u ∙ ap (λ l. set_value (is_at (place_cmp k)) l u) is)
 
-    -- a write of what was there
-    pub set_same : (u : State) → u ≡ old → table_of (slice_set slots n u) es ≡ t
-    set_same u same =
-        same_table slots (slice_set slots n u) es (λ i e at_i. elim (cases_eq e.1 n) [
-          | inl here ↦
-              ap (state_in (slice_set slots n u)) here ∙ get_or-set_same slots n u (start_of []) (slot_there slots es table k n at) ∙ same
-              ∙ sym (get_or_from_slice_get slots n old (start_of []) (slice_get_read slots (length slots) n old refl (slot_there slots es table k n at) read))
-              ∙ ap (state_in slots) (sym here)
-          | inr apart ↦ get_or-set_other slots n e.1 u (start_of []) apart
-        ]) ∙ is
-
 -- what is said of the depth of the state that stands at a place
 pub one_depth : (x : Option State) (old t s : State) → Some old ≡ x → state_order.SameDepth old t → x ≡ Some s → state_order.SameDepth s t
 one_depth x old t s is deep has =
@@ -232,7 +212,7 @@ one_depth x old t s is deep has =
 
 -- slots behind those of the places may change
 module _ (slots slots' : List State) (es : Slots) (table : IsTable slots es) (agrees : AgreesBelow (length es) slots slots') (long : length slots ≤ length slots') where
-  pub IsTable-kept : IsTable slots' es
+  IsTable-kept : IsTable slots' es
   IsTable-kept = record {
     rises = table.rises;
     first = table.first;
@@ -245,9 +225,6 @@ module _ (slots slots' : List State) (es : Slots) (table : IsTable slots es) (ag
   table_kept t is = same_table slots slots' es (λ i e at. agrees e.1 (table.first e.0 e.1 (entry_at es i e table.rises at))) ∙ is
 
   module _ (es' : Slots) (same : es' ≡ es) where
-    pub IsTable-same : IsTable slots' es'
-    IsTable-same = let T : Slots → Type 0 = λ x. IsTable slots' x in subst T (sym same) IsTable-kept
-
     pub table_same : (t : List ((ℕ × ℕ) × State)) → table_of slots es ≡ t → table_of slots' es' ≡ t
     table_same t is = ap (table_of slots') same ∙ table_kept t is
 

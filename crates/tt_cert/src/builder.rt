@@ -256,7 +256,7 @@ impl Builder {
         self.states.join(context, offset, state)
     }
 
-    /// Takes all states and all contexts but the empty one away, and keeps the memory.
+    /// Takes all states and all contexts but the empty one away, and keeps their memory, that of the maps by key aside.
     pub fn clear(&mut self)
         ensures contexts { self.new.contexts ≡ [] ∷ [] }
         ensures states { self.new.states ≡ [] }

@@ -142,6 +142,59 @@ fn contexts_in_the_order_of_the_file(rt: HostRuntime) -> Result<(), Fail> {
     Ok(())
 }
 
+/// Puts states into the main program and a context, whose last frame is a call there.
+fn put_some(alloc: Global, builder: &mut Builder, call: u32, second: i32) -> Result<(), Fail> {
+    let context = add(builder, 0, call_at(call))?;
+    let state = state_of(alloc, 1, second)?;
+    put(builder, 0, 7, &state)?;
+    put(builder, context, 3, &state)?;
+    put(builder, context, 2, &start_of(alloc)?)?;
+    Ok(())
+}
+
+/// The second cell from the bottom of the stack at a point.
+fn second_cell(builder: &Builder, context: u32, offset: u32) -> Option<Cell> {
+    match builder.state(context, offset) {
+        Some(state) => state.cell(1),
+        None => None,
+    }
+}
+
+#[test]
+fn cleared_builders(rt: HostRuntime) -> Result<(), Fail> {
+    let mut builder = Builder::new(rt.alloc());
+    put_some(rt.alloc(), &mut builder, 5, 2)?;
+    builder.clear();
+    assert_eq!(rt; builder.contexts(), 1);
+    assert_eq!(rt; builder.points(), 0);
+    assert_eq!(rt; second_cell(&builder, 0, 7), None);
+    put_some(rt.alloc(), &mut builder, 4, 9)?;
+    assert_eq!(rt; builder.contexts(), 2);
+    assert_eq!(rt; builder.context(1), Some((0, call_at(4))));
+    assert_eq!(rt; builder.points(), 3);
+    assert_eq!(rt; second_cell(&builder, 0, 7), Some(Cell::Known(9)));
+    assert_eq!(rt; second_cell(&builder, 1, 3), Some(Cell::Known(9)));
+    assert_eq!(rt; second_cell(&builder, 1, 2), None);
+    Ok(())
+}
+
+#[test]
+fn builder_in_the_memory_of_a_certificate(rt: HostRuntime) -> Result<(), Fail> {
+    let mut builder = Builder::new(rt.alloc());
+    put_some(rt.alloc(), &mut builder, 5, 2)?;
+    let Ok(certificate) = builder.finish() else {
+        return Err(Fail::new("no certificate"));
+    };
+    let mut builder = certificate.into_builder();
+    assert_eq!(rt; builder.contexts(), 1);
+    assert_eq!(rt; builder.points(), 0);
+    put_some(rt.alloc(), &mut builder, 4, 9)?;
+    assert_eq!(rt; builder.context(1), Some((0, call_at(4))));
+    assert_eq!(rt; builder.points(), 3);
+    assert_eq!(rt; second_cell(&builder, 1, 3), Some(Cell::Known(9)));
+    Ok(())
+}
+
 #[test]
 fn functions_at_the_end(rt: HostRuntime) -> Result<(), Fail> {
     let mut builder = Builder::new(rt.alloc());

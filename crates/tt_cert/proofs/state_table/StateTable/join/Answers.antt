@@ -17,7 +17,7 @@ pub returns-in_default-join-clause-depth : goal.returns-in_default-join-clause-d
 returns-in_default-join-clause-depth c = λ _. (
   c.index_mut-slot.result.now,
   sym (state_found _ _ c.self.invariant _ c.self.view_is (c.args.context, c.args.offset) c.in-Some.number.now c.in-Some.ensures.value c.index_mut-slot.result.now
-  c.index_mut-slot.ensures.value),
+      c.index_mut-slot.ensures.value),
   c.in_default-join.ensures.refused,
 )
 
