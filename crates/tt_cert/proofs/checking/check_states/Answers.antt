@@ -1,4 +1,4 @@
-use Rattle.std.proofs.Common.{rules, ◌≡◌, ℕ, List, ◌∷◌, ap, subst, sym, ◌∙◌, refl}
+use Rattle.std.proofs.Common.{rules, ℕ, List, ap, subst, sym, ◌∙◌}
 use Rattle.tt_abs.specs.Settings.{setting_of}
 use Rattle.tt_abs.specs.declared.state.State.{State}
 use Rattle.tt_cert.specs.Checks.{AreToldBefore, BreaksAt, IsSoundAt, Names}
