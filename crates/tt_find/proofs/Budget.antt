@@ -13,7 +13,8 @@ use Rattle.tt_cert.specs.Places.{PutGives, PutsAt, states_of}
 use Rattle.tt_cert.specs.Puts.{Reweighs, place_of, weigh}
 use Rattle.tt_find.specs.Tables.{IsWithinBudget}
 
-sum_ones : (xs : List ((ℕ × ℕ) × State)) → sum_by (λ _. 1) (values_of xs) ≡ length xs
+-- how many states there are, as a sum
+pub sum_ones : (xs : List ((ℕ × ℕ) × State)) → sum_by (λ _. 1) (values_of xs) ≡ length xs
 sum_ones [] = refl
 sum_ones (x ∷ xs) = let ih = sum_ones xs in let e = sum_by-cons (λ (_ : State). 1) x.1 (values_of xs) in omega arith
 

@@ -2,6 +2,7 @@ pub mod Sound
 pub mod Marked
 pub mod Points
 pub mod Budget
+pub mod Placed
 pub mod Ways
 pub mod Followed
 pub mod Starting

@@ -15,7 +15,7 @@ use Rattle.tt_abs.specs.StateFlow.{Place, RefusesState, flow_of, height_of}
 use Rattle.tt_abs.specs.States.{abstract_of, state_order}
 use Rattle.tt_abs.specs.Transfers.{outcome_on_cells}
 use Rattle.tt_cert.specs.Contents.{Contents, IsFamily, family_of, frames_at, number_of, points_of, total}
-use Rattle.tt_cert.specs.Places.{PutsAt}
+use Rattle.tt_cert.specs.Places.{PutsAt, states_of}
 use Rattle.tt_cert.specs.Puts.{Reweighs, place_of}
 use Rattle.tt_find.specs.Marks.{has_mark}
 use Rattle.tt_find.specs.declared.table.Table.{Table}
@@ -121,10 +121,11 @@ abbrev pub IsCarried : Setting → (Place → Option State) → Place → Option
 IsCarried s family p None t = (a : State) → family p ≡ Some a → is_main_end s p.0 p.1 ≡ true
 IsCarried s family p (Some ways) t = IsCarriedOn s family p ways t
 
--- the walk's calls are those of its context
-pub record IsWalk (contexts : List (List Frame)) (walk : Walk) : Type 0 where
-  pub there : walk.context < length contexts
-  pub calls : walk.frames.items ≡ reverse (frames_at contexts walk.context)
+-- the walk's calls are those of its context, and its state is that of the point that it knows
+pub record IsWalk (contents : Contents) (walk : Walk) : Type 0 where
+  pub there : walk.context < length contents.contexts
+  pub calls : walk.frames.items ≡ reverse (frames_at contents.contexts walk.context)
+  pub known : (c offset : ℕ) → walk.known ≡ Some (c, offset) → states_of contents.states (c, offset) ≡ Some walk.state
 
 -- the context's last call returns to an offset of 32 bits, and its next turn is a number of 32 bits
 abbrev pub IsCountable : List (List Frame) → ℕ → Type 0

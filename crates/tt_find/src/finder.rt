@@ -54,7 +54,7 @@ fn start_table(alloc: Global, builder: Builder, setting: &Setting<'_>) -> Result
         marked: Marks::new(alloc),
         updates: 0,
     };
-    let Ok(()) = table.put(0, 0, &state) else {
+    let Ok(_) = table.put(0, 0, &state) else {
         return Err(AllocError);
     };
     Ok(table)

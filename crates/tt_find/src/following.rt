@@ -40,15 +40,17 @@ fn carried(
     offset: u32,
 ) -> Result<Option<Moves>, FindFault>
     requires there { context < length builder.now.contexts }
-    requires walk { IsWalk builder.now.contexts walk.old }
+    requires walk { IsWalk builder.now walk.old }
     ensures carried { IfOk result (λ moves. IsCarried (setting_of setting.now) (family_of builder.now) (place_of builder.now context offset) moves walk.new.state) }
-    ensures walk { IfOk result (λ _. IsWalk builder.now.contexts walk.new) }
+    ensures walk { IfOk result (λ _. IsWalk builder.now walk.new) }
     ensures refused { IfErr result (NamesPlace (IsRefusedAt (setting_of setting.now) (family_of builder.now) (place_of builder.now context offset))) }
 {
-    let Some(state) = builder.state(context, offset) else {
-        return Ok(None);
-    };
+    builder.contexts();
     walk.go_to(builder, context)?;
+    let found = walk.take(builder, context, offset)?;
+    if !found {
+        return Ok(None);
+    }
     let point = Point {
         frames: walk.frames.as_slice(),
         offset,
@@ -56,7 +58,7 @@ fn carried(
     if setting.is_end(&point, offset) {
         return Ok(None);
     }
-    walk.state.copy_from(state)?;
+    walk.known = None;
     match stepped(setting, &point, &mut walk.state) {
         Ok(moves) => Ok(Some(moves)),
         Err(Refusal::Refused(reason)) => Err(refused_at(builder, context, offset, reason)),
@@ -78,11 +80,11 @@ pub(crate) fn follow(
 ) -> Result<(), FindFault>
     requires laws { HasLaws (setting_of setting.now) setting.now.start.now }
     requires there { context < length table.old.builder.contexts }
-    requires walk { IsWalk table.old.builder.contexts walk.old }
+    requires walk { IsWalk table.old.builder walk.old }
     requires sound { IsSound (setting_of setting.now) setting.now.start.now table.old (λ p. p ≡ place_of table.old.builder context offset) (λ _ _. ⊥) }
     ensures whole { IfOk result (λ _. IsWhole (setting_of setting.now) setting.now.start.now table.new) }
     ensures risen { IfOk result (λ _. HasRisen table.old table.new) }
-    ensures walk { IfOk result (λ _. IsWalk table.new.builder.contexts walk.new) }
+    ensures walk { IfOk result (λ _. IsWalk table.new.builder walk.new) }
     ensures justified { IfErr result (NamesPlace (IsJustified (setting_of setting.now) setting.now.start.now)) }
 {
     let carried = match carried(&table.builder, walk, setting, context, offset) {
@@ -102,13 +104,13 @@ pub(crate) fn follow(
                 }
                 Err(_) => return Err(FindFault::OutOfMemory(AllocError)),
             };
-            table.put(number, at, &walk.state)
+            walk.put(table, number, at)
         }
         Moves::Two(first, second) => {
-            if let Err(fault) = table.put(context, first, &walk.state) {
+            if let Err(fault) = walk.put(table, context, first) {
                 return Err(fault);
             }
-            table.put(context, second, &walk.state)
+            walk.put(table, context, second)
         }
     }
 }

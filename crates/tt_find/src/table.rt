@@ -1,8 +1,9 @@
 //! The family so far, and what is still to be carried on.
 
-ghost use Rattle.std.specs.Prelude.{◌≡◌, ◌<◌, IfOk, IfErr, length};
+ghost use Rattle.std.specs.Prelude.{◌≡◌, ◌<◌, IfOk, IfErr, IsTrue, Some, length};
 ghost use Rattle.tt_abs.specs.States.{state_order};
 ghost use Rattle.tt_cert.specs.Contents.{family_of, frames_at};
+ghost use Rattle.tt_cert.specs.Places.{states_of};
 ghost use Rattle.tt_cert.specs.Puts.{place_of};
 ghost use Rattle.tt_cert.specs.Spots.{spot_of};
 ghost use Rattle.tt_find.specs.Found.{NamesPlace};
@@ -37,17 +38,25 @@ pub(crate) fn refused_at(builder: &Builder, context: u32, offset: u32, reason: R
 }
 
 impl Table {
-    /// Puts a state at a point. If it is new there or makes a change, the point is marked, and one update counted.
+    /// Puts a state at a point, and answers whether the point is new. If it is, or if the state makes a change, the point is marked, and one
+    /// update counted.
     ///
     /// # Errors
     /// `Refused` for a state of another depth, at the point; `OutOfMemory`.
-    pub(crate) fn put(&mut self, context: u32, offset: u32, state: &State) -> Result<(), FindFault>
+    pub(crate) fn put(
+        &mut self,
+        context: u32,
+        offset: u32,
+        state: &State,
+    ) -> Result<bool, FindFault>
         requires there { context < length self.old.builder.contexts }
         requires in_range { state_order.InRange state.now }
         requires room { self.old.updates < 18446744073709551615 }
         ensures put { IfOk result (λ _. IsPut self.old self.new context offset state.now) }
+        ensures new { IfOk result (λ new. IsTrue new → states_of self.new.builder.states (context, offset) ≡ Some state.now) }
         ensures apart { IfErr result (NamesPlace (IsApart (family_of self.old.builder) (place_of self.old.builder context offset) state.now)) }
     {
+        let points = self.builder.points();
         let changed = match self.builder.join_state(context, offset, state) {
             Ok(changed) => changed,
             Err(BuildFault::DepthMismatch) => {
@@ -56,12 +65,12 @@ impl Table {
             Err(_) => return Err(FindFault::OutOfMemory(AllocError)),
         };
         if !changed {
-            return Ok(());
+            return Ok(false);
         }
         if let Err(_) = self.marked.insert((context, offset)) {
             return Err(FindFault::OutOfMemory(AllocError));
         }
         self.updates += 1;
-        Ok(())
+        Ok(self.builder.points() != points)
     }
 }

@@ -1,9 +1,15 @@
 //! What is kept from point to point.
 
-ghost use Rattle.std.specs.Prelude.{◌≡◌, ◌<◌, IfOk, length};
-ghost use Rattle.tt_cert.specs.Contents.{Contents, IsFamily};
-ghost use Rattle.tt_find.specs.Tables.{IsWalk};
+ghost use Rattle.std.specs.Prelude.{◌≡◌, ◌↔◌, ◌<◌, IfErr, IfOk, IsFalse, IsTrue, None, Some, length};
+ghost use Rattle.tt_abs.specs.States.{state_order};
+ghost use Rattle.tt_cert.specs.Contents.{Contents, IsFamily, family_of};
+ghost use Rattle.tt_cert.specs.Places.{states_of};
+ghost use Rattle.tt_cert.specs.Puts.{place_of};
+ghost use Rattle.tt_find.specs.Found.{NamesPlace};
+ghost use Rattle.tt_find.specs.Tables.{IsApart, IsPut, IsWalk};
 
+use crate::fault::FindFault;
+use crate::table::Table;
 use std::alloc::{AllocError, Global};
 use tt_abs::State;
 use tt_cert::Builder;
@@ -15,6 +21,8 @@ pub(crate) struct Walk {
     pub context: u32,
     pub frames: Vec<Frame>,
     pub state: State,
+    /// A point whose state this is, as its context's number and its offset.
+    pub known: Option<(u32, u32)>,
 }
 
 impl Walk {
@@ -23,12 +31,13 @@ impl Walk {
     /// # Errors
     /// If memory runs out.
     pub(crate) fn start(alloc: Global) -> Result<Walk, AllocError>
-        ensures { IfOk result (λ walk. (contents : Contents) → IsFamily contents → IsWalk contents.contexts walk) }
+        ensures { IfOk result (λ walk. (contents : Contents) → IsFamily contents → IsWalk contents walk) }
     {
         Ok(Walk {
             context: 0,
             frames: Vec::new(alloc),
             state: State::start(alloc, &[])?,
+            known: None,
         })
     }
 
@@ -37,14 +46,85 @@ impl Walk {
     /// # Errors
     /// If memory runs out.
     pub(crate) fn go_to(&mut self, builder: &Builder, context: u32) -> Result<(), AllocError>
-        requires walk { IsWalk builder.now.contexts self.old }
+        requires walk { IsWalk builder.now self.old }
         requires there { context < length builder.now.contexts }
-        ensures walk { IfOk result (λ _. IsWalk builder.now.contexts self.new) }
+        ensures walk { IfOk result (λ _. IsWalk builder.now self.new) }
         ensures context { IfOk result (λ _. self.new.context ≡ context) }
     {
         if context != self.context {
             self.frames = builder.frames(*self.frames.allocator(), context)?;
             self.context = context;
+        }
+        Ok(())
+    }
+
+    /// Takes the state at a point over, where it isn't that one already. False if there is none.
+    ///
+    /// # Errors
+    /// If memory runs out.
+    pub(crate) fn take(
+        &mut self,
+        builder: &Builder,
+        context: u32,
+        offset: u32,
+    ) -> Result<bool, AllocError>
+        requires { IsWalk builder.now self.old }
+        ensures some { IfOk result (λ found. IsTrue found → states_of builder.now.states (context, offset) ≡ Some self.new.state) }
+        ensures none { IfOk result (λ found. IsFalse found → states_of builder.now.states (context, offset) ≡ None) }
+        ensures walk { IfOk result (λ _. IsWalk builder.now self.new) }
+        ensures context { self.new.context ≡ self.old.context }
+    {
+        if self.is_at(context, offset) {
+            return Ok(true);
+        }
+        let Some(state) = builder.state(context, offset) else {
+            return Ok(false);
+        };
+        self.state.copy_from(state)?;
+        self.known = Some((context, offset));
+        Ok(true)
+    }
+
+    /// Is the state known to be that at a point?
+    fn is_at(&self, context: u32, offset: u32) -> bool
+        ensures { IsTrue result ↔ (self.now.known ≡ Some (context, offset)) }
+    {
+        match self.known {
+            Some(known) => known == (context, offset),
+            None => false,
+        }
+    }
+
+    /// Puts the state at a point, as `Table::put` does. A point that is new has this state from then on.
+    ///
+    /// # Errors
+    /// As `Table::put`.
+    pub(crate) fn put(
+        &mut self,
+        table: &mut Table,
+        context: u32,
+        offset: u32,
+    ) -> Result<(), FindFault>
+        requires there { context < length table.old.builder.contexts }
+        requires in_range { state_order.InRange self.old.state }
+        requires room { table.old.updates < 18446744073709551615 }
+        requires walk { IsWalk table.old.builder self.old }
+        ensures put { IfOk result (λ _. IsPut table.old table.new context offset self.old.state) }
+        ensures apart { IfErr result (NamesPlace (IsApart (family_of table.old.builder) (place_of table.old.builder context offset) self.old.state)) }
+        ensures state { self.new.state ≡ self.old.state }
+        ensures walk { IfOk result (λ _. IsWalk table.new.builder self.new) }
+    {
+        table.builder.contexts();
+        let new = match table.put(context, offset, &self.state) {
+            Ok(new) => new,
+            Err(fault) => return Err(fault),
+        };
+        if self.known.is_none() {
+            if new {
+                self.known = Some((context, offset));
+            }
+        } else if self.is_at(context, offset) {
+            self.known = None;
         }
         Ok(())
     }

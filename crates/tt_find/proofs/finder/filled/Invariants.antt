@@ -5,7 +5,7 @@ use Rattle.tt_find.specs.Tables.{IsWalk, IsWhole}
 use Rattle.tt_find.proofs.finder.filled.Given as goal
 
 abbrev pub invariant-loop-context : goal.invariant-loop-context
-invariant-loop-context l = record { whole : IsWhole (setting_of l.setting) l.setting.start.now l.table; walk : IsWalk l.table.builder.contexts l.walk }
+invariant-loop-context l = record { whole : IsWhole (setting_of l.setting) l.setting.start.now l.table; walk : IsWalk l.table.builder l.walk }
 
 abbrev pub decreases-loop-context : goal.decreases-loop-context
 decreases-loop-context l = 2 * (4294967295 * (1 + height_of (setting_of l.setting)) - l.table.updates) + length l.table.marked

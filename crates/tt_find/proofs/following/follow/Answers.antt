@@ -1,13 +1,15 @@
 use Rattle.std.proofs.Common.{◌∙◌, ap, subst}
-use Rattle.std.specs.Prelude.{Option}
+use Rattle.std.specs.Prelude.{IfErr, IfOk, Option}
 use Rattle.tt_abs.specs.declared.moves.Moves.{Moves}
+use Rattle.tt_abs.specs.declared.state.State.{State}
 use Rattle.tt_abs.specs.Settings.{setting_of}
 use Rattle.tt_code.specs.declared.reason.Reason.TheVariants.{TooManyContexts}
 use Rattle.tt_cert.specs.Contents.{Contents, family_of, frames_at}
 use Rattle.tt_cert.specs.Spots.{spot_of}
 use Rattle.tt_find.specs.declared.fault.FindFault.TheVariants.{Refused}
 use Rattle.tt_cert.specs.Puts.{place_of}
-use Rattle.tt_find.specs.Tables.{IsCarried}
+use Rattle.tt_find.specs.Found.{NamesPlace}
+use Rattle.tt_find.specs.Tables.{IsApart, IsCarried, IsPut}
 use Rattle.tt_find.proofs.Followed.{countable_left, first_apart, on_some, one_apart, one_full, one_put, refused_left, second_apart, second_put, whole_left}
 use Rattle.tt_find.proofs.following.follow.Goals as goal
 
@@ -44,7 +46,7 @@ pub returns-in-Ok-reach-clause-whole : goal.returns-in-Ok-reach-clause-whole
 returns-in-Ok-reach-clause-whole c =
     let on = on_some _ _ _ c.in-Ok.carried c.in-Some.moves c.carried.new.walk.state c.in-Some.is c.in-Ok.ensures.carried in
     one_put (setting_of c.args.setting.now) c.args.setting.now.start.now c.requires.laws c.args.table.now c.args.context c.args.offset c.requires.there c.requires.sound
-    c.in-Some.moves c.carried.new.walk.state on c.put.result c.in-One.way c.reach.new.builder c.put.new.self c.in-Ok-reach.place.0 c.in-Ok-reach.place.1 c.in-One.is
+    c.in-Some.moves c.carried.new.walk.state on c.put.result c.in-One.way c.reach.new.builder c.put.new.table c.in-Ok-reach.place.0 c.in-Ok-reach.place.1 c.in-One.is
     c.in-Ok-reach.ensures.added c.in-Ok-reach.ensures.offset c.in-Ok-reach.ensures.states c.in-Ok-reach.ensures.family c.put.ensures.put
 
 pub returns-in-Ok-reach-clause-justified : goal.returns-in-Ok-reach-clause-justified
@@ -58,12 +60,12 @@ pub returns-in_default-put-clause-whole : goal.returns-in_default-put-clause-who
 returns-in_default-put-clause-whole c =
     let on = on_some _ _ _ c.in-Ok.carried c.in-Some.moves c.carried.new.walk.state c.in-Some.is c.in-Ok.ensures.carried in
     second_put (setting_of c.args.setting.now) c.args.setting.now.start.now c.requires.laws c.args.table.now c.args.context c.args.offset c.requires.there c.requires.sound
-    c.in-Some.moves c.carried.new.walk.state on c.put-in-Two-2.result c.in-Two.first c.in-Two.second c.put-in-Two.new.self c.put-in-Two-2.new.self c.in-Two.is
-    c.in_default-put.ensures.put c.put-in-Two-2.ensures.put
+    c.in-Some.moves c.carried.new.walk.state on c.put-in-Two-2.result c.in-Two.first c.in-Two.second c.put-in-Two.new.table c.put-in-Two-2.new.table c.in-Two.is
+    c.in_default-put.ensures.put (let P : State → Type 0 = λ x. IfOk c.put-in-Two-2.result (λ _. IsPut c.put-in-Two.new.table c.put-in-Two-2.new.table c.args.context c.in-Two.second x) in subst P c.in_default-put.ensures.state c.put-in-Two-2.ensures.put)
 
 pub returns-in_default-put-clause-justified : goal.returns-in_default-put-clause-justified
 returns-in_default-put-clause-justified c =
     let on = on_some _ _ _ c.in-Ok.carried c.in-Some.moves c.carried.new.walk.state c.in-Some.is c.in-Ok.ensures.carried in
     second_apart (setting_of c.args.setting.now) c.args.setting.now.start.now c.requires.laws c.args.table.now c.args.context c.args.offset c.requires.there c.requires.sound
-    c.in-Some.moves c.carried.new.walk.state on c.put-in-Two-2.result c.in-Two.first c.in-Two.second c.put-in-Two.new.self c.in-Two.is
-    c.in_default-put.ensures.put c.put-in-Two-2.ensures.apart
+    c.in-Some.moves c.carried.new.walk.state on c.put-in-Two-2.result c.in-Two.first c.in-Two.second c.put-in-Two.new.table c.in-Two.is
+    c.in_default-put.ensures.put (let A : State → Type 0 = λ x. IfErr c.put-in-Two-2.result (NamesPlace (IsApart (family_of c.put-in-Two.new.table.builder) (place_of c.put-in-Two.new.table.builder c.args.context c.in-Two.second) x)) in subst A c.in_default-put.ensures.state c.put-in-Two-2.ensures.apart)

@@ -1,4 +1,6 @@
-use Rattle.std.proofs.Common.{arith, ◌+◌, cond, ◌≡◌, ap, length, sym}
+use Rattle.std.proofs.Common.{arith, ◌+◌, cond, ◌≡◌, ap, length, sym, ◌∙◌, eq-eqb, not, true, false}
+use Rattle.tt_abs.specs.States.{state_order}
+use Rattle.tt_find.proofs.Placed.{put_new}
 use Rattle.tt_find.proofs.Marked.{length-insert_key, marks_inserted}
 use Rattle.tt_find.proofs.table.Table.put.Goals as goal
 
@@ -13,3 +15,11 @@ returns-clause-put c = record {
   updates = let one : cond c.in-Ok.changed 1 0 ≡ 1 = ap (λ b. cond b 1 0) c.if-not-changed.false in ap (λ n. c.args.self.now.updates + n) (sym one);
   risen = record { marks = let l = length-insert_key c.args.self.now.marked (c.args.context, c.args.offset) in let e = ap length c.in_default.ensures.ok in omega arith; updates = omega arith };
 }
+
+pub returns-clause-new : goal.returns-clause-new
+returns-clause-new c = λ new.
+    put_new state_order c.args.self.now.builder c.join_state.new.self c.args.context c.args.offset c.args.state.now c.in-Ok.changed c.requires.there c.in-Ok.ensures.put c.in-Ok.ensures.contexts
+    c.in-Ok.ensures.family c.in-Ok.ensures.sums (λ same.
+    let e : c.points.result ≡ c.points-points.result = c.points.ensures.value ∙ same ∙ sym c.points-points.ensures.value in
+    let no_such : false ≡ true = sym (ap not (eq-eqb c.points.result c.points-points.result e)) ∙ new in
+    cc)
