@@ -108,7 +108,10 @@ fn finished_contexts(rt: HostRuntime) -> Result<(), Fail> {
     );
     let mut points = Vec::new(rt.alloc());
     let mut states = certificate.states();
-    while let Some((context, offset, _)) = states.take_first() {
+    for _ in 0..certificate.points() {
+        let Some((context, offset, _)) = states.take_first() else {
+            break;
+        };
         points.push((context, offset))?;
     }
     assert_eq!(rt;
