@@ -96,18 +96,17 @@ module _ (family : Place → Option State) (t : State) where
         let A : Moves → Type 0 = λ x. Names (IsFirstGap family (nexts_of fs x (abstract_of t)) t) fault in
         subst A (sym is) (gap_head (record { frames = fs; offset = m; state = abstract_of t }) (record { frames = fs; offset = n; state = abstract_of t } ∷ []) fault h)
 
-    pub two_covered : {T : Type 0} (m n : ℕ) (r : Result T CheckFault) → ways ≡ moves.Two m n → CoversAt state_order family (fs, m) t
-        → IfOk r (λ _. CoversAt state_order family (fs, n) t) → IfOk r (λ _. AreCovered family (nexts_of fs ways (abstract_of t)) t)
-    two_covered m n r is first h =
-        let A : Moves → Type 0 = λ x. IfOk r (λ _. AreCovered family (nexts_of fs x (abstract_of t)) t) in
-        subst A (sym is) (ok_map r _ _ (covered_two (record { frames = fs; offset = m; state = abstract_of t }) (record { frames = fs; offset = n; state = abstract_of t }) first) h)
+    pub two_covered : (m n : ℕ) → ways ≡ moves.Two m n → CoversAt state_order family (fs, m) t → CoversAt state_order family (fs, n) t
+        → AreCovered family (nexts_of fs ways (abstract_of t)) t
+    two_covered m n is first second =
+        let A : Moves → Type 0 = λ x. AreCovered family (nexts_of fs x (abstract_of t)) t in
+        subst A (sym is) (covered_two (record { frames = fs; offset = m; state = abstract_of t }) (record { frames = fs; offset = n; state = abstract_of t }) first second)
 
-    pub second_gap : {T : Type 0} (m n : ℕ) (r : Result T CheckFault) → ways ≡ moves.Two m n → CoversAt state_order family (fs, m) t
-        → IfErr r (NamesAt (fs, n) (IsGap family (fs, n) t)) → IfErr r (Names (IsFirstGap family (nexts_of fs ways (abstract_of t)) t))
-    second_gap m n r is first h =
-        let A : Moves → Type 0 = λ x. IfErr r (Names (IsFirstGap family (nexts_of fs x (abstract_of t)) t)) in
-        subst A (sym is)
-        (err_map r _ _ (λ fault. gap_second (record { frames = fs; offset = m; state = abstract_of t }) (record { frames = fs; offset = n; state = abstract_of t }) fault first) h)
+    pub second_gap : (m n : ℕ) (fault : CheckFault) → ways ≡ moves.Two m n → CoversAt state_order family (fs, m) t → NamesAt (fs, n) (IsGap family (fs, n) t) fault
+        → Names (IsFirstGap family (nexts_of fs ways (abstract_of t)) t) fault
+    second_gap m n fault is first h =
+        let A : Moves → Type 0 = λ x. Names (IsFirstGap family (nexts_of fs x (abstract_of t)) t) fault in
+        subst A (sym is) (gap_second (record { frames = fs; offset = m; state = abstract_of t }) (record { frames = fs; offset = n; state = abstract_of t }) fault first h)
 
 -- each next abstract state of moves is the one
 pub same_states : (fs : List Frame) (ways : Moves) (b : Abstract) (i : ℕ) (n : Next) → slice_get (nexts_of fs ways b) i ≡ Some n → b ≡ n.state
@@ -161,12 +160,6 @@ module _ (s : Setting) (family : Place → Option State) (p : Place) (a : State)
       }),
     )
     broken_here running (OutOfMemory error) h = tt
-
-    pub sound_from : {T : Type 0} (r : Result T CheckFault) → IfOk r (λ _. AreCovered family (nexts_of p.0 ways (abstract_of t)) t) → IfOk r (λ _. IsSoundAt s family p a)
-    sound_from r h = ok_map r _ _ sound_here h
-
-    pub broken_from : is_main_end s p.0 p.1 ≡ false → {T : Type 0} (r : Result T CheckFault) → IfErr r (Names (IsFirstGap family (nexts_of p.0 ways (abstract_of t)) t)) → IfErr r (Names (BreaksAt s family p a))
-    broken_from running r h = err_map r _ _ (broken_here running) h
 
   pub refused_here : IsStoredWithin s a → is_main_end s p.0 p.1 ≡ false → (fault : CheckFault) (r : Reason) → fault ≡ Refused (spot_of p.0) (told_offset p.1) r
       → outcome_on_cells s p.0 p.1 (abstract_of a) ≡ Err r → Names (BreaksAt s family p a) fault

@@ -1,12 +1,15 @@
 -- The family's state at a landing's place.
 use Rattle.std.specs.Prelude.{◌≡◌, ℕ, ◌+◌, ◌<◌, ◌≤◌, ◌^◌, Option, Some, None, length}
+use Rattle.std.specs.Borrow.{Bor}
 use Rattle.std.proofs.Common.{refl, sym, ◌∙◌, arith}
 use Rattle.tt_abs.specs.declared.state.State.{State}
+use Rattle.tt_abs.specs.Families.{CoversAt}
 use Rattle.tt_abs.specs.StateFlow.{Place}
+use Rattle.tt_abs.specs.States.{state_laws, state_order}
 use Rattle.tt_cert.specs.Contents.{Contents, IsFamily, family_of, frames_at, number_of}
 use Rattle.tt_cert.specs.Numbers.{number_of-is}
 use Rattle.tt_cert.specs.Places.{states_of}
-use Rattle.tt_cert.specs.Checks.{AreToldBefore}
+use Rattle.tt_cert.specs.Checks.{AreToldBefore, IsComing, IsEntry}
 
 -- a context's state is the family's
 pub state_there : (v : Contents) (p : Place) (n o : ℕ) → IsFamily v → n < length v.contexts → frames_at v.contexts n ≡ p.0 → o ≡ p.1
@@ -22,3 +25,11 @@ no_state_above v n o family lt told above = sym (state_there v (frames_at v.cont
     go : (x : Option State) → states_of v.states (n, o) ≡ x → states_of v.states (n, o) ≡ None
     go None e = e
     go (Some u) e = absurd (let below = told n o u (omega arith) e in omega arith)
+
+-- a state that comes next at a place covers itself there
+pub coming_covered : (v : Contents) (next : Option (ℕ × ℕ × Bor State)) (n o : ℕ) (t : State) → IsFamily v → n < length v.contexts → IsEntry v next → IsComing next n o t
+    → CoversAt state_order (family_of v) (frames_at v.contexts n, o) t
+coming_covered v None n o t family lt entry coming = absurd coming
+coming_covered v (Some e) n o t family lt entry (context, offset, state) =
+    let at : states_of v.states (n, o) ≡ Some t = (λ i. states_of v.states (sym context i, sym offset i)) ∙ entry ∙ (λ i. Some (state i)) in
+    (t, sym (state_there v (frames_at v.contexts n, o) n o family lt refl refl) ∙ at, state_laws.reflexive t)

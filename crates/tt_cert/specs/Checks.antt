@@ -1,5 +1,5 @@
 -- What a check asks of a family beside goodness, and what it names where the family isn't good.
-use Rattle.std.specs.Prelude.{◌≡◌, ℕ, ◌<◌, ◌^◌, min, false, Ok, Option, Some, None, IfSome, List, [], ◌∷◌, length, reverse, slice_get}
+use Rattle.std.specs.Prelude.{◌≡◌, ℕ, ◌<◌, ◌^◌, min, false, Ok, Option, Some, None, IfSome, IsTrue, List, [], ◌∷◌, length, reverse, slice_get}
 use Rattle.std.specs.declared.cmp.Ordering.TheVariants.{Less}
 use Rattle.std.specs.Borrow.{Bor}
 use Rattle.tt_code.specs.Cut.{size}
@@ -95,11 +95,21 @@ pub data BreaksAt (s : Setting) (family : Place → Option State) (p : Place) (a
 abbrev pub IsEntry : Contents → Option (ℕ × ℕ × Bor State) → Type 0
 IsEntry contents entry = IfSome entry (λ (e : ℕ × ℕ × Bor State). states_of contents.states (e.0, e.1) ≡ Some e.2.now)
 
--- the walk's calls are those of its context, and what comes next is a state of the family
+-- the state that comes next is this one, and stands at this context and offset
+abbrev pub IsComing : Option (ℕ × ℕ × Bor State) → ℕ → ℕ → State → Type 0
+IsComing None context offset state = ⊥
+IsComing (Some e) context offset state = (e.0 ≡ context) × (e.1 ≡ offset) × (e.2.now ≡ state)
+
+-- the state that comes next, if one does, is this one
+abbrev pub IsNextState : Option (ℕ × ℕ × Bor State) → State → Type 0
+IsNextState entry state = IfSome entry (λ (e : ℕ × ℕ × Bor State). e.2.now ≡ state)
+
+-- the walk's calls are those of its context, what comes next is a state of the family, and what was made is that state where the walk says so
 pub record IsWalk (contents : Contents) (walk : Walk) : Type 0 where
   pub there : walk.context < length contents.contexts
   pub frames : walk.frames.items ≡ reverse (frames_at contents.contexts walk.context)
   pub next : IsEntry contents walk.next
+  pub made : IsTrue walk.is_next → IsNextState walk.next walk.made
 
 -- the innermost call has one more turn
 abbrev pub HasNextTurn : List Frame → Type 0

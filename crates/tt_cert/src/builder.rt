@@ -4,6 +4,7 @@ ghost use Rattle.std.specs.Prelude.{◌≡◌, ◌≢◌, ◌⊎◌, ℕ, ◌<�
 ghost use Rattle.std.specs.List.{All};
 ghost use Rattle.std.specs.List.Sorted.{IsStrictlySortedBy};
 ghost use Rattle.std.specs.Map.{keys_of};
+ghost use Rattle.tt_abs.specs.Entries.{Rises};
 ghost use Rattle.tt_abs.specs.declared.state.State.{State as StateValue};
 ghost use Rattle.tt_abs.specs.States.{state_order};
 ghost use Rattle.tt_cert.specs.Places.{PutsAt, place_cmp, states_of};
@@ -229,6 +230,19 @@ impl Builder {
         ensures family { IsFamily self.now }
     {
         self.states.iter()
+    }
+
+    /// The functions that are known at the end of a program of this length, where no call is open: by rising numbers, each
+    /// with its body. None if the end has no state.
+    pub fn end_functions(&self, length: u32) -> Option<&[(u16, u32)]>
+        ensures none { result ≡ None → family_of self.now ([], length) ≡ None }
+        ensures some { IfSome result (λ functions. (end : StateValue) × (family_of self.now ([], length) ≡ Some end) × (functions.now ≡ end.functions)) }
+        ensures rises { IfSome result (λ functions. Rises functions.now) }
+    {
+        match self.state(0, length) {
+            Some(state) => Some(state.functions()),
+            None => None,
+        }
     }
 
     /// Puts a state at a point, by a join where there is one and by a copy else, and answers whether the state there is new or

@@ -47,6 +47,13 @@ impl Certificate {
         Certificate { builder }
     }
 
+    /// The builder that holds the family.
+    pub(crate) fn builder(&self) -> &Builder
+        ensures { result.now ≡ self.now }
+    {
+        &self.builder
+    }
+
     /// How many contexts there are, the empty one counted.
     pub fn contexts(&self) -> u32
         ensures value { result ≡ length self.now.contexts }
@@ -135,9 +142,6 @@ impl Certificate {
         ensures some { IfSome result (λ functions. (end : StateValue) × (family_of self.now ([], length) ≡ Some end) × (functions.now ≡ end.functions)) }
         ensures rises { IfSome result (λ functions. Rises functions.now) }
     {
-        match self.builder.state(0, length) {
-            Some(state) => Some(state.functions()),
-            None => None,
-        }
+        self.builder.end_functions(length)
     }
 }

@@ -1,6 +1,6 @@
 //! The check of a certificate: whether its family is good for a program.
 
-ghost use Rattle.std.specs.Prelude.{◌≡◌, ◌↔◌, ◌+◌, ◌^◌, ◌<◌, [], ◌∷◌, None, Some, Ok, Err, IfOk, IfErr, IfSome, IsTrue, length};
+ghost use Rattle.std.specs.Prelude.{◌≡◌, ◌↔◌, ◌+◌, ◌^◌, ◌<◌, [], ◌∷◌, None, Some, Ok, Err, IfOk, IfErr, IfSome, IsFalse, IsTrue, OnOk, length};
 ghost use Rattle.std.specs.List.{All};
 ghost use Rattle.tt_code.specs.Settings.{body_offset as offset_of_body};
 ghost use Rattle.tt_abs.specs.Moves.{IsRefusedFor, frames_behind, nexts_of, offset_behind};
@@ -10,17 +10,18 @@ ghost use Rattle.tt_abs.specs.Settings.{frames_of, setting_of};
 ghost use Rattle.tt_abs.specs.Soundness.{IsSafe};
 ghost use Rattle.tt_abs.specs.States.{abstract_of, start_of, state_order};
 ghost use Rattle.tt_abs.specs.Transfers.{outcome_on_cells};
-ghost use Rattle.tt_cert.specs.Checks.{AreCovered, AreSound, AreToldBefore, BreaksAt, HasNextTurn, IsBrokenFirst, IsEntry, IsFirstBreak, IsFirstGap, IsGap, IsLanding, IsSoundAt, IsWalk, IsWantOfMemory, Names, NamesAt, told_offset};
+ghost use Rattle.tt_cert.specs.Checks.{AreCovered, AreSound, AreToldBefore, BreaksAt, HasNextTurn, IsBrokenFirst, IsComing, IsEntry, IsFirstBreak, IsFirstGap, IsGap, IsLanding, IsNextState, IsSoundAt, IsWalk, IsWantOfMemory, Names, NamesAt, told_offset};
 ghost use Rattle.tt_cert.specs.Spots.{spot_of};
-ghost use Rattle.tt_cert.specs.Contents.{family_of, frames_at};
+ghost use Rattle.tt_cert.specs.Contents.{Contents, IsFamily, family_of, frames_at};
 ghost use Rattle.tt_cert.specs.GoodFamilies.{EndsWell, HasEnd, IsGoodFamily, IsShortEnough};
 
+use crate::builder::Builder;
 use crate::certificate::Certificate;
 use crate::spot::Spot;
 use std::alloc::{AllocError, Global};
 use thiserror::Error;
 use tt_abs::setting::body_offset;
-use tt_abs::{Kind, Move, Moves, Order, Point, Refusal, Setting, State, step};
+use tt_abs::{Kind, Move, Moves, Order, Point, Refusal, Setting, State, step_at};
 use tt_code::{Frame, Reason};
 
 /// Why a certificate is refused.
@@ -56,6 +57,10 @@ struct Walk<'a> {
     context: u32,
     frames: Vec<Frame>,
     next: Option<(u32, u32, &'a State)>,
+    /// The state that is looked at, and then what comes of it, in the same memory.
+    made: State,
+    /// Is what came of it the very state that comes next? Then that one needs no copy.
+    is_next: bool,
 }
 
 /// Where a move leads.
@@ -161,45 +166,47 @@ fn fault_in(certificate: &Certificate, context: u32, offset: u32, reason: Reason
     }
 }
 
-/// The family's state at an offset of a context. Mostly it is the one that comes next in the walk, which needs no look-up.
-fn state_at<'a>(
-    certificate: &'a Certificate,
-    next: Option<(u32, u32, &'a State)>,
+/// Is this the state that comes next in the walk, at this place?
+fn is_coming(
+    next: Option<(u32, u32, &State)>,
     context: u32,
     offset: u32,
-) -> Option<&'a State>
-    requires there { context < length certificate.now.contexts }
-    requires next { IsEntry certificate.now next }
-    ensures none { result ≡ None → family_of certificate.now (frames_at certificate.now.contexts context, offset) ≡ None }
-    ensures some { IfSome result (λ state. family_of certificate.now (frames_at certificate.now.contexts context, offset) ≡ Some state.now) }
+    state: &State,
+) -> bool
+    ensures { IsTrue result ↔ IsComing next.entry context offset state.now }
 {
-    certificate.contexts();
-    if let Some((next_context, next_offset, state)) = next {
-        if next_context == context && next_offset == offset {
-            return Some(state);
+    match next {
+        Some((next_context, next_offset, above)) => {
+            next_context == context && next_offset == offset && state.is_same(above)
         }
+        None => false,
     }
-    certificate.state(context, offset)
 }
 
-/// Does the family's state at an offset of a context cover this one?
+/// Does the family's state at an offset of a context cover this one? Answers whether it is the very state that comes next in the walk,
+/// as it mostly is: then there is nothing to look up.
 fn check_covered(
     certificate: &Certificate,
     next: Option<(u32, u32, &State)>,
     context: u32,
     offset: u32,
     state: &State,
-) -> Result<(), CheckFault>
+) -> Result<bool, CheckFault>
     requires there { context < length certificate.now.contexts }
     requires next { IsEntry certificate.now next }
     ensures covered { IfOk result (λ _. CoversAt state_order (family_of certificate.now) (frames_at certificate.now.contexts context, offset) state.now) }
+    ensures coming { IfOk result (λ is_next. IsTrue is_next → IsNextState next.entry state.now) }
     ensures gap { IfErr result (NamesAt (frames_at certificate.now.contexts context, offset) (IsGap (family_of certificate.now) (frames_at certificate.now.contexts context, offset) state.now)) }
 {
-    match state_at(certificate, next, context, offset) {
+    certificate.contexts();
+    if is_coming(next, context, offset, state) {
+        return Ok(true);
+    }
+    match certificate.state(context, offset) {
         None => Err(fault_in(certificate, context, offset, Reason::MissingPoint)),
         Some(above) => {
             if state.below(above) {
-                Ok(())
+                Ok(false)
             } else {
                 Err(fault_in(certificate, context, offset, Reason::NotCovered))
             }
@@ -207,27 +214,23 @@ fn check_covered(
     }
 }
 
-/// Is the place to which a move leads from the walk's context covered?
+/// Is the place to which a move leads from the walk's context covered? Answers as `check_covered`.
 fn check_way(
     certificate: &Certificate,
     walk: &Walk<'_>,
     way: Move,
-    state: &State,
-) -> Result<(), CheckFault>
+) -> Result<bool, CheckFault>
     requires walk { IsWalk certificate.now walk.now }
     requires told { AreToldBefore certificate.now walk.now.context }
     requires turn { way ≡ Move.NextTurn → HasNextTurn (frames_at certificate.now.contexts walk.now.context) }
-    ensures covered { IfOk result (λ _. CoversAt state_order (family_of certificate.now) (frames_behind (frames_at certificate.now.contexts walk.now.context) way, offset_behind (frames_at certificate.now.contexts walk.now.context) way) state.now) }
-    ensures gap { IfErr result (NamesAt (frames_behind (frames_at certificate.now.contexts walk.now.context) way, offset_behind (frames_at certificate.now.contexts walk.now.context) way) (IsGap (family_of certificate.now) (frames_behind (frames_at certificate.now.contexts walk.now.context) way, offset_behind (frames_at certificate.now.contexts walk.now.context) way) state.now)) }
+    ensures covered { IfOk result (λ _. CoversAt state_order (family_of certificate.now) (frames_behind (frames_at certificate.now.contexts walk.now.context) way, offset_behind (frames_at certificate.now.contexts walk.now.context) way) walk.now.made) }
+    ensures coming { IfOk result (λ is_next. IsTrue is_next → IsNextState walk.now.next walk.now.made) }
+    ensures gap { IfErr result (NamesAt (frames_behind (frames_at certificate.now.contexts walk.now.context) way, offset_behind (frames_at certificate.now.contexts walk.now.context) way) (IsGap (family_of certificate.now) (frames_behind (frames_at certificate.now.contexts walk.now.context) way, offset_behind (frames_at certificate.now.contexts walk.now.context) way) walk.now.made)) }
 {
     match place_behind(certificate, walk.context, way) {
-        Landing::In { context, offset } => check_covered(
-            certificate,
-            walk.next,
-            context,
-            offset,
-            state,
-        ),
+        Landing::In { context, offset } => {
+            check_covered(certificate, walk.next, context, offset, &walk.made)
+        }
         Landing::Nowhere { spot, offset } => Err(CheckFault::Refused {
             spot,
             offset,
@@ -243,59 +246,54 @@ fn are_stored_within(stored: &[(u16, i32)], limit: u16) -> bool
     stored.iter().all(|cell| cell.0 < limit)
 }
 
-/// What the instruction at a point makes of a state, and where it leads.
-fn stepped(setting: &Setting<'_>, point: &Point<'_>, state: &mut State) -> Result<Moves, Refusal>
-    ensures ok { IfOk result (λ m. outcome_on_cells (setting_of setting.now) (frames_of point.now) point.now.offset (abstract_of state.old) ≡ Ok (nexts_of (frames_of point.now) m (abstract_of state.new))) }
-    ensures refused { IfErr result (IsRefusedFor (outcome_on_cells (setting_of setting.now) (frames_of point.now) point.now.offset (abstract_of state.old))) }
-    ensures in_range { state_order.InRange state.old → IfOk result (λ _. state_order.InRange state.new) }
-{
-    if !setting.starts(point, point.offset) {
-        return Err(Refusal::Refused(Reason::Target));
-    }
-    step(setting, point, state)
-}
-
-/// Are the places to which moves lead from the walk's context covered, by the same state?
+/// Are the places to which moves lead from the walk's context covered, by the state that was made? Answers whether that is the very
+/// state that comes next in the walk.
 fn check_moves(
     certificate: &Certificate,
     walk: &Walk<'_>,
     moves: Moves,
-    state: &State,
-) -> Result<(), CheckFault>
+) -> Result<bool, CheckFault>
     requires walk { IsWalk certificate.now walk.now }
     requires told { AreToldBefore certificate.now walk.now.context }
     requires turn { moves ≡ Moves.One Move.NextTurn → HasNextTurn (frames_at certificate.now.contexts walk.now.context) }
-    ensures covered { IfOk result (λ _. AreCovered (family_of certificate.now) (nexts_of (frames_at certificate.now.contexts walk.now.context) moves (abstract_of state.now)) state.now) }
-    ensures gap { IfErr result (Names (IsFirstGap (family_of certificate.now) (nexts_of (frames_at certificate.now.contexts walk.now.context) moves (abstract_of state.now)) state.now)) }
+    ensures covered { IfOk result (λ _. AreCovered (family_of certificate.now) (nexts_of (frames_at certificate.now.contexts walk.now.context) moves (abstract_of walk.now.made)) walk.now.made) }
+    ensures coming { IfOk result (λ is_next. IsTrue is_next → IsNextState walk.now.next walk.now.made) }
+    ensures gap { IfErr result (Names (IsFirstGap (family_of certificate.now) (nexts_of (frames_at certificate.now.contexts walk.now.context) moves (abstract_of walk.now.made)) walk.now.made)) }
 {
     match moves {
-        Moves::One(way) => check_way(certificate, walk, way, state),
+        Moves::One(way) => check_way(certificate, walk, way),
         Moves::Two(first, second) => {
-            if let Err(fault) = check_covered(certificate, walk.next, walk.context, first, state) {
-                return Err(fault);
+            let context = walk.context;
+            let is_next = match check_covered(certificate, walk.next, context, first, &walk.made) {
+                Ok(is_next) => is_next,
+                Err(fault) => return Err(fault),
+            };
+            match check_covered(certificate, walk.next, context, second, &walk.made) {
+                Ok(_) => Ok(is_next),
+                Err(fault) => Err(fault),
             }
-            check_covered(certificate, walk.next, walk.context, second, state)
         }
     }
 }
 
-/// Is a state sound at its place, an offset of the walk's context? What comes of it is made in the memory of `given`.
+/// Is the walk's state sound at its place, an offset of the walk's context? What comes of it is made in the same memory.
 fn check_state(
     setting: &Setting<'_>,
     certificate: &Certificate,
-    walk: &Walk<'_>,
+    walk: &mut Walk<'_>,
     offset: u32,
-    state: &State,
-    given: &mut State,
 ) -> Result<(), CheckFault>
-    requires walk { IsWalk certificate.now walk.now }
-    requires told { AreToldBefore certificate.now walk.now.context }
-    requires in_range { state_order.InRange state.now }
-    ensures sound { IfOk result (λ _. IsSoundAt (setting_of setting.now) (family_of certificate.now) (frames_at certificate.now.contexts walk.now.context, offset) state.now) }
-    ensures broken { IfErr result (Names (BreaksAt (setting_of setting.now) (family_of certificate.now) (frames_at certificate.now.contexts walk.now.context, offset) state.now)) }
+    requires walk { IsWalk certificate.now walk.old }
+    requires told { AreToldBefore certificate.now walk.old.context }
+    requires in_range { state_order.InRange walk.old.made }
+    requires apart { IsFalse walk.old.is_next }
+    ensures sound { IfOk result (λ _. IsSoundAt (setting_of setting.now) (family_of certificate.now) (frames_at certificate.now.contexts walk.old.context, offset) walk.old.made) }
+    ensures broken { IfErr result (Names (BreaksAt (setting_of setting.now) (family_of certificate.now) (frames_at certificate.now.contexts walk.old.context, offset) walk.old.made)) }
+    ensures walk { IfOk result (λ _. IsWalk certificate.now walk.new) }
+    ensures next { walk.new.next ≡ walk.old.next }
     ensures within { offset < 2 ^ 32 }
 {
-    if !are_stored_within(state.stored(), setting.limits.storage) {
+    if !are_stored_within(walk.made.stored(), setting.limits.storage) {
         return Err(fault_in(certificate, walk.context, offset, Reason::Storage));
     }
     let point = Point {
@@ -305,15 +303,50 @@ fn check_state(
     if setting.is_end(&point, offset) {
         return Ok(());
     }
-    given.copy_from(state)?;
-    match stepped(setting, &point, given) {
-        Ok(moves) => check_moves(certificate, walk, moves, given),
+    match step_at(setting, &point, &mut walk.made) {
+        Ok(moves) => match check_moves(certificate, walk, moves) {
+            Ok(is_next) => {
+                walk.is_next = is_next;
+                Ok(())
+            }
+            Err(fault) => Err(fault),
+        },
         Err(Refusal::Refused(reason)) => Err(fault_in(certificate, walk.context, offset, reason)),
         Err(Refusal::OutOfMemory(error)) => Err(CheckFault::OutOfMemory(error)),
     }
 }
 
 impl<'a> Walk<'a> {
+    /// A walk that begins in the empty context, with this state.
+    fn start(alloc: Global, next: Option<(u32, u32, &'a State)>) -> Result<Walk<'a>, AllocError>
+        ensures walk { IfOk result (λ walk. (contents : Contents) → IsFamily contents → IsEntry contents next.entry → IsWalk contents walk) }
+        ensures next { IfOk result (λ walk. walk.next ≡ next.entry) }
+    {
+        Ok(Walk {
+            context: 0,
+            frames: Vec::new(alloc),
+            next,
+            made: State::start(alloc, &[])?,
+            is_next: false,
+        })
+    }
+
+    /// Takes the state that comes next over, where it isn't what was made.
+    fn take(&mut self, state: &State) -> Result<(), AllocError>
+        requires { IsTrue self.old.is_next → self.old.made ≡ state.now }
+        ensures made { OnOk result (self.new.made ≡ state.now) }
+        ensures apart { OnOk result (IsFalse self.new.is_next) }
+        ensures context { self.new.context ≡ self.old.context }
+        ensures frames { self.new.frames ≡ self.old.frames }
+        ensures next { self.new.next ≡ self.old.next }
+    {
+        if !self.is_next {
+            self.made.copy_from(state)?;
+        }
+        self.is_next = false;
+        Ok(())
+    }
+
     /// Goes to another context, if it is another.
     fn go_to(&mut self, certificate: &Certificate, context: u32) -> Result<(), AllocError>
         requires walk { IsWalk certificate.now self.old }
@@ -321,6 +354,8 @@ impl<'a> Walk<'a> {
         ensures walk { IfOk result (λ _. IsWalk certificate.now self.new) }
         ensures context { IfOk result (λ _. self.new.context ≡ context) }
         ensures next { IfOk result (λ _. self.new.next ≡ self.old.next) }
+        ensures made { IfOk result (λ _. self.new.made ≡ self.old.made) }
+        ensures is_next { IfOk result (λ _. self.new.is_next ≡ self.old.is_next) }
     {
         if context != self.context {
             self.frames = certificate.frames(*self.frames.allocator(), context)?;
@@ -340,17 +375,13 @@ fn check_states(
     ensures broken { IfErr result (Names (IsFirstBreak (setting_of setting.now) certificate.now)) }
 {
     certificate.contexts();
-    let mut given = State::start(alloc, &[])?;
     let mut states = certificate.states();
-    let mut walk = Walk {
-        context: 0,
-        frames: Vec::new(alloc),
-        next: states.take_first(),
-    };
+    let mut walk = Walk::start(alloc, states.take_first())?;
     while let Some((context, offset, state)) = walk.next {
+        walk.take(state)?;
         walk.next = states.take_first();
         walk.go_to(certificate, context)?;
-        if let Err(fault) = check_state(setting, certificate, &walk, offset, state, &mut given) {
+        if let Err(fault) = check_state(setting, certificate, &mut walk, offset) {
             return Err(fault);
         }
     }
@@ -368,22 +399,22 @@ pub fn is_short(setting: &Setting<'_>) -> bool
     }
 }
 
-/// Does a font program or a CVT program have a state at its end?
-fn ends_well(setting: &Setting<'_>, certificate: &Certificate) -> bool
-    ensures { IsTrue result ↔ EndsWell (setting_of setting.now) (setting_of setting.now).kind (family_of certificate.now) }
+/// Does the main program have a state at its end?
+fn has_end(setting: &Setting<'_>, builder: &Builder) -> bool
+    ensures { IsTrue result ↔ HasEnd (setting_of setting.now) (family_of builder.now) }
 {
-    match setting.kind {
-        Kind::Font => has_end(setting, certificate),
-        Kind::Cvt => has_end(setting, certificate),
-        Kind::Glyph { .. } => true,
-    }
+    builder.end_functions(setting.main.len()).is_some()
 }
 
-/// Does the main program have a state at its end?
-fn has_end(setting: &Setting<'_>, certificate: &Certificate) -> bool
-    ensures { IsTrue result ↔ HasEnd (setting_of setting.now) (family_of certificate.now) }
+/// Does the program, if it is a font program or a CVT program, have a state at its end?
+pub fn ends_well(setting: &Setting<'_>, builder: &Builder) -> bool
+    ensures { IsTrue result ↔ EndsWell (setting_of setting.now) (setting_of setting.now).kind (family_of builder.now) }
 {
-    certificate.end_functions(setting.main.len()).is_some()
+    match setting.kind {
+        Kind::Font => has_end(setting, builder),
+        Kind::Cvt => has_end(setting, builder),
+        Kind::Glyph { .. } => true,
+    }
 }
 
 /// Is the program's start covered?
@@ -398,7 +429,10 @@ fn check_start(
 {
     certificate.contexts();
     let start = State::start(alloc, setting.start)?;
-    check_covered(certificate, None, 0, 0, &start)
+    match check_covered(certificate, None, 0, 0, &start) {
+        Ok(_) => Ok(()),
+        Err(fault) => Err(fault),
+    }
 }
 
 /// Is the family good for the program of this setting, all that a certificate has to be? In the order of the walk the first that
@@ -432,7 +466,7 @@ pub fn check_full(
     if let Err(fault) = check_start(alloc, setting, certificate) {
         return Err(fault);
     }
-    if !ends_well(setting, certificate) {
+    if !ends_well(setting, certificate.builder()) {
         return Err(CheckFault::Refused {
             spot: Spot::Main,
             offset: setting.main.len(),

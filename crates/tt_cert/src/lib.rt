@@ -14,7 +14,7 @@ pub mod states;
 
 pub use builder::Builder;
 pub use certificate::Certificate;
-pub use checking::{CheckFault, check_full, is_short};
+pub use checking::{CheckFault, check_full, ends_well, is_short};
 pub use fault::BuildFault;
 pub use spot::Spot;
 pub use states::States;

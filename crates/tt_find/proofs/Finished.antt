@@ -132,13 +132,3 @@ module _ (s : Setting) (functions : List (ℕ × ℕ)) (laws : HasLaws s functio
 -- a family that is the same at each place
 pub same_family : (old new : Contents) → ((p : Place) → family_of new p ≡ family_of old p) → family_of old ≡ family_of new
 same_family old new same = λ i p. sym (same p) i
-
-module _ (s : Setting) (v : Contents) (off : ℕ) (family : IsFamily v) (offset : off ≡ size s.main) where
-  at_end : (x : Option State) → states_of v.states (0, off) ≡ x → family_of v ([], size s.main) ≡ x
-  at_end x at = main_state v (size s.main) x family (ap (λ n. states_of v.states (0, n)) (sym offset) ∙ at)
-
-  pub has_end_here : (a : State) → states_of v.states (0, off) ≡ Some a → HasEnd s (family_of v)
-  has_end_here a at = (a, at_end (Some a) at)
-
-  pub no_end_here : states_of v.states (0, off) ≡ None → HasEnd s (family_of v) → ⊥
-  no_end_here none (a, at) = let no_such : None ≡ Some a = sym (at_end None none) ∙ at in cc

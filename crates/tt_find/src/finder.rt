@@ -6,7 +6,7 @@ ghost use Rattle.tt_abs.specs.Entries.{Rises};
 ghost use Rattle.tt_abs.specs.Settings.{setting_of};
 ghost use Rattle.tt_abs.specs.StateFlow.{FitsLimits, FunctionsFit, Place, height_of};
 ghost use Rattle.tt_cert.specs.Contents.{family_of, points_of};
-ghost use Rattle.tt_cert.specs.GoodFamilies.{EndsWell, HasEnd, IsGoodFamily};
+ghost use Rattle.tt_cert.specs.GoodFamilies.{IsGoodFamily};
 ghost use Rattle.tt_find.specs.Found.{IsJustified, IsLeast, IsNeverEnding, IsWantOfMemory, LacksEnd, NamesPlace, NoneIsGood};
 ghost use Rattle.tt_find.specs.Tables.{HasLaws, IsWhole};
 
@@ -17,8 +17,8 @@ use crate::table::Table;
 use crate::walk::Walk;
 use std::alloc::{AllocError, Global};
 use tt_abs::laws::flow_laws;
-use tt_abs::{Kind, Setting, State};
-use tt_cert::{Builder, Certificate, Spot, is_short};
+use tt_abs::{Setting, State};
+use tt_cert::{Builder, Certificate, Spot, ends_well, is_short};
 use tt_code::Reason;
 
 /// A family that was found, and how many updates made it: the first state of a point is one, and each change of it one more.
@@ -76,27 +76,6 @@ fn filled(alloc: Global, builder: Builder, setting: &Setting<'_>) -> Result<Tabl
         }
     }
     Ok(table)
-}
-
-/// Has the main program's end a state?
-fn has_end(setting: &Setting<'_>, builder: &Builder) -> bool
-    ensures { IsTrue result ↔ HasEnd (setting_of setting.now) (family_of builder.now) }
-{
-    match builder.state(0, setting.main.len()) {
-        Some(_) => true,
-        None => false,
-    }
-}
-
-/// Does a font program or a CVT program come to its end?
-fn ends_well(setting: &Setting<'_>, builder: &Builder) -> bool
-    ensures { IsTrue result ↔ EndsWell (setting_of setting.now) (setting_of setting.now).kind (family_of builder.now) }
-{
-    match setting.kind {
-        Kind::Font => has_end(setting, builder),
-        Kind::Cvt => has_end(setting, builder),
-        Kind::Glyph { .. } => true,
-    }
 }
 
 /// The fault at a place of the main program.

@@ -1,9 +1,7 @@
 //! One point that is new or has changed: its state is carried on, and what it gives is put.
 
 ghost use Rattle.std.specs.Prelude.{◌≡◌, ◌<◌, IfErr, IfOk, length};
-ghost use Rattle.tt_abs.specs.Moves.{IsRefusedFor, LeadsBy, outcome_at};
 ghost use Rattle.tt_abs.specs.Settings.{setting_of};
-ghost use Rattle.tt_abs.specs.States.{state_order};
 ghost use Rattle.tt_cert.specs.Contents.{family_of};
 ghost use Rattle.tt_cert.specs.Puts.{place_of};
 ghost use Rattle.tt_find.specs.Found.{IsJustified, NamesPlace};
@@ -14,21 +12,9 @@ use crate::reaching::reach;
 use crate::table::{Table, refused_at};
 use crate::walk::Walk;
 use std::alloc::AllocError;
-use tt_abs::{Moves, Point, Refusal, Setting, State, step};
+use tt_abs::{Moves, Point, Refusal, Setting, step_at};
 use tt_cert::{BuildFault, Builder};
 use tt_code::Reason;
-
-/// What the instruction at a point makes of a state, and where it leads.
-fn stepped(setting: &Setting<'_>, point: &Point<'_>, state: &mut State) -> Result<Moves, Refusal>
-    ensures ok { IfOk result (λ m. LeadsBy point.now (outcome_at setting.now point.now state.old) m state.new) }
-    ensures refused { IfErr result (IsRefusedFor (outcome_at setting.now point.now state.old)) }
-    ensures in_range { state_order.InRange state.old → IfOk result (λ _. state_order.InRange state.new) }
-{
-    if !setting.starts(point, point.offset) {
-        return Err(Refusal::Refused(Reason::Target));
-    }
-    step(setting, point, state)
-}
 
 /// Where the state at a point leads; with what it leads there the walk holds then. None where there is no state, and at the main
 /// program's end.
@@ -59,7 +45,7 @@ fn carried(
         return Ok(None);
     }
     walk.known = None;
-    match stepped(setting, &point, &mut walk.state) {
+    match step_at(setting, &point, &mut walk.state) {
         Ok(moves) => Ok(Some(moves)),
         Err(Refusal::Refused(reason)) => Err(refused_at(builder, context, offset, reason)),
         Err(Refusal::OutOfMemory(error)) => Err(FindFault::OutOfMemory(error)),

@@ -1,10 +1,16 @@
-use Rattle.std.proofs.Common.{rules, arith, ◌≡◌, true, false, refl, []}
+use Rattle.std.proofs.Common.{rules, arith, ◌≡◌, true, false, refl, sym, subst, []}
 use Rattle.tt_code.specs.Cut.{size}
 use Rattle.tt_abs.specs.Settings.{setting_of}
 use Rattle.tt_cert.specs.Checks.{too_long, no_end}
 use Rattle.tt_cert.proofs.Checked.{ok_map, err_map}
 use Rattle.tt_cert.proofs.Judged.{family_here, safe_here, start_broken, way_broken, only_memory, not_both}
+use Rattle.tt_abs.specs.declared.setting.Setting.{Setting}
+use Rattle.tt_cert.specs.Contents.{Contents, family_of}
+use Rattle.tt_cert.specs.GoodFamilies.{EndsWell}
 use Rattle.tt_cert.proofs.checking.check_full.Goals as goal
+
+abbrev ends : Setting → Contents → Type 0
+ends setting v = EndsWell (setting_of setting) (setting_of setting).kind (family_of v)
 
 pub returns-then-not-is_short-clause-first : goal.returns-then-not-is_short-clause-first
 returns-then-not-is_short-clause-first c =
@@ -33,13 +39,13 @@ returns-then-not-ends_well-clause-first c =
       ([], size c.args.setting.now.main.now),
       refl,
       omega arith,
-      no_end (c.is_short.ensures.0 t) c.in_default.ensures.covered (λ h. not_both c.ends_well.result f (c.ends_well.ensures.1 h)),
+      no_end (c.is_short.ensures.0 t) c.in_default.ensures.covered (λ h. not_both c.ends_well.result f (c.ends_well.ensures.1 (subst (ends c.args.setting.now) (sym c.builder.ensures) h))),
     )
 
 pub returns-then-not-ends_well-clause-exact : goal.returns-then-not-ends_well-clause-exact
 returns-then-not-ends_well-clause-exact c = λ good.
     let f : c.ends_well.result ≡ false = search rules in
-    not_both c.ends_well.result f (c.ends_well.ensures.1 good.ends)
+    not_both c.ends_well.result f (c.ends_well.ensures.1 (subst (ends c.args.setting.now) (sym c.builder.ensures) good.ends))
 
 pub returns-clause-family : goal.returns-clause-family
 returns-clause-family c =
@@ -47,7 +53,7 @@ returns-clause-family c =
     let u : c.ends_well.result ≡ true = search rules in
     ok_map c.check_states.result _ _
     (family_here (setting_of c.args.setting.now) c.args.setting.now.start.now c.args.certificate.now (c.is_short.ensures.0 t) c.contexts.ensures.finished.0 c.in_default.ensures.covered
-    (c.ends_well.ensures.0 u))
+    (subst (ends c.args.setting.now) c.builder.ensures (c.ends_well.ensures.0 u)))
     c.check_states.ensures.sound
 
 pub returns-clause-safe : goal.returns-clause-safe
@@ -62,7 +68,7 @@ returns-clause-first c =
     let t : c.is_short.result ≡ true = search rules in
     let u : c.ends_well.result ≡ true = search rules in
     err_map c.check_states.result _ _
-    (way_broken (setting_of c.args.setting.now) c.args.setting.now.start.now c.args.certificate.now (c.is_short.ensures.0 t) c.in_default.ensures.covered (c.ends_well.ensures.0 u))
+    (way_broken (setting_of c.args.setting.now) c.args.setting.now.start.now c.args.certificate.now (c.is_short.ensures.0 t) c.in_default.ensures.covered (subst (ends c.args.setting.now) c.builder.ensures (c.ends_well.ensures.0 u)))
     c.check_states.ensures.broken
 
 pub returns-clause-exact : goal.returns-clause-exact

@@ -1,7 +1,9 @@
-use Rattle.std.proofs.Common.{rules, ℕ, List, ap, subst, sym, ◌∙◌}
+use Rattle.std.proofs.Common.{◌≡◌, ◌<◌, ℕ, List, Option, ap, subst, sym, ◌∙◌, true, false, length, reverse}
+use Rattle.std.specs.Borrow.{Bor}
 use Rattle.tt_abs.specs.Settings.{setting_of}
+use Rattle.tt_abs.specs.States.{state_order}
 use Rattle.tt_abs.specs.declared.state.State.{State}
-use Rattle.tt_cert.specs.Checks.{AreToldBefore, BreaksAt, IsSoundAt, Names}
+use Rattle.tt_cert.specs.Checks.{AreToldBefore, BreaksAt, IsNextState, IsSoundAt, Names}
 use Rattle.tt_cert.specs.Contents.{family_of, frames_at}
 use Rattle.tt_cert.proofs.Walking.{IsCheckedSoFar, ended, first_break, next_in_range, next_within, read_behind, read_first, so_far_end, so_far_start, so_far_step, taken, to_come, told_before}
 use Rattle.tt_cert.proofs.checking.check_states.Goals as goal
@@ -13,18 +15,26 @@ loop-walk-init c =
     let rest_is = taken c.take_first.result c.states-states.result c.take_first.new.self c.take_first.ensures.none c.take_first.ensures.some in
     let whole = sym c.states-states.ensures.rest ∙ rest_is in
     record {
-      walk = record { there = search rules; frames = search rules; next = read_first S v c.take_first.result c.take_first.new.self whole c.states-states.ensures.found };
-      checked = so_far_start S v _ (sym whole);
+      walk = c.in_ok-walk.ensures.walk v c.contexts.ensures.finished.0 (read_first S v c.take_first.result c.take_first.new.self whole c.states-states.ensures.found);
+      checked = so_far_start S v _ (ap (λ n. to_come n c.take_first.new.self) c.in_ok-walk.ensures.next ∙ sym whole);
     }
 
+pub take-requires : goal.take-requires
+take-requires c = λ t.
+    let N : Option (ℕ × ℕ × Bor State) → Type 0 = λ n. IsNextState n c.loop-walk.walk.made in
+    sym (subst N c.in-Some.is (c.loop-walk.invariant.walk.made t))
+
 pub go_to-requires-clause-walk : goal.go_to-requires-clause-walk
-go_to-requires-clause-walk c = record {
-  there = c.loop-walk.invariant.walk.there;
-  frames = c.loop-walk.invariant.walk.frames;
-  next = read_behind (setting_of c.args.setting.now) c.args.certificate.now _ c.loop-walk.states c.take_first-walk.new.self ((c.in-Some.context, c.in-Some.offset), c.in-Some.state.now)
-      c.take_first-walk.result c.loop-walk.invariant.checked (ap (λ n. to_come n c.loop-walk.states) c.in-Some.is)
-      (taken c.take_first-walk.result c.loop-walk.states c.take_first-walk.new.self c.take_first-walk.ensures.none c.take_first-walk.ensures.some) c.states-states.ensures.found;
-}
+go_to-requires-clause-walk c =
+    let v = c.args.certificate.now in
+    record {
+      there = let W : ℕ → Type 0 = λ k. k < length v.contexts in subst W (sym c.in_ok-take.ensures.context) c.loop-walk.invariant.walk.there;
+      frames = ap (λ fs. fs.items) c.in_ok-take.ensures.frames ∙ c.loop-walk.invariant.walk.frames ∙ ap (λ k. reverse (frames_at v.contexts k)) (sym c.in_ok-take.ensures.context);
+      next = read_behind (setting_of c.args.setting.now) v _ c.loop-walk.states c.take_first-walk.new.self ((c.in-Some.context, c.in-Some.offset), c.in-Some.state.now)
+          c.take_first-walk.result c.loop-walk.invariant.checked (ap (λ n. to_come n c.loop-walk.states) c.in-Some.is)
+          (taken c.take_first-walk.result c.loop-walk.states c.take_first-walk.new.self c.take_first-walk.ensures.none c.take_first-walk.ensures.some) c.states-states.ensures.found;
+      made = λ t. let no_such : true ≡ false = sym t ∙ c.in_ok-take.ensures.apart in absurd (cc);
+    }
 
 pub go_to-requires-clause-there : goal.go_to-requires-clause-there
 go_to-requires-clause-there c =
@@ -33,8 +43,10 @@ go_to-requires-clause-there c =
 
 pub check_state-requires-clause-in_range : goal.check_state-requires-clause-in_range
 check_state-requires-clause-in_range c =
-    next_in_range (setting_of c.args.setting.now) c.args.certificate.now c.contexts.ensures.finished.0 _ c.loop-walk.states ((c.in-Some.context, c.in-Some.offset), c.in-Some.state.now)
-    c.loop-walk.invariant.checked (ap (λ n. to_come n c.loop-walk.states) c.in-Some.is) c.states-states.ensures.found
+    let R : State → Type 0 = λ x. state_order.InRange x in
+    subst R (sym (c.in_ok-go_to.ensures.made ∙ c.in_ok-take.ensures.made))
+    (next_in_range (setting_of c.args.setting.now) c.args.certificate.now c.contexts.ensures.finished.0 _ c.loop-walk.states ((c.in-Some.context, c.in-Some.offset), c.in-Some.state.now)
+    c.loop-walk.invariant.checked (ap (λ n. to_come n c.loop-walk.states) c.in-Some.is) c.states-states.ensures.found)
 
 pub check_state-requires-clause-told : goal.check_state-requires-clause-told
 check_state-requires-clause-told c =
@@ -43,27 +55,32 @@ check_state-requires-clause-told c =
     (told_before (setting_of c.args.setting.now) c.args.certificate.now c.contexts.ensures.finished.0 _ c.loop-walk.states ((c.in-Some.context, c.in-Some.offset), c.in-Some.state.now)
     c.loop-walk.invariant.checked (ap (λ n. to_come n c.loop-walk.states) c.in-Some.is) c.states-states.ensures.found c.states-states.ensures.rises)
 
+pub check_state-requires-clause-apart : goal.check_state-requires-clause-apart
+check_state-requires-clause-apart c = c.in_ok-go_to.ensures.is_next ∙ c.in_ok-take.ensures.apart
+
 pub returns-in-Err-clause-broken : goal.returns-in-Err-clause-broken
 returns-in-Err-clause-broken c =
     let v = c.args.certificate.now in
-    let B : ℕ → Type 0 = λ k. Names (BreaksAt (setting_of c.args.setting.now) (family_of v) (frames_at v.contexts k, c.in-Some.offset) c.in-Some.state.now) c.in-Err.fault in
+    let B : ℕ × State → Type 0 = λ x. Names (BreaksAt (setting_of c.args.setting.now) (family_of v) (frames_at v.contexts x.0, c.in-Some.offset) x.1) c.in-Err.fault in
+    let made = c.in_ok-go_to.ensures.made ∙ c.in_ok-take.ensures.made in
     first_break (setting_of c.args.setting.now) v c.contexts.ensures.finished.0 _ c.loop-walk.states ((c.in-Some.context, c.in-Some.offset), c.in-Some.state.now)
     c.loop-walk.invariant.checked (ap (λ n. to_come n c.loop-walk.states) c.in-Some.is) c.states-states.ensures.found c.states-states.ensures.rises c.in-Err.fault
-    (subst B c.in_ok-go_to.ensures.context c.in-Err.ensures.broken)
+    (subst B (λ i. (c.in_ok-go_to.ensures.context i, made i)) c.in-Err.ensures.broken)
 
 pub loop-walk-preserved : goal.loop-walk-preserved
 loop-walk-preserved c =
     let S = setting_of c.args.setting.now in
     let v = c.args.certificate.now in
-    let B : ℕ → Type 0 = λ k. IsSoundAt S (family_of v) (frames_at v.contexts k, c.in-Some.offset) c.in-Some.state.now in
+    let B : ℕ × State → Type 0 = λ x. IsSoundAt S (family_of v) (frames_at v.contexts x.0, c.in-Some.offset) x.1 in
+    let made = c.in_ok-go_to.ensures.made ∙ c.in_ok-take.ensures.made in
     let F : List ((ℕ × ℕ) × State) → Type 0 = λ l. IsCheckedSoFar S v l in
     let rest_is = taken c.take_first-walk.result c.loop-walk.states c.take_first-walk.new.self c.take_first-walk.ensures.none c.take_first-walk.ensures.some in
-    let moved = rest_is ∙ ap (λ n. to_come n c.take_first-walk.new.self) (sym c.in_ok-go_to.ensures.next) in
+    let moved = rest_is ∙ ap (λ n. to_come n c.take_first-walk.new.self) (sym (c.check_state.ensures.next ∙ c.in_ok-go_to.ensures.next)) in
     record {
-      walk = c.in_ok-go_to.ensures.walk;
+      walk = c.in_default-check_state.ensures.walk;
       checked = subst F moved
           (so_far_step S v _ c.loop-walk.states ((c.in-Some.context, c.in-Some.offset), c.in-Some.state.now) c.loop-walk.invariant.checked
-          (ap (λ n. to_come n c.loop-walk.states) c.in-Some.is) (subst B c.in_ok-go_to.ensures.context c.in_default-check_state.ensures.sound, c.check_state.ensures.within));
+          (ap (λ n. to_come n c.loop-walk.states) c.in-Some.is) (subst B (λ i. (c.in_ok-go_to.ensures.context i, made i)) c.in_default-check_state.ensures.sound, c.check_state.ensures.within));
     }
 
 pub returns-clause-sound : goal.returns-clause-sound
