@@ -1,8 +1,10 @@
 -- Lists of codes, and of their cells.
-use Rattle.std.specs.Prelude.{reverse, remove, slice_get}
+use Rattle.std.specs.Prelude.{reverse, remove, slice_get, ◌↔◌}
+use Rattle.std.specs.Int.Bits.{bit_or, bit_xor, or_zero_l, xor_add_and, xor_self}
 use Rattle.std.proofs.Common.{◌≡◌, ℕ, zero, suc, ◌+◌, ◌-◌, ◌<◌, ◌≤◌, List, [], ◌∷◌, ◌++◌, None, Some, get_or, refl, sym, ◌∙◌, ap, subst, arith, inl, inr, length, take, drop, set, below_more}
 use Rattle.std.proofs.lemmas.Bool.{cases_lt}
-use Rattle.std.proofs.lemmas.List.{get_or-map, get_or_past, get_or-set_other, get_or-set_same, length-map, map-append, reverse-reverse, take-map, drop-map}
+use Rattle.std.proofs.lemmas.Nat.{and_le_l, and_le_r, le_or_l, le_or_r}
+use Rattle.std.proofs.lemmas.List.{ext_get_or, get_or-map, get_or_past, get_or-set_other, get_or-set_same, length-map, map-append, reverse-reverse, take-map, drop-map}
 use Rattle.tt_abs.specs.declared.cells.Cell.{Cell}
 use Rattle.tt_abs.specs.declared.cells.Cell.TheVariants.{Unknown}
 use Rattle.tt_abs.specs.CellOrders.{CellBelow}
@@ -41,6 +43,25 @@ codes_from_below a b h k lt =
     let P : Cell → Type 0 = λ x. CellBelow x (cell_of_code (get_or b k 0)) in
     let Q : Cell → Type 0 = λ x. CellBelow (cell_at (cells_of a) k) x in
     subst P (code_at a k lt) (subst Q (code_at b k (omega arith)) (h.cells k))
+
+-- codes are the same exactly if their cells are
+pub cells_from_codes : (a b : List ℕ) → length a ≡ length b
+    → ((k : ℕ) → k < length a → cell_of_code (get_or a k 0) ≡ cell_of_code (get_or b k 0)) → cells_of a ≡ cells_of b
+cells_from_codes a b long h =
+    let la : length (cells_of a) ≡ length a = length-map a cell_of_code in
+    ext_get_or Unknown (cells_of a) (cells_of b) (la ∙ long ∙ sym (length-map b cell_of_code))
+    (λ k lt. let here : k < length a = omega arith in code_at a k here ∙ h k here ∙ sym (code_at b k (omega arith)))
+
+pub codes_from_cells : (a b : List ℕ) → length a ≡ length b → cells_of a ≡ cells_of b → (k : ℕ) → k < length a
+    → cell_of_code (get_or a k 0) ≡ cell_of_code (get_or b k 0)
+codes_from_cells a b long e k lt = sym (code_at a k lt) ∙ ap (λ x. cell_at x k) e ∙ code_at b k (omega arith)
+
+-- the differences of numbers, gathered by their bits, are none exactly if there is none yet and the two are equal
+pub no_difference : (d a b : ℕ) → (bit_or d (bit_xor a b) ≡ 0) ↔ ((d ≡ 0) × (a ≡ b))
+no_difference d a b = (
+  λ e. (omega (arith, le_or_l d (bit_xor a b), e), omega (arith, le_or_r d (bit_xor a b), e, xor_add_and a b, and_le_l a b, and_le_r a b)),
+  λ p. ap (λ x. bit_or x (bit_xor a b)) p.0 ∙ or_zero_l (bit_xor a b) ∙ ap (λ x. bit_xor x b) p.1 ∙ xor_self b,
+)
 
 -- the least of each two codes
 least_of_unknown : IsLeastCell Unknown Unknown Unknown
@@ -96,7 +117,7 @@ none_got [] n h = refl
 none_got (c ∷ codes) zero h = absurd (omega arith)
 none_got (c ∷ codes) (suc n) h = none_got codes n (omega arith)
 
-upright : (codes : List ℕ) (stack : List Cell) → reverse (cells_of codes) ≡ stack → cells_of codes ≡ reverse stack
+pub upright : (codes : List ℕ) (stack : List Cell) → reverse (cells_of codes) ≡ stack → cells_of codes ≡ reverse stack
 upright codes stack e = sym (reverse-reverse (cells_of codes)) ∙ ap reverse e
 
 pub above_code : (codes : List ℕ) (stack : List Cell) (n : ℕ) → reverse (cells_of codes) ≡ stack → n < length codes

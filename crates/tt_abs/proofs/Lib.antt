@@ -24,6 +24,7 @@ pub mod Steps
 pub mod StateCoverage
 pub mod EntriesInRange
 pub mod EntryMerge
+pub mod SameEntries
 pub mod RunningOnCells
 pub mod ExamplesOfCells
 pub mod ExamplesOfOtherCells

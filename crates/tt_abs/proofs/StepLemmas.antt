@@ -98,6 +98,11 @@ unfolding outcome_on_cells
 none_at s fs at a p e f g =
     let none : instruction_of s fs at ≡ None = rw f (ap (λ q. instruction_at q at) (sym e) ∙ sym g) in ap (performs_cells s fs at a) none
 
+-- where no instruction of the body starts
+pub no_start : (s : Setting) (fs : List Frame) (at : ℕ) (a : Abstract) → starts_in_body s fs at ≡ false → outcome_on_cells s fs at a ≡ Err reason.Target
+unfolding outcome_on_cells
+no_start s fs at a none = rw none refl
+
 -- what is left is in range
 
 first_in_range : (fs : List Frame) (moves : Moves) (a : Abstract) → AreNextInRange (nexts_of fs moves a) → IsStateInRange a

@@ -1,6 +1,6 @@
 //! What is known of a number, and of a zone pointer.
 
-ghost use Rattle.std.specs.Prelude.{◌≡◌};
+ghost use Rattle.std.specs.Prelude.{◌≡◌, ◌↔◌, IsTrue};
 ghost use Rattle.tt_abs.specs.Orders.{IsLeastAbove};
 ghost use Rattle.tt_abs.specs.CellOrders.{cell_order, is_known, number_or_zero, zone_order};
 
@@ -53,6 +53,14 @@ impl Cell {
         }
     }
 
+    /// Are the two the same? Without a branch, as in `below`.
+    pub(crate) fn is_same(self, other: Cell) -> bool
+        ensures { IsTrue result ↔ (self ≡ other) }
+    {
+        let is_same = self.number_or_zero() == other.number_or_zero();
+        (self.is_known() == other.is_known()) & is_same
+    }
+
     /// The least cell above both: what they have in common.
     pub fn joined(self, other: Cell) -> Cell
         ensures { IsLeastAbove cell_order self other result }
@@ -86,6 +94,13 @@ impl Order for Cell {
 }
 
 impl ZoneCell {
+    /// Are the two the same?
+    pub(crate) fn is_same(self, other: ZoneCell) -> bool
+        ensures { IsTrue result ↔ (self ≡ other) }
+    {
+        self == other
+    }
+
     /// The least zone cell above both.
     pub fn joined(self, other: ZoneCell) -> ZoneCell
         ensures { IsLeastAbove zone_order self other result }

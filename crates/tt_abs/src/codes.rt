@@ -1,6 +1,6 @@
 //! How the stack keeps a cell: in a number, so that cells are compared two at a time.
 
-ghost use Rattle.std.specs.Prelude.{◌≡◌, ◌↔◌, IsTrue};
+ghost use Rattle.std.specs.Prelude.{◌≡◌, ◌↔◌, IsTrue, length};
 ghost use Rattle.tt_abs.specs.CellOrders.{CellBelow};
 ghost use Rattle.tt_abs.specs.Codes.{cell_of_code};
 ghost use Rattle.tt_abs.specs.Stacks.{IsLeastCell};
@@ -36,6 +36,25 @@ pub fn is_below(mine: u64, theirs: u64) -> bool
     ensures { IsTrue result ↔ CellBelow (cell_of_code mine) (cell_of_code theirs) }
 {
     (mine == theirs) | (theirs >= UNKNOWN)
+}
+
+/// Whether both are of one cell. An unknown one may have other codes than `UNKNOWN`.
+pub fn is_same(mine: u64, theirs: u64) -> bool
+    ensures { IsTrue result ↔ (cell_of_code mine ≡ cell_of_code theirs) }
+{
+    (mine == theirs) | ((mine >= UNKNOWN) & (theirs >= UNKNOWN))
+}
+
+/// Whether the codes are the same, each as its partner. By bits alone, so that the loop becomes vector code.
+pub fn are_equal(mine: &[u64], theirs: &[u64]) -> bool
+    requires { length mine.now ≡ length theirs.now }
+    ensures { IsTrue result ↔ (mine.now ≡ theirs.now) }
+{
+    let mut difference = 0;
+    for i in 0..mine.len() {
+        difference |= mine[i] ^ theirs[i];
+    }
+    difference == 0
 }
 
 /// A code of the least cell above both.

@@ -293,6 +293,13 @@ impl<T: Copy> Entries<T> {
 }
 
 impl<T: EntryValue> Entries<T> {
+    /// Are the entries the same?
+    pub fn is_same(&self, other: &Entries<T>) -> bool
+        ensures { IsTrue result ↔ (self.now ≡ other.now) }
+    {
+        self.entries.as_slice() == other.entries.as_slice()
+    }
+
     /// Keeps the entries that both have, with the same values. Takes no memory.
     pub fn keep(&mut self, other: &Entries<T>)
         requires { EntriesInRange T.is_in_range self.old }

@@ -1,11 +1,25 @@
 //! The graphics state of cells.
 
+ghost use Rattle.std.specs.Prelude.{◌≡◌, ◌↔◌, IsTrue};
 ghost use Rattle.tt_abs.specs.Orders.{IsLeastAbove};
 ghost use Rattle.tt_abs.specs.GraphicsOrders.{graphics_order};
 
 use crate::cells::{Cell, ZoneCell};
 use crate::order::{AbsFault, Order};
 use tt_code::Graphics;
+
+/// Are the two graphics states the same, part by part?
+pub fn is_same_graphics(mine: &Graphics<Cell, ZoneCell>, theirs: &Graphics<Cell, ZoneCell>) -> bool
+    ensures { IsTrue result ↔ (mine.now ≡ theirs.now) }
+{
+    mine.rp0.is_same(theirs.rp0)
+        & mine.rp1.is_same(theirs.rp1)
+        & mine.rp2.is_same(theirs.rp2)
+        & mine.zp0.is_same(theirs.zp0)
+        & mine.zp1.is_same(theirs.zp1)
+        & mine.zp2.is_same(theirs.zp2)
+        & mine.loop_number.is_same(theirs.loop_number)
+}
 
 /// The least graphics state above both, part by part.
 pub fn joined_graphics(

@@ -38,5 +38,5 @@ pub use refusal::Refusal;
 pub use setting::{Kind, Point, Setting};
 pub use stack::Stack;
 pub use state::State;
-pub use stepping::step;
+pub use stepping::{step, step_at};
 pub use transferring::{Successors, transfer};

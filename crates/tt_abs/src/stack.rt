@@ -6,7 +6,7 @@ ghost use Rattle.tt_abs.specs.Codes.{cell_of_code, cells_of};
 ghost use Rattle.tt_abs.specs.Stacks.{IsLeastCell, StackBelow, first, stack_order};
 
 use crate::cells::Cell;
-use crate::codes::{cell_of, code_of, is_below, joined};
+use crate::codes::{are_equal, cell_of, code_of, is_below, is_same, joined};
 use crate::order::{AbsFault, Order};
 use smallvec::SmallVec;
 use std::alloc::{AllocError, Global};
@@ -49,6 +49,25 @@ fn cells_below(mine: &[u64], theirs: &[u64]) -> bool
         all = all & is_below(mine[i], theirs[i]);
     }
     all
+}
+
+/// Whether each cell is its partner, of cells that are as many.
+fn partners_same(mine: &[u64], theirs: &[u64]) -> bool
+    requires { length mine.now ≡ length theirs.now }
+    ensures { IsTrue result ↔ (cells_of mine.now ≡ cells_of theirs.now) }
+{
+    let mut all = true;
+    for i in 0..mine.len() {
+        all = all & is_same(mine[i], theirs[i]);
+    }
+    all
+}
+
+/// Whether the cells are the same. Mostly their codes are, if the cells are.
+fn cells_same(mine: &[u64], theirs: &[u64]) -> bool
+    ensures { IsTrue result ↔ (cells_of mine.now ≡ cells_of theirs.now) }
+{
+    mine.len() == theirs.len() && (are_equal(mine, theirs) || partners_same(mine, theirs))
 }
 
 /// Makes each cell the least one above it and its partner.
@@ -174,6 +193,13 @@ impl Stack {
     {
         self.codes.clear();
         self.codes.extend_from_slice(other.codes.as_slice())
+    }
+
+    /// Whether the cells are the same.
+    pub fn is_same(&self, other: &Stack) -> bool
+        ensures { IsTrue result ↔ (self.now ≡ other.now) }
+    {
+        cells_same(self.codes.as_slice(), other.codes.as_slice())
     }
 
     /// Becomes the least stack above both, cell by cell, without memory.

@@ -2,7 +2,7 @@
 
 use crate::cells::{Cell, ZoneCell};
 use crate::entries::Entries;
-use crate::graphics::joined_graphics;
+use crate::graphics::{is_same_graphics, joined_graphics};
 use crate::order::{AbsFault, Order};
 use crate::stack::Stack;
 use std::alloc::{AllocError, Global};
@@ -32,7 +32,7 @@ const DEFAULT: Graphics<Cell, ZoneCell> = Graphics {
 };
 
 impl State {
-    ghost use Rattle.std.specs.Prelude.{◌≡◌, ◌<◌, ◌∷◌, length, reverse, slice_get, IfOk, OnOk, OnErr};
+    ghost use Rattle.std.specs.Prelude.{◌≡◌, ◌<◌, ◌∷◌, ◌↔◌, length, reverse, slice_get, IsTrue, IfOk, OnOk, OnErr};
     ghost use Rattle.tt_code.specs.States.{pointer, reference, with_pointer, with_reference};
     ghost use Rattle.tt_abs.specs.Entries.{Rises, storage_of, with_cell, with_entry};
     ghost use Rattle.tt_abs.specs.States.{start_of, state_order};
@@ -82,6 +82,16 @@ impl State {
         self.graphics = other.graphics;
         self.functions.copy_from(&other.functions)?;
         self.storage.copy_from(&other.storage)
+    }
+
+    /// Whether the other is the same state. Takes no memory.
+    pub fn is_same(&self, other: &State) -> bool
+        ensures { IsTrue result ↔ (self.now ≡ other.now) }
+    {
+        self.stack.is_same(&other.stack)
+            && is_same_graphics(&self.graphics, &other.graphics)
+            && self.functions.is_same(&other.functions)
+            && self.storage.is_same(&other.storage)
     }
 
     /// How many cells the stack has.

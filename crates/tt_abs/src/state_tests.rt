@@ -149,6 +149,30 @@ fn copies_over_others(rt: HostRuntime) -> Result<(), Fail> {
 }
 
 #[test]
+fn same_states(rt: HostRuntime) -> Result<(), Fail> {
+    let mut state = State::start(rt.alloc(), &[(1, 10)])?;
+    state.push(Known(1))?;
+    state.push(Unknown)?;
+    let mut other = state.copied()?;
+    assert_eq!(rt; other.is_same(&state), true);
+    other.set_storage(3, Known(-1))?;
+    assert_eq!(rt; other.is_same(&state), false);
+    assert_eq!(rt; other.below(&state), true);
+    other.set_storage(3, Unknown)?;
+    assert_eq!(rt; other.is_same(&state), true);
+    other.set_rp(Reference::Rp2, Unknown);
+    assert_eq!(rt; other.is_same(&state), false);
+    state.set_rp(Reference::Rp2, Unknown);
+    assert_eq!(rt; other.is_same(&state), true);
+    other.define(1, 20)?;
+    assert_eq!(rt; other.is_same(&state), false);
+    other.copy_from(&state)?;
+    other.push(Known(0))?;
+    assert_eq!(rt; other.is_same(&state), false);
+    Ok(())
+}
+
+#[test]
 fn calls_of_stacks(rt: HostRuntime) -> Result<(), Fail> {
     let mut stack = Stack::new(rt.alloc());
     for number in 0..20 {

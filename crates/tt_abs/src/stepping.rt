@@ -67,3 +67,23 @@ pub fn step(setting: &Setting<'_>, point: &Point<'_>, state: &mut State) -> Resu
     state.rises();
     Ok(moves)
 }
+
+/// Carries out the instruction at a point, as `step` does, where one of the point's body starts there. After a refusal the state
+/// says nothing.
+///
+/// # Errors
+/// `Refused` with `Target` where none starts there, and else as `step` refuses; `OutOfMemory`.
+pub fn step_at(
+    setting: &Setting<'_>,
+    point: &Point<'_>,
+    state: &mut State,
+) -> Result<Moves, Refusal>
+    ensures ok { IfOk result (λ m. LeadsBy point.now (outcome_at setting.now point.now state.old) m state.new) }
+    ensures refused { IfErr result (IsRefusedFor (outcome_at setting.now point.now state.old)) }
+    ensures in_range { state_order.InRange state.old → IfOk result (λ _. state_order.InRange state.new) }
+{
+    if !setting.starts(point, point.offset) {
+        return Err(Refusal::Refused(Reason::Target));
+    }
+    step(setting, point, state)
+}
