@@ -7,7 +7,7 @@ use Rattle.std.specs.Option.{option_map, is_some}
 use Rattle.std.specs.List.{All}
 use Rattle.std.specs.List.Sorted.{IsStrictlySortedBy}
 use Rattle.std.specs.Map.{keys_of, set_value}
-use Rattle.std.specs.BTreeMap.{BTreeMap, is_at, insert_entry, UpdatesBy}
+use Rattle.std.specs.BTreeMap.{is_at, insert_entry}
 use Rattle.std.proofs.Common.{refl, sym, ◌∙◌, ap, subst, arith, inl, inr}
 use Rattle.std.proofs.lemmas.Bool.{cases_lt, cases_Bool}
 use Rattle.std.proofs.lemmas.Cmp.{eq_by_cmp_equiv, tied_itself}
@@ -23,6 +23,7 @@ use Rattle.tt_cert.specs.Puts.{ReweighsStates}
 use Rattle.tt_cert.specs.Tables.{state_in, table_of, AreSlots, AgreesBelow, IsTable}
 use Rattle.tt_cert.proofs.Puts.{cases_place, places_apart}
 use Rattle.tt_cert.proofs.Putting.{place_total, sums_written, sums_added}
+use Rattle.tt_cert.proofs.PlaceEntries.{insert_rises, insert_here, insert_elsewhere, insert_length}
 
 abbrev Slots : Type 0
 Slots = List ((ℕ × ℕ) × ℕ)
@@ -210,6 +211,20 @@ one_depth x old t s is deep has =
     let D : State → Type 0 = λ y. state_order.SameDepth y t in
     subst D same deep
 
+-- no places
+pub IsTable-empty : (slots : List State) (es : Slots) → es ≡ [] → IsTable slots es
+unfolding IsStrictlySortedBy
+IsTable-empty slots es none =
+    let R : Slots → Type 0 = λ l. IsStrictlySortedBy place_cmp (keys_of l) in
+    let long : length es ≡ 0 = ap length none in
+    record {
+      rises = subst R (sym none) tt;
+      first = λ p n at. absurd (let both : None ≡ Some n = sym (ap (λ l. states_of l p) none) ∙ at in cc);
+      once = λ p q n at. absurd (let both : None ≡ Some n = sym (ap (λ l. states_of l p) none) ∙ at in cc);
+      enough = omega arith;
+      fits = omega arith;
+    }
+
 -- slots behind those of the places may change
 module _ (slots slots' : List State) (es : Slots) (table : IsTable slots es) (agrees : AgreesBelow (length es) slots slots') (long : length slots ≤ length slots') where
   IsTable-kept : IsTable slots' es
@@ -228,35 +243,33 @@ module _ (slots slots' : List State) (es : Slots) (table : IsTable slots es) (ag
     pub table_same : (t : List ((ℕ × ℕ) × State)) → table_of slots es ≡ t → table_of slots' es' ≡ t
     table_same t is = ap (table_of slots') same ∙ table_kept t is
 
-one_more : (old : Option ℕ) (a b : ℕ) → old ≡ None → a ≡ b + cond (is_some old) 0 1 → a ≡ b + 1
-one_more None a b none e = e
-one_more (Some n) a b none e = absurd (cc)
-
 -- a place gets the next slot
-module _ (slots slots' : List State) (m m' : BTreeMap (ℕ × ℕ) ℕ) (table : IsTable slots m.entries) (k : ℕ × ℕ) (n : ℕ) (absent : states_of m.entries k ≡ None) (s : State)
-    (agrees : AgreesBelow n slots slots') (long : length slots ≤ length slots') (filled : slice_get slots' n ≡ Some s) (next : n ≡ length m.entries)
-    (updates : UpdatesBy place_cmp (place_cmp k) m m' (Some n)) where
-  number_of_other : (p : ℕ × ℕ) → p ≢ k → states_of m'.entries p ≡ states_of m.entries p
-  number_of_other p apart = updates.2 p (places_apart k p apart)
+module _ (slots slots' : List State) (es es' : Slots) (table : IsTable slots es) (k : ℕ × ℕ) (n : ℕ) (absent : states_of es k ≡ None) (s : State)
+    (agrees : AgreesBelow n slots slots') (long : length slots ≤ length slots') (filled : slice_get slots' n ≡ Some s) (next : n ≡ length es)
+    (puts : es' ≡ insert_entry place_cmp es k n) where
+  number_of_other : (p : ℕ × ℕ) → p ≢ k → states_of es' p ≡ states_of es p
+  number_of_other p apart = ap (λ l. states_of l p) puts ∙ insert_elsewhere es k n p (places_apart p k (λ e. apart (sym e)))
 
-  new_number : (p : ℕ × ℕ) (i : ℕ) → states_of m'.entries p ≡ Some i → ((p ≡ k) × (i ≡ n)) ⊎ ((p ≢ k) × (i < n) × (states_of m.entries p ≡ Some i))
+  number_here : states_of es' k ≡ Some n
+  number_here = ap (λ l. states_of l k) puts ∙ insert_here es k n
+
+  new_number : (p : ℕ × ℕ) (i : ℕ) → states_of es' p ≡ Some i → ((p ≡ k) × (i ≡ n)) ⊎ ((p ≢ k) × (i < n) × (states_of es p ≡ Some i))
   new_number p i at = elim (cases_place p k) [
     | inl here ↦
-        let both : Some i ≡ Some n = sym at ∙ ap (states_of m'.entries) here ∙ updates.1 in
+        let both : Some i ≡ Some n = sym at ∙ ap (states_of es') here ∙ number_here in
         inl (here, cc)
     | inr apart ↦
-        let before : states_of m.entries p ≡ Some i = sym (number_of_other p apart) ∙ at in
+        let before : states_of es p ≡ Some i = sym (number_of_other p apart) ∙ at in
         let below = table.first p i before in
         inr (apart, omega arith, before)
   ]
 
-  longer : (old : Option ℕ) → old ≡ states_of m.entries k → length m'.entries ≡ length m.entries + cond (is_some old) 0 1 → length m'.entries ≡ length m.entries + 1
-  longer old at more = one_more old (length m'.entries) (length m.entries) (at ∙ absent) more
+  longer : length es' ≡ length es + 1
+  longer = ap length puts ∙ insert_length es k n table.rises absent
 
-  pub IsTable-added : (old : Option ℕ) → old ≡ states_of m.entries k → length m'.entries ≡ length m.entries + cond (is_some old) 0 1 → IsStrictlySortedBy place_cmp (keys_of m'.entries)
-      → n < 4294967295 → IsTable slots' m'.entries
-  IsTable-added old at grows rises few = let more = longer old at grows in record {
-    rises = rises;
+  pub IsTable-added : n < 4294967295 → IsTable slots' es'
+  IsTable-added few = let more = longer in let R : Slots → Type 0 = λ l. IsStrictlySortedBy place_cmp (keys_of l) in record {
+    rises = subst R (sym puts) (insert_rises es k n table.rises);
     first = λ p i at. elim (new_number p i at) [ inl here ↦ (let e = here.1 in omega arith) | inr old ↦ (let lt = old.1 in omega arith) ];
     once = λ p q i at_p at_q. elim (new_number p i at_p) [
       | inl here ↦ elim (new_number q i at_q) [
@@ -272,34 +285,32 @@ module _ (slots slots' : List State) (m m' : BTreeMap (ℕ × ℕ) ℕ) (table :
     fits = omega arith;
   }
 
-  module _ (t : List ((ℕ × ℕ) × State)) (is : table_of slots m.entries ≡ t) where
+  module _ (t : List ((ℕ × ℕ) × State)) (is : table_of slots es ≡ t) where
     old_none : None ≡ states_of t k
-    old_none = sym (none_found slots m.entries table t is k (sym absent))
+    old_none = sym (none_found slots es table t is k (sym absent))
 
-    state_added : Some s ≡ states_of (table_of slots' m'.entries) k
-    state_added =
-        sym (states_of-table slots' m'.entries k ∙ ap (option_map (state_in slots')) updates.1 ∙ ap Some (get_or_from_slice_get slots' n s (start_of []) filled))
+    state_added : Some s ≡ states_of (table_of slots' es') k
+    state_added = sym (states_of-table slots' es' k ∙ ap (option_map (state_in slots')) number_here ∙ ap Some (get_or_from_slice_get slots' n s (start_of []) filled))
 
-    agreed : AgreesBelow (length m.entries) slots slots'
+    agreed : AgreesBelow (length es) slots slots'
     agreed = λ i lt. agrees i (omega arith)
 
-    pub PutsAt-added : PutsAt state_order (states_of t) (states_of (table_of slots' m'.entries)) k s true
+    pub PutsAt-added : PutsAt state_order (states_of t) (states_of (table_of slots' es')) k s true
     PutsAt-added =
         let gives : PutGives state_order None s (Some s) true = (refl, refl) in
-        puts_from t (table_of slots' m'.entries) k s true None (Some s) old_none state_added gives
-        (λ p apart. states_of-table slots' m'.entries p ∙ ap (option_map (state_in slots')) (number_of_other p apart) ∙ sym (states_of-table slots' m.entries p)
-        ∙ ap (λ l. states_of l p) (table_kept slots slots' m.entries table agreed long t is))
+        puts_from t (table_of slots' es') k s true None (Some s) old_none state_added gives
+        (λ p apart. states_of-table slots' es' p ∙ ap (option_map (state_in slots')) (number_of_other p apart) ∙ sym (states_of-table slots' es p)
+        ∙ ap (λ l. states_of l p) (table_kept slots slots' es table agreed long t is))
 
-    pub Reweighs-added : m'.entries ≡ insert_entry place_cmp m.entries k n → ReweighsStates t (table_of slots' m'.entries) k
-    Reweighs-added entries =
-        sums_added t (table_of slots' m'.entries) k s (sym state_added)
-        (ap (table_of slots') entries ∙ insert_table slots' m.entries k n ∙ ap (insert_entry place_cmp (table_of slots' m.entries) k) (get_or_from_slice_get slots' n s (start_of []) filled)
-        ∙ ap (λ l. insert_entry place_cmp l k s) (table_kept slots slots' m.entries table agreed long t is))
-        (table_rises slots m.entries table t is)
+    pub Reweighs-added : ReweighsStates t (table_of slots' es') k
+    Reweighs-added =
+        sums_added t (table_of slots' es') k s (sym state_added)
+        (ap (table_of slots') puts ∙ insert_table slots' es k n ∙ ap (insert_entry place_cmp (table_of slots' es) k) (get_or_from_slice_get slots' n s (start_of []) filled)
+        ∙ ap (λ l. insert_entry place_cmp l k s) (table_kept slots slots' es table agreed long t is))
+        (table_rises slots es table t is)
 
-  pub length-added : (old : Option ℕ) → old ≡ states_of m.entries k → length m'.entries ≡ length m.entries + cond (is_some old) 0 1 → n < 4294967295
-      → length (table_of slots' m'.entries) ≤ 4294967295
-  length-added old at grows few = let more = longer old at grows in let l = length-table slots' m'.entries in omega arith
+  pub length-added : n < 4294967295 → length (table_of slots' es') ≤ 4294967295
+  length-added few = let more = longer in let l = length-table slots' es' in omega arith
 
 -- the walk goes to the next place
 module _ (slots : List State) (es es' : Slots) (p : ℕ × ℕ) (n : ℕ) (are : AreSlots slots es) (is : es ≡ (p, n) ∷ es') where

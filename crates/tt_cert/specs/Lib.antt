@@ -1,4 +1,5 @@
 pub mod Places
+pub mod PlaceRows
 pub mod Tables
 pub mod Contexts
 pub mod Contents

@@ -8,6 +8,8 @@ pub mod checking;
 mod checking_tests;
 pub mod fault;
 mod finishing;
+mod places;
+mod row;
 pub mod spot;
 mod state_table;
 pub mod states;

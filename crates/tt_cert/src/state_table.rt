@@ -12,20 +12,20 @@ ghost use Rattle.tt_cert.specs.Puts.{ReweighsStates};
 ghost use Rattle.tt_cert.specs.Tables.{AgreesBelow};
 
 use crate::fault::BuildFault;
+use crate::places::Places;
 use crate::states::States;
 use std::alloc::{AllocError, Global};
-use std::collections::BTreeMap;
 use std::marker::Model;
 use tt_abs::{Order, State};
 
 /// At most so many states are kept.
-const MOST_STATES: usize = 4_294_967_295;
+const MOST_STATES: u32 = 4_294_967_295;
 
 /// States by context and offset, in slots that are used again.
 #[derive(Drop)]
 pub(crate) struct StateTable {
     /// The slot of each point. The points have the first slots, one each.
-    places: BTreeMap<(u32, u32), u32>,
+    places: Places,
     /// The states in the slots. What lies behind the slots of the points is kept for its memory alone.
     slots: Vec<State>,
 }
@@ -37,9 +37,9 @@ impl Model for StateTable {
 
     ghost Value = { List ((ℕ × ℕ) × StateValue) };
 
-    ghost view = { λ t. table_of t.slots.items t.places.entries };
+    ghost view = { λ t. table_of t.slots.items t.places };
 
-    ghost invariant = { λ t. IsTable t.slots.items t.places.entries };
+    ghost invariant = { λ t. IsTable t.slots.items t.places };
 }
 
 /// Makes a slot that is there, or the next one, hold a copy of a state.
@@ -67,7 +67,7 @@ impl StateTable {
         ensures { result ≡ [] }
     {
         StateTable {
-            places: BTreeMap::new(alloc),
+            places: Places::new(alloc),
             slots: Vec::new(alloc),
         }
     }
@@ -76,15 +76,15 @@ impl StateTable {
     pub(crate) fn len(&self) -> u32
         ensures { result ≡ length self.now }
     {
-        self.places.len() as u32
+        self.places.len()
     }
 
     /// The state at a point.
     pub(crate) fn get(&self, context: u32, offset: u32) -> Option<&State>
         ensures { option_copied result ≡ states_of self.now (context, offset) }
     {
-        match self.places.get(&(context, offset)) {
-            Some(number) => Some(&self.slots[*number as usize]),
+        match self.places.get(context, offset) {
+            Some(number) => Some(&self.slots[number as usize]),
             None => None,
         }
     }
@@ -121,8 +121,8 @@ impl StateTable {
         ensures kept { OnErr result (self.new ≡ self.old) }
         ensures fits { OnOk result (length self.new ≤ 4294967295) }
     {
-        if let Some(number) = self.places.get(&(context, offset)) {
-            let slot = &mut self.slots[*number as usize];
+        if let Some(number) = self.places.get(context, offset) {
+            let slot = &mut self.slots[number as usize];
             let Ok(changed) = slot.join(state) else {
                 return Err(BuildFault::DepthMismatch);
             };
@@ -148,10 +148,10 @@ impl StateTable {
         if number >= MOST_STATES {
             return Err(BuildFault::OutOfMemory);
         }
-        if let Err(_) = fill(&mut self.slots, number, state) {
+        if let Err(_) = fill(&mut self.slots, number as usize, state) {
             return Err(BuildFault::OutOfMemory);
         }
-        if let Err(_) = self.places.insert((context, offset), number as u32) {
+        if let Err(_) = self.places.insert(context, offset, number) {
             return Err(BuildFault::OutOfMemory);
         }
         Ok(())

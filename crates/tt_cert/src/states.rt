@@ -2,7 +2,7 @@
 
 ghost use Rattle.std.specs.Prelude.{◌≡◌, ◌∷◌, None, [], IfSome};
 
-use std::collections::btree_map::Iter;
+use crate::places::PlacesIter;
 use std::marker::Model;
 use tt_abs::State;
 
@@ -10,7 +10,7 @@ use tt_abs::State;
 #[derive(Drop)]
 pub struct States<'a> {
     /// The slots of the points that are still to come.
-    pub(crate) places: Iter<'a, (u32, u32), u32>,
+    pub(crate) places: PlacesIter<'a>,
     /// The states in the slots.
     pub(crate) slots: &'a [State],
 }
@@ -33,7 +33,7 @@ impl<'a> States<'a> {
         ensures none { result ≡ None → self.old ≡ [] }
         ensures some { IfSome result (λ e. self.old ≡ ((e.0, e.1), e.2.now) ∷ self.new) }
     {
-        let (place, number) = self.places.next()?;
-        Some((place.0, place.1, &self.slots[*number as usize]))
+        let (place, number) = self.places.take_first()?;
+        Some((place.0, place.1, &self.slots[number as usize]))
     }
 }

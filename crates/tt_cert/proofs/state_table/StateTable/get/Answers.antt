@@ -4,11 +4,11 @@ use Rattle.tt_cert.proofs.state_table.StateTable.get.Goals as goal
 
 pub index-requires : goal.index-requires
 index-requires c =
-    let lt = slot_there _ _ c.self.invariant (c.args.context, c.args.offset) c.in-Some.number.now c.in-Some.ensures.value in
+    let lt = slot_there _ _ c.self.invariant (c.args.context, c.args.offset) c.in-Some.number c.in-Some.ensures in
     omega arith
 
 pub returns-in-Some : goal.returns-in-Some
-returns-in-Some c = state_found _ _ c.self.invariant _ c.self.view_is (c.args.context, c.args.offset) c.in-Some.number.now c.in-Some.ensures.value c.index.result.now c.index.ensures
+returns-in-Some c = state_found _ _ c.self.invariant _ c.self.view_is (c.args.context, c.args.offset) c.in-Some.number c.in-Some.ensures c.index.result.now c.index.ensures
 
 pub returns-in-None : goal.returns-in-None
-returns-in-None c = sym (none_found _ _ c.self.invariant _ c.self.view_is (c.args.context, c.args.offset) c.in-None.ensures.value)
+returns-in-None c = sym (none_found _ _ c.self.invariant _ c.self.view_is (c.args.context, c.args.offset) c.in-None.ensures)

@@ -2,7 +2,7 @@ use Rattle.tt_cert.proofs.Tables.{slots_now, table_rises, table_found}
 use Rattle.tt_cert.proofs.state_table.StateTable.iter.Goals as goal
 
 pub invariant_of-result : goal.invariant_of-result
-invariant_of-result c = slots_now _ _ c.self.invariant _ _ c.as_slice.ensures.value c.iter.ensures.rest
+invariant_of-result c = slots_now _ _ c.self.invariant _ _ c.as_slice.ensures.value c.iter.ensures
 
 pub returns-clause-rises : goal.returns-clause-rises
 returns-clause-rises c = table_rises _ _ c.self.invariant _ c.self.view_is

@@ -4,44 +4,44 @@ use Rattle.tt_cert.proofs.state_table.StateTable.join.Goals as goal
 
 pub index_mut-slot-requires : goal.index_mut-slot-requires
 index_mut-slot-requires c =
-    let lt = slot_there _ _ c.self.invariant (c.args.context, c.args.offset) c.in-Some.number.now c.in-Some.ensures.value in
+    let lt = slot_there _ _ c.self.invariant (c.args.context, c.args.offset) c.in-Some.number c.in-Some.ensures in
     omega arith
 
 pub join-requires-clause-mine : goal.join-requires-clause-mine
 join-requires-clause-mine c =
     c.requires.mine c.index_mut-slot.result.now
-    (sym (state_found _ _ c.self.invariant _ c.self.view_is (c.args.context, c.args.offset) c.in-Some.number.now c.in-Some.ensures.value c.index_mut-slot.result.now
+    (sym (state_found _ _ c.self.invariant _ c.self.view_is (c.args.context, c.args.offset) c.in-Some.number c.in-Some.ensures c.index_mut-slot.result.now
     c.index_mut-slot.ensures.value))
 
 pub returns-in_default-join-clause-depth : goal.returns-in_default-join-clause-depth
 returns-in_default-join-clause-depth c = λ _. (
   c.index_mut-slot.result.now,
-  sym (state_found _ _ c.self.invariant _ c.self.view_is (c.args.context, c.args.offset) c.in-Some.number.now c.in-Some.ensures.value c.index_mut-slot.result.now
+  sym (state_found _ _ c.self.invariant _ c.self.view_is (c.args.context, c.args.offset) c.in-Some.number c.in-Some.ensures c.index_mut-slot.result.now
       c.index_mut-slot.ensures.value),
   c.in_default-join.ensures.refused,
 )
 
 pub returns-in-Some-clause-put : goal.returns-in-Some-clause-put
 returns-in-Some-clause-put c =
-    PutsAt-set c.self.inside.slots.items c.self.inside.places.entries c.self.invariant (c.args.context, c.args.offset) c.in-Some.number.now c.in-Some.ensures.value
+    PutsAt-set c.self.inside.slots.items c.self.inside.places c.self.invariant (c.args.context, c.args.offset) c.in-Some.number c.in-Some.ensures
     _ c.self.view_is c.index_mut-slot.result.now c.index_mut-slot.ensures.value c.join.new.self c.args.state.now c.in-Ok.changed c.in-Ok.ensures.least c.in-Ok.ensures.unchanged
 
 pub returns-in-Some-clause-sums : goal.returns-in-Some-clause-sums
 returns-in-Some-clause-sums c =
-    Reweighs-set c.self.inside.slots.items c.self.inside.places.entries c.self.invariant (c.args.context, c.args.offset) c.in-Some.number.now c.in-Some.ensures.value
+    Reweighs-set c.self.inside.slots.items c.self.inside.places c.self.invariant (c.args.context, c.args.offset) c.in-Some.number c.in-Some.ensures
     _ c.self.view_is c.index_mut-slot.result.now c.index_mut-slot.ensures.value c.join.new.self
 
 pub returns-in-Some-clause-joined : goal.returns-in-Some-clause-joined
 returns-in-Some-clause-joined c = λ s.
     one_depth _ c.index_mut-slot.result.now c.args.state.now s
-    (state_found _ _ c.self.invariant _ c.self.view_is (c.args.context, c.args.offset) c.in-Some.number.now c.in-Some.ensures.value c.index_mut-slot.result.now
+    (state_found _ _ c.self.invariant _ c.self.view_is (c.args.context, c.args.offset) c.in-Some.number c.in-Some.ensures c.index_mut-slot.result.now
     c.index_mut-slot.ensures.value) c.in-Ok.ensures.one_depth
 
 pub returns-in-Some-clause-fits : goal.returns-in-Some-clause-fits
 returns-in-Some-clause-fits c =
-    let long = length-table (slice_set c.self.inside.slots.items c.in-Some.number.now c.join.new.self) c.self.inside.places.entries in
+    let long = length-table (slice_set c.self.inside.slots.items c.in-Some.number c.join.new.self) c.self.inside.places in
     let fits = c.self.invariant.fits in
     omega arith
 
 pub add-requires : goal.add-requires
-add-requires c = none_found _ _ c.self.invariant _ c.self.view_is (c.args.context, c.args.offset) c.in_default.ensures.value
+add-requires c = none_found _ _ c.self.invariant _ c.self.view_is (c.args.context, c.args.offset) c.in_default.ensures

@@ -1,0 +1,85 @@
+-- The end of a row: what its last offset says of the others, and an offset that is put behind them.
+use Rattle.std.specs.Prelude.{◌≡◌, ◌↔◌, ℕ, zero, suc, ◌+◌, ◌-◌, ◌≤◌, ◌<◌, IsTrue, cond, nat_eq, nat_lt, if◌then◌else◌, Option, Some, None, List, [], ◌∷◌, ◌++◌, length, slice_get}
+use Rattle.std.specs.List.{AllByRecursion}
+use Rattle.std.proofs.Common.{refl, sym, ◌∙◌, ap, subst, arith, inl, inr}
+use Rattle.std.proofs.lemmas.Bool.{cases_eq, eq-eqb, ne_eqb, lt-ltb, ltb-true}
+use Rattle.std.proofs.lemmas.Option.{slice_get_within, get_or_from_slice_get}
+use Rattle.tt_abs.specs.Entries.{Rises, listed}
+use Rattle.tt_abs.specs.EntryLaws.{listed-here, listed-there}
+use Rattle.tt_abs.proofs.EntryEdits.{all-at}
+use Rattle.tt_cert.specs.PlaceRows.{Offsets, AreBelow}
+
+-- the last offset
+
+last_at : (row : Offsets) (d : ℕ × ℕ) → slice_get row (length row - 1) ≡ Some d → (i : ℕ) × (suc i ≡ length row) × (slice_get row i ≡ Some d)
+last_at row d at =
+    let lt = slice_get_within row (length row - 1) d at in
+    (length row - 1, omega arith, at)
+
+below_last : (o : ℕ) (row : Offsets) (i : ℕ) (d : ℕ × ℕ) → Rises row → suc i ≡ length row → slice_get row i ≡ Some d → d.0 < o → AreBelow o row
+below_last o [] i d rises end at lt = tt
+below_last o (e ∷ []) zero d rises end at lt = let same : e ≡ d = cc in (let f = ap (λ (x : ℕ × ℕ). x.0) same in omega arith, tt)
+below_last o (e ∷ f ∷ row) zero d rises end at lt = absurd (omega arith)
+below_last o (e ∷ row) (suc i) d rises end at lt =
+    let above = all-at e.0 row i e rises.0 (omega arith) in
+    let is = ap (λ (x : ℕ × ℕ). x.0) (get_or_from_slice_get row i d e at) in
+    (omega arith, below_last o row i d rises.1 (omega arith) at lt)
+
+last_below : (o : ℕ) (row : Offsets) (i : ℕ) (d : ℕ × ℕ) → slice_get row i ≡ Some d → AreBelow o row → d.0 < o
+last_below o [] i d at below = absurd (cc)
+last_below o (e ∷ row) zero d at below = let same : e ≡ d = cc in let f = ap (λ (x : ℕ × ℕ). x.0) same in let lt = below.0 in omega arith
+last_below o (e ∷ row) (suc i) d at below = last_below o row i d at below.1
+
+-- a row is below an offset if its last offset is
+pub tests_last : (o : ℕ) (row : Offsets) (d : ℕ × ℕ) → Rises row → Some d ≡ slice_get row (length row - 1) → IsTrue (nat_lt d.0 o) ↔ AreBelow o row
+tests_last o row d rises at =
+    let (i, end, at_i) = last_at row d (sym at) in (
+      λ t. below_last o row i d rises end at_i (ltb-true d.0 o t),
+      λ below. lt-ltb d.0 o (last_below o row i d at_i below),
+    )
+
+listed_at : (o : ℕ) (row : Offsets) (i : ℕ) (d : ℕ × ℕ) → Rises row → slice_get row i ≡ Some d → d.0 ≡ o → listed row o ≡ Some d.1
+listed_at o [] i d rises at same = absurd (cc)
+listed_at o (e ∷ row) zero d rises at same =
+    let is : e ≡ d = cc in
+    listed-here e row o (ap (λ (x : ℕ × ℕ). x.0) is ∙ same) ∙ ap (λ (x : ℕ × ℕ). Some x.1) is
+listed_at o (e ∷ row) (suc i) d rises at same =
+    let above = all-at e.0 row i e rises.0 (slice_get_within row i d at) in
+    let is = ap (λ (x : ℕ × ℕ). x.0) (get_or_from_slice_get row i d e at) in
+    listed-there e row o (λ f. absurd (omega arith)) ∙ listed_at o row i d rises.1 at same
+
+-- the slot of the last offset
+pub listed_last : (o : ℕ) (row : Offsets) (d : ℕ × ℕ) → Rises row → Some d ≡ slice_get row (length row - 1) → d.0 ≡ o → listed row o ≡ Some d.1
+listed_last o row d rises at same = listed_at o row (length row - 1) d rises (sym at) same
+
+-- an offset behind a row
+
+pub listed_below : (o : ℕ) (row : Offsets) → AreBelow o row → listed row o ≡ None
+listed_below o [] below = refl
+listed_below o (e ∷ row) below =
+    let lt = below.0 in ap (λ b. if b then Some e.1 else listed row o) (ne_eqb e.0 o (λ f. absurd (omega arith))) ∙ listed_below o row below.1
+
+pub listed_pushed : (o n : ℕ) (row : Offsets) (q : ℕ) → AreBelow o row → listed (row ++ (o, n) ∷ []) q ≡ cond (nat_eq o q) (Some n) (listed row q)
+listed_pushed o n [] q below = refl
+listed_pushed o n (e ∷ row) q below = elim (cases_eq e.0 q) [
+  | inl here ↦
+      let lt = below.0 in
+      ap (λ b. if b then Some e.1 else listed (row ++ (o, n) ∷ []) q) (eq-eqb e.0 q here)
+      ∙ sym (ap (λ b. cond b (Some n) (if nat_eq e.0 q then Some e.1 else listed row q)) (ne_eqb o q (λ f. absurd (omega arith)))
+      ∙ ap (λ b. if b then Some e.1 else listed row q) (eq-eqb e.0 q here))
+  | inr apart ↦
+      ap (λ b. if b then Some e.1 else listed (row ++ (o, n) ∷ []) q) (ne_eqb e.0 q apart) ∙ listed_pushed o n row q below.1
+      ∙ sym (ap (λ b. cond (nat_eq o q) (Some n) (if b then Some e.1 else listed row q)) (ne_eqb e.0 q apart))
+]
+
+above_pushed : (d o n : ℕ) (row : Offsets) → d < o → AllByRecursion (λ f. d < f.0) row → AllByRecursion (λ f. d < f.0) (row ++ (o, n) ∷ [])
+above_pushed d o n [] lt all = (lt, tt)
+above_pushed d o n (e ∷ row) lt all = (all.0, above_pushed d o n row lt all.1)
+
+pub rises_pushed : (o n : ℕ) (row : Offsets) → Rises row → AreBelow o row → Rises (row ++ (o, n) ∷ [])
+rises_pushed o n [] rises below = (tt, tt)
+rises_pushed o n (e ∷ row) rises below = (above_pushed e.0 o n row below.0 rises.0, rises_pushed o n row rises.1 below.1)
+
+pub below_first : (q : ℕ) (row es : Offsets) → AreBelow q (row ++ es) → AreBelow q row
+below_first q [] es below = tt
+below_first q (e ∷ row) es below = (below.0, below_first q row es below.1)
