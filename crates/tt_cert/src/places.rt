@@ -28,16 +28,19 @@ pub(crate) struct Places {
 
 impl Model for Places {
     ghost use Rattle.std.specs.Prelude.{◌≡◌, List, ℕ, length};
-    ghost use Rattle.tt_cert.specs.PlaceRows.{ArePlaces as IsApart, merged, rows_points};
+    ghost use Rattle.tt_cert.specs.PlaceRows.{ArePlaces, merged, rows_points};
 
     ghost Value = { List ((ℕ × ℕ) × ℕ) };
 
     ghost view = { λ p. merged (rows_points 0 p.rows.items) p.rest.entries };
 
-    ghost invariant = { λ p. IsApart p.rows.items p.rest.entries × (p.count ≡ length (merged (rows_points 0 p.rows.items) p.rest.entries)) };
+    ghost invariant = { λ p. ArePlaces p.rows.items p.rest.entries × (p.count ≡ length (merged (rows_points 0 p.rows.items) p.rest.entries)) };
 }
 
 /// Adds empty rows until there is one for a context.
+///
+/// # Errors
+/// If memory runs out; then some of the rows may be there.
 fn add_rows(rows: &mut Vec<Row>, context: u32) -> Result<(), AllocError>
     requires { length rows.old.items ≤ 4294967296 }
     ensures enough { OnOk result (context < length rows.new.items) }
@@ -52,6 +55,9 @@ fn add_rows(rows: &mut Vec<Row>, context: u32) -> Result<(), AllocError>
 }
 
 /// Puts a point that isn't there behind its row, or beside the rows.
+///
+/// # Errors
+/// If memory runs out; then the points stay as they are.
 fn put(
     rows: &mut Vec<Row>,
     rest: &mut BTreeMap<(u32, u32), u32>,

@@ -16,13 +16,13 @@ pub(crate) struct Row {
 
 impl Model for Row {
     ghost use Rattle.std.specs.Prelude.{List, ℕ};
-    ghost use Rattle.tt_abs.specs.Entries.{Rises as IsRising};
+    ghost use Rattle.tt_abs.specs.Entries.{Rises};
 
     ghost Value = { List (ℕ × ℕ) };
 
     ghost view = { λ r. r.points.items };
 
-    ghost invariant = { λ r. IsRising r.points.items };
+    ghost invariant = { λ r. Rises r.points.items };
 }
 
 /// Where an offset stands, or where it would.

@@ -198,6 +198,69 @@ fn builder_in_the_memory_of_a_certificate(rt: HostRuntime) -> Result<(), Fail> {
     Ok(())
 }
 
+/// Puts a state at offsets of a context, one after the other.
+fn put_at(alloc: Global, builder: &mut Builder, context: u32, offsets: &[u32]) -> Result<(), Fail> {
+    let state = state_of(alloc, 1, 2)?;
+    for offset in offsets {
+        put(builder, context, *offset, &state)?;
+    }
+    Ok(())
+}
+
+/// The points of a builder in the order of the walk through its states.
+fn points_of(alloc: Global, builder: &Builder) -> Result<Vec<(u32, u32)>, AllocError> {
+    let mut points = Vec::new(alloc);
+    let mut states = builder.states();
+    for _ in 0..builder.points() {
+        let Some((context, offset, _)) = states.take_first() else {
+            break;
+        };
+        points.push((context, offset))?;
+    }
+    Ok(points)
+}
+
+#[test]
+fn points_out_of_order(rt: HostRuntime) -> Result<(), Fail> {
+    let mut builder = Builder::new(rt.alloc());
+    let context = add(&mut builder, 0, call_at(2))?;
+    put_at(rt.alloc(), &mut builder, context, &[5, 3, 9, 4])?;
+    put_at(rt.alloc(), &mut builder, 0, &[7, 8, 1, 9, 0])?;
+    assert_eq!(rt; builder.points(), 9);
+    put_at(rt.alloc(), &mut builder, context, &[9, 3, 12, 4, 5])?;
+    assert_eq!(rt; builder.points(), 10);
+    let points = points_of(rt.alloc(), &builder)?;
+    let (main, others) = points.split_at(points.len().min(5));
+    assert_eq!(rt; main, [(0, 0), (0, 1), (0, 7), (0, 8), (0, 9)].as_slice());
+    assert_eq!(rt;
+        others,
+        [(1, 3), (1, 4), (1, 5), (1, 9), (1, 12)].as_slice()
+    );
+    assert_eq!(rt; second_cell(&builder, 1, 4), Some(Cell::Known(2)));
+    assert_eq!(rt; second_cell(&builder, 1, 10), None);
+    assert_eq!(rt; second_cell(&builder, 1, 13), None);
+    assert_eq!(rt; second_cell(&builder, 2, 4), None);
+    Ok(())
+}
+
+#[test]
+fn points_out_of_order_after_a_clear(rt: HostRuntime) -> Result<(), Fail> {
+    let mut builder = Builder::new(rt.alloc());
+    add(&mut builder, 0, call_at(2))?;
+    put_at(rt.alloc(), &mut builder, 1, &[5, 3, 9, 4])?;
+    builder.clear();
+    assert_eq!(rt; points_of(rt.alloc(), &builder)?.is_empty(), true);
+    add(&mut builder, 0, call_at(2))?;
+    assert_eq!(rt; second_cell(&builder, 1, 3), None);
+    put_at(rt.alloc(), &mut builder, 1, &[2, 4, 3])?;
+    put_at(rt.alloc(), &mut builder, 0, &[6, 5])?;
+    assert_eq!(rt;
+        points_of(rt.alloc(), &builder)?.as_slice(),
+        [(0, 5), (0, 6), (1, 2), (1, 3), (1, 4)].as_slice()
+    );
+    Ok(())
+}
+
 #[test]
 fn functions_at_the_end(rt: HostRuntime) -> Result<(), Fail> {
     let mut builder = Builder::new(rt.alloc());

@@ -1,6 +1,5 @@
-use Rattle.std.specs.Prelude.{◌≡◌, [], length}
-use Rattle.std.proofs.Common.{arith, sym, ◌∙◌, ap}
-use Rattle.tt_cert.specs.PlaceRows.{merged, rows_points}
+use Rattle.std.specs.Prelude.{length}
+use Rattle.std.proofs.Common.{sym, ap}
 use Rattle.tt_cert.proofs.PlaceRows.{empty_places, empty_merged}
 use Rattle.tt_cert.proofs.places.Places.clear.Goals as goal
 

@@ -1,4 +1,4 @@
-use Rattle.std.specs.Prelude.{◌≡◌, ℕ, Option, List, slice_index_or, nat_lt, true, length}
+use Rattle.std.specs.Prelude.{◌≡◌, ℕ, List, slice_index_or, nat_lt, true, length}
 use Rattle.std.proofs.Common.{arith, sym, ◌∙◌, ap, subst}
 use Rattle.std.proofs.lemmas.Bool.{ltb-false, ltb-true}
 use Rattle.tt_abs.specs.Entries.{listed}

@@ -1,4 +1,4 @@
-use Rattle.std.specs.Prelude.{◌≡◌, ◌↔◌, ◌-◌, Some, IsTrue, length, nat_lt, slice_get}
+use Rattle.std.specs.Prelude.{◌↔◌, ◌-◌, IsTrue, length, nat_lt, slice_get}
 use Rattle.std.proofs.Common.{◌∙◌, ap, subst}
 use Rattle.tt_cert.specs.PlaceRows.{Offsets, AreBelow}
 use Rattle.tt_cert.proofs.RowEnds.{tests_last}
