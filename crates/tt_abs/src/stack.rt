@@ -43,7 +43,10 @@ fn cells_below(mine: &[u64], theirs: &[u64]) -> bool
     if mine.len() != theirs.len() {
         return false;
     }
-    // Without a branch, so that the loop can become vector code.
+    // Mostly the codes are the same, and that is found fast.
+    if are_equal(mine, theirs) {
+        return true;
+    }
     let mut all = true;
     for i in 0..mine.len() {
         all = all & is_below(mine[i], theirs[i]);
