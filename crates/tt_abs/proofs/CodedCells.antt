@@ -1,14 +1,15 @@
 -- Lists of codes, and of their cells.
 use Rattle.std.specs.Prelude.{reverse, remove, slice_get, ◌↔◌}
 use Rattle.std.specs.Int.Bits.{bit_or, bit_xor, or_zero_l, xor_add_and, xor_self}
-use Rattle.std.proofs.Common.{◌≡◌, ℕ, zero, suc, ◌+◌, ◌-◌, ◌<◌, ◌≤◌, List, [], ◌∷◌, ◌++◌, None, Some, get_or, refl, sym, ◌∙◌, ap, subst, arith, inl, inr, length, take, drop, set, below_more}
+use Rattle.std.proofs.Common.{◌≡◌, ℕ, zero, suc, ◌+◌, ◌-◌, ◌<◌, ◌≤◌, List, [], ◌∷◌, ◌++◌, None, Some, get_or, refl, sym, ◌∙◌, ap, subst, arith, inl, inr, length, take, drop, set, below_more, append_assoc}
 use Rattle.std.proofs.lemmas.Bool.{cases_lt}
 use Rattle.std.proofs.lemmas.Nat.{and_le_l, and_le_r, le_or_l, le_or_r}
-use Rattle.std.proofs.lemmas.List.{ext_get_or, get_or-map, get_or_past, get_or-set_other, get_or-set_same, length-map, map-append, reverse-reverse, take-map, drop-map}
+use Rattle.std.proofs.lemmas.List.{append-nil, ext_get_or, get_or-map, get_or_past, get_or-set_other, get_or-set_same, length-map, map-append, reverse-append, reverse-reverse, take-map, drop-map}
 use Rattle.tt_abs.specs.declared.cells.Cell.{Cell}
 use Rattle.tt_abs.specs.declared.cells.Cell.TheVariants.{Unknown}
 use Rattle.tt_abs.specs.CellOrders.{CellBelow}
 use Rattle.tt_abs.specs.Codes.{cell_of_code, cells_of}
+use Rattle.tt_abs.specs.Transfers.{cells_on}
 use Rattle.tt_abs.specs.Stacks.{first, cell_at, IsLeastCell, StackBelow}
 use Rattle.tt_abs.proofs.Reversed.{under_is, cut_is, removed_is}
 
@@ -141,3 +142,13 @@ removed_code codes stack k place e h f =
     ∙ ap (λ x. reverse (x ++ cells_of (drop (suc k) codes))) (sym (take-map cell_of_code k codes))
     ∙ ap (λ x. reverse (take k (cells_of codes) ++ x)) (sym (drop-map cell_of_code (suc k) codes))
     ∙ removed_is (cells_of codes) stack k place e (omega arith) (omega arith)
+
+-- cells behind others lie on them, in the other direction
+cells_on_reversed : (cs ds : List Cell) → reverse (cs ++ ds) ≡ cells_on ds (reverse cs)
+cells_on_reversed cs [] = ap reverse (append-nil cs)
+cells_on_reversed cs (d ∷ ds) =
+    ap reverse (sym (append_assoc cs (d ∷ []) ds)) ∙ cells_on_reversed (cs ++ d ∷ []) ds ∙ ap (cells_on ds) (reverse-append cs (d ∷ []))
+
+pub pushed_codes : (old new : List ℕ) (stack ds : List Cell) → reverse (cells_of old) ≡ stack → cells_of new ≡ cells_of old ++ ds
+    → reverse (cells_of new) ≡ cells_on ds stack
+pushed_codes old new stack ds e f = ap reverse f ∙ cells_on_reversed (cells_of old) ds ∙ ap (cells_on ds) e

@@ -20,7 +20,7 @@ use Rattle.tt_code.specs.declared.kinds.Pushed.TheVariants as pushed
 use Rattle.tt_abs.specs.declared.cells.Cell.{Cell}
 use Rattle.tt_abs.specs.declared.cells.Cell.TheVariants.{Known, Unknown}
 use Rattle.tt_abs.specs.Cells.{Abstract, Cells}
-use Rattle.tt_abs.specs.Stored.{is_single, is_storage, is_storage_at, stores_tested, reads_tested, is_tested_line, IsIndex, AreIndexed, AreIndexedPushes}
+use Rattle.tt_abs.specs.Stored.{is_single, is_storage, is_storage_at, stores_tested, reads_tested, is_tested_line, changes_or_pushes, IsIndex, AreIndexed, AreIndexedPushes}
 use Rattle.tt_abs.specs.Taken.{TakesTo}
 use Rattle.tt_abs.specs.Transfers.{tested_cell, take_cell, take_cells, test_cell_uses, plain_cells, leaves_cells, cells_pushed, cells_on, cells}
 use Rattle.tt_abs.proofs.Rows.{is_single as is_one}
@@ -136,6 +136,12 @@ pub plain_done : (s : Setting) (a : Abstract) (line : Lists) (n : ℕ) → Takes
 plain_done s a line n h u =
     let front : h.0 ≡ take n a.stack = front_is s a.registers.graphics line.operands a.stack h.0 n h.1 in
     rw (h.1, u, front) refl
+
+-- a line that pushes changes nothing
+pub changes_none : (us : List Update) (ps : List Pushed) → changes_or_pushes us ps ≡ true → (ps ≡ [] → ⊥) → us ≡ []
+changes_none [] ps h some = refl
+changes_none (u ∷ us) [] h some = absurd (some refl)
+changes_none (u ∷ us) (p ∷ ps) h some = absurd (cc)
 
 -- what is left of a state's parts
 pub plain_kept : (a new : Abstract) (cut_stack pushed_stack taken : List Cell) (line : Lists) (n : ℕ) (made : List Cell)

@@ -3,7 +3,7 @@ use Rattle.std.proofs.Common.{◌≡◌, ℕ, List, [], ◌∷◌, refl, sym, �
 use Rattle.std.specs.Prelude.{◌&&◌, if◌then◌else◌}
 use Rattle.std.proofs.lemmas.Bool.{and_parts}
 use Rattle.tt_code.specs.Table.{Meaning, Plain, Lists, Line, table, meaning_in, effect_of, is_among}
-use Rattle.tt_abs.specs.Stored.{is_tested_line}
+use Rattle.tt_abs.specs.Stored.{is_of_one_kind, is_tested_line}
 use Rattle.tt_abs.proofs.Rows.{is_readable_line}
 
 -- does a plain line pass a test?
@@ -26,6 +26,9 @@ found_passes test (l ∷ ls) code h = let (one, rest) = and_parts (passes test l
 table_readable : all_pass is_readable_line table ≡ true
 table_readable = refl
 
+table_of_one_kind : all_pass is_of_one_kind table ≡ true
+table_of_one_kind = refl
+
 table_tested : all_pass is_tested_line table ≡ true
 table_tested = refl
 
@@ -36,3 +39,7 @@ rows_readable code line e = sym (ap (passes is_readable_line) e) ∙ found_passe
 pub rows_tested : (code : ℕ) (line : Lists) → effect_of code ≡ Plain line → is_tested_line line ≡ true
 unfolding effect_of
 rows_tested code line e = sym (ap (passes is_tested_line) e) ∙ found_passes is_tested_line table code table_tested
+
+pub rows_of_one_kind : (code : ℕ) (line : Lists) → effect_of code ≡ Plain line → is_of_one_kind line ≡ true
+unfolding effect_of
+rows_of_one_kind code line e = sym (ap (passes is_of_one_kind) e) ∙ found_passes is_of_one_kind table code table_of_one_kind

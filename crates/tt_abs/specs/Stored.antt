@@ -43,6 +43,15 @@ reads_tested os (p ∷ ps) = reads_tested os ps
 abbrev pub is_tested_line : Lists → Bool
 is_tested_line line = stores_tested line.operands line.updates && reads_tested line.operands line.pushes
 
+-- a line changes nothing or pushes nothing
+abbrev pub changes_or_pushes : List Update → List Pushed → Bool
+changes_or_pushes [] ps = true
+changes_or_pushes (u ∷ us) [] = true
+changes_or_pushes (u ∷ us) (p ∷ ps) = false
+
+abbrev pub is_of_one_kind : Lists → Bool
+is_of_one_kind line = changes_or_pushes line.updates line.pushes
+
 -- the cell is the number of a storage cell
 abbrev pub IsIndex : Cell → Type 0
 IsIndex c = (n : ℕ) × (c ≡ Known (pos n)) × (n < 2 ^ 16)

@@ -1,12 +1,19 @@
 //! The stack of cells.
 
-ghost use Rattle.std.specs.Prelude.{◌≡◌, ℕ, ◌↔◌, ◌<◌, ◌+◌, ◌^◌, [], ◌∷◌, length, drop, remove, reverse, slice_get, slice_index, IsTrue, IfSome, OnOk, OnErr, IfOk};
+ghost use Rattle.std.specs.Prelude.{◌≡◌, ℕ, ◌↔◌, ◌<◌, ◌+◌, ◌^◌, [], ◌∷◌, length, drop, remove, reverse, slice_get, slice_index, map, pos, IsTrue, IfSome, OnOk, OnErr, IfOk};
+ghost use Rattle.smallvec.specs.SmallVec.{HasRoomFor};
+ghost use Rattle.tt_code.specs.Computing.{words};
+ghost use Rattle.tt_abs.specs.Transfers.{cells_on};
+ghost use Rattle.tt_abs.specs.declared.cells.Cell.TheVariants.{Known};
 ghost use Rattle.tt_abs.specs.Orders.{IsLeastAbove};
 ghost use Rattle.tt_abs.specs.Codes.{cell_of_code, cells_of};
 ghost use Rattle.tt_abs.specs.Stacks.{IsLeastCell, StackBelow, first, stack_order};
 
 use crate::cells::Cell;
-use crate::codes::{are_equal, cell_of, code_of, is_below, is_same, joined};
+use crate::codes::{
+    Codes, INLINE_CELLS, append_bytes, append_words, are_equal, cell_of, code_of, is_below,
+    is_same, joined,
+};
 use crate::order::{AbsFault, Order};
 use smallvec::SmallVec;
 use std::alloc::{AllocError, Global};
@@ -15,13 +22,10 @@ use std::marker::Model;
 /// How many cells a stack may have at most.
 const MOST_CELLS: usize = 0x7fff_ffff;
 
-/// So many cells need no allocation.
-const INLINE_CELLS: usize = 16;
-
 /// A stack of cells, which contracts see top first. Up to 16 cells need no allocation.
 #[derive(Drop)]
 pub struct Stack {
-    codes: SmallVec<u64, INLINE_CELLS>,
+    codes: Codes,
 }
 
 impl Model for Stack {
@@ -43,7 +47,10 @@ fn cells_below(mine: &[u64], theirs: &[u64]) -> bool
     if mine.len() != theirs.len() {
         return false;
     }
-    // Without a branch, so that the loop can become vector code.
+    // Mostly the codes are the same, and that is found fast.
+    if are_equal(mine, theirs) {
+        return true;
+    }
     let mut all = true;
     for i in 0..mine.len() {
         all = all & is_below(mine[i], theirs[i]);
@@ -80,6 +87,19 @@ fn join_cells(mine: &mut [u64], theirs: &[u64])
     }
 }
 
+/// Makes room for so many more cells.
+fn make_room(codes: &mut Codes, more: usize) -> Result<(), AllocError>
+    requires { length codes.old.items < 2 ^ 31 }
+    ensures items { codes.new.items ≡ codes.old.items }
+    ensures room { OnOk result (HasRoomFor codes.new more) }
+    ensures few { OnOk result (length codes.old.items + more < 2 ^ 31) }
+{
+    if more > MOST_CELLS - codes.len() {
+        return Err(AllocError);
+    }
+    codes.reserve(more)
+}
+
 impl Stack {
     /// The empty stack.
     pub fn new(alloc: Global) -> Self
@@ -110,6 +130,30 @@ impl Stack {
             return Err(AllocError);
         }
         self.codes.push(code_of(cell))?;
+        Ok(())
+    }
+
+    /// Puts bytes on top, one after the other.
+    ///
+    /// # Errors
+    /// If memory runs out, or there would be more than 2^31 - 1 cells.
+    pub fn push_bytes(&mut self, bytes: &[u8]) -> Result<(), AllocError>
+        ensures { OnOk result (self.new ≡ cells_on (map Known (map pos bytes.now)) self.old) }
+    {
+        make_room(&mut self.codes, bytes.len())?;
+        append_bytes(&mut self.codes, bytes);
+        Ok(())
+    }
+
+    /// Puts words of two bytes on top, one after the other.
+    ///
+    /// # Errors
+    /// If memory runs out, or there would be more than 2^31 - 1 cells.
+    pub fn push_words(&mut self, bytes: &[u8]) -> Result<(), AllocError>
+        ensures { OnOk result (self.new ≡ cells_on (map Known (words bytes.now)) self.old) }
+    {
+        make_room(&mut self.codes, bytes.len() / 2)?;
+        append_words(&mut self.codes, bytes);
         Ok(())
     }
 

@@ -5,13 +5,17 @@ use Rattle.tt_abs.specs.Settings.{frames_of, setting_of}
 use Rattle.tt_abs.specs.States.{abstract_of}
 use Rattle.tt_abs.specs.Steps.{line_of}
 use Rattle.tt_abs.specs.Transfers.{pushed_cells, plain_cells, shuffled_cells, computed_cells}
-use Rattle.tt_abs.proofs.TableRows.{rows_tested}
+use Rattle.tt_abs.proofs.TableRows.{rows_of_one_kind, rows_tested}
 use Rattle.tt_abs.proofs.StepLemmas.{push_done, acts, acts_not, first_code, for_reason, passed_on}
 use Rattle.tt_abs.proofs.stepping.act.Goals.{in-Plain+in_ok-carry_out-in-Plain, in-Push+in_ok-push_data-in-Push, in-Stack+in_ok-shuffle-in-Stack, in-Arithmetic+in_ok-compute-in-Arithmetic}
 use Rattle.tt_abs.proofs.stepping.act.Goals as goal
 
 pub carry_out-requires : goal.carry_out-requires
-carry_out-requires c = rows_tested c.code.result (line_of c.in-Plain.line) (sym c.effect.ensures ∙ ap view c.in-Plain.is)
+carry_out-requires c =
+    let plain = sym c.effect.ensures ∙ ap view c.in-Plain.is in record {
+      tested = rows_tested c.code.result (line_of c.in-Plain.line) plain;
+      one_kind = rows_of_one_kind c.code.result (line_of c.in-Plain.line) plain;
+    }
 
 pub returns-in_err-shuffle-in-Stack-clause-refused : goal.returns-in_err-shuffle-in-Stack-clause-refused
 returns-in_err-shuffle-in-Stack-clause-refused c =
