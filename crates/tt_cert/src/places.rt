@@ -139,7 +139,7 @@ impl Places {
         }
     }
 
-    /// Puts a point that isn't there.
+    /// Puts a point that isn't there, with its slot.
     ///
     /// # Errors
     /// If memory runs out; then the points stay as they are.
