@@ -1,6 +1,6 @@
 //! Contexts by number, and abstract states by context and offset.
 
-ghost use Rattle.std.specs.Prelude.{◌≡◌, ◌≢◌, ◌⊎◌, ℕ, ◌<◌, ◌≤◌, None, Some, [], ◌∷◌, ◌++◌, Err, IfOk, IfSome, IsTrue, OnErr, length, reverse};
+ghost use Rattle.std.specs.Prelude.{◌≡◌, ◌≢◌, ◌⊎◌, ℕ, ◌<◌, ◌≤◌, None, Some, [], ◌∷◌, ◌++◌, Err, IfOk, IfSome, IsTrue, OnErr, OnOk, length, reverse};
 ghost use Rattle.std.specs.List.{All};
 ghost use Rattle.std.specs.List.Sorted.{IsStrictlySortedBy};
 ghost use Rattle.std.specs.Map.{keys_of};
@@ -10,7 +10,7 @@ ghost use Rattle.tt_abs.specs.States.{state_order};
 ghost use Rattle.tt_cert.specs.Places.{PutsAt, place_cmp, states_of};
 ghost use Rattle.tt_cert.specs.Puts.{Reweighs, place_of};
 ghost use Rattle.tt_cert.specs.Built.{RisesByKey, key_cmp, key_of as key_of_entry};
-ghost use Rattle.std.specs.BTreeMap.{IsOrdered};
+ghost use Rattle.std.specs.BTreeMap.{IsOrdered, get};
 ghost use Rattle.tt_cert.specs.FileOrder.{IsFileOrder, children};
 ghost use Rattle.tt_cert.specs.Rising.{IsFinished};
 ghost use Rattle.tt_cert.specs.Contents.{AddsContext, HasContext, IsFamily, family_of, frames_at, points_of};
@@ -55,6 +55,18 @@ impl Model for Builder {
 
 /// The parent, call, body, turn and count of a context, by which contexts rise.
 type Key = (u32, u32, u32, u32, u32);
+
+/// The number of a key. Most keys that are asked for are greater than all that are there.
+fn number_of(index: &BTreeMap<Key, u32>, key: Key) -> Option<u32>
+    ensures { result ≡ get key_cmp index.now key }
+{
+    if let Some((greatest, _)) = index.last_key_value() {
+        if greatest.cmp(&key).is_lt() {
+            return None;
+        }
+    }
+    index.get(&key).copied()
+}
 
 /// By what an entry's context rises.
 fn key_of(entry: &(u32, Frame)) -> Key
@@ -175,8 +187,8 @@ impl Builder {
         ensures family { IsFamily self.new }
     {
         let key = (parent, frame.call, frame.body, frame.turn, frame.count);
-        if let Some(number) = self.index.get(&key) {
-            return Ok(*number);
+        if let Some(number) = number_of(&self.index, key) {
+            return Ok(number);
         }
         let count = self.entries.len() as u32 + 1;
         if count >= MOST_CONTEXTS {
@@ -201,6 +213,19 @@ impl Builder {
         ensures { IfOk result (λ frames. frames.items ≡ reverse (frames_at self.now.contexts number)) }
     {
         let mut frames = Vec::new(alloc);
+        self.read_frames(number, &mut frames)?;
+        Ok(frames)
+    }
+
+    /// Puts a context's frames, the outermost first, in the place of what a list holds.
+    ///
+    /// # Errors
+    /// If memory runs out; then the list may hold any of them.
+    pub fn read_frames(&self, number: u32, frames: &mut Vec<Frame>) -> Result<(), AllocError>
+        requires { number < length self.now.contexts }
+        ensures { OnOk result (frames.new.items ≡ reverse (frames_at self.now.contexts number)) }
+    {
+        frames.clear();
         let mut at = number;
         while at > 0 {
             let entry = self.entries[at as usize - 1];
@@ -208,7 +233,7 @@ impl Builder {
             at = entry.0;
         }
         frames.reverse();
-        Ok(frames)
+        Ok(())
     }
 
     /// The state at a point.

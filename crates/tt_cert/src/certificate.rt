@@ -1,6 +1,6 @@
 //! Finished families of abstract states.
 
-ghost use Rattle.std.specs.Prelude.{◌≡◌, ◌⊎◌, ◌<◌, ◌≤◌, ℕ, None, Some, [], ◌∷◌, IfOk, IfSome, length, reverse};
+ghost use Rattle.std.specs.Prelude.{◌≡◌, ◌⊎◌, ◌<◌, ◌≤◌, ℕ, None, Some, [], ◌∷◌, IfOk, IfSome, OnOk, length, reverse};
 ghost use Rattle.std.specs.List.{All};
 ghost use Rattle.std.specs.List.Sorted.{IsStrictlySortedBy};
 ghost use Rattle.std.specs.Map.{keys_of};
@@ -102,6 +102,17 @@ impl Certificate {
         ensures { IfOk result (λ frames. frames.items ≡ reverse (frames_at self.now.contexts number)) }
     {
         self.builder.frames(alloc, number)
+    }
+
+    /// Puts a context's frames, the outermost first, in the place of what a list holds.
+    ///
+    /// # Errors
+    /// If memory runs out; then the list may hold any of them.
+    pub fn read_frames(&self, number: u32, frames: &mut Vec<Frame>) -> Result<(), AllocError>
+        requires { number < length self.now.contexts }
+        ensures { OnOk result (frames.new.items ≡ reverse (frames_at self.now.contexts number)) }
+    {
+        self.builder.read_frames(number, frames)
     }
 
     /// The state at a point.

@@ -167,12 +167,7 @@ fn fault_in(certificate: &Certificate, context: u32, offset: u32, reason: Reason
 }
 
 /// Is this the state that comes next in the walk, at this place?
-fn is_coming(
-    next: Option<(u32, u32, &State)>,
-    context: u32,
-    offset: u32,
-    state: &State,
-) -> bool
+fn is_coming(next: Option<(u32, u32, &State)>, context: u32, offset: u32, state: &State) -> bool
     ensures { IsTrue result ↔ IsComing next.entry context offset state.now }
 {
     match next {
@@ -215,11 +210,7 @@ fn check_covered(
 }
 
 /// Is the place to which a move leads from the walk's context covered? Answers as `check_covered`.
-fn check_way(
-    certificate: &Certificate,
-    walk: &Walk<'_>,
-    way: Move,
-) -> Result<bool, CheckFault>
+fn check_way(certificate: &Certificate, walk: &Walk<'_>, way: Move) -> Result<bool, CheckFault>
     requires walk { IsWalk certificate.now walk.now }
     requires told { AreToldBefore certificate.now walk.now.context }
     requires turn { way ≡ Move.NextTurn → HasNextTurn (frames_at certificate.now.contexts walk.now.context) }
@@ -248,11 +239,7 @@ fn are_stored_within(stored: &[(u16, i32)], limit: u16) -> bool
 
 /// Are the places to which moves lead from the walk's context covered, by the state that was made? Answers whether that is the very
 /// state that comes next in the walk.
-fn check_moves(
-    certificate: &Certificate,
-    walk: &Walk<'_>,
-    moves: Moves,
-) -> Result<bool, CheckFault>
+fn check_moves(certificate: &Certificate, walk: &Walk<'_>, moves: Moves) -> Result<bool, CheckFault>
     requires walk { IsWalk certificate.now walk.now }
     requires told { AreToldBefore certificate.now walk.now.context }
     requires turn { moves ≡ Moves.One Move.NextTurn → HasNextTurn (frames_at certificate.now.contexts walk.now.context) }
@@ -358,7 +345,7 @@ impl<'a> Walk<'a> {
         ensures is_next { IfOk result (λ _. self.new.is_next ≡ self.old.is_next) }
     {
         if context != self.context {
-            self.frames = certificate.frames(*self.frames.allocator(), context)?;
+            certificate.read_frames(context, &mut self.frames)?;
             self.context = context;
         }
         Ok(())

@@ -52,7 +52,7 @@ impl Walk {
         ensures context { IfOk result (λ _. self.new.context ≡ context) }
     {
         if context != self.context {
-            self.frames = builder.frames(*self.frames.allocator(), context)?;
+            builder.read_frames(context, &mut self.frames)?;
             self.context = context;
         }
         Ok(())

@@ -1,7 +1,7 @@
 use Rattle.std.proofs.Common.{◌≡◌, ◌≤◌, ◌++◌, length}
 use Rattle.tt_cert.specs.Contexts.{frames_of}
 use Rattle.tt_cert.specs.Contents.{frames_at}
-use Rattle.tt_cert.proofs.builder.Builder.frames.Given as goal
+use Rattle.tt_cert.proofs.builder.Builder.read_frames.Given as goal
 
 abbrev pub invariant-loop-at : goal.invariant-loop-at
 invariant-loop-at l = record {

@@ -4,12 +4,12 @@ use Rattle.tt_code.specs.declared.machine.Frame.{Frame}
 use Rattle.tt_cert.specs.Contents.{frames_at}
 use Rattle.tt_cert.specs.Contexts.{frames_of}
 use Rattle.tt_cert.proofs.Adding.{contexts_is, length_is, context_some, walk_init, walk_step, walk_end}
-use Rattle.tt_cert.proofs.builder.Builder.frames.Goals as goal
+use Rattle.tt_cert.proofs.builder.Builder.read_frames.Goals as goal
 
 pub loop-at-init : goal.loop-at-init
 loop-at-init c = record {
   within = let long = length_is _ _ _ _ c.self.view_is c.self.invariant in omega arith;
-  frames = walk_init (frames_of c.self.inside.entries.items) c.args.number c.new-frames.result.items c.new-frames.ensures.items;
+  frames = walk_init (frames_of c.self.inside.entries.items) c.args.number c.clear.new.self.items c.clear.ensures.items;
 }
 
 pub loop-at-smaller : goal.loop-at-smaller
