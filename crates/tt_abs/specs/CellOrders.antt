@@ -1,5 +1,5 @@
 -- The order of cells and the order of zone cells.
-use Rattle.std.specs.Prelude.{◌≡◌, ℕ, ⊤, ℤ, pos, Bool, true, false}
+use Rattle.std.specs.Prelude.{◌≡◌, ℕ, ⊤}
 use Rattle.tt_code.specs.States.{IsNumber}
 use Rattle.tt_abs.specs.declared.cells.Cell.{Cell}
 use Rattle.tt_abs.specs.declared.cells.Cell.TheVariants.{Known, Unknown}
@@ -23,16 +23,6 @@ CellBelow Unknown Unknown = ⊤
 abbrev pub known_cells : Cell → ℕ
 known_cells (Known k) = 1
 known_cells Unknown = 0
-
--- whether the number is known
-abbrev pub is_known : Cell → Bool
-is_known (Known k) = true
-is_known Unknown = false
-
--- the number, and 0 where it is unknown
-abbrev pub number_or_zero : Cell → ℤ
-number_or_zero (Known k) = k
-number_or_zero Unknown = pos 0
 
 -- the second covers each zone that the first covers
 abbrev pub ZoneBelow : ZoneCell → ZoneCell → Type 0

@@ -1,5 +1,5 @@
--- The lines of the table that store or read storage cells do it at an index that was tested. (Representation: how the code reads
--- an index as one of 16 bits.)
+-- The lines of the table that store or read storage cells do it at an index that was tested, and none both changes and pushes.
+-- (Representation: how the code reads an index as one of 16 bits, and in which order it works.)
 use Rattle.std.specs.Prelude.{◌≡◌, ℕ, zero, suc, ◌<◌, ◌^◌, List, [], ◌∷◌, pos, Bool, true, false, ◌&&◌}
 use Rattle.tt_code.specs.Table.{Lists}
 use Rattle.tt_code.specs.Changes.{taken_at}

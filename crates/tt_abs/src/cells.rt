@@ -2,7 +2,7 @@
 
 ghost use Rattle.std.specs.Prelude.{◌≡◌, ◌↔◌, IsTrue};
 ghost use Rattle.tt_abs.specs.Orders.{IsLeastAbove};
-ghost use Rattle.tt_abs.specs.CellOrders.{cell_order, is_known, number_or_zero, zone_order};
+ghost use Rattle.tt_abs.specs.CellOrders.{cell_order, zone_order};
 
 use crate::order::{AbsFault, Order};
 use std::alloc::Global;
@@ -33,32 +33,11 @@ impl MadeWith<Global> for Cell {
 }
 
 impl Cell {
-    /// Is the number known?
-    fn is_known(self) -> bool
-        ensures { result ≡ is_known self }
-    {
-        match self {
-            Cell::Known(_) => true,
-            Cell::Unknown => false,
-        }
-    }
-
-    /// The number, and 0 where it is unknown.
-    fn number_or_zero(self) -> i32
-        ensures { result ≡ number_or_zero self }
-    {
-        match self {
-            Cell::Known(number) => number,
-            Cell::Unknown => 0,
-        }
-    }
-
-    /// Are the two the same? Without a branch, as in `below`.
+    /// Are the two the same?
     pub(crate) fn is_same(self, other: Cell) -> bool
         ensures { IsTrue result ↔ (self ≡ other) }
     {
-        let is_same = self.number_or_zero() == other.number_or_zero();
-        (self.is_known() == other.is_known()) & is_same
+        self == other
     }
 
     /// The least cell above both: what they have in common.
@@ -75,11 +54,11 @@ impl Order for Cell {
 
     ghost order = { cell_order };
 
-    // Without a branch, since known and unknown cells come in no order that a processor could guess.
     fn below(&self, other: &Cell) -> bool {
-        let (mine, theirs) = (*self, *other);
-        let is_same = mine.number_or_zero() == theirs.number_or_zero();
-        !theirs.is_known() | (mine.is_known() & is_same)
+        match *other {
+            Cell::Known(_) => *self == *other,
+            Cell::Unknown => true,
+        }
     }
 
     fn join(&mut self, other: &Cell) -> Result<bool, AbsFault> {

@@ -253,6 +253,10 @@ impl<T: Copy> Entries<T> {
         ensures { OnOk result (self.new ≡ other.now) }
     {
         self.entries.clear();
+        // As mostly in storage.
+        if other.entries.is_empty() {
+            return Ok(());
+        }
         self.entries.extend_from_slice(other.entries.as_slice())
     }
 

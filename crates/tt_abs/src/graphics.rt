@@ -13,12 +13,12 @@ pub fn is_same_graphics(mine: &Graphics<Cell, ZoneCell>, theirs: &Graphics<Cell,
     ensures { IsTrue result ↔ (mine.now ≡ theirs.now) }
 {
     mine.rp0.is_same(theirs.rp0)
-        & mine.rp1.is_same(theirs.rp1)
-        & mine.rp2.is_same(theirs.rp2)
-        & mine.zp0.is_same(theirs.zp0)
-        & mine.zp1.is_same(theirs.zp1)
-        & mine.zp2.is_same(theirs.zp2)
-        & mine.loop_number.is_same(theirs.loop_number)
+        && mine.rp1.is_same(theirs.rp1)
+        && mine.rp2.is_same(theirs.rp2)
+        && mine.zp0.is_same(theirs.zp0)
+        && mine.zp1.is_same(theirs.zp1)
+        && mine.zp2.is_same(theirs.zp2)
+        && mine.loop_number.is_same(theirs.loop_number)
 }
 
 /// The least graphics state above both, part by part.
@@ -46,12 +46,12 @@ impl Order for Graphics<Cell, ZoneCell> {
 
     fn below(&self, other: &Graphics<Cell, ZoneCell>) -> bool {
         self.rp0.below(&other.rp0)
-            & self.rp1.below(&other.rp1)
-            & self.rp2.below(&other.rp2)
-            & self.zp0.below(&other.zp0)
-            & self.zp1.below(&other.zp1)
-            & self.zp2.below(&other.zp2)
-            & self.loop_number.below(&other.loop_number)
+            && self.rp1.below(&other.rp1)
+            && self.rp2.below(&other.rp2)
+            && self.zp0.below(&other.zp0)
+            && self.zp1.below(&other.zp1)
+            && self.zp2.below(&other.zp2)
+            && self.loop_number.below(&other.loop_number)
     }
 
     fn join(&mut self, other: &Graphics<Cell, ZoneCell>) -> Result<bool, AbsFault> {
