@@ -31,11 +31,6 @@ pub err_map : {T E : Type 0} (r : Result T E) (P Q : E → Type 0) → ((e : E) 
 err_map (Ok x) P Q f p = tt
 err_map (Err e) P Q f p = f e p
 
--- where no instruction of the body starts, control may not stand
-pub no_start : (s : Setting) (fs : List Frame) (at : ℕ) (a : Abstract) → starts_in_body s fs at ≡ false → outcome_on_cells s fs at a ≡ Err Target
-unfolding outcome_on_cells
-no_start s fs at a none = rw none refl
-
 module _ (family : Place → Option State) (t : State) where
   covered_one : (n : Next) → CoversAt state_order family (place_of_next n) t → AreCovered family (n ∷ []) t
   covered_one n h zero m e = let same : n ≡ m = cc in let C : Next → Type 0 = λ x. CoversAt state_order family (place_of_next x) t in subst C same h
