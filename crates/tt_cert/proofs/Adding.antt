@@ -1,20 +1,18 @@
 -- A context that a builder has, or gets.
-use Rattle.std.specs.Prelude.{◌≡◌, ◌≢◌, ◌⊎◌, ℕ, ◌+◌, ◌-◌, ◌≤◌, ◌<◌, Bool, true, false, Option, Some, None, List, [], ◌∷◌, ◌++◌, length, slice_index_or, slice_get, zero, suc, reverse}
+use Rattle.std.specs.Prelude.{◌≡◌, ◌≢◌, ◌⊎◌, ℕ, ◌+◌, ◌-◌, ◌≤◌, ◌<◌, false, Some, None, List, [], ◌∷◌, ◌++◌, length, slice_index_or, slice_get, zero, suc, reverse}
 use Rattle.std.specs.declared.cmp.Ordering.{Ordering}
 use Rattle.std.specs.Ordering.{nat_cmp, ordering_then, is_eq}
-use Rattle.std.specs.BTreeMap.{BTreeMap, get, get_by, is_at, UpdatesBy, Updates}
+use Rattle.std.specs.BTreeMap.{BTreeMap, get, is_at, Updates}
 use Rattle.std.proofs.Common.{refl, sym, ◌∙◌, ap, subst, arith, inl, inr, length-append, append_assoc, append-nil}
-use Rattle.std.proofs.lemmas.List.{reverse-append}
 use Rattle.std.proofs.Math.ListN.{get_or-append}
 use Rattle.std.proofs.Math.Seq.{get_or-append_seam}
-use Rattle.std.proofs.lemmas.Option.{slice_get_within, slice_get-get_or, slice_get_past}
+use Rattle.std.proofs.lemmas.Option.{slice_get_within, slice_get-get_or}
 use Rattle.std.proofs.lemmas.Bool.{cases_lt, cases_eq}
 use Rattle.tt_code.specs.declared.machine.Frame.{Frame}
 use Rattle.tt_abs.specs.declared.state.State.{State}
-use Rattle.tt_cert.specs.Places.{states_of}
 use Rattle.tt_cert.specs.Contexts.{frames_of, length-grow, grow-at, grow-push}
 use Rattle.tt_cert.specs.Contents.{Contents, IsFamily, HasContext, AddsContext, frames_at, number_of}
-use Rattle.tt_cert.specs.Numbers.{at-number_of, number_of-is, number_of-le, number_of-place}
+use Rattle.tt_cert.specs.Numbers.{at-number_of, number_of-place}
 use Rattle.tt_cert.specs.Built.{Key, key_cmp, key_of, IsBuilt}
 use Rattle.tt_cert.proofs.Puts.{numbers_apart, then_first, then_second}
 

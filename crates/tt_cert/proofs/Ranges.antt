@@ -1,9 +1,8 @@
 -- States whose numbers are the machine's.
-use Rattle.std.specs.Prelude.{◌≡◌, ℕ, ℤ, pos, List, [], ◌∷◌, zero, suc}
-use Rattle.std.proofs.Common.{rules, arith}
+use Rattle.std.specs.Prelude.{pos, List, [], ◌∷◌, zero, suc}
+use Rattle.std.proofs.Common.{rules}
 use Rattle.tt_code.specs.States.{IsNumber}
 use Rattle.tt_abs.specs.declared.cells.Cell.{Cell}
-use Rattle.tt_abs.specs.declared.cells.Cell.TheVariants.{Known}
 use Rattle.tt_abs.specs.declared.state.State.{State}
 use Rattle.tt_abs.specs.CellOrders.{CellInRange}
 use Rattle.tt_abs.specs.Stacks.{StackInRange}

@@ -1,6 +1,6 @@
 -- Contexts by number, as the lists of frames that they stand for.
 use Rattle.std.specs.Prelude.{◌≡◌, ℕ, ◌+◌, ◌<◌, List, [], ◌∷◌, ◌++◌, length, slice_index_or, slice_get, Some, zero, suc}
-use Rattle.std.proofs.Common.{refl, sym, ◌∙◌, ap, arith, length-append, subst}
+use Rattle.std.proofs.Common.{refl, sym, ◌∙◌, ap, arith, length-append}
 use Rattle.std.proofs.Math.ListN.{get_or-append}
 use Rattle.std.proofs.Math.Seq.{get_or-append_seam}
 

@@ -1,4 +1,3 @@
-use Rattle.std.proofs.Common.{rules}
 use Rattle.tt_cert.proofs.Landings.{coming_covered}
 use Rattle.tt_cert.proofs.checking.check_covered.Goals as goal
 
