@@ -1,4 +1,4 @@
-use Rattle.std.proofs.Common.{◌≡◌, ℕ, ap, arith, below_more, get_or}
+use Rattle.std.proofs.Common.{◌≡◌, ap, arith, below_more, get_or}
 use Rattle.std.proofs.lemmas.Bool.{eq-eqb, eqb-true}
 use Rattle.std.proofs.lemmas.List.{ext_get_or}
 use Rattle.tt_abs.proofs.CodedCells.{no_difference}

@@ -1,4 +1,4 @@
-use Rattle.std.proofs.Common.{◌≡◌, ◌∙◌, sym, ℕ, List}
+use Rattle.std.proofs.Common.{◌∙◌, sym}
 use Rattle.tt_abs.proofs.SameEntries.{entries-decide}
 use Rattle.tt_abs.proofs.entries.Entries.is_same.Goals as goal
 
