@@ -190,3 +190,95 @@ fn calls_of_stacks(rt: HostRuntime) -> Result<(), Fail> {
     assert_eq!(rt; stack.len(), 0);
     Ok(())
 }
+
+#[test]
+fn numbers_of_more_bits(rt: HostRuntime) -> Result<(), Fail> {
+    let cells = [
+        Known(32_767),
+        Known(-32_767),
+        Unknown,
+        Known(32_768),
+        Known(-32_768),
+        Known(i32::MIN),
+        Known(i32::MAX),
+        Known(5),
+        Unknown,
+    ];
+    let state = with_stack(rt.alloc(), &cells)?;
+    let mut copy = State::start(rt.alloc(), &[])?;
+    copy.copy_from(&state)?;
+    for place in 0..cells.len() {
+        assert_eq!(rt; state.cell(place), Some(cells[place]), "at {place}");
+        assert_eq!(rt; copy.cell(place), Some(cells[place]), "at {place}");
+    }
+    assert_eq!(rt; copy.is_same(&state), true);
+    assert_eq!(rt; state.copied()?.is_same(&copy), true);
+    assert_eq!(rt; copy.join(&state)?, false);
+    Ok(())
+}
+
+#[test]
+fn numbers_of_the_same_low_bits(rt: HostRuntime) -> Result<(), Fail> {
+    // 70,000 is 65,536 and 4,464.
+    let mut state = with_stack(rt.alloc(), &[Known(7), Known(70_000), Known(1)])?;
+    let mut other = with_stack(rt.alloc(), &[Known(7), Known(4_464), Known(1)])?;
+    assert_eq!(rt; state.below(&other), false);
+    assert_eq!(rt; other.below(&state), false);
+    assert_eq!(rt; state.is_same(&other), false);
+    let first = state.copied()?;
+    assert_eq!(rt; state.join(&other)?, true);
+    assert_eq!(rt; state.cell(0), Some(Known(7)));
+    assert_eq!(rt; state.cell(1), Some(Unknown));
+    assert_eq!(rt; state.cell(2), Some(Known(1)));
+    assert_eq!(rt; other.join(&first)?, true);
+    assert_eq!(rt; other.is_same(&state), true);
+    assert_eq!(rt; state.is_same(&other), true);
+    assert_eq!(rt; first.below(&other), true);
+    assert_eq!(rt; other.below(&first), false);
+    Ok(())
+}
+
+#[test]
+fn least_number_of_16_bits_is_known(rt: HostRuntime) -> Result<(), Fail> {
+    let mut state = with_stack(rt.alloc(), &[Known(-32_768)])?;
+    let unknown = with_stack(rt.alloc(), &[Unknown])?;
+    assert_eq!(rt; state.is_same(&unknown), false);
+    assert_eq!(rt; state.below(&unknown), true);
+    assert_eq!(rt; unknown.below(&state), false);
+    assert_eq!(rt; state.join(&unknown)?, true);
+    assert_eq!(rt; state.cell(0), Some(Unknown));
+    Ok(())
+}
+
+#[test]
+fn stacks_of_small_and_great_numbers(rt: HostRuntime) -> Result<(), Fail> {
+    let mut stack = Stack::new(rt.alloc());
+    stack.push_bytes(&[0, 255])?;
+    stack.push_words(&[0x7f, 0xff, 0x80, 0x00, 0xff, 0xff])?;
+    stack.push(Known(70_000))?;
+    stack.push(Known(2))?;
+    stack.push(Unknown)?;
+    assert_eq!(rt; stack.len(), 8);
+    assert_eq!(rt; stack.above(0), Some(Known(0)));
+    assert_eq!(rt; stack.above(1), Some(Known(255)));
+    assert_eq!(rt; stack.under(5), Some(Known(32_767)));
+    assert_eq!(rt; stack.under(4), Some(Known(-32_768)));
+    assert_eq!(rt; stack.under(3), Some(Known(-1)));
+    assert_eq!(rt; stack.under(2), Some(Known(70_000)));
+    assert_eq!(rt; stack.under(0), Some(Unknown));
+    assert_eq!(rt; stack.under(8), None);
+    assert_eq!(rt; stack.above(8), None);
+    stack.remove(1);
+    assert_eq!(rt; stack.under(1), Some(Known(70_000)));
+    stack.remove(2);
+    assert_eq!(rt; stack.under(2), Some(Known(-32_768)));
+    stack.cut(2);
+    assert_eq!(rt; stack.under(0), Some(Known(-32_768)));
+    stack.push(Known(9))?;
+    stack.cut(3);
+    assert_eq!(rt; stack.len(), 2);
+    assert_eq!(rt; stack.under(0), Some(Known(255)));
+    stack.clear();
+    assert_eq!(rt; stack.len(), 0);
+    Ok(())
+}
