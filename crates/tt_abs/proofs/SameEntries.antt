@@ -1,11 +1,14 @@
 -- Whether entries are the same, by their numbers and a test of their values.
-use Rattle.std.proofs.Common.{◌≡◌, ℕ, Bool, List, ap}
-use Rattle.std.specs.Prelude.{nat_eq, ◌&&◌}
+use Rattle.std.proofs.Common.{◌≡◌, ℕ, Bool, List, ap, ◌∙◌, arith, refl, sym}
+use Rattle.std.specs.Prelude.{nat_eq, ◌&&◌, ◌↔◌}
+use Rattle.std.specs.Int.Bits.{bit_or, bit_xor, or_zero_l}
 use Rattle.std.specs.Bool.{Decides}
 use Rattle.std.specs.Cmp.Lexicographic.{pointwise}
 use Rattle.std.proofs.lemmas.Bool.Decides.{Decides-and, Decides-eqb, Decides-like}
+use Rattle.std.proofs.lemmas.Nat.{le_or_l, le_or_r}
 use Rattle.std.proofs.lemmas.Slice.Eq.{slice_eq-Decides}
 use Rattle.tt_abs.specs.EntryLists.{IsEquality}
+use Rattle.tt_abs.proofs.CodedCells.{no_difference}
 
 -- whether two entries are the same
 entry-decides : {V : Type 0} (same : V → V → Bool) → IsEquality same → (x y : ℕ × V) → Decides (nat_eq x.0 y.0 && same x.1 y.1) (x ≡ y)
@@ -17,3 +20,23 @@ entry-decides {V} same decides x y =
 pub entries-decide : {V : Type 0} (same : V → V → Bool) → IsEquality same → (a b : List (ℕ × V)) (r : Bool)
     → r ≡ pointwise (λ (x y : ℕ × V). nat_eq x.0 y.0 && same x.1 y.1) a b → Decides r (a ≡ b)
 entries-decide same decides a b r e = slice_eq-Decides (entry-decides same decides) a b r e
+
+-- the differences of pairs, gathered by their bits, are none exactly if there is none yet and the two are equal
+pub no_difference_of_pairs : (d x : ℕ) (a b : ℕ × ℕ) → x ≡ bit_xor a.0 b.0 → (bit_or d (bit_or x (bit_xor a.1 b.1)) ≡ 0) ↔ ((d ≡ 0) × (a ≡ b))
+no_difference_of_pairs d x a b is = (
+  λ e.
+      let parts = (no_difference x a.1 b.1).0 (rest e) in
+      let first : a.0 ≡ b.0 = ((no_difference 0 a.0 b.0).0 (or_zero_l (bit_xor a.0 b.0) ∙ sym is ∙ parts.0)).1 in
+      (front e, (λ i. (first i, parts.1 i))),
+  λ p.
+      let first : x ≡ 0 = is ∙ sym (or_zero_l (bit_xor a.0 b.0)) ∙ (no_difference 0 a.0 b.0).1 (refl, ap (λ (y : ℕ × ℕ). y.0) p.1) in
+      ap (λ n. bit_or n (bit_or x (bit_xor a.1 b.1))) p.0
+      ∙ or_zero_l (bit_or x (bit_xor a.1 b.1))
+      ∙ (no_difference x a.1 b.1).1 (first, ap (λ (y : ℕ × ℕ). y.1) p.1),
+)
+  where
+    front : bit_or d (bit_or x (bit_xor a.1 b.1)) ≡ 0 → d ≡ 0
+    front e = omega (arith, le_or_l d (bit_or x (bit_xor a.1 b.1)), e)
+
+    rest : bit_or d (bit_or x (bit_xor a.1 b.1)) ≡ 0 → bit_or x (bit_xor a.1 b.1) ≡ 0
+    rest e = omega (arith, le_or_r d (bit_or x (bit_xor a.1 b.1)), e)

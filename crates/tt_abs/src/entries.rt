@@ -20,7 +20,24 @@ pub trait EntryValue: Copy + PartialEq {
     /// The values of the machine.
     ghost is_in_range: { Self → Type 0 };
 
+    /// Are the entries of two lists of one length the same?
+    fn are_same(mine: &[(u16, Self)], theirs: &[(u16, Self)]) -> bool
+        requires { length mine.now ≡ length theirs.now }
+        ensures { IsTrue result ↔ (mine.now ≡ theirs.now) };
+
     ghost decides: { IsEquality Self.eq };
+}
+
+/// Are functions with their bodies the same, in two lists of one length? By bits alone, so that no entry takes a branch.
+fn are_equal(mine: &[(u16, u32)], theirs: &[(u16, u32)]) -> bool
+    requires { length mine.now ≡ length theirs.now }
+    ensures { IsTrue result ↔ (mine.now ≡ theirs.now) }
+{
+    let mut difference = 0;
+    for i in 0..mine.len() {
+        difference |= u32::from(mine[i].0 ^ theirs[i].0) | (mine[i].1 ^ theirs[i].1);
+    }
+    difference == 0
 }
 
 impl EntryValue for u32 {
@@ -30,6 +47,10 @@ impl EntryValue for u32 {
     ghost is_in_range = { λ _. ⊤ };
 
     ghost decides = { Decides-eqb };
+
+    fn are_same(mine: &[(u16, u32)], theirs: &[(u16, u32)]) -> bool {
+        are_equal(mine, theirs)
+    }
 }
 
 impl EntryValue for i32 {
@@ -39,6 +60,10 @@ impl EntryValue for i32 {
     ghost is_in_range = { IsNumber };
 
     ghost decides = { Decides-int_eq };
+
+    fn are_same(mine: &[(u16, i32)], theirs: &[(u16, i32)]) -> bool {
+        mine == theirs
+    }
 }
 
 /// Values by rising numbers, one for each number at most.
@@ -162,7 +187,7 @@ fn lists_all<T: EntryValue>(mine: &[(u16, T)], theirs: &[(u16, T)]) -> bool
     ensures { IsTrue result ↔ EntriesBelow mine.now theirs.now }
 {
     if mine.len() == theirs.len() {
-        mine == theirs
+        T::are_same(mine, theirs)
     } else {
         passes_all(mine, theirs)
     }
@@ -301,7 +326,9 @@ impl<T: EntryValue> Entries<T> {
     pub fn is_same(&self, other: &Entries<T>) -> bool
         ensures { IsTrue result ↔ (self.now ≡ other.now) }
     {
-        self.entries.as_slice() == other.entries.as_slice()
+        let mine = self.entries.as_slice();
+        let theirs = other.entries.as_slice();
+        mine.len() == theirs.len() && T::are_same(mine, theirs)
     }
 
     /// Keeps the entries that both have, with the same values. Takes no memory.

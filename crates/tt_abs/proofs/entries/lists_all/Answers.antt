@@ -4,7 +4,6 @@ use Rattle.std.proofs.lemmas.Bool.Decides.{Decides-like}
 use Rattle.tt_abs.specs.Entries.{Rises}
 use Rattle.tt_abs.specs.EntryLists.{EntriesBelow}
 use Rattle.tt_abs.specs.EntryLaws.{entries-same}
-use Rattle.tt_abs.proofs.SameEntries.{entries-decide}
 use Rattle.tt_abs.proofs.entries.lists_all.Goals as goal
 
 -- of lists of one length, one is below the other exactly if they are the same
@@ -14,5 +13,4 @@ below-same {V} a b r ra rb long h =
 
 pub returns-then-mine-theirs : goal.returns-then-mine-theirs
 returns-then-mine-theirs g c =
-    below-same c.args.mine.now c.args.theirs.now c.eq.result c.requires.mine_rise c.requires.theirs_rise c.if-mine-theirs.true
-    (entries-decide g.T.PartialEq.eq g.met.T.EntryValue.decides c.args.mine.now c.args.theirs.now c.eq.result c.eq.ensures)
+    below-same c.args.mine.now c.args.theirs.now c.are_same.result c.requires.mine_rise c.requires.theirs_rise c.if-mine-theirs.true c.are_same.ensures
