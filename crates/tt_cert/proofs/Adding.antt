@@ -1,5 +1,5 @@
 -- A context that a builder has, or gets.
-use Rattle.std.specs.Prelude.{◌≡◌, ◌≢◌, ◌⊎◌, ℕ, ◌+◌, ◌-◌, ◌≤◌, ◌<◌, false, Some, None, List, [], ◌∷◌, ◌++◌, length, slice_index_or, slice_get, zero, suc, reverse}
+use Rattle.std.specs.Prelude.{◌≡◌, ◌≢◌, ◌⊎◌, ℕ, ◌+◌, ◌-◌, ◌≤◌, ◌<◌, false, Option, Some, None, IfSome, List, [], ◌∷◌, ◌++◌, length, slice_index_or, slice_get, zero, suc, reverse}
 use Rattle.std.specs.declared.cmp.Ordering.{Ordering}
 use Rattle.std.specs.Ordering.{nat_cmp, ordering_then, is_eq}
 use Rattle.std.specs.BTreeMap.{BTreeMap, get, is_at, Updates}
@@ -107,6 +107,12 @@ module _ (entries : List (ℕ × Frame)) (index : BTreeMap Key ℕ) (states : Li
         at = ap (frames_at v.contexts) n_is ∙ at_entry i e at_i ∙ ap (λ (x : ℕ × Frame). x.1 ∷ frames_at v.contexts x.0) same;
         how = inl (omega arith, refl);
       }
+
+  -- what is found by the parent and the frame is the number of the context
+  pub found_there : (parent : ℕ) (frame : Frame) (found : Option ℕ) → found ≡ get key_cmp index (key_of (parent, frame))
+      → IfSome found (λ n. (n < length v.contexts) × (frames_at v.contexts n ≡ frame ∷ frames_at v.contexts parent))
+  found_there parent frame None at = tt
+  found_there parent frame (Some n) at = let there = is_there parent frame n at in (there.there, there.at)
 
   pub is_absent : (parent : ℕ) (frame : Frame) → None ≡ get key_cmp index (key_of (parent, frame)) → parent < length v.contexts
       → HasContext v.contexts (frame ∷ frames_at v.contexts parent) → ⊥

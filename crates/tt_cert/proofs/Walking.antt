@@ -19,7 +19,7 @@ use Rattle.tt_cert.specs.Contents.{Contents, IsFamily, family_of, frames_at, num
 use Rattle.tt_cert.specs.Numbers.{at-number_of}
 use Rattle.tt_cert.specs.Places.{place_cmp, states_of}
 use Rattle.tt_cert.specs.Puts.{number_at}
-use Rattle.tt_cert.specs.Checks.{AreSound, AreToldBefore, BreaksAt, IsBefore, IsEntry, IsFirstBreak, IsSoundAt, Names}
+use Rattle.tt_cert.specs.Checks.{AreSound, AreToldBefore, BreaksAt, IsBefore, IsEntry, IsFirstBreak, IsSoundAt, Names, to_come}
 use Rattle.tt_cert.specs.declared.checking.CheckFault.{CheckFault}
 use Rattle.tt_cert.specs.declared.checking.CheckFault.TheVariants.{Refused, OutOfMemory}
 use Rattle.tt_cert.proofs.Puts.{cases_place, places_apart}
@@ -89,11 +89,6 @@ IsSoundEntry s v e = IsSoundAt s (family_of v) (frames_at v.contexts e.0.0, e.0.
 abbrev pub IsCheckedEntry : Setting → Contents → Entry → Type 0
 IsCheckedEntry s v e = IsSoundEntry s v e × (e.0.1 < 2 ^ 32)
 
--- what is still to come where one entry was read ahead
-abbrev pub to_come : Option (ℕ × ℕ × Bor State) → List Entry → List Entry
-to_come None entries = []
-to_come (Some e) entries = ((e.0, e.1), e.2.now) ∷ entries
-
 pub taken : (next : Option (ℕ × ℕ × Bor State)) (entries entries' : List Entry) → (next ≡ None → entries ≡ [])
     → IfSome next (λ (e : ℕ × ℕ × Bor State). entries ≡ ((e.0, e.1), e.2.now) ∷ entries') → entries ≡ to_come next entries'
 taken None entries entries' none some = none refl
@@ -129,11 +124,7 @@ module _ (s : Setting) (v : Contents) where
         ],
       )
 
-  -- the entry that is read first is one of the family, and so is the one behind an entry
-  pub read_first : (next : Option (ℕ × ℕ × Bor State)) (entries' : List Entry) → v.states ≡ to_come next entries' → IsFoundAll v → IsEntry v next
-  read_first None entries' whole all = tt
-  read_first (Some e) entries' whole all = entry_found v [] entries' ((e.0, e.1), e.2.now) whole all
-
+  -- the entry that is read behind an entry is one of the family
   pub read_behind : (rest entries entries' : List Entry) (x : Entry) (next : Option (ℕ × ℕ × Bor State)) → IsCheckedSoFar s v rest → rest ≡ x ∷ entries → entries ≡ to_come next entries'
       → IsFoundAll v → IsEntry v next
   read_behind rest entries entries' x None so_far rest_is entries_are all = tt

@@ -1,6 +1,9 @@
 -- What a check asks of a family beside goodness, and what it names where the family isn't good.
 use Rattle.std.specs.Prelude.{◌≡◌, ℕ, ◌<◌, ◌^◌, min, false, Ok, Option, Some, None, IfSome, IsTrue, List, [], ◌∷◌, length, reverse, slice_get}
 use Rattle.std.specs.declared.cmp.Ordering.TheVariants.{Less}
+use Rattle.std.specs.List.{All}
+use Rattle.std.specs.List.Sorted.{IsStrictlySortedBy}
+use Rattle.std.specs.Map.{keys_of}
 use Rattle.std.specs.Borrow.{Bor}
 use Rattle.tt_code.specs.Cut.{size}
 use Rattle.tt_code.specs.Settings.{Setting, is_main_end}
@@ -110,6 +113,17 @@ pub record IsWalk (contents : Contents) (walk : Walk) : Type 0 where
   pub frames : walk.frames.items ≡ reverse (frames_at contents.contexts walk.context)
   pub next : IsEntry contents walk.next
   pub made : IsTrue walk.is_next → IsNextState walk.next walk.made
+
+-- what is still to come where one entry was read ahead
+abbrev pub to_come : Option (ℕ × ℕ × Bor State) → List ((ℕ × ℕ) × State) → List ((ℕ × ℕ) × State)
+to_come None entries = []
+to_come (Some e) entries = ((e.0, e.1), e.2.now) ∷ entries
+
+-- all states of the family are still to come: one entry was read ahead, and these are the others; they rise, and each place comes once
+pub record AreToCome (contents : Contents) (next : Option (ℕ × ℕ × Bor State)) (others : List ((ℕ × ℕ) × State)) : Type 0 where
+  pub all : contents.states ≡ to_come next others
+  pub rises : IsStrictlySortedBy place_cmp (keys_of contents.states)
+  pub found : All (λ e. states_of contents.states e.0 ≡ Some e.1) contents.states
 
 -- the innermost call has one more turn
 abbrev pub HasNextTurn : List Frame → Type 0

@@ -166,10 +166,7 @@ impl Builder {
         ensures some { IfSome result (λ number. (number < length self.now.contexts) × (frames_at self.now.contexts number ≡ frame ∷ frames_at self.now.contexts parent)) }
     {
         let key = (parent, frame.call, frame.body, frame.turn, frame.count);
-        match self.index.get(&key) {
-            Some(number) => Some(*number),
-            None => None,
-        }
+        number_of(&self.index, key)
     }
 
     /// The number of the context that has the parent's frames and one more, which is added where it isn't there.

@@ -10,7 +10,7 @@ ghost use Rattle.tt_abs.specs.Settings.{frames_of, setting_of};
 ghost use Rattle.tt_abs.specs.Soundness.{IsSafe};
 ghost use Rattle.tt_abs.specs.States.{abstract_of, start_of, state_order};
 ghost use Rattle.tt_abs.specs.Transfers.{outcome_on_cells};
-ghost use Rattle.tt_cert.specs.Checks.{AreCovered, AreSound, AreToldBefore, BreaksAt, HasNextTurn, IsBrokenFirst, IsComing, IsEntry, IsFirstBreak, IsFirstGap, IsGap, IsLanding, IsNextState, IsSoundAt, IsWalk, IsWantOfMemory, Names, NamesAt, told_offset};
+ghost use Rattle.tt_cert.specs.Checks.{AreCovered, AreSound, AreToCome, AreToldBefore, BreaksAt, HasNextTurn, IsBrokenFirst, IsComing, IsEntry, IsFirstBreak, IsFirstGap, IsGap, IsLanding, IsNextState, IsSoundAt, IsWalk, IsWantOfMemory, Names, NamesAt, told_offset};
 ghost use Rattle.tt_cert.specs.Spots.{spot_of};
 ghost use Rattle.tt_cert.specs.Contents.{Contents, IsFamily, family_of, frames_at};
 ghost use Rattle.tt_cert.specs.GoodFamilies.{EndsWell, HasEnd, IsGoodFamily, IsShortEnough};
@@ -18,6 +18,7 @@ ghost use Rattle.tt_cert.specs.GoodFamilies.{EndsWell, HasEnd, IsGoodFamily, IsS
 use crate::builder::Builder;
 use crate::certificate::Certificate;
 use crate::spot::Spot;
+use crate::states::States;
 use std::alloc::{AllocError, Global};
 use thiserror::Error;
 use tt_abs::setting::body_offset;
@@ -57,9 +58,9 @@ struct Walk<'a> {
     context: u32,
     frames: Vec<Frame>,
     next: Option<(u32, u32, &'a State)>,
-    /// The state that is looked at, and then what comes of it, in the same memory.
+    /// The state in which the program starts; then the state that is looked at, and what comes of it, in the same memory.
     made: State,
-    /// Is what came of it the very state that comes next? Then that one needs no copy.
+    /// Is what was made the very state that comes next? Then that one needs no copy.
     is_next: bool,
 }
 
@@ -304,16 +305,22 @@ fn check_state(
 }
 
 impl<'a> Walk<'a> {
-    /// A walk that begins in the empty context, with this state.
-    fn start(alloc: Global, next: Option<(u32, u32, &'a State)>) -> Result<Walk<'a>, AllocError>
+    /// A walk that begins in the empty context, with the state in which a program starts that knows these functions.
+    fn start(
+        alloc: Global,
+        functions: &[(u16, u32)],
+        next: Option<(u32, u32, &'a State)>,
+    ) -> Result<Walk<'a>, AllocError>
+        requires { Rises functions.now }
         ensures walk { IfOk result (λ walk. (contents : Contents) → IsFamily contents → IsEntry contents next.entry → IsWalk contents walk) }
         ensures next { IfOk result (λ walk. walk.next ≡ next.entry) }
+        ensures made { IfOk result (λ walk. walk.made ≡ start_of functions.now) }
     {
         Ok(Walk {
             context: 0,
             frames: Vec::new(alloc),
             next,
-            made: State::start(alloc, &[])?,
+            made: State::start(alloc, functions)?,
             is_next: false,
         })
     }
@@ -352,29 +359,6 @@ impl<'a> Walk<'a> {
     }
 }
 
-/// Are all states sound, by rising contexts, and by rising offsets within one?
-fn check_states(
-    alloc: Global,
-    setting: &Setting<'_>,
-    certificate: &Certificate,
-) -> Result<(), CheckFault>
-    ensures sound { IfOk result (λ _. AreSound (setting_of setting.now) (family_of certificate.now)) }
-    ensures broken { IfErr result (Names (IsFirstBreak (setting_of setting.now) certificate.now)) }
-{
-    certificate.contexts();
-    let mut states = certificate.states();
-    let mut walk = Walk::start(alloc, states.take_first())?;
-    while let Some((context, offset, state)) = walk.next {
-        walk.take(state)?;
-        walk.next = states.take_first();
-        walk.go_to(certificate, context)?;
-        if let Err(fault) = check_state(setting, certificate, &mut walk, offset) {
-            return Err(fault);
-        }
-    }
-    Ok(())
-}
-
 /// Is a glyph program within maxSizeOfInstructions?
 pub fn is_short(setting: &Setting<'_>) -> bool
     ensures { IsTrue result ↔ IsShortEnough (setting_of setting.now) (setting_of setting.now).kind }
@@ -404,22 +388,46 @@ pub fn ends_well(setting: &Setting<'_>, builder: &Builder) -> bool
     }
 }
 
-/// Is the program's start covered?
-fn check_start(
-    alloc: Global,
-    setting: &Setting<'_>,
-    certificate: &Certificate,
-) -> Result<(), CheckFault>
-    requires { Rises setting.now.start.now }
-    ensures covered { IfOk result (λ _. CoversAt state_order (family_of certificate.now) ([], 0) (start_of setting.now.start.now)) }
-    ensures gap { IfErr result (NamesAt ([], 0) (IsGap (family_of certificate.now) ([], 0) (start_of setting.now.start.now))) }
+/// Is the state with which the walk begins covered at the program's start? The walk is told whether that is the very state that comes
+/// first, as it mostly is: then there is nothing to copy.
+fn check_start(certificate: &Certificate, walk: &mut Walk<'_>) -> Result<(), CheckFault>
+    requires { IsWalk certificate.now walk.old }
+    ensures covered { IfOk result (λ _. CoversAt state_order (family_of certificate.now) ([], 0) walk.old.made) }
+    ensures gap { IfErr result (NamesAt ([], 0) (IsGap (family_of certificate.now) ([], 0) walk.old.made)) }
+    ensures walk { IsWalk certificate.now walk.new }
+    ensures next { walk.new.next ≡ walk.old.next }
 {
     certificate.contexts();
-    let start = State::start(alloc, setting.start)?;
-    match check_covered(certificate, None, 0, 0, &start) {
-        Ok(_) => Ok(()),
-        Err(fault) => Err(fault),
+    walk.is_next = match check_covered(certificate, walk.next, 0, 0, &walk.made) {
+        Ok(is_first) => is_first,
+        Err(fault) => return Err(fault),
+    };
+    Ok(())
+}
+
+/// Are all states sound, by rising contexts, and by rising offsets within one? The walk comes to the first of them, and these are the
+/// others.
+fn check_states<'a>(
+    setting: &Setting<'_>,
+    certificate: &Certificate,
+    walk: &mut Walk<'a>,
+    mut states: States<'a>,
+) -> Result<(), CheckFault>
+    requires walk { IsWalk certificate.now walk.old }
+    requires all { AreToCome certificate.now walk.old.next states }
+    ensures sound { IfOk result (λ _. AreSound (setting_of setting.now) (family_of certificate.now)) }
+    ensures broken { IfErr result (Names (IsFirstBreak (setting_of setting.now) certificate.now)) }
+{
+    certificate.contexts();
+    while let Some((context, offset, state)) = walk.next {
+        walk.take(state)?;
+        walk.next = states.take_first();
+        walk.go_to(certificate, context)?;
+        if let Err(fault) = check_state(setting, certificate, walk, offset) {
+            return Err(fault);
+        }
     }
+    Ok(())
 }
 
 /// Is the family good for the program of this setting, all that a certificate has to be? In the order of the walk the first that
@@ -450,7 +458,9 @@ pub fn check_full(
             reason: Reason::ProgramTooLong,
         });
     }
-    if let Err(fault) = check_start(alloc, setting, certificate) {
+    let mut states = certificate.states();
+    let mut walk = Walk::start(alloc, setting.start, states.take_first())?;
+    if let Err(fault) = check_start(certificate, &mut walk) {
         return Err(fault);
     }
     if !ends_well(setting, certificate.builder()) {
@@ -460,5 +470,5 @@ pub fn check_full(
             reason: Reason::MissingPoint,
         });
     }
-    check_states(alloc, setting, certificate)
+    check_states(setting, certificate, &mut walk, states)
 }

@@ -3,21 +3,13 @@ use Rattle.std.specs.Borrow.{Bor}
 use Rattle.tt_abs.specs.Settings.{setting_of}
 use Rattle.tt_abs.specs.States.{state_order}
 use Rattle.tt_abs.specs.declared.state.State.{State}
-use Rattle.tt_cert.specs.Checks.{AreToldBefore, BreaksAt, IsNextState, IsSoundAt, Names}
+use Rattle.tt_cert.specs.Checks.{AreToldBefore, BreaksAt, IsNextState, IsSoundAt, Names, to_come}
 use Rattle.tt_cert.specs.Contents.{family_of, frames_at}
-use Rattle.tt_cert.proofs.Walking.{IsCheckedSoFar, ended, first_break, next_in_range, next_within, read_behind, read_first, so_far_end, so_far_start, so_far_step, taken, to_come, told_before}
+use Rattle.tt_cert.proofs.Walking.{IsCheckedSoFar, ended, first_break, next_in_range, next_within, read_behind, so_far_end, so_far_start, so_far_step, taken, told_before}
 use Rattle.tt_cert.proofs.checking.check_states.Goals as goal
 
 pub loop-walk-init : goal.loop-walk-init
-loop-walk-init c =
-    let S = setting_of c.args.setting.now in
-    let v = c.args.certificate.now in
-    let rest_is = taken c.take_first.result c.states-states.result c.take_first.new.self c.take_first.ensures.none c.take_first.ensures.some in
-    let whole = sym c.states-states.ensures.rest ∙ rest_is in
-    record {
-      walk = c.in_ok-walk.ensures.walk v c.contexts.ensures.finished.0 (read_first S v c.take_first.result c.take_first.new.self whole c.states-states.ensures.found);
-      checked = so_far_start S v _ (ap (λ n. to_come n c.take_first.new.self) c.in_ok-walk.ensures.next ∙ sym whole);
-    }
+loop-walk-init c = record { walk = c.requires.walk; checked = so_far_start (setting_of c.args.setting.now) c.args.certificate.now _ (sym c.requires.all.all) }
 
 pub take-requires : goal.take-requires
 take-requires c = λ t.
@@ -32,28 +24,28 @@ go_to-requires-clause-walk c =
       frames = ap (λ fs. fs.items) c.in_ok-take.ensures.frames ∙ c.loop-walk.invariant.walk.frames ∙ ap (λ k. reverse (frames_at v.contexts k)) (sym c.in_ok-take.ensures.context);
       next = read_behind (setting_of c.args.setting.now) v _ c.loop-walk.states c.take_first-walk.new.self ((c.in-Some.context, c.in-Some.offset), c.in-Some.state.now)
           c.take_first-walk.result c.loop-walk.invariant.checked (ap (λ n. to_come n c.loop-walk.states) c.in-Some.is)
-          (taken c.take_first-walk.result c.loop-walk.states c.take_first-walk.new.self c.take_first-walk.ensures.none c.take_first-walk.ensures.some) c.states-states.ensures.found;
+          (taken c.take_first-walk.result c.loop-walk.states c.take_first-walk.new.self c.take_first-walk.ensures.none c.take_first-walk.ensures.some) c.requires.all.found;
       made = λ t. let no_such : true ≡ false = sym t ∙ c.in_ok-take.ensures.apart in absurd (cc);
     }
 
 pub go_to-requires-clause-there : goal.go_to-requires-clause-there
 go_to-requires-clause-there c =
     next_within (setting_of c.args.setting.now) c.args.certificate.now c.contexts.ensures.finished.0 _ c.loop-walk.states ((c.in-Some.context, c.in-Some.offset), c.in-Some.state.now)
-    c.loop-walk.invariant.checked (ap (λ n. to_come n c.loop-walk.states) c.in-Some.is) c.states-states.ensures.found
+    c.loop-walk.invariant.checked (ap (λ n. to_come n c.loop-walk.states) c.in-Some.is) c.requires.all.found
 
 pub check_state-requires-clause-in_range : goal.check_state-requires-clause-in_range
 check_state-requires-clause-in_range c =
     let R : State → Type 0 = λ x. state_order.InRange x in
     subst R (sym (c.in_ok-go_to.ensures.made ∙ c.in_ok-take.ensures.made))
     (next_in_range (setting_of c.args.setting.now) c.args.certificate.now c.contexts.ensures.finished.0 _ c.loop-walk.states ((c.in-Some.context, c.in-Some.offset), c.in-Some.state.now)
-    c.loop-walk.invariant.checked (ap (λ n. to_come n c.loop-walk.states) c.in-Some.is) c.states-states.ensures.found)
+    c.loop-walk.invariant.checked (ap (λ n. to_come n c.loop-walk.states) c.in-Some.is) c.requires.all.found)
 
 pub check_state-requires-clause-told : goal.check_state-requires-clause-told
 check_state-requires-clause-told c =
     let T : ℕ → Type 0 = λ k. AreToldBefore c.args.certificate.now k in
     subst T (sym c.in_ok-go_to.ensures.context)
     (told_before (setting_of c.args.setting.now) c.args.certificate.now c.contexts.ensures.finished.0 _ c.loop-walk.states ((c.in-Some.context, c.in-Some.offset), c.in-Some.state.now)
-    c.loop-walk.invariant.checked (ap (λ n. to_come n c.loop-walk.states) c.in-Some.is) c.states-states.ensures.found c.states-states.ensures.rises)
+    c.loop-walk.invariant.checked (ap (λ n. to_come n c.loop-walk.states) c.in-Some.is) c.requires.all.found c.requires.all.rises)
 
 pub check_state-requires-clause-apart : goal.check_state-requires-clause-apart
 check_state-requires-clause-apart c = c.in_ok-go_to.ensures.is_next ∙ c.in_ok-take.ensures.apart
@@ -64,7 +56,7 @@ returns-in-Err-clause-broken c =
     let B : ℕ × State → Type 0 = λ x. Names (BreaksAt (setting_of c.args.setting.now) (family_of v) (frames_at v.contexts x.0, c.in-Some.offset) x.1) c.in-Err.fault in
     let made = c.in_ok-go_to.ensures.made ∙ c.in_ok-take.ensures.made in
     first_break (setting_of c.args.setting.now) v c.contexts.ensures.finished.0 _ c.loop-walk.states ((c.in-Some.context, c.in-Some.offset), c.in-Some.state.now)
-    c.loop-walk.invariant.checked (ap (λ n. to_come n c.loop-walk.states) c.in-Some.is) c.states-states.ensures.found c.states-states.ensures.rises c.in-Err.fault
+    c.loop-walk.invariant.checked (ap (λ n. to_come n c.loop-walk.states) c.in-Some.is) c.requires.all.found c.requires.all.rises c.in-Err.fault
     (subst B (λ i. (c.in_ok-go_to.ensures.context i, made i)) c.in-Err.ensures.broken)
 
 pub loop-walk-preserved : goal.loop-walk-preserved

@@ -1,7 +1,7 @@
 use Rattle.std.proofs.Common.{length}
 use Rattle.tt_abs.specs.Settings.{setting_of}
-use Rattle.tt_cert.specs.Checks.{IsWalk}
-use Rattle.tt_cert.proofs.Walking.{IsCheckedSoFar, to_come}
+use Rattle.tt_cert.specs.Checks.{IsWalk, to_come}
+use Rattle.tt_cert.proofs.Walking.{IsCheckedSoFar}
 use Rattle.tt_cert.proofs.checking.check_states.Given as goal
 
 abbrev pub invariant-loop-walk : goal.invariant-loop-walk

@@ -1,10 +1,9 @@
-use Rattle.tt_cert.proofs.Adding.{is_there, is_absent}
+use Rattle.std.proofs.Common.{sym, ◌∙◌}
+use Rattle.tt_cert.proofs.Adding.{found_there, is_absent}
 use Rattle.tt_cert.proofs.builder.Builder.number.Goals as goal
 
-pub returns-in-Some-clause-some : goal.returns-in-Some-clause-some
-returns-in-Some-clause-some c =
-    let there = is_there _ _ _ _ c.self.view_is c.self.invariant c.args.parent c.args.frame c.in-Some.number.now c.in-Some.ensures.value in
-    (there.there, there.at)
+pub returns-clause-some : goal.returns-clause-some
+returns-clause-some c = found_there _ _ _ _ c.self.view_is c.self.invariant c.args.parent c.args.frame c.number_of.result c.number_of.ensures
 
-pub returns-in-None-clause-none : goal.returns-in-None-clause-none
-returns-in-None-clause-none c = λ lt _. is_absent _ _ _ _ c.self.view_is c.self.invariant c.args.parent c.args.frame c.in-None.ensures.value lt
+pub returns-clause-none : goal.returns-clause-none
+returns-clause-none c = λ lt none. is_absent _ _ _ _ c.self.view_is c.self.invariant c.args.parent c.args.frame (sym none ∙ c.number_of.ensures) lt
