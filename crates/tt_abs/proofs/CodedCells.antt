@@ -2,10 +2,11 @@
 use Rattle.std.specs.Int.Bits.{bit_or, bit_xor, or_zero_l, xor_add_and, xor_self}
 use Rattle.std.specs.Prelude.{◌↔◌, reverse, remove}
 use Rattle.std.proofs.Common.{◌≡◌, ◌≢◌, ℕ, suc, ◌+◌, ◌-◌, ◌<◌, ◌≤◌, List, [], ◌∷◌, ◌++◌, get_or, refl, sym, ◌∙◌, ap, subst, arith, inl, inr, length, take, drop, set, length-append, append_assoc}
+use Rattle.std.specs.List.{refill}
 use Rattle.std.proofs.Math.Seq.{take-append-add}
 use Rattle.std.proofs.lemmas.Bool.{cases_lt}
 use Rattle.std.proofs.lemmas.Nat.{and_le_l, and_le_r, le_or_l, le_or_r}
-use Rattle.std.proofs.lemmas.List.{append-nil, drop-map, get_or-append_right, get_or-map, get_or-set_other, get_or-set_same, length-map, length-reverse, length-set, map-append, map-set, reverse-append, reverse-reverse, set-append_right, take-append-le, take-map, take_all}
+use Rattle.std.proofs.lemmas.List.{append-nil, drop-map, get_or-append_right, get_or-map, get_or-set_other, get_or-set_same, length-map, length-set, map-append, map-set, reverse-append, reverse-reverse, set-append_right, take-append-le, take-map, take_all}
 use Rattle.std.proofs.lemmas.List.Edits.{remove-append_left, remove-append_right}
 use Rattle.tt_abs.specs.declared.cells.Cell.{Cell}
 use Rattle.tt_abs.specs.declared.cells.Cell.TheVariants.{Unknown}
@@ -13,6 +14,7 @@ use Rattle.tt_abs.specs.Codes.{cell_of_code, cells_of, kept_cells}
 use Rattle.tt_abs.specs.Transfers.{cells_on}
 use Rattle.tt_abs.specs.Stacks.{cell_at, IsLeastCell}
 use Rattle.tt_abs.proofs.Reversed.{cut_is, removed_is}
+use Rattle.tt_abs.proofs.StackOrders.{refilled}
 
 -- the differences of numbers, gathered by their bits, are none exactly if there is none yet and the two are equal
 pub no_difference : (d a b : ℕ) → (bit_or d (bit_xor a b) ≡ 0) ↔ ((d ≡ 0) × (a ≡ b))
@@ -115,6 +117,14 @@ written_joined wide codes stack place code other e h lt least =
     let P : Cell → Type 0 = λ x. IsLeastCell x other (cell_of_code code) in
     let Q : Cell → Type 0 = λ x. IsLeastCell (cell_at (reverse stack) place) other x in
     subst Q new (subst P mine least)
+
+-- codes of which one is written, as they are written back
+pub written_back : (codes slice : List ℕ) (n m place code : ℕ) → slice ≡ codes → n ≡ m
+    → refill (length codes) codes (set slice (place - n) code) ≡ set codes (place - m) code
+written_back codes slice n m place code e f =
+    refilled codes (set slice (place - n) code) (length-set slice (place - n) code ∙ ap length e)
+    ∙ ap (λ x. set x (place - n) code) e
+    ∙ ap (λ x. set codes (place - x) code) f
 
 -- cells behind others lie on them, in the other direction
 cells_on_reversed : (cs ds : List Cell) → reverse (cs ++ ds) ≡ cells_on ds (reverse cs)

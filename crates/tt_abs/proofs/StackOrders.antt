@@ -1,6 +1,6 @@
 -- The order of stacks, from cell to cell and in the other direction.
 use Rattle.std.specs.Prelude.{reverse}
-use Rattle.std.proofs.Common.{◌≡◌, ◌≢◌, ℕ, ◌+◌, ◌-◌, ◌<◌, ◌≤◌, List, length, drop, sym, ◌∙◌, ap, subst, arith, inl, inr, below_more}
+use Rattle.std.proofs.Common.{◌≡◌, ℕ, ◌-◌, ◌<◌, ◌≤◌, List, length, drop, sym, ◌∙◌, ap, subst, arith, inl, inr}
 use Rattle.std.specs.List.{refill}
 use Rattle.std.proofs.lemmas.Bool.{cases_lt}
 use Rattle.std.proofs.lemmas.List.{ext_get_or, get_or-reverse, get_or_past, length-reverse, reverse-reverse, take_at}
@@ -86,9 +86,6 @@ below_from_places a b long h = turned_below a b (record { depth = length-reverse
       | inr ge ↦ cell_below _ _ _ _ (reversed_past a k ge) (reversed_past b k (omega arith)) tt
     ]
 
-pub places_from_below : (a b : List Cell) → StackBelow a b → (k : ℕ) → CellBelow (cell_at (reverse a) k) (cell_at (reverse b) k)
-places_from_below a b h = (StackBelow-reverse a b h).cells
-
 pub least_from_places : (a b c : List Cell) → length a ≡ length b → length c ≡ length a
     → ((k : ℕ) → k < length a → IsLeastCell (cell_at (reverse a) k) (cell_at (reverse b) k) (cell_at (reverse c) k)) → IsLeastAbove stack_order a b c
 least_from_places a b c same long h =
@@ -111,18 +108,6 @@ least_from_places a b c same long h =
       | inl lt ↦ h k lt
       | inr ge ↦ least _ _ _ _ _ _ (reversed_past a k ge) (reversed_past b k (omega arith)) (reversed_past c k (omega arith)) least_unknown
     ]
-
--- one more place joined
-
-pub joined_more : (old theirs new next : List Cell) (i : ℕ)
-    → ((k : ℕ) → k < i → IsLeastCell (cell_at old k) (cell_at theirs k) (cell_at new k))
-    → cell_at new i ≡ cell_at old i
-    → IsLeastCell (cell_at new i) (cell_at theirs i) (cell_at next i)
-    → ((k : ℕ) → k ≢ i → cell_at next k ≡ cell_at new k)
-    → (k : ℕ) → k < i + 1 → IsLeastCell (cell_at old k) (cell_at theirs k) (cell_at next k)
-joined_more old theirs new next i done rest joined others = below_more _ _
-    (λ k h. let P : Cell → Type 0 = λ x. IsLeastCell (cell_at old k) (cell_at theirs k) x in subst P (sym (others k (omega arith))) (done k h))
-    (let P : Cell → Type 0 = λ x. IsLeastCell x (cell_at theirs i) (cell_at next i) in subst P rest joined)
 
 -- a whole list written over
 pub refilled : {A : Type 0} (xs ws : List A) → length ws ≡ length xs → refill (length xs) xs ws ≡ ws

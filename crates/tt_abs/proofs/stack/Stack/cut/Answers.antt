@@ -1,4 +1,4 @@
-use Rattle.std.proofs.Common.{◌-◌, ap, arith, ◌∙◌, ◌≡◌, ℕ, length, take}
+use Rattle.std.proofs.Common.{◌-◌, ap, arith, ◌∙◌, ◌≡◌, length, take}
 use Rattle.std.specs.Prelude.{reverse}
 use Rattle.tt_abs.specs.Codes.{kept_cells}
 use Rattle.tt_abs.proofs.CodedCells.{cut_kept}

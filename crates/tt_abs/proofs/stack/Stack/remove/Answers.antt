@@ -1,4 +1,4 @@
-use Rattle.std.proofs.Common.{◌≡◌, ◌-◌, ◌+◌, ◌<◌, length, ap, ◌∙◌, arith, sym}
+use Rattle.std.proofs.Common.{◌≡◌, ◌-◌, ◌+◌, length, ap, ◌∙◌, arith, sym}
 use Rattle.std.specs.Prelude.{reverse, remove}
 use Rattle.std.proofs.lemmas.List.{length-reverse}
 use Rattle.tt_abs.specs.Codes.{kept_cells}
