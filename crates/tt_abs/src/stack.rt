@@ -1,18 +1,17 @@
 //! The stack of cells.
 
-ghost use Rattle.std.specs.Prelude.{◌≡◌, ℕ, ◌↔◌, ◌<◌, ◌+◌, ◌^◌, [], ◌∷◌, length, drop, remove, reverse, slice_get, slice_index, map, pos, IsTrue, IfSome, OnOk, OnErr, IfOk};
+ghost use Rattle.std.specs.Prelude.{◌≡◌, ℕ, ◌↔◌, ◌<◌, ◌≤◌, ◌≢◌, ◌+◌, ◌^◌, ◌++◌, [], ◌∷◌, length, drop, remove, reverse, slice_get, map, pos, IsTrue, IfSome, OnOk, OnErr, IfOk};
 ghost use Rattle.smallvec.specs.SmallVec.{HasRoomFor};
-ghost use Rattle.tt_code.specs.Computing.{words};
+ghost use Rattle.tt_code.specs.Computing.{word_number, words};
 ghost use Rattle.tt_abs.specs.Transfers.{cells_on};
 ghost use Rattle.tt_abs.specs.declared.cells.Cell.TheVariants.{Known};
 ghost use Rattle.tt_abs.specs.Orders.{IsLeastAbove};
-ghost use Rattle.tt_abs.specs.Codes.{cell_of_code, cells_of};
-ghost use Rattle.tt_abs.specs.Stacks.{IsLeastCell, StackBelow, first, stack_order};
+ghost use Rattle.tt_abs.specs.Codes.{kept_cells};
+ghost use Rattle.tt_abs.specs.Stacks.{IsLeastCell, StackBelow, cell_at, first, stack_order};
 
 use crate::cells::Cell;
 use crate::codes::{
-    Codes, INLINE_CELLS, append_bytes, append_words, are_equal, cell_of, code_of, is_below,
-    is_same, joined,
+    Codes, INLINE_CELLS, append_bytes, append_cells, are_equal, cell_of, code_of, joined,
 };
 use crate::order::{AbsFault, Order};
 use smallvec::SmallVec;
@@ -22,82 +21,74 @@ use std::marker::Model;
 /// How many cells a stack may have at most.
 const MOST_CELLS: usize = 0x7fff_ffff;
 
-/// A stack of cells, which contracts see top first. Up to 16 cells need no allocation.
+/// A stack of cells, which contracts see top first. Up to 32 cells need no allocation, if each is unknown or has a number from
+/// -32,767 to 32,767.
 #[derive(Drop)]
 pub struct Stack {
+    /// The cells from the bottom up to the uppermost that has no code; mostly none.
+    wide: Vec<Cell>,
+    /// The codes of the cells above those.
     codes: Codes,
 }
 
 impl Model for Stack {
-    ghost use Rattle.std.specs.Prelude.{List, length, reverse, ◌<◌, ◌^◌};
+    ghost use Rattle.std.specs.Prelude.{List, length, reverse, ◌+◌, ◌<◌, ◌^◌};
     ghost use Rattle.tt_abs.specs.declared.cells.Cell.{Cell};
-    ghost use Rattle.tt_abs.specs.Codes.{cells_of};
+    ghost use Rattle.tt_abs.specs.Codes.{kept_cells};
 
     ghost Value = { List Cell };
 
-    ghost view = { λ s. reverse (cells_of s.codes.items) };
+    ghost view = { λ s. reverse (kept_cells s.wide.items s.codes.items) };
 
-    ghost invariant = { λ s. length s.codes.items < 2 ^ 31 };
+    ghost invariant = { λ s. length s.wide.items + length s.codes.items < 2 ^ 31 };
 }
 
-/// Whether the cells are as many, and each is below its partner.
-fn cells_below(mine: &[u64], theirs: &[u64]) -> bool
-    ensures { IsTrue result ↔ StackBelow (cells_of mine.now) (cells_of theirs.now) }
-{
-    if mine.len() != theirs.len() {
-        return false;
-    }
-    // Mostly the codes are the same, and that is found fast.
-    if are_equal(mine, theirs) {
-        return true;
-    }
-    let mut all = true;
-    for i in 0..mine.len() {
-        all = all & is_below(mine[i], theirs[i]);
-    }
-    all
-}
-
-/// Whether each cell is its partner, of cells that are as many.
-fn partners_same(mine: &[u64], theirs: &[u64]) -> bool
-    requires { length mine.now ≡ length theirs.now }
-    ensures { IsTrue result ↔ (cells_of mine.now ≡ cells_of theirs.now) }
-{
-    let mut all = true;
-    for i in 0..mine.len() {
-        all = all & is_same(mine[i], theirs[i]);
-    }
-    all
-}
-
-/// Whether the cells are the same. Mostly their codes are, if the cells are.
-fn cells_same(mine: &[u64], theirs: &[u64]) -> bool
-    ensures { IsTrue result ↔ (cells_of mine.now ≡ cells_of theirs.now) }
-{
-    mine.len() == theirs.len() && (are_equal(mine, theirs) || partners_same(mine, theirs))
-}
-
-/// Makes each cell the least one above it and its partner.
-fn join_cells(mine: &mut [u64], theirs: &[u64])
-    requires { length mine.old ≡ length theirs.now }
-    ensures { (k : ℕ) → k < length mine.old → IsLeastCell (cell_of_code (slice_index mine.old k)) (cell_of_code (slice_index theirs.now k)) (cell_of_code (slice_index mine.new k)) }
-{
-    for i in 0..mine.len() {
-        mine[i] = joined(mine[i], theirs[i]);
-    }
-}
-
-/// Makes room for so many more cells.
-fn make_room(codes: &mut Codes, more: usize) -> Result<(), AllocError>
-    requires { length codes.old.items < 2 ^ 31 }
+/// Makes room for the codes of so many more cells, above the wide ones.
+fn make_room(codes: &mut Codes, wide: usize, more: usize) -> Result<(), AllocError>
+    requires { wide + length codes.old.items < 2 ^ 31 }
     ensures items { codes.new.items ≡ codes.old.items }
     ensures room { OnOk result (HasRoomFor codes.new more) }
-    ensures few { OnOk result (length codes.old.items + more < 2 ^ 31) }
+    ensures few { OnOk result (wide + length codes.old.items + more < 2 ^ 31) }
 {
-    if more > MOST_CELLS - codes.len() {
+    if more > MOST_CELLS - wide - codes.len() {
         return Err(AllocError);
     }
     codes.reserve(more)
+}
+
+/// Puts a cell on top that has no code: it and those below it become wide ones.
+fn push_wide(wide: &mut Vec<Cell>, codes: &mut Codes, cell: Cell) -> Result<(), AllocError>
+    requires { length wide.old.items + length codes.old.items < 2 ^ 31 }
+    ensures cells { OnOk result (kept_cells wide.new.items codes.new.items ≡ kept_cells wide.old.items codes.old.items ++ cell ∷ []) }
+    ensures wide { OnErr result (wide.new.items ≡ wide.old.items) }
+    ensures codes { OnErr result (codes.new.items ≡ codes.old.items) }
+{
+    wide.reserve(codes.len() + 1)?;
+    append_cells(wide, codes.as_slice());
+    wide.push_reserved(cell);
+    codes.clear();
+    Ok(())
+}
+
+/// The signed word of two bytes.
+fn word_of(high: u8, low: u8) -> i32
+    ensures { result ≡ word_number high low }
+{
+    let number = 256 * i32::from(high) + i32::from(low);
+    if high < 128 { number } else { number - 65536 }
+}
+
+/// Whether the cells are the same.
+fn cells_equal(mine: &[Cell], theirs: &[Cell]) -> bool
+    requires { length mine.now ≡ length theirs.now }
+    ensures { IsTrue result → mine.now ≡ theirs.now }
+{
+    for i in 0..mine.len() {
+        if !mine[i].is_same(theirs[i]) {
+            return false;
+        }
+    }
+    true
 }
 
 impl Stack {
@@ -106,6 +97,7 @@ impl Stack {
         ensures { result ≡ [] }
     {
         Stack {
+            wide: Vec::new(alloc),
             codes: SmallVec::new(alloc),
         }
     }
@@ -115,7 +107,7 @@ impl Stack {
         ensures value { result ≡ length self.now }
         ensures small { result < 2 ^ 31 }
     {
-        self.codes.len()
+        self.wide.len() + self.codes.len()
     }
 
     /// Puts a cell on top.
@@ -126,11 +118,16 @@ impl Stack {
         ensures ok { OnOk result (self.new ≡ cell ∷ self.old) }
         ensures err { OnErr result (self.new ≡ self.old) }
     {
-        if self.codes.len() >= MOST_CELLS {
+        if self.wide.len() + self.codes.len() >= MOST_CELLS {
             return Err(AllocError);
         }
-        self.codes.push(code_of(cell))?;
-        Ok(())
+        match code_of(cell) {
+            Some(code) => {
+                self.codes.push(code)?;
+                Ok(())
+            }
+            None => push_wide(&mut self.wide, &mut self.codes, cell),
+        }
     }
 
     /// Puts bytes on top, one after the other.
@@ -140,7 +137,7 @@ impl Stack {
     pub fn push_bytes(&mut self, bytes: &[u8]) -> Result<(), AllocError>
         ensures { OnOk result (self.new ≡ cells_on (map Known (map pos bytes.now)) self.old) }
     {
-        make_room(&mut self.codes, bytes.len())?;
+        make_room(&mut self.codes, self.wide.len(), bytes.len())?;
         append_bytes(&mut self.codes, bytes);
         Ok(())
     }
@@ -152,9 +149,27 @@ impl Stack {
     pub fn push_words(&mut self, bytes: &[u8]) -> Result<(), AllocError>
         ensures { OnOk result (self.new ≡ cells_on (map Known (words bytes.now)) self.old) }
     {
-        make_room(&mut self.codes, bytes.len() / 2)?;
-        append_words(&mut self.codes, bytes);
+        make_room(&mut self.codes, self.wide.len(), bytes.len() / 2)?;
+        let mut rest = bytes;
+        while let [high, low, after @ ..] = rest {
+            self.push(Cell::Known(word_of(*high, *low)))?;
+            rest = after;
+        }
         Ok(())
+    }
+
+    /// The cell at a place, from the bottom: 0 is the bottom.
+    fn at(&self, place: usize) -> Cell
+        requires { place < length self.now }
+        ensures { result ≡ cell_at (reverse self.now) place }
+    {
+        let wide = self.wide.as_slice();
+        if place < wide.len() {
+            wide[place]
+        } else {
+            let codes = self.codes.as_slice();
+            cell_of(codes[place - wide.len()])
+        }
     }
 
     /// The cell under so many others, if there is one: under 0 others is the top.
@@ -162,9 +177,9 @@ impl Stack {
         ensures cell { result ≡ first (drop taken self.now) }
         ensures room { IfSome result (λ _. taken + 1 < 2 ^ 64) }
     {
-        let codes = self.codes.as_slice();
-        if taken < codes.len() {
-            Some(cell_of(codes[codes.len() - 1 - taken]))
+        let depth = self.len();
+        if taken < depth {
+            Some(self.at(depth - 1 - taken))
         } else {
             None
         }
@@ -174,9 +189,8 @@ impl Stack {
     pub fn above(&self, others: usize) -> Option<Cell>
         ensures { result ≡ slice_get (reverse self.now) others }
     {
-        let codes = self.codes.as_slice();
-        if others < codes.len() {
-            Some(cell_of(codes[others]))
+        if others < self.len() {
+            Some(self.at(others))
         } else {
             None
         }
@@ -186,8 +200,10 @@ impl Stack {
     pub fn cut(&mut self, count: usize)
         ensures { self.new ≡ drop count self.old }
     {
-        let depth = self.codes.len();
-        self.codes.truncate(depth.saturating_sub(count));
+        let codes = self.codes.len();
+        let wide = self.wide.len();
+        self.codes.truncate(codes.saturating_sub(count));
+        self.wide.truncate(wide.saturating_sub(count.saturating_sub(codes)));
     }
 
     /// Takes one cell out, by its place from the top: 0 is the top.
@@ -195,14 +211,20 @@ impl Stack {
         requires { place < length self.old }
         ensures { self.new ≡ remove self.old place }
     {
-        let depth = self.codes.len();
-        self.codes.remove(depth - 1 - place);
+        let wide = self.wide.len();
+        let codes = self.codes.len();
+        if place < codes {
+            self.codes.remove(codes - 1 - place);
+        } else {
+            self.wide.remove(wide + codes - 1 - place);
+        }
     }
 
     /// Takes all cells away.
     pub fn clear(&mut self)
         ensures { self.new ≡ [] }
     {
+        self.wide.clear();
         self.codes.clear();
     }
 
@@ -225,7 +247,8 @@ impl Stack {
         } else {
             SmallVec::from_vec(Vec::from_slice(alloc, codes)?)
         };
-        Ok(Stack { codes })
+        let wide = Vec::from_slice(alloc, self.wide.as_slice())?;
+        Ok(Stack { wide, codes })
     }
 
     /// Becomes a stack of the same cells, in the memory that it has where that is enough.
@@ -235,15 +258,69 @@ impl Stack {
     pub fn copy_from(&mut self, other: &Stack) -> Result<(), AllocError>
         ensures { OnOk result (self.new ≡ other.now) }
     {
+        self.wide.clear();
         self.codes.clear();
-        self.codes.extend_from_slice(other.codes.as_slice())
+        self.codes.extend_from_slice(other.codes.as_slice())?;
+        self.wide.extend_from_slice(other.wide.as_slice())
+    }
+
+    /// Whether the cells are kept in the same way, which is found fast. Mostly they are, if they are the same.
+    fn has_same_parts(&self, other: &Stack) -> bool
+        ensures { IsTrue result → self.now ≡ other.now }
+    {
+        self.codes.len() == other.codes.len()
+            && self.wide.len() == other.wide.len()
+            && are_equal(self.codes.as_slice(), other.codes.as_slice())
+            && cells_equal(self.wide.as_slice(), other.wide.as_slice())
+    }
+
+    /// Whether each cell is its partner, of cells that are as many.
+    fn partners_same(&self, other: &Stack) -> bool
+        requires { length self.now ≡ length other.now }
+        ensures { IsTrue result ↔ (self.now ≡ other.now) }
+    {
+        for place in 0..self.len() {
+            if !self.at(place).is_same(other.at(place)) {
+                return false;
+            }
+        }
+        true
     }
 
     /// Whether the cells are the same.
     pub fn is_same(&self, other: &Stack) -> bool
         ensures { IsTrue result ↔ (self.now ≡ other.now) }
     {
-        cells_same(self.codes.as_slice(), other.codes.as_slice())
+        self.len() == other.len() && (self.has_same_parts(other) || self.partners_same(other))
+    }
+
+    /// Whether each cell is below its partner, of cells that are as many.
+    fn partners_below(&self, other: &Stack) -> bool
+        requires { length self.now ≡ length other.now }
+        ensures { IsTrue result ↔ StackBelow self.now other.now }
+    {
+        for place in 0..self.len() {
+            if !self.at(place).below(&other.at(place)) {
+                return false;
+            }
+        }
+        true
+    }
+
+    /// Makes the cell at a place, from the bottom, the least one above it and another one.
+    fn join_at(&mut self, place: usize, other: Cell)
+        requires { place < length self.old }
+        ensures depth { length self.new ≡ length self.old }
+        ensures cell { IsLeastCell (cell_at (reverse self.old) place) other (cell_at (reverse self.new) place) }
+        ensures others { (k : ℕ) → k ≢ place → cell_at (reverse self.new) k ≡ cell_at (reverse self.old) k }
+    {
+        let wide = self.wide.len();
+        if place < wide {
+            self.wide[place] = self.wide[place].joined(other);
+        } else {
+            let codes = self.codes.as_mut_slice();
+            codes[place - wide] = joined(codes[place - wide], other);
+        }
     }
 
     /// Becomes the least stack above both, cell by cell, without memory.
@@ -251,7 +328,9 @@ impl Stack {
         requires { length self.old ≡ length other.now }
         ensures { IsLeastAbove stack_order self.old other.now self.new }
     {
-        join_cells(self.codes.as_mut_slice(), other.codes.as_slice());
+        for place in 0..self.len() {
+            self.join_at(place, other.at(place));
+        }
     }
 }
 
@@ -262,7 +341,7 @@ impl Order for Stack {
     ghost order = { stack_order };
 
     fn below(&self, other: &Stack) -> bool {
-        cells_below(self.codes.as_slice(), other.codes.as_slice())
+        self.len() == other.len() && (self.has_same_parts(other) || self.partners_below(other))
     }
 
     fn join(&mut self, other: &Stack) -> Result<bool, AbsFault> {
@@ -270,7 +349,9 @@ impl Order for Stack {
             return Err(AbsFault::DepthMismatch);
         }
         let changed = !other.below(self);
-        self.raise(other);
+        if changed {
+            self.raise(other);
+        }
         Ok(changed)
     }
 

@@ -7,5 +7,5 @@ use Rattle.tt_abs.proofs.stack.Stack.push_bytes.Goals as goal
 pub returns : goal.returns
 returns c =
     let cells = map Known (map pos c.args.bytes.now) in
-    pushed_codes c.self.inside.codes.items c.append_bytes.new.codes.items c.args.self.now cells c.self.view_is
+    pushed_codes c.self.inside.wide.items c.self.inside.codes.items c.append_bytes.new.codes.items c.args.self.now cells c.self.view_is
     (c.append_bytes.ensures.cells ∙ ap (λ x. cells_of x ++ cells) c.make_room.ensures.items)
