@@ -15,7 +15,7 @@ use Rattle.tt_cert.specs.Places.{PutGives, PutsAt, states_of}
 use Rattle.tt_cert.specs.Puts.{place_of}
 use Rattle.tt_find.specs.Marks.{has_mark}
 use Rattle.tt_find.specs.declared.table.Table.{Table}
-use Rattle.tt_find.specs.Tables.{HasLaws, IsMarked, IsPut, IsTable, IsWhole, IsWithinBudget, MarksMore}
+use Rattle.tt_find.specs.Tables.{HasLaws, IsEmptyTable, IsMarked, IsPut, IsTable, IsWhole, IsWithinBudget, MarksMore}
 use Rattle.tt_find.proofs.Budget.{budget_start}
 use Rattle.tt_find.proofs.Marked.{none_marked}
 use Rattle.tt_find.proofs.Points.{same_or_apart}
@@ -86,15 +86,14 @@ module _ (o : Order State) (f : Flow Place State) (order : OrderLaws o) where
         | inr apart ↦ let no_such : None ≡ Some s = sym (put.elsewhere p apart ∙ blank p) ∙ at in cc
       ]
 
-pub whole_start : (s : Setting) (functions : List (ℕ × ℕ)) → HasLaws s functions → (old new : Table) (t : State) → t ≡ start_of functions → old.builder.contexts ≡ [] ∷ [] → old.builder.states ≡ []
-    → old.marked ≡ [] → old.updates ≡ 0 → IsPut old new 0 0 t → IsWhole s functions new
-whole_start s functions laws old new t start contexts states none zero_is put =
+pub whole_start : (s : Setting) (functions : List (ℕ × ℕ)) → HasLaws s functions → (old new : Table) (t : State) → t ≡ start_of functions → IsEmptyTable old → IsPut old new 0 0 t → IsWhole s functions new
+whole_start s functions laws old new t start empty put =
     let D : State → Type 0 = λ x. Derived state_order (flow_of s functions) ([], 0) x in
     let d : D t = subst D (sym start) started in
     let low = derived_height state_order (flow_of s functions) (height_of s) laws.flow ([], 0) t d in
     let B : ℕ → Type 0 = λ n. IsWithinBudget state_order (height_of s) new.builder n in
     record {
-      kept = table_start state_order (flow_of s functions) state_laws old.builder new.builder old.marked new.marked t put.changed refl start contexts states none put.put put.contexts put.family put.marks;
-      budget = subst B (sym (put.updates ∙ ap (λ n. n + cond put.changed 1 0) zero_is))
-          (budget_start state_order state_laws (height_of s) old.builder new.builder t put.changed states low put.put put.sums);
+      kept = table_start state_order (flow_of s functions) state_laws old.builder new.builder old.marked new.marked t put.changed refl start empty.contexts empty.states empty.marked put.put put.contexts put.family put.marks;
+      budget = subst B (sym (put.updates ∙ ap (λ n. n + cond put.changed 1 0) empty.updates))
+          (budget_start state_order state_laws (height_of s) old.builder new.builder t put.changed empty.states low put.put put.sums);
     }

@@ -52,6 +52,14 @@ pub record HasLaws (s : Setting) (functions : List (ℕ × ℕ)) : Type 0 where
   pub flow : FlowLaws state_order (flow_of s functions) (height_of s)
   pub height : height_of s < 4294967295
 
+-- the empty context alone, without a state, and no update
+pub record IsEmptyTable (table : Table) : Type 0 where
+  pub contexts : table.builder.contexts ≡ [] ∷ []
+  pub states : table.builder.states ≡ []
+  pub family : IsFamily table.builder
+  pub marked : table.marked ≡ []
+  pub updates : table.updates ≡ 0
+
 -- the finder's table, for a program that starts with these functions
 pub record IsSound (s : Setting) (functions : List (ℕ × ℕ)) (table : Table) (Here : Place → Type 0) (Rest : Place → State → Type 0) : Type 0 where
   pub kept : IsTable state_order (flow_of s functions) table.builder table.marked Here Rest

@@ -12,12 +12,11 @@ ghost use Rattle.tt_find.specs.Tables.{HasLaws, IsWhole};
 
 use crate::fault::FindFault;
 use crate::following::follow;
-use crate::marks::Marks;
 use crate::table::Table;
 use crate::walk::Walk;
 use std::alloc::{AllocError, Global};
+use tt_abs::Setting;
 use tt_abs::laws::flow_laws;
-use tt_abs::{Setting, State};
 use tt_cert::{Builder, Certificate, Spot, ends_well, is_short};
 use tt_code::Reason;
 
@@ -40,27 +39,7 @@ fn has_laws(setting: &Setting<'_>)
     prove!(u32::from(setting.limits.storage) < 1 << 16);
 }
 
-/// The table with the start alone, in a builder's memory.
-fn start_table(alloc: Global, builder: Builder, setting: &Setting<'_>) -> Result<Table, AllocError>
-    requires rises { Rises setting.now.start.now }
-    requires laws { HasLaws (setting_of setting.now) setting.now.start.now }
-    ensures { IfOk result (IsWhole (setting_of setting.now) setting.now.start.now) }
-{
-    let state = State::start(alloc, setting.start)?;
-    let mut builder = builder;
-    builder.clear();
-    let mut table = Table {
-        builder,
-        marked: Marks::new(alloc),
-        updates: 0,
-    };
-    let Ok(_) = table.put(0, 0, &state) else {
-        return Err(AllocError);
-    };
-    Ok(table)
-}
-
-/// The table when no point is left that is new or has changed, in a builder's memory.
+/// The table when no point is left that is new or has changed, from the start alone, in a builder's memory.
 fn filled(alloc: Global, builder: Builder, setting: &Setting<'_>) -> Result<Table, FindFault>
     requires rises { Rises setting.now.start.now }
     requires laws { HasLaws (setting_of setting.now) setting.now.start.now }
@@ -68,8 +47,11 @@ fn filled(alloc: Global, builder: Builder, setting: &Setting<'_>) -> Result<Tabl
     ensures none { IfOk result (λ table. table.marked ≡ []) }
     ensures justified { IfErr result (NamesPlace (IsJustified (setting_of setting.now) setting.now.start.now)) }
 {
-    let mut table = start_table(alloc, builder, setting)?;
-    let mut walk = Walk::start(alloc)?;
+    let mut table = Table::new(alloc, builder);
+    let mut walk = Walk::start(alloc, setting.start)?;
+    let Ok(()) = walk.put(&mut table, 0, 0) else {
+        return Err(FindFault::OutOfMemory(AllocError));
+    };
     while let Some((context, offset)) = table.marked.pop_first() {
         if let Err(fault) = follow(&mut table, &mut walk, setting, context, offset) {
             return Err(fault);

@@ -7,11 +7,11 @@ ghost use Rattle.tt_cert.specs.Places.{states_of};
 ghost use Rattle.tt_cert.specs.Puts.{place_of};
 ghost use Rattle.tt_cert.specs.Spots.{spot_of};
 ghost use Rattle.tt_find.specs.Found.{NamesPlace};
-ghost use Rattle.tt_find.specs.Tables.{IsApart, IsPut};
+ghost use Rattle.tt_find.specs.Tables.{IsApart, IsEmptyTable, IsPut};
 
 use crate::fault::FindFault;
 use crate::marks::Marks;
-use std::alloc::AllocError;
+use std::alloc::{AllocError, Global};
 use tt_abs::State;
 use tt_cert::{BuildFault, Builder};
 use tt_code::Reason;
@@ -38,6 +38,19 @@ pub(crate) fn refused_at(builder: &Builder, context: u32, offset: u32, reason: R
 }
 
 impl Table {
+    /// The table without a state, in a builder's memory.
+    pub(crate) fn new(alloc: Global, builder: Builder) -> Table
+        ensures { IsEmptyTable result }
+    {
+        let mut builder = builder;
+        builder.clear();
+        Table {
+            builder,
+            marked: Marks::new(alloc),
+            updates: 0,
+        }
+    }
+
     /// Puts a state at a point, and answers whether the point is new. If it is, or if the state makes a change, the point is marked, and one
     /// update counted.
     ///

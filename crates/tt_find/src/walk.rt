@@ -1,7 +1,8 @@
 //! What is kept from point to point.
 
 ghost use Rattle.std.specs.Prelude.{◌≡◌, ◌↔◌, ◌<◌, IfErr, IfOk, IsFalse, IsTrue, None, Some, length};
-ghost use Rattle.tt_abs.specs.States.{state_order};
+ghost use Rattle.tt_abs.specs.Entries.{Rises};
+ghost use Rattle.tt_abs.specs.States.{start_of, state_order};
 ghost use Rattle.tt_cert.specs.Contents.{Contents, IsFamily, family_of};
 ghost use Rattle.tt_cert.specs.Places.{states_of};
 ghost use Rattle.tt_cert.specs.Puts.{place_of};
@@ -26,17 +27,20 @@ pub(crate) struct Walk {
 }
 
 impl Walk {
-    /// A walk that begins in the empty context.
+    /// A walk that begins in the empty context, with the state in which a program starts with these functions.
     ///
     /// # Errors
     /// If memory runs out.
-    pub(crate) fn start(alloc: Global) -> Result<Walk, AllocError>
-        ensures { IfOk result (λ walk. (contents : Contents) → IsFamily contents → IsWalk contents walk) }
+    pub(crate) fn start(alloc: Global, functions: &[(u16, u32)]) -> Result<Walk, AllocError>
+        requires { Rises functions.now }
+        ensures walk { IfOk result (λ walk. (contents : Contents) → IsFamily contents → IsWalk contents walk) }
+        ensures state { IfOk result (λ walk. walk.state ≡ start_of functions.now) }
+        ensures in_range { IfOk result (λ walk. state_order.InRange walk.state) }
     {
         Ok(Walk {
             context: 0,
             frames: Vec::new(alloc),
-            state: State::start(alloc, &[])?,
+            state: State::start(alloc, functions)?,
             known: None,
         })
     }

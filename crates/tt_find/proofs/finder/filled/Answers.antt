@@ -6,7 +6,15 @@ use Rattle.tt_find.specs.Tables.{IsWhole}
 use Rattle.tt_find.proofs.Budget.{measure_falls, updates_fit}
 use Rattle.tt_find.proofs.Marked.{held_first}
 use Rattle.tt_find.proofs.Points.{table_popped}
+use Rattle.tt_find.proofs.Starting.{whole_start}
 use Rattle.tt_find.proofs.finder.filled.Goals as goal
+
+pub loop-context-init : goal.loop-context-init
+loop-context-init c = record {
+  whole = whole_start (setting_of c.args.setting.now) c.args.setting.now.start.now c.requires.laws c.new-table.result c.put.new.table c.in_ok-walk.walk.state c.in_ok-walk.ensures.state
+      c.new-table.ensures c.in-Ok.ensures.put;
+  walk = c.in-Ok.ensures.walk;
+}
 
 pub follow-requires-clause-there : goal.follow-requires-clause-there
 follow-requires-clause-there c = held_first c.loop-context.table.builder.contexts c.loop-context.table.marked c.pop_first.new.self c.in-Some.context c.in-Some.offset c.loop-context.invariant.whole.kept.held c.in-Some.ensures.some
@@ -29,8 +37,8 @@ pub returns-clause-whole : goal.returns-clause-whole
 returns-clause-whole c =
     let W : List (ℕ × ℕ) → Type 0 = λ x.
     IsWhole (setting_of c.args.setting.now) c.args.setting.now.start.now (record { builder = c.loop-context.table.builder; marked = x; updates = c.loop-context.table.updates }) in
-    let none = c.in_default.ensures.none refl in
+    let none = c.in_default-pop_first.ensures.none refl in
     subst W (none.0 ∙ sym none.1) c.loop-context.invariant.whole
 
 pub returns-clause-none : goal.returns-clause-none
-returns-clause-none c = let none = c.in_default.ensures.none refl in none.1
+returns-clause-none c = let none = c.in_default-pop_first.ensures.none refl in none.1
