@@ -1,11 +1,9 @@
 -- Cells of which those on top are kept as codes, the bottom first.
-use Rattle.std.specs.Int.Bits.{bit_or, bit_xor, or_zero_l, xor_add_and, xor_self}
-use Rattle.std.specs.Prelude.{◌↔◌, reverse, remove}
+use Rattle.std.specs.Prelude.{reverse, remove}
 use Rattle.std.proofs.Common.{◌≡◌, ◌≢◌, ℕ, suc, ◌+◌, ◌-◌, ◌<◌, ◌≤◌, List, [], ◌∷◌, ◌++◌, get_or, refl, sym, ◌∙◌, ap, subst, arith, inl, inr, length, take, drop, set, length-append, append_assoc}
 use Rattle.std.specs.List.{refill}
 use Rattle.std.proofs.Math.Seq.{take-append-add}
 use Rattle.std.proofs.lemmas.Bool.{cases_lt}
-use Rattle.std.proofs.lemmas.Nat.{and_le_l, and_le_r, le_or_l, le_or_r}
 use Rattle.std.proofs.lemmas.List.{append-nil, drop-map, get_or-append_right, get_or-map, get_or-set_other, get_or-set_same, length-map, length-set, map-append, map-set, reverse-append, reverse-reverse, set-append_right, take-append-le, take-map, take_all}
 use Rattle.std.proofs.lemmas.List.Edits.{remove-append_left, remove-append_right}
 use Rattle.tt_abs.specs.declared.cells.Cell.{Cell}
@@ -15,13 +13,6 @@ use Rattle.tt_abs.specs.Transfers.{cells_on}
 use Rattle.tt_abs.specs.Stacks.{cell_at, IsLeastCell}
 use Rattle.tt_abs.proofs.Reversed.{cut_is, removed_is}
 use Rattle.tt_abs.proofs.StackOrders.{refilled}
-
--- the differences of numbers, gathered by their bits, are none exactly if there is none yet and the two are equal
-pub no_difference : (d a b : ℕ) → (bit_or d (bit_xor a b) ≡ 0) ↔ ((d ≡ 0) × (a ≡ b))
-no_difference d a b = (
-  λ e. (omega (arith, le_or_l d (bit_xor a b), e), omega (arith, le_or_r d (bit_xor a b), e, xor_add_and a b, and_le_l a b, and_le_r a b)),
-  λ p. ap (λ x. bit_or x (bit_xor a b)) p.0 ∙ or_zero_l (bit_xor a b) ∙ ap (λ x. bit_xor x b) p.1 ∙ xor_self b,
-)
 
 pub kept_length : (wide : List Cell) (codes : List ℕ) → length (kept_cells wide codes) ≡ length wide + length codes
 kept_length wide codes = length-append wide (cells_of codes) ∙ ap (λ n. length wide + n) (length-map codes cell_of_code)
