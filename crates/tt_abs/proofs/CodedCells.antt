@@ -4,7 +4,7 @@ use Rattle.std.proofs.Common.{◌≡◌, ◌≢◌, ℕ, suc, ◌+◌, ◌-◌, 
 use Rattle.std.specs.List.{refill}
 use Rattle.std.proofs.Math.Seq.{take-append-add}
 use Rattle.std.proofs.lemmas.Bool.{cases_lt}
-use Rattle.std.proofs.lemmas.List.{append-nil, drop-map, get_or-append_right, get_or-map, get_or-set_other, get_or-set_same, length-map, length-set, map-append, map-set, reverse-append, reverse-reverse, set-append_right, take-append-le, take-map, take_all}
+use Rattle.std.proofs.lemmas.List.{append-nil, drop-map, get_or-append_right, get_or-map, get_or-set_other, get_or-set_same, length-map, length-reverse, length-set, map-append, map-set, reverse-append, reverse-reverse, set-append_right, take-append-le, take-map, take_all}
 use Rattle.std.proofs.lemmas.List.Edits.{remove-append_left, remove-append_right}
 use Rattle.tt_abs.specs.declared.cells.Cell.{Cell}
 use Rattle.tt_abs.specs.declared.cells.Cell.TheVariants.{Unknown}
@@ -70,6 +70,18 @@ removed_wide wide codes stack place e g h =
     let long = kept_length wide codes in
     ap reverse (sym (remove-append_left wide (cells_of codes) k (omega arith)))
     ∙ removed_is (kept_cells wide codes) stack k place e (omega (arith, long)) (omega (arith, long))
+
+-- no cell is wide
+pub coded_alone : (wide : List Cell) (codes : List ℕ) (stack : List Cell) → length wide ≡ 0 → reverse (kept_cells wide codes) ≡ stack → reverse (cells_of codes) ≡ stack
+coded_alone [] codes stack h e = e
+coded_alone (c ∷ wide) codes stack h e = absurd (omega (arith, h))
+
+pub alone_coded : (P : List Cell → Type 0) (wide : List Cell) (codes : List ℕ) → length wide ≡ 0 → P (reverse (cells_of codes)) → P (reverse (kept_cells wide codes))
+alone_coded P [] codes h p = p
+alone_coded P (c ∷ wide) codes h p = absurd (omega (arith, h))
+
+pub coded_length : (codes : List ℕ) (stack : List Cell) → reverse (cells_of codes) ≡ stack → length codes ≡ length stack
+coded_length codes stack e = sym (length-map codes cell_of_code) ∙ sym (length-reverse (cells_of codes)) ∙ ap length e
 
 -- the same cells in the other direction
 pub upright : (wide : List Cell) (codes : List ℕ) (stack : List Cell) → reverse (kept_cells wide codes) ≡ stack → kept_cells wide codes ≡ reverse stack
