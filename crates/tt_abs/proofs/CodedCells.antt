@@ -112,11 +112,11 @@ written_joined wide codes stack place code other e h lt least =
     let long = kept_length wide codes in
     let turned : length (reverse stack) ≡ length wide + length codes = ap length (sym (upright wide codes stack e)) ∙ long in
     let mine : cell_of_code (get_or codes (place - length wide) 0) ≡ cell_at (reverse stack) place =
-      sym (get_or-map cell_of_code codes (place - length wide) 0 Unknown (omega arith))
-      ∙ sym (get_or-append_right wide (cells_of codes) (length wide) place Unknown refl h)
-      ∙ ap (λ x. cell_at x place) (upright wide codes stack e) in
+    sym (get_or-map cell_of_code codes (place - length wide) 0 Unknown (omega arith))
+    ∙ sym (get_or-append_right wide (cells_of codes) (length wide) place Unknown refl h)
+    ∙ ap (λ x. cell_at x place) (upright wide codes stack e) in
     let new : cell_of_code code ≡ cell_at (reverse (reverse (kept_cells wide (set codes (place - length wide) code)))) place =
-      sym (written_cell wide codes stack place code place e h ∙ get_or-set_same (reverse stack) place (cell_of_code code) Unknown (omega arith)) in
+    sym (written_cell wide codes stack place code place e h ∙ get_or-set_same (reverse stack) place (cell_of_code code) Unknown (omega arith)) in
     let P : Cell → Type 0 = λ x. IsLeastCell x other (cell_of_code code) in
     let Q : Cell → Type 0 = λ x. IsLeastCell (cell_at (reverse stack) place) other x in
     subst Q new (subst P mine least)

@@ -1,6 +1,6 @@
 //! How the stack keeps most of its cells: in numbers of 16 bits, so that cells are compared many at a time.
 
-ghost use Rattle.std.specs.Prelude.{◌≡◌, ℕ, ◌<◌, ◌≤◌, ◌↔◌, ◌+◌, ◌++◌, [], ◌∷◌, IsTrue, IfSome, length, slice_index, map, pos, vec_len, vec_capacity};
+ghost use Rattle.std.specs.Prelude.{◌≡◌, ◌≢◌, ℕ, ◌^◌, ◌<◌, ◌≤◌, ◌↔◌, ◌+◌, ◌++◌, [], ◌∷◌, IsTrue, MatchOption, length, slice_index, map, pos, vec_len, vec_capacity};
 ghost use Rattle.smallvec.specs.SmallVec.{HasRoomFor, small_vec_len};
 ghost use Rattle.tt_abs.specs.declared.cells.Cell.TheVariants.{Known};
 ghost use Rattle.tt_abs.specs.CellOrders.{CellBelow};
@@ -21,7 +21,7 @@ pub const UNKNOWN: u16 = 0x8000;
 
 /// The code of the cell, if it has one: an unknown cell, or a number from -32,767 to 32,767.
 pub fn code_of(cell: Cell) -> Option<u16>
-    ensures { IfSome result (λ code. cell_of_code code ≡ cell) }
+    ensures { MatchOption result ((code : ℕ) → code < 2 ^ 16 → cell_of_code code ≢ cell) (λ code. cell_of_code code ≡ cell) }
 {
     match cell {
         Cell::Known(number) if -32_768 < number && number < 32_768 => {

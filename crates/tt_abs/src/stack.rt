@@ -1,6 +1,6 @@
 //! The stack of cells.
 
-ghost use Rattle.std.specs.Prelude.{◌≡◌, ℕ, ◌↔◌, ◌<◌, ◌≤◌, ◌≢◌, ◌+◌, ◌^◌, ◌++◌, [], ◌∷◌, length, drop, remove, reverse, slice_get, map, pos, IsTrue, IfSome, OnOk, OnErr, IfOk};
+ghost use Rattle.std.specs.Prelude.{◌≡◌, ℕ, ◌↔◌, ◌<◌, ◌≢◌, ◌+◌, ◌^◌, ◌++◌, [], ◌∷◌, length, drop, remove, reverse, slice_get, map, pos, IsTrue, IfSome, OnOk, OnErr, IfOk};
 ghost use Rattle.smallvec.specs.SmallVec.{HasRoomFor};
 ghost use Rattle.tt_code.specs.Computing.{word_number, words};
 ghost use Rattle.tt_abs.specs.Transfers.{cells_on};
@@ -204,7 +204,8 @@ impl Stack {
         let codes = self.codes.len();
         let wide = self.wide.len();
         self.codes.truncate(codes.saturating_sub(count));
-        self.wide.truncate(wide.saturating_sub(count.saturating_sub(codes)));
+        self.wide
+            .truncate(wide.saturating_sub(count.saturating_sub(codes)));
     }
 
     /// Takes one cell out, by its place from the top: 0 is the top.

@@ -11,7 +11,7 @@ returns-then-is_empty-2 c =
     let none : length c.self.inside.wide.items ≡ 0 = omega (arith, c.self.inside.wide.ok.0, eqb-true _ _ (sym c.if-is_empty.ensures)) in
     let none_there : length c.other.inside.wide.items ≡ 0 = omega (arith, c.other.inside.wide.ok.0, eqb-true _ _ (sym c.if-is_empty-2.ensures)) in
     let mine : reverse (cells_of c.as_slice.result.now) ≡ c.args.self.now =
-      ap (λ x. reverse (cells_of x)) c.as_slice.ensures ∙ coded_alone _ _ _ none c.self.view_is in
+    ap (λ x. reverse (cells_of x)) c.as_slice.ensures ∙ coded_alone _ _ _ none c.self.view_is in
     let theirs : reverse (cells_of c.as_slice-then-is_empty-2.result.now) ≡ c.args.other.now =
-      ap (λ x. reverse (cells_of x)) c.as_slice-then-is_empty-2.ensures ∙ coded_alone _ _ _ none_there c.other.view_is in
+    ap (λ x. reverse (cells_of x)) c.as_slice-then-is_empty-2.ensures ∙ coded_alone _ _ _ none_there c.other.view_is in
     (λ h. below_kept _ _ _ _ mine theirs (c.are_below.ensures.0 h), λ h. c.are_below.ensures.1 (kept_below _ _ _ _ mine theirs h))

@@ -18,9 +18,9 @@ returns-then-is_empty-2 c =
     let new = c.join_codes.new.mine in
     let other = c.as_slice.result.now in
     let mine : reverse (cells_of old) ≡ c.args.self.now =
-      ap (λ x. reverse (cells_of x)) c.as_mut_slice.ensures.value ∙ coded_alone _ _ _ none c.self.view_is in
+    ap (λ x. reverse (cells_of x)) c.as_mut_slice.ensures.value ∙ coded_alone _ _ _ none c.self.view_is in
     let theirs : reverse (cells_of other) ≡ c.args.other.now =
-      ap (λ x. reverse (cells_of x)) c.as_slice.ensures ∙ coded_alone _ _ _ none_there c.other.view_is in
+    ap (λ x. reverse (cells_of x)) c.as_slice.ensures ∙ coded_alone _ _ _ none_there c.other.view_is in
     let long : length new ≡ length old = omega arith in
     let same : length old ≡ length other = coded_length _ _ mine ∙ c.requires ∙ sym (coded_length _ _ theirs) in
     let P : List ℕ → Type 0 = λ x. IsLeastAbove stack_order c.args.self.now c.args.other.now (reverse (kept_cells c.self.inside.wide.items x)) in
