@@ -1,12 +1,10 @@
 -- Cells of which those on top are kept as codes, the bottom first.
-use Rattle.std.specs.Int.Bits.{bit_or, bit_xor, or_zero_l, xor_add_and, xor_self}
-use Rattle.std.specs.Prelude.{◌↔◌, reverse, remove}
+use Rattle.std.specs.Prelude.{reverse, remove}
 use Rattle.std.proofs.Common.{◌≡◌, ◌≢◌, ℕ, suc, ◌+◌, ◌-◌, ◌<◌, ◌≤◌, List, [], ◌∷◌, ◌++◌, get_or, refl, sym, ◌∙◌, ap, subst, arith, inl, inr, length, take, drop, set, length-append, append_assoc}
 use Rattle.std.specs.List.{refill}
 use Rattle.std.proofs.Math.Seq.{take-append-add}
 use Rattle.std.proofs.lemmas.Bool.{cases_lt}
-use Rattle.std.proofs.lemmas.Nat.{and_le_l, and_le_r, le_or_l, le_or_r}
-use Rattle.std.proofs.lemmas.List.{append-nil, drop-map, get_or-append_right, get_or-map, get_or-set_other, get_or-set_same, length-map, length-set, map-append, map-set, reverse-append, reverse-reverse, set-append_right, take-append-le, take-map, take_all}
+use Rattle.std.proofs.lemmas.List.{append-nil, drop-map, get_or-append_right, get_or-map, get_or-set_other, get_or-set_same, length-map, length-reverse, length-set, map-append, map-set, reverse-append, reverse-reverse, set-append_right, take-append-le, take-map, take_all}
 use Rattle.std.proofs.lemmas.List.Edits.{remove-append_left, remove-append_right}
 use Rattle.tt_abs.specs.declared.cells.Cell.{Cell}
 use Rattle.tt_abs.specs.declared.cells.Cell.TheVariants.{Unknown}
@@ -15,13 +13,6 @@ use Rattle.tt_abs.specs.Transfers.{cells_on}
 use Rattle.tt_abs.specs.Stacks.{cell_at, IsLeastCell}
 use Rattle.tt_abs.proofs.Reversed.{cut_is, removed_is}
 use Rattle.tt_abs.proofs.StackOrders.{refilled}
-
--- the differences of numbers, gathered by their bits, are none exactly if there is none yet and the two are equal
-pub no_difference : (d a b : ℕ) → (bit_or d (bit_xor a b) ≡ 0) ↔ ((d ≡ 0) × (a ≡ b))
-no_difference d a b = (
-  λ e. (omega (arith, le_or_l d (bit_xor a b), e), omega (arith, le_or_r d (bit_xor a b), e, xor_add_and a b, and_le_l a b, and_le_r a b)),
-  λ p. ap (λ x. bit_or x (bit_xor a b)) p.0 ∙ or_zero_l (bit_xor a b) ∙ ap (λ x. bit_xor x b) p.1 ∙ xor_self b,
-)
 
 pub kept_length : (wide : List Cell) (codes : List ℕ) → length (kept_cells wide codes) ≡ length wide + length codes
 kept_length wide codes = length-append wide (cells_of codes) ∙ ap (λ n. length wide + n) (length-map codes cell_of_code)
@@ -80,6 +71,18 @@ removed_wide wide codes stack place e g h =
     ap reverse (sym (remove-append_left wide (cells_of codes) k (omega arith)))
     ∙ removed_is (kept_cells wide codes) stack k place e (omega (arith, long)) (omega (arith, long))
 
+-- no cell is wide
+pub coded_alone : (wide : List Cell) (codes : List ℕ) (stack : List Cell) → length wide ≡ 0 → reverse (kept_cells wide codes) ≡ stack → reverse (cells_of codes) ≡ stack
+coded_alone [] codes stack h e = e
+coded_alone (c ∷ wide) codes stack h e = absurd (omega (arith, h))
+
+pub alone_coded : (P : List Cell → Type 0) (wide : List Cell) (codes : List ℕ) → length wide ≡ 0 → P (reverse (cells_of codes)) → P (reverse (kept_cells wide codes))
+alone_coded P [] codes h p = p
+alone_coded P (c ∷ wide) codes h p = absurd (omega (arith, h))
+
+pub coded_length : (codes : List ℕ) (stack : List Cell) → reverse (cells_of codes) ≡ stack → length codes ≡ length stack
+coded_length codes stack e = sym (length-map codes cell_of_code) ∙ sym (length-reverse (cells_of codes)) ∙ ap length e
+
 -- the same cells in the other direction
 pub upright : (wide : List Cell) (codes : List ℕ) (stack : List Cell) → reverse (kept_cells wide codes) ≡ stack → kept_cells wide codes ≡ reverse stack
 upright wide codes stack e = sym (reverse-reverse (kept_cells wide codes)) ∙ ap reverse e
@@ -109,11 +112,11 @@ written_joined wide codes stack place code other e h lt least =
     let long = kept_length wide codes in
     let turned : length (reverse stack) ≡ length wide + length codes = ap length (sym (upright wide codes stack e)) ∙ long in
     let mine : cell_of_code (get_or codes (place - length wide) 0) ≡ cell_at (reverse stack) place =
-      sym (get_or-map cell_of_code codes (place - length wide) 0 Unknown (omega arith))
-      ∙ sym (get_or-append_right wide (cells_of codes) (length wide) place Unknown refl h)
-      ∙ ap (λ x. cell_at x place) (upright wide codes stack e) in
+    sym (get_or-map cell_of_code codes (place - length wide) 0 Unknown (omega arith))
+    ∙ sym (get_or-append_right wide (cells_of codes) (length wide) place Unknown refl h)
+    ∙ ap (λ x. cell_at x place) (upright wide codes stack e) in
     let new : cell_of_code code ≡ cell_at (reverse (reverse (kept_cells wide (set codes (place - length wide) code)))) place =
-      sym (written_cell wide codes stack place code place e h ∙ get_or-set_same (reverse stack) place (cell_of_code code) Unknown (omega arith)) in
+    sym (written_cell wide codes stack place code place e h ∙ get_or-set_same (reverse stack) place (cell_of_code code) Unknown (omega arith)) in
     let P : Cell → Type 0 = λ x. IsLeastCell x other (cell_of_code code) in
     let Q : Cell → Type 0 = λ x. IsLeastCell (cell_at (reverse stack) place) other x in
     subst Q new (subst P mine least)

@@ -1,4 +1,5 @@
 pub mod Reversed
+pub mod CodeLists
 pub mod CodedCells
 pub mod StackOrders
 pub mod CoverageLemmas

@@ -112,3 +112,18 @@ least_from_places a b c same long h =
 -- a whole list written over
 pub refilled : {A : Type 0} (xs ws : List A) → length ws ≡ length xs → refill (length xs) xs ws ≡ ws
 refilled xs ws e = take_at ws (drop (length ws) xs) (length xs) e
+
+-- below, when both are kept in the other direction
+pub below_kept : (mine theirs a b : List Cell) → reverse mine ≡ a → reverse theirs ≡ b → StackBelow mine theirs → StackBelow a b
+below_kept mine theirs a b p q h = let P : List Cell → Type 0 = λ x. StackBelow x b in let Q : List Cell → Type 0 = λ x. StackBelow (reverse mine) x in
+    subst P p (subst Q q (StackBelow-reverse mine theirs h))
+
+pub kept_below : (mine theirs a b : List Cell) → reverse mine ≡ a → reverse theirs ≡ b → StackBelow a b → StackBelow mine theirs
+kept_below mine theirs a b p q h = below_kept a b mine theirs (ap reverse (sym p) ∙ reverse-reverse mine) (ap reverse (sym q) ∙ reverse-reverse theirs) h
+
+pub least_kept : (mine theirs new a b : List Cell) → reverse mine ≡ a → reverse theirs ≡ b → IsLeastAbove stack_order mine theirs new
+    → IsLeastAbove stack_order a b (reverse new)
+least_kept mine theirs new a b p q h =
+    let P : List Cell → Type 0 = λ x. IsLeastAbove stack_order x b (reverse new) in
+    let Q : List Cell → Type 0 = λ x. IsLeastAbove stack_order (reverse mine) x (reverse new) in
+    subst P p (subst Q q (least-reverse mine theirs new h))

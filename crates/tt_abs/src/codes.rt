@@ -1,10 +1,11 @@
 //! How the stack keeps most of its cells: in numbers of 16 bits, so that cells are compared many at a time.
 
-ghost use Rattle.std.specs.Prelude.{◌≡◌, ◌≤◌, ◌↔◌, ◌+◌, ◌++◌, [], ◌∷◌, IsTrue, IfSome, length, map, pos, vec_len, vec_capacity};
+ghost use Rattle.std.specs.Prelude.{◌≡◌, ◌≢◌, ℕ, ◌^◌, ◌<◌, ◌≤◌, ◌↔◌, ◌+◌, ◌++◌, [], ◌∷◌, IsTrue, MatchOption, length, slice_index, map, pos, vec_len, vec_capacity};
 ghost use Rattle.smallvec.specs.SmallVec.{HasRoomFor, small_vec_len};
 ghost use Rattle.tt_abs.specs.declared.cells.Cell.TheVariants.{Known};
+ghost use Rattle.tt_abs.specs.CellOrders.{CellBelow};
 ghost use Rattle.tt_abs.specs.Codes.{cell_of_code, cells_of};
-ghost use Rattle.tt_abs.specs.Stacks.{IsLeastCell};
+ghost use Rattle.tt_abs.specs.Stacks.{IsLeastCell, StackBelow};
 
 use crate::cells::Cell;
 use smallvec::SmallVec;
@@ -20,7 +21,7 @@ pub const UNKNOWN: u16 = 0x8000;
 
 /// The code of the cell, if it has one: an unknown cell, or a number from -32,767 to 32,767.
 pub fn code_of(cell: Cell) -> Option<u16>
-    ensures { IfSome result (λ code. cell_of_code code ≡ cell) }
+    ensures { MatchOption result ((code : ℕ) → code < 2 ^ 16 → cell_of_code code ≢ cell) (λ code. cell_of_code code ≡ cell) }
 {
     match cell {
         Cell::Known(number) if -32_768 < number && number < 32_768 => {
@@ -54,7 +55,26 @@ pub fn are_equal(mine: &[u16], theirs: &[u16]) -> bool
     difference == 0
 }
 
-/// A code of the least cell above both.
+/// Whether the second one's cell covers whatever the first one's does.
+fn is_below(mine: u16, theirs: u16) -> bool
+    ensures { IsTrue result ↔ CellBelow (cell_of_code mine) (cell_of_code theirs) }
+{
+    (mine == theirs) | (theirs == UNKNOWN)
+}
+
+/// Whether each cell is below its partner, of cells that are as many.
+pub fn are_below(mine: &[u16], theirs: &[u16]) -> bool
+    requires { length mine.now ≡ length theirs.now }
+    ensures { IsTrue result ↔ StackBelow (cells_of mine.now) (cells_of theirs.now) }
+{
+    let mut all = true;
+    for i in 0..mine.len() {
+        all = all & is_below(mine[i], theirs[i]);
+    }
+    all
+}
+
+/// A code of the least cell above both, of which one is given by its code.
 pub fn joined(mine: u16, theirs: Cell) -> u16
     ensures { IsLeastCell (cell_of_code mine) theirs (cell_of_code result) }
 {
@@ -62,6 +82,23 @@ pub fn joined(mine: u16, theirs: Cell) -> u16
         mine
     } else {
         UNKNOWN
+    }
+}
+
+/// A code of the least cell above both.
+fn joined_code(mine: u16, theirs: u16) -> u16
+    ensures { IsLeastCell (cell_of_code mine) (cell_of_code theirs) (cell_of_code result) }
+{
+    if mine == theirs { mine } else { UNKNOWN }
+}
+
+/// Makes each cell the least one above it and its partner, of cells that are as many.
+pub fn join_codes(mine: &mut [u16], theirs: &[u16])
+    requires { length mine.old ≡ length theirs.now }
+    ensures { (k : ℕ) → k < length mine.old → IsLeastCell (cell_of_code (slice_index mine.old k)) (cell_of_code (slice_index theirs.now k)) (cell_of_code (slice_index mine.new k)) }
+{
+    for i in 0..mine.len() {
+        mine[i] = joined_code(mine[i], theirs[i]);
     }
 }
 

@@ -1,6 +1,6 @@
 //! The stack of cells.
 
-ghost use Rattle.std.specs.Prelude.{◌≡◌, ℕ, ◌↔◌, ◌<◌, ◌≤◌, ◌≢◌, ◌+◌, ◌^◌, ◌++◌, [], ◌∷◌, length, drop, remove, reverse, slice_get, map, pos, IsTrue, IfSome, OnOk, OnErr, IfOk};
+ghost use Rattle.std.specs.Prelude.{◌≡◌, ℕ, ◌↔◌, ◌<◌, ◌≢◌, ◌+◌, ◌^◌, ◌++◌, [], ◌∷◌, length, drop, remove, reverse, slice_get, map, pos, IsTrue, IfSome, OnOk, OnErr, IfOk};
 ghost use Rattle.smallvec.specs.SmallVec.{HasRoomFor};
 ghost use Rattle.tt_code.specs.Computing.{word_number, words};
 ghost use Rattle.tt_abs.specs.Transfers.{cells_on};
@@ -11,7 +11,8 @@ ghost use Rattle.tt_abs.specs.Stacks.{IsLeastCell, StackBelow, cell_at, first, s
 
 use crate::cells::Cell;
 use crate::codes::{
-    Codes, INLINE_CELLS, append_bytes, append_cells, are_equal, cell_of, code_of, joined,
+    Codes, INLINE_CELLS, append_bytes, append_cells, are_below, are_equal, cell_of, code_of,
+    join_codes, joined,
 };
 use crate::order::{AbsFault, Order};
 use smallvec::SmallVec;
@@ -203,7 +204,8 @@ impl Stack {
         let codes = self.codes.len();
         let wide = self.wide.len();
         self.codes.truncate(codes.saturating_sub(count));
-        self.wide.truncate(wide.saturating_sub(count.saturating_sub(codes)));
+        self.wide
+            .truncate(wide.saturating_sub(count.saturating_sub(codes)));
     }
 
     /// Takes one cell out, by its place from the top: 0 is the top.
@@ -294,8 +296,8 @@ impl Stack {
         self.len() == other.len() && (self.has_same_parts(other) || self.partners_same(other))
     }
 
-    /// Whether each cell is below its partner, of cells that are as many.
-    fn partners_below(&self, other: &Stack) -> bool
+    /// Whether each cell is below its partner, of cells that are as many, place by place.
+    fn places_below(&self, other: &Stack) -> bool
         requires { length self.now ≡ length other.now }
         ensures { IsTrue result ↔ StackBelow self.now other.now }
     {
@@ -305,6 +307,18 @@ impl Stack {
             }
         }
         true
+    }
+
+    /// Whether each cell is below its partner, of cells that are as many.
+    fn partners_below(&self, other: &Stack) -> bool
+        requires { length self.now ≡ length other.now }
+        ensures { IsTrue result ↔ StackBelow self.now other.now }
+    {
+        if self.wide.is_empty() && other.wide.is_empty() {
+            are_below(self.codes.as_slice(), other.codes.as_slice())
+        } else {
+            self.places_below(other)
+        }
     }
 
     /// Makes the cell at a place, from the bottom, the least one above it and another one.
@@ -323,13 +337,25 @@ impl Stack {
         }
     }
 
-    /// Becomes the least stack above both, cell by cell, without memory.
-    pub fn raise(&mut self, other: &Stack)
+    /// Becomes the least stack above both, place by place.
+    fn join_places(&mut self, other: &Stack)
         requires { length self.old ≡ length other.now }
         ensures { IsLeastAbove stack_order self.old other.now self.new }
     {
         for place in 0..self.len() {
             self.join_at(place, other.at(place));
+        }
+    }
+
+    /// Becomes the least stack above both, cell by cell, without memory.
+    pub fn raise(&mut self, other: &Stack)
+        requires { length self.old ≡ length other.now }
+        ensures { IsLeastAbove stack_order self.old other.now self.new }
+    {
+        if self.wide.is_empty() && other.wide.is_empty() {
+            join_codes(self.codes.as_mut_slice(), other.codes.as_slice());
+        } else {
+            self.join_places(other);
         }
     }
 }

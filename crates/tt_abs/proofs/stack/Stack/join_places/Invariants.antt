@@ -1,7 +1,7 @@
 use Rattle.std.proofs.Common.{◌≡◌, ℕ, length, ◌<◌, ◌≤◌}
 use Rattle.std.specs.Prelude.{reverse}
 use Rattle.tt_abs.specs.Stacks.{cell_at, IsLeastCell}
-use Rattle.tt_abs.proofs.stack.Stack.raise.Given as goal
+use Rattle.tt_abs.proofs.stack.Stack.join_places.Given as goal
 
 abbrev pub invariant-loop-place : goal.invariant-loop-place
 invariant-loop-place l = record {
