@@ -17,7 +17,6 @@ ghost use Rattle.hintcheck.specs.Programs.{HasLeastFamily, IsCutInto, IsRefusal,
 use crate::look::{LookFault, cut, look};
 use crate::report::{Name, Refused, Verdict};
 use std::alloc::{AllocError, Global};
-use std::mem;
 use tt_abs::{Kind, Setting};
 use tt_cert::Builder;
 use tt_code::Program;
@@ -36,7 +35,8 @@ fn end_functions(
     ensures known { (x : Subject) → IsLookedAt x name setting.now → IfOk result (λ functions. IsKnownAtEnd x setting.now.main.now functions.items) }
     ensures refused { (x : Subject) → IsLookedAt x name setting.now → IfErr result (λ fault. IfRefused fault (IsRefusal x)) }
 {
-    let certificate = look(alloc, Builder::new(alloc), name, setting)?;
+    let mut memory = Builder::new(alloc);
+    let certificate = look(alloc, &mut memory, name, setting)?;
     // An accepted font program or CVT program has a state at its end.
     let functions = certificate.end_functions(setting.main.len()).unwrap();
     match Vec::from_slice(alloc, functions) {
@@ -104,7 +104,7 @@ struct Common<'a> {
     known: &'a [(u16, u32)],
 }
 
-/// Looks at the program of the glyph with this number, in a builder's memory, which the builder has again where the program is accepted.
+/// Looks at the program of the glyph with this number, in a builder's memory, which the builder has again where memory doesn't run out.
 fn look_at_glyph(
     alloc: Global,
     memory: &mut Builder,
@@ -132,14 +132,9 @@ fn look_at_glyph(
         prep: common.prep,
         start: common.known,
     };
-    let builder = mem::replace(memory, Builder::new(alloc));
-    match look(alloc, builder, name, &setting) {
-        Ok(certificate) => {
-            *memory = certificate.into_builder();
-            Ok(())
-        }
-        Err(fault) => Err(fault),
-    }
+    let certificate = look(alloc, memory, name, &setting)?;
+    *memory = certificate.into_builder();
+    Ok(())
 }
 
 /// Looks at each glyph program: the refused ones, by rising numbers of their glyphs. Each program is looked at in the memory of those

@@ -62,7 +62,8 @@ fn look_at(alloc: Global, glyph: &Glyph, program: &[u8]) -> Result<(), LookFault
         prep: &empty,
         start: &[],
     };
-    match look(alloc, Builder::new(alloc), name, &setting) {
+    let mut memory = Builder::new(alloc);
+    match look(alloc, &mut memory, name, &setting) {
         Ok(_) => Ok(()),
         Err(fault) => Err(fault),
     }

@@ -72,9 +72,10 @@ pub(crate) fn cut<'a>(alloc: Global, name: Name, bytes: &'a [u8]) -> Result<Prog
     }
 }
 
-/// The certificate, if the check accepts it.
+/// The certificate, if the check accepts it; where it refuses, a builder has its memory.
 fn checked(
     alloc: Global,
+    memory: &mut Builder,
     name: Name,
     setting: &Setting<'_>,
     certificate: Certificate,
@@ -93,19 +94,23 @@ fn checked(
                 offset,
                 reason,
             },
-        ) => Err(refused_at(name, spot, offset, reason)),
+        ) => {
+            *memory = certificate.into_builder();
+            Err(refused_at(name, spot, offset, reason))
+        }
         Err(CheckFault::OutOfMemory(error)) => Err(LookFault::OutOfMemory(error)),
     }
 }
 
 /// Looks at the program of this name and this setting, whose family of abstract states is found in a builder's memory and then checked. A
-/// family that is found passes the check, which alone accepts.
+/// family that is found passes the check, which alone accepts. Its certificate has that memory; where the program is refused, the builder
+/// keeps it. What the builder holds afterwards says nothing.
 ///
 /// # Errors
 /// `Refused` where no family is found; `OutOfMemory`.
 pub(crate) fn look(
     alloc: Global,
-    memory: Builder,
+    memory: &mut Builder,
     name: Name,
     setting: &Setting<'_>,
 ) -> Result<Certificate, LookFault>
@@ -118,7 +123,7 @@ pub(crate) fn look(
 {
     setting.is_within();
     match find_in(alloc, memory, setting) {
-        Ok(found) => checked(alloc, name, setting, found.certificate),
+        Ok(found) => checked(alloc, memory, name, setting, found.certificate),
         Err(
             FindFault::Refused {
                 spot,

@@ -8,13 +8,14 @@ ghost use Rattle.tt_abs.specs.StateFlow.{FitsLimits, FunctionsFit, Place, height
 ghost use Rattle.tt_cert.specs.Contents.{family_of, points_of};
 ghost use Rattle.tt_cert.specs.GoodFamilies.{IsGoodFamily};
 ghost use Rattle.tt_find.specs.Found.{IsJustified, IsLeast, IsNeverEnding, IsWantOfMemory, LacksEnd, NamesPlace, NoneIsGood};
-ghost use Rattle.tt_find.specs.Tables.{HasLaws, IsWhole};
+ghost use Rattle.tt_find.specs.Tables.{HasLaws, IsEmptyTable, IsWhole};
 
 use crate::fault::FindFault;
 use crate::following::follow;
 use crate::table::Table;
 use crate::walk::Walk;
 use std::alloc::{AllocError, Global};
+use std::mem;
 use tt_abs::Setting;
 use tt_abs::laws::flow_laws;
 use tt_cert::{Builder, Certificate, Spot, ends_well, is_short};
@@ -39,25 +40,25 @@ fn has_laws(setting: &Setting<'_>)
     prove!(u32::from(setting.limits.storage) < 1 << 16);
 }
 
-/// The table when no point is left that is new or has changed, from the start alone, in a builder's memory.
-fn filled(alloc: Global, builder: Builder, setting: &Setting<'_>) -> Result<Table, FindFault>
+/// Fills an empty table, from the start on, until no point is left that is new or has changed.
+fn fill(alloc: Global, table: &mut Table, setting: &Setting<'_>) -> Result<(), FindFault>
     requires rises { Rises setting.now.start.now }
     requires laws { HasLaws (setting_of setting.now) setting.now.start.now }
-    ensures whole { IfOk result (IsWhole (setting_of setting.now) setting.now.start.now) }
-    ensures none { IfOk result (λ table. table.marked ≡ []) }
+    requires empty { IsEmptyTable table.old }
+    ensures whole { IfOk result (λ _. IsWhole (setting_of setting.now) setting.now.start.now table.new) }
+    ensures none { IfOk result (λ _. table.new.marked ≡ []) }
     ensures justified { IfErr result (NamesPlace (IsJustified (setting_of setting.now) setting.now.start.now)) }
 {
-    let mut table = Table::new(alloc, builder);
     let mut walk = Walk::start(alloc, setting.start)?;
-    let Ok(()) = walk.put(&mut table, 0, 0) else {
+    let Ok(()) = walk.put(table, 0, 0) else {
         return Err(FindFault::OutOfMemory(AllocError));
     };
     while let Some((context, offset)) = table.marked.pop_first() {
-        if let Err(fault) = follow(&mut table, &mut walk, setting, context, offset) {
+        if let Err(fault) = follow(table, &mut walk, setting, context, offset) {
             return Err(fault);
         }
     }
-    Ok(table)
+    Ok(())
 }
 
 /// The fault at a place of the main program.
@@ -92,14 +93,20 @@ pub fn find(alloc: Global, setting: &Setting<'_>) -> Result<Found, FindFault>
     ensures never_ends { (family : Place → Option AnyState) → LacksEnd (setting_of setting.now) setting.now.start.now family
         → IfOk result (λ _. ⊥) × IfErr result (λ fault. IsWantOfMemory fault ⊎ IsNeverEnding fault) }
 {
-    find_in(alloc, Builder::new(alloc), setting)
+    let mut memory = Builder::new(alloc);
+    find_in(alloc, &mut memory, setting)
 }
 
-/// The least family as `find` finds it, in the memory of a builder; what that builder holds is taken away.
+/// The least family as `find` finds it, in the memory of a builder; what that builder holds is taken away. Where a family is found, its
+/// certificate has that memory; where the program is refused, the builder keeps it. What the builder holds afterwards says nothing.
 ///
 /// # Errors
 /// As `find`.
-pub fn find_in(alloc: Global, builder: Builder, setting: &Setting<'_>) -> Result<Found, FindFault>
+pub fn find_in(
+    alloc: Global,
+    memory: &mut Builder,
+    setting: &Setting<'_>,
+) -> Result<Found, FindFault>
     requires rises { Rises setting.now.start.now }
     requires fits { FunctionsFit (setting_of setting.now) setting.now.start.now }
     ensures good { IfOk result (λ found. IsGoodFamily (setting_of setting.now) setting.now.start.now (family_of found.certificate)) }
@@ -117,11 +124,13 @@ pub fn find_in(alloc: Global, builder: Builder, setting: &Setting<'_>) -> Result
         let most = u32::from(setting.limits.program_size);
         return Err(refused_in_main(most, Reason::ProgramTooLong));
     }
-    let table = match filled(alloc, builder, setting) {
-        Ok(table) => table,
-        Err(fault) => return Err(fault),
-    };
+    let mut table = Table::new(alloc, mem::replace(memory, Builder::new(alloc)));
+    if let Err(fault) = fill(alloc, &mut table, setting) {
+        *memory = table.builder;
+        return Err(fault);
+    }
     if !ends_well(setting, &table.builder) {
+        *memory = table.builder;
         return Err(refused_in_main(0, Reason::NeverEnds));
     }
     let Ok(certificate) = table.builder.finish() else {

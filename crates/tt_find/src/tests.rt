@@ -9,7 +9,7 @@ use crate::*;
 use std::alloc::Global;
 use std::test::Fail;
 use tt_abs::{Kind, Order, Setting};
-use tt_cert::{Certificate, Spot};
+use tt_cert::{Builder, Certificate, Spot};
 use tt_code::{Limits, Program, Reason};
 
 /// What the finder tells.
@@ -278,17 +278,21 @@ fn are_same(one: &Certificate, other: &Certificate, length: u32) -> bool {
     true
 }
 
-/// Is the same found of a setting in the memory of what was found of another one as in memory of its own?
+/// Is the same found of a setting in the memory that another one was looked at in as in memory of its own?
 fn is_found_again(alloc: Global, used: &Setting<'_>, setting: &Setting<'_>) -> bool
     requires used_rises { Rises used.now.start.now }
     requires used_fits { FunctionsFit (setting_of used.now) used.now.start.now }
     requires rises { Rises setting.now.start.now }
     requires fits { FunctionsFit (setting_of setting.now) setting.now.start.now }
 {
-    let (Ok(used), Ok(alone)) = (find(alloc, used), find(alloc, setting)) else {
+    let Ok(alone) = find(alloc, setting) else {
         return false;
     };
-    match find_in(alloc, used.certificate.into_builder(), setting) {
+    let mut memory = Builder::new(alloc);
+    if let Ok(used) = find_in(alloc, &mut memory, used) {
+        memory = used.certificate.into_builder();
+    }
+    match find_in(alloc, &mut memory, setting) {
         Ok(again) => {
             again.updates == alone.updates && are_same(&again.certificate, &alone.certificate, 64)
         }
@@ -297,7 +301,7 @@ fn is_found_again(alloc: Global, used: &Setting<'_>, setting: &Setting<'_>) -> b
 }
 
 #[test]
-fn memory_of_another_certificate(rt: HostRuntime) {
+fn memory_of_another_program(rt: HostRuntime) {
     let alloc = rt.alloc();
     // PUSHB 1, 2, 3, 3, 0; LOOPCALL.
     let used = Program::cut(alloc, &[0xb4, 0x01, 0x02, 0x03, 0x03, 0x00, 0x2a]);
@@ -308,7 +312,14 @@ fn memory_of_another_certificate(rt: HostRuntime) {
             0x4b, 0x58, 0xb0, 0x01, 0x1b, 0xb0, 0x02, 0x59, 0xb0, 0x00, 0x2b,
         ],
     );
-    let (Ok(font), Ok(used), Ok(main)) = (Program::cut(alloc, &POPPING), used, main) else {
+    // PUSHB 1; PUSHB 0; CALL; ADD, for which two numbers are missing.
+    let refused = Program::cut(alloc, &[0xb0, 0x01, 0xb0, 0x00, 0x2b, 0x60]);
+    let (Ok(font), Ok(used), Ok(refused), Ok(main)) = (
+        Program::cut(alloc, &POPPING),
+        used,
+        refused,
+        main,
+    ) else {
         assert!(rt; false, "the programs can be cut");
         return;
     };
@@ -325,7 +336,13 @@ fn memory_of_another_certificate(rt: HostRuntime) {
         main: &used,
         ..setting
     };
+    let without = Setting {
+        main: &refused,
+        ..setting
+    };
     assert!(rt; is_found_again(alloc, &before, &setting));
+    assert!(rt; find(alloc, &without).is_err());
+    assert!(rt; is_found_again(alloc, &without, &setting));
     assert!(rt; is_found_again(alloc, &setting, &before));
     assert!(rt; is_found_again(alloc, &setting, &setting));
 }

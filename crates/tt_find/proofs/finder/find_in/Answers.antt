@@ -34,8 +34,8 @@ returns-then-not-ends_well-clause-justified c =
     let S = setting_of c.args.setting.now in
     let f : c.ends_well.result ≡ false = search rules in
     names_at (IsJustified S c.args.setting.now.start.now) ([], 0) NeverEnds c.refused_in_main-then-not-ends_well.result c.refused_in_main-then-not-ends_well.ensures
-    (never_ends (family_of c.in-Ok.table.builder)
-    (lacks_end S c.args.setting.now.start.now c.has_laws.ensures c.in-Ok.table c.in-Ok.ensures.whole c.in-Ok.ensures.none (λ h. not_both c.ends_well.result f (c.ends_well.ensures.1 h))))
+    (never_ends (family_of c.fill.new.table.builder)
+    (lacks_end S c.args.setting.now.start.now c.has_laws.ensures c.fill.new.table c.in_default.ensures.whole c.in_default.ensures.none (λ h. not_both c.ends_well.result f (c.ends_well.ensures.1 h))))
 
 pub returns-clause-good : goal.returns-clause-good
 returns-clause-good c =
@@ -43,22 +43,22 @@ returns-clause-good c =
     let G : (Place → Option State) → Type 0 = λ x. IsGoodFamily S c.args.setting.now.start.now x in
     let t : c.is_short.result ≡ true = search rules in
     let u : c.ends_well.result ≡ true = search rules in
-    subst G (same_family c.in-Ok.table.builder c.in-Ok-finish.certificate c.in-Ok-finish.ensures.same.family)
-    (whole_good S c.args.setting.now.start.now c.has_laws.ensures c.in-Ok.table c.in-Ok.ensures.whole c.in-Ok.ensures.none (c.is_short.ensures.0 t) (c.ends_well.ensures.0 u))
+    subst G (same_family c.fill.new.table.builder c.in-Ok.certificate c.in-Ok.ensures.same.family)
+    (whole_good S c.args.setting.now.start.now c.has_laws.ensures c.fill.new.table c.in_default.ensures.whole c.in_default.ensures.none (c.is_short.ensures.0 t) (c.ends_well.ensures.0 u))
 
 pub returns-clause-least : goal.returns-clause-least
 returns-clause-least c =
     let S = setting_of c.args.setting.now in
     let L : (Place → Option State) → Type 0 = λ x. IsLeast S c.args.setting.now.start.now x in
-    subst L (same_family c.in-Ok.table.builder c.in-Ok-finish.certificate c.in-Ok-finish.ensures.same.family)
-    (least_left S c.args.setting.now.start.now c.has_laws.ensures c.in-Ok.table c.in-Ok.ensures.whole)
+    subst L (same_family c.fill.new.table.builder c.in-Ok.certificate c.in-Ok.ensures.same.family)
+    (least_left S c.args.setting.now.start.now c.has_laws.ensures c.fill.new.table c.in_default.ensures.whole)
 
 pub returns-clause-within : goal.returns-clause-within
 returns-clause-within c = λ p a at.
     fits_of (setting_of c.args.setting.now) c.args.setting.now.start.now c.has_laws.ensures p a
-    (c.in-Ok.ensures.whole.kept.sound.derived p a (sym (c.in-Ok-finish.ensures.same.family p) ∙ at))
+    (c.in_default.ensures.whole.kept.sound.derived p a (sym (c.in-Ok.ensures.same.family p) ∙ at))
 
 pub returns-clause-never_ends : goal.returns-clause-never_ends
 returns-clause-never_ends c = λ family lacks.
     let u : c.ends_well.result ≡ true = search rules in
-    (never_both (setting_of c.args.setting.now) c.args.setting.now.start.now c.has_laws.ensures (family_of c.in-Ok.table.builder) family c.in-Ok.ensures.whole.kept.sound.derived (c.ends_well.ensures.0 u) lacks, tt)
+    (never_both (setting_of c.args.setting.now) c.args.setting.now.start.now c.has_laws.ensures (family_of c.fill.new.table.builder) family c.in_default.ensures.whole.kept.sound.derived (c.ends_well.ensures.0 u) lacks, tt)

@@ -7,12 +7,12 @@ use Rattle.tt_find.proofs.Budget.{measure_falls, updates_fit}
 use Rattle.tt_find.proofs.Marked.{held_first}
 use Rattle.tt_find.proofs.Points.{table_popped}
 use Rattle.tt_find.proofs.Starting.{whole_start}
-use Rattle.tt_find.proofs.finder.filled.Goals as goal
+use Rattle.tt_find.proofs.finder.fill.Goals as goal
 
 pub loop-context-init : goal.loop-context-init
 loop-context-init c = record {
-  whole = whole_start (setting_of c.args.setting.now) c.args.setting.now.start.now c.requires.laws c.new-table.result c.put.new.table c.in_ok-walk.walk.state c.in_ok-walk.ensures.state
-      c.new-table.ensures c.in-Ok.ensures.put;
+  whole = whole_start (setting_of c.args.setting.now) c.args.setting.now.start.now c.requires.laws c.args.table.now c.put.new.table c.in_ok-walk.walk.state c.in_ok-walk.ensures.state
+      c.requires.empty c.in-Ok.ensures.put;
   walk = c.in-Ok.ensures.walk;
 }
 

@@ -2,7 +2,7 @@ use Rattle.std.proofs.Common.{◌+◌, ◌*◌, ◌-◌, length}
 use Rattle.tt_abs.specs.Settings.{setting_of}
 use Rattle.tt_abs.specs.StateFlow.{height_of}
 use Rattle.tt_find.specs.Tables.{IsWalk, IsWhole}
-use Rattle.tt_find.proofs.finder.filled.Given as goal
+use Rattle.tt_find.proofs.finder.fill.Given as goal
 
 abbrev pub invariant-loop-context : goal.invariant-loop-context
 invariant-loop-context l = record { whole : IsWhole (setting_of l.setting) l.setting.start.now l.table; walk : IsWalk l.table.builder l.walk }
