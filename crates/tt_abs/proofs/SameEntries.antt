@@ -8,7 +8,7 @@ use Rattle.std.proofs.lemmas.Bool.Decides.{Decides-and, Decides-eqb, Decides-lik
 use Rattle.std.proofs.lemmas.Nat.{le_or_l, le_or_r}
 use Rattle.std.proofs.lemmas.Slice.Eq.{slice_eq-Decides}
 use Rattle.tt_abs.specs.EntryLists.{IsEquality}
-use Rattle.tt_abs.proofs.CodedCells.{no_difference}
+use Rattle.tt_abs.proofs.CodeLists.{no_difference}
 
 -- whether two entries are the same
 entry-decides : {V : Type 0} (same : V → V → Bool) → IsEquality same → (x y : ℕ × V) → Decides (nat_eq x.0 y.0 && same x.1 y.1) (x ≡ y)
