@@ -1,5 +1,5 @@
 -- Rows of points: what a search finds in them, and what is left of it all when a point is put behind a row or beside the rows.
-use Rattle.std.specs.Prelude.{◌≡◌, ◌≢◌, ℕ, zero, suc, ◌+◌, ◌≤◌, ◌<◌, true, false, cond, nat_eq, if◌then◌else◌, Option, Some, None, Result, Ok, Err, OnOk, OnErr, List, [], ◌∷◌, ◌++◌, length, slice_index_or, slice_set}
+use Rattle.std.specs.Prelude.{◌≡◌, ◌≢◌, ℕ, zero, suc, ◌+◌, ◌≤◌, ◌<◌, true, false, cond, nat_eq, if◌then◌else◌, Option, Some, None, Result, Ok, Err, OnOk, OnErr, List, [], ◌∷◌, ◌++◌, length, slice_index_or, slice_set, min, max, take}
 use Rattle.std.specs.declared.cmp.Ordering.{Ordering}
 use Rattle.std.specs.declared.cmp.Ordering.TheVariants.{Less, Equal, Greater}
 use Rattle.std.specs.Ordering.{nat_cmp, ordering_then, is_eq}
@@ -10,13 +10,13 @@ use Rattle.std.specs.List.Sorted.{IsStrictlySortedBy}
 use Rattle.std.specs.Map.{keys_of}
 use Rattle.std.specs.BTreeMap.{is_at, insert_entry}
 use Rattle.std.proofs.Common.{refl, sym, ◌∙◌, ap, subst, arith, inl, inr}
-use Rattle.std.proofs.lemmas.Bool.{cases_eq, eq-eqb, ne_eqb}
+use Rattle.std.proofs.lemmas.Bool.{cases_eq, cases_lt, eq-eqb, ne_eqb}
 use Rattle.std.proofs.lemmas.Cmp.{tied_itself}
-use Rattle.std.proofs.lemmas.List.{get_or-set_same, get_or-set_other, set-get_or, length-set}
+use Rattle.std.proofs.lemmas.List.{get_or-set_same, get_or-set_other, set-get_or, length-append, length-set}
 use Rattle.std.proofs.lemmas.Option.{slice_get_read, get_or_from_slice_get}
 use Rattle.tt_abs.specs.Entries.{Rises, listed}
 use Rattle.tt_cert.specs.Places.{place_cmp, states_of}
-use Rattle.tt_cert.specs.PlaceRows.{Point, Offsets, row_points, rows_points, merged, row_of, AreBelow, AreApart, ArePlaces, AddsRows}
+use Rattle.tt_cert.specs.PlaceRows.{Point, Offsets, row_points, rows_points, merged, row_of, AreBelow, AreApart, AreEmptyFrom, ArePlaces, AddsRows}
 use Rattle.tt_cert.proofs.Puts.{places_apart}
 use Rattle.tt_cert.proofs.Putting.{place_total}
 use Rattle.tt_cert.proofs.RowEnds.{listed_below, listed_pushed, rises_pushed, below_first}
@@ -175,12 +175,13 @@ no_other_row (row ∷ rows) zero = refl
 no_other_row (row ∷ rows) (suc c) = no_other_row rows c
 
 pub adds_none : (rows : List Offsets) → AddsRows rows rows
-adds_none rows = record { points = λ c. refl; rows = λ c. refl }
+adds_none rows = record { points = λ c. refl; rows = λ c. refl; longer = omega arith }
 
 pub adds_one : (old rows new : List Offsets) → AddsRows old rows → new ≡ rows ++ [] ∷ [] → AddsRows old new
 adds_one old rows new adds is = record {
   points = λ c. ap (rows_points c) is ∙ no_more_points c rows ∙ adds.points c;
   rows = λ c. ap (λ l. row_of l c) is ∙ no_other_row rows c ∙ adds.rows c;
+  longer = let before = adds.longer in let long = ap length is ∙ length-append rows ([] ∷ []) in omega arith;
 }
 
 pub places_with_rows : (old new : List Offsets) (rest : List Point) → ArePlaces old rest → AddsRows old new → length new ≤ 4294967296 → ArePlaces new rest
@@ -197,6 +198,63 @@ places_with_rows old new rest places adds fits =
 pub no_points : (c : ℕ) (rows : List Offsets) → ((i : ℕ) → row_of rows i ≡ []) → rows_points c rows ≡ []
 no_points c [] empty = refl
 no_points c (row ∷ rows) empty = let none : row ≡ [] = empty 0 in ap (λ r. row_points c r ++ rows_points (suc c) rows) none ∙ no_points (suc c) rows (λ i. empty (suc i))
+
+-- the rows from one on are empty
+
+pub used_points : (b used : ℕ) (rows : List Offsets) → ((c : ℕ) → used ≤ c → row_of rows c ≡ []) → rows_points b (take used rows) ≡ rows_points b rows
+used_points b zero [] empty = refl
+used_points b (suc used) [] empty = refl
+used_points b zero (row ∷ rows) empty = sym (no_points b (row ∷ rows) (λ i. empty i (omega arith)))
+used_points b (suc used) (row ∷ rows) empty = ap (λ l. row_points b row ++ l) (used_points (suc b) used rows (λ c le. empty (suc c) (omega arith)))
+
+pub empty_added : (old new : List Offsets) (used : ℕ) → AreEmptyFrom used old → AddsRows old new → AreEmptyFrom used new
+empty_added old new used empty adds = record {
+  within = let before = empty.within in let longer = adds.longer in omega arith;
+  behind = λ c le. adds.rows c ∙ empty.behind c le;
+}
+
+pub used_after : (used more c : ℕ) (old new : List Offsets) → AreEmptyFrom used old → AddsRows old new → c < length new → more ≡ max used (c + 1) → AreEmptyFrom more new
+used_after used more c old new empty adds enough most = record {
+  within = let before = empty.within in let longer = adds.longer in omega arith;
+  behind = λ i le. adds.rows i ∙ empty.behind i (omega arith);
+}
+
+pub empty_behind_set : (rows : List Offsets) (c used : ℕ) (row : Offsets) → c < used → AreEmptyFrom used rows → AreEmptyFrom used (slice_set rows c row)
+empty_behind_set rows c used row before empty = record {
+  within = let within = empty.within in let long = length-set rows c row in omega arith;
+  behind = λ c' le. get_or-set_other rows c c' row [] (λ same. let e = same in absurd (omega arith)) ∙ empty.behind c' le;
+}
+
+pub empty_before_set : (rows : List Offsets) (c used : ℕ) (row : Offsets) → ((i : ℕ) → i < c → row_of rows i ≡ []) → AreEmptyFrom used rows → c < used → row ≡ []
+    → (i : ℕ) → i < c + 1 → row_of (slice_set rows c row) i ≡ []
+empty_before_set rows c used row before empty lt none i le = let within = empty.within in elim (cases_eq i c) [
+  | inl here ↦ ap (row_of (slice_set rows c row)) here ∙ get_or-set_same rows c row [] (omega arith) ∙ none
+  | inr apart ↦ get_or-set_other rows c i row [] apart ∙ before i (omega (arith, apart))
+]
+
+none_taken : (n : ℕ) (rows : List Offsets) (c : ℕ) → row_of rows c ≡ [] → row_of (take n rows) c ≡ []
+none_taken zero rows c none = refl
+none_taken (suc n) [] c none = refl
+none_taken (suc n) (row ∷ rows) zero none = none
+none_taken (suc n) (row ∷ rows) (suc c) none = none_taken n rows c none
+
+pub empty_behind_kept : (n used bound : ℕ) (rows kept : List Offsets) → AreEmptyFrom used rows → kept ≡ take n rows → bound ≡ min used (length kept) → AreEmptyFrom bound kept
+empty_behind_kept n used bound rows kept empty is least = record {
+  within = omega arith;
+  behind = λ c le. elim (cases_lt c used) [
+    | inl lt ↦ no_row kept c (omega arith)
+    | inr from ↦ ap (λ l. row_of l c) is ∙ none_taken n rows c (empty.behind c from)
+  ];
+}
+
+pub all_rows_empty : (rows : List Offsets) (used : ℕ) → ((c : ℕ) → c < used → row_of rows c ≡ []) → AreEmptyFrom used rows → (c : ℕ) → row_of rows c ≡ []
+all_rows_empty rows used before empty c = elim (cases_lt c used) [
+  | inl lt ↦ before c lt
+  | inr from ↦ empty.behind c from
+]
+
+pub all_empty : (rows : List Offsets) → ((c : ℕ) → row_of rows c ≡ []) → AreEmptyFrom 0 rows
+all_empty rows empty = record { within = omega arith; behind = λ c le. empty c }
 
 -- no points
 module _ (rows : List Offsets) (rest : List Point) (empty : (c : ℕ) → row_of rows c ≡ []) (none : rest ≡ []) where

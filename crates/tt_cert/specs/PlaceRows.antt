@@ -53,10 +53,16 @@ pub record ArePlaces (rows : List Offsets) (rest : List Point) : Type 0 where
   pub behind : (c o n : ℕ) → states_of rest (c, o) ≡ Some n → AreBelow o (row_of rows c) → ⊥
   pub fits : length rows ≤ 4294967296
 
+-- the rows from this one on are empty
+pub record AreEmptyFrom (used : ℕ) (rows : List Offsets) : Type 0 where
+  pub within : used ≤ length rows
+  pub behind : (c : ℕ) → used ≤ c → row_of rows c ≡ []
+
 -- empty rows were added
 pub record AddsRows (old new : List Offsets) : Type 0 where
   pub points : (c : ℕ) → rows_points c new ≡ rows_points c old
   pub rows : (c : ℕ) → row_of new c ≡ row_of old c
+  pub longer : length old ≤ length new
 
 -- the first point, if it was taken out, and those behind it
 abbrev pub with_first : Option Point → List Point → List Point

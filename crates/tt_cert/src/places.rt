@@ -3,7 +3,7 @@
 ghost use Rattle.std.specs.Prelude.{◌≡◌, ℕ, ◌<◌, ◌≤◌, None, [], ◌∷◌, IfSome, OnOk, OnErr, length};
 ghost use Rattle.std.specs.BTreeMap.{insert_entry};
 ghost use Rattle.tt_cert.specs.Places.{place_cmp, states_of};
-ghost use Rattle.tt_cert.specs.PlaceRows.{AddsRows, ArePlaces, merged, row_of, rows_points, comes_first};
+ghost use Rattle.tt_cert.specs.PlaceRows.{AddsRows, AreEmptyFrom, ArePlaces, merged, row_of, rows_points, comes_first};
 
 use crate::row::Row;
 use std::alloc::{AllocError, Global};
@@ -20,6 +20,8 @@ const KEPT_ROWS: usize = 64;
 pub(crate) struct Places {
     /// For each context the points that came behind all others of the context.
     rows: Vec<Row>,
+    /// How many rows may hold points. The rows behind those are empty, and are kept for their memory alone.
+    used: usize,
     /// The points that came before a greater offset of their context.
     rest: BTreeMap<(u32, u32), u32>,
     /// How many points there are.
@@ -28,13 +30,13 @@ pub(crate) struct Places {
 
 impl Model for Places {
     ghost use Rattle.std.specs.Prelude.{◌≡◌, List, ℕ, length};
-    ghost use Rattle.tt_cert.specs.PlaceRows.{ArePlaces, merged, rows_points};
+    ghost use Rattle.tt_cert.specs.PlaceRows.{AreEmptyFrom, ArePlaces, merged, rows_points};
 
     ghost Value = { List ((ℕ × ℕ) × ℕ) };
 
     ghost view = { λ p. merged (rows_points 0 p.rows.items) p.rest.entries };
 
-    ghost invariant = { λ p. ArePlaces p.rows.items p.rest.entries × (p.count ≡ length (merged (rows_points 0 p.rows.items) p.rest.entries)) };
+    ghost invariant = { λ p. ArePlaces p.rows.items p.rest.entries × (p.count ≡ length (merged (rows_points 0 p.rows.items) p.rest.entries)) × AreEmptyFrom p.used p.rows.items };
 }
 
 /// Adds empty rows until there is one for a context.
@@ -70,6 +72,7 @@ fn put(
     ensures places { ArePlaces rows.new.items rest.new.entries }
     ensures ok { OnOk result (merged (rows_points 0 rows.new.items) rest.new.entries ≡ insert_entry place_cmp (merged (rows_points 0 rows.old.items) rest.old.entries) place slot) }
     ensures err { OnErr result (merged (rows_points 0 rows.new.items) rest.new.entries ≡ merged (rows_points 0 rows.old.items) rest.old.entries) }
+    ensures behind { (used : ℕ) → place.0 < used → AreEmptyFrom used rows.old.items → AreEmptyFrom used rows.new.items }
 {
     let row = &mut rows[place.0 as usize];
     if row.is_below(place.1) {
@@ -79,14 +82,15 @@ fn put(
     Ok(())
 }
 
-/// Empties the rows, and keeps the memory of the first ones.
-fn clear_rows(rows: &mut Vec<Row>)
+/// Empties the first `used` rows, behind which all are empty, and keeps the memory of the first `KEPT_ROWS` rows.
+fn clear_rows(rows: &mut Vec<Row>, used: usize)
+    requires { AreEmptyFrom used rows.old.items }
     ensures empty { (c : ℕ) → row_of rows.new.items c ≡ [] }
     ensures fits { length rows.new.items ≤ 4294967296 }
 {
     rows.truncate(KEPT_ROWS);
-    for row in rows.iter_mut() {
-        row.clear();
+    for context in 0..used.min(rows.len()) {
+        rows[context].clear();
     }
 }
 
@@ -97,6 +101,7 @@ impl Places {
     {
         Places {
             rows: Vec::new(alloc),
+            used: 0,
             rest: BTreeMap::new(alloc),
             count: 0,
         }
@@ -129,7 +134,7 @@ impl Places {
     pub(crate) fn iter(&self) -> PlacesIter<'_>
         ensures { result ≡ self.now }
     {
-        let mut rows = RowsIter::new(self.rows.as_slice());
+        let mut rows = RowsIter::new(&self.rows[..self.used]);
         let mut rest = self.rest.iter();
         PlacesIter {
             first: rows.take_first(),
@@ -150,6 +155,7 @@ impl Places {
         ensures err { OnErr result (self.new ≡ self.old) }
     {
         add_rows(&mut self.rows, context)?;
+        self.used = self.used.max(context as usize + 1);
         put(&mut self.rows, &mut self.rest, (context, offset), slot)?;
         self.count += 1;
         Ok(())
@@ -159,7 +165,8 @@ impl Places {
     pub(crate) fn clear(&mut self)
         ensures { self.new ≡ [] }
     {
-        clear_rows(&mut self.rows);
+        clear_rows(&mut self.rows, self.used);
+        self.used = 0;
         self.rest.clear();
         self.count = 0;
     }

@@ -1,7 +1,11 @@
-use Rattle.std.proofs.Common.{◌≡◌, ℕ, ◌<◌}
+use Rattle.std.proofs.Common.{◌≡◌, ℕ, ◌<◌, ◌≤◌, length}
 use Rattle.std.specs.Prelude.{[]}
-use Rattle.tt_cert.specs.PlaceRows.{row_of}
+use Rattle.tt_cert.specs.PlaceRows.{AreEmptyFrom, row_of}
 use Rattle.tt_cert.proofs.places.clear_rows.Given as goal
 
-abbrev pub invariant-loop-row : goal.invariant-loop-row
-invariant-loop-row l = (c : ℕ) → c < l.row-index → row_of l.row-items c ≡ []
+abbrev pub invariant-loop-context : goal.invariant-loop-context
+invariant-loop-context l = record {
+  fits : length l.rows.items ≤ 64;
+  before : (c : ℕ) → c < l.context → row_of l.rows.items c ≡ [];
+  behind : AreEmptyFrom l.context-end l.rows.items;
+}
