@@ -22,9 +22,10 @@ use tt_cert::Builder;
 use tt_code::Program;
 use tt_font::{Font, FontFault, GlyphPart};
 
-/// The functions that are known where the font program or the CVT program of this setting ends.
+/// The functions that are known where the font program or the CVT program of this setting ends, which is looked at in a builder's memory.
 fn end_functions(
     alloc: Global,
+    memory: &mut Builder,
     name: Name,
     setting: &Setting<'_>,
 ) -> Result<Vec<(u16, u32)>, LookFault>
@@ -35,12 +36,14 @@ fn end_functions(
     ensures known { (x : Subject) → IsLookedAt x name setting.now → IfOk result (λ functions. IsKnownAtEnd x setting.now.main.now functions.items) }
     ensures refused { (x : Subject) → IsLookedAt x name setting.now → IfErr result (λ fault. IfRefused fault (IsRefusal x)) }
 {
-    let mut memory = Builder::new(alloc);
-    let certificate = look(alloc, &mut memory, name, setting)?;
+    let certificate = look(alloc, memory, name, setting)?;
     // An accepted font program or CVT program has a state at its end.
     let functions = certificate.end_functions(setting.main.len()).unwrap();
     match Vec::from_slice(alloc, functions) {
-        Ok(copy) => Ok(copy),
+        Ok(copy) => {
+            *memory = certificate.into_builder();
+            Ok(copy)
+        }
         Err(error) => Err(LookFault::OutOfMemory(error)),
     }
 }
@@ -48,6 +51,7 @@ fn end_functions(
 /// Looks at the font program: the functions that are known at its end.
 fn look_at_font_program(
     alloc: Global,
+    memory: &mut Builder,
     font: &Font<'_>,
     fpgm: &Program<'_>,
 ) -> Result<Vec<(u16, u32)>, LookFault>
@@ -64,13 +68,14 @@ fn look_at_font_program(
         prep: fpgm,
         start: &[],
     };
-    end_functions(alloc, Name::Font, &setting)
+    end_functions(alloc, memory, Name::Font, &setting)
 }
 
 /// Looks at the CVT program, which starts with the functions that are known where the font program ends: those that are known at its own
 /// end.
 fn look_at_cvt_program(
     alloc: Global,
+    memory: &mut Builder,
     font: &Font<'_>,
     fpgm: &Program<'_>,
     prep: &Program<'_>,
@@ -91,7 +96,7 @@ fn look_at_cvt_program(
         prep,
         start: functions,
     };
-    end_functions(alloc, Name::Cvt, &setting)
+    end_functions(alloc, memory, Name::Cvt, &setting)
 }
 
 /// What the glyph programs of a font share: the font, its two other programs, and the functions that are known where the CVT program
@@ -137,19 +142,21 @@ fn look_at_glyph(
     Ok(())
 }
 
-/// Looks at each glyph program: the refused ones, by rising numbers of their glyphs. Each program is looked at in the memory of those
-/// before.
-fn refused_glyphs(alloc: Global, common: &Common<'_>) -> Result<Vec<Refused>, AllocError>
+/// Looks at each glyph program: the refused ones, by rising numbers of their glyphs.
+fn refused_glyphs(
+    alloc: Global,
+    memory: &mut Builder,
+    common: &Common<'_>,
+) -> Result<Vec<Refused>, AllocError>
     requires range { IsFontInRange common.now.font.now }
     requires rises { Rises common.now.known.now }
     requires fits { FunctionsFit (font_setting (font_in common.now)) common.now.known.now }
     ensures { IfOk result (λ refused. AreRefused (font_in common.now) common.now.known.now 0 common.now.font.now.glyphs refused.items) }
 {
     let mut refused = Vec::new(alloc);
-    let mut memory = Builder::new(alloc);
     for id in 0..common.font.glyph_count() {
         let glyph = common.font.glyph(id).unwrap();
-        match look_at_glyph(alloc, &mut memory, common, id, &glyph) {
+        match look_at_glyph(alloc, memory, common, id, &glyph) {
             Ok(()) => {}
             Err(LookFault::Refused(refusal)) => refused.push(refusal)?,
             Err(LookFault::OutOfMemory(error)) => return Err(error),
@@ -158,7 +165,7 @@ fn refused_glyphs(alloc: Global, common: &Common<'_>) -> Result<Vec<Refused>, Al
     Ok(refused)
 }
 
-/// Looks at the programs of a font, one after the other: the refused glyph programs.
+/// Looks at the programs of a font, one after the other, each in the memory of those before: the refused glyph programs.
 ///
 /// # Errors
 /// `Refused` for the font program or the CVT program, which ends the look; `OutOfMemory`.
@@ -167,17 +174,18 @@ fn look_at_all(alloc: Global, font: &Font<'_>) -> Result<Vec<Refused>, LookFault
     ensures all { IfOk result (λ refused. AreAllRefused font.now refused.items) }
     ensures ended { IfErr result (λ fault. IfRefused fault (EndsLook font.now)) }
 {
+    let mut memory = Builder::new(alloc);
     let fpgm = cut(alloc, Name::Font, font.fpgm())?;
-    let functions = look_at_font_program(alloc, font, &fpgm)?;
+    let functions = look_at_font_program(alloc, &mut memory, font, &fpgm)?;
     let prep = cut(alloc, Name::Cvt, font.prep())?;
-    let known = look_at_cvt_program(alloc, font, &fpgm, &prep, &functions)?;
+    let known = look_at_cvt_program(alloc, &mut memory, font, &fpgm, &prep, &functions)?;
     let common = Common {
         font,
         fpgm: &fpgm,
         prep: &prep,
         known: &known,
     };
-    match refused_glyphs(alloc, &common) {
+    match refused_glyphs(alloc, &mut memory, &common) {
         Ok(refused) => Ok(refused),
         Err(error) => Err(LookFault::OutOfMemory(error)),
     }
