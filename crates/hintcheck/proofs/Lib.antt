@@ -5,3 +5,4 @@ pub mod FontRuns
 pub mod FontBytes
 pub mod FontSafety
 pub mod FontLists
+pub mod EmptyPrograms

@@ -109,7 +109,8 @@ struct Common<'a> {
     known: &'a [(u16, u32)],
 }
 
-/// Looks at the program of the glyph with this number, in a builder's memory, which the builder has again where memory doesn't run out.
+/// Looks at the program of the glyph with this number, if it has instructions, in a builder's memory, which the builder has again where
+/// memory doesn't run out.
 fn look_at_glyph(
     alloc: Global,
     memory: &mut Builder,
@@ -123,6 +124,10 @@ fn look_at_glyph(
     ensures least { IfOk result (λ _. HasLeastFamily (subject_in common.now id (glyph_data glyph.now))) }
     ensures refused { IfErr result (λ fault. IfRefused fault (IsRefusal (subject_in common.now id (glyph_data glyph.now)))) }
 {
+    // A glyph without instructions: nothing can be refused.
+    if glyph.program.is_empty() {
+        return Ok(());
+    }
     let name = Name::Glyph(id);
     let main = cut(alloc, name, glyph.program)?;
     let setting = Setting {

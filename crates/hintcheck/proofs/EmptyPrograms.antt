@@ -1,0 +1,64 @@
+-- The least family of a glyph program without instructions: the start alone.
+use Rattle.std.proofs.Common.{◌≡◌, ℕ, zero, suc, List, [], ◌∷◌, Option, Some, None, true, false, refl, sym, subst, arith}
+use Rattle.tt_code.specs.Fonts.{Font, glyph_setting}
+use Rattle.tt_code.specs.Grammar.{none}
+use Rattle.tt_abs.specs.declared.state.State.{State}
+use Rattle.tt_abs.specs.Entries.{Rises}
+use Rattle.tt_abs.specs.Families.{CoversAt, started}
+use Rattle.tt_abs.specs.StateFlow.{GivesState, Place, RefusesState}
+use Rattle.tt_abs.specs.States.{start_of, state_laws, state_order}
+use Rattle.tt_abs.proofs.FlowOfStates.{start_range}
+use Rattle.tt_cert.specs.Contents.{HasContext}
+use Rattle.tt_cert.specs.GoodFamilies.{IsGoodFamily, IsStoredWithin}
+use Rattle.tt_find.specs.Found.{IsDerived, IsLeast}
+use Rattle.tt_font.specs.Reading.{GlyphData}
+use Rattle.hintcheck.specs.FontPrograms.{glyph_subject}
+use Rattle.hintcheck.specs.Programs.{HasLeastFamily}
+
+-- the start at its place, and nothing elsewhere
+abbrev start_alone : List (ℕ × ℕ) → Place → Option State
+start_alone functions ([], zero) = Some (start_of functions)
+start_alone functions ([], suc offset) = None
+start_alone functions (frame ∷ frames, offset) = None
+
+-- what holds of the start holds of each of its states
+each_is_start : (functions : List (ℕ × ℕ)) (P : Place → State → Type 0) → P ([], 0) (start_of functions) → (p : Place) (a : State) → start_alone functions p ≡ Some a → P p a
+each_is_start functions P h ([], zero) a at = let same : start_of functions ≡ a = cc in subst (P ([], 0)) same h
+each_is_start functions P h ([], suc offset) a at = absurd (cc)
+each_is_start functions P h (frame ∷ frames, offset) a at = absurd (cc)
+
+module _ (font : Font) (points contours : ℕ) (functions : List (ℕ × ℕ)) where
+  -- at the start the program is at its end, where nothing is refused and nothing follows
+  start_is_good : Rises functions → IsGoodFamily (glyph_setting font points contours []) functions (start_alone functions)
+  start_is_good rises =
+      let s = glyph_setting font points contours [] in
+      record {
+        short = omega arith;
+        good = record {
+          in_range = each_is_start functions (λ p a. state_order.InRange a) (start_range functions rises);
+          start = (start_of functions, refl, state_laws.reflexive (start_of functions));
+          safe = λ p a r at. each_is_start functions (λ q b. RefusesState s q b r → ⊥) (λ x. let ends : true ≡ false = x.running in cc) p a at;
+          closed = λ p a q t at. each_is_start functions (λ o b. GivesState s o b q t → CoversAt state_order (start_alone functions) q t)
+              (λ g. let ends : true ≡ false = g.running in absurd (cc)) p a at;
+        };
+        ends = tt;
+        storage = each_is_start functions (λ p a. IsStoredWithin s a) (λ i z e. absurd (cc));
+        few = ([] ∷ [], omega arith, each_is_start functions (λ p a. HasContext ([] ∷ []) p.0) (omega arith));
+      }
+
+  -- it is derived, and each good family covers it
+  start_is_least : IsLeast (glyph_setting font points contours []) functions (start_alone functions)
+  start_is_least = record {
+    derived = each_is_start functions (IsDerived (glyph_setting font points contours []) functions) started;
+    below = λ other good. each_is_start functions (CoversAt state_order other) good.start;
+  }
+
+-- so a glyph program without instructions has its least family
+pub least_without_instructions : (font : Font) (functions : List (ℕ × ℕ)) (id : ℕ) (g : GlyphData) → Rises functions → g.program ≡ [] → HasLeastFamily (glyph_subject font functions id g)
+least_without_instructions font functions id g rises empty = record {
+  instructions = [];
+  cut = record { is_cut = record { joined = sym empty; each = tt }; structured = none };
+  family = start_alone functions;
+  good = start_is_good font g.points g.contours functions rises;
+  least = start_is_least font g.points g.contours functions;
+}
