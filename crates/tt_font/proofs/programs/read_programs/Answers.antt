@@ -12,7 +12,7 @@ use Rattle.tt_font.proofs.programs.read_programs.Goals as goal
 pub loop-id-init : goal.loop-id-init
 loop-id-init c = record {
   whole = none_truncated _;
-  programs = no_programs _ _ (ap (map bytes_of) c.new-programs.ensures.items);
+  programs = no_programs _ _ (ap (map bytes_of) c.in_ok-programs.ensures.items);
   counted = let none = total_of_none (glyphs_of c.args.glyphs.now) in omega arith;
 }
 
