@@ -176,6 +176,19 @@ module _ (glyphs : ℕ → List ℕ) (n : ℕ) (table : List Sum) (before : ℕ)
       let done = subst G (drop_of_length-le numbers le) on in
       record { len = done.len; rows = λ id lt. row_done next id reads (is_composite (glyphs id)) done refl lt }
 
+-- without composite glyphs a round changes nothing
+pub nothing_changes : (glyphs : ℕ → List ℕ) (n : ℕ) (numbers : List ℕ) (table : List Sum) → AreComposites glyphs n numbers → length numbers ≡ 0 → length table ≡ n
+    → NextRows (outlines_of n glyphs) table n table
+nothing_changes glyphs n numbers table are none len =
+    round_ends glyphs n table (sum_by (λ id. component_count (glyphs id)) numbers) numbers 0 table (component_total glyphs n) (record {
+      len = len;
+      inside = are.inside;
+      made = are.composite;
+      same = λ id lt simple. refl;
+      summed = λ id lt composite. inl (are.all id lt composite);
+      counted = let once = are.once in omega arith;
+    }) (omega arith)
+
 -- the rows that a round leaves are those of the vector that was lent to it
 pub rows_written : (n k : ℕ) (old lent new : List Sum) → length old ≡ n → lent ≡ old → length lent ≡ k → length new ≡ n → take k (new ++ drop (length new) old) ≡ new
 rows_written n k old lent new len same lent_len new_len =

@@ -37,7 +37,7 @@ fn first_table(
     Ok(table)
 }
 
-/// Makes of a table the one after one more round, where it has the rows of the other glyphs already.
+/// Writes what a table is after one more round into `next`, which has the rows of the glyphs that aren't composite already.
 fn take_round(
     glyphs: &GlyphTable,
     composites: &[u16],
@@ -90,6 +90,9 @@ fn last_table(alloc: Global, glyphs: &GlyphTable, reads: &mut u64) -> Result<Vec
 {
     let mut composites = Vec::new(alloc);
     let mut table = first_table(alloc, glyphs, &mut composites)?;
+    if composites.is_empty() {
+        return Ok(table);
+    }
     let mut next = Vec::from_slice(alloc, &table)?;
     for _ in 0..STEPS {
         take_round(glyphs, &composites, &table, &mut next, reads);

@@ -1,4 +1,4 @@
-use Rattle.std.proofs.Common.{◌≡◌, ◌+◌, ◌-◌, ◌*◌, ◌≤◌, ◌∙◌, sym, ap, subst, arith, List, ℕ}
+use Rattle.std.proofs.Common.{◌≡◌, ◌+◌, ◌-◌, ◌*◌, ◌≤◌, ◌∙◌, sym, ap, subst, arith, rules, length, List, ℕ}
 use Rattle.std.proofs.Math.Nat.{mul-le-mul_right}
 use Rattle.tt_font.specs.declared.sums.Sum.{Sum}
 use Rattle.tt_font.specs.Glyphs.{component_total}
@@ -7,8 +7,14 @@ use Rattle.tt_font.specs.GlyphTables.{glyphs_of, outlines_in}
 use Rattle.tt_font.proofs.CountLemmas.{outline_past}
 use Rattle.tt_font.proofs.RowLemmas.{points_capped, contours_capped, next_round, stays_so}
 use Rattle.tt_font.specs.CompositeLists.{AgreeOnSimple}
-use Rattle.tt_font.proofs.CompositeLemmas.{rows_written, agrees_with_itself, agrees_with_next}
+use Rattle.tt_font.proofs.CompositeLemmas.{nothing_changes, rows_written, agrees_with_itself, agrees_with_next}
 use Rattle.tt_font.proofs.rounds.last_table.Goals as goal
+
+pub returns-then-is_empty-clause-table : goal.returns-then-is_empty-clause-table
+returns-then-is_empty-clause-table c =
+    let none : length c.first_table.new.composites.items ≡ 0 = search rules in
+    stays_so _ _ 0 16 _ (outline_past c.args.glyphs.now.count (glyphs_of c.args.glyphs.now))
+    (nothing_changes _ _ _ _ c.in_ok-table.ensures.composites none c.in_ok-table.ensures.table.len) c.in_ok-table.ensures.table
 
 pub loop-init : goal.loop-init
 loop-init c = record {
