@@ -10,3 +10,4 @@ pub mod ChainSums
 pub mod ProgramLists
 pub mod ReadGlyphs
 pub mod LawProofs
+pub mod CompositeLemmas

@@ -16,3 +16,4 @@ pub mod FileFaults
 pub mod Reading
 pub mod GlyphParts
 pub mod Laws
+pub mod CompositeLists

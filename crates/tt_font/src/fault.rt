@@ -67,3 +67,14 @@ impl<T: Drop> From<AllocFailed<T>> for FontFault {
         FontFault::OutOfMemory(AllocError)
     }
 }
+
+impl From<AllocError> for FontFault {
+    ghost use Rattle.std.specs.Prelude.{◌≡◌};
+    ghost use Rattle.tt_font.specs.declared.fault.FontFault.TheVariants.{OutOfMemory};
+
+    ghost from_gives = { λ error fault. fault ≡ OutOfMemory error };
+
+    fn from(error: AllocError) -> FontFault {
+        FontFault::OutOfMemory(error)
+    }
+}

@@ -22,7 +22,7 @@ pub(crate) fn read_programs<'a>(
     ensures programs { IfOk result (λ programs. ProgramsAre (glyphs_of glyphs.now) glyphs.now.count (map bytes_of programs.items)) }
     ensures counted { IfOk result (λ _. reads.new ≡ reads.old + components_in glyphs.now) }
 {
-    let mut programs = Vec::new(alloc);
+    let mut programs = Vec::with_capacity(alloc, usize::from(glyphs.count))?;
     for id in 0..glyphs.count {
         let Some(program) = read_glyph_program(glyphs.glyph(id), reads) else {
             return Err(FontFault::GlyphTruncated(id));
@@ -45,7 +45,7 @@ pub(crate) fn put_together<'a>(
     ensures glyphs { IfOk result (λ glyphs. PartsAre (map bytes_of programs.now) table.now count (map glyph_data glyphs.items)) }
     ensures memory { IfErr result (λ fault. fault ≡ FontFault.OutOfMemory alloc_error) }
 {
-    let mut glyphs = Vec::new(alloc);
+    let mut glyphs = Vec::with_capacity(alloc, usize::from(count))?;
     for id in 0..count {
         let sum = Sum::of(table, id);
         glyphs.push(GlyphPart {

@@ -1,69 +1,61 @@
-ghost use Rattle.std.specs.Prelude.{◌≡◌, ℕ, ◌+◌, ◌*◌, ◌^◌, ◌<◌, ◌≤◌, length, IfOk, IfErr, OnOk, IsTrue, ◌↔◌, alloc_error};
+ghost use Rattle.std.specs.Prelude.{◌≡◌, ℕ, [], ◌+◌, ◌*◌, ◌^◌, ◌<◌, ◌≤◌, length, IfOk, IfErr, OnOk, IsTrue, ◌↔◌, alloc_error};
 ghost use Rattle.tt_font.specs.Numbers.{first_below};
-ghost use Rattle.tt_font.specs.Glyphs.{component_count};
-ghost use Rattle.tt_font.specs.Outlines.{outline_of};
-ghost use Rattle.tt_font.specs.Rounds.{row, NextRow, NextRows, TableIs, row_refuses, IsSummed};
+ghost use Rattle.tt_font.specs.CompositeLists.{AreComposites, AgreeOnSimple};
+ghost use Rattle.tt_font.specs.Rounds.{row, NextRows, TableIs, row_refuses, IsSummed};
 ghost use Rattle.tt_font.specs.GlyphTables.{glyphs_of, outlines_in, components_in, AreWhole};
 ghost use Rattle.tt_font.specs.Conditions.{TestsWithMemory, composite_fault};
 
 use crate::fault::FontFault;
-use crate::glyph::is_composite;
 use crate::glyph_table::GlyphTable;
 use crate::sums::{Sum, add_up};
 use std::alloc::Global;
+use std::mem::swap;
 
 /// How many steps a chain of components may have.
 const STEPS: u32 = 16;
 
-/// The table before the first round: what each glyph's own bytes say.
-fn first_table(alloc: Global, glyphs: &GlyphTable) -> Result<Vec<Sum>, FontFault>
-    requires { AreWhole glyphs.now }
+/// The table before the first round: what each glyph's own bytes say. The numbers of the glyphs that are composite are listed.
+fn first_table(
+    alloc: Global,
+    glyphs: &GlyphTable,
+    composites: &mut Vec<u16>,
+) -> Result<Vec<Sum>, FontFault>
+    requires whole { AreWhole glyphs.now }
+    requires empty { composites.old.items ≡ [] }
     ensures table { IfOk result (λ table. TableIs glyphs.now.count (outlines_in glyphs.now) 0 table.items) }
+    ensures composites { OnOk result (AreComposites (glyphs_of glyphs.now) glyphs.now.count composites.new.items) }
     ensures memory { IfErr result (λ fault. fault ≡ FontFault.OutOfMemory alloc_error) }
 {
-    let mut table = Vec::new(alloc);
+    let mut table = Vec::with_capacity(alloc, usize::from(glyphs.count))?;
     for id in 0..glyphs.count {
-        table.push(Sum::own(glyphs.glyph(id)))?;
+        let sum = Sum::own(glyphs.glyph(id));
+        if sum.bad {
+            composites.push(id)?;
+        }
+        table.push(sum)?;
     }
     Ok(table)
 }
 
-/// What is known of a glyph after one more round.
-fn next_sum(table: &[Sum], glyphs: &GlyphTable, id: u16, reads: &mut u64) -> Sum
-    requires there { id < glyphs.now.count }
-    requires points { (id : ℕ) → (row table.now id).points ≤ 65536 }
-    requires contours { (id : ℕ) → (row table.now id).contours ≤ 65536 }
-    requires room { reads.old + component_count (glyphs_of glyphs.now id) + 1 < 2 ^ 64 }
-    ensures sum { NextRow table.now (outline_of (glyphs_of glyphs.now id)) (row table.now id) result }
-    ensures counted { reads.new ≡ reads.old + component_count (glyphs_of glyphs.now id) }
-{
-    let glyph = glyphs.glyph(id);
-    if is_composite(glyph) {
-        add_up(table, glyph, reads)
-    } else {
-        Sum::of(table, id)
-    }
-}
-
-/// The table after one more round.
-fn next_table(
-    alloc: Global,
+/// Writes what a table is after one more round into `next`, which has the rows of the glyphs that aren't composite already.
+fn take_round(
     glyphs: &GlyphTable,
+    composites: &[u16],
     table: &[Sum],
+    next: &mut [Sum],
     reads: &mut u64,
-) -> Result<Vec<Sum>, FontFault>
+)
+    requires composites { AreComposites (glyphs_of glyphs.now) glyphs.now.count composites.now }
+    requires simple { AgreeOnSimple (glyphs_of glyphs.now) glyphs.now.count table.now next.old }
     requires points { (id : ℕ) → (row table.now id).points ≤ 65536 }
     requires contours { (id : ℕ) → (row table.now id).contours ≤ 65536 }
     requires room { reads.old + components_in glyphs.now + 1 < 2 ^ 64 }
-    ensures table { IfOk result (λ next. NextRows (outlines_in glyphs.now) table.now glyphs.now.count next.items) }
-    ensures counted { IfOk result (λ _. reads.new ≡ reads.old + components_in glyphs.now) }
-    ensures memory { IfErr result (λ fault. fault ≡ FontFault.OutOfMemory alloc_error) }
+    ensures table { NextRows (outlines_in glyphs.now) table.now glyphs.now.count next.new }
+    ensures counted { reads.new ≡ reads.old + components_in glyphs.now }
 {
-    let mut next = Vec::new(alloc);
-    for id in 0..glyphs.count {
-        next.push(next_sum(table, glyphs, id, reads))?;
+    for id in composites {
+        next[usize::from(*id)] = add_up(table, glyphs.glyph(*id), reads);
     }
-    Ok(next)
 }
 
 /// The first glyph that its row refuses.
@@ -96,13 +88,18 @@ fn last_table(alloc: Global, glyphs: &GlyphTable, reads: &mut u64) -> Result<Vec
     ensures at_most { OnOk result (reads.new ≤ reads.old + 16 * components_in glyphs.now) }
     ensures memory { IfErr result (λ fault. fault ≡ FontFault.OutOfMemory alloc_error) }
 {
-    let mut table = first_table(alloc, glyphs)?;
+    let mut composites = Vec::new(alloc);
+    let mut table = first_table(alloc, glyphs, &mut composites)?;
+    if composites.is_empty() {
+        return Ok(table);
+    }
+    let mut next = Vec::from_slice(alloc, &table)?;
     for _ in 0..STEPS {
-        let next = next_table(alloc, glyphs, &table, reads)?;
+        take_round(glyphs, &composites, &table, &mut next, reads);
         if is_same(&next, &table) {
             return Ok(table);
         }
-        table = next;
+        swap(&mut table, &mut next);
     }
     Ok(table)
 }

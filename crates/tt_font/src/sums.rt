@@ -44,7 +44,7 @@ fn capped(a: u32, b: u32) -> u32
 
 impl Sum {
     ghost use Rattle.std.specs.Prelude.{◌≡◌, ◌+◌, ◌≤◌, ◌||◌, min, length, is_some, true};
-    ghost use Rattle.tt_font.specs.Glyphs.{program_of};
+    ghost use Rattle.tt_font.specs.Glyphs.{is_composite, program_of};
     ghost use Rattle.tt_font.specs.Outlines.{outline_of, own_points, own_contours};
     ghost use Rattle.tt_font.specs.Rounds.{has_parts, row, row_refuses};
 
@@ -52,6 +52,7 @@ impl Sum {
     pub(crate) fn own(glyph: &[u8]) -> Sum
         requires { is_some (program_of glyph.now) ≡ true }
         ensures bad { result.bad ≡ has_parts (outline_of glyph.now) }
+        ensures made { result.bad ≡ is_composite glyph.now }
         ensures points { result.points ≡ min (own_points (outline_of glyph.now)) 65536 }
         ensures contours { result.contours ≡ min (own_contours (outline_of glyph.now)) 65536 }
     {

@@ -9,7 +9,7 @@ use std::alloc::{AllocError, Global};
 use thiserror::Error;
 
 /// How many bytes are asked for at a time.
-const CHUNK: usize = 4096;
+const CHUNK: usize = 32_768;
 
 /// Why not all bytes were read.
 #[derive(Debug, Drop, Error)]

@@ -127,8 +127,8 @@ fn read_steps<L: Ledger>(alloc: Global, steps: Steps<'_>, blank: Blank) -> Optio
 
 #[test]
 fn reads_all(rt: HostRuntime) -> Result<(), Fail> {
-    let bytes = b"ab".repeat(rt.alloc(), 5000)?;
-    for step in [1, 4095, 4096, 20_000] {
+    let bytes = b"ab".repeat(rt.alloc(), 40_000)?;
+    for step in [1, 32_767, 32_768, 100_000] {
         let steps = Steps {
             bytes: &bytes,
             step,

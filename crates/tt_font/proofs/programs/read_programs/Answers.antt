@@ -2,7 +2,7 @@ use Rattle.std.proofs.Common.{◌≡◌, ◌+◌, ◌∙◌, ◌∷◌, [], sym,
 use Rattle.std.specs.Option.{option_map}
 use Rattle.std.proofs.lemmas.List.{map-append}
 use Rattle.tt_font.specs.declared.fault.FontFault.TheVariants as faults
-use Rattle.tt_font.specs.Glyphs.{component_count, program_of}
+use Rattle.tt_font.specs.Glyphs.{component_count, component_total, program_of}
 use Rattle.tt_font.specs.GlyphTables.{glyphs_of}
 use Rattle.tt_font.specs.GlyphParts.{bytes_of}
 use Rattle.tt_font.proofs.CountLemmas.{total_of_none, total_more, total_rises}
@@ -12,7 +12,7 @@ use Rattle.tt_font.proofs.programs.read_programs.Goals as goal
 pub loop-id-init : goal.loop-id-init
 loop-id-init c = record {
   whole = none_truncated _;
-  programs = no_programs _ _ (ap (map bytes_of) c.new-programs.ensures.items);
+  programs = no_programs _ _ (ap (map bytes_of) c.in_ok-programs.ensures.items);
   counted = let none = total_of_none (glyphs_of c.args.glyphs.now) in omega arith;
 }
 
@@ -46,3 +46,10 @@ loop-id-preserved c =
           let same = ap component_count c.glyph.ensures.bytes in
           omega arith;
     }
+
+pub returns-clause-counted : goal.returns-clause-counted
+returns-clause-counted c =
+    let test = c.loop-id-test.false in
+    let end = c.loop-id.auto.id-end in
+    let last : c.loop-id.id ≡ c.args.glyphs.now.count = omega arith in
+    c.loop-id.invariant.counted ∙ ap (λ n. c.args.reads.now + component_total (glyphs_of c.args.glyphs.now) n) last

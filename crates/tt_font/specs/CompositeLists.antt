@@ -1,0 +1,18 @@
+-- The composite glyphs of a font, and tables that agree on the other ones. This is representation.
+use Rattle.std.specs.Prelude.{◌≡◌, ℕ, ◌<◌, List, length, true, false}
+use Rattle.std.specs.List.{Contains, sum_by}
+use Rattle.tt_font.specs.declared.sums.Sum.{Sum}
+use Rattle.tt_font.specs.Glyphs.{is_composite, component_count, component_total}
+use Rattle.tt_font.specs.Rounds.{row}
+
+-- the numbers of the composite glyphs among the first n, each once: they list as many components as all of these do
+pub record AreComposites (glyphs : ℕ → List ℕ) (n : ℕ) (numbers : List ℕ) : Type 0 where
+  pub inside : (id : ℕ) → Contains numbers id → id < n
+  pub composite : (id : ℕ) → Contains numbers id → is_composite (glyphs id) ≡ true
+  pub all : (id : ℕ) → id < n → is_composite (glyphs id) ≡ true → Contains numbers id
+  pub once : sum_by (λ id. component_count (glyphs id)) numbers ≡ component_total glyphs n
+
+-- of the first n glyphs, those that aren't composite have the same rows in both tables
+pub record AgreeOnSimple (glyphs : ℕ → List ℕ) (n : ℕ) (table other : List Sum) : Type 0 where
+  pub len : length other ≡ n
+  pub rows : (id : ℕ) → id < n → is_composite (glyphs id) ≡ false → row other id ≡ row table id
