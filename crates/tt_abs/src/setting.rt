@@ -70,7 +70,7 @@ pub fn body_offset(body: u32) -> u32
 }
 
 /// The body in which a point stands.
-fn body_of(point: &Point<'_>) -> Body
+pub(crate) fn body_of(point: &Point<'_>) -> Body
     ensures { result ≡ body_of_frames (frames_of point.now) }
 {
     match point.frames {
@@ -80,7 +80,7 @@ fn body_of(point: &Point<'_>) -> Body
 }
 
 /// Are the two one body of the main program or of a function?
-fn is_same_body(body: Body, other: Body) -> bool
+pub(crate) fn is_same_body(body: Body, other: Body) -> bool
     ensures { result ≡ is_body body (Some other) }
 {
     match body {

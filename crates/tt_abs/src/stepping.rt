@@ -1,12 +1,12 @@
 //! What an instruction makes of an abstract state.
 
-ghost use Rattle.std.specs.Prelude.{◌≡◌, ◌+◌, ◌<◌, ◌^◌, ◌∷◌, [], Err, IfErr, IfOk, List, Ok, OnOk, length, suc, true, ℕ};
+ghost use Rattle.std.specs.Prelude.{◌≡◌, ◌+◌, ◌<◌, ◌^◌, ◌∷◌, [], Err, IfErr, IfOk, List, Ok, OnOk, Some, length, suc, true, ℕ};
 ghost use Rattle.tt_code.specs.Settings.{starts_in_body};
 ghost use Rattle.tt_code.specs.Table.{effect_of};
 ghost use Rattle.tt_abs.specs.Moves.{ForReason, IsRefusedFor, LeadsBy, nexts_of, outcome_at};
 ghost use Rattle.tt_abs.specs.Settings.{frames_of, setting_of};
 ghost use Rattle.tt_abs.specs.States.{abstract_of, state_order};
-ghost use Rattle.tt_abs.specs.Transfers.{does_cells};
+ghost use Rattle.tt_abs.specs.Transfers.{does_cells, instruction_of};
 
 use crate::compute::compute;
 use crate::control::lead;
@@ -14,7 +14,7 @@ use crate::line::carry_out;
 use crate::moves::{Move, Moves};
 use crate::push::push_data;
 use crate::refusal::Refusal;
-use crate::setting::{Point, Setting};
+use crate::setting::{Point, Setting, body_of, is_same_body};
 use crate::shuffle::shuffle;
 use crate::state::State;
 use tt_code::kinds::Effect;
@@ -42,6 +42,29 @@ fn act(
     Ok(Moves::One(Move::To(point.offset + instr.len())))
 }
 
+/// Carries out the instruction that starts at a point, in the point's body, and answers where the program goes on.
+fn perform(
+    setting: &Setting<'_>,
+    point: &Point<'_>,
+    state: &mut State,
+    instr: &Instr<'_>,
+) -> Result<Moves, Refusal>
+    requires short { point.now.offset + length instr.now < 2 ^ 31 }
+    requires found { instruction_of (setting_of setting.now) (frames_of point.now) point.now.offset ≡ Some instr.now }
+    ensures ok { IfOk result (λ m. LeadsBy point.now (outcome_at setting.now point.now state.old) m state.new) }
+    ensures refused { IfErr result (IsRefusedFor (outcome_at setting.now point.now state.old)) }
+    ensures in_range { state_order.InRange state.old → IfOk result (λ _. state_order.InRange state.new) }
+{
+    setting.is_within();
+    prove!(u32::from(instr.code()) < 256);
+    let moves = act(setting, point, state, instr)?;
+    if state.stack.len() > usize::from(setting.limits.stack) {
+        return Err(Refusal::Refused(Reason::Overflow));
+    }
+    state.rises();
+    Ok(moves)
+}
+
 /// Carries out the instruction at a point on a state that the caller owns, and answers where the program goes on. After a
 /// refusal the state says nothing.
 ///
@@ -53,19 +76,12 @@ pub fn step(setting: &Setting<'_>, point: &Point<'_>, state: &mut State) -> Resu
     ensures refused { IfErr result (IsRefusedFor (outcome_at setting.now point.now state.old)) }
     ensures in_range { state_order.InRange state.old → IfOk result (λ _. state_order.InRange state.new) }
 {
-    setting.is_within();
     let program = setting.program(point);
     let Some(instr) = program.at(point.offset) else {
         return Err(Refusal::Refused(Reason::Target));
     };
     prove!(point.offset < program.len());
-    prove!(u32::from(instr.code()) < 256);
-    let moves = act(setting, point, state, &instr)?;
-    if state.stack.len() > usize::from(setting.limits.stack) {
-        return Err(Refusal::Refused(Reason::Overflow));
-    }
-    state.rises();
-    Ok(moves)
+    perform(setting, point, state, &instr)
 }
 
 /// Carries out the instruction at a point, as `step` does, where one of the point's body starts there. After a refusal the state
@@ -82,8 +98,13 @@ pub fn step_at(
     ensures refused { IfErr result (IsRefusedFor (outcome_at setting.now point.now state.old)) }
     ensures in_range { state_order.InRange state.old → IfOk result (λ _. state_order.InRange state.new) }
 {
-    if !setting.starts(point, point.offset) {
+    let program = setting.program(point);
+    let Some((instr, body)) = program.found_at(point.offset) else {
+        return Err(Refusal::Refused(Reason::Target));
+    };
+    if !is_same_body(body_of(point), body) {
         return Err(Refusal::Refused(Reason::Target));
     }
-    step(setting, point, state)
+    prove!(point.offset < program.len());
+    perform(setting, point, state, &instr)
 }
