@@ -18,7 +18,7 @@ use crate::setting::{Point, Setting, body_of, is_same_body};
 use crate::shuffle::shuffle;
 use crate::state::State;
 use tt_code::kinds::Effect;
-use tt_code::{Instr, Reason, effect};
+use tt_code::{Instr, Reason, entry};
 
 /// What an instruction does, by the kind of its effect; the depth afterwards is tested elsewhere.
 fn act(
@@ -31,13 +31,13 @@ fn act(
     ensures ok { IfOk result (λ m. (code : ℕ) (rest : List ℕ) → instr.now ≡ code ∷ rest → does_cells (setting_of setting.now) (frames_of point.now) point.now.offset (abstract_of state.old) (effect_of code) rest (point.now.offset + suc (length rest)) ≡ Ok (nexts_of (frames_of point.now) m (abstract_of state.new))) }
     ensures refused { IfErr result (λ e. ForReason e (λ r. (code : ℕ) (rest : List ℕ) → instr.now ≡ code ∷ rest → does_cells (setting_of setting.now) (frames_of point.now) point.now.offset (abstract_of state.old) (effect_of code) rest (point.now.offset + suc (length rest)) ≡ Err r)) }
 {
-    match effect(instr.code()) {
+    match entry(instr.code()) {
         Effect::NoEntry => return Err(Refusal::Refused(Reason::Opcode)),
-        Effect::Plain(line) => carry_out(setting, state, &line)?,
-        Effect::Push(push) => push_data(&mut state.stack, push, instr.data())?,
-        Effect::Stack(operation) => shuffle(&mut state.stack, operation)?,
-        Effect::Arithmetic(operation) => compute(&mut state.stack, operation)?,
-        Effect::Control(operation) => return lead(setting, point, state, operation),
+        Effect::Plain(line) => carry_out(setting, state, line)?,
+        Effect::Push(push) => push_data(&mut state.stack, *push, instr.data())?,
+        Effect::Stack(operation) => shuffle(&mut state.stack, *operation)?,
+        Effect::Arithmetic(operation) => compute(&mut state.stack, *operation)?,
+        Effect::Control(operation) => return lead(setting, point, state, *operation),
     }
     Ok(Moves::One(Move::To(point.offset + instr.len())))
 }
