@@ -8,7 +8,10 @@ use Rattle.tt_code.specs.Table.{Meaning, Pushes, effect_of}
 use Rattle.tt_code.specs.Cut.{Instruction, instruction_at, code_of, data_of, data_in, data_behind}
 use Rattle.tt_code.specs.Computing.{numbers_in}
 use Rattle.tt_code.specs.declared.kinds.Push.{Push}
-use Rattle.tt_code.specs.Settings.{Setting, program_of, starts_in_body}
+use Rattle.tt_code.specs.Settings.{Setting, body_of, is_body, program_of, starts_in_body}
+use Rattle.tt_code.specs.Structure.{body_at}
+use Rattle.tt_code.specs.declared.machine.Body.{Body}
+use Rattle.tt_code.specs.declared.machine.Body.TheVariants as body
 use Rattle.tt_code.specs.declared.machine.Frame.{Frame}
 use Rattle.tt_code.specs.declared.reason.Reason.{Reason}
 use Rattle.tt_code.specs.declared.reason.Reason.TheVariants as reason
@@ -97,6 +100,16 @@ pub none_at : (s : Setting) (fs : List Frame) (at : ℕ) (a : Abstract) (p : Lis
 unfolding outcome_on_cells
 none_at s fs at a p e f g =
     let none : instruction_of s fs at ≡ None = rw f (ap (λ q. instruction_at q at) (sym e) ∙ sym g) in ap (performs_cells s fs at a) none
+
+-- the body that the code finds decides whether an instruction of the point's body starts there
+pub starts_is : (s : Setting) (fs : List Frame) (at : ℕ) (p : List Instruction) (found : Option Body) → p ≡ program_of s fs → found ≡ body_at p at
+    → starts_in_body s fs at ≡ is_body (body_of fs) found
+starts_is s fs at p found e f = ap (λ q. is_body (body_of fs) (body_at q at)) (sym e) ∙ ap (is_body (body_of fs)) (sym f)
+
+pub none_is_body : (b : Body) → is_body b None ≡ false
+none_is_body body.Main = refl
+none_is_body (body.Function first) = refl
+none_is_body (body.Instruction first) = refl
 
 -- where no instruction of the body starts
 pub no_start : (s : Setting) (fs : List Frame) (at : ℕ) (a : Abstract) → starts_in_body s fs at ≡ false → outcome_on_cells s fs at a ≡ Err reason.Target

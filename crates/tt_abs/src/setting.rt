@@ -70,7 +70,7 @@ pub fn body_offset(body: u32) -> u32
 }
 
 /// The body in which a point stands.
-fn body_of(point: &Point<'_>) -> Body
+pub(crate) fn body_of(point: &Point<'_>) -> Body
     ensures { result ≡ body_of_frames (frames_of point.now) }
 {
     match point.frames {
@@ -80,7 +80,7 @@ fn body_of(point: &Point<'_>) -> Body
 }
 
 /// Are the two one body of the main program or of a function?
-fn is_same_body(body: Body, other: Body) -> bool
+pub(crate) fn is_same_body(body: Body, other: Body) -> bool
     ensures { result ≡ is_body body (Some other) }
 {
     match body {
@@ -129,16 +129,40 @@ impl<'a> Setting<'a> {
         }
     }
 
+    /// The least number of points of the zones that may be meant.
+    fn points_in(&self, zone: ZoneCell) -> u32
+        ensures { (z : ℤ) → is_below z result ≡ is_below_in (zone_size (setting_of self.now)) zone z }
+    {
+        let twilight = u32::from(self.limits.twilight);
+        match zone {
+            ZoneCell::Zero => twilight,
+            ZoneCell::One => self.glyph_zone(),
+            ZoneCell::Either => twilight.min(self.glyph_zone()),
+        }
+    }
+
+    /// The least number of points of the zones that count.
+    fn points_within(&self, graphics: &Graphics<Cell, ZoneCell>, within: Within) -> u32
+        ensures { (z : ℤ) → is_below z result ≡ is_point_in (setting_of self.now) graphics.now within z }
+    {
+        match within {
+            Within::In(p) => self.points_in(pointer(graphics, p)),
+            Within::Both(p, q) => {
+                let points = self.points_in(pointer(graphics, p));
+                points.min(self.points_in(pointer(graphics, q)))
+            }
+            Within::GlyphAnd(p) => {
+                let points = self.glyph_zone();
+                points.min(self.points_in(pointer(graphics, p)))
+            }
+        }
+    }
+
     /// Is the number a point's of each zone that may be meant?
     pub(crate) fn is_in(&self, zone: ZoneCell, number: i32) -> bool
         ensures { result ≡ is_below_in (zone_size (setting_of self.now)) zone number }
     {
-        let twilight = u32::from(self.limits.twilight);
-        match zone {
-            ZoneCell::Zero => is_index(number, twilight),
-            ZoneCell::One => is_index(number, self.glyph_zone()),
-            ZoneCell::Either => is_index(number, twilight) && is_index(number, self.glyph_zone()),
-        }
+        is_index(number, self.points_in(zone))
     }
 
     /// Is the number a point's of each zone that counts?
@@ -150,15 +174,7 @@ impl<'a> Setting<'a> {
     ) -> bool
         ensures { result ≡ is_point_in (setting_of self.now) graphics.now within number }
     {
-        match within {
-            Within::In(p) => self.is_in(pointer(graphics, p), number),
-            Within::Both(p, q) => {
-                self.is_in(pointer(graphics, p), number) && self.is_in(pointer(graphics, q), number)
-            }
-            Within::GlyphAnd(p) => {
-                is_index(number, self.glyph_zone()) && self.is_in(pointer(graphics, p), number)
-            }
-        }
+        is_index(number, self.points_within(graphics, within))
     }
 
     /// Is the number a contour's of each zone that may be meant?

@@ -1,5 +1,5 @@
 -- From what was read to what the program is.
-use Rattle.std.proofs.Common.{◌≡◌, ◌⊎◌, inl, inr, ℕ, zero, suc, ◌+◌, ◌-◌, ◌<◌, ◌^◌, List, [], ◌∷◌, ◌++◌, length, refl, sym, ◌∙◌, ap, arith, append_assoc, subst, reverse, false}
+use Rattle.std.proofs.Common.{◌≡◌, ◌⊎◌, inl, inr, ℕ, zero, suc, ◌+◌, ◌-◌, ◌<◌, ◌^◌, List, [], ◌∷◌, ◌++◌, length, refl, sym, ◌∙◌, ap, arith, append_assoc, subst, reverse, false, get_or}
 use Rattle.std.specs.Bool.{◌==◌}
 use Rattle.std.specs.List.{AllByRecursion, concat}
 use Rattle.std.proofs.lemmas.List.{length-append, length-reverse}
@@ -120,3 +120,7 @@ kept_structured slots bytes is k e = subst IsStructured e k.structured
 
 pub kept_table : (slots : List Slot) (bytes : List ℕ) (is : List Instruction) → IsKept slots bytes → kept slots bytes ≡ is → IsTable is [] (bodies slots) (targets slots)
 kept_table slots bytes is k e = subst (λ x. IsTable x [] (bodies slots) (targets slots)) e k.table
+
+-- the length that was read is the one that is kept
+pub length_read : (items now : List Slot) (o n : ℕ) → now ≡ items → n ≡ get_or (lengths now) o 0 → get_or (lengths items) o 0 ≡ n
+length_read items now o n same read = ap (λ t. get_or (lengths t) o 0) (sym same) ∙ sym read

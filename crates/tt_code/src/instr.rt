@@ -5,7 +5,7 @@ ghost use Rattle.tt_code.specs.Cut.{code_of, data_of};
 ghost use Rattle.tt_code.specs.Laid.{IsHeld};
 
 use crate::kinds::{Effect, Push};
-use crate::table::effect;
+use crate::table::entry;
 use std::marker::Model;
 
 /// An instruction: its code, and behind it the data of a push instruction. Contracts see its bytes.
@@ -60,7 +60,7 @@ impl<'a> Instr<'a> {
         ensures { result.now ≡ data_of self.now }
     {
         match self.bytes {
-            [code, rest @ ..] => match effect(*code) {
+            [code, rest @ ..] => match entry(*code) {
                 Effect::Push(Push::CountedBytes | Push::CountedWords) => &rest[1..],
                 _ => rest,
             },

@@ -24,7 +24,7 @@ pub use limits::Limits;
 pub use machine::{Body, Frame, Graphics};
 pub use program::Program;
 pub use reason::Reason;
-pub use table::{effect, name};
+pub use table::{effect, entry, name};
 
 #[cfg(test)]
 mod tests;

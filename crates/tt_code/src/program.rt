@@ -1,6 +1,6 @@
 //! Programs cut into their instructions, and their structure.
 
-ghost use Rattle.std.specs.Prelude.{◌≡◌, ℕ, ◌+◌, ◌^◌, ◌<◌, ◌≤◌, ◌⊎◌, List, length, Err, Some, IfOk, IfErr, IfSome, IfNone};
+ghost use Rattle.std.specs.Prelude.{◌≡◌, ℕ, ◌+◌, ◌^◌, ◌<◌, ◌≤◌, ◌⊎◌, List, length, Err, Some, IfOk, IfErr, IfSome, IfNone, option_map};
 ghost use Rattle.std.specs.List.{AllByRecursion};
 ghost use Rattle.tt_code.specs.Cut.{CannotBeCut, Instruction, IsCut, instruction_at, size};
 ghost use Rattle.tt_code.specs.Faults.{IsMemory, IsMisnested};
@@ -13,7 +13,7 @@ use crate::fault::CodeFault;
 use crate::instr::Instr;
 use crate::machine::Body;
 use crate::reading::Reading;
-use crate::slot::{Slot, body_of, length_at, target_of};
+use crate::slot::{Slot, body_of, length_at, start_at, target_of};
 use crate::word::{Word, word_of_code};
 use std::alloc::Global;
 use std::marker::Model;
@@ -188,5 +188,17 @@ impl<'a> Program<'a> {
         ensures none { IfNone result ((i : Instruction) → StandsAt self.now offset i → ⊥) }
     {
         body_of(&self.slots, offset)
+    }
+
+    /// The instruction that starts at the offset, with its body, if one does: what `at` and `body_at` say, by one look-up.
+    pub fn found_at(&self, offset: u32) -> Option<(Instr<'a>, Body)>
+        ensures instruction { option_map (λ found. found.0) result ≡ instruction_at self.now offset }
+        ensures body { option_map (λ found. found.1) result ≡ body_on_cut self.now offset }
+        ensures within { IfSome result (λ found. offset + length found.0 ≤ size self.now) }
+    {
+        let (n, body) = start_at(&self.slots, offset)?;
+        let start = offset as usize;
+        let instruction = Instr::new(&self.bytes[start..start + usize::from(n)]);
+        Some((instruction, body))
     }
 }

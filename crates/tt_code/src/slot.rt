@@ -1,6 +1,6 @@
 //! What is kept of each byte of a program.
 
-ghost use Rattle.std.specs.Prelude.{◌≡◌, ◌<◌, Some, None, slice_index};
+ghost use Rattle.std.specs.Prelude.{◌≡◌, ◌<◌, Some, None, IfNone, IfSome, option_map, slice_index};
 ghost use Rattle.tt_code.specs.Slots.{bodies, body_found, body_in, inside, lengths, target_found, target_in, targets};
 
 use crate::machine::Body;
@@ -102,6 +102,17 @@ pub fn body_of(slots: &[Slot], offset: u32) -> Option<Body>
     ensures { result ≡ body_found (bodies slots.now) offset }
 {
     slots.get(offset as usize)?.body()
+}
+
+/// How many bytes the instruction at the offset has, and its body, if one starts there.
+pub fn start_at(slots: &[Slot], offset: u32) -> Option<(u16, Body)>
+    ensures length { IfSome result (λ found. 0 < found.0 × (found.0 ≡ slice_index (lengths slots.now) offset)) }
+    ensures body { option_map (λ found. found.1) result ≡ body_found (bodies slots.now) offset }
+    ensures none { IfNone result (slice_index (lengths slots.now) offset ≡ 0) }
+{
+    let slot = slots.get(offset as usize)?;
+    let body = slot.body()?;
+    Some((slot.length, body))
 }
 
 /// Where control goes behind what the instruction at the offset opens, if one starts there and opens something.

@@ -973,12 +973,19 @@ fn names() -> &'static [&'static str; 256]
     &NAMES
 }
 
+/// The code's entry of the table, which says what `effect` says.
+pub fn entry(code: u8) -> &'static Effect
+    ensures { view result.now ≡ effect_of code }
+{
+    &effects()[code as usize]
+}
+
 /// What the instructions of a code take, test, change and push (Apple TrueType Reference Manual, "The TrueType
 /// instruction set").
 pub fn effect(code: u8) -> Effect
     ensures { view result ≡ effect_of code }
 {
-    effects()[code as usize]
+    *entry(code)
 }
 
 /// The code's name in the printed instruction set; a code without an entry has none.

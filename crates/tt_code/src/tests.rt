@@ -62,6 +62,9 @@ fn places(rt: HostRuntime) -> Result<(), Fail> {
     assert_eq!(rt; program.after_else(3), None);
     assert_eq!(rt; program.at(3).is_none(), true);
     assert_eq!(rt; program.at(1).is_some(), true);
+    assert_eq!(rt; program.found_at(3).is_none(), true);
+    let found = program.found_at(1).map(|found| (found.0.len(), found.1));
+    assert_eq!(rt; found, Some((3, Body::Main)));
     assert_eq!(rt; program.len(), 6);
     let program = Program::cut(rt.alloc(), &[0x89, 0x20, 0x2d])?;
     assert_eq!(rt; program.body_at(1), Some(Body::Instruction(1)));

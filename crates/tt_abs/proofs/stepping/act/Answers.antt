@@ -12,7 +12,7 @@ use Rattle.tt_abs.proofs.stepping.act.Goals as goal
 
 pub carry_out-requires : goal.carry_out-requires
 carry_out-requires c =
-    let plain = sym c.effect.ensures ∙ ap view c.in-Plain.is in record {
+    let plain = sym c.entry.ensures ∙ ap view c.in-Plain.is in record {
       tested = rows_tested c.code.result (line_of c.in-Plain.line) plain;
       one_kind = rows_of_one_kind c.code.result (line_of c.in-Plain.line) plain;
     }
@@ -24,7 +24,7 @@ returns-in_err-shuffle-in-Stack-clause-refused c =
     (λ q h code rest e.
     acts_not (setting_of c.args.setting.now) (frames_of c.args.point.now) c.args.point.now.offset (abstract_of c.args.state.now) (Stack c.in-Stack.operation) code rest
     (shuffled_cells c.in-Stack.operation (abstract_of c.args.state.now)) q
-    (ap effect_of (first_code c.args.instr.now c.code.result code rest c.code.ensures e) ∙ sym c.effect.ensures ∙ ap view c.in-Stack.is) (λ next. refl) (h (abstract_of c.args.state.now)))
+    (ap effect_of (first_code c.args.instr.now c.code.result code rest c.code.ensures e) ∙ sym c.entry.ensures ∙ ap view c.in-Stack.is) (λ next. refl) (h (abstract_of c.args.state.now)))
     c.in_err-shuffle-in-Stack.ensures.refused)
     c.from_residual-in_err-shuffle-in-Stack.ensures.1
 
@@ -35,30 +35,30 @@ returns-in_err-compute-in-Arithmetic-clause-refused c =
     (λ q h code rest e.
     acts_not (setting_of c.args.setting.now) (frames_of c.args.point.now) c.args.point.now.offset (abstract_of c.args.state.now) (Computes c.in-Arithmetic.operation) code rest
     (computed_cells c.in-Arithmetic.operation (abstract_of c.args.state.now)) q
-    (ap effect_of (first_code c.args.instr.now c.code.result code rest c.code.ensures e) ∙ sym c.effect.ensures ∙ ap view c.in-Arithmetic.is) (λ next. refl) (h (abstract_of c.args.state.now)))
+    (ap effect_of (first_code c.args.instr.now c.code.result code rest c.code.ensures e) ∙ sym c.entry.ensures ∙ ap view c.in-Arithmetic.is) (λ next. refl) (h (abstract_of c.args.state.now)))
     c.in_err-compute-in-Arithmetic.ensures.refused)
     c.from_residual-in_err-compute-in-Arithmetic.ensures.1
 
 pub returns-clause-ok : goal.returns-clause-ok
 returns-clause-ok c = λ code rest e.
-    let same = ap effect_of (first_code c.args.instr.now c.code.result code rest c.code.ensures e) ∙ sym c.effect.ensures in
+    let same = ap effect_of (first_code c.args.instr.now c.code.result code rest c.code.ensures e) ∙ sym c.entry.ensures in
     let size = c.len.ensures ∙ ap length e in
     let S = setting_of c.args.setting.now in
     let fs = frames_of c.args.point.now in
     let at = c.args.point.now.offset in
     let a = abstract_of c.args.state.now in
-    elim c.match-effect.branch [
+    elim c.match-entry.branch [
       | in-Plain+in_ok-carry_out-in-Plain w ↦
-          acts S fs at a (abstract_of c.match-effect.state) (Plain (line_of w.in-Plain.line)) code rest c.len.result (plain_cells S a (line_of w.in-Plain.line)) (same ∙ ap view w.in-Plain.is) (λ next. refl)
+          acts S fs at a (abstract_of c.match-entry.state) (Plain (line_of w.in-Plain.line)) code rest c.len.result (plain_cells S a (line_of w.in-Plain.line)) (same ∙ ap view w.in-Plain.is) (λ next. refl)
           (w.in_ok-carry_out-in-Plain.ensures.ok ∙ ap (λ s. Ok (abstract_of s)) (sym w.state-is)) size
       | in-Push+in_ok-push_data-in-Push w ↦
-          acts S fs at a (abstract_of c.match-effect.state) (Pushes w.in-Push.push) code rest c.len.result (Ok (pushed_cells w.in-Push.push a rest)) (same ∙ ap view w.in-Push.is) (λ next. refl)
-          (push_done c.args.state.now c.match-effect.state c.args.instr.now code rest w.in-Push.push w.data.result.now w.push_data.new.stack e (same ∙ ap view w.in-Push.is) w.data.ensures
+          acts S fs at a (abstract_of c.match-entry.state) (Pushes w.in-Push.push) code rest c.len.result (Ok (pushed_cells w.in-Push.push a rest)) (same ∙ ap view w.in-Push.is) (λ next. refl)
+          (push_done c.args.state.now c.match-entry.state c.args.instr.now code rest w.in-Push.push w.data.result.now w.push_data.new.stack e (same ∙ ap view w.in-Push.is) w.data.ensures
           w.in_ok-push_data-in-Push.ensures w.state-is) size
       | in-Stack+in_ok-shuffle-in-Stack w ↦
-          acts S fs at a (abstract_of c.match-effect.state) (Stack w.in-Stack.operation) code rest c.len.result (shuffled_cells w.in-Stack.operation a) (same ∙ ap view w.in-Stack.is) (λ next. refl)
+          acts S fs at a (abstract_of c.match-entry.state) (Stack w.in-Stack.operation) code rest c.len.result (shuffled_cells w.in-Stack.operation a) (same ∙ ap view w.in-Stack.is) (λ next. refl)
           (w.in_ok-shuffle-in-Stack.ensures.ok a ∙ ap (λ s. Ok (abstract_of s)) (sym w.state-is)) size
       | in-Arithmetic+in_ok-compute-in-Arithmetic w ↦
-          acts S fs at a (abstract_of c.match-effect.state) (Computes w.in-Arithmetic.operation) code rest c.len.result (computed_cells w.in-Arithmetic.operation a) (same ∙ ap view w.in-Arithmetic.is) (λ next. refl)
+          acts S fs at a (abstract_of c.match-entry.state) (Computes w.in-Arithmetic.operation) code rest c.len.result (computed_cells w.in-Arithmetic.operation a) (same ∙ ap view w.in-Arithmetic.is) (λ next. refl)
           (w.in_ok-compute-in-Arithmetic.ensures.ok a ∙ ap (λ s. Ok (abstract_of s)) (sym w.state-is)) size
     ]

@@ -1,45 +1,8 @@
-use Rattle.std.proofs.Common.{true, false, ◌≤◌, ◌<◌, length, arith}
 use Rattle.tt_abs.specs.Settings.{frames_of, setting_of}
 use Rattle.tt_abs.specs.States.{abstract_of}
-use Rattle.tt_abs.specs.Moves.{nexts_of}
-use Rattle.tt_abs.proofs.StepLemmas.{left_in_range, found_at, none_at, performs_not, performs_then, moves_within, moves_beyond, for_reason, passed_on}
+use Rattle.tt_abs.proofs.StepLemmas.{none_at}
 use Rattle.tt_abs.proofs.stepping.step.Goals as goal
 
 pub returns-in_default-clause-refused : goal.returns-in_default-clause-refused
 returns-in_default-clause-refused c =
     none_at (setting_of c.args.setting.now) (frames_of c.args.point.now) c.args.point.now.offset (abstract_of c.args.state.now) c.program-program.result.now c.program-program.ensures c.requires c.in_default.ensures.value
-
-pub returns-in_err-moves-clause-refused : goal.returns-in_err-moves-clause-refused
-returns-in_err-moves-clause-refused c =
-    let S = setting_of c.args.setting.now in
-    let fs = frames_of c.args.point.now in
-    let at = c.args.point.now.offset in
-    let found = found_at S fs at c.program-program.result.now c.in-Some.instr c.program-program.ensures c.requires c.in-Some.ensures.value in
-    passed_on c.from_residual.result c.in_err-moves.field-0.0 _
-    (for_reason c.in_err-moves.field-0.0 _ _ (λ q h. performs_not S fs at (abstract_of c.args.state.now) c.in-Some.instr q found h c.code.result c.code.ensures) c.in_err-moves.ensures.refused)
-    c.from_residual.ensures.1
-
-pub returns-then-len-from-clause-refused : goal.returns-then-len-from-clause-refused
-returns-then-len-from-clause-refused c =
-    let S = setting_of c.args.setting.now in
-    let fs = frames_of c.args.point.now in
-    let at = c.args.point.now.offset in
-    let found = found_at S fs at c.program-program.result.now c.in-Some.instr c.program-program.ensures c.requires c.in-Some.ensures.value in
-    let deep : c.args.setting.now.limits.stack < length c.act.new.state.stack = omega (arith, c.if-len-from.true, c.from.ensures, c.len-2.ensures.value) in
-    performs_then S fs at (abstract_of c.args.state.now) c.in-Some.instr (nexts_of fs c.in_ok-moves.moves (abstract_of c.act.new.state)) false found c.in_ok-moves.ensures.ok c.code.result c.code.ensures
-    (moves_beyond S fs c.in_ok-moves.moves (abstract_of c.act.new.state) deep)
-
-pub returns-clause-ok : goal.returns-clause-ok
-returns-clause-ok c =
-    let S = setting_of c.args.setting.now in
-    let fs = frames_of c.args.point.now in
-    let at = c.args.point.now.offset in
-    let found = found_at S fs at c.program-program.result.now c.in-Some.instr c.program-program.ensures c.requires c.in-Some.ensures.value in
-    let fine : length c.act.new.state.stack ≤ c.args.setting.now.limits.stack = omega (arith, c.if-len-from.false, c.from.ensures, c.len-2.ensures.value) in
-    performs_then S fs at (abstract_of c.args.state.now) c.in-Some.instr (nexts_of fs c.in_ok-moves.moves (abstract_of c.act.new.state)) true found c.in_ok-moves.ensures.ok c.code.result c.code.ensures
-    (moves_within S fs c.in_ok-moves.moves (abstract_of c.act.new.state) fine)
-
-pub returns-clause-in_range : goal.returns-clause-in_range
-returns-clause-in_range c = λ h.
-    left_in_range (setting_of c.args.setting.now) (frames_of c.args.point.now) c.args.point.now.offset c.args.state.now c.act.new.state c.in_ok-moves.moves c.is_within.ensures.range h (returns-clause-ok c)
-    c.rises.ensures.functions c.rises.ensures.storage

@@ -1,16 +1,11 @@
-use Rattle.std.proofs.Common.{◌≡◌, ℕ, ◌+◌, ◌-◌, ◌<◌, ◌≤◌, List, length, take, arith, sym, ◌∙◌, ap, get_or, rules, None, Some, drop}
+use Rattle.std.proofs.Common.{◌≡◌, ◌+◌, ◌-◌, ◌<◌, ◌≤◌, length, take, arith, sym, ◌∙◌, ap, get_or, rules, None, Some, drop}
 use Rattle.std.proofs.lemmas.List.{length-take-le, length-drop}
 use Rattle.tt_code.specs.Cut.{instruction_at}
 use Rattle.tt_code.specs.Slots.{lengths}
-use Rattle.tt_code.specs.declared.slot.Slot.{Slot}
 use Rattle.tt_code.proofs.CutLemmas.{at_kept, kept_fits, kept_instruction, kept_size, piece_at, piece_at_some}
-use Rattle.tt_code.proofs.ProgramLemmas.{kept_each}
+use Rattle.tt_code.proofs.ProgramLemmas.{kept_each, length_read}
 use Rattle.tt_code.proofs.StructureLaws.{each_bytes, found_stands, stands_found}
 use Rattle.tt_code.proofs.program.Program.at.Goals as goal
-
--- the length that was read is the one that is kept
-length_read : (items now : List Slot) (o n : ℕ) → now ≡ items → n ≡ get_or (lengths now) o 0 → get_or (lengths items) o 0 ≡ n
-length_read items now o n same read = ap (λ t. get_or (lengths t) o 0) (sym same) ∙ sym read
 
 pub returns-then-n-eq0-clause-value : goal.returns-then-n-eq0-clause-value
 returns-then-n-eq0-clause-value c =

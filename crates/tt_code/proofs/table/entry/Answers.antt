@@ -2,7 +2,7 @@ use Rattle.std.proofs.Common.{◌<◌, arith, zero-add, ap, ◌∙◌}
 use Rattle.tt_code.proofs.TableLemmas.{agrees_at}
 use Rattle.tt_code.specs.Entries.{view}
 use Rattle.tt_code.specs.Table.{effect_of}
-use Rattle.tt_code.proofs.table.effect.Goals as goal
+use Rattle.tt_code.proofs.table.entry.Goals as goal
 
 pub returns : goal.returns
 returns c =
