@@ -268,7 +268,11 @@ impl Stack {
         } else {
             SmallVec::from_vec(Vec::from_slice(alloc, codes)?)
         };
-        let wide = Vec::from_slice(alloc, self.wide.as_slice())?;
+        let wide = if self.wide.is_empty() {
+            Vec::new(alloc)
+        } else {
+            Vec::from_slice(alloc, self.wide.as_slice())?
+        };
         Ok(Stack { wide, codes })
     }
 
