@@ -1,6 +1,6 @@
 //! The stack of cells.
 
-ghost use Rattle.std.specs.Prelude.{◌≡◌, ℕ, ◌↔◌, ◌<◌, ◌≢◌, ◌+◌, ◌^◌, ◌++◌, [], ◌∷◌, length, drop, remove, reverse, slice_get, map, pos, IsTrue, IfSome, OnOk, OnErr, IfOk};
+ghost use Rattle.std.specs.Prelude.{◌≡◌, ℕ, ◌↔◌, ◌<◌, ◌≢◌, ◌+◌, ◌-◌, ◌^◌, ◌++◌, [], ◌∷◌, length, drop, take, remove, reverse, slice_get, map, pos, IsTrue, IfSome, OnOk, OnErr, IfOk};
 ghost use Rattle.smallvec.specs.SmallVec.{HasRoomFor};
 ghost use Rattle.tt_code.specs.Computing.{word_number, words};
 ghost use Rattle.tt_abs.specs.Transfers.{cells_on};
@@ -21,6 +21,9 @@ use std::marker::Model;
 
 /// How many cells a stack may have at most.
 const MOST_CELLS: usize = 0x7fff_ffff;
+
+/// So many codes are taken away one by one: `truncate` clears those that it takes by a call, which a few aren't worth.
+const FEW: usize = 8;
 
 /// A stack of cells, which contracts see top first. Up to 32 cells need no allocation, if each is unknown or has a number from
 /// -32,767 to 32,767.
@@ -69,6 +72,20 @@ fn push_wide(wide: &mut Vec<Cell>, codes: &mut Codes, cell: Cell) -> Result<(), 
     wide.push_reserved(cell);
     codes.clear();
     Ok(())
+}
+
+/// Takes so many codes away from the end, or all of them if there are fewer.
+fn shorten(codes: &mut Codes, count: usize)
+    ensures { codes.new.items ≡ take (length codes.old.items - count) codes.old.items }
+{
+    if count > FEW {
+        let len = codes.len();
+        codes.truncate(len.saturating_sub(count));
+        return;
+    }
+    for _ in 0..count {
+        codes.pop();
+    }
 }
 
 /// The signed word of two bytes.
@@ -202,10 +219,12 @@ impl Stack {
         ensures { self.new ≡ drop count self.old }
     {
         let codes = self.codes.len();
-        let wide = self.wide.len();
-        self.codes.truncate(codes.saturating_sub(count));
-        self.wide
-            .truncate(wide.saturating_sub(count.saturating_sub(codes)));
+        shorten(&mut self.codes, count);
+        let more = count.saturating_sub(codes);
+        if more > 0 {
+            let wide = self.wide.len();
+            self.wide.truncate(wide.saturating_sub(more));
+        }
     }
 
     /// Takes one cell out, by its place from the top: 0 is the top.
@@ -249,7 +268,11 @@ impl Stack {
         } else {
             SmallVec::from_vec(Vec::from_slice(alloc, codes)?)
         };
-        let wide = Vec::from_slice(alloc, self.wide.as_slice())?;
+        let wide = if self.wide.is_empty() {
+            Vec::new(alloc)
+        } else {
+            Vec::from_slice(alloc, self.wide.as_slice())?
+        };
         Ok(Stack { wide, codes })
     }
 
@@ -263,6 +286,10 @@ impl Stack {
         self.wide.clear();
         self.codes.clear();
         self.codes.extend_from_slice(other.codes.as_slice())?;
+        // As mostly.
+        if other.wide.is_empty() {
+            return Ok(());
+        }
         self.wide.extend_from_slice(other.wide.as_slice())
     }
 
