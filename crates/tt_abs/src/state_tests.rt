@@ -124,7 +124,7 @@ fn copies(rt: HostRuntime) -> Result<(), Fail> {
 }
 
 #[test]
-fn copies_over_others(rt: HostRuntime) -> Result<(), Fail> {
+fn copies_over_a_longer_one(rt: HostRuntime) -> Result<(), Fail> {
     let mut state = with_stack(rt.alloc(), &[Known(1), Unknown])?;
     state.set_storage(3, Known(-1))?;
     state.set_rp(Reference::Rp1, Known(4));
@@ -138,6 +138,11 @@ fn copies_over_others(rt: HostRuntime) -> Result<(), Fail> {
     assert_eq!(rt; longer.depth(), 2);
     assert_eq!(rt; longer.rp(Reference::Rp1), Known(4));
     assert_eq!(rt; longer.stored(), [(3, -1)].as_slice());
+    Ok(())
+}
+
+#[test]
+fn copies_over_a_shorter_one(rt: HostRuntime) -> Result<(), Fail> {
     let mut shorter = State::start(rt.alloc(), &[])?;
     let full = with_stack(rt.alloc(), &[Known(7); 40])?;
     shorter.copy_from(&full)?;
@@ -149,7 +154,7 @@ fn copies_over_others(rt: HostRuntime) -> Result<(), Fail> {
 }
 
 #[test]
-fn same_states(rt: HostRuntime) -> Result<(), Fail> {
+fn same_stacks_and_storage(rt: HostRuntime) -> Result<(), Fail> {
     let mut state = State::start(rt.alloc(), &[(1, 10)])?;
     state.push(Known(1))?;
     state.push(Unknown)?;
@@ -160,14 +165,20 @@ fn same_states(rt: HostRuntime) -> Result<(), Fail> {
     assert_eq!(rt; other.below(&state), true);
     other.set_storage(3, Unknown)?;
     assert_eq!(rt; other.is_same(&state), true);
+    other.push(Known(0))?;
+    assert_eq!(rt; other.is_same(&state), false);
+    Ok(())
+}
+
+#[test]
+fn same_graphics_and_functions(rt: HostRuntime) -> Result<(), Fail> {
+    let mut state = State::start(rt.alloc(), &[(1, 10)])?;
+    let mut other = state.copied()?;
     other.set_rp(Reference::Rp2, Unknown);
     assert_eq!(rt; other.is_same(&state), false);
     state.set_rp(Reference::Rp2, Unknown);
     assert_eq!(rt; other.is_same(&state), true);
     other.define(1, 20)?;
-    assert_eq!(rt; other.is_same(&state), false);
-    other.copy_from(&state)?;
-    other.push(Known(0))?;
     assert_eq!(rt; other.is_same(&state), false);
     Ok(())
 }
@@ -268,6 +279,17 @@ fn stacks_of_small_and_great_numbers(rt: HostRuntime) -> Result<(), Fail> {
     assert_eq!(rt; stack.under(0), Some(Unknown));
     assert_eq!(rt; stack.under(8), None);
     assert_eq!(rt; stack.above(8), None);
+    Ok(())
+}
+
+#[test]
+fn calls_of_stacks_of_great_numbers(rt: HostRuntime) -> Result<(), Fail> {
+    let mut stack = Stack::new(rt.alloc());
+    stack.push_bytes(&[0, 255])?;
+    stack.push_words(&[0x7f, 0xff, 0x80, 0x00, 0xff, 0xff])?;
+    stack.push(Known(70_000))?;
+    stack.push(Known(2))?;
+    stack.push(Unknown)?;
     stack.remove(1);
     assert_eq!(rt; stack.under(1), Some(Known(70_000)));
     stack.remove(2);
