@@ -39,13 +39,9 @@ fn end_functions(
     let certificate = look(alloc, memory, name, setting)?;
     // An accepted font program or CVT program has a state at its end.
     let functions = certificate.end_functions(setting.main.len()).unwrap();
-    match Vec::from_slice(alloc, functions) {
-        Ok(copy) => {
-            *memory = certificate.into_builder();
-            Ok(copy)
-        }
-        Err(error) => Err(LookFault::OutOfMemory(error)),
-    }
+    let copy = Vec::from_slice(alloc, functions)?;
+    *memory = certificate.into_builder();
+    Ok(copy)
 }
 
 /// Looks at the font program: the functions that are known at its end.
@@ -190,10 +186,7 @@ fn look_at_all(alloc: Global, font: &Font<'_>) -> Result<Vec<Refused>, LookFault
         prep: &prep,
         known: &known,
     };
-    match refused_glyphs(alloc, &mut memory, &common) {
-        Ok(refused) => Ok(refused),
-        Err(error) => Err(LookFault::OutOfMemory(error)),
-    }
+    Ok(refused_glyphs(alloc, &mut memory, &common)?)
 }
 
 /// The refused programs of a font, in their order.
@@ -223,9 +216,6 @@ pub fn verdict(alloc: Global, font: &[u8]) -> Result<Verdict, FontFault>
     ensures faults { TestsWithMemory (font_fault font.now) result }
 {
     let read = Font::read(alloc, font)?;
-    let refused = match refused_programs(alloc, &read) {
-        Ok(refused) => refused,
-        Err(error) => return Err(FontFault::OutOfMemory(error)),
-    };
+    let refused = refused_programs(alloc, &read)?;
     Ok(Verdict::new(u32::from(read.glyph_count()) + 2, refused))
 }

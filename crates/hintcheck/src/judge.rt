@@ -46,10 +46,7 @@ fn look_at(alloc: Global, glyph: &Glyph, program: &[u8]) -> Result<(), LookFault
 {
     let name = Name::Glyph(0);
     let main = cut(alloc, name, program)?;
-    let empty = match empty_program(alloc) {
-        Ok(empty) => empty,
-        Err(error) => return Err(LookFault::OutOfMemory(error)),
-    };
+    let empty = empty_program(alloc)?;
     let setting = Setting {
         limits: glyph.limits,
         cvt: u32::from(glyph.cvt),
@@ -63,10 +60,8 @@ fn look_at(alloc: Global, glyph: &Glyph, program: &[u8]) -> Result<(), LookFault
         start: &[],
     };
     let mut memory = Builder::new(alloc);
-    match look(alloc, &mut memory, name, &setting) {
-        Ok(_) => Ok(()),
-        Err(fault) => Err(fault),
-    }
+    look(alloc, &mut memory, name, &setting)?;
+    Ok(())
 }
 
 /// The refused ones of the only program.
@@ -121,8 +116,6 @@ pub fn bare(
         points,
         contours,
     };
-    match refused_programs(alloc, &glyph, program) {
-        Ok(refused) => Ok(Verdict::new(1, refused)),
-        Err(error) => Err(FontFault::OutOfMemory(error)),
-    }
+    let refused = refused_programs(alloc, &glyph, program)?;
+    Ok(Verdict::new(1, refused))
 }

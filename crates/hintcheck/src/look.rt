@@ -27,6 +27,17 @@ pub(crate) enum LookFault {
     OutOfMemory(AllocError),
 }
 
+impl From<AllocError> for LookFault {
+    ghost use Rattle.std.specs.Prelude.{◌≡◌};
+    ghost use Rattle.hintcheck.specs.declared.look.LookFault.TheVariants.{OutOfMemory};
+
+    ghost from_gives = { λ error fault. fault ≡ OutOfMemory error };
+
+    fn from(error: AllocError) -> LookFault {
+        LookFault::OutOfMemory(error)
+    }
+}
+
 /// The program in which a place stands that is reached from a program of this name.
 fn program_at(name: Name, spot: Spot) -> Name
     ensures { result ≡ program_at_spot name spot }

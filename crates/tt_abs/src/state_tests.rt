@@ -21,19 +21,27 @@ fn with_stack(alloc: Global, cells: &[Cell]) -> Result<State, AllocError>
     Ok(state)
 }
 
+/// Whether a state's stack holds these cells, the bottom first.
+fn holds(state: &State, cells: &[Cell]) -> bool {
+    for (place, cell) in cells.iter().enumerate() {
+        if state.cell(place) != Some(*cell) {
+            return false;
+        }
+    }
+    state.depth() == cells.len()
+}
+
 #[test]
 fn joins_of_stacks(rt: HostRuntime) -> Result<(), Fail> {
     let mut state = with_stack(rt.alloc(), &[Known(1), Known(2)])?;
     let other = with_stack(rt.alloc(), &[Known(1), Known(3)])?;
-    assert_eq!(rt; state.below(&other), false);
+    assert!(rt; !state.below(&other));
     let changed = state.join(&other)?;
-    assert_eq!(rt; changed, true);
-    assert_eq!(rt; state.depth(), 2);
-    assert_eq!(rt; state.cell(0), Some(Known(1)));
-    assert_eq!(rt; state.cell(1), Some(Unknown));
+    assert!(rt; changed);
+    assert!(rt; holds(&state, &[Known(1), Unknown]));
     assert_eq!(rt; state.cell(2), None);
-    assert_eq!(rt; other.below(&state), true);
-    assert_eq!(rt; state.join(&other)?, false);
+    assert!(rt; other.below(&state));
+    assert!(rt; !state.join(&other)?);
     Ok(())
 }
 
@@ -56,10 +64,17 @@ fn joins_of_storage(rt: HostRuntime) -> Result<(), Fail> {
     other.set_storage(1, Known(7))?;
     other.set_storage(2, Known(6))?;
     let changed = state.join(&other)?;
-    assert_eq!(rt; changed, true);
+    assert!(rt; changed);
+    assert_eq!(rt; [state.storage(1), state.storage(2)], [Known(7), Unknown]);
+    assert!(rt; !state.join(&other)?);
+    Ok(())
+}
+
+#[test]
+fn forgets_storage(rt: HostRuntime) -> Result<(), Fail> {
+    let mut state = State::start(rt.alloc(), &[])?;
+    state.set_storage(1, Known(7))?;
     assert_eq!(rt; state.storage(1), Known(7));
-    assert_eq!(rt; state.storage(2), Unknown);
-    assert_eq!(rt; state.join(&other)?, false);
     state.set_storage(1, Unknown)?;
     assert_eq!(rt; state.storage(1), Unknown);
     Ok(())
@@ -70,9 +85,9 @@ fn joins_of_functions(rt: HostRuntime) -> Result<(), Fail> {
     let mut state = State::start(rt.alloc(), &[(1, 10), (2, 20)])?;
     let other = State::start(rt.alloc(), &[(1, 10), (2, 30)])?;
     let changed = state.join(&other)?;
-    assert_eq!(rt; changed, true);
+    assert!(rt; changed);
     assert_eq!(rt; state.functions(), [(1, 10)].as_slice());
-    assert_eq!(rt; state.join(&other)?, false);
+    assert!(rt; !state.join(&other)?);
     state.define(2, 20)?;
     assert_eq!(rt; state.functions(), [(1, 10), (2, 20)].as_slice());
     Ok(())
@@ -85,11 +100,11 @@ fn joins_of_graphics(rt: HostRuntime) -> Result<(), Fail> {
     other.set_zone(Pointer::Zp1, ZoneCell::Zero);
     other.set_loop(Known(2));
     let changed = state.join(&other)?;
-    assert_eq!(rt; changed, true);
+    assert!(rt; changed);
     assert_eq!(rt; state.zone(Pointer::Zp0), ZoneCell::One);
     assert_eq!(rt; state.zone(Pointer::Zp1), ZoneCell::Either);
     assert_eq!(rt; state.loop_cell(), Unknown);
-    assert_eq!(rt; state.join(&other)?, false);
+    assert!(rt; !state.join(&other)?);
     Ok(())
 }
 
@@ -114,9 +129,9 @@ fn copies(rt: HostRuntime) -> Result<(), Fail> {
     let mut state = with_stack(rt.alloc(), &[Known(1), Unknown])?;
     state.set_storage(3, Known(-1))?;
     let mut copy = state.copied()?;
-    assert_eq!(rt; copy.below(&state), true);
-    assert_eq!(rt; state.below(&copy), true);
-    assert_eq!(rt; copy.join(&state)?, false);
+    assert!(rt; copy.below(&state));
+    assert!(rt; state.below(&copy));
+    assert!(rt; !copy.join(&state)?);
     copy.set_loop(Unknown);
     assert_eq!(rt; copy.loop_cell(), Unknown);
     assert_eq!(rt; state.loop_cell(), Known(1));
@@ -133,8 +148,8 @@ fn copies_over_a_longer_one(rt: HostRuntime) -> Result<(), Fail> {
     longer.set_storage(2, Known(6))?;
     longer.set_storage(3, Known(6))?;
     longer.copy_from(&state)?;
-    assert_eq!(rt; longer.below(&state), true);
-    assert_eq!(rt; state.below(&longer), true);
+    assert!(rt; longer.below(&state));
+    assert!(rt; state.below(&longer));
     assert_eq!(rt; longer.depth(), 2);
     assert_eq!(rt; longer.rp(Reference::Rp1), Known(4));
     assert_eq!(rt; longer.stored(), [(3, -1)].as_slice());
@@ -146,8 +161,8 @@ fn copies_over_a_shorter_one(rt: HostRuntime) -> Result<(), Fail> {
     let mut shorter = State::start(rt.alloc(), &[])?;
     let full = with_stack(rt.alloc(), &[Known(7); 40])?;
     shorter.copy_from(&full)?;
-    assert_eq!(rt; shorter.below(&full), true);
-    assert_eq!(rt; full.below(&shorter), true);
+    assert!(rt; shorter.below(&full));
+    assert!(rt; full.below(&shorter));
     assert_eq!(rt; shorter.depth(), 40);
     assert_eq!(rt; shorter.cell(39), Some(Known(7)));
     Ok(())
@@ -159,14 +174,14 @@ fn same_stacks_and_storage(rt: HostRuntime) -> Result<(), Fail> {
     state.push(Known(1))?;
     state.push(Unknown)?;
     let mut other = state.copied()?;
-    assert_eq!(rt; other.is_same(&state), true);
+    assert!(rt; other.is_same(&state));
     other.set_storage(3, Known(-1))?;
-    assert_eq!(rt; other.is_same(&state), false);
-    assert_eq!(rt; other.below(&state), true);
+    assert!(rt; !other.is_same(&state));
+    assert!(rt; other.below(&state));
     other.set_storage(3, Unknown)?;
-    assert_eq!(rt; other.is_same(&state), true);
+    assert!(rt; other.is_same(&state));
     other.push(Known(0))?;
-    assert_eq!(rt; other.is_same(&state), false);
+    assert!(rt; !other.is_same(&state));
     Ok(())
 }
 
@@ -175,11 +190,11 @@ fn same_graphics_and_functions(rt: HostRuntime) -> Result<(), Fail> {
     let mut state = State::start(rt.alloc(), &[(1, 10)])?;
     let mut other = state.copied()?;
     other.set_rp(Reference::Rp2, Unknown);
-    assert_eq!(rt; other.is_same(&state), false);
+    assert!(rt; !other.is_same(&state));
     state.set_rp(Reference::Rp2, Unknown);
-    assert_eq!(rt; other.is_same(&state), true);
+    assert!(rt; other.is_same(&state));
     other.define(1, 20)?;
-    assert_eq!(rt; other.is_same(&state), false);
+    assert!(rt; !other.is_same(&state));
     Ok(())
 }
 
@@ -202,50 +217,69 @@ fn calls_of_stacks(rt: HostRuntime) -> Result<(), Fail> {
     Ok(())
 }
 
+/// Cells whose numbers need up to 32 bits.
+const WIDE: [Cell; 9] = [
+    Known(32_767),
+    Known(-32_767),
+    Unknown,
+    Known(32_768),
+    Known(-32_768),
+    Known(i32::MIN),
+    Known(i32::MAX),
+    Known(5),
+    Unknown,
+];
+
 #[test]
 fn numbers_of_more_bits(rt: HostRuntime) -> Result<(), Fail> {
-    let cells = [
-        Known(32_767),
-        Known(-32_767),
-        Unknown,
-        Known(32_768),
-        Known(-32_768),
-        Known(i32::MIN),
-        Known(i32::MAX),
-        Known(5),
-        Unknown,
-    ];
-    let state = with_stack(rt.alloc(), &cells)?;
+    let state = with_stack(rt.alloc(), &WIDE)?;
+    assert!(rt; holds(&state, &WIDE));
+    Ok(())
+}
+
+#[test]
+fn copies_of_numbers_of_more_bits(rt: HostRuntime) -> Result<(), Fail> {
+    let state = with_stack(rt.alloc(), &WIDE)?;
     let mut copy = State::start(rt.alloc(), &[])?;
     copy.copy_from(&state)?;
-    for place in 0..cells.len() {
-        assert_eq!(rt; state.cell(place), Some(cells[place]), "at {place}");
-        assert_eq!(rt; copy.cell(place), Some(cells[place]), "at {place}");
-    }
-    assert_eq!(rt; copy.is_same(&state), true);
-    assert_eq!(rt; state.copied()?.is_same(&copy), true);
-    assert_eq!(rt; copy.join(&state)?, false);
+    assert!(rt; holds(&copy, &WIDE));
+    assert!(rt; copy.is_same(&state));
+    assert!(rt; state.copied()?.is_same(&copy));
+    assert!(rt; !copy.join(&state)?);
     Ok(())
 }
 
 #[test]
 fn numbers_of_the_same_low_bits(rt: HostRuntime) -> Result<(), Fail> {
     // 70,000 is 65,536 and 4,464.
+    let state = with_stack(rt.alloc(), &[Known(7), Known(70_000), Known(1)])?;
+    let other = with_stack(rt.alloc(), &[Known(7), Known(4_464), Known(1)])?;
+    assert!(rt; !state.below(&other));
+    assert!(rt; !other.below(&state));
+    assert!(rt; !state.is_same(&other));
+    Ok(())
+}
+
+#[test]
+fn joins_of_numbers_of_the_same_low_bits(rt: HostRuntime) -> Result<(), Fail> {
+    let mut state = with_stack(rt.alloc(), &[Known(7), Known(70_000), Known(1)])?;
+    let other = with_stack(rt.alloc(), &[Known(7), Known(4_464), Known(1)])?;
+    assert!(rt; state.join(&other)?);
+    assert!(rt; holds(&state, &[Known(7), Unknown, Known(1)]));
+    assert!(rt; other.below(&state));
+    assert!(rt; !state.below(&other));
+    Ok(())
+}
+
+#[test]
+fn joins_of_the_same_low_bits_either_way(rt: HostRuntime) -> Result<(), Fail> {
     let mut state = with_stack(rt.alloc(), &[Known(7), Known(70_000), Known(1)])?;
     let mut other = with_stack(rt.alloc(), &[Known(7), Known(4_464), Known(1)])?;
-    assert_eq!(rt; state.below(&other), false);
-    assert_eq!(rt; other.below(&state), false);
-    assert_eq!(rt; state.is_same(&other), false);
     let first = state.copied()?;
-    assert_eq!(rt; state.join(&other)?, true);
-    assert_eq!(rt; state.cell(0), Some(Known(7)));
-    assert_eq!(rt; state.cell(1), Some(Unknown));
-    assert_eq!(rt; state.cell(2), Some(Known(1)));
-    assert_eq!(rt; other.join(&first)?, true);
-    assert_eq!(rt; other.is_same(&state), true);
-    assert_eq!(rt; state.is_same(&other), true);
-    assert_eq!(rt; first.below(&other), true);
-    assert_eq!(rt; other.below(&first), false);
+    assert!(rt; state.join(&other)?);
+    assert!(rt; other.join(&first)?);
+    assert!(rt; other.is_same(&state));
+    assert!(rt; state.is_same(&other));
     Ok(())
 }
 
@@ -253,10 +287,10 @@ fn numbers_of_the_same_low_bits(rt: HostRuntime) -> Result<(), Fail> {
 fn least_number_of_16_bits_is_known(rt: HostRuntime) -> Result<(), Fail> {
     let mut state = with_stack(rt.alloc(), &[Known(-32_768)])?;
     let unknown = with_stack(rt.alloc(), &[Unknown])?;
-    assert_eq!(rt; state.is_same(&unknown), false);
-    assert_eq!(rt; state.below(&unknown), true);
-    assert_eq!(rt; unknown.below(&state), false);
-    assert_eq!(rt; state.join(&unknown)?, true);
+    assert!(rt; !state.is_same(&unknown));
+    assert!(rt; state.below(&unknown));
+    assert!(rt; !unknown.below(&state));
+    assert!(rt; state.join(&unknown)?);
     assert_eq!(rt; state.cell(0), Some(Unknown));
     Ok(())
 }

@@ -70,6 +70,13 @@ fn joined_states(rt: HostRuntime) -> Result<(), Fail> {
         builder.state(0, 5).and_then(|state| state.cell(1)),
         Some(Cell::Unknown)
     );
+    Ok(())
+}
+
+#[test]
+fn states_of_other_depths(rt: HostRuntime) -> Result<(), Fail> {
+    let mut builder = Builder::new(rt.alloc());
+    put(&mut builder, 0, 5, &state_of(rt.alloc(), 1, 2)?)?;
     let start = start_of(rt.alloc())?;
     assert_eq!(rt;
         put(&mut builder, 0, 5, &start),
@@ -81,19 +88,30 @@ fn joined_states(rt: HostRuntime) -> Result<(), Fail> {
     Ok(())
 }
 
-#[test]
-fn finished_contexts(rt: HostRuntime) -> Result<(), Fail> {
-    let mut builder = Builder::new(rt.alloc());
+/// The certificate of a builder's family.
+fn finished(builder: Builder) -> Result<Certificate, Fail> {
+    match builder.finish() {
+        Ok(certificate) => Ok(certificate),
+        Err(_) => Err(Fail::new("no certificate")),
+    }
+}
+
+/// The certificate of a family with two contexts below the main program, and a third below the later one of them.
+fn certificate_of_calls(alloc: Global) -> Result<Certificate, Fail> {
+    let mut builder = Builder::new(alloc);
     let outer = add(&mut builder, 0, call_at(9))?;
     let inner = add(&mut builder, outer, call_at(3))?;
     let other = add(&mut builder, 0, call_at(2))?;
-    let state = state_of(rt.alloc(), 1, 2)?;
+    let state = state_of(alloc, 1, 2)?;
     for (context, offset) in [(inner, 8), (other, 6), (outer, 4), (outer, 1)] {
-        assert_eq!(rt; put(&mut builder, context, offset, &state), Ok(true));
+        put(&mut builder, context, offset, &state)?;
     }
-    let Ok(certificate) = builder.finish() else {
-        return Err(Fail::new("no certificate"));
-    };
+    finished(builder)
+}
+
+#[test]
+fn finished_contexts(rt: HostRuntime) -> Result<(), Fail> {
+    let certificate = certificate_of_calls(rt.alloc())?;
     assert_eq!(rt; certificate.contexts(), 4);
     assert_eq!(rt; certificate.context(0), None);
     assert_eq!(rt; certificate.context(1), Some((0, call_at(2))));
@@ -106,6 +124,12 @@ fn finished_contexts(rt: HostRuntime) -> Result<(), Fail> {
         certificate.frames(rt.alloc(), 3)?.as_slice(),
         [call_at(9), call_at(3)].as_slice()
     );
+    Ok(())
+}
+
+#[test]
+fn finished_points(rt: HostRuntime) -> Result<(), Fail> {
+    let certificate = certificate_of_calls(rt.alloc())?;
     let mut points = Vec::new(rt.alloc());
     let mut states = certificate.states();
     for _ in 0..certificate.points() {
@@ -120,7 +144,7 @@ fn finished_contexts(rt: HostRuntime) -> Result<(), Fail> {
     );
     assert_eq!(rt; certificate.points(), 4);
     assert_eq!(rt; certificate.state(2, 1).map(State::depth), Some(2));
-    assert_eq!(rt; certificate.end_functions(8).is_none(), true);
+    assert!(rt; certificate.end_functions(8).is_none());
     Ok(())
 }
 
@@ -135,9 +159,7 @@ fn contexts_in_the_order_of_the_file(rt: HostRuntime) -> Result<(), Fail> {
     add(&mut builder, 0, frame)?;
     add(&mut builder, 0, fewer)?;
     add(&mut builder, 0, lower)?;
-    let Ok(certificate) = builder.finish() else {
-        return Err(Fail::new("no certificate"));
-    };
+    let certificate = finished(builder)?;
     assert_eq!(rt; certificate.context(1), Some((0, lower)));
     assert_eq!(rt; certificate.context(2), Some((0, fewer)));
     assert_eq!(rt; certificate.context(3), Some((0, frame)));
@@ -171,6 +193,14 @@ fn cleared_builders(rt: HostRuntime) -> Result<(), Fail> {
     assert_eq!(rt; builder.contexts(), 1);
     assert_eq!(rt; builder.points(), 0);
     assert_eq!(rt; second_cell(&builder, 0, 7), None);
+    Ok(())
+}
+
+#[test]
+fn cleared_builders_take_other_states(rt: HostRuntime) -> Result<(), Fail> {
+    let mut builder = Builder::new(rt.alloc());
+    put_some(rt.alloc(), &mut builder, 5, 2)?;
+    builder.clear();
     put_some(rt.alloc(), &mut builder, 4, 9)?;
     assert_eq!(rt; builder.contexts(), 2);
     assert_eq!(rt; builder.context(1), Some((0, call_at(4))));
@@ -185,10 +215,7 @@ fn cleared_builders(rt: HostRuntime) -> Result<(), Fail> {
 fn builder_in_the_memory_of_a_certificate(rt: HostRuntime) -> Result<(), Fail> {
     let mut builder = Builder::new(rt.alloc());
     put_some(rt.alloc(), &mut builder, 5, 2)?;
-    let Ok(certificate) = builder.finish() else {
-        return Err(Fail::new("no certificate"));
-    };
-    let mut builder = certificate.into_builder();
+    let mut builder = finished(builder)?.into_builder();
     assert_eq!(rt; builder.contexts(), 1);
     assert_eq!(rt; builder.points(), 0);
     put_some(rt.alloc(), &mut builder, 4, 9)?;
@@ -249,7 +276,7 @@ fn points_out_of_order_after_a_clear(rt: HostRuntime) -> Result<(), Fail> {
     add(&mut builder, 0, call_at(2))?;
     put_at(rt.alloc(), &mut builder, 1, &[5, 3, 9, 4])?;
     builder.clear();
-    assert_eq!(rt; points_of(rt.alloc(), &builder)?.is_empty(), true);
+    assert!(rt; points_of(rt.alloc(), &builder)?.is_empty());
     add(&mut builder, 0, call_at(2))?;
     assert_eq!(rt; second_cell(&builder, 1, 3), None);
     put_at(rt.alloc(), &mut builder, 1, &[2, 4, 3])?;
@@ -265,9 +292,7 @@ fn points_out_of_order_after_a_clear(rt: HostRuntime) -> Result<(), Fail> {
 fn functions_at_the_end(rt: HostRuntime) -> Result<(), Fail> {
     let mut builder = Builder::new(rt.alloc());
     put(&mut builder, 0, 12, &start_of(rt.alloc())?)?;
-    let Ok(certificate) = builder.finish() else {
-        return Err(Fail::new("no certificate"));
-    };
+    let certificate = finished(builder)?;
     assert_eq!(rt; certificate.end_functions(12), Some(&[][..]));
     assert_eq!(rt; certificate.end_functions(11), None);
     Ok(())

@@ -5,18 +5,18 @@ ghost use Rattle.tt_code.specs.Cut.{CannotBeCut, Instruction, IsCut, IsInstructi
 ghost use Rattle.tt_code.specs.Entries.{view};
 
 use crate::kinds::{Effect, Push};
-use crate::table::effect;
+use crate::table::entry;
 
 /// How many bytes follow the code, a count byte included; None where the count byte is missing.
-fn data_length_of(effect: Effect, rest: &[u8]) -> Option<u16>
-    ensures value { result ≡ data_length (view effect) rest.now }
+fn data_length_of(effect: &Effect, rest: &[u8]) -> Option<u16>
+    ensures value { result ≡ data_length (view effect.now) rest.now }
     ensures small { IfSome result (λ n. n ≤ 511) }
 {
     match effect {
         Effect::Push(Push::CountedBytes) => Some(1 + u16::from(*rest.first()?)),
         Effect::Push(Push::CountedWords) => Some(1 + 2 * u16::from(*rest.first()?)),
-        Effect::Push(Push::Bytes(n)) => Some(u16::from(n)),
-        Effect::Push(Push::Words(n)) => Some(2 * u16::from(n)),
+        Effect::Push(Push::Bytes(n)) => Some(u16::from(*n)),
+        Effect::Push(Push::Words(n)) => Some(2 * u16::from(*n)),
         _ => Some(0),
     }
 }
@@ -27,7 +27,7 @@ pub fn front_length(bytes: &[u8]) -> Option<u16>
     ensures none { IfNone result ((i rest : List ℕ) → IsInstruction i → i ++ rest ≡ bytes.now → ⊥) }
 {
     let (code, rest) = bytes.split_first()?;
-    let count = data_length_of(effect(*code), rest)?;
+    let count = data_length_of(entry(*code), rest)?;
     if usize::from(count) <= rest.len() {
         Some(count + 1)
     } else {

@@ -13,7 +13,7 @@ use crate::fault::CodeFault;
 use crate::instr::Instr;
 use crate::machine::Body;
 use crate::reading::Reading;
-use crate::slot::{Slot, body_of, length_at, start_at, target_of};
+use crate::slot::{Slot, start_at, target_of};
 use crate::word::{Word, word_of_code};
 use std::alloc::Global;
 use std::marker::Model;
@@ -110,12 +110,8 @@ impl<'a> Program<'a> {
         ensures found { IfSome result (StandsAt self.now offset) }
         ensures none { IfNone result ((i : Instruction) → StandsAt self.now offset i → ⊥) }
     {
-        let n = length_at(&self.slots, offset);
-        if n == 0 {
-            return None;
-        }
-        let start = offset as usize;
-        Some(Instr::new(&self.bytes[start..start + usize::from(n)]))
+        let (instruction, _) = self.found_at(offset)?;
+        Some(instruction)
     }
 
     /// Where the slots say that control goes behind what the opening instruction at the offset opens, if one starts there.
@@ -187,7 +183,8 @@ impl<'a> Program<'a> {
         ensures only { (i : Instruction) (b : Body) → StandsAt self.now offset i → IsBodyAt self.now offset b → result ≡ Some b }
         ensures none { IfNone result ((i : Instruction) → StandsAt self.now offset i → ⊥) }
     {
-        body_of(&self.slots, offset)
+        let (_, body) = self.found_at(offset)?;
+        Some(body)
     }
 
     /// The instruction that starts at the offset, with its body, if one does: what `at` and `body_at` say, by one look-up.
@@ -195,6 +192,9 @@ impl<'a> Program<'a> {
         ensures instruction { option_map (λ found. found.0) result ≡ instruction_at self.now offset }
         ensures body { option_map (λ found. found.1) result ≡ body_on_cut self.now offset }
         ensures within { IfSome result (λ found. offset + length found.0 ≤ size self.now) }
+        ensures found { IfSome result (λ found. StandsAt self.now offset found.0 × IsBodyAt self.now offset found.1) }
+        ensures only { (i : Instruction) (b : Body) → StandsAt self.now offset i → IsBodyAt self.now offset b → result ≡ Some (i, b) }
+        ensures none { IfNone result ((i : Instruction) → StandsAt self.now offset i → ⊥) }
     {
         let (n, body) = start_at(&self.slots, offset)?;
         let start = offset as usize;

@@ -87,23 +87,6 @@ impl Slot {
     }
 }
 
-/// How many bytes the instruction at the offset has; 0 where none starts.
-pub fn length_at(slots: &[Slot], offset: u32) -> u16
-    ensures { result ≡ slice_index (lengths slots.now) offset }
-{
-    match slots.get(offset as usize) {
-        Some(slot) => slot.length,
-        None => 0,
-    }
-}
-
-/// The body of the instruction at the offset, if one starts there.
-pub fn body_of(slots: &[Slot], offset: u32) -> Option<Body>
-    ensures { result ≡ body_found (bodies slots.now) offset }
-{
-    slots.get(offset as usize)?.body()
-}
-
 /// How many bytes the instruction at the offset has, and its body, if one starts there.
 pub fn start_at(slots: &[Slot], offset: u32) -> Option<(u16, Body)>
     ensures length { IfSome result (λ found. 0 < found.0 × (found.0 ≡ slice_index (lengths slots.now) offset)) }

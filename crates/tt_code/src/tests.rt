@@ -60,9 +60,9 @@ fn places(rt: HostRuntime) -> Result<(), Fail> {
     assert_eq!(rt; program.after_if(0), Some(5));
     assert_eq!(rt; program.after_else(4), Some(6));
     assert_eq!(rt; program.after_else(3), None);
-    assert_eq!(rt; program.at(3).is_none(), true);
-    assert_eq!(rt; program.at(1).is_some(), true);
-    assert_eq!(rt; program.found_at(3).is_none(), true);
+    assert!(rt; program.at(3).is_none());
+    assert!(rt; program.at(1).is_some());
+    assert!(rt; program.found_at(3).is_none());
     let found = program.found_at(1).map(|found| (found.0.len(), found.1));
     assert_eq!(rt; found, Some((3, Body::Main)));
     assert_eq!(rt; program.len(), 6);

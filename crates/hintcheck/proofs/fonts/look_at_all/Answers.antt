@@ -36,11 +36,11 @@ returns-in_err-known-clause-ended c =
     (cvt_ends_look c.args.font.now c.in_ok-fpgm.fpgm c.in_ok-functions.functions.items c.in_err-known.field-0.0 c.in_ok-functions.ensures.known.ends
     (subst R c.deref.ensures.value c.in_err-known.ensures.refused))
 
-pub returns-in-Ok-clause-all : goal.returns-in-Ok-clause-all
-returns-in-Ok-clause-all c =
+pub returns-clause-all : goal.returns-clause-all
+returns-clause-all c =
     let f = c.in_ok-fpgm.fpgm in
     let p = c.in_ok-prep.prep in
     let E : List (ℕ × ℕ) → Type 0 = λ fs. EndsWith (cvt_subject c.args.font.now f fs) p c.in_ok-known.known.items in
-    let R : List (ℕ × ℕ) → Type 0 = λ fs. AreRefused (font_of c.args.font.now f p) fs 0 c.args.font.now.glyphs c.in-Ok.refused.items in
-    looked_at_all f p c.in_ok-functions.functions.items c.in_ok-known.known.items c.in-Ok.refused.items c.in_ok-functions.ensures.known.ends
-    (subst E c.deref.ensures.value c.in_ok-known.ensures.known.ends) (subst R c.deref-2.ensures.value c.in-Ok.ensures)
+    let R : List (ℕ × ℕ) → Type 0 = λ fs. AreRefused (font_of c.args.font.now f p) fs 0 c.args.font.now.glyphs c.in_ok-refused_glyphs.field-0.items in
+    looked_at_all f p c.in_ok-functions.functions.items c.in_ok-known.known.items c.in_ok-refused_glyphs.field-0.items c.in_ok-functions.ensures.known.ends
+    (subst E c.deref.ensures.value c.in_ok-known.ensures.known.ends) (subst R c.deref-2.ensures.value c.in_ok-refused_glyphs.ensures)

@@ -12,15 +12,17 @@ returns-in_err-main-clause-at_fault c =
     (is_at_fault c.args.glyph.now c.args.program.now c.in_err-main.field-0.0 (c.in_err-main.ensures.refused x refl refl) (c.in_err-main.ensures.none_good x refl))
     c.from_residual.ensures.1
 
-pub returns-in-Ok-look-clause-fine : goal.returns-in-Ok-look-clause-fine
-returns-in-Ok-look-clause-fine c =
+pub returns-in_err-look-clause-at_fault : goal.returns-in_err-look-clause-at_fault
+returns-in_err-look-clause-at_fault c =
     let x = subject_of c.args.glyph.now c.args.program.now in
-    is_fine c.args.glyph.now c.args.program.now _ (family_of c.in-Ok-look.field-0)
-    (c.in-Ok-look.ensures.accepted x (is_looked_at c.args.glyph.now c.args.program.now _ (c.in_ok-main.ensures.cut x refl) refl c.from.ensures refl c.in-Ok.ensures c.in-Ok.ensures refl))
+    let looked = is_looked_at c.args.glyph.now c.args.program.now _ (c.in_ok-main.ensures.cut x refl) refl c.from.ensures refl c.in_ok-empty.ensures c.in_ok-empty.ensures refl in
+    passed_on c.from_residual-in_err-look.result c.in_err-look.field-0.0 (λ f. IfRefused f (IsAtFault c.args.glyph.now c.args.program.now))
+    (is_at_fault c.args.glyph.now c.args.program.now c.in_err-look.field-0.0 (c.in_err-look.ensures.refused x looked)
+    (c.in_err-look.ensures.none_good x c.args.glyph.now.points c.args.glyph.now.contours looked refl))
+    c.from_residual-in_err-look.ensures.1
 
-pub returns-clause-at_fault : goal.returns-clause-at_fault
-returns-clause-at_fault c =
+pub returns-clause-fine : goal.returns-clause-fine
+returns-clause-fine c =
     let x = subject_of c.args.glyph.now c.args.program.now in
-    let looked = is_looked_at c.args.glyph.now c.args.program.now _ (c.in_ok-main.ensures.cut x refl) refl c.from.ensures refl c.in-Ok.ensures c.in-Ok.ensures refl in
-    is_at_fault c.args.glyph.now c.args.program.now c.in-Err-look.fault (c.in-Err-look.ensures.refused x looked)
-    (c.in-Err-look.ensures.none_good x c.args.glyph.now.points c.args.glyph.now.contours looked refl)
+    is_fine c.args.glyph.now c.args.program.now _ (family_of c.in_ok-look.field-0)
+    (c.in_ok-look.ensures.accepted x (is_looked_at c.args.glyph.now c.args.program.now _ (c.in_ok-main.ensures.cut x refl) refl c.from.ensures refl c.in_ok-empty.ensures c.in_ok-empty.ensures refl))
