@@ -1,6 +1,6 @@
 //! Abstract states with known joins.
 
-ghost use Rattle.std.specs.Prelude.{◌<◌, length, IfOk};
+ghost use Rattle.std.specs.Prelude.{◌≡◌, ◌<◌, length, IfOk};
 ghost use Rattle.tt_abs.specs.States.{state_order};
 
 use crate::cells::Cell::{Known, Unknown};
@@ -18,6 +18,16 @@ fn with_stack(alloc: Global, cells: &[Cell]) -> Result<State, AllocError>
     for cell in cells {
         state.push(*cell)?;
     }
+    Ok(state)
+}
+
+/// A state with these numbers in the storage cells 1 and 2.
+fn with_storage(alloc: Global, first: i32, second: i32) -> Result<State, AllocError>
+    ensures { IfOk result (λ state. state_order.InRange state) }
+{
+    let mut state = State::start(alloc, &[])?;
+    state.set_storage(1, Known(first))?;
+    state.set_storage(2, Known(second))?;
     Ok(state)
 }
 
@@ -57,12 +67,8 @@ fn depths_differ(rt: HostRuntime) -> Result<(), Fail> {
 
 #[test]
 fn joins_of_storage(rt: HostRuntime) -> Result<(), Fail> {
-    let mut state = State::start(rt.alloc(), &[])?;
-    state.set_storage(1, Known(7))?;
-    state.set_storage(2, Known(5))?;
-    let mut other = State::start(rt.alloc(), &[])?;
-    other.set_storage(1, Known(7))?;
-    other.set_storage(2, Known(6))?;
+    let mut state = with_storage(rt.alloc(), 7, 5)?;
+    let other = with_storage(rt.alloc(), 7, 6)?;
     let changed = state.join(&other)?;
     assert!(rt; changed);
     assert_eq!(rt; [state.storage(1), state.storage(2)], [Known(7), Unknown]);
@@ -72,8 +78,7 @@ fn joins_of_storage(rt: HostRuntime) -> Result<(), Fail> {
 
 #[test]
 fn forgets_storage(rt: HostRuntime) -> Result<(), Fail> {
-    let mut state = State::start(rt.alloc(), &[])?;
-    state.set_storage(1, Known(7))?;
+    let mut state = with_storage(rt.alloc(), 7, 5)?;
     assert_eq!(rt; state.storage(1), Known(7));
     state.set_storage(1, Unknown)?;
     assert_eq!(rt; state.storage(1), Unknown);
@@ -138,15 +143,23 @@ fn copies(rt: HostRuntime) -> Result<(), Fail> {
     Ok(())
 }
 
+/// A state of 40 elements, with a function and two storage cells.
+fn longer_state(alloc: Global) -> Result<State, AllocError>
+    ensures { IfOk result (λ state. state_order.InRange state) }
+{
+    let mut state = with_stack(alloc, &[Known(7); 40])?;
+    state.define(5, 50)?;
+    state.set_storage(2, Known(6))?;
+    state.set_storage(3, Known(6))?;
+    Ok(state)
+}
+
 #[test]
 fn copies_over_a_longer_one(rt: HostRuntime) -> Result<(), Fail> {
     let mut state = with_stack(rt.alloc(), &[Known(1), Unknown])?;
     state.set_storage(3, Known(-1))?;
     state.set_rp(Reference::Rp1, Known(4));
-    let mut longer = with_stack(rt.alloc(), &[Known(7); 40])?;
-    longer.define(5, 50)?;
-    longer.set_storage(2, Known(6))?;
-    longer.set_storage(3, Known(6))?;
+    let mut longer = longer_state(rt.alloc())?;
     longer.copy_from(&state)?;
     assert!(rt; longer.below(&state));
     assert!(rt; state.below(&longer));
@@ -295,35 +308,41 @@ fn least_number_of_16_bits_is_known(rt: HostRuntime) -> Result<(), Fail> {
     Ok(())
 }
 
-#[test]
-fn stacks_of_small_and_great_numbers(rt: HostRuntime) -> Result<(), Fail> {
-    let mut stack = Stack::new(rt.alloc());
+/// The stack of 0, 255, 32,767, -32,768, -1, 70,000, 2 and an unknown number, the bottom first.
+fn small_and_great_numbers(alloc: Global) -> Result<Stack, AllocError>
+    ensures { IfOk result (λ stack. length stack ≡ 8) }
+{
+    let mut stack = Stack::new(alloc);
     stack.push_bytes(&[0, 255])?;
     stack.push_words(&[0x7f, 0xff, 0x80, 0x00, 0xff, 0xff])?;
     stack.push(Known(70_000))?;
     stack.push(Known(2))?;
     stack.push(Unknown)?;
+    Ok(stack)
+}
+
+#[test]
+fn stacks_of_small_and_great_numbers(rt: HostRuntime) -> Result<(), Fail> {
+    let stack = small_and_great_numbers(rt.alloc())?;
     assert_eq!(rt; stack.len(), 8);
-    assert_eq!(rt; stack.above(0), Some(Known(0)));
-    assert_eq!(rt; stack.above(1), Some(Known(255)));
-    assert_eq!(rt; stack.under(5), Some(Known(32_767)));
-    assert_eq!(rt; stack.under(4), Some(Known(-32_768)));
-    assert_eq!(rt; stack.under(3), Some(Known(-1)));
-    assert_eq!(rt; stack.under(2), Some(Known(70_000)));
-    assert_eq!(rt; stack.under(0), Some(Unknown));
-    assert_eq!(rt; stack.under(8), None);
-    assert_eq!(rt; stack.above(8), None);
+    assert_eq!(rt;
+        [stack.above(0), stack.above(1), stack.above(8)],
+        [Some(Known(0)), Some(Known(255)), None]
+    );
+    assert_eq!(rt;
+        [stack.under(5), stack.under(4), stack.under(3)],
+        [Some(Known(32_767)), Some(Known(-32_768)), Some(Known(-1))]
+    );
+    assert_eq!(rt;
+        [stack.under(2), stack.under(0), stack.under(8)],
+        [Some(Known(70_000)), Some(Unknown), None]
+    );
     Ok(())
 }
 
 #[test]
 fn calls_of_stacks_of_great_numbers(rt: HostRuntime) -> Result<(), Fail> {
-    let mut stack = Stack::new(rt.alloc());
-    stack.push_bytes(&[0, 255])?;
-    stack.push_words(&[0x7f, 0xff, 0x80, 0x00, 0xff, 0xff])?;
-    stack.push(Known(70_000))?;
-    stack.push(Known(2))?;
-    stack.push(Unknown)?;
+    let mut stack = small_and_great_numbers(rt.alloc())?;
     stack.remove(1);
     assert_eq!(rt; stack.under(1), Some(Known(70_000)));
     stack.remove(2);
