@@ -47,3 +47,5 @@ mod ExamplesOfCalls
 pub mod StepLemmas
 pub mod Soundness
 mod ExamplesOfFlows
+pub mod Goodness
+pub mod FunctionBodies

@@ -46,6 +46,11 @@ pub holds_tested : {B : Type 0} (Q : B → Type 0) (b : Bool) (r : Reason) (f : 
 holds_tested Q true r f k = k refl tt
 holds_tested Q false r f k = tt
 
+-- behind what is found
+holds_some : {A B : Type 0} (Q : B → Type 0) (o : Option A) (r : Reason) (f : A → Tested B) → ((x : A) → o ≡ Some x → Holds Q (f x)) → Holds Q (some_or o r >>= f)
+holds_some Q None r f k = tt
+holds_some Q (Some x) r f k = k x refl
+
 holds_all : {A : Type 0} (t : Tested A) → Holds (λ x. Unit {0}) t
 holds_all (Ok x) = tt
 holds_all (Err r) = tt
@@ -183,9 +188,20 @@ module _ (s : Setting) (g : Cells) where
   stores_taken os (update.SetLoop i ∷ us) stack h = holds_both (λ t. Unit {0}) (StoresFit us) (take_cells s g os stack) (holds_all (take_cells s g os stack)) (stores_taken os us stack h)
   stores_taken os (update.LoopIsOne ∷ us) stack h = holds_both (λ t. Unit {0}) (StoresFit us) (take_cells s g os stack) (holds_all (take_cells s g os stack)) (stores_taken os us stack h)
 
+-- an FDEF of a body stands before the offset, in a program that may define functions
+pub record DefinesAt (s : Setting) (offset : ℕ) : Type 0 where
+  pub frames : List Frame
+  pub at : ℕ
+  pub behind : offset ≡ at + 1
+  pub may : may_define s.kind ≡ true
+  pub starts : starts_in_body s frames at ≡ true
+  pub to : ℕ
+  pub leads : after_fdef (program_of s frames) at ≡ Some to
+
 -- What is kept: P says it of the functions and the storage area.
 module _ (s : Setting) (P : List (ℕ × ℕ) → (ℕ → Cell) → Type 0)
-    (defines : (functions : List (ℕ × ℕ)) (area : ℕ → Cell) (n offset : ℕ) → P functions area → n < s.limits.functions → offset < 2 ^ 31 → P (with_entry n (body_name s.kind offset) functions) area)
+    (defines : (functions : List (ℕ × ℕ)) (area : ℕ → Cell) (n offset : ℕ) → P functions area → n < s.limits.functions → offset < 2 ^ 31 → DefinesAt s offset
+    → P (with_entry n (body_name s.kind offset) functions) area)
     (stores : (functions : List (ℕ × ℕ)) (area : ℕ → Cell) (i : ℕ) (c : Cell) → P functions area → i < s.limits.storage → P functions (with_stored i c area)) where
   abbrev IsKept : Abstract → Type 0
   IsKept a = P a.functions a.registers.storage
@@ -260,7 +276,7 @@ module _ (s : Setting) (P : List (ℕ × ℕ) → (ℕ → Cell) → Type 0)
       go false true = (h, (h, tt))
       go false false = (h, (h, tt))
 
-  module _ (fs : List Frame) (at : ℕ) (a : Abstract) (kept : IsKept a) where
+  module _ (fs : List Frame) (at : ℕ) (a : Abstract) (kept : IsKept a) (starts : starts_in_body s fs at ≡ true) where
     jumps_kept : (by : Cell) (stack : List Cell) → Holds AreKept (jumps_cells s fs at a by stack)
     jumps_kept by stack = holds_any AreKept (jump_target s fs at by stack) _ (λ t. (kept, tt))
 
@@ -305,12 +321,13 @@ module _ (s : Setting) (P : List (ℕ × ℕ) → (ℕ → Cell) → Type 0)
     controlled_kept JumpIfTrue small = jumps_if_kept is_true
     controlled_kept JumpIfFalse small = jumps_if_kept (λ e. not (is_true e))
     controlled_kept FunctionDefinition small =
-        holds_any AreKept (holds_or (may_define s.kind) reason.Definition) _ (λ may.
+        holds_tested AreKept (may_define s.kind) reason.Definition _ (λ may ok.
         holds_any AreKept (top a.stack) _ (λ t.
         holds_any AreKept (known t.0) _ (λ n.
         holds_tested AreKept (is_below n s.limits.functions) reason.Function _ (λ e ok.
-        holds_any AreKept (some_or (after_fdef (program_of s fs) at) reason.Target) _ (λ after.
-        (defines a.functions a.registers.storage (natural n) (at + 1) kept (index_below n s.limits.functions e) small, tt))))))
+        holds_some AreKept (after_fdef (program_of s fs) at) reason.Target _ (λ after leads.
+        let here : DefinesAt s (at + 1) = record { frames = fs; at = at; behind = refl; may = may; starts = starts; to = after; leads = leads } in
+        (defines a.functions a.registers.storage (natural n) (at + 1) kept (index_below n s.limits.functions e) small here, tt))))))
     controlled_kept Call small = holds_any AreKept (top a.stack) _ (λ t. holds_any AreKept (called_cell s a.functions t.0) _ (λ name. enters_kept name t.1 1))
     controlled_kept LoopCall small =
         holds_any AreKept (top a.stack) _ (λ t.
@@ -332,20 +349,25 @@ module _ (s : Setting) (P : List (ℕ × ℕ) → (ℕ → Cell) → Type 0)
     does_kept (Computes op) rest next there small = goes_on_kept next (computed_cells op a) (computed_kept op a kept)
     does_kept (Controls c) rest next there small = controlled_kept c small
 
+  starts_where : (b : Bool) (o : Option Instruction) (j : Instruction) → (if b then o else None) ≡ Some j → b ≡ true
+  starts_where true o j e = refl
+  starts_where false o j e = absurd (cc)
+
   within_kept : (nexts : List Next) → AreKept nexts → Holds AreKept (within_cells s nexts)
   within_kept nexts h = holds_any AreKept (holds_or (are_within s nexts) reason.Overflow) _ (λ ok. h)
 
-  performs_kept : (fs : List Frame) (at : ℕ) (a : Abstract) (i : Option Instruction) → EndsBelow at i → IsKept a → Holds AreKept (performs_cells s fs at a i)
-  performs_kept fs at a None small h = tt
-  performs_kept fs at a (Some []) small h = tt
-  performs_kept fs at a (Some (code ∷ rest)) small h =
+  performs_kept : (fs : List Frame) (at : ℕ) (a : Abstract) (i : Option Instruction) → EndsBelow at i → ((j : Instruction) → i ≡ Some j → starts_in_body s fs at ≡ true) → IsKept a
+      → Holds AreKept (performs_cells s fs at a i)
+  performs_kept fs at a None small starts h = tt
+  performs_kept fs at a (Some []) small starts h = tt
+  performs_kept fs at a (Some (code ∷ rest)) small starts h =
       holds_then AreKept AreKept (does_cells s fs at a (effect_of code) rest (at + suc (length rest))) (within_cells s)
-      (does_kept fs at a h (effect_of code) rest (at + suc (length rest)) (rows_store code) (omega (arith, small)))
+      (does_kept fs at a h (starts (code ∷ rest) refl) (effect_of code) rest (at + suc (length rest)) (rows_store code) (omega (arith, small)))
       (λ nexts k. within_kept nexts k)
 
   next_kept : (fs : List Frame) (at : ℕ) (a : Abstract) → AreProgramsShort s → IsKept a → Holds AreKept (outcome_on_cells s fs at a)
   unfolding outcome_on_cells
-  next_kept fs at a short h = performs_kept fs at a (instruction_of s fs at) (ends_below s fs at short) h
+  next_kept fs at a short h = performs_kept fs at a (instruction_of s fs at) (ends_below s fs at short) (λ j e. starts_where (starts_in_body s fs at) (instruction_at (program_of s fs) at) j e) h
 
   -- where it holds of an abstract state, it holds of each next one
   pub lists_kept : (fs : List Frame) (at : ℕ) (a : Abstract) (nexts : List Next) → AreProgramsShort s → IsKept a → outcome_on_cells s fs at a ≡ Ok nexts → AreKept nexts

@@ -39,9 +39,9 @@ start_covers functions m h = record {
 module _ (s : Setting) (setting : IsSettingInRange s) (short : AreProgramsShort s) (functions : List (ℕ × ℕ)) (rises : Rises functions)
     (family : Place → Option State) (good : IsGood state_order (flow_of s functions) family) where
   -- what holds along runs: the machine is covered, and runs no body twice
-  record IsFollowed (m : Machine) : Type 0 where
-    covered : IsCoveredBy family m
-    once : has_body_twice m.frames ≡ false
+  pub record IsFollowed (m : Machine) : Type 0 where
+    pub covered : IsCoveredBy family m
+    pub once : has_body_twice m.frames ≡ false
 
   -- what the outcome on cells says there
   record IsAllowed (m : Machine) (u : State) : Type 0 where
@@ -71,7 +71,7 @@ module _ (s : Setting) (setting : IsSettingInRange s) (short : AreProgramsShort 
   stands_here m u covers = record { covered = covers; frames_are = refl; offset_is = refl }
 
   -- what a followed machine becomes is followed
-  step_followed : (old new : Machine) → IsFollowed old → Steps s old new → IsFollowed new
+  pub step_followed : (old new : Machine) → IsFollowed old → Steps s old new → IsFollowed new
   step_followed old new h w =
       let (u, at, covers) = h.covered in
       let a : IsAllowed old u = allowed old u at h.once w.running in
@@ -113,7 +113,7 @@ module _ (s : Setting) (setting : IsSettingInRange s) (short : AreProgramsShort 
   runs_followed m n h (here m') = h
   runs_followed m n h (step a b c w rest) = runs_followed b c (step_followed a b h w) rest
 
-  start_followed : (m : Machine) → StartsWith functions m → IsFollowed m
+  pub start_followed : (m : Machine) → StartsWith functions m → IsFollowed m
   start_followed m h =
       let (u, at, below) = good.start in
       let place : (m.frames, m.offset) ≡ ([], 0) = λ i. (h.fresh.no_frames i, h.fresh.at_first_byte i) in
@@ -122,7 +122,7 @@ module _ (s : Setting) (setting : IsSettingInRange s) (short : AreProgramsShort 
         once = ap has_body_twice h.fresh.no_frames;
       }
 
-  followed_never_faults : (n : Machine) (r : Reason) → IsFollowed n → Faults s n r → ⊥
+  pub followed_never_faults : (n : Machine) (r : Reason) → IsFollowed n → Faults s n r → ⊥
   followed_never_faults n r h f =
       let (u, at, covers) = h.covered in
       let a : IsAllowed n u = allowed n u at h.once f.running in

@@ -22,7 +22,7 @@ use Rattle.tt_abs.specs.Stacks.{StackInRange}
 use Rattle.tt_abs.specs.States.{abstract_of, state_order}
 use Rattle.tt_abs.specs.Transfers.{Next, outcome_on_cells}
 use Rattle.tt_abs.proofs.EntryEdits.{Rises-with}
-use Rattle.tt_abs.proofs.ListsKept.{lists_kept, are_shallow}
+use Rattle.tt_abs.proofs.ListsKept.{DefinesAt, lists_kept, are_shallow}
 use Rattle.tt_abs.proofs.RangesKept.{keeps_range}
 
 -- what all have, one has
@@ -164,8 +164,8 @@ name_fits CvtProgram offset h = omega arith
 name_fits (GlyphProgram points contours) offset h = omega arith
 
 within_defines : (s : Setting) (functions : List (ℕ × ℕ)) (area : ℕ → Cell) (n offset : ℕ) → AreWithin s functions area → n < s.limits.functions → offset < 2 ^ 31
-    → AreWithin s (with_entry n (body_name s.kind offset) functions) area
-within_defines s functions area n offset h lt small = record {
+    → DefinesAt s offset → AreWithin s (with_entry n (body_name s.kind offset) functions) area
+within_defines s functions area n offset h lt small _ = record {
   named = λ m body l. go m body (nat_eq n m) refl (sym (listed-with n (body_name s.kind offset) functions m) ∙ l);
   known = h.known;
 }
@@ -198,7 +198,7 @@ pub next_state : (s : Setting) (fs : List Frame) (at : ℕ) (a : State) (nexts :
 next_state s fs at a nexts setting short h e i n found =
     state_from n.state
     (one_of_all (λ n. AreListed n.state.functions n.state.registers.storage) nexts i n
-    (lists_kept s AreListed (λ functions area n offset k _ _. listed_defines functions area n (body_name s.kind offset) k) (λ functions area i c k _. listed_stores functions area i c k)
+    (lists_kept s AreListed (λ functions area n offset k _ _ _. listed_defines functions area n (body_name s.kind offset) k) (λ functions area i c k _. listed_stores functions area i c k)
     fs at (abstract_of a) nexts short (listed_here a h) e) found)
     (one_of_all (λ n. IsStateInRange n.state) nexts i n (keeps_range s fs at (abstract_of a) nexts setting (abstract_in_range a h) e) found)
 

@@ -31,3 +31,5 @@ pub mod FamilyLaws
 pub mod StateFlow
 pub mod Contexts
 pub mod Soundness
+pub mod Goodness
+pub mod FunctionBodies

@@ -8,6 +8,7 @@ ghost use Rattle.tt_code.specs.Settings.{Setting};
 ghost use Rattle.tt_abs.specs.declared.state.State.{State};
 ghost use Rattle.tt_abs.specs.Entries.{Rises, storage_of};
 ghost use Rattle.tt_abs.specs.Families.{IsGood};
+ghost use Rattle.tt_abs.specs.Goodness.{IsGoodByMachines, IsRefusedExactly, OutcomeStandsForMachines};
 ghost use Rattle.tt_abs.specs.Ranges.{IsSettingInRange};
 ghost use Rattle.tt_abs.specs.Soundness.{IsSafe};
 ghost use Rattle.tt_abs.specs.Stacks.{stack_order};
@@ -35,4 +36,18 @@ pub fn flow_laws()
 pub fn good_families_are_safe()
     ensures { (s : Setting) (functions : List (ℕ × ℕ)) (family : Place → Option State) → IsSettingInRange s → AreProgramsShort s → Rises functions
         → IsGood state_order (flow_of s functions) family → IsSafe s functions family }
+{}
+
+/// What an abstract state becomes at a place, computed on its cells, is what the machines that it covers become there, whatever the
+/// instruction: it is refused exactly where one of them faults, comes to run a body twice, or they come to more lists of calls than
+/// a program may have; else it gives one state for each place to which they come, the smallest that covers those.
+pub fn outcome_on_cells_is_exact()
+    ensures stands { OutcomeStandsForMachines }
+    ensures refused { IsRefusedExactly }
+{}
+
+/// A family of abstract states is good exactly if it covers every machine that starts, no machine that it covers faults, and it covers
+/// each next state of one that it covers.
+pub fn good_families_cover_steps()
+    ensures { IsGoodByMachines }
 {}

@@ -378,7 +378,7 @@ body_starts is in_body goes k b table at =
     (o.1, record { before = o.0; after = o.2; whole = o.3; offset = o.4 })
 
 -- the body of a definition in which an instruction lies
-inside_body : (is : List Instruction) (k : ℕ) (i : Instruction) (s : List Open) → AllByRecursion IsInstruction is →
+pub inside_body : (is : List Instruction) (k : ℕ) (i : Instruction) (s : List Open) → AllByRecursion IsInstruction is →
     (stands : StandsAt is k i) → steps stands.before 0 [] ≡ Some s → (o : Open) (from : ℕ) → place o ≡ from → Defines (word_for o) → InDefinition (word_for o) is from k → body_of s ≡ body_of (o ∷ [])
 inside_body is k i s each stands run o from at def (to, goes_to, low, high) =
     in_definition_body is stands.before stands.after i from to o s each stands.whole run goes_to at def (rw stands.offset low) (rw stands.offset high)

@@ -102,3 +102,9 @@ pub fn bodies_are_found()
     ensures only { (is : List Instruction) (at : ℕ) (b : Body) → body_at is at ≡ Some b →
         (i : Instruction) × StandsAt is at i }
 {}
+
+/// In a structured program each FDEF stands in the main program.
+pub fn definitions_stand_in_main()
+    ensures { (is : List Instruction) (at : ℕ) (i : Instruction) → IsStructured is → AllByRecursion IsInstruction is →
+        StandsAt is at i → word i ≡ Word.Fdef → body_at is at ≡ Some Body.Main }
+{}
