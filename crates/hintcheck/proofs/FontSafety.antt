@@ -20,7 +20,8 @@ use Rattle.hintcheck.specs.Programs.{EndsWith, HasLeastFamily}
 use Rattle.hintcheck.specs.Verdicts.{Judgement}
 use Rattle.hintcheck.specs.declared.report.Refused.{Refused}
 use Rattle.hintcheck.proofs.FontEnds.{functions_rise}
-use Rattle.hintcheck.proofs.FontRuns.{AllStartWith, cvt_starts, font_starts, glyph_starts, never_faults_from}
+use Rattle.tt_cert.proofs.EndFunctions.{AllStartWith}
+use Rattle.hintcheck.proofs.FontRuns.{cvt_starts, font_starts, glyph_starts, never_faults_from}
 
 -- programs of few bytes, cut
 

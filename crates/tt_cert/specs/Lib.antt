@@ -11,3 +11,4 @@ pub mod FileOrder
 pub mod GoodFamilies
 pub mod Spots
 pub mod Checks
+pub mod Ends

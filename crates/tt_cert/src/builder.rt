@@ -13,6 +13,7 @@ ghost use Rattle.tt_cert.specs.Built.{RisesByKey, key_cmp, key_of as key_of_entr
 ghost use Rattle.std.specs.BTreeMap.{IsOrdered, get};
 ghost use Rattle.tt_cert.specs.FileOrder.{IsFileOrder, children};
 ghost use Rattle.tt_cert.specs.Rising.{IsFinished};
+ghost use Rattle.tt_cert.specs.Ends.{AreDefinedAtEnd};
 ghost use Rattle.tt_cert.specs.Contents.{AddsContext, HasContext, IsFamily, family_of, frames_at, points_of};
 ghost use Rattle.tt_cert.specs.Spots.{spot_of};
 
@@ -255,11 +256,13 @@ impl Builder {
     }
 
     /// The functions that are known at the end of a program of this length, where no call is open: by rising numbers, each
-    /// with its body. None if the end has no state.
+    /// with its body. None if the end has no state. Where the family is good for the program, each run of it that reaches its end
+    /// has these functions there, with these bodies.
     pub fn end_functions(&self, length: u32) -> Option<&[(u16, u32)]>
         ensures none { result ≡ None → family_of self.now ([], length) ≡ None }
         ensures some { IfSome result (λ functions. (end : StateValue) × (family_of self.now ([], length) ≡ Some end) × (functions.now ≡ end.functions)) }
         ensures rises { IfSome result (λ functions. Rises functions.now) }
+        ensures defined { IfSome result (λ functions. AreDefinedAtEnd (family_of self.now) length functions.now) }
     {
         match self.state(0, length) {
             Some(state) => Some(state.functions()),

@@ -8,6 +8,7 @@ ghost use Rattle.tt_abs.specs.Entries.{Rises};
 ghost use Rattle.tt_abs.specs.declared.state.State.{State as StateValue};
 ghost use Rattle.tt_cert.specs.Places.{place_cmp, states_of};
 ghost use Rattle.tt_cert.specs.Puts.{place_of};
+ghost use Rattle.tt_cert.specs.Ends.{AreDefinedAtEnd};
 ghost use Rattle.tt_cert.specs.Contents.{HasContext, IsFamily, family_of, frames_at, points_of};
 ghost use Rattle.tt_cert.specs.Rising.{IsFinished};
 ghost use Rattle.tt_cert.specs.Spots.{spot_of};
@@ -147,11 +148,13 @@ impl Certificate {
     }
 
     /// The functions that are known at the end of a program of this length, where no call is open: by rising numbers, each
-    /// with its body. None if the end has no state.
+    /// with its body. None if the end has no state. Where the family is good for the program, each run of it that reaches its end
+    /// has these functions there, with these bodies.
     pub fn end_functions(&self, length: u32) -> Option<&[(u16, u32)]>
         ensures none { result ≡ None → family_of self.now ([], length) ≡ None }
         ensures some { IfSome result (λ functions. (end : StateValue) × (family_of self.now ([], length) ≡ Some end) × (functions.now ≡ end.functions)) }
         ensures rises { IfSome result (λ functions. Rises functions.now) }
+        ensures defined { IfSome result (λ functions. AreDefinedAtEnd (family_of self.now) length functions.now) }
     {
         self.builder.end_functions(length)
     }

@@ -11,14 +11,16 @@ use Rattle.tt_abs.specs.Families.{IsGood}
 use Rattle.tt_abs.specs.FamilyLaws.{derived_below, derived_is, none_where_apart, none_where_refused}
 use Rattle.tt_abs.specs.StateFlow.{FitsLimits, Place, flow_of, height_of}
 use Rattle.tt_abs.specs.States.{state_laws, state_order}
-use Rattle.tt_cert.specs.Contents.{Contents, IsFamily, family_of, points_of}
+use Rattle.tt_abs.proofs.FunctionBodies.{derived_bodies}
+use Rattle.tt_cert.specs.Contents.{Contents, HasContext, IsFamily, family_of, number_of, points_of}
 use Rattle.tt_cert.specs.GoodFamilies.{EndsWell, HasEnd, HasFewContexts, IsGoodFamily, IsShortEnough}
+use Rattle.tt_cert.specs.Numbers.{at-number_of}
 use Rattle.tt_cert.specs.Places.{states_of}
 use Rattle.tt_cert.specs.Puts.{family_at}
 use Rattle.tt_find.specs.declared.fault.FindFault.{FindFault}
 use Rattle.tt_find.specs.declared.fault.FindFault.TheVariants.{Refused, OutOfMemory}
 use Rattle.tt_find.specs.declared.table.Table.{Table}
-use Rattle.tt_find.specs.Found.{AreDerivedContexts, IsDerived, IsJustified, IsLeast, IsNeverEnding, IsWantOfMemory, LacksEnd, NamesPlace, NoneIsGood, too_long, refused, apart, too_many, never_ends}
+use Rattle.tt_find.specs.Found.{AreDerivedContexts, AreLeastContexts, KeepsBodies, IsDerived, IsJustified, IsLeast, IsNeverEnding, IsWantOfMemory, LacksEnd, NamesPlace, NoneIsGood, too_long, refused, apart, too_many, never_ends}
 use Rattle.tt_find.specs.Tables.{HasLaws, IsMarked, IsWhole}
 use Rattle.tt_find.proofs.Many.{few_from_all}
 use Rattle.tt_find.proofs.Marked.{none_marked}
@@ -59,6 +61,27 @@ module _ (s : Setting) (functions : List (ℕ × ℕ)) (laws : HasLaws s functio
       derived = whole.kept.sound.derived;
       below = λ other good p a at. derived_below state_order (flow_of s functions) (height_of s) state_laws laws.flow other good p a (whole.kept.sound.derived p a at);
     }
+
+    -- each context of the table, in whatever order they stand, is one of every good family
+    pub contexts_left : (contexts : List (List Frame)) → ((frames : List Frame) → HasContext contexts frames → HasContext table.builder.contexts frames)
+        → AreLeastContexts s functions contexts
+    contexts_left contexts back = record {
+      derived = entered;
+      below = λ other good frames has.
+          let (offset, a, d) = entered frames has in
+          let (u, at, _) = derived_below state_order (flow_of s functions) (height_of s) state_laws laws.flow other good (frames, offset) a d in
+          (offset, u, at);
+      calls = λ frames has. let (offset, a, d) = entered frames has in (derived_is state_order (flow_of s functions) (height_of s) laws.flow (frames, offset) a d).point.frames;
+    }
+      where
+        entered : (frames : List Frame) → HasContext contexts frames → (offset : ℕ) × (a : State) × IsDerived s functions (frames, offset) a
+        entered frames has =
+            let there = back frames has in
+            let (offset, a, d) = whole.kept.entered (number_of table.builder.contexts frames) there in
+            (offset, a, subst (λ (fs : List Frame). IsDerived s functions (fs, offset) a) (at-number_of table.builder.contexts frames there) d)
+
+    pub bodies_left : (family : Place → Option State) → ((p : Place) → family p ≡ family_of table.builder p) → KeepsBodies s functions family
+    bodies_left family same programs bodies p a at = derived_bodies s programs functions laws.short bodies p a (whole.kept.sound.derived p a (sym (same p) ∙ at))
 
     pub few_left : HasFewContexts (family_of table.builder)
     few_left = (table.builder.contexts, whole.kept.family.few, λ p a at. has_number table.builder p a whole.kept.family at)

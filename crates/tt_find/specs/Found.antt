@@ -6,7 +6,10 @@ use Rattle.tt_code.specs.declared.machine.Frame.{Frame}
 use Rattle.tt_code.specs.declared.reason.Reason.{Reason}
 use Rattle.tt_code.specs.declared.reason.Reason.TheVariants.{DepthMismatch, NeverEnds, ProgramTooLong, TooManyContexts}
 use Rattle.tt_abs.specs.declared.state.State.{State}
+use Rattle.tt_abs.specs.Contexts.{FramesFit}
 use Rattle.tt_abs.specs.Families.{Derived, IsBelowFamily, IsGood}
+use Rattle.tt_abs.specs.FunctionBodies.{AreFunctionBodies, AreProgramsOfFont}
+use Rattle.tt_abs.specs.Goodness.{HasStateIn}
 use Rattle.tt_abs.specs.StateFlow.{Place, GivesState, RefusesState, flow_of}
 use Rattle.tt_abs.specs.States.{state_order}
 use Rattle.tt_cert.specs.Contents.{HasContext, frames_at}
@@ -23,6 +26,17 @@ IsDerived s functions = Derived state_order (flow_of s functions)
 pub record IsLeast (s : Setting) (functions : List (ℕ × ℕ)) (family : Place → Option State) : Type 0 where
   pub derived : (p : Place) (a : State) → family p ≡ Some a → IsDerived s functions p a
   pub below : (other : Place → Option State) → IsGood state_order (flow_of s functions) other → IsBelowFamily state_order family other
+
+-- Each context has a derived state, and a state in every good family; its calls are in their turns, and no body runs twice.
+pub record AreLeastContexts (s : Setting) (functions : List (ℕ × ℕ)) (contexts : List (List Frame)) : Type 0 where
+  pub derived : (frames : List Frame) → HasContext contexts frames → (offset : ℕ) × (a : State) × IsDerived s functions (frames, offset) a
+  pub below : (other : Place → Option State) → IsGood state_order (flow_of s functions) other → (frames : List Frame) → HasContext contexts frames → HasStateIn other frames
+  pub calls : (frames : List Frame) → HasContext contexts frames → FramesFit frames
+
+-- Where the start lists functions with bodies in the font program or the CVT program, so does each state of the family.
+abbrev pub KeepsBodies : Setting → List (ℕ × ℕ) → (Place → Option State) → Type 0
+KeepsBodies s functions family =
+    AreProgramsOfFont s → AreFunctionBodies s functions → (p : Place) (a : State) → family p ≡ Some a → AreFunctionBodies s a.functions
 
 -- no family of a program that isn't too long is good, whatever it has at the end
 abbrev pub NoneIsGood : Setting → List (ℕ × ℕ) → Type 0

@@ -11,7 +11,7 @@ use Rattle.tt_abs.specs.Families.{CoversAt, Derived}
 use Rattle.tt_abs.specs.Flows.{Flow, FlowLaws}
 use Rattle.tt_abs.specs.Moves.{frames_behind, nexts_of, offset_behind}
 use Rattle.tt_abs.specs.Orders.{Order}
-use Rattle.tt_abs.specs.StateFlow.{Place, RefusesState, flow_of, height_of}
+use Rattle.tt_abs.specs.StateFlow.{AreProgramsShort, Place, RefusesState, flow_of, height_of}
 use Rattle.tt_abs.specs.States.{abstract_of, state_order}
 use Rattle.tt_abs.specs.Transfers.{outcome_on_cells}
 use Rattle.tt_cert.specs.Contents.{Contents, IsFamily, family_of, frames_at, number_of, points_of, total}
@@ -47,10 +47,11 @@ pub record IsWithinBudget (o : Order State) (height : ℕ) (contents : Contents)
   pub spent : updates + total o.left contents ≤ points_of contents * (1 + height)
   pub counted : points_of contents ≤ updates
 
--- the laws of the flow, and that no count of updates is too great
+-- the laws of the flow, and that no count of updates and no program is too great
 pub record HasLaws (s : Setting) (functions : List (ℕ × ℕ)) : Type 0 where
   pub flow : FlowLaws state_order (flow_of s functions) (height_of s)
   pub height : height_of s < 4294967295
+  pub short : AreProgramsShort s
 
 -- the empty context alone, without a state, and no update
 pub record IsEmptyTable (table : Table) : Type 0 where

@@ -7,7 +7,7 @@ ghost use Rattle.tt_abs.specs.Settings.{setting_of};
 ghost use Rattle.tt_abs.specs.StateFlow.{FitsLimits, FunctionsFit, Place, height_of};
 ghost use Rattle.tt_cert.specs.Contents.{family_of, points_of};
 ghost use Rattle.tt_cert.specs.GoodFamilies.{IsGoodFamily};
-ghost use Rattle.tt_find.specs.Found.{IsJustified, IsLeast, IsNeverEnding, IsWantOfMemory, LacksEnd, NamesPlace, NoneIsGood};
+ghost use Rattle.tt_find.specs.Found.{AreLeastContexts, IsJustified, IsLeast, IsNeverEnding, IsWantOfMemory, KeepsBodies, LacksEnd, NamesPlace, NoneIsGood};
 ghost use Rattle.tt_find.specs.Tables.{HasLaws, IsEmptyTable, IsWhole};
 
 use crate::fault::FindFault;
@@ -86,6 +86,8 @@ pub fn find(alloc: Global, setting: &Setting<'_>) -> Result<Found, FindFault>
     ensures good { IfOk result (λ found. IsGoodFamily (setting_of setting.now) setting.now.start.now (family_of found.certificate)) }
     ensures least { IfOk result (λ found. IsLeast (setting_of setting.now) setting.now.start.now (family_of found.certificate)) }
     ensures within { IfOk result (λ found. (p : Place) (a : AnyState) → family_of found.certificate p ≡ Some a → FitsLimits (setting_of setting.now) a) }
+    ensures bodies { IfOk result (λ found. KeepsBodies (setting_of setting.now) setting.now.start.now (family_of found.certificate)) }
+    ensures contexts { IfOk result (λ found. AreLeastContexts (setting_of setting.now) setting.now.start.now found.certificate.contexts) }
     ensures at_least { IfOk result (λ found. points_of found.certificate ≤ found.updates) }
     ensures at_most { IfOk result (λ found. found.updates ≤ points_of found.certificate * (1 + height_of (setting_of setting.now))) }
     ensures justified { IfErr result (NamesPlace (IsJustified (setting_of setting.now) setting.now.start.now)) }
@@ -112,6 +114,8 @@ pub fn find_in(
     ensures good { IfOk result (λ found. IsGoodFamily (setting_of setting.now) setting.now.start.now (family_of found.certificate)) }
     ensures least { IfOk result (λ found. IsLeast (setting_of setting.now) setting.now.start.now (family_of found.certificate)) }
     ensures within { IfOk result (λ found. (p : Place) (a : AnyState) → family_of found.certificate p ≡ Some a → FitsLimits (setting_of setting.now) a) }
+    ensures bodies { IfOk result (λ found. KeepsBodies (setting_of setting.now) setting.now.start.now (family_of found.certificate)) }
+    ensures contexts { IfOk result (λ found. AreLeastContexts (setting_of setting.now) setting.now.start.now found.certificate.contexts) }
     ensures at_least { IfOk result (λ found. points_of found.certificate ≤ found.updates) }
     ensures at_most { IfOk result (λ found. found.updates ≤ points_of found.certificate * (1 + height_of (setting_of setting.now))) }
     ensures justified { IfErr result (NamesPlace (IsJustified (setting_of setting.now) setting.now.start.now)) }

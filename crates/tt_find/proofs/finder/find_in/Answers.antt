@@ -1,4 +1,4 @@
-use Rattle.std.proofs.Common.{rules, ◌≡◌, ◌∙◌, ap, sym, subst, true, false, []}
+use Rattle.std.proofs.Common.{rules, arith, ◌≡◌, ◌∙◌, ap, sym, subst, true, false, []}
 use Rattle.std.specs.Prelude.{Option}
 use Rattle.tt_code.specs.declared.reason.Reason.TheVariants.{NeverEnds, ProgramTooLong}
 use Rattle.tt_abs.specs.declared.state.State.{State}
@@ -10,7 +10,7 @@ use Rattle.tt_cert.specs.declared.spot.Spot.TheVariants.{Main}
 use Rattle.tt_cert.proofs.Judged.{not_both}
 use Rattle.tt_find.specs.declared.fault.FindFault.TheVariants.{Refused}
 use Rattle.tt_find.specs.Found.{IsJustified, IsLeast, never_ends, too_long}
-use Rattle.tt_find.proofs.Finished.{fits_of, lacks_end, least_left, never_both, never_ends_from, none_good_from, same_family, whole_good}
+use Rattle.tt_find.proofs.Finished.{bodies_left, contexts_left, fits_of, lacks_end, least_left, never_both, never_ends_from, none_good_from, same_family, whole_good}
 use Rattle.tt_find.proofs.Followed.{names_at}
 use Rattle.tt_find.proofs.finder.find_in.Goals as goal
 
@@ -58,7 +58,23 @@ returns-clause-within c = λ p a at.
     fits_of (setting_of c.args.setting.now) c.args.setting.now.start.now c.has_laws.ensures p a
     (c.in_default.ensures.whole.kept.sound.derived p a (sym (c.in-Ok.ensures.same.family p) ∙ at))
 
+pub returns-clause-bodies : goal.returns-clause-bodies
+returns-clause-bodies c =
+    bodies_left (setting_of c.args.setting.now) c.args.setting.now.start.now c.has_laws.ensures c.fill.new.table c.in_default.ensures.whole
+    (family_of c.in-Ok.certificate) c.in-Ok.ensures.same.family
+
+pub returns-clause-contexts : goal.returns-clause-contexts
+returns-clause-contexts c =
+    contexts_left (setting_of c.args.setting.now) c.args.setting.now.start.now c.has_laws.ensures c.fill.new.table c.in_default.ensures.whole
+    c.in-Ok.certificate.contexts (λ frames. (c.in-Ok.ensures.same.contexts frames).1)
+
 pub returns-clause-never_ends : goal.returns-clause-never_ends
 returns-clause-never_ends c = λ family lacks.
     let u : c.ends_well.result ≡ true = search rules in
     (never_both (setting_of c.args.setting.now) c.args.setting.now.start.now c.has_laws.ensures (family_of c.fill.new.table.builder) family c.in_default.ensures.whole.kept.sound.derived (c.ends_well.ensures.0 u) lacks, tt)
+
+pub returns-clause-at_least : goal.returns-clause-at_least
+returns-clause-at_least c =
+    let counted = c.in_default.ensures.whole.budget.counted in
+    let same = c.in-Ok.ensures.points in
+    omega arith
