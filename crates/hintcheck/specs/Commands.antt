@@ -1,7 +1,12 @@
 -- What a command says of the count of failed writes to its output, and its exit status at a fault.
-use Rattle.std.specs.Prelude.{◌≡◌, ◌≤◌, ℕ, List, Option, IfSome, Result, Ok, Err}
+use Rattle.std.specs.Prelude.{◌≡◌, ◌+◌, ℕ, List, Option, IfSome, Result, Ok, Err}
+use Rattle.std.specs.Io.KnownBytes.{Consumes, IsAtEnd}
 use Rattle.hintcheck.specs.declared.commands.faults.CommandFault.{CommandFault}
 use Rattle.hintcheck.specs.declared.commands.faults.CommandFault.TheVariants as fault
+use Rattle.tt_stream.specs.declared.text.PrintFailed.{PrintFailed}
+use Rattle.tt_stream.specs.declared.text.PrintFailed.TheVariants as failed
+use Rattle.tt_stream.specs.declared.reads.ReadFault.{ReadFault}
+use Rattle.tt_stream.specs.declared.reads.ReadFault.TheVariants as reading
 use Rattle.tt_font.specs.declared.fault.FontFault.{FontFault}
 use Rattle.tt_font.specs.declared.fault.FontFault.TheVariants as font
 
@@ -20,11 +25,31 @@ abbrev pub IsNoWriteFault : CommandFault → Type 0
 IsNoWriteFault fault.Write = ⊥
 IsNoWriteFault other = Unit {0}
 
--- a write failed only where the answer says so
+-- the fault of a text that isn't printed
+abbrev pub fault_of_print : PrintFailed → CommandFault
+fault_of_print failed.Write = fault.Write
+fault_of_print failed.Format = fault.Text
+
+-- the fault of what isn't read to its end
+abbrev pub fault_of_reading : ReadFault → CommandFault
+fault_of_reading reading.Read = fault.Read
+fault_of_reading (reading.OutOfMemory error) = fault.OutOfMemory
+
+-- the count of failed writes rises by one exactly where the fault is a failed write
 abbrev pub TellsFailure : {T : Type 0} → Result T CommandFault → ℕ → ℕ → Type 0
 TellsFailure (Ok done) old new = new ≡ old
-TellsFailure (Err fault.Write) old new = old ≤ new
+TellsFailure (Err fault.Write) old new = new ≡ old + 1
 TellsFailure (Err other) old new = new ≡ old
+
+-- the count of failed reads rises by one exactly where the fault is a failed read
+abbrev pub TellsFailedRead : {T : Type 0} → Result T CommandFault → ℕ → ℕ → Type 0
+TellsFailedRead (Ok done) old new = new ≡ old
+TellsFailedRead (Err fault.Read) old new = new ≡ old + 1
+TellsFailedRead (Err other) old new = new ≡ old
+
+-- a read to the end took these bytes
+abbrev pub ReadsToEnd : Option (List ℕ) → Option (List ℕ) → List ℕ → Type 0
+ReadsToEnd old new bytes = Consumes old new bytes × IsAtEnd new
 
 -- these are the bytes that were left, where those are known
 abbrev pub HasAll : Option (List ℕ) → List ℕ → Type 0

@@ -1,8 +1,8 @@
 -- What the exit statuses 0 and 1 say: what was asked for is safe, or refused.
-use Rattle.std.specs.Prelude.{◌≡◌, ◌≢◌, ℕ, List, [], Some, unwrap_or}
+use Rattle.std.specs.Prelude.{◌≡◌, ◌≢◌, ◌≤◌, ℕ, List, [], Some, true, unwrap_or}
 use Rattle.tt_font.specs.Reading.{FontData, GlyphData, Reads}
 use Rattle.hintcheck_words.specs.HexWords.{Spells}
-use Rattle.hintcheck_words.specs.Requests.{Request, bare, meaning, verdict}
+use Rattle.hintcheck_words.specs.Requests.{Request, bare, is_taken, meaning, verdict}
 use Rattle.hintcheck.specs.FontPrograms.{IsSafeFont, IsSafeGlyph, IsVerdict, font_of, glyph_subject, one_glyph_font}
 use Rattle.hintcheck.specs.Programs.{HasGoodFamily}
 use Rattle.hintcheck.specs.Verdicts.{Judgement}
@@ -16,6 +16,13 @@ pub record SpellSafeGlyph (maxp : List ℕ) (cvt points contours : ℕ) (program
   pub contours_are : glyph.contours ≡ contours
   pub program_spelled : Spells program glyph.program
   pub safe : IsSafeGlyph (font_of (one_glyph_font table cvt glyph) [] []) glyph
+
+-- The verdict is the one on the font that stands in the bytes; where it names no refused program, the font is safe.
+pub record IsVerdictOn (bytes : List ℕ) (judgement : Judgement) : Type 0 where
+  pub font : FontData
+  pub reads : Reads bytes font
+  pub given : IsVerdict font judgement
+  pub safe : judgement.refused ≡ [] → IsSafeFont font
 
 -- The bytes hold a font, whose programs are safe.
 pub record HoldSafeFont (bytes : List ℕ) : Type 0 where
@@ -63,3 +70,10 @@ pub record MeansRefused (words : List (List ℕ)) : Type 0 where
   pub request : Request
   pub meant : meaning words ≡ Some request
   pub refused : IsRefusedRequest request
+
+-- What an exit status says of the words of a command line: they ask for something safe where it is 0 and they are taken, and for something
+-- refused where it is 1.
+pub record IsStatusOf (words : List (List ℕ)) (status : ℕ) : Type 0 where
+  pub few : status ≤ 3
+  pub safe : status ≡ 0 → is_taken words ≡ true → MeansSafe words
+  pub refused : status ≡ 1 → MeansRefused words

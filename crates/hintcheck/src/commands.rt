@@ -1,13 +1,13 @@
 //! What the words of a command line ask for, done: a verdict or a fault in lines for the user, and
 //! the exit status.
 
-ghost use Rattle.std.specs.Prelude.{◌≡◌, ◌≢◌, ◌≤◌, ◌<◌, ◌⊎◌, ℕ, IfErr, IfOk, List, [], map, option_map, string_bytes, true, unwrap_or};
+ghost use Rattle.std.specs.Prelude.{◌≡◌, ◌≢◌, ◌+◌, ◌≤◌, ◌<◌, ◌⊎◌, ℕ, IfErr, IfOk, List, [], map, option_map, string_bytes, true, unwrap_or};
 ghost use Rattle.tt_stream.specs.Streams.{CountsPrintFailure};
 ghost use Rattle.hintcheck_words.specs.Requests.{asked, is_taken};
-ghost use Rattle.hintcheck.specs.Commands.{HasAll, IsNoWriteFault, TellsFailure, status_of};
-ghost use Rattle.hintcheck.specs.MeansSafe.{HoldRefusedFont, HoldSafeFont, IsRefusedRequest, IsSafeRequest, MeansRefused, MeansSafe, SpellRefusedGlyph, SpellSafeGlyph};
+ghost use Rattle.hintcheck.specs.Commands.{HasAll, IsNoWriteFault, ReadsToEnd, TellsFailedRead, TellsFailure, status_of};
+ghost use Rattle.hintcheck.specs.MeansSafe.{HoldRefusedFont, HoldSafeFont, IsRefusedRequest, IsSafeRequest, IsVerdictOn, MeansRefused, MeansSafe, SpellRefusedGlyph, SpellSafeGlyph};
 
-mod faults;
+pub mod faults;
 
 use crate::fonts;
 use crate::judge::bare;
@@ -20,7 +20,7 @@ use std::io::Read;
 use std::marker::Brand;
 use std::rt::Files;
 use std::sync::ledger::{Blank, Ledger};
-use tt_stream::{Counted, PrintFailed, Sink, read_all};
+use tt_stream::{Counted, PrintFailed, Sink, Source, read_all};
 
 /// The exit status where every program is accepted, or help was asked for.
 const ACCEPTED: u8 = 0;
@@ -72,10 +72,20 @@ fn bare_verdict(
         fault,
         CommandFault::ProgramWord,
     ))?;
-    match bare(alloc, &maxp, cvt, points, contours, &program) {
-        Ok(verdict) => Ok(verdict),
-        Err(fault) => Err(CommandFault::of_font(fault)),
-    }
+    Ok(bare(alloc, &maxp, cvt, points, contours, &program)?)
+}
+
+/// The verdict on all programs of the font whose bytes are all that is left in the source, which is read to its end.
+///
+/// # Errors
+/// `Read` exactly where a read failed; the faults of `verdict`; `OutOfMemory`.
+pub fn verdict_of<S: Source>(alloc: Global, source: &mut S) -> Result<Verdict, CommandFault>
+    ensures exact { IfOk result (λ v. (bytes : List ℕ) × ReadsToEnd (S.remaining source.old) (S.remaining source.new) bytes × IsVerdictOn bytes v) }
+    ensures failures { TellsFailedRead result (S.failures source.old) (S.failures source.new) }
+    ensures fault { IfErr result IsNoWriteFault }
+{
+    let bytes = read_all(alloc, source)?;
+    Ok(fonts::verdict(alloc, &bytes)?)
 }
 
 /// The verdict on all programs of a font, whose bytes are those that are left in the file.
@@ -90,8 +100,7 @@ fn verdict_on_bytes<L: Ledger, F: Read + Drop>(
     ensures fault { IfErr result IsNoWriteFault }
 {
     let mut source = Counted::<F, L>::new(file, blank);
-    let bytes = read_all(alloc, &mut source).map_err(CommandFault::of_reading)?;
-    fonts::verdict(alloc, &bytes).map_err(CommandFault::of_font)
+    verdict_of(alloc, &mut source)
 }
 
 /// The verdict on all programs of the font file with this name.
@@ -141,8 +150,13 @@ fn verdict_on<R: Files + AllocGlobal>(rt: &R, task: &Task) -> Result<Verdict, Co
     }
 }
 
-/// Does what the words ask for, and answers the exit status.
-fn run<R: Files + AllocGlobal, O: Sink>(
+/// Does what the words of a command line ask for and prints the answer to `out`, and answers the exit status: 0 accepted, 1 refused. It
+/// is `command` but that the fault is the caller's to tell.
+///
+/// # Errors
+/// `Write` exactly where a write to `out` failed; `Usage` for words that the command line doesn't take; `MaxpWord` and `ProgramWord` for a
+/// word that spells no bytes; `Font`, `Read` and `OutOfMemory`.
+pub fn try_command<R: Files + AllocGlobal, O: Sink>(
     rt: &R,
     words: &[&str],
     out: &mut O,
@@ -187,11 +201,11 @@ pub fn command<R: Files + AllocGlobal, O: Sink, E: Sink>(
     ensures safe { result ≡ 0 → is_taken (map (λ w. w.now) words.entry.now) ≡ true → MeansSafe (map (λ w. w.now) words.entry.now) }
     // Where the status is 1, the words ask for something, which is refused.
     ensures refused { result ≡ 1 → MeansRefused (map (λ w. w.now) words.entry.now) }
-    // A write to `out` failed only where the status says so.
-    ensures unwritten { O.failures out.new ≡ O.failures out.old ⊎ (result ≡ 2 × O.failures out.old ≤ O.failures out.new) }
+    // At most one write to `out` failed, and none unless the status is 2.
+    ensures unwritten { O.failures out.new ≡ O.failures out.old ⊎ (result ≡ 2 × O.failures out.new ≡ O.failures out.old + 1) }
     ensures untold { E.failures err.old ≤ E.failures err.new }
 {
-    match run(rt, words, out) {
+    match try_command(rt, words, out) {
         Ok(status) => status,
         Err(fault) => tell(err, &fault),
     }

@@ -18,7 +18,7 @@ const OUT_OF_MEMORY: u8 = 3;
 
 /// A font's fault, whose text begins with its number.
 #[derive(Debug, Drop)]
-pub(crate) struct Numbered(FontFault);
+pub struct Numbered(FontFault);
 
 impl fmt::Display for Numbered {
     fn fmt<W: fmt::Write>(&self, f: &mut fmt::Formatter<W>) -> fmt::Result {
@@ -27,9 +27,9 @@ impl fmt::Display for Numbered {
     }
 }
 
-/// Why a command gives no verdict: the line for the user, behind `fault: `.
+/// Why a command gives no verdict: the line for the user, after `fault: `.
 #[derive(Debug, Drop, Error)]
-pub(crate) enum CommandFault {
+pub enum CommandFault {
     /// The words are none of the command line. The text is clap's, and stands alone.
     #[error("{0}")]
     Usage(TaskFault),
@@ -49,15 +49,44 @@ pub(crate) enum CommandFault {
     /// The output can't be written.
     #[error("45 write")]
     Write,
+    /// A text gave up on being printed, as none here does: each goes to a window in memory that takes whatever it gets.
+    #[error("text")]
+    Text,
 }
 
 impl From<PrintFailed> for CommandFault {
-    ghost use Rattle.hintcheck.specs.declared.commands.faults.CommandFault.TheVariants.{Write};
+    ghost use Rattle.hintcheck.specs.Commands.{fault_of_print};
 
-    ghost from_gives = { λ _ fault. fault ≡ Write };
+    ghost from_gives = { λ failed fault. fault ≡ fault_of_print failed };
 
-    fn from(_failed: PrintFailed) -> CommandFault {
-        CommandFault::Write
+    fn from(failed: PrintFailed) -> CommandFault {
+        match failed {
+            PrintFailed::Write => CommandFault::Write,
+            PrintFailed::Format => CommandFault::Text,
+        }
+    }
+}
+
+impl From<ReadFault> for CommandFault {
+    ghost use Rattle.hintcheck.specs.Commands.{fault_of_reading};
+
+    ghost from_gives = { λ read fault. fault ≡ fault_of_reading read };
+
+    fn from(read: ReadFault) -> CommandFault {
+        match read {
+            ReadFault::Read => CommandFault::Read,
+            ReadFault::OutOfMemory(AllocError) => CommandFault::OutOfMemory,
+        }
+    }
+}
+
+impl From<FontFault> for CommandFault {
+    ghost use Rattle.hintcheck.specs.declared.commands.faults.CommandFault.TheVariants.{Font};
+
+    ghost from_gives = { λ font fault. fault ≡ Font (record { 0 = font }) };
+
+    fn from(font: FontFault) -> CommandFault {
+        CommandFault::Font(Numbered(font))
     }
 }
 
@@ -73,23 +102,8 @@ impl CommandFault {
         }
     }
 
-    pub(crate) fn of_font(fault: FontFault) -> CommandFault
-        ensures { IsNoWriteFault result }
-    {
-        CommandFault::Font(Numbered(fault))
-    }
-
-    pub(crate) fn of_reading(fault: ReadFault) -> CommandFault
-        ensures { IsNoWriteFault result }
-    {
-        match fault {
-            ReadFault::Read => CommandFault::Read,
-            ReadFault::OutOfMemory(AllocError) => CommandFault::OutOfMemory,
-        }
-    }
-
-    /// The exit status.
-    pub(crate) fn status(&self) -> u8
+    /// The exit status: 3 where memory ran out, and else 2.
+    pub fn status(&self) -> u8
         ensures { result ≡ status_of self.now }
     {
         match self {

@@ -1,8 +1,8 @@
 use Rattle.std.proofs.Common.{rules, refl}
 use Rattle.hintcheck.proofs.commands.bare_verdict.Goals as goal
 
-pub returns-in-Ok-clause-refused : goal.returns-in-Ok-clause-refused
-returns-in-Ok-clause-refused c = λ some. record {
+pub returns-clause-refused : goal.returns-clause-refused
+returns-clause-refused c = λ some. record {
   table = c.in_ok-maxp.maxp.items;
   table_spelled = search rules;
   glyph = record { points = c.args.points; contours = c.args.contours; program = c.in_ok-program.program.items };

@@ -1,5 +1,5 @@
 use Rattle.hintcheck_words.specs.Requests.{IsWantOfMemory}
-use Rattle.hintcheck.proofs.commands.run.Goals as goal
+use Rattle.hintcheck.proofs.commands.try_command.Goals as goal
 
 pub returns-in_ok-write-in-Err-Words-clause-safe : goal.returns-in_ok-write-in-Err-Words-clause-safe
 unfolding IsWantOfMemory
