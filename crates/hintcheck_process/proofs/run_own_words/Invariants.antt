@@ -1,4 +1,4 @@
-use Rattle.hintcheck_cli.proofs.run_own_words.Given as goal
+use Rattle.hintcheck_process.proofs.run_own_words.Given as goal
 
 abbrev pub ghosts-run-L-Ledger : goal.ghosts-run-L-Ledger
 ghosts-run-L-Ledger a = record { name = a.first.name; parts = a.first.parts }
