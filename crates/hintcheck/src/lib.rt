@@ -3,17 +3,12 @@
 
 mod commands;
 pub mod fonts;
-#[cfg(test)]
-mod fonts_tests;
 pub mod judge;
-#[cfg(test)]
-mod judge_tests;
 mod look;
 pub mod report;
-#[cfg(test)]
-mod tests;
 
-pub use commands::command;
+pub use commands::faults::CommandFault;
+pub use commands::{command, try_command, verdict_of};
 pub use fonts::verdict;
 pub use judge::bare;
 pub use report::{Name, Place, Refused, Verdict};

@@ -2,8 +2,6 @@
 #![tactic(auto)]
 
 mod hex_words;
-#[cfg(test)]
-mod tests;
 mod words;
 
 pub use hex_words::{WordFault, word_bytes};

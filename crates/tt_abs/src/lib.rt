@@ -7,8 +7,6 @@ mod codes;
 mod compute;
 mod control;
 pub mod entries;
-#[cfg(test)]
-mod entries_tests;
 pub mod graphics;
 pub mod laws;
 mod line;
@@ -23,11 +21,7 @@ pub mod setting;
 mod shuffle;
 pub mod stack;
 pub mod state;
-#[cfg(test)]
-mod state_tests;
 mod stepping;
-#[cfg(test)]
-mod transfer_tests;
 mod transferring;
 
 pub use cells::{Cell, ZoneCell};

@@ -4,8 +4,6 @@
 pub mod builder;
 pub mod certificate;
 pub mod checking;
-#[cfg(test)]
-mod checking_tests;
 pub mod fault;
 mod finishing;
 mod places;
@@ -20,6 +18,3 @@ pub use checking::{CheckFault, check_full, ends_well, is_short};
 pub use fault::BuildFault;
 pub use spot::Spot;
 pub use states::States;
-
-#[cfg(test)]
-mod tests;

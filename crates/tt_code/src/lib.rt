@@ -25,6 +25,3 @@ pub use machine::{Body, Frame, Graphics};
 pub use program::Program;
 pub use reason::Reason;
 pub use table::{effect, entry, name};
-
-#[cfg(test)]
-mod tests;

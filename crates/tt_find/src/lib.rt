@@ -11,6 +11,3 @@ mod walk;
 
 pub use fault::FindFault;
 pub use finder::{Found, find, find_in};
-
-#[cfg(test)]
-mod tests;

@@ -153,6 +153,3 @@ impl<'a> Font<'a> {
         self.component_reads
     }
 }
-
-#[cfg(test)]
-mod tests;

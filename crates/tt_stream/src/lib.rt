@@ -7,8 +7,6 @@ ghost use Rattle.std.specs.Io.KnownBytes.{ReadConsumes, WriteAppends, Appends};
 ghost use Rattle.tt_stream.specs.Streams.{AppendsBeginning, AppendsBeginningOfText, AppendsText, CountsFailure, CountsPrintFailure, Tally};
 
 mod reads;
-#[cfg(test)]
-mod tests;
 mod text;
 
 pub use reads::{ReadFault, read_all};

@@ -1,0 +1,15 @@
+//! Tests of the verdicts, and of what the command prints of them.
+#![tactic(auto)]
+
+#[cfg(test)]
+mod commands;
+#[cfg(test)]
+mod font_files;
+#[cfg(test)]
+mod font_programs;
+#[cfg(test)]
+mod glyph_programs;
+#[cfg(test)]
+mod lines;
+#[cfg(test)]
+mod outputs;

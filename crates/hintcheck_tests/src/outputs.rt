@@ -1,0 +1,153 @@
+//! What the command prints, on two writers in memory.
+
+ghost use Rattle.std.specs.Prelude.{◌≡◌, ◌<◌};
+
+use hintcheck::command;
+use std::io::{self, ErrorKind, Write};
+use std::marker::Brand;
+use std::rt::Files;
+use std::sync::ledger::{Blank, Ledger};
+use std::test::Fail;
+use std::{env, fs, process};
+use tt_stream::Counted;
+
+/// As a word, a `maxp` table with the limits: storage 4, functions 2, stack 8, programs of 64 bytes, zones 2, twilight points 4.
+pub(crate) const MAXP: &str = "0001000000010004000100000000000200040004000200000008004000000000";
+
+/// Takes one byte a call, as long as there is room, and then fails.
+#[derive(Drop)]
+struct Narrow {
+    bytes: Vec<u8>,
+    room: usize,
+}
+
+impl Write for Narrow {
+    fn write(&mut self, buf: &[u8]) -> io::Result<usize> {
+        if self.bytes.len() >= self.room {
+            return Err(io::Error::from(ErrorKind::StorageFull));
+        }
+        match buf.first() {
+            Some(byte) => {
+                self.bytes.push(*byte)?;
+                Ok(1)
+            }
+            None => Ok(0),
+        }
+    }
+
+    fn flush(&mut self) -> io::Result<()> {
+        Ok(())
+    }
+}
+
+/// The exit status at these words, and both writers afterwards.
+fn run<L: Ledger, M: Ledger, R: Files + AllocGlobal>(
+    rt: &R,
+    words: &[&str],
+    out: Narrow,
+    err: Narrow,
+    first: Blank,
+    second: Blank,
+) -> (u8, Vec<u8>, Vec<u8>)
+    requires out { (first.name ≡ L.name) × (first.parts ≡ L.parts) × (0 < first.parts) }
+    requires err { (second.name ≡ M.name) × (second.parts ≡ M.parts) × (0 < second.parts) }
+{
+    let mut out = Counted::<Narrow, L>::new(out, first);
+    let mut err = Counted::<Narrow, M>::new(err, second);
+    let status = command(rt, words, &mut out, &mut err);
+    (status, out.into_inner().bytes, err.into_inner().bytes)
+}
+
+/// The exit status at these words, and what stands on writers with room for so many bytes.
+pub(crate) fn printed<R: Files + AllocGlobal>(
+    rt: &R,
+    words: &[&str],
+    out_room: usize,
+    err_room: usize,
+) -> (u8, Vec<u8>, Vec<u8>) {
+    let out = Narrow {
+        bytes: Vec::new(rt.alloc()),
+        room: out_room,
+    };
+    let err = Narrow {
+        bytes: Vec::new(rt.alloc()),
+        room: err_room,
+    };
+    run::<Brand, Brand, R>(rt, words, out, err, Blank::new(1), Blank::new(1))
+}
+
+pub(crate) const ROOM: usize = 10_000;
+
+/// Whether the command answers by this status, with these texts on the output and the error output.
+fn answers<R: Files + AllocGlobal>(
+    rt: &R,
+    words: &[&str],
+    status: u8,
+    out_text: &str,
+    err_text: &str,
+) -> bool {
+    let (told, out, err) = printed(rt, words, ROOM, ROOM);
+    told == status && out.as_slice() == out_text.as_bytes() && err.as_slice() == err_text.as_bytes()
+}
+
+/// Says that these words have another answer.
+fn other_answer(words: &[&str], out_text: &str, err_text: &str) -> Fail {
+    Fail::new(format_args!("{words:?} aren't answered by: {out_text}{err_text}"))
+}
+
+/// Fails where the command doesn't answer these words so.
+pub(crate) fn expect_answer<R: Files + AllocGlobal>(
+    rt: &R,
+    words: &[&str],
+    status: u8,
+    out_text: &str,
+    err_text: &str,
+) -> Result<(), Fail> {
+    if answers(rt, words, status, out_text, err_text) {
+        return Ok(());
+    }
+    Err(other_answer(words, out_text, err_text))
+}
+
+/// Fails where the command doesn't answer so where it is asked for the verdict on this program, or on none, against this `maxp` table, 10
+/// control values, 4 points and 1 contour.
+pub(crate) fn expect_of_bare<R: Files + AllocGlobal>(
+    rt: &R,
+    maxp: &str,
+    program: Option<&str>,
+    status: u8,
+    out_text: &str,
+    err_text: &str,
+) -> Result<(), Fail> {
+    match program {
+        Some(program) => {
+            let words = ["hintcheck", "bare", maxp, "10", "4", "1", program];
+            expect_answer(rt, &words, status, out_text, err_text)
+        }
+        None => {
+            let words = ["hintcheck", "bare", maxp, "10", "4", "1"];
+            expect_answer(rt, &words, status, out_text, err_text)
+        }
+    }
+}
+
+/// Fails where the command doesn't answer so where it is asked for the verdict on a file with these bytes.
+pub(crate) fn expect_of_file(
+    rt: &HostRuntime,
+    bytes: &[u8],
+    status: u8,
+    out_text: &str,
+    err_text: &str,
+) -> Result<(), Fail> {
+    let process = process::id(rt.process());
+    let name = format!(in rt.alloc(); "hintcheck-{process}.ttf")?;
+    let path = env::temp_dir(rt)?.join(rt.alloc(), name)?;
+    fs::write(rt, path.as_str(), bytes)?;
+    let words = ["hintcheck", "verdict", path.as_str()];
+    let right = answers(rt, &words, status, out_text, err_text);
+    fs::remove_file(rt, path.as_str())?;
+    if right {
+        return Ok(());
+    }
+    Err(other_answer(&words, out_text, err_text))
+}

@@ -1,0 +1,113 @@
+//! The words of the command line.
+
+use clap::error::ErrorKind;
+use hintcheck_words::{Task, TaskFault, read_words};
+use std::alloc::{AllocError, Global};
+use std::test::Fail;
+
+/// The words of a check of one glyph program.
+const BARE: [&str; 7] = ["hintcheck", "bare", "0001", "0", "65535", "+7", "B1"];
+
+/// A task is what `BARE` asks for, with this program.
+fn is_bare(task: &Task, with_program: Option<&str>) -> bool {
+    match task {
+        Task::Bare {
+            maxp,
+            cvt,
+            points,
+            contours,
+            program,
+        } => {
+            maxp.as_str() == "0001"
+                && (*cvt, *points, *contours) == (0, 65_535, 7)
+                && program.as_ref().map(|s| s.as_str()) == with_program
+        }
+        Task::Verdict { .. } => false,
+    }
+}
+
+#[test]
+fn reads_the_words_of_bare(rt: HostRuntime) -> Result<(), Fail> {
+    let task = read_words(rt.alloc(), &BARE)?;
+    assert!(rt; is_bare(&task, Some("B1")), "{task:?}");
+    Ok(())
+}
+
+#[test]
+fn reads_the_words_of_bare_without_a_program(rt: HostRuntime) -> Result<(), Fail> {
+    let task = read_words(rt.alloc(), &BARE[..6])?;
+    assert!(rt; is_bare(&task, None), "{task:?}");
+    Ok(())
+}
+
+/// A task is the check of the font file with this name.
+fn is_verdict(task: &Task, name: &str) -> bool {
+    match task {
+        Task::Verdict { font } => font.as_str() == name,
+        Task::Bare { .. } => false,
+    }
+}
+
+#[test]
+fn reads_the_words_of_verdict(rt: HostRuntime) -> Result<(), Fail> {
+    let task = read_words(rt.alloc(), &["hintcheck", "verdict", "a.ttf"])?;
+    assert!(rt; is_verdict(&task, "a.ttf"), "{task:?}");
+    Ok(())
+}
+
+/// The kind of clap's error, where the words are none of the command line.
+fn refusal<'a>(alloc: Global, words: &'a [&'a str]) -> Option<ErrorKind> {
+    match read_words(alloc, words) {
+        Err(TaskFault::Words(error)) => Some(error.kind()),
+        Err(TaskFault::OutOfMemory(AllocError)) => None,
+        Ok(_task) => None,
+    }
+}
+
+/// Words that are none of the command line, and the kind of the error.
+const REFUSED: [(&[&str], ErrorKind); 8] = [
+    (
+        &["hintcheck", "bare", "00", "1", "2"],
+        ErrorKind::MissingRequiredArgument,
+    ),
+    (
+        &["hintcheck", "bare", "00", "65536", "1", "1"],
+        ErrorKind::ValueValidation,
+    ),
+    (
+        &["hintcheck", "bare", "00", "-1", "1", "1"],
+        ErrorKind::UnknownArgument,
+    ),
+    (
+        &["hintcheck", "bare", "00", "1", "1", "1", "00", "0"],
+        ErrorKind::UnknownArgument,
+    ),
+    (
+        &["hintcheck", "verdict"],
+        ErrorKind::MissingRequiredArgument,
+    ),
+    (
+        &["hintcheck", "verdict", "a", "b"],
+        ErrorKind::UnknownArgument,
+    ),
+    (&["hintcheck", "bear"], ErrorKind::InvalidSubcommand),
+    (&["hintcheck"], ErrorKind::MissingSubcommand),
+];
+
+#[test]
+fn refuses_other_words(rt: HostRuntime) {
+    for (words, want) in REFUSED {
+        assert_eq!(rt; refusal(rt.alloc(), words), Some(want), "of {words:?}");
+    }
+}
+
+/// Words that ask for help.
+const HELP: [&[&str]; 2] = [&["hintcheck", "--help"], &["hintcheck", "help", "bare"]];
+
+#[test]
+fn shows_help(rt: HostRuntime) {
+    for words in HELP {
+        let kind = refusal(rt.alloc(), words);
+        assert_eq!(rt; kind, Some(ErrorKind::DisplayHelp), "of {words:?}");
+    }
+}

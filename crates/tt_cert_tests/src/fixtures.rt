@@ -1,0 +1,167 @@
+//! What the tests share: states, builders that are filled from tables, and what stands in a family.
+
+ghost use Rattle.std.specs.Prelude.{IfOk};
+ghost use Rattle.tt_abs.specs.Entries.{Rises};
+ghost use Rattle.tt_abs.specs.States.{state_order};
+
+use std::alloc::{AllocError, Global};
+use tt_abs::{Cell, State};
+use tt_cert::{BuildFault, Builder, Certificate, States};
+use tt_code::Frame;
+
+/// A state of a table: its context, its offset and the numbers on its stack, the bottom first.
+pub(crate) type Row<'a> = (u32, u32, &'a [i32]);
+
+/// The first turn of a call at this offset.
+pub(crate) fn call_at(call: u32) -> Frame {
+    Frame {
+        body: 7,
+        call,
+        turn: 1,
+        count: 1,
+    }
+}
+
+/// The state at a start with these functions, with these numbers on the stack, the bottom first; eight of them at most.
+pub(crate) fn state_of(
+    alloc: Global,
+    functions: &[(u16, u32)],
+    stack: &[i32],
+) -> Result<State, AllocError>
+    requires { Rises functions.now }
+    ensures { IfOk result (λ state. state_order.InRange state) }
+{
+    let mut state = State::start(alloc, functions)?;
+    for number in stack {
+        if state.depth() < 8 {
+            state.push(Cell::Known(*number))?;
+        }
+    }
+    Ok(state)
+}
+
+/// Adds a context below one that is there.
+pub(crate) fn add(builder: &mut Builder, parent: u32, frame: Frame) -> Result<u32, BuildFault> {
+    if parent >= builder.contexts() {
+        return Err(BuildFault::TooManyContexts);
+    }
+    builder.add_context(parent, frame)
+}
+
+/// Adds contexts, each below one that is there; were all of them added?
+pub(crate) fn add_all(builder: &mut Builder, contexts: &[(u32, Frame)]) -> bool {
+    for (parent, frame) in contexts {
+        if add(builder, *parent, *frame).is_err() {
+            return false;
+        }
+    }
+    true
+}
+
+/// Joins a state into a context that is there.
+pub(crate) fn join(
+    builder: &mut Builder,
+    context: u32,
+    offset: u32,
+    state: &State,
+) -> Result<bool, BuildFault>
+    requires { state_order.InRange state.now }
+{
+    if context >= builder.contexts() {
+        return Err(BuildFault::TooManyContexts);
+    }
+    builder.join_state(context, offset, state)
+}
+
+/// Joins the state of a row, in which these functions are known.
+pub(crate) fn put(
+    alloc: Global,
+    builder: &mut Builder,
+    functions: &[(u16, u32)],
+    row: Row<'_>,
+) -> Result<bool, BuildFault>
+    requires { Rises functions.now }
+{
+    match state_of(alloc, functions, row.2) {
+        Ok(state) => join(builder, row.0, row.1, &state),
+        Err(_) => Err(BuildFault::OutOfMemory),
+    }
+}
+
+/// Joins the states of these rows, in which these functions are known; were all of them joined?
+pub(crate) fn put_all(
+    alloc: Global,
+    builder: &mut Builder,
+    functions: &[(u16, u32)],
+    rows: &[Row<'_>],
+) -> bool
+    requires { Rises functions.now }
+{
+    for row in rows {
+        if put(alloc, builder, functions, *row).is_err() {
+            return false;
+        }
+    }
+    true
+}
+
+/// Joins the start state with this stack at offsets of a context, one after the other; was it joined at all of them?
+pub(crate) fn put_at(
+    alloc: Global,
+    builder: &mut Builder,
+    (context, stack): (u32, &[i32]),
+    offsets: &[u32],
+) -> bool {
+    for offset in offsets {
+        if put(alloc, builder, &[], (context, *offset, stack)).is_err() {
+            return false;
+        }
+    }
+    true
+}
+
+/// The certificate of a builder's family, if all of it was put.
+pub(crate) fn finished_if(is_filled: bool, builder: Builder) -> Option<Certificate> {
+    if !is_filled {
+        return None;
+    }
+    match builder.finish() {
+        Ok(certificate) => Some(certificate),
+        Err(_) => None,
+    }
+}
+
+/// The certificate of the family with these contexts and states.
+pub(crate) fn certificate(
+    alloc: Global,
+    contexts: &[(u32, Frame)],
+    functions: &[(u16, u32)],
+    rows: &[Row<'_>],
+) -> Option<Certificate>
+    requires { Rises functions.now }
+{
+    let mut builder = Builder::new(alloc);
+    let is_filled = add_all(&mut builder, contexts)
+        && put_all(alloc, &mut builder, functions, rows);
+    finished_if(is_filled, builder)
+}
+
+/// The cell at this place from the bottom of the stack at a point.
+pub(crate) fn cell_at(builder: &Builder, context: u32, offset: u32, place: usize) -> Option<Cell> {
+    match builder.state(context, offset) {
+        Some(state) => state.cell(place),
+        None => None,
+    }
+}
+
+/// Does the walk lead through these points alone, in this order?
+pub(crate) fn leads_through(states: States<'_>, points: &[(u32, u32)]) -> bool {
+    let mut states = states;
+    for point in points {
+        match states.take_first() {
+            Some((context, offset, _)) if (context, offset) == *point => {}
+            _ => return false,
+        }
+    }
+    states.take_first().is_none()
+}
