@@ -1,0 +1,14 @@
+#!/bin/sh
+# edits.sh [CRATE..]: tries the edits of bench/edits/CRATE that the prover must refuse, as `rt ci` tries those of crates/CRATE/must-fail.
+# Without a name it takes each crate that has some. It works on a copy of the repository, as it stands in the work tree.
+top=$(cd "$(dirname -- "$0")/.." && pwd) || exit 2
+room=$(mktemp -d) || exit 2
+trap 'rm -rf "$room"' EXIT
+[ $# -gt 0 ] || set -- $(ls "$top/bench/edits")
+cp -a "$top/crates" "$top/crates.txt" "$top/HANDLES" "$room/" || exit 2
+git -C "$room" init -q || exit 2
+for name in "$@"; do
+    rm -rf "$room/crates/$name/must-fail"
+    cp -a "$top/bench/edits/$name" "$room/crates/$name/must-fail" || exit 2
+done
+cd "$room" && rt must-fail "$@"

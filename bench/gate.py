@@ -1,0 +1,75 @@
+#!/usr/bin/env python3
+"""Runs `rt ci` in a clean clone of HEAD, and tells how its processor time is spent: by crate, for its proof, its tests and its edits.
+
+Usage: bench/gate.py
+What `rt ci` prints goes to gate.log in the current folder. The figures are user and system time of the prover's processes, read once a
+second while they run, in minutes; the whole is that of all processes. Nothing else should run beside it.
+"""
+
+import collections
+import os
+import pathlib
+import resource
+import subprocess
+import sys
+import tempfile
+import time
+
+TOP = pathlib.Path(__file__).resolve().parent.parent
+TICKS = os.sysconf("SC_CLK_TCK")
+
+
+def name_of(process):
+    """The crate and the kind of work of a process of the prover, or None for any other process."""
+    words = (process / "cmdline").read_bytes().decode(errors="replace").split("\0")
+    if "--crate-name" not in words:
+        return None
+    crate = words[words.index("--crate-name") + 1]
+    if os.readlink(process / "cwd").startswith(tempfile.gettempdir() + "/rt-edit-"):
+        return crate, "edits"
+    if "--test" in words:
+        return crate, "tests"
+    return crate, "builds" if words[1:2] == ["build"] else "proof"
+
+
+def seconds_of(process):
+    fields = (process / "stat").read_text().rpartition(")")[2].split()
+    return (int(fields[11]) + int(fields[12])) / TICKS
+
+
+def look(seen):
+    """Notes what each process of the prover has taken so far."""
+    for process in pathlib.Path("/proc").glob("[0-9]*"):
+        try:
+            name = name_of(process)
+            if name:
+                seen[process.name, name] = seconds_of(process)
+        except OSError:
+            pass  # The process has ended.
+
+
+def main():
+    seen = {}
+    with tempfile.TemporaryDirectory(prefix="gate-") as room, open("gate.log", "wb") as log:
+        subprocess.run(["git", "clone", "-q", TOP, f"{room}/clone"], check=True)
+        begun = time.time()
+        gate = subprocess.Popen(["rt", "ci"], cwd=f"{room}/clone", stdout=log, stderr=subprocess.STDOUT)
+        while gate.poll() is None:
+            look(seen)
+            time.sleep(1)
+    used = resource.getrusage(resource.RUSAGE_CHILDREN)
+    table = collections.defaultdict(lambda: collections.defaultdict(float))
+    for (_, (crate, kind)), seconds in seen.items():
+        table[crate][kind] += seconds / 60
+    kinds = ["proof", "tests", "edits", "builds"]
+    print(f"{'crate':24}" + "".join(f"{kind:>8}" for kind in kinds))
+    for crate, row in sorted(table.items()):
+        print(f"{crate:24}" + "".join(f"{row[kind]:8.1f}" for kind in kinds))
+    print(f"{'all':24}" + "".join(f"{sum(row[kind] for row in table.values()):8.1f}" for kind in kinds))
+    whole = (used.ru_utime + used.ru_stime) / 60
+    print(f"the whole gate: {whole:.0f} processor minutes, {(time.time() - begun) / 60:.0f} minutes")
+    return gate.returncode
+
+
+if __name__ == "__main__":
+    sys.exit(main())
