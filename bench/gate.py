@@ -1,5 +1,6 @@
 #!/usr/bin/env python3
-"""Runs `rt ci` in a clean clone of HEAD, and tells how its processor time is spent: by crate, for its proof, its tests and its edits.
+"""Runs `rt ci` in a clean clone of HEAD, and tells how its processor time is spent: by crate, for its proof (and a program's two builds), its
+tests and its edits.
 
 Usage: bench/gate.py
 What `rt ci` prints goes to gate.log in the current folder. The figures are user and system time of the prover's processes, read once a
@@ -27,9 +28,7 @@ def name_of(process):
     crate = words[words.index("--crate-name") + 1]
     if os.readlink(process / "cwd").startswith(tempfile.gettempdir() + "/rt-edit-"):
         return crate, "edits"
-    if "--test" in words:
-        return crate, "tests"
-    return crate, "builds" if words[1:2] == ["build"] else "proof"
+    return crate, "tests" if "--test" in words else "proof"
 
 
 def seconds_of(process):
@@ -61,7 +60,7 @@ def main():
     table = collections.defaultdict(lambda: collections.defaultdict(float))
     for (_, (crate, kind)), seconds in seen.items():
         table[crate][kind] += seconds / 60
-    kinds = ["proof", "tests", "edits", "builds"]
+    kinds = ["proof", "tests", "edits"]
     print(f"{'crate':24}" + "".join(f"{kind:>8}" for kind in kinds))
     for crate, row in sorted(table.items()):
         print(f"{crate:24}" + "".join(f"{row[kind]:8.1f}" for kind in kinds))
