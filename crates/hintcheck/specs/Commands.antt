@@ -7,6 +7,8 @@ use Rattle.tt_stream.specs.declared.text.PrintFailed.{PrintFailed}
 use Rattle.tt_stream.specs.declared.text.PrintFailed.TheVariants as failed
 use Rattle.tt_stream.specs.declared.reads.ReadFault.{ReadFault}
 use Rattle.tt_stream.specs.declared.reads.ReadFault.TheVariants as reading
+use Rattle.hintcheck_words.specs.declared.hex_words.WordFault.{WordFault}
+use Rattle.hintcheck_words.specs.declared.hex_words.WordFault.TheVariants as words
 use Rattle.tt_font.specs.declared.fault.FontFault.{FontFault}
 use Rattle.tt_font.specs.declared.fault.FontFault.TheVariants as font
 
@@ -34,6 +36,11 @@ fault_of_print failed.Format = fault.Text
 abbrev pub fault_of_reading : ReadFault → CommandFault
 fault_of_reading reading.Read = fault.Read
 fault_of_reading (reading.OutOfMemory error) = fault.OutOfMemory
+
+-- the fault of a word of hexadecimal digits, which is `bad` where it spells no bytes
+abbrev pub fault_of_word : WordFault → CommandFault → CommandFault
+fault_of_word words.BadWord bad = bad
+fault_of_word (words.OutOfMemory error) bad = fault.OutOfMemory
 
 -- the count of failed writes rises by one exactly where the fault is a failed write
 abbrev pub TellsFailure : {T : Type 0} → Result T CommandFault → ℕ → ℕ → Type 0

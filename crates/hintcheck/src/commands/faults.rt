@@ -1,7 +1,7 @@
 //! Why a command gives no verdict.
 
 ghost use Rattle.std.specs.Prelude.{◌≡◌};
-ghost use Rattle.hintcheck.specs.Commands.{IsNoWriteFault, status_of};
+ghost use Rattle.hintcheck.specs.Commands.{IsNoWriteFault, fault_of_word, status_of};
 
 use hintcheck_words::{TaskFault, WordFault};
 use std::alloc::AllocError;
@@ -94,7 +94,8 @@ impl CommandFault {
     /// The fault of a word of hexadecimal digits, which is `bad` where it spells no bytes.
     pub(crate) fn of_word(fault: WordFault, bad: CommandFault) -> CommandFault
         requires { IsNoWriteFault bad }
-        ensures { IsNoWriteFault result }
+        ensures fault { result ≡ fault_of_word fault bad }
+        ensures unwritten { IsNoWriteFault result }
     {
         match fault {
             WordFault::BadWord => bad,
