@@ -21,6 +21,7 @@ use Rattle.tt_abs.proofs.Depth.{AreBelow}
 use Rattle.tt_abs.proofs.Heights.{state_at_most}
 use Rattle.tt_abs.proofs.Contexts.{nexts_fit}
 use Rattle.tt_abs.proofs.Everything.{everything_stands, outcome_monotone}
+use Rattle.tt_abs.proofs.OneState.{one_state_next}
 use Rattle.tt_abs.proofs.Offsets.{NextFits, offsets_fit}
 use Rattle.tt_abs.proofs.StateCoverage.{state_covers, state_from_coverage}
 use Rattle.tt_abs.proofs.StateParts.{one_of_all, stack_to, state_in_range, one_state, next_state, next_fits}
@@ -47,6 +48,15 @@ covers_through : (t u : State) (n o : Abstract) → abstract_of t ≡ n → abst
     → (m : Machine) → CoversState (abstract_of t) m → CoversState (abstract_of u) m
 covers_through t u n o first second covers m h = let C : Abstract → Type 0 = λ x. CoversState x m in subst C (sym second) (covers m (subst C first h))
 
+-- a state gives one state alone
+pub given_one : (s : Setting) (p : Place) (a : State) (q : Place) (t u : State) → GivesState s p a q t → GivesState s p a q u → t ≡ u
+given_one s p a q t u g h =
+    let ok : Ok g.nexts ≡ Ok h.nexts = sym g.result ∙ h.result in
+    let same : g.nexts ≡ h.nexts = cc in
+    let found : slice_get g.nexts h.index ≡ Some h.next = ap (λ (ns : List Next). slice_get ns h.index) same ∙ h.found in
+    let one : g.next.state ≡ h.next.state = one_state_next s p.0 p.1 (abstract_of a) g.nexts g.index h.index g.next h.next g.result g.found found in
+    one_state t u g.in_range h.in_range (g.state_is ∙ one ∙ sym h.state_is)
+
 module _ (s : Setting) (setting : IsSettingInRange s) (short : AreProgramsShort s) where
   stands_at : (p : Place) (a : State) → IsPlace p → state_order.InRange a → StandsFor (abstract_of a) p.0 p.1 (outcome s) (outcome_on_cells s p.0 p.1 (abstract_of a))
   stands_at p a point range = everything_stands s p.0 p.1 (abstract_of a) point.offset (stack_to a.stack range.0) point.frames.once
@@ -60,18 +70,6 @@ module _ (s : Setting) (setting : IsSettingInRange s) (short : AreProgramsShort 
       let frames : FramesFit g.next.frames = nexts_fit s p.0 p.1 (abstract_of a) g.nexts point.frames (stack_to a.stack range.0) g.result g.index g.next g.found in
       let small : g.next.offset < 2 ^ 31 = next.1 in
       record { frames = subst FramesFit g.frames_are frames; calls = subst CallsFit g.frames_are next.0; offset = let is : g.next.offset ≡ q.1 = g.offset_is in omega arith }
-
-  given_one : (p : Place) (a : State) (q : Place) (t u : State) → IsPlace p → state_order.InRange a → GivesState s p a q t → GivesState s p a q u → t ≡ u
-  given_one p a q t u point range g h =
-      let gives : Gives (abstract_of a) p.0 p.1 (outcome s) g.nexts = gives_at p a g.nexts point range g.result in
-      let ok : Ok g.nexts ≡ Ok h.nexts = sym g.result ∙ h.result in
-      let same : g.nexts ≡ h.nexts = cc in
-      let found : slice_get g.nexts h.index ≡ Some h.next = ap (λ (ns : List Next). slice_get ns h.index) same ∙ h.found in
-      let index : g.index ≡ h.index = gives.covers.apart g.index h.index g.next h.next g.found found (g.frames_are ∙ sym h.frames_are) (g.offset_is ∙ sym h.offset_is) in
-      let there : slice_get g.nexts g.index ≡ slice_get g.nexts h.index = ap (λ (i : ℕ). slice_get g.nexts i) index in
-      let both : Some g.next ≡ Some h.next = sym g.found ∙ there ∙ found in
-      let next : g.next ≡ h.next = cc in
-      one_state t u g.in_range h.in_range (g.state_is ∙ ap (λ (n : Next). n.state) next ∙ sym h.state_is)
 
   refused_once : (p : Place) (a : State) (r r' : Reason) → RefusesState s p a r → RefusesState s p a r' → r ≡ r'
   refused_once p a r r' x y = let both : Err r ≡ Err r' = sym x.refused ∙ y.refused in cc
@@ -139,7 +137,7 @@ module _ (s : Setting) (setting : IsSettingInRange s) (short : AreProgramsShort 
     gives_point = given_point;
     gives_in_range = λ p a q t g. g.in_range;
     gives_fits = λ p a q t point range within g. next_fits s p.0 p.1 a g.nexts short within g.result g.index g.next g.found t g.state_is;
-    one_at = given_one;
+    one_at = given_one s;
     one_reason = refused_once;
     refused_or_not = refused_or_not;
     refused_gives_none = refused_gives_none;

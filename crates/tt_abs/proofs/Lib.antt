@@ -38,6 +38,7 @@ pub mod Heights
 pub mod ListsKept
 pub mod Offsets
 pub mod StateParts
+pub mod OneState
 pub mod FlowOfStates
 pub mod Places
 pub mod Calls
@@ -45,6 +46,7 @@ pub mod Everything
 pub mod Contexts
 mod ExamplesOfCalls
 pub mod StepLemmas
+pub mod LineLaws
 pub mod Soundness
 mod ExamplesOfFlows
 pub mod Goodness

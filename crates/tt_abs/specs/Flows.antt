@@ -25,7 +25,7 @@ pub record FlowLaws {P S : Type 0} (o : Order S) (f : Flow P S) (height : ℕ) :
   pub gives_point : (p : P) (s : S) (q : P) (t : S) → f.IsPoint p → o.InRange s → f.Fits s → f.Gives p s q t → f.IsPoint q
   pub gives_in_range : (p : P) (s : S) (q : P) (t : S) → f.Gives p s q t → o.InRange t
   pub gives_fits : (p : P) (s : S) (q : P) (t : S) → f.IsPoint p → o.InRange s → f.Fits s → f.Gives p s q t → f.Fits t
-  pub one_at : (p : P) (s : S) (q : P) (t u : S) → f.IsPoint p → o.InRange s → f.Gives p s q t → f.Gives p s q u → t ≡ u
+  pub one_at : (p : P) (s : S) (q : P) (t u : S) → f.Gives p s q t → f.Gives p s q u → t ≡ u
   -- what is refused, and what isn't
   pub one_reason : (p : P) (s : S) (r r' : Reason) → f.Refuses p s r → f.Refuses p s r' → r ≡ r'
   pub refused_or_not : (p : P) (s : S) → ((r : Reason) × f.Refuses p s r) ⊎ ((r : Reason) → f.Refuses p s r → ⊥)

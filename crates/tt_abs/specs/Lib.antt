@@ -29,6 +29,7 @@ pub mod Flows
 pub mod Families
 pub mod FamilyLaws
 pub mod StateFlow
+pub mod Lines
 pub mod Contexts
 pub mod Soundness
 pub mod Goodness

@@ -32,5 +32,5 @@ pub use refusal::Refusal;
 pub use setting::{Kind, Point, Setting};
 pub use stack::Stack;
 pub use state::State;
-pub use stepping::{step, step_at};
+pub use stepping::{Stepped, step, step_at};
 pub use transferring::{Successors, transfer};

@@ -4,6 +4,7 @@ ghost use Rattle.std.specs.Prelude.{◌≡◌, ◌+◌, ◌<◌, ◌^◌, ◌∷
 ghost use Rattle.tt_code.specs.Settings.{starts_in_body};
 ghost use Rattle.tt_code.specs.Table.{effect_of};
 ghost use Rattle.tt_abs.specs.Moves.{ForReason, IsRefusedFor, LeadsBy, nexts_of, outcome_at};
+ghost use Rattle.tt_abs.specs.Lines.{EndsAt};
 ghost use Rattle.tt_abs.specs.Settings.{frames_of, setting_of};
 ghost use Rattle.tt_abs.specs.States.{abstract_of, state_order};
 ghost use Rattle.tt_abs.specs.Transfers.{does_cells, instruction_of};
@@ -84,6 +85,14 @@ pub fn step(setting: &Setting<'_>, point: &Point<'_>, state: &mut State) -> Resu
     perform(setting, point, state, &instr)
 }
 
+/// Where a program goes on from an instruction, and where that ends.
+#[derive(Clone, Copy)]
+pub struct Stepped {
+    pub moves: Moves,
+    /// The offset just after the instruction.
+    pub end: u32,
+}
+
 /// Carries out the instruction at a point, as `step` does, where one of the point's body starts there. After a refusal the state
 /// says nothing.
 ///
@@ -93,8 +102,9 @@ pub fn step_at(
     setting: &Setting<'_>,
     point: &Point<'_>,
     state: &mut State,
-) -> Result<Moves, Refusal>
-    ensures ok { IfOk result (λ m. LeadsBy point.now (outcome_at setting.now point.now state.old) m state.new) }
+) -> Result<Stepped, Refusal>
+    ensures ok { IfOk result (λ step. LeadsBy point.now (outcome_at setting.now point.now state.old) step.moves state.new) }
+    ensures end { IfOk result (λ step. EndsAt (setting_of setting.now) (frames_of point.now, point.now.offset) step.end) }
     ensures refused { IfErr result (IsRefusedFor (outcome_at setting.now point.now state.old)) }
     ensures in_range { state_order.InRange state.old → IfOk result (λ _. state_order.InRange state.new) }
 {
@@ -106,5 +116,8 @@ pub fn step_at(
         return Err(Refusal::Refused(Reason::Target));
     }
     prove!(point.offset < program.len());
-    perform(setting, point, state, &instr)
+    prove!(instr.len() > 0);
+    let moves = perform(setting, point, state, &instr)?;
+    let end = point.offset + instr.len();
+    Ok(Stepped { moves, end })
 }

@@ -9,7 +9,8 @@ use Rattle.tt_abs.specs.States.{state_laws, state_order}
 use Rattle.tt_cert.specs.Contents.{Contents, IsFamily, family_of, frames_at, number_of}
 use Rattle.tt_cert.specs.Numbers.{number_of-is}
 use Rattle.tt_cert.specs.Places.{states_of}
-use Rattle.tt_cert.specs.Checks.{AreToldBefore, IsComing, IsEntry}
+use Rattle.tt_cert.specs.Checks.{AreToldBefore}
+use Rattle.tt_cert.specs.Walks.{IsComing, IsEntry, IsNextState}
 
 -- a context's state is the family's
 pub state_there : (v : Contents) (p : Place) (n o : ℕ) → IsFamily v → n < length v.contexts → frames_at v.contexts n ≡ p.0 → o ≡ p.1
@@ -33,3 +34,8 @@ coming_covered v None n o t family lt entry coming = absurd coming
 coming_covered v (Some e) n o t family lt entry (context, offset, state) =
     let at : states_of v.states (n, o) ≡ Some t = (λ i. states_of v.states (sym context i, sym offset i)) ∙ entry ∙ (λ i. Some (state i)) in
     (t, sym (state_there v (frames_at v.contexts n, o) n o family lt refl refl) ∙ at, state_laws.reflexive t)
+
+-- and is the state that comes next
+pub coming_next : (next : Option (ℕ × ℕ × Bor State)) (n o : ℕ) (t : State) → IsComing next n o t → IsNextState next t
+coming_next None n o t coming = absurd coming
+coming_next (Some e) n o t (context, offset, state) = state

@@ -1,10 +1,5 @@
 -- What a check asks of a family beside goodness, and what it names where the family isn't good.
-use Rattle.std.specs.Prelude.{◌≡◌, ℕ, ◌<◌, ◌^◌, min, false, Ok, Option, Some, None, IfSome, IsTrue, List, [], ◌∷◌, length, reverse, slice_get}
-use Rattle.std.specs.declared.cmp.Ordering.TheVariants.{Less}
-use Rattle.std.specs.List.{All}
-use Rattle.std.specs.List.Sorted.{IsStrictlySortedBy}
-use Rattle.std.specs.Map.{keys_of}
-use Rattle.std.specs.Borrow.{Bor}
+use Rattle.std.specs.Prelude.{◌≡◌, ◌⊎◌, ℕ, ◌<◌, ◌^◌, min, false, Ok, Option, Some, None, List, [], ◌∷◌, length, slice_get}
 use Rattle.tt_code.specs.Cut.{size}
 use Rattle.tt_code.specs.Settings.{Setting, is_main_end}
 use Rattle.tt_code.specs.declared.machine.Frame.{Frame}
@@ -12,18 +7,22 @@ use Rattle.tt_code.specs.declared.reason.Reason.{Reason}
 use Rattle.tt_code.specs.declared.reason.Reason.TheVariants.{MissingPoint, NotCovered, ProgramTooLong, Storage}
 use Rattle.tt_abs.specs.declared.state.State.{State}
 use Rattle.tt_abs.specs.Families.{CoversAt}
+use Rattle.tt_abs.specs.Lines.{Precedes}
 use Rattle.tt_abs.specs.StateFlow.{Place, GivesState, RefusesState}
 use Rattle.tt_abs.specs.States.{abstract_of, start_of, state_order}
 use Rattle.tt_abs.specs.Transfers.{Next, outcome_on_cells}
 use Rattle.tt_cert.specs.Contents.{Contents, family_of, frames_at, number_of}
 use Rattle.tt_cert.specs.GoodFamilies.{EndsWell, IsShortEnough, IsStoredWithin}
-use Rattle.tt_cert.specs.Places.{place_cmp, states_of}
+use Rattle.tt_cert.specs.Places.{IsLess, states_of}
 use Rattle.tt_cert.specs.Spots.{spot_of}
 use Rattle.tt_cert.specs.declared.checking.CheckFault.{CheckFault}
 use Rattle.tt_cert.specs.declared.checking.CheckFault.TheVariants.{Refused, OutOfMemory}
-use Rattle.tt_cert.specs.declared.checking.Walk.{Walk}
-use Rattle.tt_cert.specs.declared.checking.Landing.{Landing}
-use Rattle.tt_cert.specs.declared.checking.Landing.TheVariants.{In, Nowhere}
+use Rattle.tt_cert.specs.declared.landing.Landing.{Landing}
+use Rattle.tt_cert.specs.declared.landing.Landing.TheVariants.{In, Nowhere as NoPlace}
+
+-- a place as its context's number and its offset
+abbrev pub key_of : Contents → Place → ℕ × ℕ
+key_of contents p = (number_of contents.contexts p.0, p.1)
 
 -- an offset as a number of 32 bits: the largest one stands for those that are above
 abbrev pub told_offset : ℕ → ℕ
@@ -32,13 +31,21 @@ told_offset offset = min offset 4294967295
 -- the landing stands for the place: it is an offset of the context that has the place's frames, or the family has no state there
 abbrev pub IsLanding : Contents → Place → Landing → Type 0
 IsLanding contents place (In n offset) = (n < length contents.contexts) × (frames_at contents.contexts n ≡ place.0) × (offset ≡ place.1)
-IsLanding contents place (Nowhere spot offset) = (family_of contents place ≡ None) × (spot ≡ spot_of place.0) × (offset ≡ told_offset place.1)
+IsLanding contents place (NoPlace spot offset) = (family_of contents place ≡ None) × (spot ≡ spot_of place.0) × (offset ≡ told_offset place.1)
 
--- the family has no state at the place, or none that covers this one
-abbrev pub IsGap : (Place → Option State) → Place → State → Reason → Type 0
-IsGap family q t MissingPoint = family q ≡ None
-IsGap family q t NotCovered = (u : State) × (family q ≡ Some u) × (state_order.Below t u → ⊥)
-IsGap family q t _ = ⊥
+-- no place
+abbrev pub Nowhere : Place → Type 0
+Nowhere q = ⊥
+
+-- the family covers the state at the place, or has none there, which may be left out
+abbrev pub IsMet : (Place → Option State) → Type 0 → Place → State → Type 0
+IsMet family MayBeLeftOut q t = CoversAt state_order family q t ⊎ ((family q ≡ None) × MayBeLeftOut)
+
+-- the family has no state at the place, where none may be left out; or none that covers this one
+abbrev pub IsGap : (Place → Option State) → Type 0 → Place → State → Reason → Type 0
+IsGap family MayBeLeftOut q t MissingPoint = (family q ≡ None) × (MayBeLeftOut → ⊥)
+IsGap family MayBeLeftOut q t NotCovered = (u : State) × (family q ≡ Some u) × (state_order.Below t u → ⊥)
+IsGap family MayBeLeftOut q t _ = ⊥
 
 -- the fault names the place and the reason; want of memory says nothing
 abbrev pub NamesAt : Place → (Reason → Type 0) → CheckFault → Type 0
@@ -58,72 +65,46 @@ place_of_next n = (n.frames, n.offset)
 abbrev pub AreCovered : (Place → Option State) → List Next → State → Type 0
 AreCovered family nexts t = (i : ℕ) (n : Next) → slice_get nexts i ≡ Some n → CoversAt state_order family (place_of_next n) t
 
+-- or leaves it out where it may
+abbrev pub AreMet : (Place → Option State) → (Place → Type 0) → List Next → State → Type 0
+AreMet family MayBeLeftOut nexts t = (i : ℕ) (n : Next) → slice_get nexts i ≡ Some n → IsMet family (MayBeLeftOut (place_of_next n)) (place_of_next n) t
+
 -- the family doesn't cover the state at the place that comes next by this number
-pub record IsGapAt (family : Place → Option State) (nexts : List Next) (t : State) (q : Place) (r : Reason) (i : ℕ) : Type 0 where
+pub record IsGapAt (family : Place → Option State) (MayBeLeftOut : Place → Type 0) (nexts : List Next) (t : State) (q : Place) (r : Reason) (i : ℕ) : Type 0 where
   pub next : Next
   pub found : slice_get nexts i ≡ Some next
   pub place : place_of_next next ≡ q
-  pub gap : IsGap family q t r
+  pub gap : IsGap family (MayBeLeftOut q) q t r
 
 -- the first place that comes next at which the family doesn't cover the state
-pub record IsFirstGap (family : Place → Option State) (nexts : List Next) (t : State) (q : Place) (r : Reason) : Type 0 where
+pub record IsFirstGap (family : Place → Option State) (MayBeLeftOut : Place → Type 0) (nexts : List Next) (t : State) (q : Place) (r : Reason) : Type 0 where
   pub index : ℕ
-  pub here : IsGapAt family nexts t q r index
-  pub before : (i : ℕ) (n : Next) → i < index → slice_get nexts i ≡ Some n → CoversAt state_order family (place_of_next n) t
+  pub here : IsGapAt family MayBeLeftOut nexts t q r index
+  pub before : (i : ℕ) (n : Next) → i < index → slice_get nexts i ≡ Some n → IsMet family (MayBeLeftOut (place_of_next n)) (place_of_next n) t
 
--- the state's storage indexes are below maxStorage, it isn't refused at the place, and the family covers what it gives
-pub record IsSoundAt (s : Setting) (family : Place → Option State) (p : Place) (a : State) : Type 0 where
+-- the state's storage indexes are below maxStorage, it isn't refused at the place, and the family covers what it gives, or leaves it out
+-- where it may
+pub record IsSoundAt (s : Setting) (family : Place → Option State) (MayBeLeftOut : Place → Type 0) (p : Place) (a : State) : Type 0 where
   pub stored : IsStoredWithin s a
   pub safe : (r : Reason) → RefusesState s p a r → ⊥
-  pub closed : (q : Place) (t : State) → GivesState s p a q t → CoversAt state_order family q t
+  pub closed : (q : Place) (t : State) → GivesState s p a q t → IsMet family (MayBeLeftOut q) q t
 
 -- the state gives another one, and this is the first place at which the family doesn't cover that
-pub record LeavesGap (s : Setting) (family : Place → Option State) (p : Place) (a : State) (q : Place) (r : Reason) : Type 0 where
+pub record LeavesGap (s : Setting) (family : Place → Option State) (MayBeLeftOut : Place → Type 0) (p : Place) (a : State) (q : Place) (r : Reason) : Type 0 where
   pub running : is_main_end s p.0 p.1 ≡ false
   pub nexts : List Next
   pub result : outcome_on_cells s p.0 p.1 (abstract_of a) ≡ Ok nexts
   pub state : State
   pub in_range : state_order.InRange state
   pub same : (i : ℕ) (n : Next) → slice_get nexts i ≡ Some n → abstract_of state ≡ n.state
-  pub first : IsFirstGap family nexts state q r
+  pub first : IsFirstGap family MayBeLeftOut nexts state q r
 
 -- What is broken first of a state at its place, where it is named, and why: it lists a storage index that isn't below maxStorage; it is
 -- refused there; it gives what isn't covered.
-pub data BreaksAt (s : Setting) (family : Place → Option State) (p : Place) (a : State) : Place → Reason → Type 0 where
-  stores : (IsStoredWithin s a → ⊥) → BreaksAt s family p a p Storage
-  refused : (r : Reason) → IsStoredWithin s a → RefusesState s p a r → BreaksAt s family p a p r
-  leaves : (q : Place) (r : Reason) → IsStoredWithin s a → LeavesGap s family p a q r → BreaksAt s family p a q r
-
--- the state, if it is one, stands at its context and offset
-abbrev pub IsEntry : Contents → Option (ℕ × ℕ × Bor State) → Type 0
-IsEntry contents entry = IfSome entry (λ (e : ℕ × ℕ × Bor State). states_of contents.states (e.0, e.1) ≡ Some e.2.now)
-
--- the state that comes next is this one, and stands at this context and offset
-abbrev pub IsComing : Option (ℕ × ℕ × Bor State) → ℕ → ℕ → State → Type 0
-IsComing None context offset state = ⊥
-IsComing (Some e) context offset state = (e.0 ≡ context) × (e.1 ≡ offset) × (e.2.now ≡ state)
-
--- the state that comes next, if one does, is this one
-abbrev pub IsNextState : Option (ℕ × ℕ × Bor State) → State → Type 0
-IsNextState entry state = IfSome entry (λ (e : ℕ × ℕ × Bor State). e.2.now ≡ state)
-
--- the walk's calls are those of its context, what comes next is a state of the family, and what was made is that state where the walk says so
-pub record IsWalk (contents : Contents) (walk : Walk) : Type 0 where
-  pub there : walk.context < length contents.contexts
-  pub frames : walk.frames.items ≡ reverse (frames_at contents.contexts walk.context)
-  pub next : IsEntry contents walk.next
-  pub made : IsTrue walk.is_next → IsNextState walk.next walk.made
-
--- what is still to come where one entry was read ahead
-abbrev pub to_come : Option (ℕ × ℕ × Bor State) → List ((ℕ × ℕ) × State) → List ((ℕ × ℕ) × State)
-to_come None entries = []
-to_come (Some e) entries = ((e.0, e.1), e.2.now) ∷ entries
-
--- all states of the family are still to come: one entry was read ahead, and these are the others; they rise, and each place comes once
-pub record AreToCome (contents : Contents) (next : Option (ℕ × ℕ × Bor State)) (others : List ((ℕ × ℕ) × State)) : Type 0 where
-  pub all : contents.states ≡ to_come next others
-  pub rises : IsStrictlySortedBy place_cmp (keys_of contents.states)
-  pub found : All (λ e. states_of contents.states e.0 ≡ Some e.1) contents.states
+pub data BreaksAt (s : Setting) (family : Place → Option State) (MayBeLeftOut : Place → Type 0) (p : Place) (a : State) : Place → Reason → Type 0 where
+  stores : (IsStoredWithin s a → ⊥) → BreaksAt s family MayBeLeftOut p a p Storage
+  refused : (r : Reason) → IsStoredWithin s a → RefusesState s p a r → BreaksAt s family MayBeLeftOut p a p r
+  leaves : (q : Place) (r : Reason) → IsStoredWithin s a → LeavesGap s family MayBeLeftOut p a q r → BreaksAt s family MayBeLeftOut p a q r
 
 -- the innermost call has one more turn
 abbrev pub HasNextTurn : List Frame → Type 0
@@ -135,29 +116,63 @@ AreToldBefore contents context = (c o : ℕ) (a : State) → c < context → sta
 
 -- each state of the family is sound at its place
 abbrev pub AreSound : Setting → (Place → Option State) → Type 0
-AreSound s family = (p : Place) (a : State) → family p ≡ Some a → IsSoundAt s family p a
+AreSound s family = (p : Place) (a : State) → family p ≡ Some a → IsSoundAt s family Nowhere p a
 
 -- one place comes before another, by the number of its context, and by its offset within one
 abbrev pub IsBefore : Contents → Place → Place → Type 0
-IsBefore contents p q = place_cmp (number_of contents.contexts p.0, p.1) (number_of contents.contexts q.0, q.1) ≡ Less
+IsBefore contents p q = IsLess (key_of contents p) (key_of contents q)
 
 -- a state at a place before which all are sound is broken
 pub record IsFirstBreak (s : Setting) (contents : Contents) (q : Place) (r : Reason) : Type 0 where
   pub place : Place
   pub state : State
   pub here : family_of contents place ≡ Some state
-  pub breaks : BreaksAt s (family_of contents) place state q r
-  pub before : (p : Place) (a : State) → IsBefore contents p place → family_of contents p ≡ Some a → IsSoundAt s (family_of contents) p a
+  pub breaks : BreaksAt s (family_of contents) Nowhere place state q r
+  pub before : (p : Place) (a : State) → IsBefore contents p place → family_of contents p ≡ Some a → IsSoundAt s (family_of contents) Nowhere p a
+
+-- the state at the place is what a walked place's state gives there, where it may be left out
+pub record WasAdded (s : Setting) (MayLeaveOut : Place → Place → Type 0) (Walked : Place → Type 0) (filled : Place → Option State) (q : Place) (t : State) : Type 0 where
+  pub before : Place
+  pub state : State
+  pub walked : Walked before
+  pub there : filled before ≡ Some state
+  pub just_before : MayLeaveOut before q
+  pub gives : GivesState s before state q t
+
+-- The family with the states that were added as the walked places were looked at: the walked ones are sound, and what they give at a
+-- place where the family has no state was added there.
+pub record IsFilledBy (s : Setting) (MayLeaveOut : Place → Place → Type 0) (family : Place → Option State) (Walked : Place → Type 0) (filled : Place → Option State) : Type 0 where
+  pub keeps : (p : Place) (a : State) → family p ≡ Some a → filled p ≡ Some a
+  pub added : (q : Place) (t : State) → filled q ≡ Some t → family q ≡ None → WasAdded s MayLeaveOut Walked filled q t
+  pub sound : (p : Place) (a : State) → Walked p → filled p ≡ Some a → IsSoundAt s family (MayLeaveOut p) p a
+  pub given : (p : Place) (a : State) (q : Place) (t : State) → Walked p → filled p ≡ Some a → GivesState s p a q t → family q ≡ None → filled q ≡ Some t
+
+-- a state that is listed or was added is broken, at a place before which all are sound
+pub record IsFirstBreakOnTheWay (s : Setting) (MayLeaveOut : Place → Place → Type 0) (contents : Contents) (q : Place) (r : Reason) : Type 0 where
+  pub place : Place
+  pub state : State
+  pub filled : Place → Option State
+  pub filled_by : IsFilledBy s MayLeaveOut (family_of contents) (λ p. IsBefore contents p place) filled
+  pub here : filled place ≡ Some state
+  pub breaks : BreaksAt s (family_of contents) (MayLeaveOut place) place state q r
 
 -- What is broken first, where it is named, and why: a glyph program is too long; the start isn't covered; a font program or a CVT
--- program has no state at its end; a state is broken.
-pub data IsBrokenFirst (s : Setting) (functions : List (ℕ × ℕ)) (contents : Contents) : Place → Reason → Type 0 where
-  too_long : (IsShortEnough s s.kind → ⊥) → IsBrokenFirst s functions contents ([], s.limits.program_size) ProgramTooLong
-  no_start : (r : Reason) → IsShortEnough s s.kind → IsGap (family_of contents) ([], 0) (start_of functions) r → IsBrokenFirst s functions contents ([], 0) r
+-- program has no state at its end; a state is broken, and is the first.
+pub data IsBrokenBy (s : Setting) (functions : List (ℕ × ℕ)) (contents : Contents) (IsFirst : Place → Reason → Type 0) : Place → Reason → Type 0 where
+  too_long : (IsShortEnough s s.kind → ⊥) → IsBrokenBy s functions contents IsFirst ([], s.limits.program_size) ProgramTooLong
+  no_start : (r : Reason) → IsShortEnough s s.kind → IsGap (family_of contents) ⊥ ([], 0) (start_of functions) r → IsBrokenBy s functions contents IsFirst ([], 0) r
   no_end : IsShortEnough s s.kind → CoversAt state_order (family_of contents) ([], 0) (start_of functions) → (EndsWell s s.kind (family_of contents) → ⊥)
-      → IsBrokenFirst s functions contents ([], size s.main) MissingPoint
+      → IsBrokenBy s functions contents IsFirst ([], size s.main) MissingPoint
   no_way : (q : Place) (r : Reason) → IsShortEnough s s.kind → CoversAt state_order (family_of contents) ([], 0) (start_of functions) → EndsWell s s.kind (family_of contents)
-      → IsFirstBreak s contents q r → IsBrokenFirst s functions contents q r
+      → IsFirst q r → IsBrokenBy s functions contents IsFirst q r
+
+-- what is broken first of a whole family
+abbrev pub IsBrokenFirst : Setting → List (ℕ × ℕ) → Contents → Place → Reason → Type 0
+IsBrokenFirst s functions contents = IsBrokenBy s functions contents (IsFirstBreak s contents)
+
+-- and of one that may leave states out
+abbrev pub IsFillingBrokenFirst : Setting → List (ℕ × ℕ) → Contents → Place → Reason → Type 0
+IsFillingBrokenFirst s functions contents = IsBrokenBy s functions contents (IsFirstBreakOnTheWay s (Precedes s) contents)
 
 -- a growth of memory was refused
 abbrev pub IsWantOfMemory : CheckFault → Type 0

@@ -10,5 +10,7 @@ pub mod Rising
 pub mod FileOrder
 pub mod GoodFamilies
 pub mod Spots
+pub mod Fillings
 pub mod Checks
+pub mod Walks
 pub mod Ends

@@ -1,5 +1,5 @@
 -- A family as a function from places to states.
-use Rattle.std.specs.Prelude.{◌≡◌, ◌≢◌, ◌↔◌, ℕ, Bool, true, false, Option, Some, None, List}
+use Rattle.std.specs.Prelude.{◌≡◌, ◌≢◌, ◌↔◌, ◌⊎◌, ℕ, ◌<◌, Bool, true, false, Option, Some, None, List}
 use Rattle.std.specs.declared.cmp.Ordering.{Ordering}
 use Rattle.std.specs.Ordering.{nat_cmp, ordering_then}
 use Rattle.std.specs.BTreeMap.{is_at}
@@ -9,6 +9,10 @@ use Rattle.tt_abs.specs.Orders.{Order, IsLeastAbove}
 -- contexts in order, and offsets within one
 abbrev pub place_cmp : ℕ × ℕ → ℕ × ℕ → Ordering
 place_cmp a b = ordering_then (nat_cmp a.0 b.0) (nat_cmp a.1 b.1)
+
+-- the first of two contexts with offsets comes before the second
+abbrev pub IsLess : ℕ × ℕ → ℕ × ℕ → Type 0
+IsLess a b = (a.0 < b.0) ⊎ ((a.0 ≡ b.0) × (a.1 < b.1))
 
 -- the states of a map's entries, by place
 abbrev pub states_of : {S : Type 0} → List ((ℕ × ℕ) × S) → ℕ × ℕ → Option S

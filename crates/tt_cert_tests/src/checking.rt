@@ -6,12 +6,21 @@ ghost use Rattle.tt_abs.specs.States.{state_order};
 use crate::fixtures::{Row, add, certificate, finished_if, join, put, put_all, put_at, state_of};
 use std::alloc::Global;
 use tt_abs::{Cell, Kind, Setting, State};
-use tt_cert::{Builder, Certificate, CheckFault, Spot, check_full};
+use tt_cert::{Builder, Certificate, CheckFault, Spot, check, check_full};
 use tt_code::kinds::Reference;
 use tt_code::{Frame, Limits, Program, Reason};
 
 /// What a check tells: that a family is good, or where it is refused and why.
-type Answer = Result<(), (Spot, u32, Reason)>;
+pub(crate) type Answer = Result<(), (Spot, u32, Reason)>;
+
+/// Which check is asked.
+#[derive(Clone, Copy)]
+pub(crate) enum Asked {
+    /// Whether the family is good.
+    Whole,
+    /// Whether it has a good filling.
+    Sparse,
+}
 
 const LIMITS: Limits = Limits {
     storage: 4,
@@ -22,7 +31,7 @@ const LIMITS: Limits = Limits {
     twilight: 4,
 };
 
-const GLYPH: Kind = Kind::Glyph {
+pub(crate) const GLYPH: Kind = Kind::Glyph {
     points: 4,
     contours: 1,
 };
@@ -39,10 +48,19 @@ fn cut<'a>(alloc: Global, bytes: &'a [u8]) -> Option<Program<'a>> {
 }
 
 /// What the check tells of a family for the program of this setting; nothing for want of memory.
-fn answer_in(alloc: Global, setting: &Setting<'_>, family: &Certificate) -> Option<Answer>
+fn answer_in(
+    alloc: Global,
+    setting: &Setting<'_>,
+    family: &Certificate,
+    asked: Asked,
+) -> Option<Answer>
     requires { Rises setting.now.start.now }
 {
-    match check_full(alloc, setting, family) {
+    let answer = match asked {
+        Asked::Whole => check_full(alloc, setting, family),
+        Asked::Sparse => check(alloc, setting, family),
+    };
+    match answer {
         Ok(()) => Some(Ok(())),
         Err(
             CheckFault::Refused {
@@ -56,12 +74,13 @@ fn answer_in(alloc: Global, setting: &Setting<'_>, family: &Certificate) -> Opti
 }
 
 /// What it tells where these are the font program, the CVT program and the program that runs, which starts with these functions.
-fn checked(
+pub(crate) fn checked(
     alloc: Global,
     programs: (&[u8], &[u8], &[u8]),
     kind: Kind,
     start: &[(u16, u32)],
     family: &Certificate,
+    asked: Asked,
 ) -> Option<Answer>
     requires { Rises start.now }
 {
@@ -77,7 +96,7 @@ fn checked(
         prep: &prep,
         start,
     };
-    answer_in(alloc, &setting, family)
+    answer_in(alloc, &setting, family, asked)
 }
 
 /// The certificate of the family with the start state at each of these offsets.
@@ -90,7 +109,7 @@ fn certificate_at(alloc: Global, offsets: &[u32]) -> Option<Certificate> {
 /// What it tells of a program without functions, with the start state at each of these offsets.
 fn answer(alloc: Global, program: &[u8], kind: Kind, offsets: &[u32]) -> Option<Answer> {
     let family = certificate_at(alloc, offsets)?;
-    checked(alloc, (program, program, program), kind, &[], &family)
+    checked(alloc, (program, program, program), kind, &[], &family, Asked::Whole)
 }
 
 /// RTG twice.
@@ -140,13 +159,13 @@ fn what_is_broken_first(rt: HostRuntime) {
 }
 
 /// Function 0 is POP and ENDF, its body at offset 3.
-const POPS: [u8; 5] = [0xb0, 0x00, 0x2c, 0x21, 0x2d];
+pub(crate) const POPS: [u8; 5] = [0xb0, 0x00, 0x2c, 0x21, 0x2d];
 
 /// 7 is pushed, and function 0 is called.
-const CALLS: [u8; 4] = [0xb1, 0x07, 0x00, 0x2b];
+pub(crate) const CALLS: [u8; 4] = [0xb1, 0x07, 0x00, 0x2b];
 
 /// The call of a body there.
-fn call_of(body: u32) -> Frame {
+pub(crate) fn call_of(body: u32) -> Frame {
     Frame {
         body,
         call: 3,
@@ -179,7 +198,7 @@ fn answer_of_call(
 ) -> Option<Answer> {
     let start = [(0, call.body)];
     let family = certificate(alloc, &[(0, call)], &start, rows)?;
-    checked(alloc, programs, GLYPH, &start, &family)
+    checked(alloc, programs, GLYPH, &start, &family, Asked::Whole)
 }
 
 #[test]
@@ -249,7 +268,7 @@ fn certificate_of_turns(alloc: Global, count: u16) -> Option<Certificate> {
 fn answer_of_turns(alloc: Global, program: &[u8], count: u16) -> Option<Answer> {
     let family = certificate_of_turns(alloc, count)?;
     let function = [0xb0, 0x00, 0x2c, 0x2d];
-    checked(alloc, (&function, &[], program), GLYPH, &[(0, 3)], &family)
+    checked(alloc, (&function, &[], program), GLYPH, &[(0, 3)], &family, Asked::Whole)
 }
 
 #[test]
@@ -315,7 +334,7 @@ fn certificate_with_rp0(alloc: Global) -> Option<Certificate> {
 /// What the check tells of RTG alone.
 fn answer_of_one(alloc: Global, kind: Kind, family: Option<Certificate>) -> Option<Answer> {
     let family = family?;
-    checked(alloc, (&[0x18], &[0x18], &[0x18]), kind, &[], &family)
+    checked(alloc, (&[0x18], &[0x18], &[0x18]), kind, &[], &family, Asked::Whole)
 }
 
 #[test]

@@ -8,4 +8,6 @@ mod certificates;
 #[cfg(test)]
 mod checking;
 #[cfg(test)]
+mod fillings;
+#[cfg(test)]
 mod fixtures;

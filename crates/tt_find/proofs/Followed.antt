@@ -215,7 +215,7 @@ module _ (s : Setting) (functions : List (ℕ × ℕ)) (laws : HasLaws s functio
         → at ≡ offset_behind (frames_at table.builder.contexts c) way → v'.states ≡ table.builder.states → IsFamily v'
         → IfOk r (λ _. IsPut (record table { builder = v' }) new number at t) → IfOk r (λ _. IsWhole s functions new)
     one_put r way v' new number at is adds offset states family put =
-        ok_map r _ _ (sound_put (record table { builder = v' }) new number at t [] (one_grown way v' number at is adds offset states family) adds.there) put
+        ok_map r _ _ (λ x. sound_put (record table { builder = v' }) new number at t [] (one_grown way v' number at is adds offset states family) adds.there) put
 
     pub one_apart : {T : Type 0} (r : Result T FindFault) (way : Move) (v' : Contents) (number at : ℕ) → ways ≡ moves.One way
         → AddsContext table.builder.contexts v'.contexts (frames_behind (frames_at table.builder.contexts c) way) number
@@ -243,7 +243,7 @@ module _ (s : Setting) (functions : List (ℕ × ℕ)) (laws : HasLaws s functio
         → IfOk r (λ _. IsPut mid new c n t) → IfOk r (λ _. IsWhole s functions new)
     second_put r m n mid new is put h =
         let W : List (List Frame) → Type 0 = λ x. c < length x in
-        ok_map r _ _ (sound_put mid new c n t [] (second_waits m n mid is put) (subst W (sym put.contexts) there)) h
+        ok_map r _ _ (λ x. sound_put mid new c n t [] (second_waits m n mid is put) (subst W (sym put.contexts) there)) h
 
     pub second_apart : {T : Type 0} (r : Result T FindFault) (m n : ℕ) (mid : Table) → ways ≡ moves.Two m n → IsPut table mid c m t
         → IfErr r (NamesPlace (IsApart (family_of mid.builder) (place_of mid.builder c n) t)) → IfErr r (NamesPlace (IsJustified s functions))

@@ -46,7 +46,7 @@ fn carried(
     }
     walk.known = None;
     match step_at(setting, &point, &mut walk.state) {
-        Ok(moves) => Ok(Some(moves)),
+        Ok(step) => Ok(Some(step.moves)),
         Err(Refusal::Refused(reason)) => Err(refused_at(builder, context, offset, reason)),
         Err(Refusal::OutOfMemory(error)) => Err(FindFault::OutOfMemory(error)),
     }

@@ -24,7 +24,7 @@ returns-in-Ok-clause-carried c =
       state = a;
       found = family_at c.args.builder.now c.args.context c.args.offset c.contexts.ensures.family c.requires.there ∙ at;
       running = ap (λ f. is_main_end S f c.args.offset) (sym back) ∙ sym c.is_end.ensures ∙ c.if-is_end.false;
-      result = outcome_moved S fs (reverse c.as_slice.result.now) c.args.offset c.args.offset a a back refl refl c.in-Ok.moves c.step_at.new.state c.in-Ok.ensures.ok;
+      result = outcome_moved S fs (reverse c.as_slice.result.now) c.args.offset c.args.offset a a back refl refl c.in-Ok.step.moves c.step_at.new.state c.in-Ok.ensures.ok;
       in_range = c.in-Ok.ensures.in_range (c.contexts.ensures.family.in_range c.args.context c.args.offset a at);
     }
 

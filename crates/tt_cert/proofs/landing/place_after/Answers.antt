@@ -1,6 +1,6 @@
 use Rattle.std.proofs.Common.{arith, ◌+◌, ◌≤◌, ◌^◌}
 use Rattle.tt_cert.proofs.Landings.{no_state_above}
-use Rattle.tt_cert.proofs.checking.place_after.Goals as goal
+use Rattle.tt_cert.proofs.landing.place_after.Goals as goal
 
 pub returns-in-None : goal.returns-in-None
 returns-in-None c =

@@ -1,0 +1,184 @@
+//! How a state is met at the places to which it goes.
+
+ghost use Rattle.std.specs.Prelude.{◌≡◌, ◌<◌, ℕ, IfErr, IfOk, IsTrue, None, Some, length};
+ghost use Rattle.tt_abs.specs.Moves.{frames_behind, nexts_of, offset_behind};
+ghost use Rattle.tt_abs.specs.States.{abstract_of};
+ghost use Rattle.tt_cert.specs.Checks.{AreToldBefore, HasNextTurn, IsFirstGap, IsGap, Names, NamesAt, told_offset};
+ghost use Rattle.tt_cert.specs.Spots.{spot_of};
+ghost use Rattle.tt_cert.specs.Contents.{family_of, frames_at};
+ghost use Rattle.tt_cert.specs.Puts.{place_of};
+ghost use Rattle.tt_cert.specs.Walks.{AreMetBy, IsAfter, IsEntry, IsMetBy, IsUnlisted, IsWalk, met_both};
+
+use crate::certificate::Certificate;
+use crate::checking::CheckFault;
+use crate::landing::{Landing, place_behind};
+use crate::walk::{Walk, is_coming, is_coming_after};
+use tt_abs::{Move, Moves, Order, State};
+use tt_code::Reason;
+
+/// How a state is met at a place to which it goes.
+#[derive(Clone, Copy)]
+pub(crate) enum Met {
+    /// By the very state that comes next in the walk, which is the same.
+    Next,
+    /// By a state of the certificate that covers it.
+    Listed,
+    /// By none: it is added there.
+    Added,
+}
+
+/// Of two: what is added is told before all, and else how the first is met.
+fn met_by_both(first: Met, second: Met) -> Met
+    ensures { result ≡ met_both first second }
+{
+    match first {
+        Met::Added => Met::Added,
+        _ => match second {
+            Met::Added => Met::Added,
+            _ => first,
+        },
+    }
+}
+
+/// The fault that is told of an offset of a context.
+pub(crate) fn fault_in(
+    certificate: &Certificate,
+    context: u32,
+    offset: u32,
+    reason: Reason,
+) -> CheckFault
+    requires { context < length certificate.now.contexts }
+    ensures { result ≡ CheckFault.Refused (spot_of (frames_at certificate.now.contexts context)) (told_offset offset) reason }
+{
+    CheckFault::Refused {
+        spot: certificate.spot(context),
+        offset,
+        reason,
+    }
+}
+
+/// How a state is met at an offset of a context, where it may be left out or not. Where the very state comes next in the walk, or
+/// comes after the place, there is nothing to look up.
+pub(crate) fn check_covered(
+    certificate: &Certificate,
+    next: Option<(u32, u32, &State)>,
+    context: u32,
+    offset: u32,
+    state: &State,
+    may_be_left_out: bool,
+) -> Result<Met, CheckFault>
+    requires there { context < length certificate.now.contexts }
+    requires next { IsEntry certificate.now next }
+    requires unlisted { IsTrue may_be_left_out → IsUnlisted certificate.now next context offset }
+    ensures met { IfOk result (IsMetBy (family_of certificate.now) (IsTrue may_be_left_out) next.entry (place_of certificate.now context offset) state.now) }
+    ensures gap { IfErr result (NamesAt (place_of certificate.now context offset) (IsGap (family_of certificate.now) (IsTrue may_be_left_out) (place_of certificate.now context offset) state.now)) }
+{
+    certificate.contexts();
+    if may_be_left_out && is_coming_after(next, context, offset) {
+        certificate.state(context, offset);
+        return Ok(Met::Added);
+    }
+    if is_coming(next, context, offset, state) {
+        return Ok(Met::Next);
+    }
+    match certificate.state(context, offset) {
+        None => {
+            if may_be_left_out {
+                Ok(Met::Added)
+            } else {
+                Err(fault_in(certificate, context, offset, Reason::MissingPoint))
+            }
+        }
+        Some(above) => {
+            if state.below(above) {
+                Ok(Met::Listed)
+            } else {
+                Err(fault_in(certificate, context, offset, Reason::NotCovered))
+            }
+        }
+    }
+}
+
+/// How what was made is met at an offset of the walk's context, where `after` is the one at which it may be left out.
+fn check_offset(
+    certificate: &Certificate,
+    walk: &Walk<'_>,
+    offset: u32,
+    after: Option<u32>,
+) -> Result<Met, CheckFault>
+    requires walk { IsWalk certificate.now walk.now }
+    requires unlisted { (end : ℕ) → after ≡ Some end → IsUnlisted certificate.now walk.now.next walk.now.context end }
+    ensures met { IfOk result (IsMetBy (family_of certificate.now) (after ≡ Some offset) walk.now.next (place_of certificate.now walk.now.context offset) walk.now.made) }
+    ensures gap { IfErr result (NamesAt (place_of certificate.now walk.now.context offset) (IsGap (family_of certificate.now) (after ≡ Some offset) (place_of certificate.now walk.now.context offset) walk.now.made)) }
+{
+    check_covered(
+        certificate,
+        walk.next,
+        walk.context,
+        offset,
+        &walk.made,
+        after == Some(offset),
+    )
+}
+
+/// How what was made is met at the place to which a move leads from the walk's context.
+fn check_way(
+    certificate: &Certificate,
+    walk: &Walk<'_>,
+    way: Move,
+    after: Option<u32>,
+) -> Result<Met, CheckFault>
+    requires walk { IsWalk certificate.now walk.now }
+    requires told { AreToldBefore certificate.now walk.now.context }
+    requires turn { way ≡ Move.NextTurn → HasNextTurn (frames_at certificate.now.contexts walk.now.context) }
+    requires unlisted { (end : ℕ) → after ≡ Some end → IsUnlisted certificate.now walk.now.next walk.now.context end }
+    requires forward { (end : ℕ) → after ≡ Some end → 0 < end }
+    ensures met { IfOk result (IsMetBy (family_of certificate.now) (IsAfter (frames_at certificate.now.contexts walk.now.context) after (frames_behind (frames_at certificate.now.contexts walk.now.context) way, offset_behind (frames_at certificate.now.contexts walk.now.context) way)) walk.now.next (frames_behind (frames_at certificate.now.contexts walk.now.context) way, offset_behind (frames_at certificate.now.contexts walk.now.context) way) walk.now.made) }
+    ensures gap { IfErr result (NamesAt (frames_behind (frames_at certificate.now.contexts walk.now.context) way, offset_behind (frames_at certificate.now.contexts walk.now.context) way) (IsGap (family_of certificate.now) (IsAfter (frames_at certificate.now.contexts walk.now.context) after (frames_behind (frames_at certificate.now.contexts walk.now.context) way, offset_behind (frames_at certificate.now.contexts walk.now.context) way)) (frames_behind (frames_at certificate.now.contexts walk.now.context) way, offset_behind (frames_at certificate.now.contexts walk.now.context) way) walk.now.made)) }
+{
+    if let Move::To(offset) = way {
+        return check_offset(certificate, walk, offset, after);
+    }
+    match place_behind(certificate, walk.context, way) {
+        Landing::In { context, offset } => {
+            check_covered(certificate, walk.next, context, offset, &walk.made, false)
+        }
+        Landing::Nowhere { spot, offset } => Err(CheckFault::Refused {
+            spot,
+            offset,
+            reason: Reason::MissingPoint,
+        }),
+    }
+}
+
+/// How what was made is met at all places to which moves lead from the walk's context. `after` is the offset at which it may be left
+/// out, if there is one.
+pub(crate) fn check_moves(
+    certificate: &Certificate,
+    walk: &Walk<'_>,
+    moves: Moves,
+    after: Option<u32>,
+) -> Result<Met, CheckFault>
+    requires walk { IsWalk certificate.now walk.now }
+    requires told { AreToldBefore certificate.now walk.now.context }
+    requires turn { moves ≡ Moves.One Move.NextTurn → HasNextTurn (frames_at certificate.now.contexts walk.now.context) }
+    requires unlisted { (end : ℕ) → after ≡ Some end → IsUnlisted certificate.now walk.now.next walk.now.context end }
+    requires forward { (end : ℕ) → after ≡ Some end → 0 < end }
+    ensures met { IfOk result (AreMetBy (family_of certificate.now) (frames_at certificate.now.contexts walk.now.context) after walk.now.next (nexts_of (frames_at certificate.now.contexts walk.now.context) moves (abstract_of walk.now.made)) walk.now.made) }
+    ensures gap { IfErr result (Names (IsFirstGap (family_of certificate.now) (IsAfter (frames_at certificate.now.contexts walk.now.context) after) (nexts_of (frames_at certificate.now.contexts walk.now.context) moves (abstract_of walk.now.made)) walk.now.made)) }
+{
+    match moves {
+        Moves::One(way) => check_way(certificate, walk, way, after),
+        Moves::Two(first, second) => {
+            let one = match check_offset(certificate, walk, first, after) {
+                Ok(one) => one,
+                Err(fault) => return Err(fault),
+            };
+            let other = match check_offset(certificate, walk, second, after) {
+                Ok(other) => other,
+                Err(fault) => return Err(fault),
+            };
+            Ok(met_by_both(one, other))
+        }
+    }
+}
