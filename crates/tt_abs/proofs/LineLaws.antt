@@ -1,11 +1,10 @@
 -- The place just after another: it is after one alone, is never the start, and between the two no instruction starts.
-use Rattle.std.specs.Prelude.{◌⊎◌, nat_eq, nat_lt, if◌then◌else◌, Bool, true, false, Option}
-use Rattle.std.proofs.Common.{◌≡◌, ℕ, zero, suc, ◌+◌, ◌-◌, ◌≤◌, ◌<◌, List, [], ◌∷◌, Err, Some, None, refl, sym, ◌∙◌, ap, subst, arith, length}
-use Rattle.std.proofs.lemmas.Bool.{ltb-true, ltb-false, eqb-true}
+use Rattle.std.specs.Prelude.{nat_eq, nat_lt, if◌then◌else◌, Bool, true, false, Option}
+use Rattle.std.proofs.Common.{◌≡◌, ℕ, zero, suc, ◌+◌, ◌-◌, ◌≤◌, ◌<◌, List, [], ◌∷◌, Err, Some, None, refl, sym, ◌∙◌, ap, arith, length}
+use Rattle.std.proofs.lemmas.Bool.{ltb-false, eqb-true}
 use Rattle.tt_code.specs.Cut.{Instruction, instruction_at, size}
 use Rattle.tt_code.specs.Settings.{Setting, program_of, starts_in_body, is_main_end}
 use Rattle.tt_code.specs.declared.machine.Frame.{Frame}
-use Rattle.tt_code.specs.declared.reason.Reason.{Reason}
 use Rattle.tt_code.specs.declared.reason.Reason.TheVariants.{Target}
 use Rattle.tt_abs.specs.declared.state.State.{State}
 use Rattle.tt_abs.specs.Lines.{EndsAt, Precedes}
@@ -85,8 +84,8 @@ module _ (s : Setting) where
       let p_forward = h.ends.forward in
       let r_forward = k.ends.forward in
       let offset : p.1 ≡ r.1 =
-          one_start (program_of s p.0) p.1 r.1 h.ends.instruction k.ends.instruction (in_program p.0 p.1 h.ends.instruction h.ends.found) (in_program p.0 r.1 k.ends.instruction found)
-          (omega arith) (omega arith) (omega arith) in
+      one_start (program_of s p.0) p.1 r.1 h.ends.instruction k.ends.instruction (in_program p.0 p.1 h.ends.instruction h.ends.found) (in_program p.0 r.1 k.ends.instruction found)
+      (omega arith) (omega arith) (omega arith) in
       λ i. (sym calls i, offset i)
 
   -- an instruction has one end

@@ -1,12 +1,12 @@
 -- All next states are one: the ways of an instruction differ in where they lead alone.
-use Rattle.std.specs.Prelude.{ℤ, pos, negsuc, ◌+ℤ◌, not, Option, nat_eq, nat_lt, nat_le, slice_get, if◌then◌else◌}
+use Rattle.std.specs.Prelude.{ℤ, pos, negsuc, not, Option, nat_eq, nat_lt, nat_le, slice_get, if◌then◌else◌}
 use Rattle.std.specs.List.{AllByRecursion}
 use Rattle.std.proofs.Common.{◌≡◌, ℕ, zero, suc, ◌+◌, List, [], ◌∷◌, Ok, Some, None, refl, sym, ◌∙◌, subst, length, Bool, true, false}
 use Rattle.tt_code.specs.Refusals.{Tested, holds_or, some_or}
 use Rattle.tt_code.specs.Table.{Meaning, NoEntry, Plain, Pushes, Stack, Computes, Controls, effect_of}
 use Rattle.tt_code.specs.Cut.{Instruction}
 use Rattle.tt_code.specs.Structure.{after_if, after_else, after_fdef}
-use Rattle.tt_code.specs.Settings.{Setting, program_of, is_target, body_name, body_offset}
+use Rattle.tt_code.specs.Settings.{Setting, program_of, body_name, body_offset}
 use Rattle.tt_code.specs.Changes.{natural}
 use Rattle.tt_code.specs.States.{is_below, is_true}
 use Rattle.tt_code.specs.Operands.{top}

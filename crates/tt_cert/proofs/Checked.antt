@@ -1,5 +1,5 @@
 -- What the check of one point says.
-use Rattle.std.specs.Prelude.{◌≡◌, ◌↔◌, ◌⊎◌, ℕ, ◌+◌, ◌<◌, Option, Some, None, List, [], ◌∷◌, true, false, IsTrue, Result, Ok, Err, IfOk, IfErr, length, reverse, slice_get, zero, suc}
+use Rattle.std.specs.Prelude.{◌≡◌, ◌↔◌, ℕ, ◌+◌, ◌<◌, Option, Some, None, List, [], ◌∷◌, true, false, IsTrue, Result, Ok, Err, IfOk, IfErr, length, reverse, slice_get, zero, suc}
 use Rattle.std.specs.Borrow.{Bor}
 use Rattle.std.proofs.Common.{refl, sym, ◌∙◌, ap, subst, arith, inl, inr}
 use Rattle.std.proofs.lemmas.List.{reverse-reverse}
@@ -22,7 +22,7 @@ use Rattle.tt_abs.proofs.StateParts.{one_state}
 use Rattle.tt_cert.specs.Checks.{AreCovered, AreMet, BreaksAt, IsFirstGap, IsGap, IsMet, IsSoundAt, Names, NamesAt, place_of_next, told_offset, stores, refused, leaves}
 use Rattle.tt_cert.specs.GoodFamilies.{IsStoredWithin}
 use Rattle.tt_cert.specs.Spots.{spot_of}
-use Rattle.tt_cert.specs.Walks.{AreMetBy, IsAfter, IsCarried, IsLeftOut, IsMetBy, IsNextState, IsPassed, met_both}
+use Rattle.tt_cert.specs.Walks.{AreMetBy, IsAfter, IsLeftOut, IsMetBy, IsPassed, met_both}
 use Rattle.tt_cert.specs.declared.checking.CheckFault.{CheckFault}
 use Rattle.tt_cert.specs.declared.checking.CheckFault.TheVariants.{Refused, OutOfMemory}
 use Rattle.tt_cert.specs.declared.meeting.Met.{Met}

@@ -1,5 +1,5 @@
 -- A family has one good filling at most, and what a walk adds is part of it.
-use Rattle.std.specs.Prelude.{◌≡◌, ℕ, zero, suc, ◌+◌, ◌<◌, ◌⊎◌, nat_eq, true, false, List, [], length, Option, Some, None}
+use Rattle.std.specs.Prelude.{◌≡◌, ℕ, zero, suc, ◌+◌, ◌<◌, ◌⊎◌, nat_eq, true, false, List, [], Option, Some, None}
 use Rattle.std.proofs.Common.{refl, sym, ◌∙◌, ap, subst, arith, inl, inr}
 use Rattle.std.proofs.lemmas.Bool.{eq-eqb}
 use Rattle.tt_code.specs.Cut.{size}
@@ -13,9 +13,9 @@ use Rattle.tt_abs.specs.StateFlow.{Place, GivesState, flow_of}
 use Rattle.tt_abs.specs.States.{start_of, state_laws, state_order}
 use Rattle.tt_abs.proofs.FlowOfStates.{given_one}
 use Rattle.tt_abs.proofs.LineLaws.{precedes_rises, precedes_one, precedes_no_start}
-use Rattle.tt_cert.specs.Contents.{Contents, IsFamily, HasContext, family_of, number_of}
+use Rattle.tt_cert.specs.Contents.{Contents, IsFamily, family_of, number_of}
 use Rattle.tt_cert.specs.Checks.{BreaksAt, IsFilledBy, IsFirstBreakOnTheWay, IsGap, IsMet, IsSoundAt, LeavesGap, stores, refused, leaves}
-use Rattle.tt_cert.specs.Fillings.{IsFilling, HasGoodFilling, HasOneGoodFilling}
+use Rattle.tt_cert.specs.Fillings.{IsFilling, HasGoodFilling}
 use Rattle.tt_cert.specs.GoodFamilies.{EndsWell, HasEnd, IsGoodFamily}
 
 pub some_or_none : {A : Type 0} (x : Option A) → ((a : A) × (x ≡ Some a)) ⊎ (x ≡ None)

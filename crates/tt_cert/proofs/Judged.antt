@@ -1,6 +1,6 @@
 -- What the check of a whole family, and of one that leaves states out, says.
-use Rattle.std.specs.Prelude.{◌≡◌, ℕ, Bool, true, false, Option, Some, None, List, []}
-use Rattle.std.proofs.Common.{refl, sym, ◌∙◌, ap, subst, inl, inr}
+use Rattle.std.specs.Prelude.{◌≡◌, ℕ, Bool, true, false, Option, Some, List, []}
+use Rattle.std.proofs.Common.{sym, ◌∙◌, ap, inl, inr}
 use Rattle.tt_code.specs.Settings.{Setting}
 use Rattle.tt_code.specs.declared.reason.Reason.{Reason}
 use Rattle.tt_abs.specs.declared.state.State.{State}
@@ -13,14 +13,13 @@ use Rattle.tt_abs.specs.Soundness.{IsSafe}
 use Rattle.tt_abs.specs.StateFlow.{Place, AreProgramsShort, flow_of}
 use Rattle.tt_abs.specs.States.{start_of, state_order}
 use Rattle.tt_abs.proofs.Soundness.{good_is_safe}
-use Rattle.tt_cert.specs.Contents.{Contents, HasContext, IsFamily, family_of, number_of}
+use Rattle.tt_cert.specs.Contents.{Contents, IsFamily, family_of, number_of}
 use Rattle.tt_cert.specs.Fillings.{HasGoodFilling, HasSafeFilling}
 use Rattle.tt_cert.specs.GoodFamilies.{EndsWell, HasFewContexts, IsGoodFamily, IsShortEnough}
-use Rattle.tt_cert.specs.Checks.{AreSound, IsBefore, IsBrokenBy, IsBrokenFirst, IsFilledBy, IsFillingBrokenFirst, IsFirstBreak, IsFirstBreakOnTheWay, IsGap, IsMet, IsSoundAt, IsWantOfMemory, Names, NamesAt, Nowhere, too_long, no_start, no_end, no_way}
+use Rattle.tt_cert.specs.Checks.{AreSound, IsBrokenBy, IsBrokenFirst, IsFilledBy, IsFillingBrokenFirst, IsFirstBreak, IsFirstBreakOnTheWay, IsGap, IsMet, IsSoundAt, IsWantOfMemory, Names, NamesAt, Nowhere, too_long, no_start, no_end, no_way}
 use Rattle.tt_cert.specs.Walks.{IsFoundSound, IsWalkedThrough, MayLeaveOut}
 use Rattle.tt_cert.specs.declared.checking.CheckFault.{CheckFault}
 use Rattle.tt_cert.specs.declared.checking.CheckFault.TheVariants.{Refused, OutOfMemory}
-use Rattle.tt_cert.specs.declared.listing.Listing.{Listing}
 use Rattle.tt_cert.specs.declared.listing.Listing.TheVariants.{Whole, Sparse}
 use Rattle.tt_cert.proofs.FillingLaws.{broken_way, ends_kept, ends_listed, filling_from_walk, gap_not_met, good_from_walk, some_or_none, sound_not_broken, start_listed}
 use Rattle.tt_cert.proofs.Walking.{line_of}

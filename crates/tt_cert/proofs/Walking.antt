@@ -11,21 +11,18 @@ use Rattle.std.proofs.Common.{refl, sym, ◌∙◌, ap, subst, arith, inl, inr, 
 use Rattle.std.proofs.lemmas.Bool.{cases_lt, cases_eq, cases_Bool}
 use Rattle.std.proofs.lemmas.Bool.Decides.{Decides-eqb, Decides-and}
 use Rattle.tt_code.specs.Settings.{Setting, is_main_end}
-use Rattle.tt_code.specs.declared.machine.Frame.{Frame}
 use Rattle.tt_code.specs.declared.reason.Reason.{Reason}
 use Rattle.tt_code.specs.declared.reason.Reason.TheVariants.{Target}
 use Rattle.tt_abs.specs.declared.state.State.{State}
-use Rattle.tt_abs.specs.Families.{CoversAt}
 use Rattle.tt_abs.specs.Lines.{EndsAt, Precedes}
 use Rattle.tt_abs.specs.StateFlow.{Place, GivesState, RefusesState}
-use Rattle.tt_abs.specs.States.{state_order}
 use Rattle.tt_abs.proofs.FlowOfStates.{given_one}
 use Rattle.tt_abs.proofs.LineLaws.{between_refused, ends_once, precedes_place}
 use Rattle.tt_cert.specs.Contents.{Contents, HasContext, IsFamily, family_of, frames_at, number_of, same_frames}
 use Rattle.tt_cert.specs.Numbers.{at-number_of, same_frames-decides}
 use Rattle.tt_cert.specs.Places.{IsLess, place_cmp, states_of}
 use Rattle.tt_cert.specs.Puts.{number_at, place_of}
-use Rattle.tt_cert.specs.Checks.{AreToldBefore, BreaksAt, IsFilledBy, IsFirstBreakOnTheWay, IsMet, IsSoundAt, Names, WasAdded, key_of}
+use Rattle.tt_cert.specs.Checks.{AreToldBefore, BreaksAt, IsFilledBy, IsFirstBreakOnTheWay, IsSoundAt, Names, WasAdded, key_of}
 use Rattle.tt_cert.specs.Walks.{Entry, IsAfter, IsAtPoint, IsCarried, IsComingAfter, IsEntry, IsOnWay, IsPassed, IsRead, IsUnlisted, IsWalkedThrough, IsWalkedTo, MayLeaveOut, to_come}
 use Rattle.tt_cert.specs.declared.checking.CheckFault.{CheckFault}
 use Rattle.tt_cert.specs.declared.checking.CheckFault.TheVariants.{Refused, OutOfMemory}

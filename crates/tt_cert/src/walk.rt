@@ -46,11 +46,7 @@ pub(crate) fn is_coming(
 }
 
 /// Does the state that comes next, if one does, come after this place?
-pub(crate) fn is_coming_after(
-    next: Option<(u32, u32, &State)>,
-    context: u32,
-    offset: u32,
-) -> bool
+pub(crate) fn is_coming_after(next: Option<(u32, u32, &State)>, context: u32, offset: u32) -> bool
     ensures { IsTrue result ↔ IsComingAfter next.entry (context, offset) }
 {
     match next {

@@ -1,4 +1,4 @@
-use Rattle.std.proofs.Common.{rules, arith, ◌≡◌, ◌++◌, List, [], true, false, refl, sym, ◌∙◌, ap, subst}
+use Rattle.std.proofs.Common.{rules, arith, ◌≡◌, [], true, false, refl, sym, ◌∙◌, ap, subst}
 use Rattle.tt_code.specs.Cut.{size}
 use Rattle.tt_code.specs.declared.reason.Reason.{Reason}
 use Rattle.tt_abs.specs.Families.{CoversAt}
@@ -10,7 +10,7 @@ use Rattle.tt_abs.specs.declared.state.State.{State}
 use Rattle.tt_cert.specs.Checks.{IsFirstBreakOnTheWay, IsGap, NamesAt, too_long, no_end}
 use Rattle.tt_cert.specs.Contents.{Contents, family_of}
 use Rattle.tt_cert.specs.GoodFamilies.{EndsWell}
-use Rattle.tt_cert.specs.Walks.{Entry, MayLeaveOut, to_come}
+use Rattle.tt_cert.specs.Walks.{MayLeaveOut, to_come}
 use Rattle.tt_cert.specs.declared.checking.CheckFault.{CheckFault}
 use Rattle.tt_cert.specs.declared.listing.Listing.{Listing}
 use Rattle.tt_cert.proofs.Checked.{ok_map, err_map}

@@ -1,4 +1,4 @@
-use Rattle.std.proofs.Common.{rules, arith, ◌≡◌, ◌+◌, ◌<◌, ℕ, List, Ok, true, false, refl, sym, ◌∙◌, ap, subst}
+use Rattle.std.proofs.Common.{rules, arith, ◌≡◌, ◌<◌, List, Ok, true, false, refl, sym, ◌∙◌, ap, subst}
 use Rattle.std.specs.Prelude.{◌↔◌}
 use Rattle.tt_code.specs.Settings.{is_main_end}
 use Rattle.tt_code.specs.declared.machine.Frame.{Frame}

@@ -1,9 +1,9 @@
-use Rattle.std.proofs.Common.{arith, ◌≡◌, ◌<◌, ◌+◌, ℕ, List, Option, None, Some, length, refl, sym, ◌∙◌, ap, subst, inl, inr}
+use Rattle.std.proofs.Common.{arith, ◌≡◌, ◌+◌, ℕ, Option, length, sym, ◌∙◌, ap, subst, inl, inr}
 use Rattle.std.specs.Borrow.{Bor}
 use Rattle.tt_abs.specs.Settings.{setting_of}
 use Rattle.tt_abs.specs.declared.state.State.{State}
 use Rattle.tt_cert.specs.Puts.{place_of}
-use Rattle.tt_cert.specs.Walks.{AreToCome, IsAtNext, IsAtPoint, IsShorter, MayLeaveOut, to_come}
+use Rattle.tt_cert.specs.Walks.{AreToCome, IsAtNext, MayLeaveOut, to_come}
 use Rattle.tt_cert.proofs.FillingLaws.{filled_in_range}
 use Rattle.tt_cert.proofs.Walking.{first_on_way, line_of, nothing_walked, on_way, told_at, unlisted_after, way_shorter}
 use Rattle.tt_cert.proofs.checking.check_points.Goals as goal
@@ -61,7 +61,7 @@ loop-offset-smaller c =
     way_shorter (length (to_come c.loop-offset.walk.next c.loop-offset.states)) (length (to_come c.check_point.new.walk.next c.go_on.new.states)) c.loop-offset.walk.carried
     c.check_point.new.walk.carried c.in-Some.offset (elim shorter [ inl lt ↦ inl (omega (arith, next)) | inr (same, is) ↦ inr (next ∙ same, is) ])
     (λ o is. (line_of S c.args.listing (place_of v c.go_on.new.self.context c.in-Some.offset) (place_of v c.go_on.new.self.context o)
-        (c.in_default-check_point.ensures.passed.added o is).may).ends.forward)
+    (c.in_default-check_point.ensures.passed.added o is).may).ends.forward)
     c.in_default-check_point.ensures.within
 
 pub loop-offset-preserved : goal.loop-offset-preserved
