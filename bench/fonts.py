@@ -1,45 +1,37 @@
 #!/usr/bin/env python3
-"""Times `hintcheck verdict` on font files, beside the time to read each file alone, with the greatest memory.
+"""Times `hintcheck verdict` on font files, beside the time to read each file alone and that of `ots-sanitize`, with the greatest memory.
 
 Usage: bench/fonts.py FONT..
-Times are in milliseconds: the best of twenty runs by wall clock, with the processor's user and system time of that run. GNU time
-tells the memory. Fonts as Debian packages, some of them with many hint programs:
-    apt-get install time fonts-dejavu fonts-liberation2 fonts-ipafont-gothic
-They lie under /usr/share/fonts.
+Times are in milliseconds of wall clock, of whole processes that take turns: of fifteen runs the least and the median. The last column but
+the memory is the least of hintcheck by that of ots-sanitize. GNU time tells the memory. The sanitizer, and fonts, some of them with many
+hint programs, as Debian packages:
+    apt-get install time opentype-sanitizer fonts-dejavu fonts-liberation2 fonts-ipafont-gothic fonts-open-sans ttf-bitstream-vera
+The fonts are then under /usr/share/fonts.
 """
 
-import os
 import pathlib
+import statistics
 import subprocess
 import sys
 import time
-import typing
 
 TOP = pathlib.Path(__file__).resolve().parent.parent
 PROGRAM = TOP / "crates/hintcheck_cli/out/hintcheck_cli"
-RUNS = 20
+SANITIZER = "ots-sanitize"
+RUNS = 15
 
 
-class Run(typing.NamedTuple):
-    """What one run took: milliseconds of wall clock, user and system time."""
-
-    wall: float
-    user: float
-    system: float
-
-
-def run(*command: object) -> Run:
-    """Runs a command, whose output goes nowhere."""
+def run(command: list[object]) -> float:
+    """How many milliseconds a command takes, whose output goes nowhere."""
     start = time.perf_counter()
-    process = subprocess.Popen([str(word) for word in command], stdout=subprocess.DEVNULL)
-    _, _, used = os.wait4(process.pid, 0)
-    wall = time.perf_counter() - start
-    return Run(1e3 * wall, 1e3 * used.ru_utime, 1e3 * used.ru_stime)
+    subprocess.run([str(word) for word in command], stdout=subprocess.DEVNULL, stderr=subprocess.DEVNULL)
+    return 1e3 * (time.perf_counter() - start)
 
 
-def best(*command: object) -> Run:
-    """The quickest of many runs."""
-    return min(run(*command) for _ in range(RUNS))
+def in_turn(*commands: list[object]) -> list[list[float]]:
+    """What each command took, run by run, where they take turns."""
+    rounds = [[run(command) for command in commands] for _ in range(RUNS)]
+    return [list(times) for times in zip(*rounds)]
 
 
 def answer(font: str) -> tuple[str, str]:
@@ -51,14 +43,14 @@ def answer(font: str) -> tuple[str, str]:
 
 def main() -> None:
     subprocess.run([TOP / "hintcheck", "--help"], stdout=subprocess.DEVNULL, check=True)
-    print(f"{'font':32} {'bytes':>10} {'read':>8} {'verdict':>8} {'user':>8} {'system':>8} {'memory':>10}  answer")
+    print(f"{'font':32} {'bytes':>10} {'read':>8} {'verdict':>8} {'median':>8} {'OTS':>8} {'median':>8} {'ratio':>6} {'memory':>10}  answer")
     for font in sys.argv[1:]:
         path = pathlib.Path(font)
-        verdict = best(PROGRAM, "verdict", font)
+        read, verdict, sanitizer = in_turn(["cat", font], [PROGRAM, "verdict", font], [SANITIZER, font, "/dev/null"])
         line, memory = answer(font)
         print(
-            f"{path.name:32} {path.stat().st_size:10} {best('cat', font).wall:8.1f} {verdict.wall:8.1f} {verdict.user:8.1f}"
-            f" {verdict.system:8.1f} {memory:>7} kB  {line}"
+            f"{path.name:32} {path.stat().st_size:10} {min(read):8.1f} {min(verdict):8.1f} {statistics.median(verdict):8.1f}"
+            f" {min(sanitizer):8.1f} {statistics.median(sanitizer):8.1f} {min(verdict) / min(sanitizer):6.1f} {memory:>7} kB  {line}"
         )
 
 

@@ -17,8 +17,10 @@ use Rattle.tt_cert.specs.Contexts.{frames_of}
 use Rattle.tt_cert.specs.Contents.{Contents, IsFamily, family_of}
 use Rattle.tt_cert.specs.Puts.{Reweighs, ReweighsStates, place_of, weigh, PutsAt-family, Reweighs-family, family_at}
 use Rattle.tt_cert.specs.Built.{Key, IsBuilt}
-use Rattle.tt_cert.specs.declared.fault.BuildFault.{BuildFault}
-use Rattle.tt_cert.specs.declared.fault.BuildFault.TheVariants.{DepthMismatch}
+use Rattle.tt_cert.specs.declared.fault.JoinFault.{JoinFault}
+use Rattle.tt_cert.specs.declared.fault.JoinFault.TheVariants.{DepthMismatch}
+use Rattle.tt_cert.specs.declared.joined.Joined.{Joined}
+use Rattle.tt_cert.specs.Joins.{TellsNew, is_change}
 use Rattle.tt_cert.proofs.Puts.{cases_place}
 use Rattle.tt_cert.proofs.Adding.{family_is, contexts_is}
 
@@ -121,17 +123,21 @@ module _ (entries : List (ℕ × Frame)) (index : BTreeMap Key ℕ) (states : Li
 
   -- what a put into the states is to the family
   module _ (states' : List ((ℕ × ℕ) × State)) (c off : ℕ) (within : c < length v.contexts) (t : State) (ranged : state_order.InRange t) where
-    pub joined_built : (r : Result Bool BuildFault) → IfOk r (λ changed. PutsAt state_order (states_of states) (states_of states') (c, off) t changed)
+    pub joined_built : (r : Result Joined JoinFault) → IfOk r (λ joined. PutsAt state_order (states_of states) (states_of states') (c, off) t (is_change joined))
         → OnOk r (length states' ≤ 4294967295) → OnErr r (states' ≡ states) → IsBuilt entries index states'
-    joined_built (Ok changed) put fits kept = put_built entries index states states' v is built c off within t changed put ranged fits
+    joined_built (Ok changed) put fits kept = put_built entries index states states' v is built c off within t (is_change changed) put ranged fits
     joined_built (Err e) put fits kept = same_built states' kept
 
-    pub joined_puts : (r : Result Bool BuildFault) → IfOk r (λ changed. PutsAt state_order (states_of states) (states_of states') (c, off) t changed)
-        → IfOk r (λ changed. PutsAt state_order (family_of v) (family_of (record { contexts = frames_of entries; states = states' })) (place_of v c off) t changed)
-    joined_puts (Ok changed) put = put_puts entries index states states' v is built c off within t changed put ranged
+    pub joined_puts : (r : Result Joined JoinFault) → IfOk r (λ joined. PutsAt state_order (states_of states) (states_of states') (c, off) t (is_change joined))
+        → IfOk r (λ joined. PutsAt state_order (family_of v) (family_of (record { contexts = frames_of entries; states = states' })) (place_of v c off) t (is_change joined))
+    joined_puts (Ok changed) put = put_puts entries index states states' v is built c off within t (is_change changed) put ranged
     joined_puts (Err e) put = tt
 
-    pub joined_sums : (r : Result Bool BuildFault) → IfOk r (λ _. ReweighsStates states states' (c, off))
+    pub joined_new : (r : Result Joined JoinFault) → IfOk r (λ joined. TellsNew joined (states_of states (c, off))) → IfOk r (λ joined. TellsNew joined (family_of v (place_of v c off)))
+    joined_new (Ok joined) new = let T : Option State → Type 0 = λ x. TellsNew joined x in subst T (sym (point_state c off (states_of states (c, off)) within refl)) new
+    joined_new (Err e) new = tt
+
+    pub joined_sums : (r : Result Joined JoinFault) → IfOk r (λ _. ReweighsStates states states' (c, off))
         → IfOk r (λ _. Reweighs v (record { contexts = frames_of entries; states = states' }) (place_of v c off))
     joined_sums (Ok changed) sums =
         let P : List ((ℕ × ℕ) × State) → Type 0 = λ x. ReweighsStates x states' (c, off) in
@@ -139,12 +145,12 @@ module _ (entries : List (ℕ × Frame)) (index : BTreeMap Key ℕ) (states : Li
         (contexts_is entries index states v is built) within (subst P (ap (λ (x : Contents). x.states) is) sums)
     joined_sums (Err e) sums = tt
 
-    pub joined_depth : (r : Result Bool BuildFault)
+    pub joined_depth : (r : Result Joined JoinFault)
         → (r ≡ Err DepthMismatch → (s : State) × (states_of states (c, off) ≡ Some s) × (state_order.SameDepth s t → ⊥))
         → r ≡ Err DepthMismatch → (s : State) × (family_of v (place_of v c off) ≡ Some s) × (state_order.SameDepth s t → ⊥)
     joined_depth r deep refused = let (s, at, apart) = deep refused in (s, point_state c off (Some s) within (sym at), apart)
 
-    pub joined_joined : (r : Result Bool BuildFault) → IfOk r (λ _. (s : State) → states_of states (c, off) ≡ Some s → state_order.SameDepth s t)
+    pub joined_joined : (r : Result Joined JoinFault) → IfOk r (λ _. (s : State) → states_of states (c, off) ≡ Some s → state_order.SameDepth s t)
         → IfOk r (λ _. (s : State) → family_of v (place_of v c off) ≡ Some s → state_order.SameDepth s t)
     joined_joined (Ok changed) deep = λ s at. deep s (sym (point_state c off (states_of states (c, off)) within refl) ∙ at)
     joined_joined (Err e) deep = tt

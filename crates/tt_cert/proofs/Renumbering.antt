@@ -7,8 +7,12 @@ use Rattle.std.proofs.lemmas.Option.{slice_get_within, slice_get-get_or, get_or_
 use Rattle.tt_code.specs.declared.machine.Frame.{Frame}
 use Rattle.tt_cert.specs.Contents.{Contents, IsFamily, AddsContext, frames_at}
 use Rattle.tt_cert.specs.Rising.{AreMoved}
-use Rattle.tt_cert.specs.declared.fault.BuildFault.{BuildFault}
-use Rattle.tt_cert.specs.declared.fault.BuildFault.TheVariants.{DepthMismatch, TooManyContexts, OutOfMemory}
+use Rattle.tt_cert.specs.declared.fault.ContextFault.{ContextFault}
+use Rattle.tt_cert.specs.declared.fault.ContextFault.TheVariants.{TooManyContexts}
+use Rattle.tt_cert.specs.declared.fault.ContextFault.TheVariants as context
+use Rattle.tt_cert.specs.declared.fault.JoinFault.{JoinFault}
+use Rattle.tt_cert.specs.declared.fault.JoinFault.TheVariants.{DepthMismatch}
+use Rattle.tt_cert.specs.declared.fault.JoinFault.TheVariants as join
 use Rattle.tt_cert.specs.FileOrder.{IsFileOrder, ArePlaces, in_order}
 use Rattle.tt_cert.proofs.Adding.{cons_same}
 use Rattle.tt_cert.proofs.FileOrders.{at_most, frames_in_order, length-in_order, number_in_order}
@@ -190,13 +194,19 @@ module _ (v : Contents) (order : List ℕ) (family : IsFamily v) (file : IsFileO
         has_context v.contexts m (frames_at (in_order v.contexts order) n) (file.within n m at_m) (sym (frames_in_order v.contexts order n m at_m));
   }
 
--- a fault that is none of the others is want of memory
-pub memory_only : {A B : Type 0} (result : Result A BuildFault) (r : Result B BuildFault) (e : BuildFault) → result ≡ Err e → (result ≡ Err TooManyContexts → ⊥) → (result ≡ Err DepthMismatch → ⊥)
-    → IsErrAnd r (λ x. x ≡ e) → IfErr r (λ x. x ≡ OutOfMemory)
-memory_only result r TooManyContexts is few deep passed = absurd (few is)
-memory_only result r DepthMismatch is few deep passed = absurd (deep is)
-memory_only result (Ok b) OutOfMemory is few deep passed = tt
-memory_only result (Err e) OutOfMemory is few deep passed = passed
+-- a fault that isn't the other one is want of memory
+
+pub no_context_memory : {A B : Type 0} (result : Result A ContextFault) (r : Result B ContextFault) (e : ContextFault) → result ≡ Err e → (result ≡ Err TooManyContexts → ⊥)
+    → IsErrAnd r (λ x. x ≡ e) → IfErr r (λ x. x ≡ context.OutOfMemory)
+no_context_memory result r TooManyContexts is few passed = absurd (few is)
+no_context_memory result (Ok b) context.OutOfMemory is few passed = tt
+no_context_memory result (Err e) context.OutOfMemory is few passed = passed
+
+pub no_state_memory : {A B : Type 0} (result : Result A JoinFault) (r : Result B JoinFault) (e : JoinFault) → result ≡ Err e → (result ≡ Err DepthMismatch → ⊥) → IsErrAnd r (λ x. x ≡ e)
+    → IfErr r (λ x. x ≡ join.OutOfMemory)
+no_state_memory result r DepthMismatch is deep passed = absurd (deep is)
+no_state_memory result (Ok b) join.OutOfMemory is deep passed = tt
+no_state_memory result (Err e) join.OutOfMemory is deep passed = passed
 
 module _ (v : Contents) (order places : List ℕ) (i : ℕ) (family : IsFamily v) (file : IsFileOrder v.contexts order) (some : 0 < i) (lt : i < length order) where
   here : slice_get order i ≡ Some (slice_index_or order i 0)

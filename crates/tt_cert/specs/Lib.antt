@@ -6,6 +6,7 @@ pub mod Contents
 pub mod Numbers
 pub mod Built
 pub mod Puts
+pub mod Joins
 pub mod Rising
 pub mod FileOrder
 pub mod GoodFamilies

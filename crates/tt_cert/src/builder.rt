@@ -7,6 +7,7 @@ ghost use Rattle.std.specs.Map.{keys_of};
 ghost use Rattle.tt_abs.specs.Entries.{Rises};
 ghost use Rattle.tt_abs.specs.declared.state.State.{State as StateValue};
 ghost use Rattle.tt_abs.specs.States.{state_order};
+ghost use Rattle.tt_cert.specs.Joins.{TellsNew, is_change};
 ghost use Rattle.tt_cert.specs.Places.{PutsAt, place_cmp, states_of};
 ghost use Rattle.tt_cert.specs.Puts.{Reweighs, place_of};
 ghost use Rattle.tt_cert.specs.Built.{RisesByKey, key_cmp, key_of as key_of_entry};
@@ -17,7 +18,8 @@ ghost use Rattle.tt_cert.specs.Ends.{AreDefinedAtEnd};
 ghost use Rattle.tt_cert.specs.Contents.{AddsContext, HasContext, IsFamily, family_of, frames_at, points_of};
 ghost use Rattle.tt_cert.specs.Spots.{spot_of};
 
-use crate::fault::BuildFault;
+use crate::fault::{ContextFault, JoinFault};
+use crate::joined::Joined;
 use crate::spot::Spot;
 use crate::state_table::StateTable;
 use crate::states::States;
@@ -119,6 +121,13 @@ impl Builder {
         }
     }
 
+    /// Says that the contexts and the states are a family, as they always are.
+    pub fn is_family(&self)
+        ensures { IsFamily self.now }
+    {
+        self.contexts();
+    }
+
     /// How many contexts there are, the empty one counted.
     pub fn contexts(&self) -> u32
         ensures value { result ≡ length self.now.contexts }
@@ -154,7 +163,7 @@ impl Builder {
         requires { context < length self.now.contexts }
         ensures { result ≡ spot_of (frames_at self.now.contexts context) }
     {
-        self.contexts();
+        self.is_family();
         match self.context(context) {
             Some((_, frame)) => Spot::of_body(frame.body),
             None => Spot::Main,
@@ -174,13 +183,12 @@ impl Builder {
     ///
     /// # Errors
     /// `TooManyContexts` exactly if it isn't there and 65,535 contexts are; `OutOfMemory`. Then the builder stays as it is.
-    pub fn add_context(&mut self, parent: u32, frame: Frame) -> Result<u32, BuildFault>
+    pub fn add_context(&mut self, parent: u32, frame: Frame) -> Result<u32, ContextFault>
         requires { parent < length self.old.contexts }
         ensures added { IfOk result (AddsContext self.old.contexts self.new.contexts (frame ∷ frames_at self.old.contexts parent)) }
         ensures states { self.new.states ≡ self.old.states }
-        ensures full { result ≡ Err BuildFault.TooManyContexts → (HasContext self.old.contexts (frame ∷ frames_at self.old.contexts parent) → ⊥) × (length self.old.contexts ≡ 65535) }
-        ensures room { (HasContext self.old.contexts (frame ∷ frames_at self.old.contexts parent) → ⊥) → length self.old.contexts ≡ 65535 → result ≡ Err BuildFault.TooManyContexts }
-        ensures depth { result ≢ Err BuildFault.DepthMismatch }
+        ensures full { result ≡ Err ContextFault.TooManyContexts → (HasContext self.old.contexts (frame ∷ frames_at self.old.contexts parent) → ⊥) × (length self.old.contexts ≡ 65535) }
+        ensures room { (HasContext self.old.contexts (frame ∷ frames_at self.old.contexts parent) → ⊥) → length self.old.contexts ≡ 65535 → result ≡ Err ContextFault.TooManyContexts }
         ensures kept { OnErr result (self.new ≡ self.old) }
         ensures family { IsFamily self.new }
     {
@@ -190,13 +198,13 @@ impl Builder {
         }
         let count = self.entries.len() as u32 + 1;
         if count >= MOST_CONTEXTS {
-            return Err(BuildFault::TooManyContexts);
+            return Err(ContextFault::TooManyContexts);
         }
         if let Err(_) = self.entries.reserve(1) {
-            return Err(BuildFault::OutOfMemory);
+            return Err(ContextFault::OutOfMemory);
         }
         if let Err(_) = self.index.insert(key, count) {
-            return Err(BuildFault::OutOfMemory);
+            return Err(ContextFault::OutOfMemory);
         }
         self.entries.push_reserved((parent, frame));
         Ok(count)
@@ -270,8 +278,7 @@ impl Builder {
         }
     }
 
-    /// Puts a state at a point, by a join where there is one and by a copy else, and answers whether the state there is new or
-    /// has changed.
+    /// Puts a state at a point, by a join where there is one and by a copy else, and answers what that makes of the state there.
     ///
     /// # Errors
     /// `DepthMismatch` exactly if a state of another depth stands there; `OutOfMemory`. Then the builder stays as it is.
@@ -280,15 +287,15 @@ impl Builder {
         context: u32,
         offset: u32,
         state: &State,
-    ) -> Result<bool, BuildFault>
+    ) -> Result<Joined, JoinFault>
         requires there { context < length self.old.contexts }
         requires theirs { state_order.InRange state.now }
-        ensures put { IfOk result (λ changed. PutsAt state_order (family_of self.old) (family_of self.new) (place_of self.old context offset) state.now changed) }
+        ensures put { IfOk result (λ joined. PutsAt state_order (family_of self.old) (family_of self.new) (place_of self.old context offset) state.now (is_change joined)) }
+        ensures new { IfOk result (λ joined. TellsNew joined (family_of self.old (place_of self.old context offset))) }
         ensures sums { IfOk result (λ _. Reweighs self.old self.new (place_of self.old context offset)) }
-        ensures depth { result ≡ Err BuildFault.DepthMismatch → (s : StateValue) × (family_of self.old (place_of self.old context offset) ≡ Some s) × (state_order.SameDepth s state.now → ⊥) }
+        ensures depth { result ≡ Err JoinFault.DepthMismatch → (s : StateValue) × (family_of self.old (place_of self.old context offset) ≡ Some s) × (state_order.SameDepth s state.now → ⊥) }
         ensures joined { IfOk result (λ _. (s : StateValue) → family_of self.old (place_of self.old context offset) ≡ Some s → state_order.SameDepth s state.now) }
         ensures contexts { self.new.contexts ≡ self.old.contexts }
-        ensures few { result ≢ Err BuildFault.TooManyContexts }
         ensures kept { OnErr result (self.new ≡ self.old) }
         ensures family { IsFamily self.new }
     {

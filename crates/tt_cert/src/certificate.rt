@@ -55,6 +55,13 @@ impl Certificate {
         &self.builder
     }
 
+    /// Says that the contexts are in order, as they always are.
+    pub fn is_in_order(&self)
+        ensures { IsFinished self.now }
+    {
+        self.contexts();
+    }
+
     /// How many contexts there are, the empty one counted.
     pub fn contexts(&self) -> u32
         ensures value { result ≡ length self.now.contexts }

@@ -101,7 +101,7 @@ fn check_start(certificate: &Certificate, walk: &mut Walk<'_>) -> Result<(), Che
     ensures next { walk.new.next ≡ walk.old.next }
     ensures carried { walk.new.carried ≡ walk.old.carried }
 {
-    certificate.contexts();
+    certificate.is_in_order();
     match check_covered(certificate, walk.next, 0, 0, &walk.made, false) {
         Ok(Met::Next) => walk.is_next = true,
         Ok(_) => {}
@@ -197,7 +197,7 @@ fn check_points<'a>(
     ensures sound { IfOk result (λ _. IsWalkedThrough (setting_of setting.now) listing certificate.now) }
     ensures broken { IfErr result (Names (IsFirstBreakOnTheWay (setting_of setting.now) (MayLeaveOut listing (setting_of setting.now)) certificate.now)) }
 {
-    certificate.contexts();
+    certificate.is_in_order();
     while let Some(offset) = walk.go_on(certificate, &mut states)? {
         if let Err(fault) = check_point(setting, listing, certificate, walk, offset) {
             return Err(fault);
@@ -220,7 +220,7 @@ fn check_listed(
     ensures sound { IfOk result (λ _. IsFoundSound (setting_of setting.now) setting.now.start.now listing certificate.now) }
     ensures first { IfErr result (Names (IsBrokenBy (setting_of setting.now) setting.now.start.now certificate.now (IsFirstBreakOnTheWay (setting_of setting.now) (MayLeaveOut listing (setting_of setting.now)) certificate.now))) }
 {
-    certificate.contexts();
+    certificate.is_in_order();
     if !is_short(setting) {
         return Err(CheckFault::Refused {
             spot: Spot::Main,
@@ -263,7 +263,7 @@ pub fn check_full(
     ensures first { IfErr result (Names (IsBrokenFirst (setting_of setting.now) setting.now.start.now certificate.now)) }
 {
     setting.is_within();
-    certificate.contexts();
+    certificate.is_in_order();
     check_listed(alloc, setting, Listing::Whole, certificate)
 }
 
@@ -286,7 +286,7 @@ pub fn check(
     ensures first { IfErr result (Names (IsFillingBrokenFirst (setting_of setting.now) setting.now.start.now certificate.now)) }
 {
     setting.is_within();
-    certificate.contexts();
+    certificate.is_in_order();
     check_listed(alloc, setting, Listing::Sparse, certificate)
 }
 

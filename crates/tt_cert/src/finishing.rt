@@ -8,7 +8,7 @@ ghost use Rattle.tt_cert.specs.Rising.{AreMoved, IsFinished, SameContents};
 
 use crate::builder::Builder;
 use crate::certificate::Certificate;
-use crate::fault::BuildFault;
+use crate::fault::{ContextFault, JoinFault};
 use std::alloc::AllocError;
 
 /// The place of each context in the order.
@@ -30,7 +30,7 @@ fn move_context(
     place: usize,
     places: &[u32],
     new: &mut Builder,
-) -> Result<(), BuildFault>
+) -> Result<(), ContextFault>
     requires order { IsFileOrder old.now.contexts order.now }
     requires place { (0 < place) × (place < length order.now) }
     requires places { ArePlaces old.now.contexts order.now places.now }
@@ -38,9 +38,9 @@ fn move_context(
     ensures moved { IfOk result (λ _. new.new.contexts ≡ in_order old.now.contexts (take (place + 1) order.now)) }
     ensures states { new.new.states ≡ new.old.states }
     ensures family { IsFamily new.new }
-    ensures memory { IfErr result (λ fault. fault ≡ BuildFault.OutOfMemory) }
+    ensures memory { IfErr result (λ fault. fault ≡ ContextFault.OutOfMemory) }
 {
-    let _count = old.contexts();
+    old.is_family();
     let Some((parent, frame)) = old.context(order[place]) else {
         return Ok(());
     };
@@ -54,7 +54,7 @@ fn move_contexts(
     order: &[u32],
     places: &[u32],
     new: &mut Builder,
-) -> Result<(), BuildFault>
+) -> Result<(), ContextFault>
     requires order { IsFileOrder old.now.contexts order.now }
     requires places { ArePlaces old.now.contexts order.now places.now }
     requires before { new.old.contexts ≡ [] ∷ [] }
@@ -62,9 +62,9 @@ fn move_contexts(
     ensures moved { IfOk result (λ _. new.new.contexts ≡ in_order old.now.contexts order.now) }
     ensures states { new.new.states ≡ new.old.states }
     ensures family { IsFamily new.new }
-    ensures memory { IfErr result (λ fault. fault ≡ BuildFault.OutOfMemory) }
+    ensures memory { IfErr result (λ fault. fault ≡ ContextFault.OutOfMemory) }
 {
-    let _count = old.contexts();
+    old.is_family();
     for place in 1..order.len() {
         move_context(old, order, place, places, new)?;
     }
@@ -72,7 +72,7 @@ fn move_contexts(
 }
 
 /// Puts copies of all states into the new builder, which has the same contexts and no state.
-fn move_states(old: &Builder, new: &mut Builder, numbers: &[u32]) -> Result<(), BuildFault>
+fn move_states(old: &Builder, new: &mut Builder, numbers: &[u32]) -> Result<(), JoinFault>
     requires family { IsFamily new.old }
     requires empty { new.old.states ≡ [] }
     requires moved { AreMoved old.now.contexts new.old.contexts numbers.now }
@@ -80,7 +80,7 @@ fn move_states(old: &Builder, new: &mut Builder, numbers: &[u32]) -> Result<(), 
     ensures same { IfOk result (λ _. (point : List Frame × ℕ) → family_of new.new point ≡ family_of old.now point) }
     ensures points { IfOk result (λ _. points_of new.new ≡ points_of old.now) }
     ensures family { IsFamily new.new }
-    ensures memory { IfErr result (λ fault. fault ≡ BuildFault.OutOfMemory) }
+    ensures memory { IfErr result (λ fault. fault ≡ JoinFault.OutOfMemory) }
 {
     let mut states = old.states();
     while let Some((context, offset, state)) = states.take_first() {
@@ -90,22 +90,21 @@ fn move_states(old: &Builder, new: &mut Builder, numbers: &[u32]) -> Result<(), 
 }
 
 /// The same family with its contexts in the order of the file.
-fn reordered(old: &Builder) -> Result<Builder, BuildFault>
+fn reordered(old: &Builder) -> Result<Builder, AllocError>
     ensures same { IfOk result (λ new. SameContents old.now new) }
     ensures points { IfOk result (λ new. points_of new ≡ points_of old.now) }
     ensures finished { IfOk result (λ new. IsFinished new) }
-    ensures memory { IfErr result (λ fault. fault ≡ BuildFault.OutOfMemory) }
 {
-    let _count = old.contexts();
-    let Ok(order) = old.file_order() else {
-        return Err(BuildFault::OutOfMemory);
-    };
-    let Ok(places) = places_in(old, order.as_slice()) else {
-        return Err(BuildFault::OutOfMemory);
-    };
+    old.is_family();
+    let order = old.file_order()?;
+    let places = places_in(old, order.as_slice())?;
     let mut new = Builder::new(old.allocator());
-    move_contexts(old, order.as_slice(), places.as_slice(), &mut new)?;
-    move_states(old, &mut new, places.as_slice())?;
+    if let Err(_) = move_contexts(old, order.as_slice(), places.as_slice(), &mut new) {
+        return Err(AllocError);
+    }
+    if let Err(_) = move_states(old, &mut new, places.as_slice()) {
+        return Err(AllocError);
+    }
     Ok(new)
 }
 

@@ -26,7 +26,7 @@ fn place_entered(certificate: &Certificate, parent: u32, frame: Frame) -> Landin
     requires { parent < length certificate.now.contexts }
     ensures { IsLanding certificate.now (frame ∷ frames_at certificate.now.contexts parent, offset_of_body frame.body) result }
 {
-    certificate.contexts();
+    certificate.is_in_order();
     let offset = body_offset(frame.body);
     match certificate.number(parent, frame) {
         Some(context) => Landing::In { context, offset },
@@ -43,7 +43,7 @@ fn place_of_turn(certificate: &Certificate, context: u32) -> Landing
     requires turn { HasNextTurn (frames_at certificate.now.contexts context) }
     ensures { IsLanding certificate.now (frames_behind (frames_at certificate.now.contexts context) Move.NextTurn, offset_behind (frames_at certificate.now.contexts context) Move.NextTurn) result }
 {
-    certificate.contexts();
+    certificate.is_in_order();
     match certificate.context(context) {
         Some((parent, frame)) => {
             let turn = frame.turn + 1;
@@ -62,7 +62,7 @@ fn place_after(certificate: &Certificate, context: u32, call: u32) -> Landing
     requires told { AreToldBefore certificate.now (context + 1) }
     ensures { IsLanding certificate.now (frames_at certificate.now.contexts context, call + 1) result }
 {
-    certificate.contexts();
+    certificate.is_in_order();
     match call.checked_add(1) {
         Some(offset) => Landing::In { context, offset },
         None => Landing::Nowhere {
@@ -78,7 +78,7 @@ fn place_of_return(certificate: &Certificate, context: u32) -> Landing
     requires told { AreToldBefore certificate.now context }
     ensures { IsLanding certificate.now (frames_behind (frames_at certificate.now.contexts context) Move.Return, offset_behind (frames_at certificate.now.contexts context) Move.Return) result }
 {
-    certificate.contexts();
+    certificate.is_in_order();
     match certificate.context(context) {
         Some((parent, frame)) => place_after(certificate, parent, frame.call),
         None => Landing::In {

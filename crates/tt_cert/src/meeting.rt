@@ -73,7 +73,7 @@ pub(crate) fn check_covered(
     ensures met { IfOk result (IsMetBy (family_of certificate.now) (IsTrue may_be_left_out) next.entry (place_of certificate.now context offset) state.now) }
     ensures gap { IfErr result (NamesAt (place_of certificate.now context offset) (IsGap (family_of certificate.now) (IsTrue may_be_left_out) (place_of certificate.now context offset) state.now)) }
 {
-    certificate.contexts();
+    certificate.is_in_order();
     if may_be_left_out && is_coming_after(next, context, offset) {
         certificate.state(context, offset);
         return Ok(Met::Added);

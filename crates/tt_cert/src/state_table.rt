@@ -7,11 +7,13 @@ ghost use Rattle.std.specs.List.Sorted.{IsStrictlySortedBy};
 ghost use Rattle.std.specs.Map.{keys_of};
 ghost use Rattle.tt_abs.specs.declared.state.State.{State as StateValue};
 ghost use Rattle.tt_abs.specs.States.{state_order};
+ghost use Rattle.tt_cert.specs.Joins.{TellsNew, is_change};
 ghost use Rattle.tt_cert.specs.Places.{PutsAt, place_cmp, states_of};
 ghost use Rattle.tt_cert.specs.Puts.{ReweighsStates};
 ghost use Rattle.tt_cert.specs.Tables.{AgreesBelow};
 
-use crate::fault::BuildFault;
+use crate::fault::JoinFault;
+use crate::joined::Joined;
 use crate::places::Places;
 use crate::states::States;
 use std::alloc::{AllocError, Global};
@@ -101,7 +103,7 @@ impl StateTable {
         }
     }
 
-    /// Puts a state at a point, by a join where there is one, and answers whether the state there is new or has changed.
+    /// Puts a state at a point, by a join where there is one, and answers what that makes of the state there.
     ///
     /// # Errors
     /// `DepthMismatch` exactly if a state of another depth stands there; `OutOfMemory`. Then the states stay as they are.
@@ -110,49 +112,49 @@ impl StateTable {
         context: u32,
         offset: u32,
         state: &State,
-    ) -> Result<bool, BuildFault>
+    ) -> Result<Joined, JoinFault>
         requires mine { (s : StateValue) → states_of self.old (context, offset) ≡ Some s → state_order.InRange s }
         requires theirs { state_order.InRange state.now }
-        ensures put { IfOk result (λ changed. PutsAt state_order (states_of self.old) (states_of self.new) (context, offset) state.now changed) }
+        ensures put { IfOk result (λ joined. PutsAt state_order (states_of self.old) (states_of self.new) (context, offset) state.now (is_change joined)) }
+        ensures new { IfOk result (λ joined. TellsNew joined (states_of self.old (context, offset))) }
         ensures sums { IfOk result (λ _. ReweighsStates self.old self.new (context, offset)) }
-        ensures depth { result ≡ Err BuildFault.DepthMismatch → (s : StateValue) × (states_of self.old (context, offset) ≡ Some s) × (state_order.SameDepth s state.now → ⊥) }
+        ensures depth { result ≡ Err JoinFault.DepthMismatch → (s : StateValue) × (states_of self.old (context, offset) ≡ Some s) × (state_order.SameDepth s state.now → ⊥) }
         ensures joined { IfOk result (λ _. (s : StateValue) → states_of self.old (context, offset) ≡ Some s → state_order.SameDepth s state.now) }
-        ensures few { result ≢ Err BuildFault.TooManyContexts }
         ensures kept { OnErr result (self.new ≡ self.old) }
         ensures fits { OnOk result (length self.new ≤ 4294967295) }
     {
         if let Some(number) = self.places.get(context, offset) {
             let slot = &mut self.slots[number as usize];
             let Ok(changed) = slot.join(state) else {
-                return Err(BuildFault::DepthMismatch);
+                return Err(JoinFault::DepthMismatch);
             };
-            return Ok(changed);
+            return Ok(Joined::of(changed));
         }
         self.add(context, offset, state)?;
-        Ok(true)
+        Ok(Joined::New)
     }
 
     /// Puts a copy of a state at a point that has none.
     ///
     /// # Errors
     /// `OutOfMemory`; then the states stay as they are.
-    fn add(&mut self, context: u32, offset: u32, state: &State) -> Result<(), BuildFault>
+    fn add(&mut self, context: u32, offset: u32, state: &State) -> Result<(), JoinFault>
         requires { states_of self.old (context, offset) ≡ None }
         ensures put { OnOk result (PutsAt state_order (states_of self.old) (states_of self.new) (context, offset) state.now true) }
         ensures sums { OnOk result (ReweighsStates self.old self.new (context, offset)) }
-        ensures memory { IfErr result (λ fault. fault ≡ BuildFault.OutOfMemory) }
+        ensures memory { IfErr result (λ fault. fault ≡ JoinFault.OutOfMemory) }
         ensures kept { OnErr result (self.new ≡ self.old) }
         ensures fits { OnOk result (length self.new ≤ 4294967295) }
     {
         let number = self.places.len();
         if number >= MOST_STATES {
-            return Err(BuildFault::OutOfMemory);
+            return Err(JoinFault::OutOfMemory);
         }
         if let Err(_) = fill(&mut self.slots, number as usize, state) {
-            return Err(BuildFault::OutOfMemory);
+            return Err(JoinFault::OutOfMemory);
         }
         if let Err(_) = self.places.insert(context, offset, number) {
-            return Err(BuildFault::OutOfMemory);
+            return Err(JoinFault::OutOfMemory);
         }
         Ok(())
     }

@@ -128,7 +128,7 @@ impl<'a> Walk<'a> {
         ensures point { IfOk result (λ to. (s : AnySetting) (listing : AnyListing) → IsOnWay s listing certificate.now self.old states.old → IsAtNext s listing certificate.now self.new states.new to) }
         ensures shorter { IfOk result (λ to. IfSome to (IsShorter self.old self.new states.old states.new)) }
     {
-        certificate.contexts();
+        certificate.is_in_order();
         if let Some(offset) = self.carried {
             if is_coming_after(self.next, self.context, offset) {
                 return Ok(Some(offset));

@@ -5,16 +5,20 @@ use crate::fixtures::{
 };
 use std::alloc::Global;
 use tt_abs::{Cell, State};
-use tt_cert::{BuildFault, Builder};
+use tt_cert::{Builder, ContextFault, JoinFault, Joined};
 use tt_code::Frame;
 
 #[test]
 fn joined_states(rt: HostRuntime) {
     let mut builder = Builder::new(rt.alloc());
-    let table: [(&[i32], bool); 3] = [(&[1, 2], true), (&[1, 2], false), (&[1, 3], true)];
+    let table: [(&[i32], Joined); 3] = [
+        (&[1, 2], Joined::New),
+        (&[1, 2], Joined::Same),
+        (&[1, 3], Joined::Changed),
+    ];
     for (stack, want) in table {
-        let changed = put(rt.alloc(), &mut builder, &[], (0, 5, stack));
-        assert_eq!(rt; changed, Ok(want), "of {stack:?}");
+        let joined = put(rt.alloc(), &mut builder, &[], (0, 5, stack));
+        assert_eq!(rt; joined, Ok(want), "of {stack:?}");
     }
     assert_eq!(rt; cell_at(&builder, 0, 5, 0), Some(Cell::Known(1)));
     assert_eq!(rt; cell_at(&builder, 0, 5, 1), Some(Cell::Unknown));
@@ -23,10 +27,10 @@ fn joined_states(rt: HostRuntime) {
 #[test]
 fn states_of_other_depths(rt: HostRuntime) {
     let mut builder = Builder::new(rt.alloc());
-    let table: [(Row<'_>, Result<bool, BuildFault>); 3] = [
-        ((0, 5, &[1, 2]), Ok(true)),
-        ((0, 5, &[]), Err(BuildFault::DepthMismatch)),
-        ((0, 4, &[]), Ok(true)),
+    let table: [(Row<'_>, Result<Joined, JoinFault>); 3] = [
+        ((0, 5, &[1, 2]), Ok(Joined::New)),
+        ((0, 5, &[]), Err(JoinFault::DepthMismatch)),
+        ((0, 4, &[]), Ok(Joined::New)),
     ];
     for (row, want) in table {
         assert_eq!(rt; put(rt.alloc(), &mut builder, &[], row), want, "of {row:?}");
@@ -178,7 +182,7 @@ fn contexts_up_to_the_limit(rt: HostRuntime) {
     assert!(rt; add_to_the_limit(&mut builder));
     assert_eq!(rt; builder.contexts(), 65_535);
     let one_more = add(&mut builder, 0, call_at(65_535));
-    assert_eq!(rt; one_more, Err(BuildFault::TooManyContexts));
+    assert_eq!(rt; one_more, Err(ContextFault::TooManyContexts));
     assert_eq!(rt; add(&mut builder, 0, call_at(9)), Ok(9));
     assert_eq!(rt; builder.contexts(), 65_535);
     assert_eq!(rt; builder.context(9), Some((0, call_at(9))));

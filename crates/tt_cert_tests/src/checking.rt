@@ -26,7 +26,7 @@ const LIMITS: Limits = Limits {
     storage: 4,
     functions: 2,
     stack: 8,
-    program_size: 6,
+    program_size: 9,
     zones: 2,
     twilight: 4,
 };
@@ -109,7 +109,14 @@ fn certificate_at(alloc: Global, offsets: &[u32]) -> Option<Certificate> {
 /// What it tells of a program without functions, with the start state at each of these offsets.
 fn answer(alloc: Global, program: &[u8], kind: Kind, offsets: &[u32]) -> Option<Answer> {
     let family = certificate_at(alloc, offsets)?;
-    checked(alloc, (program, program, program), kind, &[], &family, Asked::Whole)
+    checked(
+        alloc,
+        (program, program, program),
+        kind,
+        &[],
+        &family,
+        Asked::Whole,
+    )
 }
 
 /// RTG twice.
@@ -137,8 +144,8 @@ type Broken<'a> = (&'a [u8], Kind, &'a [u32], u32, Reason);
 #[test]
 fn what_is_broken_first(rt: HostRuntime) {
     let table: [Broken<'_>; 9] = [
-        (&[0x18; 7], GLYPH, &[], 6, Reason::ProgramTooLong),
-        (&[0x18; 7], Kind::Cvt, &[], 0, Reason::MissingPoint),
+        (&[0x18; 10], GLYPH, &[], 9, Reason::ProgramTooLong),
+        (&[0x18; 10], Kind::Cvt, &[], 0, Reason::MissingPoint),
         (&TWO, GLYPH, &[1, 2], 0, Reason::MissingPoint),
         (&TWO, Kind::Font, &[0], 2, Reason::MissingPoint),
         (&[0x18], Kind::Font, &[0], 1, Reason::MissingPoint),
@@ -268,7 +275,14 @@ fn certificate_of_turns(alloc: Global, count: u16) -> Option<Certificate> {
 fn answer_of_turns(alloc: Global, program: &[u8], count: u16) -> Option<Answer> {
     let family = certificate_of_turns(alloc, count)?;
     let function = [0xb0, 0x00, 0x2c, 0x2d];
-    checked(alloc, (&function, &[], program), GLYPH, &[(0, 3)], &family, Asked::Whole)
+    checked(
+        alloc,
+        (&function, &[], program),
+        GLYPH,
+        &[(0, 3)],
+        &family,
+        Asked::Whole,
+    )
 }
 
 #[test]
@@ -334,7 +348,14 @@ fn certificate_with_rp0(alloc: Global) -> Option<Certificate> {
 /// What the check tells of RTG alone.
 fn answer_of_one(alloc: Global, kind: Kind, family: Option<Certificate>) -> Option<Answer> {
     let family = family?;
-    checked(alloc, (&[0x18], &[0x18], &[0x18]), kind, &[], &family, Asked::Whole)
+    checked(
+        alloc,
+        (&[0x18], &[0x18], &[0x18]),
+        kind,
+        &[],
+        &family,
+        Asked::Whole,
+    )
 }
 
 #[test]

@@ -6,7 +6,7 @@ ghost use Rattle.tt_abs.specs.States.{state_order};
 
 use std::alloc::{AllocError, Global};
 use tt_abs::{Cell, State};
-use tt_cert::{BuildFault, Builder, Certificate, States};
+use tt_cert::{Builder, Certificate, ContextFault, JoinFault, Joined, States};
 use tt_code::Frame;
 
 /// A state of a table: its context, its offset and the numbers on its stack, the bottom first.
@@ -41,9 +41,9 @@ pub(crate) fn state_of(
 }
 
 /// Adds a context below one that is there.
-pub(crate) fn add(builder: &mut Builder, parent: u32, frame: Frame) -> Result<u32, BuildFault> {
+pub(crate) fn add(builder: &mut Builder, parent: u32, frame: Frame) -> Result<u32, ContextFault> {
     if parent >= builder.contexts() {
-        return Err(BuildFault::TooManyContexts);
+        return Err(ContextFault::TooManyContexts);
     }
     builder.add_context(parent, frame)
 }
@@ -64,11 +64,11 @@ pub(crate) fn join(
     context: u32,
     offset: u32,
     state: &State,
-) -> Result<bool, BuildFault>
+) -> Result<Joined, JoinFault>
     requires { state_order.InRange state.now }
 {
     if context >= builder.contexts() {
-        return Err(BuildFault::TooManyContexts);
+        return Err(JoinFault::OutOfMemory);
     }
     builder.join_state(context, offset, state)
 }
@@ -79,12 +79,12 @@ pub(crate) fn put(
     builder: &mut Builder,
     functions: &[(u16, u32)],
     row: Row<'_>,
-) -> Result<bool, BuildFault>
+) -> Result<Joined, JoinFault>
     requires { Rises functions.now }
 {
     match state_of(alloc, functions, row.2) {
         Ok(state) => join(builder, row.0, row.1, &state),
-        Err(_) => Err(BuildFault::OutOfMemory),
+        Err(_) => Err(JoinFault::OutOfMemory),
     }
 }
 

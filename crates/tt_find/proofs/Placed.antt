@@ -1,13 +1,12 @@
 -- The states at points where one was put.
-use Rattle.std.specs.Prelude.{◌≡◌, ◌≢◌, ℕ, ◌+◌, ◌<◌, Bool, Option, Some, None, length}
+use Rattle.std.specs.Prelude.{◌≡◌, ◌≢◌, ℕ, ◌<◌, Bool, Option, Some, None, length}
 use Rattle.std.proofs.Common.{sym, ◌∙◌, ap, arith}
 use Rattle.tt_abs.specs.declared.state.State.{State}
 use Rattle.tt_abs.specs.Orders.{Order}
 use Rattle.tt_abs.specs.StateFlow.{Place}
-use Rattle.tt_cert.specs.Contents.{Contents, IsFamily, family_of, frames_at, points_of, total}
+use Rattle.tt_cert.specs.Contents.{Contents, IsFamily, family_of, frames_at}
 use Rattle.tt_cert.specs.Places.{PutGives, PutsAt, states_of}
-use Rattle.tt_cert.specs.Puts.{Reweighs, family_at, place_of, weigh}
-use Rattle.tt_find.proofs.Budget.{sum_ones}
+use Rattle.tt_cert.specs.Puts.{family_at, place_of}
 
 module _ (o : Order State) (v v' : Contents) (c off : ℕ) (t : State) (changed : Bool) (lt : c < length v.contexts) (put : PutsAt o (family_of v) (family_of v') (place_of v c off) t changed)
     (same : v'.contexts ≡ v.contexts) (family' : IsFamily v') where
@@ -18,17 +17,13 @@ module _ (o : Order State) (v v' : Contents) (c off : ℕ) (t : State) (changed 
       (λ i. family_of v' (frames_at (sym same i) c', off')) ∙ family_at v' c' off' family' (omega arith)
 
   -- a state that was put at a new point is there
-  pub put_new : Reweighs v v' (place_of v c off) → points_of v' ≢ points_of v → states_of v'.states (c, off) ≡ Some t
-  put_new sums more = sym (moved c off lt) ∙ go (family_of v (place_of v c off)) (family_of v' (place_of v c off)) put.here (sums (λ _. 1))
+  pub put_new : family_of v (place_of v c off) ≡ None → states_of v'.states (c, off) ≡ Some t
+  put_new none = sym (moved c off lt) ∙ go (family_of v (place_of v c off)) (family_of v' (place_of v c off)) none put.here
     where
-      go : (x y : Option State) → PutGives o x t y changed → total (λ _. 1) v' + weigh (λ _. 1) x ≡ total (λ _. 1) v + weigh (λ _. 1) y → y ≡ Some t
-      go None None gives e = absurd gives
-      go None (Some u) gives e = ap Some gives.0
-      go (Some a) None gives e = absurd gives
-      go (Some a) (Some u) gives e =
-          let ones = sum_ones v.states in
-          let ones' = sum_ones v'.states in
-          absurd (more (omega arith))
+      go : (x y : Option State) → x ≡ None → PutGives o x t y changed → y ≡ Some t
+      go None None e gives = absurd gives
+      go None (Some u) e gives = ap Some gives.0
+      go (Some a) y e gives = absurd (cc)
 
   -- the states elsewhere stay
   pub put_elsewhere : IsFamily v → (c' off' : ℕ) (s : State) → ◌≢◌ {A = ℕ × ℕ} (c', off') (c, off) → states_of v.states (c', off') ≡ Some s → states_of v'.states (c', off') ≡ Some s

@@ -13,7 +13,7 @@ use crate::table::{Table, refused_at};
 use crate::walk::Walk;
 use std::alloc::AllocError;
 use tt_abs::{Moves, Point, Refusal, Setting, step_at};
-use tt_cert::{BuildFault, Builder};
+use tt_cert::{Builder, ContextFault};
 use tt_code::Reason;
 
 /// Where the state at a point leads; with what it leads there the walk holds then. None where there is no state, and at the main
@@ -31,7 +31,7 @@ fn carried(
     ensures walk { IfOk result (λ _. IsWalk builder.now walk.new) }
     ensures refused { IfErr result (NamesPlace (IsRefusedAt (setting_of setting.now) (family_of builder.now) (place_of builder.now context offset))) }
 {
-    builder.contexts();
+    builder.is_family();
     walk.go_to(builder, context)?;
     let found = walk.take(builder, context, offset)?;
     if !found {
@@ -84,11 +84,13 @@ pub(crate) fn follow(
         Moves::One(way) => {
             let (number, at) = match reach(&mut table.builder, context, way) {
                 Ok(place) => place,
-                Err(BuildFault::TooManyContexts) => {
+                Err(ContextFault::TooManyContexts) => {
                     let reason = Reason::TooManyContexts;
                     return Err(refused_at(&table.builder, context, offset, reason));
                 }
-                Err(_) => return Err(FindFault::OutOfMemory(AllocError)),
+                Err(ContextFault::OutOfMemory) => {
+                    return Err(FindFault::OutOfMemory(AllocError));
+                }
             };
             walk.put(table, number, at)
         }

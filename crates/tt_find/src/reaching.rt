@@ -8,19 +8,19 @@ ghost use Rattle.tt_find.specs.Tables.{IsCountable};
 
 use tt_abs::Move;
 use tt_abs::setting::body_offset;
-use tt_cert::{BuildFault, Builder};
+use tt_cert::{Builder, ContextFault};
 use tt_code::Frame;
 
 /// The point where a call's body begins, whose context is added where it isn't there.
 ///
 /// # Errors
 /// As `Builder::add_context`.
-fn enter(builder: &mut Builder, parent: u32, frame: Frame) -> Result<(u32, u32), BuildFault>
+fn enter(builder: &mut Builder, parent: u32, frame: Frame) -> Result<(u32, u32), ContextFault>
     requires there { parent < length builder.old.contexts }
     ensures added { IfOk result (λ at. AddsContext builder.old.contexts builder.new.contexts (frame ∷ frames_at builder.old.contexts parent) at.0) }
     ensures offset { IfOk result (λ at. at.1 ≡ offset_of_body frame.body) }
     ensures states { builder.new.states ≡ builder.old.states }
-    ensures full { result ≡ Err BuildFault.TooManyContexts → (HasContext builder.old.contexts (frame ∷ frames_at builder.old.contexts parent) → ⊥) × (length builder.old.contexts ≡ 65535) }
+    ensures full { result ≡ Err ContextFault.TooManyContexts → (HasContext builder.old.contexts (frame ∷ frames_at builder.old.contexts parent) → ⊥) × (length builder.old.contexts ≡ 65535) }
     ensures kept { OnErr result (builder.new ≡ builder.old) }
     ensures family { IsFamily builder.new }
 {
@@ -38,17 +38,17 @@ pub(crate) fn reach(
     builder: &mut Builder,
     context: u32,
     way: Move,
-) -> Result<(u32, u32), BuildFault>
+) -> Result<(u32, u32), ContextFault>
     requires there { context < length builder.old.contexts }
     requires countable { IsCountable builder.old.contexts context }
     ensures added { IfOk result (λ at. AddsContext builder.old.contexts builder.new.contexts (frames_behind (frames_at builder.old.contexts context) way) at.0) }
     ensures offset { IfOk result (λ at. at.1 ≡ offset_behind (frames_at builder.old.contexts context) way) }
     ensures states { builder.new.states ≡ builder.old.states }
-    ensures full { result ≡ Err BuildFault.TooManyContexts → (HasContext builder.old.contexts (frames_behind (frames_at builder.old.contexts context) way) → ⊥) × (length builder.old.contexts ≡ 65535) }
+    ensures full { result ≡ Err ContextFault.TooManyContexts → (HasContext builder.old.contexts (frames_behind (frames_at builder.old.contexts context) way) → ⊥) × (length builder.old.contexts ≡ 65535) }
     ensures kept { OnErr result (builder.new ≡ builder.old) }
     ensures family { IsFamily builder.new }
 {
-    builder.contexts();
+    builder.is_family();
     match way {
         Move::To(offset) => Ok((context, offset)),
         Move::Enter(frame) => enter(builder, context, frame),

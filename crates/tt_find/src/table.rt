@@ -1,6 +1,6 @@
 //! The family so far, and what is still to be carried on.
 
-ghost use Rattle.std.specs.Prelude.{◌≡◌, ◌<◌, IfOk, IfErr, IsTrue, Some, length};
+ghost use Rattle.std.specs.Prelude.{◌≡◌, ◌<◌, IfOk, IfErr, Some, length};
 ghost use Rattle.tt_abs.specs.States.{state_order};
 ghost use Rattle.tt_cert.specs.Contents.{family_of, frames_at};
 ghost use Rattle.tt_cert.specs.Places.{states_of};
@@ -13,7 +13,7 @@ use crate::fault::FindFault;
 use crate::marks::Marks;
 use std::alloc::{AllocError, Global};
 use tt_abs::State;
-use tt_cert::{BuildFault, Builder};
+use tt_cert::{Builder, JoinFault, Joined};
 use tt_code::Reason;
 
 /// The family so far, the points whose state is new or has changed, each as its context's number and its offset, and how many updates
@@ -51,8 +51,8 @@ impl Table {
         }
     }
 
-    /// Puts a state at a point, and answers whether the point is new. If it is, or if the state makes a change, the point is marked, and one
-    /// update counted.
+    /// Puts a state at a point, and answers what that makes of the one there. If it is another one than before, the point is marked, and
+    /// one update counted.
     ///
     /// # Errors
     /// `Refused` for a state of another depth, at the point; `OutOfMemory`.
@@ -61,29 +61,28 @@ impl Table {
         context: u32,
         offset: u32,
         state: &State,
-    ) -> Result<bool, FindFault>
+    ) -> Result<Joined, FindFault>
         requires there { context < length self.old.builder.contexts }
         requires in_range { state_order.InRange state.now }
         requires room { self.old.updates < 18446744073709551615 }
         ensures put { IfOk result (λ _. IsPut self.old self.new context offset state.now) }
-        ensures new { IfOk result (λ new. IsTrue new → states_of self.new.builder.states (context, offset) ≡ Some state.now) }
+        ensures new { IfOk result (λ joined. joined ≡ Joined.New → states_of self.new.builder.states (context, offset) ≡ Some state.now) }
         ensures apart { IfErr result (NamesPlace (IsApart (family_of self.old.builder) (place_of self.old.builder context offset) state.now)) }
     {
-        let points = self.builder.points();
-        let changed = match self.builder.join_state(context, offset, state) {
-            Ok(changed) => changed,
-            Err(BuildFault::DepthMismatch) => {
+        let joined = match self.builder.join_state(context, offset, state) {
+            Ok(joined) => joined,
+            Err(JoinFault::DepthMismatch) => {
                 return Err(refused_at(&self.builder, context, offset, Reason::DepthMismatch));
             }
-            Err(_) => return Err(FindFault::OutOfMemory(AllocError)),
+            Err(JoinFault::OutOfMemory) => return Err(FindFault::OutOfMemory(AllocError)),
         };
-        if !changed {
-            return Ok(false);
+        if !joined.is_change() {
+            return Ok(joined);
         }
         if let Err(_) = self.marked.insert((context, offset)) {
             return Err(FindFault::OutOfMemory(AllocError));
         }
         self.updates += 1;
-        Ok(self.builder.points() != points)
+        Ok(joined)
     }
 }

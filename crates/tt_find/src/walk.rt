@@ -13,7 +13,7 @@ use crate::fault::FindFault;
 use crate::table::Table;
 use std::alloc::{AllocError, Global};
 use tt_abs::State;
-use tt_cert::Builder;
+use tt_cert::{Builder, Joined};
 use tt_code::Frame;
 
 /// The calls of a context, the outermost first, and a state in whose memory the state at a point is carried on.
@@ -118,13 +118,13 @@ impl Walk {
         ensures state { self.new.state ≡ self.old.state }
         ensures walk { IfOk result (λ _. IsWalk table.new.builder self.new) }
     {
-        table.builder.contexts();
-        let new = match table.put(context, offset, &self.state) {
-            Ok(new) => new,
+        table.builder.is_family();
+        let joined = match table.put(context, offset, &self.state) {
+            Ok(joined) => joined,
             Err(fault) => return Err(fault),
         };
         if self.known.is_none() {
-            if new {
+            if let Joined::New = joined {
                 self.known = Some((context, offset));
             }
         } else if self.is_at(context, offset) {

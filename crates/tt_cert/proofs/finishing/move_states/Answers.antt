@@ -1,10 +1,11 @@
 use Rattle.std.proofs.Common.{sym, subst, List, ◌∙◌}
 use Rattle.std.proofs.lemmas.Option.{slice_get-get_or}
 use Rattle.tt_code.specs.declared.machine.Frame.{Frame}
+use Rattle.tt_cert.specs.Joins.{is_change}
 use Rattle.tt_cert.specs.Rising.{AreMoved}
 use Rattle.tt_cert.proofs.Amounts.{amount_step, next_free, none_there}
 use Rattle.tt_cert.proofs.Moves.{next_context, next_range, moved_there, HasSoFar-step}
-use Rattle.tt_cert.proofs.Renumbering.{memory_only}
+use Rattle.tt_cert.proofs.Renumbering.{no_state_memory}
 use Rattle.tt_cert.proofs.finishing.move_states.Goals as goal
 
 pub bounds-numbers-context : goal.bounds-numbers-context
@@ -31,7 +32,7 @@ returns-in_err-join_state-clause-memory c =
     let free = next_free c.args.old.now c.loop-context.new c.args.numbers.now (c.in-Some.context, c.in-Some.offset) c.in-Some.state.now _ c.states-states.ensures.family
     (subst M (sym c.loop-context.invariant.contexts) c.requires.moved) c.states-states.ensures.found c.states-states.ensures.rises
     (slice_get-get_or c.args.numbers.now c.in-Some.context 0 within) _ _ c.loop-context.invariant.same c.in-Some.ensures.some in
-    memory_only c.join_state.result c.from_residual.result c.in_err-join_state.field-0.0 c.in_err-join_state.was c.join_state.ensures.few
+    no_state_memory c.join_state.result c.from_residual.result c.in_err-join_state.field-0.0 c.in_err-join_state.was
     (λ deep. let (s, at, _) = c.join_state.ensures.depth deep in none_there _ s free at) c.from_residual.ensures.1
 
 pub loop-context-preserved : goal.loop-context-preserved
@@ -47,8 +48,8 @@ loop-context-preserved c =
       family = c.in_ok-join_state.ensures.family;
       contexts = c.in_ok-join_state.ensures.contexts ∙ c.loop-context.invariant.contexts;
       same = HasSoFar-step c.args.old.now c.loop-context.new c.join_state.new.self c.args.numbers.now (c.in-Some.context, c.in-Some.offset) c.in-Some.state.now _
-          c.in_ok-join_state.field-0 c.states-states.ensures.family moved c.states-states.ensures.found known
+          (is_change c.in_ok-join_state.field-0) c.states-states.ensures.family moved c.states-states.ensures.found known
           c.in_ok-join_state.ensures.put _ _ c.loop-context.invariant.same c.in-Some.ensures.some;
-      points = amount_step c.args.old.now c.loop-context.new c.join_state.new.self _ c.in-Some.state.now c.in_ok-join_state.field-0 free
+      points = amount_step c.args.old.now c.loop-context.new c.join_state.new.self _ c.in-Some.state.now (is_change c.in_ok-join_state.field-0) free
           c.in_ok-join_state.ensures.put c.in_ok-join_state.ensures.sums _ _ ((c.in-Some.context, c.in-Some.offset), c.in-Some.state.now) c.in-Some.ensures.some c.loop-context.invariant.points;
     }

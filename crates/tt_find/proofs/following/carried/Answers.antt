@@ -22,15 +22,15 @@ returns-in-Ok-clause-carried c =
     let at = c.in_ok-found.ensures.some c.if-not-found.false in
     record {
       state = a;
-      found = family_at c.args.builder.now c.args.context c.args.offset c.contexts.ensures.family c.requires.there ∙ at;
+      found = family_at c.args.builder.now c.args.context c.args.offset c.is_family.ensures c.requires.there ∙ at;
       running = ap (λ f. is_main_end S f c.args.offset) (sym back) ∙ sym c.is_end.ensures ∙ c.if-is_end.false;
       result = outcome_moved S fs (reverse c.as_slice.result.now) c.args.offset c.args.offset a a back refl refl c.in-Ok.step.moves c.step_at.new.state c.in-Ok.ensures.ok;
-      in_range = c.in-Ok.ensures.in_range (c.contexts.ensures.family.in_range c.args.context c.args.offset a at);
+      in_range = c.in-Ok.ensures.in_range (c.is_family.ensures.in_range c.args.context c.args.offset a at);
     }
 
 pub returns-then-not-found-clause-carried : goal.returns-then-not-found-clause-carried
 returns-then-not-found-clause-carried c = λ a at.
-    let none = family_at c.args.builder.now c.args.context c.args.offset c.contexts.ensures.family c.requires.there ∙ c.in_ok-found.ensures.none c.if-not-found.true in
+    let none = family_at c.args.builder.now c.args.context c.args.offset c.is_family.ensures c.requires.there ∙ c.in_ok-found.ensures.none c.if-not-found.true in
     let no_such : None ≡ Some a = sym none ∙ at in
     absurd (cc)
 
@@ -45,7 +45,7 @@ returns-in-Err-Refused-clause-refused c =
     names_at (IsRefusedAt S (family_of c.args.builder.now) p) p c.in-Err-Refused.reason c.refused_at.result c.refused_at.ensures (record {
       place = refl;
       state = a;
-      found = family_at c.args.builder.now c.args.context c.args.offset c.contexts.ensures.family c.requires.there ∙ c.in_ok-found.ensures.some c.if-not-found.false;
+      found = family_at c.args.builder.now c.args.context c.args.offset c.is_family.ensures c.requires.there ∙ c.in_ok-found.ensures.some c.if-not-found.false;
       refused = record {
         running = ap (λ f. is_main_end S f c.args.offset) (sym back) ∙ sym c.is_end.ensures ∙ c.if-is_end.false;
         refused = subst O back (rw c.in-Err-Refused.field-0-is at c.in-Err-Refused.ensures.refused);

@@ -1,4 +1,4 @@
-use Rattle.tt_cert.proofs.Putting.{joined_built, joined_puts, joined_sums, joined_depth, joined_joined}
+use Rattle.tt_cert.proofs.Putting.{joined_built, joined_new, joined_puts, joined_sums, joined_depth, joined_joined}
 use Rattle.tt_cert.proofs.builder.Builder.join_state.Goals as goal
 
 pub invariant_of-self : goal.invariant_of-self
@@ -10,6 +10,11 @@ pub returns-clause-put : goal.returns-clause-put
 returns-clause-put c =
     joined_puts _ _ _ _ c.self.view_is c.self.invariant c.join.new.self c.args.context c.args.offset c.requires.there c.args.state.now c.requires.theirs
     c.join.result c.join.ensures.put
+
+pub returns-clause-new : goal.returns-clause-new
+returns-clause-new c =
+    joined_new _ _ _ _ c.self.view_is c.self.invariant c.join.new.self c.args.context c.args.offset c.requires.there c.args.state.now c.requires.theirs
+    c.join.result c.join.ensures.new
 
 pub returns-clause-sums : goal.returns-clause-sums
 returns-clause-sums c =

@@ -1,4 +1,4 @@
-use Rattle.std.proofs.Common.{sym, arith, slice_set}
+use Rattle.std.proofs.Common.{refl, sym, ◌∙◌, arith, slice_set}
 use Rattle.tt_cert.proofs.Tables.{slot_there, state_found, none_found, length-table, one_depth, PutsAt-set, Reweighs-set}
 use Rattle.tt_cert.proofs.state_table.StateTable.join.Goals as goal
 
@@ -23,8 +23,9 @@ returns-in_default-join-clause-depth c = λ _. (
 
 pub returns-in-Some-clause-put : goal.returns-in-Some-clause-put
 returns-in-Some-clause-put c =
-    PutsAt-set c.self.inside.slots.items c.self.inside.places c.self.invariant (c.args.context, c.args.offset) c.in-Some.number c.in-Some.ensures
-    _ c.self.view_is c.index_mut-slot.result.now c.index_mut-slot.ensures.value c.join.new.self c.args.state.now c.in-Ok.changed c.in-Ok.ensures.least c.in-Ok.ensures.unchanged
+    rw c.of.ensures.change
+    (PutsAt-set c.self.inside.slots.items c.self.inside.places c.self.invariant (c.args.context, c.args.offset) c.in-Some.number c.in-Some.ensures
+    _ c.self.view_is c.index_mut-slot.result.now c.index_mut-slot.ensures.value c.join.new.self c.args.state.now c.in-Ok.changed c.in-Ok.ensures.least c.in-Ok.ensures.unchanged)
 
 pub returns-in-Some-clause-sums : goal.returns-in-Some-clause-sums
 returns-in-Some-clause-sums c =
@@ -45,3 +46,12 @@ returns-in-Some-clause-fits c =
 
 pub add-requires : goal.add-requires
 add-requires c = none_found _ _ c.self.invariant _ c.self.view_is (c.args.context, c.args.offset) c.in_default.ensures
+
+pub returns-in-Some-clause-new : goal.returns-in-Some-clause-new
+returns-in-Some-clause-new c =
+    let found = state_found _ _ c.self.invariant _ c.self.view_is (c.args.context, c.args.offset) c.in-Some.number c.in-Some.ensures c.index_mut-slot.result.now
+    c.index_mut-slot.ensures.value in
+    ((λ new. absurd (c.of.ensures.there new)), (λ none. let no_such = found ∙ none in absurd (cc)))
+
+pub returns-clause-new : goal.returns-clause-new
+returns-clause-new c = ((λ _. none_found _ _ c.self.invariant _ c.self.view_is (c.args.context, c.args.offset) c.in_default.ensures), (λ _. refl))

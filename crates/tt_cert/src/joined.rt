@@ -1,0 +1,39 @@
+//! What a put of a state makes of the one at its point.
+
+ghost use Rattle.std.specs.Prelude.{◌≡◌, ◌≢◌};
+ghost use Rattle.tt_cert.specs.Joins.{is_change as is_change_of};
+
+/// What a put of a state makes of the one at its point.
+#[derive(Clone, Copy, Debug, PartialEq, Eq)]
+pub enum Joined {
+    /// There was none, and this one is there now.
+    New,
+    /// It has risen.
+    Changed,
+    /// It is as it was.
+    Same,
+}
+
+impl Joined {
+    /// After a join with a state that was there, which changed that or didn't.
+    pub(crate) fn of(changed: bool) -> Joined
+        ensures change { is_change_of result ≡ changed }
+        ensures there { result ≢ Joined.New }
+    {
+        if changed {
+            Joined::Changed
+        } else {
+            Joined::Same
+        }
+    }
+
+    /// Is the state at the point another one than before?
+    pub fn is_change(self) -> bool
+        ensures { result ≡ is_change_of self }
+    {
+        match self {
+            Joined::Same => false,
+            _ => true,
+        }
+    }
+}
