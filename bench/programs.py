@@ -71,6 +71,20 @@ def back_to_start() -> bytes:
     return program
 
 
+def into_a_way(first: int, last: int, step: int) -> bytes:
+    """A straight way of 8,000 instructions, and after it 4,000 conditional jumps to places inside, from the first to the last."""
+    program = b"\x18" * 8_000
+    for target in range(first, last, step):
+        here = len(program)
+        program += b"\xb8" + struct.pack(">h", target - (here + 4)) + b"\x4b\x78"
+    return program
+
+
+def deep() -> bytes:
+    """51,000 cells, and a straight way of 14,000 instructions over them."""
+    return (b"\x40\xff" + bytes(255)) * 200 + b"\x18" * 14_000
+
+
 def turns(count: int) -> bytes:
     """LOOPCALL of function 0 with so many turns, 65,534 or a few more."""
     return b"\xb9\x7f\xff\x7f\xff\x60\xb0" + bytes([count - 65_534]) + b"\x60\xb0\x00\x2a"
@@ -81,7 +95,11 @@ CASES = {
     "a loop over 28,000 bytes": font(storing()),
     "1,000 cells rise one by one": font(rising()),
     "8,000 jumps back to the start": font(back_to_start()),
+    "4,000 jumps into a way, rising": font(into_a_way(1, 8_000, 2)),
+    "4,000 jumps into a way, falling": font(into_a_way(7_999, 0, -2)),
+    "51,000 cells over a straight way": font(deep(), stack=65_535),
     "LOOPCALL of 65,534 turns": font(turns(65_534), b"\xb0\x00\x2c\x2d"),
+    "65,534 turns of 20 instructions": font(turns(65_534), b"\xb0\x00\x2c" + b"\x18" * 20 + b"\x2d"),
     "LOOPCALL of 65,535 turns": font(turns(65_535), b"\xb0\x00\x2c\x2d"),
 }
 
