@@ -11,13 +11,17 @@ use Rattle.tt_abs.specs.declared.state.State.{State}
 use Rattle.tt_abs.specs.Families.{CoversAt}
 use Rattle.tt_abs.specs.Lines.{Precedes}
 use Rattle.tt_abs.specs.StateFlow.{Place, GivesState, RefusesState}
-use Rattle.tt_abs.specs.States.{start_of, state_order}
+use Rattle.tt_abs.specs.Moves.{frames_behind, nexts_of, offset_behind}
+use Rattle.tt_abs.specs.States.{abstract_of, start_of, state_order}
+use Rattle.tt_abs.specs.declared.moves.Move.{Move}
+use Rattle.tt_abs.specs.declared.moves.Moves.{Moves}
 use Rattle.tt_abs.specs.Transfers.{Next}
 use Rattle.tt_cert.specs.Contents.{Contents, HasContext, family_of, frames_at}
 use Rattle.tt_cert.specs.GoodFamilies.{EndsWell, IsShortEnough}
 use Rattle.tt_cert.specs.Places.{IsLess, place_cmp, states_of}
 use Rattle.tt_cert.specs.Puts.{place_of}
-use Rattle.tt_cert.specs.Checks.{AreCovered, AreMet, IsFilledBy, IsSoundAt, Nowhere, key_of, place_of_next}
+use Rattle.tt_cert.specs.Checks.{AreCovered, AreMet, BreaksAt, IsBrokenBy, IsFilledBy, IsFirstBreakOnTheWay, IsFirstGap, IsGap, IsSoundAt, Names, NamesAt, Nowhere, key_of, place_of_next}
+use Rattle.tt_cert.specs.declared.checking.CheckFault.{CheckFault}
 use Rattle.tt_cert.specs.declared.listing.Listing.{Listing}
 use Rattle.tt_cert.specs.declared.listing.Listing.TheVariants.{Whole, Sparse}
 use Rattle.tt_cert.specs.declared.meeting.Met.{Met}
@@ -176,3 +180,63 @@ pub record IsFoundSound (s : Setting) (functions : List (ℕ × ℕ)) (listing :
   pub start : CoversAt state_order (family_of contents) ([], 0) (start_of functions)
   pub ends : EndsWell s s.kind (family_of contents)
   pub through : IsWalkedThrough s listing contents
+
+-- What the check's contracts say of a walk.
+
+-- the calls of the walk's context, the innermost first
+abbrev pub calls_of : Contents → Walk → List Frame
+calls_of contents walk = frames_at contents.contexts walk.context
+
+-- the point of the walk's context at an offset
+abbrev pub point_of : Contents → Walk → ℕ → Place
+point_of contents walk offset = place_of contents walk.context offset
+
+-- the place to which a move leads from the walk's context
+abbrev pub place_behind : Contents → Walk → Move → Place
+place_behind contents walk way = (frames_behind (calls_of contents walk) way, offset_behind (calls_of contents walk) way)
+
+-- what was made, at the places to which moves lead
+abbrev pub nexts_made : Contents → Walk → Moves → List Next
+nexts_made contents walk moves = nexts_of (calls_of contents walk) moves (abstract_of walk.made)
+
+-- what was made is met so at a place, where it may be left out if that is at the offset `after`
+abbrev pub IsMadeMet : Contents → Walk → Option ℕ → Place → Met → Type 0
+IsMadeMet contents walk after q = IsMetBy (family_of contents) (IsAfter (calls_of contents walk) after q) walk.next q walk.made
+
+-- the fault names the place, at which what was made isn't met
+abbrev pub NamesGapMade : Contents → Walk → Option ℕ → Place → CheckFault → Type 0
+NamesGapMade contents walk after q = NamesAt q (IsGap (family_of contents) (IsAfter (calls_of contents walk) after q) q walk.made)
+
+-- what was made is met so at all places to which moves lead
+abbrev pub AreMadeMet : Contents → Walk → Option ℕ → Moves → Met → Type 0
+AreMadeMet contents walk after moves = AreMetBy (family_of contents) (calls_of contents walk) after walk.next (nexts_made contents walk moves) walk.made
+
+-- the fault names the first of them at which it isn't
+abbrev pub NamesFirstGapMade : Contents → Walk → Option ℕ → Moves → CheckFault → Type 0
+NamesFirstGapMade contents walk after moves = Names (IsFirstGap (family_of contents) (IsAfter (calls_of contents walk) after) (nexts_made contents walk moves) walk.made)
+
+-- where a state may be left out, the certificate has none unless that comes next or before
+abbrev pub IsUnlistedAfter : Contents → Walk → Option ℕ → Type 0
+IsUnlistedAfter contents walk after = (end : ℕ) → after ≡ Some end → IsUnlisted contents walk.next walk.context end
+
+-- and that isn't at a body's start
+abbrev pub IsPastStart : Option ℕ → Type 0
+IsPastStart after = (end : ℕ) → after ≡ Some end → 0 < end
+
+-- what was made is sound at the walk's point, and what comes of it is covered or carried
+abbrev pub PassesPoint : Setting → Listing → Contents → Walk → Walk → ℕ → Type 0
+PassesPoint s listing contents old new offset =
+    IsPassed s (family_of contents) (MayLeaveOut listing s (point_of contents old offset)) (point_of contents old offset) old.made new.carried new.made
+
+-- the fault names what is broken first of what was made there
+abbrev pub NamesBreak : Setting → Listing → Contents → Walk → ℕ → CheckFault → Type 0
+NamesBreak s listing contents walk offset =
+    Names (BreaksAt s (family_of contents) (MayLeaveOut listing s (point_of contents walk offset)) (point_of contents walk offset) walk.made)
+
+-- the fault names what is broken first in the order of the walk
+abbrev pub NamesFirstBreak : Setting → Listing → Contents → CheckFault → Type 0
+NamesFirstBreak s listing contents = Names (IsFirstBreakOnTheWay s (MayLeaveOut listing s) contents)
+
+-- or before it begins
+abbrev pub NamesFirst : Setting → List (ℕ × ℕ) → Listing → Contents → CheckFault → Type 0
+NamesFirst s functions listing contents = Names (IsBrokenBy s functions contents (IsFirstBreakOnTheWay s (MayLeaveOut listing s) contents))

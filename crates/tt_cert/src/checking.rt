@@ -9,12 +9,11 @@ ghost use Rattle.tt_abs.specs.Settings.{frames_of, setting_of};
 ghost use Rattle.tt_abs.specs.Soundness.{IsSafe};
 ghost use Rattle.tt_abs.specs.StateFlow.{Place};
 ghost use Rattle.tt_abs.specs.States.{state_order};
-ghost use Rattle.tt_cert.specs.Checks.{AreToldBefore, BreaksAt, IsBrokenBy, IsBrokenFirst, IsFillingBrokenFirst, IsFirstBreakOnTheWay, IsGap, IsWantOfMemory, Names, NamesAt};
+ghost use Rattle.tt_cert.specs.Checks.{AreToldBefore, IsBrokenFirst, IsFillingBrokenFirst, IsGap, IsWantOfMemory, Names, NamesAt};
 ghost use Rattle.tt_cert.specs.Contents.{family_of};
 ghost use Rattle.tt_cert.specs.Fillings.{HasGoodFilling, HasOneGoodFilling, HasSafeFilling};
 ghost use Rattle.tt_cert.specs.GoodFamilies.{EndsWell, HasEnd, IsGoodFamily, IsShortEnough};
-ghost use Rattle.tt_cert.specs.Puts.{place_of};
-ghost use Rattle.tt_cert.specs.Walks.{AreToCome, AreUnlisted, IsAfter, IsFoundSound, IsPassed, IsWalk, IsWalkedThrough, MayLeaveOut, to_come};
+ghost use Rattle.tt_cert.specs.Walks.{AreToCome, AreUnlisted, IsAfter, IsFoundSound, IsWalk, IsWalkedThrough, MayLeaveOut, NamesBreak, NamesFirst, NamesFirstBreak, PassesPoint, to_come};
 
 use crate::builder::Builder;
 use crate::certificate::Certificate;
@@ -145,8 +144,8 @@ fn check_point(
     requires told { AreToldBefore certificate.now walk.old.context }
     requires in_range { state_order.InRange walk.old.made }
     requires unlisted { AreUnlisted certificate.now walk.old.next walk.old.context offset }
-    ensures passed { IfOk result (λ _. IsPassed (setting_of setting.now) (family_of certificate.now) (MayLeaveOut listing (setting_of setting.now) (place_of certificate.now walk.old.context offset)) (place_of certificate.now walk.old.context offset) walk.old.made walk.new.carried walk.new.made) }
-    ensures broken { IfErr result (Names (BreaksAt (setting_of setting.now) (family_of certificate.now) (MayLeaveOut listing (setting_of setting.now) (place_of certificate.now walk.old.context offset)) (place_of certificate.now walk.old.context offset) walk.old.made)) }
+    ensures passed { IfOk result (λ _. PassesPoint (setting_of setting.now) listing certificate.now walk.old walk.new offset) }
+    ensures broken { IfErr result (NamesBreak (setting_of setting.now) listing certificate.now walk.old offset) }
     ensures walk { IfOk result (λ _. IsWalk certificate.now walk.new) }
     ensures next { walk.new.next ≡ walk.old.next }
     ensures context { walk.new.context ≡ walk.old.context }
@@ -195,7 +194,7 @@ fn check_points<'a>(
     requires all { certificate.now.states ≡ to_come walk.old.next states }
     requires carried { walk.old.carried ≡ None }
     ensures sound { IfOk result (λ _. IsWalkedThrough (setting_of setting.now) listing certificate.now) }
-    ensures broken { IfErr result (Names (IsFirstBreakOnTheWay (setting_of setting.now) (MayLeaveOut listing (setting_of setting.now)) certificate.now)) }
+    ensures broken { IfErr result (NamesFirstBreak (setting_of setting.now) listing certificate.now) }
 {
     certificate.is_in_order();
     while let Some(offset) = walk.go_on(certificate, &mut states)? {
@@ -218,7 +217,7 @@ fn check_listed(
 ) -> Result<(), CheckFault>
     requires rises { Rises setting.now.start.now }
     ensures sound { IfOk result (λ _. IsFoundSound (setting_of setting.now) setting.now.start.now listing certificate.now) }
-    ensures first { IfErr result (Names (IsBrokenBy (setting_of setting.now) setting.now.start.now certificate.now (IsFirstBreakOnTheWay (setting_of setting.now) (MayLeaveOut listing (setting_of setting.now)) certificate.now))) }
+    ensures first { IfErr result (NamesFirst (setting_of setting.now) setting.now.start.now listing certificate.now) }
 {
     certificate.is_in_order();
     if !is_short(setting) {

@@ -1,13 +1,11 @@
 //! How a state is met at the places to which it goes.
 
-ghost use Rattle.std.specs.Prelude.{◌≡◌, ◌<◌, ℕ, IfErr, IfOk, IsTrue, None, Some, length};
-ghost use Rattle.tt_abs.specs.Moves.{frames_behind, nexts_of, offset_behind};
-ghost use Rattle.tt_abs.specs.States.{abstract_of};
-ghost use Rattle.tt_cert.specs.Checks.{AreToldBefore, HasNextTurn, IsFirstGap, IsGap, Names, NamesAt, told_offset};
-ghost use Rattle.tt_cert.specs.Spots.{spot_of};
+ghost use Rattle.std.specs.Prelude.{◌≡◌, ◌<◌, IfErr, IfOk, IsTrue, Some, length};
+ghost use Rattle.tt_cert.specs.Checks.{AreToldBefore, HasNextTurn, IsGap, NamesAt, told_offset};
 ghost use Rattle.tt_cert.specs.Contents.{family_of, frames_at};
 ghost use Rattle.tt_cert.specs.Puts.{place_of};
-ghost use Rattle.tt_cert.specs.Walks.{AreMetBy, IsAfter, IsEntry, IsMetBy, IsUnlisted, IsWalk, met_both};
+ghost use Rattle.tt_cert.specs.Spots.{spot_of};
+ghost use Rattle.tt_cert.specs.Walks.{AreMadeMet, IsEntry, IsMadeMet, IsMetBy, IsPastStart, IsUnlisted, IsUnlistedAfter, IsWalk, NamesFirstGapMade, NamesGapMade, calls_of, met_both, place_behind as place_of_move, point_of};
 
 use crate::certificate::Certificate;
 use crate::checking::CheckFault;
@@ -107,9 +105,9 @@ fn check_offset(
     after: Option<u32>,
 ) -> Result<Met, CheckFault>
     requires walk { IsWalk certificate.now walk.now }
-    requires unlisted { (end : ℕ) → after ≡ Some end → IsUnlisted certificate.now walk.now.next walk.now.context end }
-    ensures met { IfOk result (IsMetBy (family_of certificate.now) (after ≡ Some offset) walk.now.next (place_of certificate.now walk.now.context offset) walk.now.made) }
-    ensures gap { IfErr result (NamesAt (place_of certificate.now walk.now.context offset) (IsGap (family_of certificate.now) (after ≡ Some offset) (place_of certificate.now walk.now.context offset) walk.now.made)) }
+    requires unlisted { IsUnlistedAfter certificate.now walk.now after }
+    ensures met { IfOk result (IsMetBy (family_of certificate.now) (after ≡ Some offset) walk.now.next (point_of certificate.now walk.now offset) walk.now.made) }
+    ensures gap { IfErr result (NamesAt (point_of certificate.now walk.now offset) (IsGap (family_of certificate.now) (after ≡ Some offset) (point_of certificate.now walk.now offset) walk.now.made)) }
 {
     check_covered(
         certificate,
@@ -130,11 +128,11 @@ fn check_way(
 ) -> Result<Met, CheckFault>
     requires walk { IsWalk certificate.now walk.now }
     requires told { AreToldBefore certificate.now walk.now.context }
-    requires turn { way ≡ Move.NextTurn → HasNextTurn (frames_at certificate.now.contexts walk.now.context) }
-    requires unlisted { (end : ℕ) → after ≡ Some end → IsUnlisted certificate.now walk.now.next walk.now.context end }
-    requires forward { (end : ℕ) → after ≡ Some end → 0 < end }
-    ensures met { IfOk result (IsMetBy (family_of certificate.now) (IsAfter (frames_at certificate.now.contexts walk.now.context) after (frames_behind (frames_at certificate.now.contexts walk.now.context) way, offset_behind (frames_at certificate.now.contexts walk.now.context) way)) walk.now.next (frames_behind (frames_at certificate.now.contexts walk.now.context) way, offset_behind (frames_at certificate.now.contexts walk.now.context) way) walk.now.made) }
-    ensures gap { IfErr result (NamesAt (frames_behind (frames_at certificate.now.contexts walk.now.context) way, offset_behind (frames_at certificate.now.contexts walk.now.context) way) (IsGap (family_of certificate.now) (IsAfter (frames_at certificate.now.contexts walk.now.context) after (frames_behind (frames_at certificate.now.contexts walk.now.context) way, offset_behind (frames_at certificate.now.contexts walk.now.context) way)) (frames_behind (frames_at certificate.now.contexts walk.now.context) way, offset_behind (frames_at certificate.now.contexts walk.now.context) way) walk.now.made)) }
+    requires turn { way ≡ Move.NextTurn → HasNextTurn (calls_of certificate.now walk.now) }
+    requires unlisted { IsUnlistedAfter certificate.now walk.now after }
+    requires forward { IsPastStart after }
+    ensures met { IfOk result (IsMadeMet certificate.now walk.now after (place_of_move certificate.now walk.now way)) }
+    ensures gap { IfErr result (NamesGapMade certificate.now walk.now after (place_of_move certificate.now walk.now way)) }
 {
     if let Move::To(offset) = way {
         return check_offset(certificate, walk, offset, after);
@@ -161,11 +159,11 @@ pub(crate) fn check_moves(
 ) -> Result<Met, CheckFault>
     requires walk { IsWalk certificate.now walk.now }
     requires told { AreToldBefore certificate.now walk.now.context }
-    requires turn { moves ≡ Moves.One Move.NextTurn → HasNextTurn (frames_at certificate.now.contexts walk.now.context) }
-    requires unlisted { (end : ℕ) → after ≡ Some end → IsUnlisted certificate.now walk.now.next walk.now.context end }
-    requires forward { (end : ℕ) → after ≡ Some end → 0 < end }
-    ensures met { IfOk result (AreMetBy (family_of certificate.now) (frames_at certificate.now.contexts walk.now.context) after walk.now.next (nexts_of (frames_at certificate.now.contexts walk.now.context) moves (abstract_of walk.now.made)) walk.now.made) }
-    ensures gap { IfErr result (Names (IsFirstGap (family_of certificate.now) (IsAfter (frames_at certificate.now.contexts walk.now.context) after) (nexts_of (frames_at certificate.now.contexts walk.now.context) moves (abstract_of walk.now.made)) walk.now.made)) }
+    requires turn { moves ≡ Moves.One Move.NextTurn → HasNextTurn (calls_of certificate.now walk.now) }
+    requires unlisted { IsUnlistedAfter certificate.now walk.now after }
+    requires forward { IsPastStart after }
+    ensures met { IfOk result (AreMadeMet certificate.now walk.now after moves) }
+    ensures gap { IfErr result (NamesFirstGapMade certificate.now walk.now after moves) }
 {
     match moves {
         Moves::One(way) => check_way(certificate, walk, way, after),
