@@ -125,12 +125,12 @@ module _ (entries : List (ℕ × Frame)) (index : BTreeMap Key ℕ) (states : Li
   module _ (states' : List ((ℕ × ℕ) × State)) (c off : ℕ) (within : c < length v.contexts) (t : State) (ranged : state_order.InRange t) where
     pub joined_built : (r : Result Joined JoinFault) → IfOk r (λ joined. PutsAt state_order (states_of states) (states_of states') (c, off) t (is_change joined))
         → OnOk r (length states' ≤ 4294967295) → OnErr r (states' ≡ states) → IsBuilt entries index states'
-    joined_built (Ok changed) put fits kept = put_built entries index states states' v is built c off within t (is_change changed) put ranged fits
+    joined_built (Ok joined) put fits kept = put_built entries index states states' v is built c off within t (is_change joined) put ranged fits
     joined_built (Err e) put fits kept = same_built states' kept
 
     pub joined_puts : (r : Result Joined JoinFault) → IfOk r (λ joined. PutsAt state_order (states_of states) (states_of states') (c, off) t (is_change joined))
         → IfOk r (λ joined. PutsAt state_order (family_of v) (family_of (record { contexts = frames_of entries; states = states' })) (place_of v c off) t (is_change joined))
-    joined_puts (Ok changed) put = put_puts entries index states states' v is built c off within t (is_change changed) put ranged
+    joined_puts (Ok joined) put = put_puts entries index states states' v is built c off within t (is_change joined) put ranged
     joined_puts (Err e) put = tt
 
     pub joined_new : (r : Result Joined JoinFault) → IfOk r (λ joined. TellsNew joined (states_of states (c, off))) → IfOk r (λ joined. TellsNew joined (family_of v (place_of v c off)))
@@ -139,7 +139,7 @@ module _ (entries : List (ℕ × Frame)) (index : BTreeMap Key ℕ) (states : Li
 
     pub joined_sums : (r : Result Joined JoinFault) → IfOk r (λ _. ReweighsStates states states' (c, off))
         → IfOk r (λ _. Reweighs v (record { contexts = frames_of entries; states = states' }) (place_of v c off))
-    joined_sums (Ok changed) sums =
+    joined_sums (Ok joined) sums =
         let P : List ((ℕ × ℕ) × State) → Type 0 = λ x. ReweighsStates x states' (c, off) in
         Reweighs-family v (record { contexts = frames_of entries; states = states' }) c off (family_is entries index states v is built)
         (contexts_is entries index states v is built) within (subst P (ap (λ (x : Contents). x.states) is) sums)
@@ -152,7 +152,7 @@ module _ (entries : List (ℕ × Frame)) (index : BTreeMap Key ℕ) (states : Li
 
     pub joined_joined : (r : Result Joined JoinFault) → IfOk r (λ _. (s : State) → states_of states (c, off) ≡ Some s → state_order.SameDepth s t)
         → IfOk r (λ _. (s : State) → family_of v (place_of v c off) ≡ Some s → state_order.SameDepth s t)
-    joined_joined (Ok changed) deep = λ s at. deep s (sym (point_state c off (states_of states (c, off)) within refl) ∙ at)
+    joined_joined (Ok joined) deep = λ s at. deep s (sym (point_state c off (states_of states (c, off)) within refl) ∙ at)
     joined_joined (Err e) deep = tt
 
 pub copied_some : (o : Option (Bor State)) (x y : Option State) → option_copied o ≡ x → y ≡ x → IfSome o (λ s. y ≡ Some s.now)

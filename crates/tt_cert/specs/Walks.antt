@@ -158,13 +158,13 @@ pub record IsAtPoint (s : Setting) (listing : Listing) (contents : Contents) (wa
   pub nothing_after : (p : Place) (a : State) → filled p ≡ Some a → family_of contents p ≡ None → (IsLess (key_of contents p) (walk.context, offset + 1) → ⊥)
       → (b : State) → (r : Reason) × RefusesState s (place_of contents walk.context offset) b r
 
--- behind the last point: all are walked
+-- after the last point: all are walked
 pub record IsWalkedThrough (s : Setting) (listing : Listing) (contents : Contents) : Type 0 where
   pub filled : Place → Option State
   pub filled_by : IsFilledBy s (MayLeaveOut listing s) (family_of contents) (λ p. Unit {0}) filled
   pub held : (p : Place) (a : State) → filled p ≡ Some a → HasContext contents.contexts p.0
 
--- the walk is at the point of this offset, or behind the last one
+-- the walk is at the point of this offset, or after the last one
 abbrev pub IsAtNext : Setting → Listing → Contents → Walk → List Entry → Option ℕ → Type 0
 IsAtNext s listing contents walk others None = IsWalkedThrough s listing contents
 IsAtNext s listing contents walk others (Some offset) = IsAtPoint s listing contents walk others offset

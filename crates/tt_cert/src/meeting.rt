@@ -73,7 +73,6 @@ pub(crate) fn check_covered(
 {
     certificate.is_in_order();
     if may_be_left_out && is_coming_after(next, context, offset) {
-        certificate.state(context, offset);
         return Ok(Met::Added);
     }
     if is_coming(next, context, offset, state) {

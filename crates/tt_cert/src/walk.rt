@@ -115,7 +115,7 @@ impl<'a> Walk<'a> {
     }
 
     /// Goes on to the point that comes next, and takes its state: what was made, where that is carried there, and else the listed
-    /// state that comes next, of which these are the others. Answers the point's offset, None behind the last point.
+    /// state that comes next, of which these are the others. Answers the point's offset, None after the last point.
     pub(crate) fn go_on(
         &mut self,
         certificate: &Certificate,
