@@ -13,6 +13,6 @@ returns-then-is_coming-clause-met c =
 pub returns-then-is_coming_after-clause-met : goal.returns-then-is_coming_after-clause-met
 returns-then-is_coming_after-clause-met c = (
   family_at c.args.certificate.now c.args.context c.args.offset c.is_in_order.ensures.0 c.requires.there
-  ∙ c.requires.unlisted c.if-may_be_left_out.true (c.is_coming_after.ensures.0 c.if-is_coming_after.true),
+      ∙ c.requires.unlisted c.if-may_be_left_out.true (c.is_coming_after.ensures.0 c.if-is_coming_after.true),
   c.if-may_be_left_out.true,
 )
