@@ -1,18 +1,19 @@
 -- What is known at the ends of a font's programs, and what the next program is looked at with.
-use Rattle.std.specs.Prelude.{IfErr, IfSome}
+use Rattle.std.specs.Prelude.{IfErr, IfSome, is_some}
 use Rattle.std.specs.Result.{IsErrAnd}
-use Rattle.std.proofs.Common.{◌≡◌, ℕ, List, [], Option, Some, Result, Ok, Err, refl, sym, ◌∙◌, ap, subst, Bor}
+use Rattle.std.proofs.Common.{◌≡◌, ℕ, List, [], Option, Some, None, Result, Ok, Err, refl, sym, ◌∙◌, ap, subst, true, Bor}
 use Rattle.tt_code.specs.Cut.{Instruction, size}
-use Rattle.tt_code.specs.Settings.{Setting as MachineSetting}
+use Rattle.tt_code.specs.Settings.{Kind, FontProgram, CvtProgram, GlyphProgram, Setting as MachineSetting}
 use Rattle.tt_abs.specs.declared.setting.Kind.TheVariants as kind
 use Rattle.tt_abs.specs.declared.setting.Setting.{Setting}
 use Rattle.tt_abs.specs.declared.state.State.{State}
 use Rattle.tt_abs.specs.Entries.{Rises}
 use Rattle.tt_abs.specs.Settings.{kind_of}
 use Rattle.tt_abs.specs.StateFlow.{FunctionsFit, Place}
-use Rattle.tt_cert.specs.GoodFamilies.{IsGoodFamily}
+use Rattle.tt_cert.specs.GoodFamilies.{EndsWell, HasEnd, IsGoodFamily}
+use Rattle.tt_cert.proofs.FillingLaws.{ends_listed}
 use Rattle.tt_font.specs.Reading.{FontData, GlyphData}
-use Rattle.hintcheck.specs.FontLooks.{EndsLook, IsKnownAtEnd, subject_in}
+use Rattle.hintcheck.specs.FontLooks.{ComesToEnd, EndsLook, IsKnownAtEnd, subject_in}
 use Rattle.hintcheck.specs.FontPrograms.{cvt_refused, cvt_subject, font_refused, font_subject}
 use Rattle.hintcheck.specs.Looks.{IfRefused, IsAccepted, IsLookedAt}
 use Rattle.hintcheck.specs.Programs.{EndsWith, HasLeastFamily, IsCutInto, IsRefusal, Subject}
@@ -28,15 +29,38 @@ functions_rise s functions family p a good at = (good.good.in_range p a at).1.1.
 -- what an accepted program knows at its end
 pub known_at_end : (x : Subject) (is : List Instruction) (family : Place → Option State) (end : State) (functions : List (ℕ × ℕ)) → IsAccepted x is family
     → family ([], size is) ≡ Some end → functions ≡ end.functions → IsKnownAtEnd x is functions
-known_at_end x is family end functions a at e = record {
-  ends = record { cut = a.cut; family = family; good = a.good; least = a.least; end = end; at_end = at; functions_are = sym e };
-  rises = let R : List (ℕ × ℕ) → Type 0 = λ fs. Rises fs in subst R (sym e) (functions_rise (x.setting is) x.functions family ([], size is) end a.good at);
-  fits = let F : List (ℕ × ℕ) → Type 0 = λ fs. FunctionsFit (x.setting is) fs in subst F (sym e) (a.within ([], size is) end at).functions;
-}
+known_at_end x is family end functions a at e =
+    let kept : a.filling ([], size is) ≡ Some end = a.fills.keeps ([], size is) end at in
+    let R : List (ℕ × ℕ) → Type 0 = λ fs. Rises fs in
+    let F : List (ℕ × ℕ) → Type 0 = λ fs. FunctionsFit (x.setting is) fs in
+    record {
+      ends = record { cut = a.cut; family = a.filling; good = a.good; least = a.least; end = end; at_end = kept; functions_are = sym e };
+      rises = subst R (sym e) (functions_rise (x.setting is) x.functions a.filling ([], size is) end a.good kept);
+      fits = subst F (sym e) (a.within ([], size is) end kept).functions;
+    }
+
+-- an accepted font program or CVT program has a state at its end
+
+comes_there : (s : MachineSetting) (k : Kind) (family : Place → Option State) → EndsWell s k family → ComesToEnd k → HasEnd s family
+comes_there s FontProgram family ends comes = ends
+comes_there s CvtProgram family ends comes = ends
+comes_there s (GlyphProgram points contours) family ends comes = absurd comes
+
+pub found_at_end : (x : Subject) (is : List Instruction) (family : Place → Option State) (s : MachineSetting) (n : ℕ) (found : Option (Bor (List (ℕ × ℕ)))) → IsAccepted x is family → x.setting is ≡ s
+    → ComesToEnd s.kind → n ≡ size s.main → (found ≡ None → family ([], n) ≡ None) → is_some found ≡ true
+found_at_end x is family s n found a same comes long none =
+    let E : MachineSetting → Type 0 = λ t. EndsWell t t.kind family in
+    let ends = subst E same (ends_listed (x.setting is) family a.filling a.fills (x.setting is).kind a.good.ends) in
+    let (end, at) = comes_there s s.kind family ends comes in
+    go end (ap (λ (k : ℕ). family ([], k)) long ∙ at) found none
+  where
+    go : (end : State) → family ([], n) ≡ Some end → (o : Option (Bor (List (ℕ × ℕ)))) → (o ≡ None → family ([], n) ≡ None) → is_some o ≡ true
+    go end at None none = absurd (let no_such : None ≡ Some end = sym (none refl) ∙ at in cc)
+    go end at (Some fs) none = refl
 
 -- an accepted program has its least family
 pub least_of : (x : Subject) (is : List Instruction) (family : Place → Option State) → IsAccepted x is family → HasLeastFamily x
-least_of x is family a = record { instructions = is; cut = a.cut; family = family; good = a.good; least = a.least }
+least_of x is family a = record { instructions = is; cut = a.cut; family = a.filling; good = a.good; least = a.least }
 
 -- a refused font program and a refused CVT program end the look
 

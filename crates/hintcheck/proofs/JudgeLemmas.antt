@@ -43,7 +43,7 @@ is_looked_at g bytes s cut limits cvt kind font prep start = record {
 -- an accepted program is fine
 pub is_fine : (g : Glyph) (bytes : List ℕ) (is : List Instruction) (family : Place → Option State) → IsAccepted (subject_of g bytes) is family → IsFine g bytes
 is_fine g bytes is family a = record {
-  has = record { instructions = is; cut = a.cut; family = family; good = a.good };
+  has = record { instructions = is; cut = a.cut; family = a.filling; good = a.good };
   safe = record {
     short = omega (arith, a.good.short, size_is is, ap length a.cut.is_cut.joined);
     instructions = is;

@@ -17,13 +17,15 @@ use Rattle.tt_abs.specs.Soundness.{IsSafe}
 use Rattle.tt_abs.specs.StateFlow.{AreProgramsShort, FitsLimits, FunctionsFit, Place, flow_of, height_of}
 use Rattle.tt_abs.specs.States.{state_laws, state_order}
 use Rattle.tt_abs.proofs.FlowOfStates.{state_flow_laws}
+use Rattle.tt_abs.proofs.Soundness.{good_is_safe}
 use Rattle.tt_cert.specs.Contents.{Contents, family_of}
+use Rattle.tt_cert.specs.Fillings.{HasGoodFilling, HasOneGoodFilling, IsFilling}
 use Rattle.tt_cert.specs.GoodFamilies.{EndsWell, IsGoodFamily}
 use Rattle.tt_cert.specs.Spots.{spot_of}
 use Rattle.tt_cert.specs.declared.spot.Spot.{Spot}
 use Rattle.tt_find.specs.declared.fault.FindFault.{FindFault}
 use Rattle.tt_find.specs.declared.fault.FindFault.TheVariants as find_fault
-use Rattle.tt_find.specs.Found.{IsJustified, IsLeast, IsNeverEnding, IsWantOfMemory as IsWantOfFindMemory, LacksEnd, NamesPlace, NoneIsGood, too_long, refused, apart, too_many, never_ends}
+use Rattle.tt_find.specs.Found.{HasLeastFilling, IsJustified, IsLeast, IsNeverEnding, IsWantOfMemory as IsWantOfFindMemory, LacksEnd, NamesPlace, NoneIsGood, too_long, refused, apart, too_many, never_ends}
 use Rattle.hintcheck.specs.Programs.{HasGoodFamily, HasLeastFamily, IsCause, IsCutInto, IsRefusal, Subject, no_family, program_at}
 use Rattle.hintcheck.specs.Looks.{IfRefused, IsAccepted, IsWantOfMemory, told_at}
 use Rattle.hintcheck.specs.declared.look.LookFault.{LookFault}
@@ -161,20 +163,26 @@ glyph_no_good x is points contours k c h p r justified (inr none) g = none_known
 
 -- the answers
 
--- a family that is found and checked
-pub accepted : {F : Type 0} (x : Subject) (is : List Instruction) (s : Setting) (fs : List (ℕ × ℕ)) (found : Contents) (r : Result Contents F) → IsCutInto x is → x.setting is ≡ s → x.functions ≡ fs
-    → IsLeast s fs (family_of found) → ((p : Place) (a : State) → family_of found p ≡ Some a → FitsLimits s a)
-    → IfOk r (λ a. a ≡ found) → IfOk r (λ a. IsGoodFamily s fs (family_of a)) → IfOk r (λ a. IsSafe s fs (family_of a)) → IfOk r (λ a. IsAccepted x is (family_of a))
-accepted x is s fs found (Err e) c es ef least within same good safe = tt
-accepted x is s fs found (Ok a) c es ef least within same good safe =
-    let Q : Contents → Type 0 = λ t. IsLeast s fs (family_of t) in
-    let R : Contents → Type 0 = λ t. (p : Place) (b : State) → family_of t p ≡ Some b → FitsLimits s b in
-    let back = sym same in record {
+-- a family that is found and checked: the filling that the check finds good is the least one
+pub accepted : {F : Type 0} (x : Subject) (is : List Instruction) (s : Setting) (fs : List (ℕ × ℕ)) (updates : ℕ) (found : Contents) (r : Result Contents F) → IsCutInto x is → x.setting is ≡ s
+    → x.functions ≡ fs → HasFlow s fs → HasOneGoodFilling → HasLeastFilling s fs updates (family_of found) → IfOk r (λ a. a ≡ found) → IfOk r (λ a. HasGoodFilling s fs (family_of a))
+    → IfOk r (λ a. IsAccepted x is (family_of a))
+accepted x is s fs updates found (Err e) c es ef h one least same good = tt
+accepted x is s fs updates found (Ok a) c es ef h one least same (filling, fills, good) =
+    let L : Contents → Type 0 = λ t. HasLeastFilling s fs updates (family_of t) in
+    let mine = subst L (sym same) least in
+    let alike : (p : Place) → mine.filling p ≡ filling p = one s fs (family_of a) mine.filling filling mine.fills mine.good fills good in
+    let whole : mine.filling ≡ filling = λ i p. alike p i in
+    let Q : (Place → Option State) → Type 0 = λ t. IsLeast s fs t in
+    let R : (Place → Option State) → Type 0 = λ t. (p : Place) (b : State) → t p ≡ Some b → FitsLimits s b in
+    record {
       cut = c;
-      good = of_subject (λ t f. IsGoodFamily t f (family_of a)) x is s fs es ef good;
-      least = of_subject (λ t f. IsLeast t f (family_of a)) x is s fs es ef (subst Q back least);
-      within = of_subject (λ t f. (p : Place) (b : State) → family_of a p ≡ Some b → FitsLimits t b) x is s fs es ef (subst R back within);
-      safe = of_subject (λ t f. IsSafe t f (family_of a)) x is s fs es ef safe;
+      filling = filling;
+      fills = of_subject (λ t f. IsFilling t (family_of a) filling) x is s fs es ef fills;
+      good = of_subject (λ t f. IsGoodFamily t f filling) x is s fs es ef good;
+      least = of_subject (λ t f. IsLeast t f filling) x is s fs es ef (subst Q whole mine.least);
+      within = of_subject (λ t f. (p : Place) (b : State) → filling p ≡ Some b → FitsLimits t b) x is s fs es ef (subst R whole mine.within);
+      safe = of_subject (λ t f. IsSafe t f filling) x is s fs es ef (good_is_safe s h.range h.short fs h.rises filling good.good);
     }
 
 -- want of memory refuses nothing

@@ -7,6 +7,7 @@ use Rattle.tt_abs.specs.declared.state.State.{State}
 use Rattle.tt_abs.specs.Settings.{setting_of}
 use Rattle.tt_abs.specs.Soundness.{IsSafe}
 use Rattle.tt_abs.specs.StateFlow.{FitsLimits, Place}
+use Rattle.tt_cert.specs.Fillings.{IsFilling}
 use Rattle.tt_cert.specs.GoodFamilies.{IsGoodFamily}
 use Rattle.tt_cert.specs.declared.spot.Spot.{Spot}
 use Rattle.tt_find.specs.Found.{IsLeast}
@@ -23,14 +24,16 @@ pub record IsLookedAt (x : Subject) (called : Name) (s : Setting) : Type 0 where
   pub setting : x.setting s.main.now ≡ setting_of s
   pub functions : x.functions ≡ s.start.now
 
--- The program has these instructions, and the family is good for it, the least that is, and within the font's limits; so every machine that a
--- run comes to is covered, and doesn't fault.
+-- The program has these instructions, and the family's filling is good for it, the least that is, and within the font's limits; so every
+-- machine that a run comes to is covered, and doesn't fault.
 pub record IsAccepted (x : Subject) (instructions : List Instruction) (family : Place → Option State) : Type 0 where
   pub cut : IsCutInto x instructions
-  pub good : IsGoodFamily (x.setting instructions) x.functions family
-  pub least : IsLeast (x.setting instructions) x.functions family
-  pub within : (p : Place) (a : State) → family p ≡ Some a → FitsLimits (x.setting instructions) a
-  pub safe : IsSafe (x.setting instructions) x.functions family
+  pub filling : Place → Option State
+  pub fills : IsFilling (x.setting instructions) family filling
+  pub good : IsGoodFamily (x.setting instructions) x.functions filling
+  pub least : IsLeast (x.setting instructions) x.functions filling
+  pub within : (p : Place) (a : State) → filling p ≡ Some a → FitsLimits (x.setting instructions) a
+  pub safe : IsSafe (x.setting instructions) x.functions filling
 
 -- what is told of a program by this name that is refused at a place
 abbrev pub told_at : Name → Spot → ℕ → Reason → AnyRefused

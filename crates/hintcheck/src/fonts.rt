@@ -18,14 +18,14 @@ use crate::look::{LookFault, cut, look};
 use crate::report::{Name, Refused, Verdict};
 use std::alloc::{AllocError, Global};
 use tt_abs::{Kind, Setting};
-use tt_cert::Builder;
 use tt_code::Program;
+use tt_find::Finder;
 use tt_font::{Font, FontFault, GlyphPart};
 
-/// The functions that are known where the font program or the CVT program of this setting ends, which is looked at in a builder's memory.
+/// The functions that are known where the font program or the CVT program of this setting ends, which is looked at in a finder's memory.
 fn end_functions(
     alloc: Global,
-    memory: &mut Builder,
+    finder: &mut Finder,
     name: Name,
     setting: &Setting<'_>,
 ) -> Result<Vec<(u16, u32)>, LookFault>
@@ -36,18 +36,18 @@ fn end_functions(
     ensures known { (x : Subject) → IsLookedAt x name setting.now → IfOk result (λ functions. IsKnownAtEnd x setting.now.main.now functions.items) }
     ensures refused { (x : Subject) → IsLookedAt x name setting.now → IfErr result (λ fault. IfRefused fault (IsRefusal x)) }
 {
-    let certificate = look(alloc, memory, name, setting)?;
+    let certificate = look(alloc, finder, name, setting)?;
     // An accepted font program or CVT program has a state at its end.
     let functions = certificate.end_functions(setting.main.len()).unwrap();
     let copy = Vec::from_slice(alloc, functions)?;
-    *memory = certificate.into_builder();
+    finder.take_back(certificate);
     Ok(copy)
 }
 
 /// Looks at the font program: the functions that are known at its end.
 fn look_at_font_program(
     alloc: Global,
-    memory: &mut Builder,
+    finder: &mut Finder,
     font: &Font<'_>,
     fpgm: &Program<'_>,
 ) -> Result<Vec<(u16, u32)>, LookFault>
@@ -64,14 +64,14 @@ fn look_at_font_program(
         prep: fpgm,
         start: &[],
     };
-    end_functions(alloc, memory, Name::Font, &setting)
+    end_functions(alloc, finder, Name::Font, &setting)
 }
 
 /// Looks at the CVT program, which starts with the functions that are known where the font program ends: those that are known at its own
 /// end.
 fn look_at_cvt_program(
     alloc: Global,
-    memory: &mut Builder,
+    finder: &mut Finder,
     font: &Font<'_>,
     fpgm: &Program<'_>,
     prep: &Program<'_>,
@@ -92,7 +92,7 @@ fn look_at_cvt_program(
         prep,
         start: functions,
     };
-    end_functions(alloc, memory, Name::Cvt, &setting)
+    end_functions(alloc, finder, Name::Cvt, &setting)
 }
 
 /// What the glyph programs of a font share: the font, its two other programs, and the functions that are known where the CVT program
@@ -105,11 +105,11 @@ struct Common<'a> {
     known: &'a [(u16, u32)],
 }
 
-/// Looks at the program of the glyph with this number, if it has instructions, in a builder's memory, which the builder has again where
+/// Looks at the program of the glyph with this number, if it has instructions, in a finder's memory, which the finder has again where
 /// memory doesn't run out.
 fn look_at_glyph(
     alloc: Global,
-    memory: &mut Builder,
+    finder: &mut Finder,
     common: &Common<'_>,
     id: u16,
     glyph: &GlyphPart<'_>,
@@ -138,15 +138,15 @@ fn look_at_glyph(
         prep: common.prep,
         start: common.known,
     };
-    let certificate = look(alloc, memory, name, &setting)?;
-    *memory = certificate.into_builder();
+    let certificate = look(alloc, finder, name, &setting)?;
+    finder.take_back(certificate);
     Ok(())
 }
 
 /// Looks at each glyph program: the refused ones, by rising numbers of their glyphs.
 fn refused_glyphs(
     alloc: Global,
-    memory: &mut Builder,
+    finder: &mut Finder,
     common: &Common<'_>,
 ) -> Result<Vec<Refused>, AllocError>
     requires range { IsFontInRange common.now.font.now }
@@ -157,7 +157,7 @@ fn refused_glyphs(
     let mut refused = Vec::new(alloc);
     for id in 0..common.font.glyph_count() {
         let glyph = common.font.glyph(id).unwrap();
-        match look_at_glyph(alloc, memory, common, id, &glyph) {
+        match look_at_glyph(alloc, finder, common, id, &glyph) {
             Ok(()) => {}
             Err(LookFault::Refused(refusal)) => refused.push(refusal)?,
             Err(LookFault::OutOfMemory(error)) => return Err(error),
@@ -175,18 +175,18 @@ fn look_at_all(alloc: Global, font: &Font<'_>) -> Result<Vec<Refused>, LookFault
     ensures all { IfOk result (λ refused. AreAllRefused font.now refused.items) }
     ensures ended { IfErr result (λ fault. IfRefused fault (EndsLook font.now)) }
 {
-    let mut memory = Builder::new(alloc);
+    let mut finder = Finder::new(alloc);
     let fpgm = cut(alloc, Name::Font, font.fpgm())?;
-    let functions = look_at_font_program(alloc, &mut memory, font, &fpgm)?;
+    let functions = look_at_font_program(alloc, &mut finder, font, &fpgm)?;
     let prep = cut(alloc, Name::Cvt, font.prep())?;
-    let known = look_at_cvt_program(alloc, &mut memory, font, &fpgm, &prep, &functions)?;
+    let known = look_at_cvt_program(alloc, &mut finder, font, &fpgm, &prep, &functions)?;
     let common = Common {
         font,
         fpgm: &fpgm,
         prep: &prep,
         known: &known,
     };
-    Ok(refused_glyphs(alloc, &mut memory, &common)?)
+    Ok(refused_glyphs(alloc, &mut finder, &common)?)
 }
 
 /// The refused programs of a font, in their order.

@@ -12,8 +12,8 @@ use crate::look::{LookFault, cut, look};
 use crate::report::{Name, Refused, Verdict};
 use std::alloc::{AllocError, Global};
 use tt_abs::{Kind, Setting};
-use tt_cert::Builder;
 use tt_code::{Limits, Program};
+use tt_find::Finder;
 use tt_font::{FontFault, read_maxp};
 
 /// What a glyph program is checked against, in a font whose font program and CVT program are empty.
@@ -59,8 +59,8 @@ fn look_at(alloc: Global, glyph: &Glyph, program: &[u8]) -> Result<(), LookFault
         prep: &empty,
         start: &[],
     };
-    let mut memory = Builder::new(alloc);
-    look(alloc, &mut memory, name, &setting)?;
+    let mut finder = Finder::new(alloc);
+    look(alloc, &mut finder, name, &setting)?;
     Ok(())
 }
 

@@ -4,19 +4,18 @@ ghost use Rattle.std.specs.Prelude.{◌≡◌, ℕ, ◌<◌, ◌^◌, IfErr, IfO
 ghost use Rattle.tt_code.specs.Settings.{GlyphProgram};
 ghost use Rattle.tt_abs.specs.Entries.{Rises};
 ghost use Rattle.tt_abs.specs.Settings.{setting_of};
-ghost use Rattle.tt_abs.specs.Soundness.{IsSafe};
 ghost use Rattle.tt_abs.specs.StateFlow.{FunctionsFit};
 ghost use Rattle.tt_cert.specs.Contents.{family_of};
-ghost use Rattle.tt_cert.specs.GoodFamilies.{IsGoodFamily};
+ghost use Rattle.tt_cert.specs.Fillings.{HasGoodFilling};
 ghost use Rattle.hintcheck.specs.Programs.{HasGoodFamily, IsCutInto, IsRefusal, Subject, program_at as program_at_spot};
 ghost use Rattle.hintcheck.specs.Looks.{IfRefused, IsAccepted, IsLookedAt, IsWantOfMemory, told_at};
 
 use crate::report::{Name, Place, Refused};
 use std::alloc::{AllocError, Global};
 use tt_abs::Setting;
-use tt_cert::{Builder, Certificate, CheckFault, Spot, check_full};
+use tt_cert::{Certificate, CheckFault, Spot, check, one_good_filling};
 use tt_code::{CodeFault, Program, Reason};
-use tt_find::{FindFault, find_in};
+use tt_find::{FindFault, Finder};
 
 /// Why a program isn't accepted.
 #[derive(Drop)]
@@ -83,21 +82,20 @@ pub(crate) fn cut<'a>(alloc: Global, name: Name, bytes: &'a [u8]) -> Result<Prog
     }
 }
 
-/// The certificate, if the check accepts it; where it refuses, a builder has its memory.
+/// The certificate, if the check accepts it; where it refuses, the finder has its memory.
 fn checked(
     alloc: Global,
-    memory: &mut Builder,
+    finder: &mut Finder,
     name: Name,
     setting: &Setting<'_>,
     certificate: Certificate,
 ) -> Result<Certificate, LookFault>
     requires { Rises setting.now.start.now }
     ensures same { IfOk result (λ accepted. accepted ≡ certificate) }
-    ensures good { IfOk result (λ accepted. IsGoodFamily (setting_of setting.now) setting.now.start.now (family_of accepted)) }
-    ensures safe { IfOk result (λ accepted. IsSafe (setting_of setting.now) setting.now.start.now (family_of accepted)) }
-    ensures exact { IsGoodFamily (setting_of setting.now) setting.now.start.now (family_of certificate) → IfErr result IsWantOfMemory }
+    ensures filling { IfOk result (λ accepted. HasGoodFilling (setting_of setting.now) setting.now.start.now (family_of accepted)) }
+    ensures exact { HasGoodFilling (setting_of setting.now) setting.now.start.now (family_of certificate) → IfErr result IsWantOfMemory }
 {
-    match check_full(alloc, setting, &certificate) {
+    match check(alloc, setting, &certificate) {
         Ok(()) => Ok(certificate),
         Err(
             CheckFault::Refused {
@@ -106,22 +104,22 @@ fn checked(
                 reason,
             },
         ) => {
-            *memory = certificate.into_builder();
+            finder.take_back(certificate);
             Err(refused_at(name, spot, offset, reason))
         }
         Err(CheckFault::OutOfMemory(error)) => Err(LookFault::OutOfMemory(error)),
     }
 }
 
-/// Looks at the program of this name and this setting, whose family of abstract states is found in a builder's memory and then checked. A
-/// family that is found passes the check, which alone accepts. Its certificate has that memory; where the program is refused, the builder
-/// keeps it. What the builder holds afterwards says nothing.
+/// Looks at the program of this name and this setting, whose family of abstract states is found and then checked. A family that is found
+/// passes the check, which alone accepts. Its certificate has the finder's memory, which `Finder::take_back` gives back; where the program
+/// is refused, the finder keeps it.
 ///
 /// # Errors
 /// `Refused` where no family is found; `OutOfMemory`.
 pub(crate) fn look(
     alloc: Global,
-    memory: &mut Builder,
+    finder: &mut Finder,
     name: Name,
     setting: &Setting<'_>,
 ) -> Result<Certificate, LookFault>
@@ -133,8 +131,9 @@ pub(crate) fn look(
         → IfErr result (λ fault. IfRefused fault (λ _. HasGoodFamily x → ⊥)) }
 {
     setting.is_within();
-    match find_in(alloc, memory, setting) {
-        Ok(found) => checked(alloc, memory, name, setting, found.certificate),
+    one_good_filling();
+    match finder.find(alloc, setting) {
+        Ok(found) => checked(alloc, finder, name, setting, found.certificate),
         Err(
             FindFault::Refused {
                 spot,

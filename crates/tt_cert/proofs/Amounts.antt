@@ -1,5 +1,5 @@
 -- How many states have moved from one builder to another.
-use Rattle.std.specs.Prelude.{◌≡◌, ℕ, ◌+◌, Bool, Option, Some, None, List, [], ◌∷◌, ◌++◌, length, slice_get}
+use Rattle.std.specs.Prelude.{◌≡◌, ℕ, ◌+◌, Bool, false, cond, Option, Some, None, List, [], ◌∷◌, ◌++◌, length, slice_get}
 use Rattle.std.specs.declared.cmp.Ordering.TheVariants.{Less}
 use Rattle.std.specs.Ordering.{is_eq, ordering_reverse}
 use Rattle.std.specs.List.{sum_by, AllByRecursion}
@@ -13,7 +13,7 @@ use Rattle.std.proofs.lemmas.Map.Keys.{sorted_head, sorted_tail}
 use Rattle.tt_code.specs.declared.machine.Frame.{Frame}
 use Rattle.tt_abs.specs.declared.state.State.{State}
 use Rattle.tt_abs.specs.States.{state_order}
-use Rattle.tt_cert.specs.Places.{place_cmp, states_of, PutGives, PutsAt}
+use Rattle.tt_cert.specs.Places.{has_point, place_cmp, states_of, PutGives, PutsAt}
 use Rattle.tt_cert.specs.Puts.{Reweighs, place_of, weigh}
 use Rattle.tt_cert.specs.Contents.{Contents, IsFamily, family_of, frames_at, number_of, points_of}
 use Rattle.tt_cert.specs.Numbers.{number_of-is}
@@ -40,10 +40,10 @@ none_before {S} (d ∷ done) rest x rises =
     lookup_tail (is_at (place_cmp x.0)) d done apart ∙ none_before done rest x (sorted_tail place_cmp d.0 (keys_of (done ++ x ∷ rest)) rises)
 
 -- where the state that comes next is to stand there is none
-pub next_free : (old new : Contents) (numbers : List ℕ) (place : ℕ × ℕ) (s : State) (n : ℕ) → IsFamily old → AreMoved old.contexts new.contexts numbers → IsFoundAll old
+pub next_free : (old new : Contents) (numbers : List ℕ) (spare : List (ℕ × ℕ)) (place : ℕ × ℕ) (s : State) (n : ℕ) → has_point spare place ≡ false → IsFamily old → AreMoved old.contexts new.contexts numbers → IsFoundAll old
     → IsStrictlySortedBy place_cmp (keys_of old.states) → slice_get numbers place.0 ≡ Some n
-    → (rest rest' : List ((ℕ × ℕ) × State)) → HasSoFar old new rest → rest ≡ (place, s) ∷ rest' → family_of new (place_of new n place.1) ≡ None
-next_free old new numbers place s n family moved all rises known rest rest' so_far rest_is =
+    → (rest rest' : List ((ℕ × ℕ) × State)) → HasSoFar old new spare rest → rest ≡ (place, s) ∷ rest' → family_of new (place_of new n place.1) ≡ None
+next_free old new numbers spare place s n listed family moved all rises known rest rest' so_far rest_is =
     let (done, split, same) = so_far in
     let split_here : old.states ≡ done ++ (place, s) ∷ rest' = split ∙ ap (λ l. done ++ l) rest_is in
     let found : states_of old.states place ≡ Some s = entry_found old done rest' (place, s) split_here all in
@@ -51,7 +51,8 @@ next_free old new numbers place s n family moved all rises known rest rest' so_f
     let number_is : number_of old.contexts (frames_at new.contexts n) ≡ place.0 =
     number_of-is old.contexts (frames_at new.contexts n) place.0 family.distinct (family.held place.0 place.1 s found) (sym frames_is) in
     let R : List ((ℕ × ℕ) × State) → Type 0 = λ l. IsStrictlySortedBy place_cmp (keys_of l) in
-    same (place_of new n place.1) ∙ ap (λ k. states_of done (k, place.1)) number_is ∙ none_before done rest' (place, s) (subst R split_here rises)
+    same (place_of new n place.1) ∙ ap (λ k. cond (has_point spare (k, place.1)) None (states_of done (k, place.1))) number_is ∙ ap (λ b. cond b None (states_of done place)) listed
+    ∙ none_before done rest' (place, s) (subst R split_here rises)
 
 -- one more state stands there
 pub amount_step : (old new new' : Contents) (place : List Frame × ℕ) (s : State) (changed : Bool) → family_of new place ≡ None

@@ -11,18 +11,23 @@ use Rattle.std.proofs.lemmas.Cmp.{tied_itself}
 use Rattle.tt_code.specs.declared.machine.Frame.{Frame}
 use Rattle.tt_abs.specs.declared.state.State.{State}
 use Rattle.tt_abs.specs.States.{state_order, state_laws}
-use Rattle.tt_cert.specs.Places.{place_cmp, states_of, PutsAt, PutGives}
+use Rattle.tt_cert.specs.Places.{has_point, place_cmp, states_of, PutsAt, PutGives}
 use Rattle.tt_cert.specs.Puts.{place_of}
 use Rattle.tt_cert.specs.Contents.{Contents, IsFamily, HasContext, frames_at, family_of, number_of}
 use Rattle.tt_cert.specs.Numbers.{at-number_of, number_of-is, number_of-place}
-use Rattle.tt_cert.specs.Rising.{AreMoved, SameContents}
+use Rattle.tt_cert.specs.Rising.{AreMoved, SameContents, SameWithout, family_without}
 use Rattle.tt_cert.proofs.Puts.{cases_place, places_apart}
 use Rattle.tt_cert.proofs.Putting.{place_total}
 
--- the new contents hold the states that came before the rest of the old ones
-abbrev pub HasSoFar : Contents → Contents → List ((ℕ × ℕ) × State) → Type 0
-HasSoFar old new rest =
-    (done : List ((ℕ × ℕ) × State)) × (old.states ≡ done ++ rest) × ((point : List Frame × ℕ) → family_of new point ≡ states_of done (number_of old.contexts point.0, point.1))
+-- the state at a key, but for the spare ones
+abbrev listed_at : List (ℕ × ℕ) → List ((ℕ × ℕ) × State) → ℕ × ℕ → Option State
+listed_at spare states key = cond (has_point spare key) None (states_of states key)
+
+-- the new contents hold the states that came before the rest of the old ones, but for the spare ones
+abbrev pub HasSoFar : Contents → Contents → List (ℕ × ℕ) → List ((ℕ × ℕ) × State) → Type 0
+HasSoFar old new spare rest =
+    (done : List ((ℕ × ℕ) × State)) × (old.states ≡ done ++ rest)
+    × ((point : List Frame × ℕ) → family_of new point ≡ cond (has_point spare (number_of old.contexts point.0, point.1)) None (states_of done (number_of old.contexts point.0, point.1)))
 
 pub has_context : (contexts : List (List Frame)) (c : ℕ) (frames : List Frame) → c < length contexts → frames_at contexts c ≡ frames → HasContext contexts frames
 has_context contexts c frames lt at = let most = number_of-place contexts frames c lt at in omega arith
@@ -86,11 +91,11 @@ put_same (Some t) (Some u) s changed put ranged before =
     let below : state_order.Below t s = subst B (sym same) (state_laws.reflexive s) in
     ap Some (state_laws.antisymmetric u s put.0.in_range ranged (put.0.least s ranged below (state_laws.reflexive s)) put.0.right)
 
-module _ (old new new' : Contents) (numbers : List ℕ) (place : ℕ × ℕ) (s : State) (n : ℕ) (changed : Bool)
+module _ (old new new' : Contents) (numbers : List ℕ) (spare : List (ℕ × ℕ)) (place : ℕ × ℕ) (s : State) (n : ℕ) (changed : Bool) (listed : has_point spare place ≡ false)
     (family : IsFamily old) (moved : AreMoved old.contexts new.contexts numbers) (all : IsFoundAll old)
     (known : slice_get numbers place.0 ≡ Some n) (put : PutsAt state_order (family_of new) (family_of new') (place_of new n place.1) s changed)
     (rest rest' done : List ((ℕ × ℕ) × State)) (split : old.states ≡ done ++ rest)
-    (same : (point : List Frame × ℕ) → family_of new point ≡ states_of done (number_of old.contexts point.0, point.1))
+    (same : (point : List Frame × ℕ) → family_of new point ≡ listed_at spare done (number_of old.contexts point.0, point.1))
     (rest_is : rest ≡ (place, s) ∷ rest') where
   split_here : old.states ≡ done ++ (place, s) ∷ rest'
   split_here = split ∙ ap (λ l. done ++ l) rest_is
@@ -113,7 +118,10 @@ module _ (old new new' : Contents) (numbers : List ℕ) (place : ℕ × ℕ) (s 
       cc
 
   slot_before : (t : State) → family_of new (place_of new n place.1) ≡ Some t → t ≡ s
-  slot_before t at = before t (ap (λ k. states_of done (k, place.1)) (sym number_is) ∙ sym (same (place_of new n place.1)) ∙ at)
+  slot_before t at =
+      let there : family_of new (place_of new n place.1) ≡ states_of done place =
+      same (place_of new n place.1) ∙ ap (λ k. listed_at spare done (k, place.1)) number_is ∙ ap (λ b. cond b None (states_of done place)) listed in
+      before t (sym there ∙ at)
 
   slot : family_of new' (place_of new n place.1) ≡ Some s
   slot = put_same (family_of new (place_of new n place.1)) (family_of new' (place_of new n place.1)) s changed put.here (family.in_range place.0 place.1 s found) slot_before
@@ -135,48 +143,70 @@ module _ (old new new' : Contents) (numbers : List ℕ) (place : ℕ × ℕ) (s 
       let second : p.1 ≡ place.1 = ap (λ (x : List Frame × ℕ). x.1) e in
       λ i. (first i, second i)
 
-  pub so_far_step : HasSoFar old new' rest'
+  pub so_far_step : HasSoFar old new' spare rest'
   so_far_step = (
     done ++ (place, s) ∷ [],
     split_here ∙ sym (append_assoc done ((place, s) ∷ []) rest'),
     λ p.
         elim (cases_place (number_of old.contexts p.0, p.1) place) [
-          | inl here ↦ ap (family_of new') (point_is p here) ∙ slot ∙ sym (ap (states_of (done ++ (place, s) ∷ [])) here ∙ last)
+          | inl here ↦
+              let states = done ++ (place, s) ∷ [] in
+              ap (family_of new') (point_is p here) ∙ slot ∙ sym (ap (listed_at spare states) here ∙ ap (λ b. cond b None (states_of states place)) listed ∙ last)
           | inr apart ↦ put.elsewhere p (λ e. apart (point_from p e)) ∙ same p
-              ∙ sym (lookup_apart (is_at (place_cmp (number_of old.contexts p.0, p.1))) done place s (places_apart (number_of old.contexts p.0, p.1) place (λ e. apart (sym e))))
+              ∙ ap (λ x. cond (has_point spare (number_of old.contexts p.0, p.1)) None x)
+                  (sym (lookup_apart (is_at (place_cmp (number_of old.contexts p.0, p.1))) done place s (places_apart (number_of old.contexts p.0, p.1) place (λ e. apart (sym e)))))
         ],
   )
 
 -- what the entry that comes next says of itself
-pub next_found : (old new : Contents) (rest rest' : List ((ℕ × ℕ) × State)) (x : (ℕ × ℕ) × State) → HasSoFar old new rest → rest ≡ x ∷ rest' → IsFoundAll old
-    → states_of old.states x.0 ≡ Some x.1
-next_found old new rest rest' x so_far rest_is all =
+pub next_found : (old new : Contents) (spare : List (ℕ × ℕ)) (rest rest' : List ((ℕ × ℕ) × State)) (x : (ℕ × ℕ) × State) → HasSoFar old new spare rest → rest ≡ x ∷ rest'
+    → IsFoundAll old → states_of old.states x.0 ≡ Some x.1
+next_found old new spare rest rest' x so_far rest_is all =
     let (done, split, same) = so_far in entry_found old done rest' x (split ∙ ap (λ l. done ++ l) rest_is) all
 
-pub HasSoFar-step : (old new new' : Contents) (numbers : List ℕ) (place : ℕ × ℕ) (s : State) (n : ℕ) (changed : Bool) → IsFamily old
-    → AreMoved old.contexts new.contexts numbers → IsFoundAll old → slice_get numbers place.0 ≡ Some n
+pub HasSoFar-step : (old new new' : Contents) (numbers : List ℕ) (spare : List (ℕ × ℕ)) (place : ℕ × ℕ) (s : State) (n : ℕ) (changed : Bool) → has_point spare place ≡ false
+    → IsFamily old → AreMoved old.contexts new.contexts numbers → IsFoundAll old → slice_get numbers place.0 ≡ Some n
     → PutsAt state_order (family_of new) (family_of new') (place_of new n place.1) s changed
-    → (rest rest' : List ((ℕ × ℕ) × State)) → HasSoFar old new rest → rest ≡ (place, s) ∷ rest' → HasSoFar old new' rest'
-HasSoFar-step old new new' numbers place s n changed family moved all known put rest rest' so_far rest_is =
+    → (rest rest' : List ((ℕ × ℕ) × State)) → HasSoFar old new spare rest → rest ≡ (place, s) ∷ rest' → HasSoFar old new' spare rest'
+HasSoFar-step old new new' numbers spare place s n changed listed family moved all known put rest rest' so_far rest_is =
     let (done, split, same) = so_far in
-    so_far_step old new new' numbers place s n changed family moved all known put rest rest' done split same rest_is
+    so_far_step old new new' numbers spare place s n changed listed family moved all known put rest rest' done split same rest_is
 
-pub HasSoFar-end : (old new : Contents) (rest : List ((ℕ × ℕ) × State)) → HasSoFar old new rest → rest ≡ [] → (p : List Frame × ℕ) → family_of new p ≡ family_of old p
-HasSoFar-end old new rest so_far none p =
+-- a spare state isn't moved
+pub HasSoFar-spare : (old new : Contents) (spare : List (ℕ × ℕ)) (place : ℕ × ℕ) (s : State) → has_point spare place ≡ true
+    → (rest rest' : List ((ℕ × ℕ) × State)) → HasSoFar old new spare rest → rest ≡ (place, s) ∷ rest' → HasSoFar old new spare rest'
+HasSoFar-spare old new spare place s hit rest rest' so_far rest_is =
+    let (done, split, same) = so_far in
+    let split_here : old.states ≡ done ++ (place, s) ∷ rest' = split ∙ ap (λ l. done ++ l) rest_is in
+    let states = done ++ (place, s) ∷ [] in
+    (states, split_here ∙ sym (append_assoc done ((place, s) ∷ []) rest'), λ p.
+    let key : ℕ × ℕ = (number_of old.contexts p.0, p.1) in
+    elim (cases_place key place) [
+      | inl here ↦
+          let is : has_point spare key ≡ true = ap (has_point spare) here ∙ hit in
+          same p ∙ ap (λ b. cond b None (states_of done key)) is ∙ sym (ap (λ b. cond b None (states_of states key)) is)
+      | inr apart ↦
+          same p
+          ∙ ap (λ x. cond (has_point spare key) None x) (sym (lookup_apart (is_at (place_cmp key)) done place s (places_apart key place (λ e. apart (sym e)))))
+    ])
+
+pub HasSoFar-end : (old new : Contents) (spare : List (ℕ × ℕ)) (rest : List ((ℕ × ℕ) × State)) → HasSoFar old new spare rest → rest ≡ []
+    → (p : List Frame × ℕ) → family_of new p ≡ family_without old spare p
+HasSoFar-end old new spare rest so_far none p =
     let (done, split, same) = so_far in
     let whole : old.states ≡ done = split ∙ ap (λ l. done ++ l) none ∙ append-nil done in
-    same p ∙ ap (λ l. states_of l (number_of old.contexts p.0, p.1)) (sym whole)
+    same p ∙ ap (λ l. listed_at spare l (number_of old.contexts p.0, p.1)) (sym whole)
 
-pub next_context : (old new : Contents) (contexts : List (List Frame)) (numbers : List ℕ) (rest rest' : List ((ℕ × ℕ) × State)) (x : (ℕ × ℕ) × State) → IsFamily old
-    → AreMoved old.contexts contexts numbers → HasSoFar old new rest → rest ≡ x ∷ rest' → IsFoundAll old → x.0.0 < length numbers
-next_context old new contexts numbers rest rest' x family moved so_far rest_is all =
-    let lt = family.held x.0.0 x.0.1 x.1 (next_found old new rest rest' x so_far rest_is all) in
+pub next_context : (old new : Contents) (contexts : List (List Frame)) (numbers : List ℕ) (spare : List (ℕ × ℕ)) (rest rest' : List ((ℕ × ℕ) × State)) (x : (ℕ × ℕ) × State) → IsFamily old
+    → AreMoved old.contexts contexts numbers → HasSoFar old new spare rest → rest ≡ x ∷ rest' → IsFoundAll old → x.0.0 < length numbers
+next_context old new contexts numbers spare rest rest' x family moved so_far rest_is all =
+    let lt = family.held x.0.0 x.0.1 x.1 (next_found old new spare rest rest' x so_far rest_is all) in
     let long = moved.long in
     omega arith
 
-pub next_range : (old new : Contents) (rest rest' : List ((ℕ × ℕ) × State)) (x : (ℕ × ℕ) × State) → IsFamily old → HasSoFar old new rest → rest ≡ x ∷ rest'
-    → IsFoundAll old → state_order.InRange x.1
-next_range old new rest rest' x family so_far rest_is all = family.in_range x.0.0 x.0.1 x.1 (next_found old new rest rest' x so_far rest_is all)
+pub next_range : (old new : Contents) (spare : List (ℕ × ℕ)) (rest rest' : List ((ℕ × ℕ) × State)) (x : (ℕ × ℕ) × State) → IsFamily old → HasSoFar old new spare rest
+    → rest ≡ x ∷ rest' → IsFoundAll old → state_order.InRange x.1
+next_range old new spare rest rest' x family so_far rest_is all = family.in_range x.0.0 x.0.1 x.1 (next_found old new spare rest rest' x so_far rest_is all)
 
 pub moved_there : (old contexts new : List (List Frame)) (numbers : List ℕ) (c d : ℕ) → AreMoved old contexts numbers → new ≡ contexts → c < length numbers
     → slice_index_or numbers c d < length new
@@ -185,8 +215,21 @@ moved_there old contexts new numbers c d moved same lt =
     let known = (moved.moved c (slice_index_or numbers c d) (slice_get-get_or numbers c d lt)).0 in
     omega arith
 
-pub SameContents-moved : (old new : Contents) (contexts : List (List Frame)) (numbers : List ℕ) → AreMoved old.contexts contexts numbers → new.contexts ≡ contexts
-    → ((p : List Frame × ℕ) → family_of new p ≡ family_of old p) → SameContents old new
-SameContents-moved old new contexts numbers moved same family =
+pub SameWithout-moved : (old new : Contents) (spare : List (ℕ × ℕ)) (contexts : List (List Frame)) (numbers : List ℕ) → AreMoved old.contexts contexts numbers → new.contexts ≡ contexts
+    → ((p : List Frame × ℕ) → family_of new p ≡ family_without old spare p) → SameWithout old new spare
+SameWithout-moved old new spare contexts numbers moved same family =
     let C : List (List Frame) → Type 0 = λ x. (frames : List Frame) → HasContext old.contexts frames ↔ HasContext x frames in
     record { contexts = subst C (sym same) (SameContexts-from old.contexts contexts numbers moved); family = family }
+
+-- where no point is spare nothing is left out
+without_none : (contents : Contents) (spare : List (ℕ × ℕ)) → spare ≡ [] → (p : List Frame × ℕ) → family_without contents spare p ≡ family_of contents p
+without_none contents spare none p = ap (λ (x : List (ℕ × ℕ)). family_without contents x p) none
+
+pub same_from_without : (old new : Contents) (spare : List (ℕ × ℕ)) → spare ≡ [] → SameWithout old new spare → SameContents old new
+same_from_without old new spare none same = record { contexts = same.contexts; family = λ p. same.family p ∙ without_none old spare none p }
+
+pub without_itself : (contents : Contents) (spare : List (ℕ × ℕ)) → spare ≡ [] → SameWithout contents contents spare
+without_itself contents spare none = record { contexts = λ frames. ((λ h. h), (λ h. h)); family = λ p. sym (without_none contents spare none p) }
+
+pub none_spare : (spare : List (ℕ × ℕ)) (key : ℕ × ℕ) → spare ≡ [] → has_point spare key ≡ true → ⊥
+none_spare spare key none hit = let no_such : true ≡ false = sym hit ∙ ap (λ (x : List (ℕ × ℕ)). has_point x key) none in cc

@@ -266,23 +266,21 @@ line_of s Sparse p q may = may
 
 -- where a state may be left out just after an instruction
 
-left_out_by : (s : Setting) (listing : Listing) (p : Place) → listing ≡ Sparse → (after : Option ℕ) → ((q : Place) → IsAfter p.0 after q ↔ Precedes s p q)
+pub left_out_by : (s : Setting) (listing : Listing) (p : Place) → listing ≡ Sparse → (after : Option ℕ) → ((q : Place) → IsAfter p.0 after q ↔ Precedes s p q)
     → (q : Place) → IsAfter p.0 after q ↔ MayLeaveOut listing s p q
 left_out_by s listing p is after h = let A : Listing → Type 0 = λ l. (q : Place) → IsAfter p.0 after q ↔ MayLeaveOut l s p q in subst A (sym is) h
 
-pub nothing_left_out : (s : Setting) (listing : Listing) (p : Place) (end : ℕ) → listing ≡ Sparse → EndsAt s p end → is_main_end s p.0 end ≡ true
-    → (q : Place) → IsAfter p.0 None q ↔ MayLeaveOut listing s p q
-nothing_left_out s listing p end is ends last = left_out_by s listing p is None (λ q. (
+pub nothing_added : (s : Setting) (p : Place) (end : ℕ) → EndsAt s p end → is_main_end s p.0 end ≡ true → (q : Place) → IsAfter p.0 None q ↔ Precedes s p q
+nothing_added s p end ends last q = (
   (λ h. let no_such = h.1 in absurd (cc)),
   (λ h.
       let offset : q.1 ≡ end = ends_once s p q.1 end h.ends ends in
       let here : is_main_end s q.0 q.1 ≡ is_main_end s p.0 end = λ i. is_main_end s (h.calls i) (offset i) in
       let no_such : true ≡ false = sym last ∙ sym here ∙ h.inside in absurd (cc)),
-))
+)
 
-pub left_out_there : (s : Setting) (listing : Listing) (p : Place) (end : ℕ) → listing ≡ Sparse → EndsAt s p end → is_main_end s p.0 end ≡ false
-    → (q : Place) → IsAfter p.0 (Some end) q ↔ MayLeaveOut listing s p q
-left_out_there s listing p end is ends goes_on = left_out_by s listing p is (Some end) (λ q. (
+pub added_there : (s : Setting) (p : Place) (end : ℕ) → EndsAt s p end → is_main_end s p.0 end ≡ false → (q : Place) → IsAfter p.0 (Some end) q ↔ Precedes s p q
+added_there s p end ends goes_on q = (
   (λ h.
       let both : Some end ≡ Some q.1 = h.1 in
       let offset : end ≡ q.1 = cc in
@@ -292,7 +290,7 @@ left_out_there s listing p end is ends goes_on = left_out_by s listing p is (Som
         inside = (λ i. is_main_end s (h.0 i) (sym offset i)) ∙ goes_on;
       }),
   (λ h. (h.calls, ap Some (ends_once s p end q.1 ends h.ends))),
-))
+)
 
 -- The walk.
 

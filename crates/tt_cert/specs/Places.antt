@@ -1,5 +1,6 @@
 -- A family as a function from places to states.
 use Rattle.std.specs.Prelude.{◌≡◌, ◌≢◌, ◌↔◌, ◌⊎◌, ℕ, ◌<◌, Bool, true, false, Option, Some, None, List}
+use Rattle.std.specs.List.{list_any}
 use Rattle.std.specs.declared.cmp.Ordering.{Ordering}
 use Rattle.std.specs.Ordering.{nat_cmp, ordering_then}
 use Rattle.std.specs.BTreeMap.{is_at}
@@ -17,6 +18,10 @@ IsLess a b = (a.0 < b.0) ⊎ ((a.0 ≡ b.0) × (a.1 < b.1))
 -- the states of a map's entries, by place
 abbrev pub states_of : {S : Type 0} → List ((ℕ × ℕ) × S) → ℕ × ℕ → Option S
 states_of entries place = lookup (is_at (place_cmp place)) entries
+
+-- whether a point is among these
+abbrev pub has_point : List (ℕ × ℕ) → ℕ × ℕ → Bool
+has_point points point = list_any (is_at (place_cmp point)) points
 
 -- what a place holds after a state was put there, and whether that is new or has changed
 abbrev pub PutGives : {S : Type 0} → Order S → Option S → S → Option S → Bool → Type 0

@@ -1,9 +1,11 @@
 -- Contexts in the order of the file, and two contents with one family.
-use Rattle.std.specs.Prelude.{◌≡◌, ◌↔◌, ℕ, ◌<◌, Some, List, ◌∷◌, length, slice_get}
+use Rattle.std.specs.Prelude.{◌≡◌, ◌↔◌, ℕ, ◌<◌, cond, Option, Some, None, List, ◌∷◌, length, slice_get}
 use Rattle.std.specs.declared.cmp.Ordering.TheVariants.{Less}
 use Rattle.tt_code.specs.declared.machine.Frame.{Frame}
-use Rattle.tt_cert.specs.Contents.{Contents, HasContext, IsFamily, family_of, frames_at}
+use Rattle.tt_abs.specs.declared.state.State.{State}
+use Rattle.tt_cert.specs.Contents.{Contents, HasContext, IsFamily, family_of, frames_at, number_of}
 use Rattle.tt_cert.specs.Built.{key_cmp, key_of}
+use Rattle.tt_cert.specs.Places.{has_point}
 
 -- the context of this number has this parent, which comes before, and this last frame
 abbrev pub StandsAt : List (List Frame) → ℕ → ℕ × Frame → Type 0
@@ -18,6 +20,15 @@ pub record IsRising (contexts : List (List Frame)) : Type 0 where
 pub record SameContents (old new : Contents) : Type 0 where
   pub contexts : (frames : List Frame) → HasContext old.contexts frames ↔ HasContext new.contexts frames
   pub family : (point : List Frame × ℕ) → family_of new point ≡ family_of old point
+
+-- the state at a point, but for these points, each as its context's number and its offset
+abbrev pub family_without : Contents → List (ℕ × ℕ) → List Frame × ℕ → Option State
+family_without contents points point = cond (has_point points (number_of contents.contexts point.0, point.1)) None (family_of contents point)
+
+-- the same contexts, whatever their numbers, and the same state at each point, but none at these
+pub record SameWithout (old new : Contents) (points : List (ℕ × ℕ)) : Type 0 where
+  pub contexts : (frames : List Frame) → HasContext old.contexts frames ↔ HasContext new.contexts frames
+  pub family : (point : List Frame × ℕ) → family_of new point ≡ family_without old points point
 
 -- a family whose contexts stand in the order of the file
 abbrev pub IsFinished : Contents → Type 0

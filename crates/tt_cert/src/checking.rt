@@ -17,7 +17,7 @@ ghost use Rattle.tt_cert.specs.Walks.{AreToCome, AreUnlisted, IsAfter, IsFoundSo
 
 use crate::builder::Builder;
 use crate::certificate::Certificate;
-use crate::listing::Listing;
+use crate::listing::{Listing, added_after};
 use crate::meeting::{Met, check_covered, check_moves, fault_in};
 use crate::spot::Spot;
 use crate::states::States;
@@ -121,13 +121,7 @@ fn left_out_after(
 {
     match listing {
         Listing::Whole => None,
-        Listing::Sparse => {
-            if setting.is_end(point, end) {
-                None
-            } else {
-                Some(end)
-            }
-        }
+        Listing::Sparse => added_after(setting, point, end),
     }
 }
 

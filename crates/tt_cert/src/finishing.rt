@@ -4,12 +4,13 @@ ghost use Rattle.std.specs.Prelude.{◌≡◌, ℕ, ◌+◌, ◌<◌, List, [], 
 ghost use Rattle.tt_code.specs.declared.machine.Frame.{Frame};
 ghost use Rattle.tt_cert.specs.Contents.{IsFamily, family_of, points_of};
 ghost use Rattle.tt_cert.specs.FileOrder.{ArePlaces, IsFileOrder, in_order};
-ghost use Rattle.tt_cert.specs.Rising.{AreMoved, IsFinished, SameContents};
+ghost use Rattle.tt_cert.specs.Rising.{AreMoved, IsFinished, SameContents, SameWithout, family_without};
 
 use crate::builder::Builder;
 use crate::certificate::Certificate;
 use crate::fault::{ContextFault, JoinFault};
 use std::alloc::AllocError;
+use std::collections::BTreeSet;
 
 /// The place of each context in the order.
 fn places_in(old: &Builder, order: &[u32]) -> Result<Vec<u32>, AllocError>
@@ -71,28 +72,35 @@ fn move_contexts(
     Ok(())
 }
 
-/// Puts copies of all states into the new builder, which has the same contexts and no state.
-fn move_states(old: &Builder, new: &mut Builder, numbers: &[u32]) -> Result<(), JoinFault>
+/// Puts copies of all states, but for those at the spare points, into the new builder, which has the same contexts and no state.
+fn move_states(
+    old: &Builder,
+    new: &mut Builder,
+    numbers: &[u32],
+    spare: &BTreeSet<(u32, u32)>,
+) -> Result<(), JoinFault>
     requires family { IsFamily new.old }
     requires empty { new.old.states ≡ [] }
     requires moved { AreMoved old.now.contexts new.old.contexts numbers.now }
     ensures contexts { new.new.contexts ≡ new.old.contexts }
-    ensures same { IfOk result (λ _. (point : List Frame × ℕ) → family_of new.new point ≡ family_of old.now point) }
-    ensures points { IfOk result (λ _. points_of new.new ≡ points_of old.now) }
+    ensures same { IfOk result (λ _. (point : List Frame × ℕ) → family_of new.new point ≡ family_without old.now spare.now.keys point) }
+    ensures points { IfOk result (λ _. spare.now.keys ≡ [] → points_of new.new ≡ points_of old.now) }
     ensures family { IsFamily new.new }
     ensures memory { IfErr result (λ fault. fault ≡ JoinFault.OutOfMemory) }
 {
     let mut states = old.states();
     while let Some((context, offset, state)) = states.take_first() {
-        new.join_state(numbers[context as usize], offset, state)?;
+        if !spare.contains(&(context, offset)) {
+            new.join_state(numbers[context as usize], offset, state)?;
+        }
     }
     Ok(())
 }
 
-/// The same family with its contexts in the order of the file.
-fn reordered(old: &Builder) -> Result<Builder, AllocError>
-    ensures same { IfOk result (λ new. SameContents old.now new) }
-    ensures points { IfOk result (λ new. points_of new ≡ points_of old.now) }
+/// The same family with its contexts in the order of the file, without the states at the spare points.
+fn reordered(old: &Builder, spare: &BTreeSet<(u32, u32)>) -> Result<Builder, AllocError>
+    ensures same { IfOk result (λ new. SameWithout old.now new spare.now.keys) }
+    ensures points { IfOk result (λ new. spare.now.keys ≡ [] → points_of new ≡ points_of old.now) }
     ensures finished { IfOk result (λ new. IsFinished new) }
 {
     old.is_family();
@@ -102,7 +110,7 @@ fn reordered(old: &Builder) -> Result<Builder, AllocError>
     if let Err(_) = move_contexts(old, order.as_slice(), places.as_slice(), &mut new) {
         return Err(AllocError);
     }
-    if let Err(_) = move_states(old, &mut new, places.as_slice()) {
+    if let Err(_) = move_states(old, &mut new, places.as_slice(), spare) {
         return Err(AllocError);
     }
     Ok(new)
@@ -119,10 +127,24 @@ impl Builder {
         ensures finished { IfOk result (λ certificate. IsFinished certificate) }
         ensures kept { IfErr result (λ builder. builder ≡ self) }
     {
-        if self.is_rising() {
+        let none = BTreeSet::new(self.allocator());
+        self.finish_without(&none)
+    }
+
+    /// The certificate of this family without the states at the spare points, each a context's number and an offset.
+    ///
+    /// # Errors
+    /// If memory runs out: then the builder comes back as it was.
+    pub fn finish_without(self, spare: &BTreeSet<(u32, u32)>) -> Result<Certificate, Builder>
+        ensures same { IfOk result (λ certificate. SameWithout self certificate spare.now.keys) }
+        ensures points { IfOk result (λ certificate. spare.now.keys ≡ [] → points_of certificate ≡ points_of self) }
+        ensures finished { IfOk result (λ certificate. IsFinished certificate) }
+        ensures kept { IfErr result (λ builder. builder ≡ self) }
+    {
+        if spare.is_empty() && self.is_rising() {
             return Ok(Certificate::of(self));
         }
-        let Ok(new) = reordered(&self) else {
+        let Ok(new) = reordered(&self, spare) else {
             return Err(self);
         };
         Ok(Certificate::of(new))

@@ -22,5 +22,6 @@ pub use certificate::Certificate;
 pub use checking::{CheckFault, check, check_full, ends_well, is_short, one_good_filling};
 pub use fault::{ContextFault, JoinFault};
 pub use joined::Joined;
+pub use listing::added_after;
 pub use spot::Spot;
 pub use states::States;

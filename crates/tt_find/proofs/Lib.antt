@@ -1,10 +1,15 @@
 pub mod Sound
-pub mod Marked
+pub mod Marking
 pub mod Points
 pub mod Budget
 pub mod Placed
 pub mod Ways
-pub mod Followed
+pub mod Listed
+pub mod Visits
+pub mod Waits
+pub mod Steps
+pub mod Leads
 pub mod Starting
 pub mod Many
+pub mod Needed
 pub mod Finished

@@ -1,9 +1,10 @@
--- The steps of the finder on its table, for any order and flow of states.
-use Rattle.std.specs.Prelude.{◌≡◌, ◌≢◌, ◌⊎◌, ◌↔◌, ℕ, ◌<◌, Bool, true, false, Some, None, List, [], ◌∷◌, ◌++◌, length}
+-- The steps of the finder on its contexts and on the points that wait, for any order and flow of states.
+use Rattle.std.specs.Prelude.{◌≡◌, ◌≢◌, ◌⊎◌, ◌↔◌, ◌==◌, ◌&&◌, ℕ, ◌<◌, Bool, true, false, cond, Option, Some, None, List, [], ◌∷◌, ◌++◌, length}
 use Rattle.std.proofs.Common.{refl, sym, ◌∙◌, ap, subst, arith, inl, inr, length-append}
 use Rattle.std.proofs.Math.ListN.{get_or-append}
 use Rattle.std.proofs.Math.Seq.{get_or-append_seam}
 use Rattle.std.proofs.lemmas.Bool.{cases_lt, cases_eq, cases_Bool}
+use Rattle.std.proofs.lemmas.Bool.Decides.{Decides-and, Decides-eqb}
 use Rattle.tt_code.specs.declared.machine.Frame.{Frame}
 use Rattle.tt_code.specs.declared.reason.Reason.{Reason}
 use Rattle.tt_abs.specs.declared.state.State.{State}
@@ -11,15 +12,15 @@ use Rattle.tt_abs.specs.Orders.{Order, OrderLaws}
 use Rattle.tt_abs.specs.Flows.{Flow}
 use Rattle.tt_abs.specs.Families.{CoversAt, Derived}
 use Rattle.tt_abs.specs.StateFlow.{Place}
+use Rattle.tt_cert.specs.Checks.{key_of}
 use Rattle.tt_cert.specs.Contents.{AddsContext, Contents, HasContext, IsFamily, family_of, frames_at, number_of, same_frames}
-use Rattle.tt_cert.specs.Numbers.{at-number_of, number_of-append, number_of-append_past, number_of-le, same_frames-decides}
-use Rattle.tt_cert.specs.Places.{PutsAt, states_of}
-use Rattle.tt_cert.specs.Puts.{number_at, place_of}
+use Rattle.tt_cert.specs.Numbers.{at-number_of, number_of-append, number_of-place, same_frames-decides}
+use Rattle.tt_cert.specs.Places.{PutGives, PutsAt, has_point, states_of}
+use Rattle.tt_cert.specs.Puts.{family_at, number_at, place_of}
 use Rattle.tt_cert.proofs.Puts.{cases_place}
-use Rattle.tt_find.specs.Marks.{has_mark}
-use Rattle.tt_find.specs.Tables.{IsMarked, IsTable, MarksMore, Pends}
-use Rattle.tt_find.proofs.Marked.{mark_behind, mark_here}
-use Rattle.tt_find.proofs.Sound.{sound_opened, sound_put}
+use Rattle.tt_find.specs.Tables.{IsAmong, IsSoundFamily, IsTable, WaitsMore}
+use Rattle.tt_find.proofs.Waits.{point_behind, point_here}
+use Rattle.tt_find.proofs.Sound.{sound_moved, sound_opened, sound_put}
 
 pub same_or_apart : (p q : Place) → (p ≡ q) ⊎ (p ≢ q)
 same_or_apart (fs, a) (gs, b) = elim (cases_Bool (same_frames fs gs)) [
@@ -28,6 +29,26 @@ same_or_apart (fs, a) (gs, b) = elim (cases_Bool (same_frames fs gs)) [
     | inl same ↦ inl (let frames = (same_frames-decides fs gs).0 hit in λ i. (frames i, same i))
     | inr apart ↦ inr (λ e. apart (ap (λ (x : Place). x.1) e))
   ]
+]
+
+-- a family with another slot at one place
+abbrev pub with_slot : (Place → Option State) → Place → Option State → Place → Option State
+with_slot family q slot p = cond (same_frames p.0 q.0 && (p.1 == q.1)) slot (family p)
+
+pub slot_here : (family : Place → Option State) (q : Place) (slot : Option State) → with_slot family q slot q ≡ slot
+slot_here family q slot = ap (λ b. cond b slot (family q)) (both (same_frames q.0 q.0) (q.1 == q.1) ((same_frames-decides q.0 q.0).1 refl) ((Decides-eqb q.1 q.1).1 refl))
+  where
+    both : (a b : Bool) → a ≡ true → b ≡ true → (a && b) ≡ true
+    both true true e f = refl
+    both true false e f = f
+    both false b e f = e
+
+pub slot_elsewhere : (family : Place → Option State) (q : Place) (slot : Option State) (p : Place) → p ≢ q → with_slot family q slot p ≡ family p
+slot_elsewhere family q slot p apart = elim (cases_Bool (same_frames p.0 q.0 && (p.1 == q.1))) [
+  | inr f ↦ ap (λ b. cond b slot (family p)) f
+  | inl t ↦
+      let h = (Decides-and (same_frames p.0 q.0) (p.1 == q.1) (same_frames-decides p.0 q.0) (Decides-eqb p.1 q.1)).0 t in
+      absurd (apart (λ i. (h.0 i, h.1 i)))
 ]
 
 -- a point with a state has a context
@@ -44,161 +65,192 @@ frames_stay old new frames n c adds lt = elim adds.how [
       (ap (λ x. frames_at x c) added.2 ∙ get_or-append old (frames ∷ []) [] c lt, omega arith)
 ]
 
+-- where a context was added
+module _ (v v' : Contents) (frames : List Frame) (number : ℕ) (adds : AddsContext v.contexts v'.contexts frames number) (states : v'.states ≡ v.states) where
+  -- an old context has its number
+  pub number_kept : (fs : List Frame) → number_of v.contexts fs < length v.contexts → number_of v'.contexts fs ≡ number_of v.contexts fs
+  number_kept fs lt = elim adds.how [
+    | inl same ↦ ap (λ (x : List (List Frame)). number_of x fs) same.1
+    | inr new ↦ ap (λ (x : List (List Frame)). number_of x fs) new.2 ∙ number_of-append v.contexts frames fs lt
+  ]
+
+  pub key_kept : (p : Place) → number_of v.contexts p.0 < length v.contexts → ◌≡◌ {A = ℕ × ℕ} (key_of v' p) (key_of v p)
+  key_kept p lt = λ i. (number_kept p.0 lt i, p.1)
+
+  -- each place has the states that it had
+  pub family_kept : IsFamily v → IsFamily v' → (p : Place) → family_of v' p ≡ family_of v p
+  family_kept family family' p = elim (cases_lt (number_of v.contexts p.0) (length v.contexts)) [
+    | inl lt ↦ ap (λ x. states_of x (number_of v'.contexts p.0, p.1)) states ∙ ap (λ n. states_of v.states (n, p.1)) (number_kept p.0 lt)
+    | inr ge ↦ by (family_of v' p) (family_of v p) refl refl (λ lt. absurd (omega arith))
+  ]
+    where
+      by : (x y : Option State) → family_of v' p ≡ x → family_of v p ≡ y → (number_of v.contexts p.0 < length v.contexts → ⊥) → x ≡ y
+      by None None e e' ge = refl
+      by x (Some a) e e' ge = absurd (ge (has_number v p a family e'))
+      by (Some a) None e e' ge =
+          let at : states_of v.states (number_of v'.contexts p.0, p.1) ≡ Some a = ap (λ x. states_of x (number_of v'.contexts p.0, p.1)) (sym states) ∙ e in
+          let old : number_of v'.contexts p.0 < length v.contexts = family.held (number_of v'.contexts p.0) p.1 a at in
+          let now = at-number_of v'.contexts p.0 (has_number v' p a family' e) in
+          let (stay, _) = frames_stay v.contexts v'.contexts frames number (number_of v'.contexts p.0) adds old in
+          let most = number_of-place v.contexts p.0 (number_of v'.contexts p.0) old (sym stay ∙ now) in
+          absurd (ge (omega arith))
+
 module _ (o : Order State) (f : Flow Place State) where
-  -- a table whose marks say less of points with states
-  pub table_freed : (v : Contents) (marked marked' : List (ℕ × ℕ)) (Here Here' : Place → Type 0)
-      → IsTable o f v marked Here (λ _ _. ⊥) → ((k : ℕ × ℕ) → has_mark marked' k ≡ true → has_mark marked k ≡ true)
-      → ((p : Place) (s : State) → family_of v p ≡ Some s → IsMarked v marked p ⊎ Here p → IsMarked v marked' p ⊎ Here' p)
-      → IsTable o f v marked' Here' (λ _ _. ⊥)
-  table_freed v marked marked' Here Here' table fewer free = record {
+  -- a point is taken out of those that wait
+  pub table_popped : OrderLaws o → (v : Contents) (waiting waiting' : List (ℕ × ℕ)) (filled : Place → Option State) (MayLead : Place → Place → Type 0) (c off : ℕ)
+      → IsTable o f v waiting filled MayLead (λ _. ⊥) (λ _ _ _. ⊥) → waiting ≡ (c, off) ∷ waiting'
+      → IsTable o f v waiting' filled MayLead (λ p. p ≡ place_of v c off) (λ _ _ _. ⊥)
+  table_popped order v waiting waiting' filled MayLead c off table is = record {
     family = table.family;
     entered = table.entered;
-    held = λ a b m. table.held a b (fewer (a, b) m);
-    sound = record {
-      derived = table.sound.derived;
-      rest_derived = table.sound.rest_derived;
-      start = table.sound.start;
-      safe = λ p s r at unmarked refused. table.sound.safe p s r at (λ m. unmarked (free p s at m)) refused;
-      closed = λ p s q t at unmarked given. table.sound.closed p s q t at (λ m. unmarked (free p s at m)) given;
-    };
+    held = λ a b m. table.held a b (stays (a, b) m);
+    sound = sound_moved o order f filled MayLead MayLead (λ p. IsAmong v waiting p ⊎ ⊥) (λ p. IsAmong v waiting' p ⊎ (p ≡ place_of v c off)) (λ _ _ _. ⊥) table.sound (λ p q m. m)
+        (λ p m. elim m [ inl hit ↦ was p hit | inr never ↦ absurd never ]);
   }
+    where
+      has_at : (k : ℕ × ℕ) → has_point waiting k ≡ has_point ((c, off) ∷ waiting') k
+      has_at k = ap (λ (x : List (ℕ × ℕ)). has_point x k) is
 
-  -- a point is taken out of the set
-  pub table_popped : (v : Contents) (marked marked' : List (ℕ × ℕ)) (c off : ℕ) → IsTable o f v marked (λ _. ⊥) (λ _ _. ⊥) → marked ≡ (c, off) ∷ marked'
-      → IsTable o f v marked' (λ p. p ≡ place_of v c off) (λ _ _. ⊥)
-  table_popped v marked marked' c off table is =
-      let is_at_k = λ (k : ℕ × ℕ). ap (λ (x : List (ℕ × ℕ)). has_mark x k) is in
-      table_freed v marked marked' (λ _. ⊥) (λ p. p ≡ place_of v c off) table
-      (λ k m. elim (cases_place k (c, off)) [
-        | inl same ↦ ap (has_mark marked) same ∙ is_at_k (c, off) ∙ mark_here (c, off) marked'
-        | inr apart ↦ is_at_k k ∙ mark_behind (c, off) k marked' apart ∙ m
-      ])
-      (λ p s at m. elim m [
-        | inr never ↦ absurd never
-        | inl hit ↦ elim (cases_place (number_of v.contexts p.0, p.1) (c, off)) [
-          | inr apart ↦ inl (sym (mark_behind (c, off) (number_of v.contexts p.0, p.1) marked' apart) ∙ sym (is_at_k (number_of v.contexts p.0, p.1)) ∙ hit)
-          | inl same ↦
-              let n : number_of v.contexts p.0 ≡ c = ap (λ (x : ℕ × ℕ). x.0) same in
-              let b : p.1 ≡ off = ap (λ (x : ℕ × ℕ). x.1) same in
-              let frames : p.0 ≡ frames_at v.contexts c = sym (at-number_of v.contexts p.0 (has_number v p s table.family at)) ∙ ap (frames_at v.contexts) n in
-              inr (λ i. (frames i, b i))
-        ]
-      ])
+      stays : (k : ℕ × ℕ) → has_point waiting' k ≡ true → has_point waiting k ≡ true
+      stays k m = elim (cases_place k (c, off)) [
+        | inl same ↦ ap (has_point waiting) same ∙ has_at (c, off) ∙ point_here (c, off) waiting'
+        | inr apart ↦ has_at k ∙ point_behind (c, off) k waiting' apart ∙ m
+      ]
+
+      was : (p : Place) → IsAmong v waiting p → IsAmong v waiting' p ⊎ (p ≡ place_of v c off)
+      was p hit = elim (cases_place (key_of v p) (c, off)) [
+        | inr apart ↦ inl (sym (point_behind (c, off) (key_of v p) waiting' apart) ∙ sym (has_at (key_of v p)) ∙ hit)
+        | inl same ↦
+            let n : number_of v.contexts p.0 ≡ c = ap (λ (x : ℕ × ℕ). x.0) same in
+            let b : p.1 ≡ off = ap (λ (x : ℕ × ℕ). x.1) same in
+            let (a, at) = table.held (number_of v.contexts p.0) p.1 hit in
+            let frames : p.0 ≡ frames_at v.contexts c = sym (at-number_of v.contexts p.0 (table.family.held (number_of v.contexts p.0) p.1 a at)) ∙ ap (frames_at v.contexts) n in
+            inr (λ i. (frames i, b i))
+      ]
 
   -- the point was carried on
-  pub table_opened : OrderLaws o → (v : Contents) (marked : List (ℕ × ℕ)) (q : Place) (s : State) (Rest : Place → State → Type 0)
-      → IsTable o f v marked (λ p. p ≡ q) (λ _ _. ⊥) → family_of v q ≡ Some s
-      → ((r : Reason) → f.Refuses q s r → ⊥) → ((p : Place) (t : State) → Rest p t ↔ f.Gives q s p t)
-      → IsTable o f v marked (λ _. ⊥) Rest
-  table_opened order v marked q s Rest table at free gives = record {
+  pub table_opened : OrderLaws o → (v : Contents) (waiting : List (ℕ × ℕ)) (filled : Place → Option State) (MayLead : Place → Place → Type 0) (q : Place) (s : State) (Rest : Place → Place → State → Type 0)
+      → IsTable o f v waiting filled MayLead (λ p. p ≡ q) (λ _ _ _. ⊥) → filled q ≡ Some s → ((r : Reason) → f.Refuses q s r → ⊥)
+      → ((p : Place) (t : State) → f.Gives q s p t → Rest q p t) → ((r p : Place) (t : State) → Rest r p t → f.Gives q s p t)
+      → IsTable o f v waiting filled MayLead (λ _. ⊥) Rest
+  table_opened order v waiting filled MayLead q s Rest table at free gives back = record {
     family = table.family;
     entered = table.entered;
     held = table.held;
-    sound = sound_opened o order f same_or_apart (family_of v) (λ p. IsMarked v marked p ⊎ (p ≡ q)) (λ p. IsMarked v marked p ⊎ ⊥) Rest q s table.sound at free gives
+    sound = sound_opened o order f same_or_apart filled MayLead (λ p. IsAmong v waiting p ⊎ (p ≡ q)) (λ p. IsAmong v waiting p ⊎ ⊥) Rest q s table.sound at free gives back
         (λ p apart m. elim m [ inl hit ↦ inl hit | inr same ↦ absurd (apart same) ]);
   }
 
-  -- there is no state at the point
-  pub table_none : (v : Contents) (marked : List (ℕ × ℕ)) (q : Place) → IsTable o f v marked (λ p. p ≡ q) (λ _ _. ⊥) → family_of v q ≡ None
-      → IsTable o f v marked (λ _. ⊥) (λ _ _. ⊥)
-  table_none v marked q table none = table_freed v marked marked (λ p. p ≡ q) (λ _. ⊥) table (λ k m. m) (λ p s at m. elim m [
-    | inl hit ↦ inl hit
-    | inr same ↦ absurd (let no_such : None ≡ Some s = sym none ∙ ap (family_of v) (sym same) ∙ at in cc)
-  ])
-
-  -- one more context
-  table_appended : (v : Contents) (marked : List (ℕ × ℕ)) (Rest : Place → State → Type 0) (frames : List Frame) (off : ℕ) (t : State)
-      → IsTable o f v marked (λ _. ⊥) Rest → Derived o f (frames, off) t → (HasContext v.contexts frames → ⊥) → IsFamily (record { contexts = v.contexts ++ frames ∷ []; states = v.states })
-      → IsTable o f (record { contexts = v.contexts ++ frames ∷ []; states = v.states }) marked (λ _. ⊥) Rest
-  table_appended v marked Rest frames off t table d absent family' =
-      let long = length-append v.contexts (frames ∷ []) in
-      let was = λ (p : Place) (s : State) (at : states_of v.states (number_of (v.contexts ++ frames ∷ []) p.0, p.1) ≡ Some s).
-      ap (λ n. states_of v.states (n, p.1)) (sym (old_number p s at)) ∙ at in
-      record {
-        family = family';
-        entered = λ i lt. elim (cases_lt i (length v.contexts)) [
-          | inl old ↦
-              let (a, s, da) = table.entered i old in
-              let D : List Frame → Type 0 = λ x. Derived o f (x, a) s in
-              (a, s, subst D (sym (get_or-append v.contexts (frames ∷ []) [] i old)) da)
-          | inr last ↦
-              let e : length v.contexts ≡ i = omega arith in
-              let at : frames ≡ frames_at (v.contexts ++ frames ∷ []) i = sym (get_or-append_seam v.contexts frames [] []) ∙ ap (frames_at (v.contexts ++ frames ∷ [])) e in
-              let D : List Frame → Type 0 = λ x. Derived o f (x, off) t in
-              (off, t, subst D at d)
-        ];
-        held = λ c' a m. let lt = table.held c' a m in omega arith;
-        sound = record {
-          derived = λ p s at. table.sound.derived p s (was p s at);
-          rest_derived = table.sound.rest_derived;
-          start = cover_still f.entry f.start table.sound.start;
-          safe = λ p s n at unmarked refused. table.sound.safe p s n (was p s at) (free p s at unmarked) refused;
-          closed = λ p s q u at unmarked given. elim (table.sound.closed p s q u (was p s at) (free p s at unmarked) given) [
-            | inl covered ↦ inl (cover_still q u covered)
-            | inr rest ↦ inr rest
-          ];
-        };
-      }
-    where
-      old_number : (p : Place) (s : State) → states_of v.states (number_of (v.contexts ++ frames ∷ []) p.0, p.1) ≡ Some s
-          → number_of (v.contexts ++ frames ∷ []) p.0 ≡ number_of v.contexts p.0
-      old_number p s at = elim (cases_lt (number_of v.contexts p.0) (length v.contexts)) [
-        | inl lt ↦ number_of-append v.contexts frames p.0 lt
-        | inr ge ↦ absurd (
-            let most = number_of-le v.contexts p.0 in
-            let past = number_of-append_past v.contexts frames p.0 (omega arith) in
-            let lt = table.family.held (number_of (v.contexts ++ frames ∷ []) p.0) p.1 s at in
-            omega arith)
-      ]
-
-      cover_still : (p : Place) (s : State) → CoversAt o (family_of v) p s → CoversAt o (family_of (record { contexts = v.contexts ++ frames ∷ []; states = v.states })) p s
-      cover_still p s (u, at, below) =
-          (u, ap (λ n. states_of v.states (n, p.1)) (number_of-append v.contexts frames p.0 (has_number v p u table.family at)) ∙ at, below)
-
-      free : (p : Place) (s : State) → states_of v.states (number_of (v.contexts ++ frames ∷ []) p.0, p.1) ≡ Some s
-          → (IsMarked (record { contexts = v.contexts ++ frames ∷ []; states = v.states }) marked p ⊎ ⊥ → ⊥) → IsMarked v marked p ⊎ ⊥ → ⊥
-      free p s at unmarked m = elim m [
-        | inl hit ↦ unmarked (inl (ap (λ n. has_mark marked (n, p.1)) (old_number p s at) ∙ hit))
-        | inr never ↦ never
-      ]
-
   -- a context may have been added
-  pub table_grown : (v v' : Contents) (marked : List (ℕ × ℕ)) (Rest : Place → State → Type 0) (frames : List Frame) (number off : ℕ) (t : State)
-      → IsTable o f v marked (λ _. ⊥) Rest → AddsContext v.contexts v'.contexts frames number → v'.states ≡ v.states → IsFamily v' → Derived o f (frames, off) t
-      → IsTable o f v' marked (λ _. ⊥) Rest
-  table_grown v v' marked Rest frames number off t table adds states family d = elim adds.how [
-    | inl same ↦
-        let one : ◌≡◌ {A = Contents} v' v = λ i. record { contexts = same.1 i; states = states i } in
-        let T : Contents → Type 0 = λ x. IsTable o f x marked (λ _. ⊥) Rest in
-        subst T (sym one) table
-    | inr new ↦
-        let T : Contents → Type 0 = λ x. IsFamily x → IsTable o f x marked (λ _. ⊥) Rest in
-        let one : ◌≡◌ {A = Contents} v' (record { contexts = v.contexts ++ frames ∷ []; states = v.states }) = λ i. record { contexts = new.2 i; states = states i } in
-        subst T (sym one) (table_appended v marked Rest frames off t table d new.0) family
-  ]
+  pub table_grown : OrderLaws o → (v v' : Contents) (waiting : List (ℕ × ℕ)) (filled : Place → Option State) (MayLead MayLead' : Place → Place → Type 0) (Rest : Place → Place → State → Type 0)
+      (frames : List Frame) (number off : ℕ) (t : State) → IsTable o f v waiting filled MayLead (λ _. ⊥) Rest → AddsContext v.contexts v'.contexts frames number → v'.states ≡ v.states
+      → IsFamily v' → Derived o f (frames, off) t → ((p q : Place) → MayLead p q → MayLead' p q)
+      → IsTable o f v' waiting filled MayLead' (λ _. ⊥) Rest
+  table_grown order v v' waiting filled MayLead MayLead' Rest frames number off t table adds states family' d leads = record {
+    family = family';
+    entered = entered;
+    held = λ c b m. let (a, at) = table.held c b m in (a, ap (λ x. states_of x (c, b)) states ∙ at);
+    sound = sound_moved o order f filled MayLead MayLead' (λ p. IsAmong v waiting p ⊎ ⊥) (λ p. IsAmong v' waiting p ⊎ ⊥) Rest table.sound leads (λ p m. elim m [
+      | inl hit ↦
+          let (a, at) = table.held (number_of v.contexts p.0) p.1 hit in
+          inl (ap (has_point waiting) (key_kept v v' frames number adds states p (table.family.held (number_of v.contexts p.0) p.1 a at)) ∙ hit)
+      | inr never ↦ absurd never
+    ]);
+  }
+    where
+      entered : (i : ℕ) → i < length v'.contexts → (offset : ℕ) × (a : State) × Derived o f (frames_at v'.contexts i, offset) a
+      entered i lt = elim adds.how [
+        | inl same ↦
+            let E : List (List Frame) → Type 0 = λ x. i < length x → (offset : ℕ) × (a : State) × Derived o f (frames_at x i, offset) a in
+            subst E (sym same.1) (table.entered i) lt
+        | inr new ↦
+            let E : List (List Frame) → Type 0 = λ x. i < length x → (offset : ℕ) × (a : State) × Derived o f (frames_at x i, offset) a in
+            subst E (sym new.2) (appended i) lt
+      ]
+        where
+          appended : (i : ℕ) → i < length (v.contexts ++ frames ∷ []) → (offset : ℕ) × (a : State) × Derived o f (frames_at (v.contexts ++ frames ∷ []) i, offset) a
+          appended i lt =
+              let long = length-append v.contexts (frames ∷ []) in
+              elim (cases_lt i (length v.contexts)) [
+                | inl old ↦
+                    let (a, s, da) = table.entered i old in
+                    let D : List Frame → Type 0 = λ x. Derived o f (x, a) s in
+                    (a, s, subst D (sym (get_or-append v.contexts (frames ∷ []) [] i old)) da)
+                | inr last ↦
+                    let e : length v.contexts ≡ i = omega arith in
+                    let at : frames ≡ frames_at (v.contexts ++ frames ∷ []) i = sym (get_or-append_seam v.contexts frames [] []) ∙ ap (frames_at (v.contexts ++ frames ∷ [])) e in
+                    let D : List Frame → Type 0 = λ x. Derived o f (x, off) t in
+                    (off, t, subst D at d)
+              ]
 
-  -- the first of what waits was put
-  pub table_put : OrderLaws o → (v v' : Contents) (marked marked' : List (ℕ × ℕ)) (c off : ℕ) (t : State) (changed : Bool) (qs : List Place)
-      → IsTable o f v marked (λ _. ⊥) (Pends (place_of v c off ∷ qs) t) → c < length v.contexts
-      → PutsAt o (family_of v) (family_of v') (place_of v c off) t changed → v'.contexts ≡ v.contexts → IsFamily v' → MarksMore marked marked' (c, off) changed
-      → IsTable o f v' marked' (λ _. ⊥) (Pends qs t)
-  table_put order v v' marked marked' c off t changed qs table lt put same family marks =
-      let n_same = λ (fs : List Frame). ap (λ (x : List (List Frame)). number_of x fs) same in
+  -- what waits after a put
+  module _ (v v' : Contents) (waiting waiting' : List (ℕ × ℕ)) (c off : ℕ) (changed : Bool) (same : v'.contexts ≡ v.contexts) (marks : WaitsMore waiting waiting' (c, off) changed)
+      (family : IsFamily v) (lt : c < length v.contexts) where
+    key_same : (p : Place) → ◌≡◌ {A = ℕ × ℕ} (key_of v' p) (key_of v p)
+    key_same p = λ i. (number_of (same i) p.0, p.1)
+
+    pub waits_on : (p : Place) → IsAmong v waiting p → IsAmong v' waiting' p
+    waits_on p hit = ap (has_point waiting') (key_same p) ∙ marks.more (key_of v p) hit
+
+    pub waits_here : changed ≡ true → IsAmong v' waiting' (place_of v c off)
+    waits_here is = ap (has_point waiting') (key_same (place_of v c off) ∙ (λ i. (number_at v c family lt i, off))) ∙ marks.here is
+
+    pub waits_back : ((a b : ℕ) → has_point waiting (a, b) ≡ true → a < length v.contexts) → (p : Place) → IsAmong v' waiting' p
+        → IsAmong v waiting p ⊎ ((p ≡ place_of v c off) × (changed ≡ true))
+    waits_back held p hit = elim (marks.back (key_of v p) (ap (has_point waiting') (sym (key_same p)) ∙ hit)) [
+      | inl old ↦ inl old
+      | inr (here, is) ↦
+          let n : number_of v.contexts p.0 ≡ c = ap (λ (x : ℕ × ℕ). x.0) here in
+          let b : p.1 ≡ off = ap (λ (x : ℕ × ℕ). x.1) here in
+          let frames : p.0 ≡ frames_at v.contexts c = sym (at-number_of v.contexts p.0 (omega arith)) ∙ ap (frames_at v.contexts) n in
+          inr ((λ i. (frames i, b i)), is)
+    ]
+
+  -- the first of what is still to be put was put
+  pub table_put : OrderLaws o → (v v' : Contents) (waiting waiting' : List (ℕ × ℕ)) (filled filled' : Place → Option State) (MayLead MayLead' : Place → Place → Type 0) (c off : ℕ) (t : State) (changed : Bool)
+      (Rest Rest' : Place → Place → State → Type 0)
+      → IsTable o f v waiting filled MayLead (λ _. ⊥) Rest → c < length v.contexts → PutsAt o (family_of v) (family_of v') (place_of v c off) t changed
+      → PutsAt o filled filled' (place_of v c off) t changed → v'.contexts ≡ v.contexts → IsFamily v' → WaitsMore waiting waiting' (c, off) changed → Derived o f (place_of v c off) t
+      → ((p r : Place) (s : State) → Rest p r s → Rest' p r s ⊎ ((r ≡ place_of v c off) × (s ≡ t) × MayLead' p (place_of v c off)))
+      → ((p r : Place) (s : State) → Rest' p r s → Rest p r s) → ((p r : Place) → MayLead p r → MayLead' p r)
+      → IsTable o f v' waiting' filled' MayLead' (λ _. ⊥) Rest'
+  table_put order v v' waiting waiting' filled filled' MayLead MayLead' c off t changed Rest Rest' table lt put fills same family marks d fewer back leads =
       let long = ap length same in
       let E : List (List Frame) → Type 0 = λ x. (i : ℕ) → i < length x → (a : ℕ) × (s : State) × Derived o f (frames_at x i, a) s in
       record {
         family = family;
         entered = subst E (sym same) table.entered;
-        held = λ a b m. elim (marks.back (a, b) m) [
-          | inl old ↦ let h = table.held a b old in omega arith
-          | inr new ↦ let e : a ≡ c = ap (λ (x : ℕ × ℕ). x.0) new in omega arith
-        ];
-        sound = sound_put o order f same_or_apart (family_of v) (family_of v') (λ p. IsMarked v marked p ⊎ ⊥) (λ p. IsMarked v' marked' p ⊎ ⊥)
-            (Pends (place_of v c off ∷ qs) t) (Pends qs t) (place_of v c off) t changed table.sound put (inl (refl, refl))
-            (λ p s waits. elim waits [ inl now ↦ inr now | inr still ↦ inl still ]) (λ p s still. inr still)
-            (λ p m. elim m [
-              | inl hit ↦ inl (ap (λ n. has_mark marked' (n, p.1)) (n_same p.0) ∙ marks.more (number_of v.contexts p.0, p.1) hit)
-              | inr never ↦ absurd never
-            ])
-            (λ is. inl (ap (λ n. has_mark marked' (n, off)) (n_same (frames_at v.contexts c) ∙ number_at v c table.family lt) ∙ marks.here is));
+        held = held;
+        sound = sound_put o order f same_or_apart filled filled' MayLead MayLead' (λ p. IsAmong v waiting p ⊎ ⊥) (λ p. IsAmong v' waiting' p ⊎ ⊥) Rest Rest' (place_of v c off) t changed
+            table.sound fills d fewer back leads
+            (λ p m. elim m [ inl hit ↦ inl (waits_on v v' waiting waiting' c off changed same marks table.family lt p hit) | inr never ↦ absurd never ])
+            (λ is. inl (waits_here v v' waiting waiting' c off changed same marks table.family lt is));
       }
+    where
+      there : (x y : Option State) → PutGives o x t y changed → (a : State) × (y ≡ Some a)
+      there None None g = absurd g
+      there None (Some u) g = (u, refl)
+      there (Some a) None g = absurd g
+      there (Some a) (Some u) g = (u, refl)
+
+      rises : (a b : ℕ) (s : State) → states_of v.states (a, b) ≡ Some s → (u : State) × (states_of v'.states (a, b) ≡ Some u)
+      rises a b s at =
+          let lt' = table.family.held a b s at in
+          let moved : family_of v' (place_of v a b) ≡ states_of v'.states (a, b) =
+          let long' = ap length same in (λ i. family_of v' (frames_at (sym same i) a, b)) ∙ family_at v' a b family (omega arith) in
+          elim (same_or_apart (place_of v a b) (place_of v c off)) [
+            | inl here ↦
+                let (u, is) = there (family_of v (place_of v c off)) (family_of v' (place_of v c off)) put.here in
+                (u, sym moved ∙ ap (family_of v') here ∙ is)
+            | inr apart ↦ (s, sym moved ∙ put.elsewhere (place_of v a b) apart ∙ family_at v a b table.family lt' ∙ at)
+          ]
+
+      held : (a b : ℕ) → has_point waiting' (a, b) ≡ true → (s : State) × (states_of v'.states (a, b) ≡ Some s)
+      held a b m = elim (marks.back (a, b) m) [
+        | inl old ↦ let (s, at) = table.held a b old in rises a b s at
+        | inr (new, _) ↦
+            let moved : family_of v' (place_of v c off) ≡ states_of v'.states (c, off) =
+            let long' = ap length same in (λ i. family_of v' (frames_at (sym same i) c, off)) ∙ family_at v' c off family (omega arith) in
+            let (u, is) = there (family_of v (place_of v c off)) (family_of v' (place_of v c off)) put.here in
+            (u, ap (states_of v'.states) new ∙ sym moved ∙ is)
+      ]

@@ -9,7 +9,7 @@ use Rattle.tt_cert.specs.Places.{PutGives, PutsAt}
 use Rattle.tt_find.specs.Tables.{IsSoundFamily}
 
 module _ {S : Type 0} (o : Order S) where
-  gives_rises : (old : Option S) (t : S) (slot : Option S) (c : Bool) → PutGives o old t slot c → (s : S) → old ≡ Some s → (u : S) × (slot ≡ Some u) × o.Below s u
+  pub gives_rises : (old : Option S) (t : S) (slot : Option S) (c : Bool) → PutGives o old t slot c → (s : S) → old ≡ Some s → (u : S) × (slot ≡ Some u) × o.Below s u
   gives_rises None t None c p s e = absurd p
   gives_rises None t (Some u) c p s e = cc
   gives_rises (Some a) t None c p s e = absurd p
@@ -26,7 +26,7 @@ module _ {S : Type 0} (o : Order S) where
   gives_covers laws (Some a) t None c p = absurd p
   gives_covers laws (Some a) t (Some u) c p = (u, refl, p.0.right)
 
-  gives_same : (old : Option S) (t : S) (slot : Option S) → PutGives o old t slot false → slot ≡ old
+  pub gives_same : (old : Option S) (t : S) (slot : Option S) → PutGives o old t slot false → slot ≡ old
   gives_same None t None p = absurd p
   gives_same None t (Some u) p = let no_such : false ≡ true = p.1 in cc
   gives_same (Some a) t None p = absurd p
@@ -37,6 +37,20 @@ module _ {P S : Type 0} (o : Order S) (laws : OrderLaws o) where
   covers_still old new rises p s (u, at, below) =
       let (v, at', below') = rises p u at in
       (v, at', laws.transitive s u v below below')
+
+  -- more may wait, and more may be led to
+  pub sound_moved : (f : Flow P S) (family : P → Option S) (MayLead MayLead' : P → P → Type 0) (Waits Waits' : P → Type 0) (Rest : P → P → S → Type 0)
+      → IsSoundFamily o f family MayLead Waits Rest → ((p q : P) → MayLead p q → MayLead' p q) → ((p : P) → Waits p → Waits' p) → IsSoundFamily o f family MayLead' Waits' Rest
+  sound_moved f family MayLead MayLead' Waits Waits' Rest sound leads more = record {
+    derived = sound.derived;
+    rest_derived = sound.rest_derived;
+    start = sound.start;
+    safe = λ p s r at free. sound.safe p s r at (λ m. free (more p m));
+    closed = λ p s q t at free gives. elim (sound.closed p s q t at (λ m. free (more p m)) gives) [
+      | inl (covered, may) ↦ inl (covered, leads p q may)
+      | inr rest ↦ inr rest
+    ];
+  }
 
   module _ (f : Flow P S) (same_or_apart : (p q : P) → (p ≡ q) ⊎ (p ≢ q)) where
     put_rises : (old new : P → Option S) (q : P) (t : S) (c : Bool) → PutsAt o old new q t c → (p : P) (s : S) → old p ≡ Some s → CoversAt o new p s
@@ -70,54 +84,113 @@ module _ {P S : Type 0} (o : Order S) (laws : OrderLaws o) where
             let D : S → Type 0 = λ y. Derived o f q y in
             subst D same (joined q a t v (b a refl) d g.0)
 
-    -- a put of what waits: where there was a change the point is marked
-    pub sound_put : (old new : P → Option S) (Marked Marked' : P → Type 0) (Rest Rest' : P → S → Type 0) (q : P) (t : S) (c : Bool)
-        → IsSoundFamily o f old Marked Rest → PutsAt o old new q t c → Rest q t
-        → ((p : P) (s : S) → Rest p s → Rest' p s ⊎ ((p ≡ q) × (s ≡ t))) → ((p : P) (s : S) → Rest' p s → Rest p s)
-        → ((p : P) → Marked p → Marked' p) → (c ≡ true → Marked' q)
-        → IsSoundFamily o f new Marked' Rest'
-    sound_put old new Marked Marked' Rest Rest' q t c sound put waits fewer back more mark =
-        let d : Derived o f q t = sound.rest_derived q t waits in
+    -- what doesn't wait after a put is as it was
+    pub stays : (old new : P → Option S) (Waits' : P → Type 0) (q : P) (t : S) (c : Bool) → PutsAt o old new q t c → (c ≡ true → Waits' q)
+        → (p : P) → (Waits' p → ⊥) → new p ≡ old p
+    stays old new Waits' q t c put wait p free = elim (same_or_apart p q) [
+      | inr apart ↦ put.elsewhere p apart
+      | inl same ↦ by c refl same
+    ]
+      where
+        by : (b : Bool) → c ≡ b → p ≡ q → new p ≡ old p
+        by true e same = absurd (free (let W : P → Type 0 = Waits' in subst W (sym same) (wait e)))
+        by false e same =
+            let G : Bool → Type 0 = λ b. PutGives o (old q) t (new q) b in
+            let kept : new q ≡ old q = gives_same o (old q) t (new q) (subst G e put.here) in
+            ap new same ∙ kept ∙ ap old (sym same)
+
+    pub unchanged : (old new : P → Option S) (Waits' : P → Type 0) (q : P) (t : S) (c : Bool) → PutsAt o old new q t c → (c ≡ true → Waits' q)
+        → (p : P) (s : S) → new p ≡ Some s → (Waits' p → ⊥) → old p ≡ Some s
+    unchanged old new Waits' q t c put wait p s at free = sym (stays old new Waits' q t c put wait p free) ∙ at
+
+    -- a put of what waits: where there was a change the point waits
+    pub sound_put : (old new : P → Option S) (MayLead MayLead' : P → P → Type 0) (Waits Waits' : P → Type 0) (Rest Rest' : P → P → S → Type 0) (q : P) (t : S) (c : Bool)
+        → IsSoundFamily o f old MayLead Waits Rest → PutsAt o old new q t c → Derived o f q t
+        → ((p r : P) (s : S) → Rest p r s → Rest' p r s ⊎ ((r ≡ q) × (s ≡ t) × MayLead' p q)) → ((p r : P) (s : S) → Rest' p r s → Rest p r s)
+        → ((p r : P) → MayLead p r → MayLead' p r) → ((p : P) → Waits p → Waits' p) → (c ≡ true → Waits' q)
+        → IsSoundFamily o f new MayLead' Waits' Rest'
+    sound_put old new MayLead MayLead' Waits Waits' Rest Rest' q t c sound put d fewer back leads more wait =
         let rises = put_rises old new q t c put in
         let covers : CoversAt o new q t = gives_covers o laws (old q) t (new q) c put.here in
         record {
           derived = put_derived old new q t c put sound.derived d;
-          rest_derived = λ p s r. sound.rest_derived p s (back p s r);
+          rest_derived = λ p r s h. sound.rest_derived p r s (back p r s h);
           start = covers_still old new rises f.entry f.start sound.start;
-          safe = λ p s r at free. sound.safe p s r (was c refl p s at free) (λ m. free (more p m));
-          closed = λ p s q' t' at free gives. elim (sound.closed p s q' t' (was c refl p s at free) (λ m. free (more p m)) gives) [
-            | inl covered ↦ inl (covers_still old new rises q' t' covered)
-            | inr later ↦ elim (fewer q' t' later) [
-              | inl still ↦ inr still
-              | inr now ↦ inl (let C : P × S → Type 0 = λ x. CoversAt o new x.0 x.1 in subst C (both now) covers)
-            ]
+          safe = λ p s r at free. sound.safe p s r (unchanged old new Waits' q t c put wait p s at free) (λ m. free (more p m));
+          closed = λ p s q' t' at free gives.
+              elim (sound.closed p s q' t' (unchanged old new Waits' q t c put wait p s at free) (λ m. free (more p m)) gives) [
+                | inl (covered, may) ↦ inl (covers_still old new rises q' t' covered, leads p q' may)
+                | inr later ↦ elim (fewer p q' t' later) [
+                  | inl still ↦ inr still
+                  | inr (place, state, may) ↦
+                      let both : ◌≡◌ {A = P × S} (q, t) (q', t') = λ i. (sym place i, sym state i) in
+                      inl (let C : P × S → Type 0 = λ x. CoversAt o new x.0 x.1 × MayLead' p x.0 in subst C both (covers, may))
+                ]
+              ];
+        }
+
+    -- a state that went on in place
+    pub sound_passed : (old new : P → Option S) (MayLead : P → P → Type 0) (Waits Waits' : P → Type 0) (Rest : P → P → S → Type 0) (p q : P) (a t : S)
+        → IsSoundFamily o f old MayLead Waits Rest → new q ≡ Some t → ((r : P) → r ≢ q → new r ≡ old r) → Derived o f q t
+        → ((p' r : P) (s : S) → Rest p' r s → (p' ≡ p) × (r ≡ q) × (s ≡ t))
+        → MayLead p q → ((r : P) → MayLead r q → r ≡ p) → f.Gives p a q t → ((u v : S) → f.Gives p a q u → f.Gives p a q v → u ≡ v)
+        → (f.entry ≢ q) → ((Waits p → ⊥) → old p ≡ Some a)
+        → ((r : P) → Waits r → Waits' r) → Waits' q
+        → IsSoundFamily o f new MayLead Waits' (λ _ _ _. ⊥)
+    sound_passed old new MayLead Waits Waits' Rest p q a t sound here elsewhere d pends may only gives one entry at_p more wait =
+        let was = λ (r : P) (s : S) (at : new r ≡ Some s) (free : Waits' r → ⊥). was_there r s at free in
+        record {
+          derived = λ r s at. elim (same_or_apart r q) [
+            | inl same ↦
+                let at_q : Some t ≡ Some s = sym here ∙ ap new (sym same) ∙ at in
+                let is : t ≡ s = cc in
+                let D : P × S → Type 0 = λ x. Derived o f x.0 x.1 in
+                let both : ◌≡◌ {A = P × S} (q, t) (r, s) = λ i. (sym same i, is i) in
+                subst D both d
+            | inr apart ↦ sound.derived r s (sym (elsewhere r apart) ∙ at)
           ];
+          rest_derived = λ _ _ _ never. absurd never;
+          start = let (u, at, below) = sound.start in (u, elsewhere f.entry entry ∙ at, below);
+          safe = λ r s n at free. sound.safe r s n (was r s at free) (λ m. free (more r m));
+          closed = λ r s q' t' at free given. inl (elim (sound.closed r s q' t' (was r s at free) (λ m. free (more r m)) given) [
+            | inr later ↦
+                let (from, place, state) = pends r q' t' later in
+                let C : P × P × S → Type 0 = λ x. CoversAt o new x.1 x.2 × MayLead x.0 x.1 in
+                let all : ◌≡◌ {A = P × P × S} (p, q, t) (r, q', t') = λ i. (sym from i, sym place i, sym state i) in
+                subst C all ((t, here, laws.reflexive t), may)
+            | inl ((u, at', below), led) ↦ elim (same_or_apart q' q) [
+              | inr apart ↦ ((u, elsewhere q' apart ∙ at', below), led)
+              | inl same ↦
+                  let L : P → Type 0 = λ x. MayLead r x in
+                  let from : r ≡ p = only r (subst L same led) in
+                  let at_r : old r ≡ Some s = was r s at free in
+                  let at_p' : old p ≡ Some s = ap old (sym from) ∙ at_r in
+                  let W : P → Type 0 = λ x. Waits x → ⊥ in
+                  let at_p'' = at_p (subst W from (λ m. free (more r m))) in
+                  let state : s ≡ a = cc in
+                  let G : P × S × P → Type 0 = λ x. f.Gives x.0 x.1 x.2 t' in
+                  let all : ◌≡◌ {A = P × S × P} (r, s, q') (p, a, q) = λ i. (from i, state i, same i) in
+                  let is : t' ≡ t = one t' t (subst G all given) gives in
+                  let B : S → Type 0 = λ x. o.Below x t in
+                  ((t, ap new same ∙ here, subst B (sym is) (laws.reflexive t)), led)
+            ]
+          ]);
         }
       where
-        both : {p : P} {s : S} → (p ≡ q) × (s ≡ t) → ◌≡◌ {A = P × S} (q, t) (p, s)
-        both h = λ i. (sym h.0 i, sym h.1 i)
-
-        was : (b : Bool) → c ≡ b → (p : P) (s : S) → new p ≡ Some s → (Marked' p → ⊥) → old p ≡ Some s
-        was true e p s at free = elim (same_or_apart p q) [
-          | inl same ↦ absurd (free (let M : P → Type 0 = Marked' in subst M (sym same) (mark e)))
-          | inr apart ↦ sym (put.elsewhere p apart) ∙ at
-        ]
-        was false e p s at free = elim (same_or_apart p q) [
-          | inl same ↦
-              let G : Bool → Type 0 = λ b. PutGives o (old q) t (new q) b in
-              let kept : new q ≡ old q = gives_same o (old q) t (new q) (subst G e put.here) in
-              ap old same ∙ sym kept ∙ ap new (sym same) ∙ at
-          | inr apart ↦ sym (put.elsewhere p apart) ∙ at
+        was_there : (r : P) (s : S) → new r ≡ Some s → (Waits' r → ⊥) → old r ≡ Some s
+        was_there r s at free = elim (same_or_apart r q) [
+          | inl same ↦ absurd (free (let W : P → Type 0 = Waits' in subst W (sym same) wait))
+          | inr apart ↦ sym (elsewhere r apart) ∙ at
         ]
 
-    -- a marked point was carried on
-    pub sound_opened : (family : P → Option S) (Marked Marked' : P → Type 0) (Rest' : P → S → Type 0) (p : P) (s : S)
-        → IsSoundFamily o f family Marked (λ _ _. ⊥) → family p ≡ Some s → ((r : Reason) → f.Refuses p s r → ⊥)
-        → ((q : P) (t : S) → Rest' q t ↔ f.Gives p s q t) → ((q : P) → q ≢ p → Marked q → Marked' q)
-        → IsSoundFamily o f family Marked' Rest'
-    sound_opened family Marked Marked' Rest' p s sound at free gives more = record {
+    -- a point that waited was carried on
+    pub sound_opened : (family : P → Option S) (MayLead : P → P → Type 0) (Waits Waits' : P → Type 0) (Rest' : P → P → S → Type 0) (p : P) (s : S)
+        → IsSoundFamily o f family MayLead Waits (λ _ _ _. ⊥) → family p ≡ Some s → ((r : Reason) → f.Refuses p s r → ⊥)
+        → ((q : P) (t : S) → f.Gives p s q t → Rest' p q t) → ((r q : P) (t : S) → Rest' r q t → f.Gives p s q t) → ((q : P) → q ≢ p → Waits q → Waits' q)
+        → IsSoundFamily o f family MayLead Waits' Rest'
+    sound_opened family MayLead Waits Waits' Rest' p s sound at free gives back more = record {
       derived = sound.derived;
-      rest_derived = λ q t r. moved p q s t (sound.derived p s at) free ((gives q t).0 r);
+      rest_derived = λ r q t h. moved p q s t (sound.derived p s at) free (back r q t h);
       start = sound.start;
       safe = λ p' s' r at' unmarked refused. elim (same_or_apart p' p) [
         | inl same ↦
@@ -132,7 +205,8 @@ module _ {P S : Type 0} (o : Order S) (laws : OrderLaws o) where
             let at_p : family p ≡ Some s' = ap family (sym same) ∙ at' in
             let one : s' ≡ s = cc in
             let G : P × S → Type 0 = λ x. f.Gives x.0 x.1 q t in
-            inr ((gives q t).1 (subst G (pair_same same one) given))
+            let R : P → Type 0 = λ x. Rest' x q t in
+            inr (subst R (sym same) (gives q t (subst G (pair_same same one) given)))
         | inr other ↦ elim (sound.closed p' s' q t at' (λ m. unmarked (more p' other m)) given) [ inl covered ↦ inl covered | inr never ↦ absurd never ]
       ];
     }
@@ -140,11 +214,12 @@ module _ {P S : Type 0} (o : Order S) (laws : OrderLaws o) where
         pair_same : {a b : P} {x y : S} → a ≡ b → x ≡ y → ◌≡◌ {A = P × S} (a, x) (b, y)
         pair_same e e' = λ i. (e i, e' i)
 
-    -- where nothing is marked and nothing waits the family is good
-    pub good_from_sound : ((p : P) (s : S) → Derived o f p s → o.InRange s) → (family : P → Option S) → IsSoundFamily o f family (λ _. ⊥) (λ _ _. ⊥) → IsGood o f family
-    good_from_sound in_range family sound = record {
+    -- where nothing waits the family is good
+    pub good_from_sound : ((p : P) (s : S) → Derived o f p s → o.InRange s) → (family : P → Option S) (MayLead : P → P → Type 0)
+        → IsSoundFamily o f family MayLead (λ _. ⊥) (λ _ _ _. ⊥) → IsGood o f family
+    good_from_sound in_range family MayLead sound = record {
       in_range = λ p s at. in_range p s (sound.derived p s at);
       start = sound.start;
       safe = λ p s r at. sound.safe p s r at (λ m. m);
-      closed = λ p s q t at gives. elim (sound.closed p s q t at (λ m. m) gives) [ inl covered ↦ covered | inr never ↦ absurd never ];
+      closed = λ p s q t at gives. elim (sound.closed p s q t at (λ m. m) gives) [ inl (covered, may) ↦ covered | inr never ↦ absurd never ];
     }

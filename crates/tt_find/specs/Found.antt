@@ -1,22 +1,27 @@
 -- What the finder finds, and what makes its refusals right. (Cousot and Cousot, "Abstract interpretation": the least fixed point, by
 -- chaotic iteration.)
-use Rattle.std.specs.Prelude.{◌≡◌, ℕ, ◌<◌, Option, Some, List, [], length}
+use Rattle.std.specs.Prelude.{◌≡◌, ◌≢◌, ◌⊎◌, ℕ, ◌+◌, ◌*◌, ◌<◌, ◌≤◌, Bool, false, Option, Some, None, List, [], ◌∷◌, length}
 use Rattle.tt_code.specs.Settings.{Setting}
 use Rattle.tt_code.specs.declared.machine.Frame.{Frame}
 use Rattle.tt_code.specs.declared.reason.Reason.{Reason}
-use Rattle.tt_code.specs.declared.reason.Reason.TheVariants.{DepthMismatch, NeverEnds, ProgramTooLong, TooManyContexts}
+use Rattle.tt_code.specs.declared.reason.Reason.TheVariants.{DepthMismatch, MissingPoint, NeverEnds, ProgramTooLong, TooManyContexts}
 use Rattle.tt_abs.specs.declared.state.State.{State}
 use Rattle.tt_abs.specs.Contexts.{FramesFit}
 use Rattle.tt_abs.specs.Families.{Derived, IsBelowFamily, IsGood}
 use Rattle.tt_abs.specs.FunctionBodies.{AreFunctionBodies, AreProgramsOfFont}
 use Rattle.tt_abs.specs.Goodness.{HasStateIn}
-use Rattle.tt_abs.specs.StateFlow.{Place, GivesState, RefusesState, flow_of}
+use Rattle.tt_abs.specs.Lines.{Precedes}
+use Rattle.tt_abs.specs.StateFlow.{FitsLimits, Place, GivesState, RefusesState, flow_of, height_of}
 use Rattle.tt_abs.specs.States.{state_order}
-use Rattle.tt_cert.specs.Contents.{HasContext, frames_at}
-use Rattle.tt_cert.specs.GoodFamilies.{EndsWell, HasFewContexts, IsShortEnough}
+use Rattle.tt_cert.specs.Checks.{IsFillingBrokenFirst}
+use Rattle.tt_cert.specs.Contents.{Contents, HasContext, family_of, frames_at}
+use Rattle.tt_cert.specs.Fillings.{HasGoodFilling, IsFilling}
+use Rattle.tt_cert.specs.GoodFamilies.{EndsWell, HasFewContexts, IsGoodFamily, IsShortEnough}
 use Rattle.tt_cert.specs.Spots.{spot_of}
 use Rattle.tt_find.specs.declared.fault.FindFault.{FindFault}
 use Rattle.tt_find.specs.declared.fault.FindFault.TheVariants.{Refused, OutOfMemory}
+use Rattle.tt_find.specs.declared.stop.Stop.{Stop}
+use Rattle.tt_find.specs.declared.stop.Stop.TheVariants.{Fault, Met}
 
 -- the state is derived at the place, in a program that starts with these functions
 abbrev pub IsDerived : Setting → List (ℕ × ℕ) → Place → State → Type 0
@@ -37,6 +42,65 @@ pub record AreLeastContexts (s : Setting) (functions : List (ℕ × ℕ)) (conte
 abbrev pub KeepsBodies : Setting → List (ℕ × ℕ) → (Place → Option State) → Type 0
 KeepsBodies s functions family =
     AreProgramsOfFont s → AreFunctionBodies s functions → (p : Place) (a : State) → family p ≡ Some a → AreFunctionBodies s a.functions
+
+-- the place is one of these
+abbrev pub HasPlace : List Place → Place → Type 0
+HasPlace [] p = ⊥
+HasPlace (q ∷ qs) p = (p ≡ q) ⊎ HasPlace qs p
+
+-- no two of these places are the same
+abbrev pub AreApart : List Place → Type 0
+AreApart [] = Unit {0}
+AreApart (q ∷ qs) = (HasPlace qs q → ⊥) × AreApart qs
+
+-- the places at which the family has states, each once
+pub record ArePointsOf (family : Place → Option State) (points : List Place) : Type 0 where
+  pub apart : AreApart points
+  pub all : (p : Place) (a : State) → family p ≡ Some a → HasPlace points p
+  pub only : (p : Place) → HasPlace points p → (a : State) × (family p ≡ Some a)
+
+-- What is found: the family's filling is good, each of its states is derived, so that it is below each good family, and is within the limits; at
+-- least one update was made for each of its points, and at most one more for each rise of its state.
+pub record HasLeastFilling (s : Setting) (functions : List (ℕ × ℕ)) (updates : ℕ) (family : Place → Option State) : Type 0 where
+  pub filling : Place → Option State
+  pub fills : IsFilling s family filling
+  pub good : IsGoodFamily s functions filling
+  pub least : IsLeast s functions filling
+  pub within : (p : Place) (a : State) → filling p ≡ Some a → FitsLimits s a
+  pub bodies : KeepsBodies s functions filling
+  pub points : List Place
+  pub exact : ArePointsOf filling points
+  pub at_least : length points ≤ updates
+  pub at_most : updates ≤ length points * (1 + height_of s)
+
+-- a derived state leads there from another place than the one just before
+pub record IsLedElsewhere (s : Setting) (functions : List (ℕ × ℕ)) (q : Place) : Type 0 where
+  pub from : Place
+  pub state : State
+  pub given : State
+  pub derived : IsDerived s functions from state
+  pub gives : GivesState s from state q given
+  pub elsewhere : Precedes s from q → ⊥
+
+-- a filling has no state there that the family hasn't: it is the start, or a place to which another leads than the one just before
+abbrev pub IsNeeded : Setting → List (ℕ × ℕ) → Place → Type 0
+IsNeeded s functions q = (q ≡ ([], 0)) ⊎ IsLedElsewhere s functions q
+
+-- the second family is the first without its state at the place
+pub record IsWithout (family other : Place → Option State) (q : Place) : Type 0 where
+  pub state : State
+  pub there : family q ≡ Some state
+  pub gone : other q ≡ None
+  pub same : (p : Place) → p ≢ q → other p ≡ family p
+
+-- the family has no good filling, and what a check finds broken first is that there is no state at this place
+pub record LacksPoint (s : Setting) (functions : List (ℕ × ℕ)) (contents : Contents) (q : Place) : Type 0 where
+  pub none_good : HasGoodFilling s functions (family_of contents) → ⊥
+  pub missing : (p : Place) (r : Reason) → IsFillingBrokenFirst s functions contents p r → (p ≡ q) × (r ≡ MissingPoint)
+
+-- no state of the family can be left out
+abbrev pub NeedsAll : Setting → List (ℕ × ℕ) → (Place → Option State) → Type 0
+NeedsAll s functions family = (q : Place) (other : Contents) → IsWithout family (family_of other) q → LacksPoint s functions other q
 
 -- no family of a program that isn't too long is good, whatever it has at the end
 abbrev pub NoneIsGood : Setting → List (ℕ × ℕ) → Type 0
@@ -85,6 +149,11 @@ NamesPlace Is (OutOfMemory e) = Unit {0}
 abbrev pub IsWantOfMemory : FindFault → Type 0
 IsWantOfMemory (Refused spot offset reason) = ⊥
 IsWantOfMemory (OutOfMemory e) = Unit {0}
+
+-- a state came where states had passed; where states are kept everywhere this isn't so
+abbrev pub NamesStop : (Place → Reason → Type 0) → Bool → Stop → Type 0
+NamesStop Is everywhere (Fault fault) = NamesPlace Is fault
+NamesStop Is everywhere Met = everywhere ≡ false
 
 -- the end isn't reached
 abbrev pub IsNeverEnding : FindFault → Type 0

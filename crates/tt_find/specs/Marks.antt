@@ -1,21 +1,29 @@
--- The marked points, in their order.
-use Rattle.std.specs.Prelude.{◌≡◌, ℕ, Bool, Option, Some, None, List, [], ◌∷◌}
-use Rattle.std.specs.List.{All, list_any}
-use Rattle.std.specs.BTreeMap.{is_at}
-use Rattle.std.specs.BTreeMap.Range.{IsLtBy}
-use Rattle.std.specs.BTreeSet.{BTreeSet}
-use Rattle.tt_cert.specs.Places.{place_cmp}
+-- At which offsets of the programs states are kept.
+use Rattle.std.specs.Prelude.{◌≡◌, ℕ, Bool, cond, List, slice_index_or}
+use Rattle.tt_abs.specs.StateFlow.{Place}
+use Rattle.tt_cert.specs.Spots.{spot_of}
+use Rattle.tt_cert.specs.declared.spot.Spot.{Spot}
+use Rattle.tt_cert.specs.declared.spot.Spot.TheVariants.{Main, Font, Prep}
+use Rattle.tt_find.specs.declared.marks.Mark.{Mark}
+use Rattle.tt_find.specs.declared.marks.Mark.TheVariants.{Kept}
+use Rattle.tt_find.specs.declared.marks.Marks.{Marks}
 
--- the first point, and the others behind it
-abbrev pub marks_of : Option (ℕ × ℕ) → BTreeSet (ℕ × ℕ) → List (ℕ × ℕ)
-marks_of None rest = []
-marks_of (Some next) rest = next ∷ rest.keys
+-- the list of a program
+abbrev pub list_of : Marks → Spot → List Mark
+list_of marks Main = marks.main.items
+list_of marks Font = marks.font.items
+list_of marks Prep = marks.prep.items
 
--- the first point is below the others, and where there is none there are no others
-abbrev pub AreInOrder : Option (ℕ × ℕ) → BTreeSet (ℕ × ℕ) → Type 0
-AreInOrder None rest = rest.keys ≡ []
-AreInOrder (Some next) rest = All (IsLtBy place_cmp next) rest.keys
+-- what is known of an offset of a program
+abbrev pub mark_of : Marks → Spot → ℕ → Mark
+mark_of marks spot offset = cond marks.everywhere Kept (slice_index_or (list_of marks spot) offset Kept)
 
--- whether a point is among the marked ones
-abbrev pub has_mark : List (ℕ × ℕ) → ℕ × ℕ → Bool
-has_mark marks point = list_any (is_at (place_cmp point)) marks
+-- what is known of a place
+abbrev pub mark_at : Marks → Place → Mark
+mark_at marks p = mark_of marks (spot_of p.0) p.1
+
+-- the offset has this mark from then on, and no other offset another one than before
+pub record SetsMark (old new : Marks) (spot : Spot) (offset : ℕ) (mark : Mark) : Type 0 where
+  pub here : mark_of new spot offset ≡ mark
+  pub elsewhere : (other : Spot) (at : ℕ) → ((other ≡ spot) × (at ≡ offset) → ⊥) → mark_of new other at ≡ mark_of old other at
+  pub everywhere : new.everywhere ≡ old.everywhere

@@ -1,17 +1,18 @@
 //! The finder: from the start, the state at the smallest point that is new or has changed is carried on, until none is left.
 
-ghost use Rattle.std.specs.Prelude.{◌≡◌, ◌⊎◌, ◌↔◌, ℕ, ◌+◌, ◌*◌, ◌≤◌, [], ◌∷◌, Option, Some, IfOk, IfErr, IsTrue};
+ghost use Rattle.std.specs.Prelude.{◌≡◌, ◌⊎◌, ◌↔◌, ℕ, ◌+◌, ◌*◌, ◌≤◌, ◌<◌, [], ◌∷◌, Option, Some, IfOk, IfErr, IsTrue, OnOk};
 ghost use Rattle.tt_abs.specs.declared.state.State.{State as AnyState};
 ghost use Rattle.tt_abs.specs.Entries.{Rises};
 ghost use Rattle.tt_abs.specs.Settings.{setting_of};
-ghost use Rattle.tt_abs.specs.StateFlow.{FitsLimits, FunctionsFit, Place, height_of};
-ghost use Rattle.tt_cert.specs.Contents.{family_of, points_of};
-ghost use Rattle.tt_cert.specs.GoodFamilies.{IsGoodFamily};
-ghost use Rattle.tt_find.specs.Found.{AreLeastContexts, IsJustified, IsLeast, IsNeverEnding, IsWantOfMemory, KeepsBodies, LacksEnd, NamesPlace, NoneIsGood};
-ghost use Rattle.tt_find.specs.Tables.{HasLaws, IsEmptyTable, IsWhole};
+ghost use Rattle.tt_abs.specs.StateFlow.{FunctionsFit, Place};
+ghost use Rattle.tt_cert.specs.Contents.{family_of};
+ghost use Rattle.tt_find.specs.Found.{AreLeastContexts, HasLeastFilling, IsJustified, IsNeverEnding, IsWantOfMemory, LacksEnd, NamesPlace, NamesStop, NeedsAll, NoneIsGood};
+ghost use Rattle.tt_find.specs.Tables.{HasLaws, IsEmptyTable, IsFound, IsWhole};
 
 use crate::fault::FindFault;
-use crate::following::follow;
+use crate::run::{run, store};
+use crate::source::Source;
+use crate::stop::Stop;
 use crate::table::Table;
 use crate::walk::Walk;
 use std::alloc::{AllocError, Global};
@@ -21,7 +22,11 @@ use tt_abs::laws::flow_laws;
 use tt_cert::{Builder, Certificate, Spot, ends_well, is_short};
 use tt_code::Reason;
 
-/// A family that was found, and how many updates made it: the first state of a point is one, and each change of it one more.
+/// So often the finder starts at most. The last time it keeps states everywhere.
+const STARTS: u32 = 9;
+
+/// A family that was found, and how many updates made its filling: the first state of a point is one, and each time that another comes there one
+/// more. Where states aren't kept, each that comes counts as another one: so a finder that has made other families may count otherwise.
 #[derive(Drop)]
 pub struct Found {
     pub certificate: Certificate,
@@ -40,25 +45,55 @@ fn has_laws(setting: &Setting<'_>)
     prove!(u32::from(setting.limits.storage) < 1 << 16);
 }
 
-/// Fills an empty table, from the start on, until no point is left that is new or has changed.
-fn fill(alloc: Global, table: &mut Table, setting: &Setting<'_>) -> Result<(), FindFault>
+/// Fills an empty table, from the start on, until no point waits.
+///
+/// # Errors
+/// As the run from each point.
+fn fill(alloc: Global, table: &mut Table, setting: &Setting<'_>) -> Result<(), Stop>
     requires rises { Rises setting.now.start.now }
     requires laws { HasLaws (setting_of setting.now) setting.now.start.now }
     requires empty { IsEmptyTable table.old }
     ensures whole { IfOk result (λ _. IsWhole (setting_of setting.now) setting.now.start.now table.new) }
-    ensures none { IfOk result (λ _. table.new.marked ≡ []) }
-    ensures justified { IfErr result (NamesPlace (IsJustified (setting_of setting.now) setting.now.start.now)) }
+    ensures none { IfOk result (λ _. table.new.waiting ≡ []) }
+    ensures stops { IfErr result (NamesStop (IsJustified (setting_of setting.now) setting.now.start.now) table.old.marks.everywhere) }
 {
     let mut walk = Walk::start(alloc, setting.start)?;
-    let Ok(()) = walk.put(table, 0, 0) else {
-        return Err(FindFault::OutOfMemory(AllocError));
-    };
-    while let Some((context, offset)) = table.marked.pop_first() {
-        if let Err(fault) = follow(table, &mut walk, setting, context, offset) {
-            return Err(fault);
+    table.builder.is_family();
+    if let Err(stop) = store(table, &mut walk, 0, 0, Source::Elsewhere) {
+        return Err(stop);
+    }
+    while let Some((context, offset)) = table.waiting.pop_first() {
+        if let Err(stop) = run(table, &mut walk, setting, context, offset) {
+            return Err(stop);
         }
     }
     Ok(())
+}
+
+/// Fills a table anew, with states kept at the points where ways were found to meet, until no two ways meet elsewhere.
+///
+/// # Errors
+/// As `find` refuses what comes on the way.
+fn fill_anew(alloc: Global, table: &mut Table, setting: &Setting<'_>) -> Result<(), FindFault>
+    requires rises { Rises setting.now.start.now }
+    requires laws { HasLaws (setting_of setting.now) setting.now.start.now }
+    ensures whole { IfOk result (λ _. IsWhole (setting_of setting.now) setting.now.start.now table.new) }
+    ensures none { IfOk result (λ _. table.new.waiting ≡ []) }
+    ensures justified { IfErr result (NamesPlace (IsJustified (setting_of setting.now) setting.now.start.now)) }
+{
+    table.marks.begin(setting)?;
+    for start in 0..STARTS {
+        table.clear();
+        if start == STARTS - 1 {
+            table.marks.everywhere = true;
+        }
+        match fill(alloc, table, setting) {
+            Ok(()) => return Ok(()),
+            Err(Stop::Fault(fault)) => return Err(fault),
+            Err(Stop::Met) => {}
+        }
+    }
+    Err(FindFault::OutOfMemory(AllocError))
 }
 
 /// The fault at a place of the main program.
@@ -72,9 +107,86 @@ fn refused_in_main(offset: u32, reason: Reason) -> FindFault
     }
 }
 
-/// The least family that is good for the program of this setting. The smallest point that is new or has changed is taken first, by the
-/// number of its context, which is the order in which contexts were entered, and by its offset within one; of two ways the one to the
-/// smaller offset is put first.
+/// Fills a table with the least good family, and answers how many updates that took.
+///
+/// # Errors
+/// As `find`.
+fn fill_whole(alloc: Global, table: &mut Table, setting: &Setting<'_>) -> Result<u64, FindFault>
+    requires rises { Rises setting.now.start.now }
+    requires fits { FunctionsFit (setting_of setting.now) setting.now.start.now }
+    ensures laws { HasLaws (setting_of setting.now) setting.now.start.now }
+    ensures found { IfOk result (IsFound (setting_of setting.now) setting.now.start.now table.new) }
+    ensures justified { IfErr result (NamesPlace (IsJustified (setting_of setting.now) setting.now.start.now)) }
+{
+    has_laws(setting);
+    if !is_short(setting) {
+        let most = u32::from(setting.limits.program_size);
+        return Err(refused_in_main(most, Reason::ProgramTooLong));
+    }
+    if let Err(fault) = fill_anew(alloc, table, setting) {
+        return Err(fault);
+    }
+    if !ends_well(setting, &table.builder) {
+        return Err(refused_in_main(0, Reason::NeverEnds));
+    }
+    match table.changes.checked_add(table.passes) {
+        Some(updates) => Ok(updates),
+        None => Err(FindFault::OutOfMemory(AllocError)),
+    }
+}
+
+/// The memory of a finder, which one program after another uses.
+#[derive(Drop)]
+pub struct Finder {
+    table: Table,
+}
+
+impl Finder {
+    /// A finder without memory.
+    pub fn new(alloc: Global) -> Finder {
+        Finder {
+            table: Table::new(alloc),
+        }
+    }
+
+    /// Takes the memory of a certificate back.
+    pub fn take_back(&mut self, certificate: Certificate) {
+        self.table.builder = certificate.into_builder();
+    }
+
+    /// The least family as `find` finds it, with what states it has kept beside those that a filling needs. Its certificate has the
+    /// finder's memory for states, which `take_back` takes back.
+    ///
+    /// # Errors
+    /// As `find`.
+    pub fn find(&mut self, alloc: Global, setting: &Setting<'_>) -> Result<Found, FindFault>
+        requires rises { Rises setting.now.start.now }
+        requires fits { FunctionsFit (setting_of setting.now) setting.now.start.now }
+        ensures filling { IfOk result (λ found. HasLeastFilling (setting_of setting.now) setting.now.start.now found.updates (family_of found.certificate)) }
+        ensures contexts { IfOk result (λ found. AreLeastContexts (setting_of setting.now) setting.now.start.now found.certificate.contexts) }
+        ensures justified { IfErr result (NamesPlace (IsJustified (setting_of setting.now) setting.now.start.now)) }
+        ensures none_good { IfErr result (λ fault. IsWantOfMemory fault ⊎ IsNeverEnding fault ⊎ NoneIsGood (setting_of setting.now) setting.now.start.now) }
+        ensures never_ends { (family : Place → Option AnyState) → LacksEnd (setting_of setting.now) setting.now.start.now family
+            → IfOk result (λ _. ⊥) × IfErr result (λ fault. IsWantOfMemory fault ⊎ IsNeverEnding fault) }
+    {
+        let updates = match fill_whole(alloc, &mut self.table, setting) {
+            Ok(updates) => updates,
+            Err(fault) => return Err(fault),
+        };
+        let builder = mem::replace(&mut self.table.builder, Builder::new(alloc));
+        match builder.finish() {
+            Ok(certificate) => Ok(Found {
+                certificate,
+                updates,
+            }),
+            Err(_) => Err(FindFault::OutOfMemory(AllocError)),
+        }
+    }
+}
+
+/// The least family that is good for the program of this setting, without the states that a filling adds. The smallest point that is new
+/// or has changed is taken first, by the number of its context, which is the order in which contexts were entered, and by its offset
+/// within one; of two ways the one to the smaller offset comes first.
 ///
 /// # Errors
 /// `Refused`, for a glyph program longer than maxSizeOfInstructions, at that offset; for a state that an instruction refuses, with its reason,
@@ -83,65 +195,24 @@ fn refused_in_main(offset: u32, reason: Reason) -> FindFault
 pub fn find(alloc: Global, setting: &Setting<'_>) -> Result<Found, FindFault>
     requires rises { Rises setting.now.start.now }
     requires fits { FunctionsFit (setting_of setting.now) setting.now.start.now }
-    ensures good { IfOk result (λ found. IsGoodFamily (setting_of setting.now) setting.now.start.now (family_of found.certificate)) }
-    ensures least { IfOk result (λ found. IsLeast (setting_of setting.now) setting.now.start.now (family_of found.certificate)) }
-    ensures within { IfOk result (λ found. (p : Place) (a : AnyState) → family_of found.certificate p ≡ Some a → FitsLimits (setting_of setting.now) a) }
-    ensures bodies { IfOk result (λ found. KeepsBodies (setting_of setting.now) setting.now.start.now (family_of found.certificate)) }
+    ensures filling { IfOk result (λ found. HasLeastFilling (setting_of setting.now) setting.now.start.now found.updates (family_of found.certificate)) }
     ensures contexts { IfOk result (λ found. AreLeastContexts (setting_of setting.now) setting.now.start.now found.certificate.contexts) }
-    ensures at_least { IfOk result (λ found. points_of found.certificate ≤ found.updates) }
-    ensures at_most { IfOk result (λ found. found.updates ≤ points_of found.certificate * (1 + height_of (setting_of setting.now))) }
+    ensures needed { IfOk result (λ found. NeedsAll (setting_of setting.now) setting.now.start.now (family_of found.certificate)) }
     ensures justified { IfErr result (NamesPlace (IsJustified (setting_of setting.now) setting.now.start.now)) }
     ensures none_good { IfErr result (λ fault. IsWantOfMemory fault ⊎ IsNeverEnding fault ⊎ NoneIsGood (setting_of setting.now) setting.now.start.now) }
     ensures never_ends { (family : Place → Option AnyState) → LacksEnd (setting_of setting.now) setting.now.start.now family
         → IfOk result (λ _. ⊥) × IfErr result (λ fault. IsWantOfMemory fault ⊎ IsNeverEnding fault) }
 {
-    let mut memory = Builder::new(alloc);
-    find_in(alloc, &mut memory, setting)
-}
-
-/// The least family as `find` finds it, in the memory of a builder; what that builder holds is taken away. Where a family is found, its
-/// certificate has that memory; where the program is refused, the builder keeps it. What the builder holds afterwards says nothing.
-///
-/// # Errors
-/// As `find`.
-pub fn find_in(
-    alloc: Global,
-    memory: &mut Builder,
-    setting: &Setting<'_>,
-) -> Result<Found, FindFault>
-    requires rises { Rises setting.now.start.now }
-    requires fits { FunctionsFit (setting_of setting.now) setting.now.start.now }
-    ensures good { IfOk result (λ found. IsGoodFamily (setting_of setting.now) setting.now.start.now (family_of found.certificate)) }
-    ensures least { IfOk result (λ found. IsLeast (setting_of setting.now) setting.now.start.now (family_of found.certificate)) }
-    ensures within { IfOk result (λ found. (p : Place) (a : AnyState) → family_of found.certificate p ≡ Some a → FitsLimits (setting_of setting.now) a) }
-    ensures bodies { IfOk result (λ found. KeepsBodies (setting_of setting.now) setting.now.start.now (family_of found.certificate)) }
-    ensures contexts { IfOk result (λ found. AreLeastContexts (setting_of setting.now) setting.now.start.now found.certificate.contexts) }
-    ensures at_least { IfOk result (λ found. points_of found.certificate ≤ found.updates) }
-    ensures at_most { IfOk result (λ found. found.updates ≤ points_of found.certificate * (1 + height_of (setting_of setting.now))) }
-    ensures justified { IfErr result (NamesPlace (IsJustified (setting_of setting.now) setting.now.start.now)) }
-    ensures none_good { IfErr result (λ fault. IsWantOfMemory fault ⊎ IsNeverEnding fault ⊎ NoneIsGood (setting_of setting.now) setting.now.start.now) }
-    ensures never_ends { (family : Place → Option AnyState) → LacksEnd (setting_of setting.now) setting.now.start.now family
-        → IfOk result (λ _. ⊥) × IfErr result (λ fault. IsWantOfMemory fault ⊎ IsNeverEnding fault) }
-{
-    has_laws(setting);
-    if !is_short(setting) {
-        let most = u32::from(setting.limits.program_size);
-        return Err(refused_in_main(most, Reason::ProgramTooLong));
-    }
-    let mut table = Table::new(alloc, mem::replace(memory, Builder::new(alloc)));
-    if let Err(fault) = fill(alloc, &mut table, setting) {
-        *memory = table.builder;
-        return Err(fault);
-    }
-    if !ends_well(setting, &table.builder) {
-        *memory = table.builder;
-        return Err(refused_in_main(0, Reason::NeverEnds));
-    }
-    let Ok(certificate) = table.builder.finish() else {
-        return Err(FindFault::OutOfMemory(AllocError));
+    let mut table = Table::new(alloc);
+    let updates = match fill_whole(alloc, &mut table, setting) {
+        Ok(updates) => updates,
+        Err(fault) => return Err(fault),
     };
-    Ok(Found {
-        certificate,
-        updates: table.updates,
-    })
+    match table.builder.finish_without(&table.spare) {
+        Ok(certificate) => Ok(Found {
+            certificate,
+            updates,
+        }),
+        Err(_) => Err(FindFault::OutOfMemory(AllocError)),
+    }
 }

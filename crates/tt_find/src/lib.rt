@@ -3,11 +3,14 @@
 
 pub mod fault;
 pub mod finder;
-mod following;
 mod marks;
 mod reaching;
+mod run;
+mod source;
+mod stop;
 mod table;
+mod waiting;
 mod walk;
 
 pub use fault::FindFault;
-pub use finder::{Found, find, find_in};
+pub use finder::{Finder, Found, find};

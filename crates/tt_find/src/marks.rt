@@ -1,85 +1,128 @@
-//! The points that are still to be carried on.
+//! At which offsets of the programs states are kept.
 
-ghost use Rattle.std.specs.Prelude.{◌≡◌, ◌∷◌, [], None, IfSome, OnErr, OnOk};
-ghost use Rattle.std.specs.BTreeSet.{insert_key};
-ghost use Rattle.tt_cert.specs.Places.{place_cmp};
+ghost use Rattle.std.specs.Prelude.{◌≡◌, ◌≢◌, IsTrue, slice_index_or};
+ghost use Rattle.tt_find.specs.Marks.{SetsMark, mark_of};
 
 use std::alloc::{AllocError, Global};
-use std::cmp::Ordering;
-use std::collections::BTreeSet;
-use std::marker::Model;
+use tt_abs::Setting;
+use tt_cert::Spot;
 
-/// The points that are still to be carried on, in their order, each as its context's number and its offset. The first stands apart, so that
-/// one alone takes no memory.
-#[derive(Drop)]
-pub(crate) struct Marks {
-    next: Option<(u32, u32)>,
-    /// The others.
-    rest: BTreeSet<(u32, u32)>,
+/// What is known of an offset of a program.
+#[derive(Clone, Copy)]
+pub(crate) enum Mark {
+    /// Nothing: no state came there.
+    Free,
+    /// States went over it, and weren't kept.
+    Passed,
+    /// States that come there are kept.
+    Kept,
 }
 
-impl Model for Marks {
-    ghost use Rattle.std.specs.Prelude.{List, ℕ};
-    ghost use Rattle.tt_find.specs.Marks.{AreInOrder, marks_of};
+/// At which offsets of the three programs states are kept: those at which ways meet. Which they are is found on the way, and is remembered for
+/// the next program, which may call the same functions. After the end of a list states are kept.
+#[derive(Drop)]
+pub(crate) struct Marks {
+    /// Are states kept at all offsets, whatever the lists say?
+    pub everywhere: bool,
+    main: Vec<Mark>,
+    font: Vec<Mark>,
+    prep: Vec<Mark>,
+}
 
-    ghost Value = { List (ℕ × ℕ) };
+/// The mark at an offset.
+fn mark_in(marks: &[Mark], offset: u32) -> Mark
+    ensures { result ≡ slice_index_or marks.now offset Mark.Kept }
+{
+    match marks.get(offset as usize) {
+        Some(mark) => *mark,
+        None => Mark::Kept,
+    }
+}
 
-    ghost view = { λ m. marks_of m.next m.rest };
-
-    ghost invariant = { λ m. AreInOrder m.next m.rest };
+/// Makes a list one for a program of this length, where it isn't.
+fn fit(marks: &mut Vec<Mark>, length: u32) -> Result<(), AllocError> {
+    let length = length as usize + 1;
+    if marks.len() != length {
+        marks.clear();
+        marks.resize(length, Mark::Free)?;
+    }
+    Ok(())
 }
 
 impl Marks {
-    /// No point.
-    pub(crate) fn new(alloc: Global) -> Marks
-        ensures { result ≡ [] }
-    {
+    /// States are kept everywhere.
+    pub(crate) fn new(alloc: Global) -> Marks {
         Marks {
-            next: None,
-            rest: BTreeSet::new(alloc),
+            everywhere: true,
+            main: Vec::new(alloc),
+            font: Vec::new(alloc),
+            prep: Vec::new(alloc),
         }
     }
 
-    /// Puts a point in at its place, unless it is there.
+    /// Begins with a program: nothing is known of its offsets, and of those of the font program and of the CVT program what was, if those are
+    /// as long as before. What was known of other programs costs time alone.
     ///
     /// # Errors
-    /// If memory runs out; then the points stay as they are.
-    pub(crate) fn insert(&mut self, point: (u32, u32)) -> Result<(), AllocError>
-        ensures ok { OnOk result (self.new ≡ insert_key place_cmp self.old point) }
-        ensures err { OnErr result (self.new ≡ self.old) }
-    {
-        let Some(next) = self.next else {
-            self.next = Some(point);
-            return Ok(());
-        };
-        match point.cmp(&next) {
-            Ordering::Less => {
-                if let Err(_) = self.rest.insert(next) {
-                    return Err(AllocError);
-                }
-                self.next = Some(point);
-            }
-            Ordering::Equal => {}
-            Ordering::Greater => {
-                if let Err(_) = self.rest.insert(point) {
-                    return Err(AllocError);
-                }
-            }
-        }
-        Ok(())
+    /// If memory runs out.
+    pub(crate) fn begin(&mut self, setting: &Setting<'_>) -> Result<(), AllocError> {
+        self.everywhere = false;
+        self.main.clear();
+        fit(&mut self.main, setting.main.len())?;
+        fit(&mut self.font, setting.font.len())?;
+        fit(&mut self.prep, setting.prep.len())
     }
 
-    /// Takes the first point out, if there is one.
-    pub(crate) fn pop_first(&mut self) -> Option<(u32, u32)>
-        ensures none { result ≡ None → (self.old ≡ []) × (self.new ≡ []) }
-        ensures some { IfSome result (λ point. self.old ≡ point ∷ self.new) }
+    /// What is known of an offset.
+    pub(crate) fn at(&self, spot: Spot, offset: u32) -> Mark
+        ensures { result ≡ mark_of self.now spot offset }
     {
-        match self.next {
-            None => None,
-            Some(point) => {
-                self.next = self.rest.pop_first();
-                Some(point)
+        if self.everywhere {
+            return Mark::Kept;
+        }
+        match spot {
+            Spot::Main => mark_in(self.main.as_slice(), offset),
+            Spot::Font => mark_in(self.font.as_slice(), offset),
+            Spot::Prep => mark_in(self.prep.as_slice(), offset),
+        }
+    }
+
+    /// Marks an offset that isn't one at which states are kept.
+    fn set(&mut self, spot: Spot, offset: u32, mark: Mark)
+        requires { mark_of self.old spot offset ≢ Mark.Kept }
+        ensures { SetsMark self.old self.new spot offset mark }
+    {
+        match spot {
+            Spot::Main => self.main[offset as usize] = mark,
+            Spot::Font => self.font[offset as usize] = mark,
+            Spot::Prep => self.prep[offset as usize] = mark,
+        }
+    }
+
+    /// From now on states are kept at this offset. False where states went over it: those weren't.
+    pub(crate) fn keep(&mut self, spot: Spot, offset: u32) -> bool
+        ensures kept { IsTrue result → SetsMark self.old self.new spot offset Mark.Kept }
+        ensures was { IsTrue result → mark_of self.old spot offset ≢ Mark.Passed }
+        ensures everywhere { IsTrue self.old.everywhere → IsTrue result }
+    {
+        match self.at(spot, offset) {
+            Mark::Kept => true,
+            Mark::Free => {
+                self.set(spot, offset, Mark::Kept);
+                true
+            }
+            Mark::Passed => {
+                self.set(spot, offset, Mark::Kept);
+                false
             }
         }
+    }
+
+    /// A state goes over an offset at which states aren't kept.
+    pub(crate) fn pass(&mut self, spot: Spot, offset: u32)
+        requires { mark_of self.old spot offset ≢ Mark.Kept }
+        ensures { SetsMark self.old self.new spot offset Mark.Passed }
+    {
+        self.set(spot, offset, Mark::Passed);
     }
 }

@@ -1,28 +1,42 @@
 //! The family so far, and what is still to be carried on.
 
-ghost use Rattle.std.specs.Prelude.{◌≡◌, ◌<◌, IfOk, IfErr, Some, length};
+ghost use Rattle.std.specs.Prelude.{◌≡◌, ◌≢◌, ◌<◌, IfOk, IfErr, IsTrue, OnOk, Option, Some, length};
 ghost use Rattle.tt_abs.specs.States.{state_order};
+ghost use Rattle.tt_abs.specs.declared.state.State.{State as StateValue};
 ghost use Rattle.tt_cert.specs.Contents.{family_of, frames_at};
+ghost use Rattle.tt_cert.specs.Joins.{TellsNew};
 ghost use Rattle.tt_cert.specs.Places.{states_of};
 ghost use Rattle.tt_cert.specs.Puts.{place_of};
 ghost use Rattle.tt_cert.specs.Spots.{spot_of};
 ghost use Rattle.tt_find.specs.Found.{NamesPlace};
-ghost use Rattle.tt_find.specs.Tables.{IsApart, IsEmptyTable, IsPut};
+ghost use Rattle.tt_find.specs.Tables.{IsApart, IsEmptyTable, IsPassed, IsPut, KeepsRest, SparesAt};
+ghost use Rattle.tt_find.specs.Marks.{mark_of};
 
 use crate::fault::FindFault;
-use crate::marks::Marks;
+use crate::marks::{Mark, Marks};
+use crate::source::Source;
+use crate::waiting::Waiting;
 use std::alloc::{AllocError, Global};
+use std::collections::BTreeSet;
 use tt_abs::State;
-use tt_cert::{Builder, JoinFault, Joined};
+use tt_cert::{Builder, JoinFault, Joined, Spot};
 use tt_code::Reason;
 
-/// The family so far, the points whose state is new or has changed, each as its context's number and its offset, and how many updates
-/// were made.
+/// The family so far. Its states are kept at the points where ways meet; those between are made again on the way.
 #[derive(Drop)]
 pub(crate) struct Table {
+    /// The states that are kept.
     pub builder: Builder,
-    pub marked: Marks,
-    pub updates: u64,
+    /// The points whose state is new or has changed, each as its context's number and its offset.
+    pub waiting: Waiting,
+    /// The points with kept states to which no state came but from just before.
+    pub spare: BTreeSet<(u32, u32)>,
+    /// At which offsets states are kept.
+    pub marks: Marks,
+    /// How often a kept state was new or changed.
+    pub changes: u64,
+    /// How often a state went over a point.
+    pub passes: u64,
 }
 
 /// The fault that names a point for this reason.
@@ -38,21 +52,34 @@ pub(crate) fn refused_at(builder: &Builder, context: u32, offset: u32, reason: R
 }
 
 impl Table {
-    /// The table without a state, in a builder's memory.
-    pub(crate) fn new(alloc: Global, builder: Builder) -> Table
+    /// The table without a state.
+    pub(crate) fn new(alloc: Global) -> Table
         ensures { IsEmptyTable result }
     {
-        let mut builder = builder;
-        builder.clear();
         Table {
-            builder,
-            marked: Marks::new(alloc),
-            updates: 0,
+            builder: Builder::new(alloc),
+            waiting: Waiting::new(alloc),
+            spare: BTreeSet::new(alloc),
+            marks: Marks::new(alloc),
+            changes: 0,
+            passes: 0,
         }
     }
 
-    /// Puts a state at a point, and answers what that makes of the one there. If it is another one than before, the point is marked, and
-    /// one update counted.
+    /// Takes all states and all contexts but the empty one away, and keeps their memory and the marks.
+    pub(crate) fn clear(&mut self)
+        ensures empty { IsEmptyTable self.new }
+        ensures marks { self.new.marks ≡ self.old.marks }
+    {
+        self.builder.clear();
+        self.waiting.clear();
+        self.spare.clear();
+        self.changes = 0;
+        self.passes = 0;
+    }
+
+    /// Puts a state at a point, and answers what that makes of the one there. If it is another one than before, the point waits, and
+    /// one change is counted.
     ///
     /// # Errors
     /// `Refused` for a state of another depth, at the point; `OutOfMemory`.
@@ -64,9 +91,11 @@ impl Table {
     ) -> Result<Joined, FindFault>
         requires there { context < length self.old.builder.contexts }
         requires in_range { state_order.InRange state.now }
-        requires room { self.old.updates < 18446744073709551615 }
+        requires room { self.old.changes < 18446744073709551615 }
         ensures put { IfOk result (λ _. IsPut self.old self.new context offset state.now) }
+        ensures rest { IfOk result (λ _. KeepsRest self.old self.new) }
         ensures new { IfOk result (λ joined. joined ≡ Joined.New → states_of self.new.builder.states (context, offset) ≡ Some state.now) }
+        ensures tells { IfOk result (λ joined. TellsNew joined (family_of self.old.builder (place_of self.old.builder context offset))) }
         ensures apart { IfErr result (NamesPlace (IsApart (family_of self.old.builder) (place_of self.old.builder context offset) state.now)) }
     {
         let joined = match self.builder.join_state(context, offset, state) {
@@ -79,10 +108,61 @@ impl Table {
         if !joined.is_change() {
             return Ok(joined);
         }
-        if let Err(_) = self.marked.insert((context, offset)) {
+        if let Err(_) = self.waiting.insert((context, offset)) {
             return Err(FindFault::OutOfMemory(AllocError));
         }
-        self.updates += 1;
+        self.changes += 1;
         Ok(joined)
+    }
+
+    /// Notes from where a state came to a point, and whether that is new.
+    ///
+    /// # Errors
+    /// If memory runs out.
+    pub(crate) fn note(
+        &mut self,
+        context: u32,
+        offset: u32,
+        source: Source,
+        joined: Joined,
+    ) -> Result<(), AllocError>
+        ensures spare { IfOk result (λ _. (was : Option StateValue) → TellsNew joined was → SparesAt self.old.spare.keys self.new.spare.keys (context, offset) was source) }
+        ensures rest { IfOk result (λ _. self.new ≡ record self.old { spare = self.new.spare }) }
+    {
+        match source {
+            Source::Elsewhere => {
+                self.spare.remove(&(context, offset));
+            }
+            Source::JustBefore => {
+                if let Joined::New = joined {
+                    self.spare.insert((context, offset))?;
+                }
+            }
+        }
+        Ok(())
+    }
+
+    /// May a state go over a point where this context's program has this offset? Not where states are kept, and not where a point before it
+    /// waits.
+    pub(crate) fn may_pass(&self, context: u32, spot: Spot, offset: u32) -> bool
+        ensures { IsTrue result → mark_of self.now.marks spot offset ≢ Mark.Kept }
+    {
+        match self.marks.at(spot, offset) {
+            Mark::Kept => false,
+            _ => !self.waiting.has_before((context, offset)),
+        }
+    }
+
+    /// A state goes over an offset at which states aren't kept.
+    ///
+    /// # Errors
+    /// If this can't be counted any more.
+    pub(crate) fn pass(&mut self, spot: Spot, offset: u32) -> Result<(), AllocError>
+        requires { mark_of self.old.marks spot offset ≢ Mark.Kept }
+        ensures { OnOk result (IsPassed self.old self.new spot offset) }
+    {
+        self.passes = self.passes.checked_add(1).ok_or(AllocError)?;
+        self.marks.pass(spot, offset);
+        Ok(())
     }
 }

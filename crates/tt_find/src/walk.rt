@@ -4,16 +4,17 @@ ghost use Rattle.std.specs.Prelude.{◌≡◌, ◌↔◌, ◌<◌, IfErr, IfOk, 
 ghost use Rattle.tt_abs.specs.Entries.{Rises};
 ghost use Rattle.tt_abs.specs.States.{start_of, state_order};
 ghost use Rattle.tt_cert.specs.Contents.{Contents, IsFamily, family_of};
+ghost use Rattle.tt_cert.specs.Joins.{TellsNew};
 ghost use Rattle.tt_cert.specs.Places.{states_of};
 ghost use Rattle.tt_cert.specs.Puts.{place_of};
 ghost use Rattle.tt_find.specs.Found.{NamesPlace};
-ghost use Rattle.tt_find.specs.Tables.{IsApart, IsPut, IsWalk};
+ghost use Rattle.tt_find.specs.Tables.{IsApart, IsPut, IsWalk, KeepsRest};
 
 use crate::fault::FindFault;
 use crate::table::Table;
 use std::alloc::{AllocError, Global};
 use tt_abs::State;
-use tt_cert::{Builder, Joined};
+use tt_cert::{Builder, Joined, Spot};
 use tt_code::Frame;
 
 /// The calls of a context, the outermost first, and a state in whose memory the state at a point is carried on.
@@ -21,6 +22,8 @@ use tt_code::Frame;
 pub(crate) struct Walk {
     pub context: u32,
     pub frames: Vec<Frame>,
+    /// In which program the context is.
+    pub spot: Spot,
     pub state: State,
     /// A point whose state this is, as its context's number and its offset.
     pub known: Option<(u32, u32)>,
@@ -40,6 +43,7 @@ impl Walk {
         Ok(Walk {
             context: 0,
             frames: Vec::new(alloc),
+            spot: Spot::Main,
             state: State::start(alloc, functions)?,
             known: None,
         })
@@ -57,6 +61,7 @@ impl Walk {
     {
         if context != self.context {
             builder.read_frames(context, &mut self.frames)?;
+            self.spot = builder.spot(context);
             self.context = context;
         }
         Ok(())
@@ -108,14 +113,17 @@ impl Walk {
         table: &mut Table,
         context: u32,
         offset: u32,
-    ) -> Result<(), FindFault>
+    ) -> Result<Joined, FindFault>
         requires there { context < length table.old.builder.contexts }
         requires in_range { state_order.InRange self.old.state }
-        requires room { table.old.updates < 18446744073709551615 }
+        requires room { table.old.changes < 18446744073709551615 }
         requires walk { IsWalk table.old.builder self.old }
         ensures put { IfOk result (λ _. IsPut table.old table.new context offset self.old.state) }
+        ensures rest { IfOk result (λ _. KeepsRest table.old table.new) }
+        ensures tells { IfOk result (λ joined. TellsNew joined (family_of table.old.builder (place_of table.old.builder context offset))) }
         ensures apart { IfErr result (NamesPlace (IsApart (family_of table.old.builder) (place_of table.old.builder context offset) self.old.state)) }
         ensures state { self.new.state ≡ self.old.state }
+        ensures context { self.new.context ≡ self.old.context }
         ensures walk { IfOk result (λ _. IsWalk table.new.builder self.new) }
     {
         table.builder.is_family();
@@ -130,6 +138,6 @@ impl Walk {
         } else if self.is_at(context, offset) {
             self.known = None;
         }
-        Ok(())
+        Ok(joined)
     }
 }

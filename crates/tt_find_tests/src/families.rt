@@ -1,117 +1,174 @@
-//! Small programs: how large their least families are, and why there is none.
+//! Small programs: how large their least families are, and which states of them are listed.
 
-use crate::fixtures::{Answer, CALLING, EMPTY, GLYPH, POPPING, alone, with_function};
+use crate::fixtures::{GLYPH, Size, alone, with_function};
+use crate::programs::{
+    BRANCHES, BRANCHES_ON_NOTHING, CALLS, CALLS_AND_RTG, CALLS_TWICE, CALLS_WITH_A_NUMBER, COUNTS,
+    DEFINES, EMPTY, JUMPING_BACK, JUMPS_BY_ONE, JUMPS_BY_TWO, JUMPS_TO_THE_END, LOOP_IN_A_LOOP,
+    MAY_JUMP_BY_ONE, MAY_STOP_COUNTING, MOVES_A_POINT, NO_TURN, NO_TURN_AND_RTG, POPPING,
+    STARTS_AGAIN, TAKES_A_PHANTOM_POINT, TEN_JUMPS_BACK, THREE_JUMPS_BACK, THREE_TURNS, TURNS_4095,
+};
+use std::alloc::Global;
+use std::process::Abort;
 use tt_abs::Kind;
-use tt_cert::Spot;
-use tt_code::Reason;
+use tt_cert::Certificate;
 
-#[test]
-fn programs_without_functions(rt: HostRuntime) {
-    let table: [(&[u8], Answer); 4] = [
-        // PUSHB 0, 9; MIAP.
-        (&[0xb1, 0x00, 0x09, 0x3e], Ok((1, 3, 3))),
-        // MPPEM; IF, PUSHB 1; ELSE, PUSHB 2; EIF; POP.
-        (
-            &[0x4b, 0x58, 0xb0, 0x01, 0x1b, 0xb0, 0x02, 0x59, 0x21],
-            Ok((1, 8, 9)),
-        ),
-        // PUSHB 1; PUSHB 1, ADD; PUSHW -6, JMPR: without end.
-        (
-            &[0xb0, 0x01, 0xb0, 0x01, 0x60, 0xb8, 0xff, 0xfa, 0x1c],
-            Ok((1, 5, 9)),
-        ),
-        // MPPEM; IF, PUSHB 1; EIF.
-        (
-            &[0x4b, 0x58, 0xb0, 0x01, 0x59, 0x21],
-            Err((Spot::Main, 5, Reason::DepthMismatch)),
-        ),
-    ];
-    for (program, want) in table {
-        assert_eq!(rt;
-            alone(rt.alloc(), program, GLYPH),
-            Some(want),
-            "of {program:?}"
-        );
+/// The points of the listed states, each a context and an offset.
+type Points<'a> = &'a [(u32, u32)];
+
+/// A program, the size of its least family, and the listed points.
+type Family<'a> = (&'a [u8], Size, Points<'a>);
+
+/// Asserts which families programs have that start with no function.
+fn assert_families(rt: &impl Abort, alloc: Global, kind: Kind, cases: &[Family<'_>]) {
+    for (program, size, points) in cases {
+        let told = alone(alloc, program, kind).expect(rt, "an answer");
+        assert_eq!(rt; told.answer, Ok(*size), "of {program:?}");
+        assert!(rt; told.lists(points), "of {program:?}");
+    }
+}
+
+/// A font program, a glyph program, the size of its least family, and the listed points.
+type CallingFamily<'a> = (&'a [u8], &'a [u8], Size, Points<'a>);
+
+/// Asserts which families glyph programs have that start with function 0.
+fn assert_calling_families(rt: &impl Abort, alloc: Global, cases: &[CallingFamily<'_>]) {
+    for (font, program, size, points) in cases {
+        let told = with_function(alloc, font, program).expect(rt, "an answer");
+        assert_eq!(rt; told.answer, Ok(*size), "of {font:?} and {program:?}");
+        assert!(rt; told.lists(points), "of {font:?} and {program:?}");
     }
 }
 
 #[test]
-fn called_functions(rt: HostRuntime) {
-    let table: [(&[u8], &[u8], Answer); 7] = [
-        // PUSHB 7, 0; CALL.
-        (&POPPING, &[0xb1, 0x07, 0x00, 0x2b], Ok((2, 5, 5))),
-        // PUSHB 1, 2, 3, 3, 0; LOOPCALL.
+fn straight_programs_and_branches(rt: HostRuntime) {
+    let table: [Family<'_>; 6] = [
+        (&[], (1, 1, 1), &[(0, 0)]),
+        (&[0x18; 64], (1, 65, 65), &[(0, 0), (0, 64)]),
+        (&MOVES_A_POINT, (1, 3, 3), &[(0, 0), (0, 4)]),
+        (&TAKES_A_PHANTOM_POINT, (1, 3, 3), &[(0, 0), (0, 3)]),
+        (&BRANCHES, (1, 8, 9), &[(0, 0), (0, 5), (0, 8), (0, 9)]),
+        (&BRANCHES_ON_NOTHING, (1, 5, 5), &[(0, 0), (0, 3), (0, 4)]),
+    ];
+    assert_families(&rt, rt.alloc(), GLYPH, &table);
+}
+
+// A jump to the place just after it leads there as any other instruction does.
+#[test]
+fn jumps_forward(rt: HostRuntime) {
+    let table: [Family<'_>; 4] = [
+        (&JUMPS_BY_ONE, (1, 4, 4), &[(0, 0), (0, 4)]),
+        (&MAY_JUMP_BY_ONE, (1, 5, 5), &[(0, 0), (0, 5)]),
+        (&JUMPS_BY_TWO, (1, 4, 4), &[(0, 0), (0, 4), (0, 5)]),
+        (&JUMPS_TO_THE_END, (1, 3, 3), &[(0, 0), (0, 4)]),
+    ];
+    assert_families(&rt, rt.alloc(), GLYPH, &table);
+}
+
+// Each jump leads to a place that was gone over before; of several jumps each leads to an earlier place than those before it.
+#[test]
+fn jumps_back(rt: HostRuntime) {
+    let table: [Family<'_>; 5] = [
+        (&STARTS_AGAIN, (1, 2, 2), &[(0, 0)]),
+        (&COUNTS, (1, 5, 9), &[(0, 0), (0, 2)]),
+        (&MAY_STOP_COUNTING, (1, 8, 14), &[(0, 0), (0, 2), (0, 11)]),
         (
-            &POPPING,
-            &[0xb4, 0x01, 0x02, 0x03, 0x03, 0x00, 0x2a],
-            Ok((4, 9, 9)),
+            &LOOP_IN_A_LOOP,
+            (1, 13, 24),
+            &[(0, 0), (0, 2), (0, 3), (0, 18)],
         ),
-        // PUSHB 0; CALL.
         (
-            &POPPING,
-            &[0xb0, 0x00, 0x2b],
-            Err((Spot::Font, 3, Reason::Underflow)),
-        ),
-        // PUSHB 1, 2, 3, 4, 0; LOOPCALL.
-        (
-            &POPPING,
-            &[0xb4, 0x01, 0x02, 0x03, 0x04, 0x00, 0x2a],
-            Err((Spot::Font, 3, Reason::Underflow)),
-        ),
-        // PUSHB 0; CALL.
-        (
-            &CALLING,
-            &[0xb0, 0x00, 0x2b],
-            Err((Spot::Font, 5, Reason::Recursion)),
-        ),
-        // PUSHW 4,095; PUSHB 0; LOOPCALL: 4 points of the program, and ENDF in each turn.
-        (
-            &EMPTY,
-            &[0xb8, 0x0f, 0xff, 0xb0, 0x00, 0x2a],
-            Ok((4096, 4099, 4099)),
-        ),
-        // PUSHW 32,767, 32,767; ADD; PUSHB 1; ADD; PUSHB 0; LOOPCALL.
-        (
-            &EMPTY,
-            &[
-                0xb9, 0x7f, 0xff, 0x7f, 0xff, 0x60, 0xb0, 0x01, 0x60, 0xb0, 0x00, 0x2a,
-            ],
-            Err((Spot::Font, 3, Reason::TooManyContexts)),
+            &THREE_JUMPS_BACK,
+            (1, 14, 14),
+            &[(0, 0), (0, 1), (0, 2), (0, 3), (0, 19)],
         ),
     ];
-    for (font, program, want) in table {
-        assert_eq!(rt;
-            with_function(rt.alloc(), font, program),
-            Some(want),
-            "of {font:?} and {program:?}"
-        );
+    assert_families(&rt, rt.alloc(), GLYPH, &table);
+}
+
+#[test]
+fn many_jumps_back(rt: HostRuntime) {
+    let points: [(u32, u32); 12] = [
+        (0, 0),
+        (0, 1),
+        (0, 2),
+        (0, 3),
+        (0, 4),
+        (0, 5),
+        (0, 6),
+        (0, 7),
+        (0, 8),
+        (0, 9),
+        (0, 10),
+        (0, 61),
+    ];
+    let table: [Family<'_>; 1] = [(&TEN_JUMPS_BACK, (1, 42, 42), &points)];
+    assert_families(&rt, rt.alloc(), GLYPH, &table);
+}
+
+// A definition leads behind its ENDF, which isn't just after it.
+#[test]
+fn font_and_cvt_programs(rt: HostRuntime) {
+    let table: [Family<'_>; 2] = [
+        (&DEFINES, (1, 4, 4), &[(0, 0), (0, 4), (0, 5)]),
+        (&[0x18; 65], (1, 66, 66), &[(0, 0), (0, 65)]),
+    ];
+    for kind in [Kind::Font, Kind::Cvt] {
+        assert_families(&rt, rt.alloc(), kind, &table);
     }
 }
 
 #[test]
-fn ends_and_lengths(rt: HostRuntime) {
-    let table: [(&[u8], Kind, Answer); 4] = [
-        // PUSHW -3; JMPR: without end.
+fn calls_of_functions(rt: HostRuntime) {
+    let table: [CallingFamily<'_>; 4] = [
         (
-            &[0xb8, 0xff, 0xfd, 0x1c],
-            Kind::Font,
-            Err((Spot::Main, 0, Reason::NeverEnds)),
+            &POPPING,
+            &CALLS_WITH_A_NUMBER,
+            (2, 5, 5),
+            &[(0, 0), (0, 4), (1, 3)],
         ),
-        // POP.
-        (&[0x21], Kind::Font, Err((Spot::Main, 0, Reason::Underflow))),
-        // RTG, a byte too often.
         (
-            &[0x18; 65],
-            GLYPH,
-            Err((Spot::Main, 64, Reason::ProgramTooLong)),
+            &POPPING,
+            &CALLS_AND_RTG,
+            (2, 6, 6),
+            &[(0, 0), (0, 4), (0, 5), (1, 3)],
         ),
-        (&[0x18; 65], Kind::Cvt, Ok((1, 66, 66))),
+        (
+            &JUMPING_BACK,
+            &CALLS,
+            (2, 9, 9),
+            &[(0, 0), (0, 3), (1, 3), (1, 4)],
+        ),
+        (
+            &JUMPING_BACK,
+            &CALLS_TWICE,
+            (3, 17, 17),
+            &[(0, 0), (0, 3), (0, 6), (1, 3), (1, 4), (2, 3), (2, 4)],
+        ),
     ];
-    for (program, kind, want) in table {
-        assert_eq!(rt;
-            alone(rt.alloc(), program, kind),
-            Some(want),
-            "of {program:?}"
-        );
-    }
+    assert_calling_families(&rt, rt.alloc(), &table);
+}
+
+// A call that is made no time leads to the place just after it.
+#[test]
+fn repeated_calls(rt: HostRuntime) {
+    let table: [CallingFamily<'_>; 3] = [
+        (
+            &POPPING,
+            &THREE_TURNS,
+            (4, 9, 9),
+            &[(0, 0), (0, 7), (1, 3), (2, 3), (3, 3)],
+        ),
+        (&POPPING, &NO_TURN, (1, 3, 3), &[(0, 0), (0, 7)]),
+        (&EMPTY, &NO_TURN_AND_RTG, (1, 4, 4), &[(0, 0), (0, 5)]),
+    ];
+    assert_calling_families(&rt, rt.alloc(), &table);
+}
+
+// The program's start and its end are listed, and each turn's start.
+#[test]
+fn many_repeated_calls(rt: HostRuntime) {
+    let told = with_function(rt.alloc(), &EMPTY, &TURNS_4095).expect(&rt, "an answer");
+    assert_eq!(rt; told.answer, Ok((4096, 4099, 4099)));
+    let listed = told.certificate.as_ref().map(Certificate::points);
+    assert_eq!(rt; listed, Some(4097));
 }

@@ -1,19 +1,28 @@
-//! What the tests share: the finder's answers, and programs of functions.
+//! What the tests share: what a finder and then the check tell of a program.
 
 ghost use Rattle.tt_abs.specs.Entries.{Rises};
-ghost use Rattle.tt_abs.specs.Settings.{setting_of};
-ghost use Rattle.tt_abs.specs.StateFlow.{FunctionsFit};
 
+use crate::fillings::filled_points;
 use std::alloc::Global;
 use tt_abs::{Kind, Setting};
-use tt_cert::Spot;
+use tt_cert::{Certificate, CheckFault, Spot, States, check};
 use tt_code::{Limits, Program, Reason};
-use tt_find::{FindFault, find};
+use tt_find::{FindFault, Finder, Found, find};
 
-/// What the finder tells: how many contexts, points and updates the least family has, or where the program is refused and why.
-pub(crate) type Answer = Result<(u32, u32, u64), (Spot, u32, Reason)>;
+/// How many contexts and points the least family has, filled up, and how many updates made it.
+pub(crate) type Size = (u32, u32, u64);
 
-pub(crate) const LIMITS: Limits = Limits {
+/// What is told of a program: how large its least family is, or where it is refused and why.
+pub(crate) type Answer = Result<Size, (Spot, u32, Reason)>;
+
+/// What is told of a program, with the certificate, if there is one.
+#[derive(Drop)]
+pub(crate) struct Told {
+    pub(crate) answer: Answer,
+    pub(crate) certificate: Option<Certificate>,
+}
+
+const LIMITS: Limits = Limits {
     storage: 4,
     functions: 2,
     stack: 8,
@@ -27,17 +36,30 @@ pub(crate) const GLYPH: Kind = Kind::Glyph {
     contours: 1,
 };
 
-/// FDEF 0: POP; ENDF.
-pub(crate) const POPPING: [u8; 5] = [0xb0, 0x00, 0x2c, 0x21, 0x2d];
+/// Does the walk lead through these points alone, in this order?
+fn leads_through(states: States<'_>, points: &[(u32, u32)]) -> bool {
+    let mut states = states;
+    for point in points {
+        match states.take_first() {
+            Some((context, offset, _)) if (context, offset) == *point => {}
+            _ => return false,
+        }
+    }
+    states.take_first().is_none()
+}
 
-/// FDEF 0: PUSHB 0, CALL; ENDF.
-pub(crate) const CALLING: [u8; 7] = [0xb0, 0x00, 0x2c, 0xb0, 0x00, 0x2b, 0x2d];
-
-/// FDEF 0: ENDF.
-pub(crate) const EMPTY: [u8; 4] = [0xb0, 0x00, 0x2c, 0x2d];
+impl Told {
+    /// Are these the points of the states that are listed, each a context and an offset, in their order?
+    pub(crate) fn lists(&self, points: &[(u32, u32)]) -> bool {
+        match &self.certificate {
+            Some(certificate) => leads_through(certificate.states(), points),
+            None => false,
+        }
+    }
+}
 
 /// A program of less than 100 bytes, cut.
-pub(crate) fn cut<'a>(alloc: Global, bytes: &'a [u8]) -> Option<Program<'a>> {
+fn cut<'a>(alloc: Global, bytes: &'a [u8]) -> Option<Program<'a>> {
     if bytes.len() >= 100 {
         return None;
     }
@@ -47,30 +69,54 @@ pub(crate) fn cut<'a>(alloc: Global, bytes: &'a [u8]) -> Option<Program<'a>> {
     }
 }
 
-/// What the finder tells of a setting; nothing for want of memory.
-fn answer_in(alloc: Global, setting: &Setting<'_>) -> Option<Answer>
-    requires rises { Rises setting.now.start.now }
-    requires fits { FunctionsFit (setting_of setting.now) setting.now.start.now }
+/// How large a family is that was found, if the check accepts it, and else what the check says; nothing for want of memory.
+fn checked(alloc: Global, setting: &Setting<'_>, found: &Found) -> Option<Answer>
+    requires { Rises setting.now.start.now }
 {
-    match find(alloc, setting) {
-        Ok(found) => Some(Ok((
-            found.certificate.contexts(),
-            found.certificate.points(),
-            found.updates,
-        ))),
+    match check(alloc, setting, &found.certificate) {
+        Ok(()) => {
+            let points = filled_points(alloc, setting, &found.certificate)?;
+            Some(Ok((found.certificate.contexts(), points, found.updates)))
+        }
+        Err(
+            CheckFault::Refused {
+                spot,
+                offset,
+                reason,
+            },
+        ) => Some(Err((spot, offset, reason))),
+        Err(CheckFault::OutOfMemory(_)) => None,
+    }
+}
+
+/// What is told of a program for which this was found; nothing for want of memory.
+fn told_of(alloc: Global, setting: &Setting<'_>, found: Result<Found, FindFault>) -> Option<Told>
+    requires { Rises setting.now.start.now }
+{
+    match found {
+        Ok(found) => {
+            let answer = checked(alloc, setting, &found)?;
+            Some(Told {
+                answer,
+                certificate: Some(found.certificate),
+            })
+        }
         Err(
             FindFault::Refused {
                 spot,
                 offset,
                 reason,
             },
-        ) => Some(Err((spot, offset, reason))),
+        ) => Some(Told {
+            answer: Err((spot, offset, reason)),
+            certificate: None,
+        }),
         Err(FindFault::OutOfMemory(_)) => None,
     }
 }
 
-/// What it tells of a program that starts with no function.
-pub(crate) fn alone(alloc: Global, program: &[u8], kind: Kind) -> Option<Answer> {
+/// What is told of a program that starts with no function.
+pub(crate) fn alone(alloc: Global, program: &[u8], kind: Kind) -> Option<Told> {
     let main = cut(alloc, program)?;
     let setting = Setting {
         limits: LIMITS,
@@ -81,11 +127,12 @@ pub(crate) fn alone(alloc: Global, program: &[u8], kind: Kind) -> Option<Answer>
         prep: &main,
         start: &[],
     };
-    answer_in(alloc, &setting)
+    let found = find(alloc, &setting);
+    told_of(alloc, &setting, found)
 }
 
-/// What it tells of a glyph program that starts with function 0, whose body begins at offset 3 of the font program.
-pub(crate) fn with_function(alloc: Global, font: &[u8], program: &[u8]) -> Option<Answer> {
+/// What is told of a glyph program that starts with function 0, whose body begins at offset 3 of the font program.
+pub(crate) fn with_function(alloc: Global, font: &[u8], program: &[u8]) -> Option<Told> {
     let font = cut(alloc, font)?;
     let main = cut(alloc, program)?;
     let setting = Setting {
@@ -97,5 +144,28 @@ pub(crate) fn with_function(alloc: Global, font: &[u8], program: &[u8]) -> Optio
         prep: &font,
         start: &[(0, 3)],
     };
-    answer_in(alloc, &setting)
+    let found = find(alloc, &setting);
+    told_of(alloc, &setting, found)
+}
+
+/// What is told of such a program by a finder that may have looked at others.
+pub(crate) fn with_function_by(
+    alloc: Global,
+    finder: &mut Finder,
+    font: &[u8],
+    program: &[u8],
+) -> Option<Told> {
+    let font = cut(alloc, font)?;
+    let main = cut(alloc, program)?;
+    let setting = Setting {
+        limits: LIMITS,
+        cvt: 10,
+        kind: GLYPH,
+        main: &main,
+        font: &font,
+        prep: &font,
+        start: &[(0, 3)],
+    };
+    let found = finder.find(alloc, &setting);
+    told_of(alloc, &setting, found)
 }

@@ -8,8 +8,10 @@ use Rattle.hintcheck.proofs.look.look.Goals as goal
 
 pub returns-in-Ok-clause-accepted : goal.returns-in-Ok-clause-accepted
 returns-in-Ok-clause-accepted c = λ x looked.
-    accepted x c.args.setting.now.main.now (setting_of c.args.setting.now) c.args.setting.now.start.now c.in-Ok.found.certificate c.checked.result
-    looked.cut looked.setting looked.functions c.in-Ok.ensures.least c.in-Ok.ensures.within c.checked.ensures.same c.checked.ensures.good c.checked.ensures.safe
+    let h : HasFlow (setting_of c.args.setting.now) c.args.setting.now.start.now =
+    record { range = c.is_within.ensures.range; short = c.is_within.ensures.short; rises = c.requires.rises; fits = c.requires.fits } in
+    accepted x c.args.setting.now.main.now (setting_of c.args.setting.now) c.args.setting.now.start.now c.in-Ok.found.updates c.in-Ok.found.certificate c.checked.result
+    looked.cut looked.setting looked.functions h c.one_good_filling.ensures c.in-Ok.ensures.filling c.checked.ensures.same c.checked.ensures.filling
 
 pub returns-in-Err-Refused-clause-refused : goal.returns-in-Err-Refused-clause-refused
 returns-in-Err-Refused-clause-refused c = λ x looked.

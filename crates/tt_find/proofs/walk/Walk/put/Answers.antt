@@ -3,6 +3,7 @@ use Rattle.std.specs.Prelude.{Some}
 use Rattle.tt_code.specs.declared.machine.Frame.{Frame}
 use Rattle.tt_abs.specs.States.{state_order}
 use Rattle.tt_cert.specs.Contents.{frames_at}
+use Rattle.tt_cert.specs.Spots.{spot_of}
 use Rattle.tt_find.proofs.Placed.{put_elsewhere}
 use Rattle.tt_find.proofs.walk.Walk.put.Goals as goal
 
@@ -14,6 +15,7 @@ returns-else-is_at-clause-walk c =
     record {
       there = subst T (sym put.contexts) c.requires.walk.there;
       calls = c.requires.walk.calls ∙ ap (λ (x : List (List Frame)). reverse (frames_at x at)) (sym put.contexts);
+      spot = c.requires.walk.spot ∙ ap (λ (x : List (List Frame)). spot_of (frames_at x at)) (sym put.contexts);
       known = λ a b is.
           let apart : ◌≢◌ {A = ℕ × ℕ} (a, b) (c.args.context, c.args.offset) =
           λ e.

@@ -1,8 +1,8 @@
 use Rattle.std.specs.Prelude.{ℕ, Option}
 use Rattle.std.proofs.Common.{subst, sym}
-use Rattle.tt_find.specs.Marks.{AreInOrder}
-use Rattle.tt_find.proofs.Marked.{order_grown, order_replaced}
-use Rattle.tt_find.proofs.marks.Marks.insert.Goals as goal
+use Rattle.tt_find.specs.Waiting.{AreInOrder}
+use Rattle.tt_find.proofs.Waits.{order_grown, order_replaced}
+use Rattle.tt_find.proofs.waiting.Waiting.insert.Goals as goal
 
 pub invariant_of-self-in-Less : goal.invariant_of-self-in-Less
 invariant_of-self-in-Less c =

@@ -1,0 +1,712 @@
+-- What the steps of a run leave of the finder's table, and what justifies its refusals.
+use Rattle.std.specs.Prelude.{◌≡◌, ◌≢◌, ◌⊎◌, ℕ, ◌+◌, ◌≤◌, ◌<◌, Bool, true, false, cond, Option, Some, None, List, [], ◌∷◌, ◌++◌, Result, IfOk, IfErr, length}
+use Rattle.std.specs.BTreeSet.{BTreeSet}
+use Rattle.std.proofs.Common.{refl, sym, ◌∙◌, ap, subst, arith, inl, inr, length-append}
+use Rattle.std.proofs.Math.ListN.{get_or-append}
+use Rattle.std.proofs.Math.Seq.{get_or-append_seam}
+use Rattle.std.proofs.lemmas.Bool.{cases_Bool, cases_lt}
+use Rattle.tt_code.specs.Settings.{Setting, is_main_end}
+use Rattle.tt_code.specs.declared.machine.Frame.{Frame}
+use Rattle.tt_code.specs.declared.reason.Reason.{Reason}
+use Rattle.tt_code.specs.declared.reason.Reason.TheVariants.{DepthMismatch, TooManyContexts}
+use Rattle.tt_abs.specs.declared.moves.Move.{Move}
+use Rattle.tt_abs.specs.declared.moves.Moves.{Moves}
+use Rattle.tt_abs.specs.declared.moves.Moves.TheVariants as moves
+use Rattle.tt_abs.specs.declared.state.State.{State}
+use Rattle.tt_abs.specs.FamilyLaws.{derived_height, derived_is}
+use Rattle.tt_abs.specs.Lines.{Precedes}
+use Rattle.tt_abs.specs.Moves.{frames_behind, offset_behind}
+use Rattle.tt_abs.specs.StateFlow.{GivesState, IsPlace, Place, flow_of, height_of}
+use Rattle.tt_abs.specs.States.{state_laws, state_order}
+use Rattle.tt_abs.proofs.LineLaws.{precedes_no_start, precedes_one, precedes_rises}
+use Rattle.tt_cert.specs.Checks.{key_of}
+use Rattle.tt_cert.specs.Contents.{AddsContext, Contents, HasContext, IsFamily, family_of, frames_at, number_of}
+use Rattle.tt_cert.specs.Numbers.{at-number_of, number_of-place}
+use Rattle.tt_cert.specs.Places.{PutGives, PutsAt, has_point, states_of}
+use Rattle.tt_cert.specs.Puts.{family_at, number_at, place_of}
+use Rattle.tt_cert.specs.Spots.{spot_of}
+use Rattle.tt_cert.specs.declared.spot.Spot.{Spot}
+use Rattle.tt_cert.proofs.FillingLaws.{some_or_none}
+use Rattle.tt_cert.proofs.Puts.{cases_place}
+use Rattle.tt_find.specs.declared.fault.FindFault.{FindFault}
+use Rattle.tt_find.specs.declared.fault.FindFault.TheVariants.{Refused, OutOfMemory}
+use Rattle.tt_find.specs.Marks.{SetsMark, mark_of}
+use Rattle.tt_find.specs.declared.marks.Mark.TheVariants.{Kept, Passed}
+use Rattle.tt_find.specs.declared.marks.Marks.{Marks}
+use Rattle.tt_find.specs.declared.source.Source.{Source}
+use Rattle.tt_find.specs.declared.source.Source.TheVariants.{JustBefore, Elsewhere}
+use Rattle.tt_find.specs.declared.stop.Stop.{Stop}
+use Rattle.tt_find.specs.declared.stop.Stop.TheVariants.{Fault, Met}
+use Rattle.tt_find.specs.declared.table.Table.{Table}
+use Rattle.tt_find.specs.Found.{AreDerivedContexts, IsDerived, IsJustified, IsNeeded, NamesPlace, NamesStop, refused, apart, too_many}
+use Rattle.tt_find.specs.Tables.{ArePoints, AreVisits, ComesFrom, HasLaws, HasRisen, IsAmong, IsApart, IsCarriedOn, IsCountable, IsLeading, IsListed, IsOnWay, IsPassed, IsPopped, IsPut, IsRefusedAt, IsSound, IsStored, IsTable, IsWhole, IsWithinBudget, KeepsRest, MayLead, Pends, PendsFrom, SparesAt, places_behind}
+use Rattle.tt_find.proofs.Budget.{budget_put, budget_same, room_for, updates_fit}
+use Rattle.tt_find.proofs.Listed.{cases_source, listed_back, listed_before, listed_grown, listed_now, listed_on, there_now}
+use Rattle.tt_find.proofs.Marking.{kept_here, kept_passed, kept_put, kept_state, none_kept}
+use Rattle.tt_find.proofs.Points.{family_kept, frames_stay, key_kept, same_or_apart, slot_elsewhere, slot_here, table_grown, table_opened, table_popped, table_put, waits_back, waits_here, waits_on, with_slot}
+use Rattle.tt_find.proofs.Sound.{gives_same, sound_passed, stays}
+use Rattle.tt_find.proofs.Visits.{more_elsewhere, more_here, more_rises, one_more, points_more, points_same, visits_changed, visits_passed, visits_same}
+use Rattle.tt_find.proofs.Waits.{point_behind, point_here}
+use Rattle.tt_find.proofs.Ways.{end_gives, end_safe, ways_give, ways_safe}
+
+pub names_map : (A B : Place → Reason → Type 0) → ((p : Place) (r : Reason) → A p r → B p r) → (fault : FindFault) → NamesPlace A fault → NamesPlace B fault
+names_map A B turn (Refused spot offset r) (p, e, f, h) = (p, e, f, turn p r h)
+names_map A B turn (OutOfMemory e) h = tt
+
+pub stop_map : (A B : Place → Reason → Type 0) (everywhere everywhere' : Bool) → everywhere ≡ everywhere' → ((p : Place) (r : Reason) → A p r → B p r) → (stop : Stop)
+    → NamesStop A everywhere stop → NamesStop B everywhere' stop
+stop_map A B everywhere everywhere' same turn (Fault fault) h = names_map A B turn fault h
+stop_map A B everywhere everywhere' same turn Met h = sym same ∙ h
+
+-- a fault that is at a place
+pub names_at : (Is : Place → Reason → Type 0) (p : Place) (r : Reason) (fault : FindFault) → fault ≡ Refused (spot_of p.0) p.1 r → Is p r → NamesPlace Is fault
+names_at Is p r fault e h = let N : FindFault → Type 0 = λ x. NamesPlace Is x in subst N (sym e) (p, refl, refl, h)
+
+pub risen_on : (a b c : Table) → HasRisen a b → HasRisen b c → HasRisen a c
+risen_on a b c h k =
+    let m = h.waiting in
+    let m' = k.waiting in
+    let u = h.changes in
+    let u' = k.changes in
+    record { waiting = omega arith; changes = omega arith }
+
+-- what is put of two ways
+pends_swap : (q r : Place) (t : State) (p : Place) (u : State) → Pends (q ∷ r ∷ []) t p u → Pends (r ∷ q ∷ []) t p u
+pends_swap q r t p u h = elim h [
+  | inl first ↦ inr (inl first)
+  | inr rest ↦ elim rest [ inl second ↦ inl second | inr never ↦ absurd never ]
+]
+
+module _ (s : Setting) (functions : List (ℕ × ℕ)) (laws : HasLaws s functions) where
+  -- The first of the points that wait is taken out.
+
+  module _ (table : Table) (c off : ℕ) (rest : List (ℕ × ℕ)) (whole : IsWhole s functions table) (is : table.waiting ≡ (c, off) ∷ rest) where
+    has_at : (k : ℕ × ℕ) → has_point table.waiting k ≡ has_point ((c, off) ∷ rest) k
+    has_at k = ap (λ (x : List (ℕ × ℕ)). has_point x k) is
+
+    waited : has_point table.waiting (c, off) ≡ true
+    waited = has_at (c, off) ∙ point_here (c, off) rest
+
+    pub held_first : (a : State) × (states_of table.builder.states (c, off) ≡ Some a)
+    held_first = whole.kept.held c off waited
+
+    pub there_first : c < length table.builder.contexts
+    there_first = let (a, at) = held_first in whole.kept.family.held c off a at
+
+    waited_there : IsAmong table.builder table.waiting (place_of table.builder c off)
+    waited_there = ap (has_point table.waiting) (λ i. (number_at table.builder c whole.kept.family there_first i, off)) ∙ waited
+
+    waited_still : (k : ℕ × ℕ) → has_point rest k ≡ true → has_point table.waiting k ≡ true
+    waited_still k m = elim (cases_place k (c, off)) [
+      | inl same ↦ ap (has_point table.waiting) same ∙ waited
+      | inr other ↦ has_at k ∙ point_behind (c, off) k rest other ∙ m
+    ]
+
+    waited_before : (q : Place) → IsAmong table.builder rest q ⊎ (q ≡ place_of table.builder c off) → IsAmong table.builder table.waiting q ⊎ ⊥
+    waited_before q w = elim w [
+      | inl hit ↦ inl (waited_still (key_of table.builder q) hit)
+      | inr same ↦ let W : Place → Type 0 = λ x. IsAmong table.builder table.waiting x in inl (subst W (sym same) waited_there)
+    ]
+
+    pub popped_left : has_point rest (c, off) ≡ false → IsPopped s functions (record table { waiting = rest }) c off
+    popped_left first = record {
+      sound = record {
+        filled = whole.filled;
+        kept = table_popped state_order (flow_of s functions) state_laws table.builder table.waiting rest whole.filled (MayLead s table.builder table.spare.keys) c off whole.kept is;
+        marks = whole.marks;
+        start = whole.start;
+        needed = whole.needed;
+        budget = whole.budget;
+        visits = whole.visits;
+        visited = visits_same s (height_of s) (family_of table.builder) (family_of table.builder) whole.filled whole.filled (λ q. IsAmong table.builder table.waiting q ⊎ ⊥)
+            (λ q. IsAmong table.builder rest q ⊎ (q ≡ place_of table.builder c off)) whole.visits whole.visited (λ _. refl) (λ _. refl) waited_before;
+        points = whole.points;
+        counted = whole.counted;
+      };
+      state = held_first.0;
+      kept = held_first.1;
+      apart = first;
+    }
+
+  -- its state is carried on from there
+  pub way_begins : (table : Table) (c off : ℕ) (a : State) → IsPopped s functions table c off → states_of table.builder.states (c, off) ≡ Some a
+      → IsOnWay s functions table (place_of table.builder c off) a
+  way_begins table c off a popped at =
+      let family = popped.sound.kept.family in
+      let lt : c < length table.builder.contexts = family.held c off a at in
+      record {
+        sound = popped.sound;
+        here = kept_state table.marks (family_of table.builder) popped.sound.filled (place_of table.builder c off) a popped.sound.marks (family_at table.builder c off family lt ∙ at);
+        apart = λ hit.
+            let no_such : true ≡ false = sym hit ∙ ap (has_point table.waiting) (λ i. (number_at table.builder c family lt i, off)) ∙ popped.apart in
+            cc;
+      }
+
+  -- The state on the way is carried on.
+
+  -- it is at the main program's end
+  pub way_ends : (table : Table) (p : Place) (a : State) → IsOnWay s functions table p a → is_main_end s p.0 p.1 ≡ true → IsWhole s functions table
+  way_ends table p a way ends =
+      let sound = way.sound in
+      record {
+        filled = sound.filled;
+        kept = table_opened state_order (flow_of s functions) state_laws table.builder table.waiting sound.filled (MayLead s table.builder table.spare.keys) p a (λ _ _ _. ⊥) sound.kept way.here
+            (end_safe s p a ends) (λ q t g. (end_gives s p a ends q t).1 g) (λ _ _ _ never. absurd never);
+        marks = sound.marks;
+        start = sound.start;
+        needed = sound.needed;
+        budget = sound.budget;
+        visits = sound.visits;
+        visited = visits_same s (height_of s) (family_of table.builder) (family_of table.builder) sound.filled sound.filled (λ q. IsAmong table.builder table.waiting q ⊎ (q ≡ p))
+            (λ q. IsAmong table.builder table.waiting q ⊎ ⊥) sound.visits sound.visited (λ _. refl) (λ _. refl) (λ q w. elim w [ inl hit ↦ inl hit | inr never ↦ absurd never ]);
+        points = sound.points;
+        counted = sound.counted;
+      }
+
+  -- it leads on
+  pub way_leads : (table : Table) (p : Place) (a : State) (ways : Moves) (end : ℕ) (t : State) → IsOnWay s functions table p a → IsCarriedOn s p a ways end t
+      → IsLeading s functions table p (places_behind p.0 ways) t
+  way_leads table p a ways end t way on =
+      let sound = way.sound in
+      let give = ways_give s p a ways t on.running on.result on.in_range in
+      record {
+        state = a;
+        derived = sound.kept.sound.derived p a way.here;
+        gives = λ q u h. (give q u).0 h;
+        sound = record {
+          filled = sound.filled;
+          kept = table_opened state_order (flow_of s functions) state_laws table.builder table.waiting sound.filled (MayLead s table.builder table.spare.keys) p a (PendsFrom p (places_behind p.0 ways) t)
+              sound.kept way.here (ways_safe s p a ways t on.running on.result on.in_range) (λ q u g. (refl, (give q u).1 g)) (λ r q u h. (give q u).0 h.1);
+          marks = sound.marks;
+          start = sound.start;
+        needed = sound.needed;
+          budget = sound.budget;
+          visits = sound.visits;
+          visited = visits_same s (height_of s) (family_of table.builder) (family_of table.builder) sound.filled sound.filled (λ q. IsAmong table.builder table.waiting q ⊎ (q ≡ p))
+              (λ q. IsAmong table.builder table.waiting q ⊎ ⊥) sound.visits sound.visited (λ _. refl) (λ _. refl) (λ q w. elim w [ inl hit ↦ inl hit | inr never ↦ absurd never ]);
+          points = sound.points;
+          counted = sound.counted;
+        };
+        here = λ _. way.here;
+        ahead = λ q just none. sound.visited.ahead p q just none (inr refl);
+        twice = λ hit. absurd (way.apart hit);
+      }
+
+  -- nothing is left to be put
+  pub leading_ends : (table : Table) (p : Place) (t : State) → IsLeading s functions table p [] t → IsWhole s functions table
+  leading_ends table p t leading =
+      let sound = leading.sound in
+      record {
+        filled = sound.filled;
+        kept = record {
+          family = sound.kept.family;
+          entered = sound.kept.entered;
+          held = sound.kept.held;
+          sound = record {
+            derived = sound.kept.sound.derived;
+            rest_derived = λ _ _ _ never. absurd never;
+            start = sound.kept.sound.start;
+            safe = sound.kept.sound.safe;
+            closed = λ p' a q u at free gives. elim (sound.kept.sound.closed p' a q u at free gives) [ inl covered ↦ inl covered | inr rest ↦ absurd rest.1 ];
+          };
+        };
+        marks = sound.marks;
+        start = sound.start;
+        needed = sound.needed;
+        budget = sound.budget;
+        visits = sound.visits;
+        visited = sound.visited;
+        points = sound.points;
+        counted = sound.counted;
+      }
+
+  -- the other of two ways may come first
+  pub leading_swap : (table : Table) (p q r : Place) (t : State) → IsLeading s functions table p (q ∷ r ∷ []) t → IsLeading s functions table p (r ∷ q ∷ []) t
+  leading_swap table p q r t leading =
+      let sound = leading.sound in
+      record {
+        state = leading.state;
+        derived = leading.derived;
+        gives = λ x u h. leading.gives x u (pends_swap r q t x u h);
+        sound = record {
+          filled = sound.filled;
+          kept = record {
+            family = sound.kept.family;
+            entered = sound.kept.entered;
+            held = sound.kept.held;
+            sound = record {
+              derived = sound.kept.sound.derived;
+              rest_derived = λ from x u h. sound.kept.sound.rest_derived from x u (h.0, pends_swap r q t x u h.1);
+              start = sound.kept.sound.start;
+              safe = sound.kept.sound.safe;
+              closed = λ p' a x u at free gives. elim (sound.kept.sound.closed p' a x u at free gives) [ inl covered ↦ inl covered | inr rest ↦ inr (rest.0, pends_swap q r t x u rest.1) ];
+            };
+          };
+          marks = sound.marks;
+          start = sound.start;
+        needed = sound.needed;
+          budget = sound.budget;
+          visits = sound.visits;
+          visited = sound.visited;
+          points = sound.points;
+          counted = sound.counted;
+        };
+        here = leading.here;
+        ahead = leading.ahead;
+        twice = leading.twice;
+      }
+
+  -- The state was put at the first of the places.
+
+  module _ (old new : Table) (p : Place) (c off : ℕ) (t : State) (qs : List Place) (source : Source) (leading : IsLeading s functions old p (place_of old.builder c off ∷ qs) t)
+      (lt : c < length old.builder.contexts) (stored : IsStored old new c off t source) (comes : ComesFrom s p (place_of old.builder c off) source) where
+    abbrev Q : Place
+    Q = place_of old.builder c off
+
+    abbrev filled : Place → Option State
+    filled = leading.sound.filled
+
+    abbrev slot : Option State
+    slot = family_of new.builder (place_of old.builder c off)
+
+    abbrev filled' : Place → Option State
+    filled' = with_slot leading.sound.filled (place_of old.builder c off) (family_of new.builder (place_of old.builder c off))
+
+    family_v : IsFamily old.builder
+    family_v = leading.sound.kept.family
+
+    derived_q : IsDerived s functions Q t
+    derived_q = leading.sound.kept.sound.rest_derived p Q t (refl, inl (refl, refl))
+
+    kept_q : family_of old.builder Q ≡ filled Q
+    kept_q = kept_here old.marks (family_of old.builder) filled Q leading.sound.marks stored.fresh
+
+    filled_here : filled' Q ≡ slot
+    filled_here = slot_here filled Q slot
+
+    filled_else : (r : Place) → r ≢ Q → filled' r ≡ filled r
+    filled_else r other = slot_elsewhere filled Q slot r other
+
+    fills : PutsAt state_order filled filled' Q t stored.put.changed
+    fills =
+        let G : Option State × Option State → Type 0 = λ x. PutGives state_order x.0 t x.1 stored.put.changed in
+        let both : ◌≡◌ {A = Option State × Option State} (family_of old.builder Q, slot) (filled Q, filled' Q) = λ i. (kept_q i, sym filled_here i) in
+        record { here = subst G both stored.put.put.here; elsewhere = filled_else }
+
+    back : (r : Place) → IsAmong new.builder new.waiting r → IsAmong old.builder old.waiting r ⊎ ((r ≡ Q) × (stored.put.changed ≡ true))
+    back = waits_back state_order (flow_of s functions) old.builder new.builder old.waiting new.waiting c off stored.put.changed stored.put.contexts stored.put.waiting family_v lt
+        (λ a b m. let (x, at) = leading.sound.kept.held a b m in family_v.held a b x at)
+
+    on : (r : Place) → IsAmong old.builder old.waiting r → IsAmong new.builder new.waiting r
+    on = waits_on state_order (flow_of s functions) old.builder new.builder old.waiting new.waiting c off stored.put.changed stored.put.contexts stored.put.waiting family_v lt
+
+    on_here : stored.put.changed ≡ true → IsAmong new.builder new.waiting Q
+    on_here = waits_here state_order (flow_of s functions) old.builder new.builder old.waiting new.waiting c off stored.put.changed stored.put.contexts stored.put.waiting family_v lt
+
+    leads : (a b : Place) → MayLead s old.builder old.spare.keys a b → MayLead s new.builder new.spare.keys a b
+    leads a b may = elim may [
+      | inl just ↦ inl just
+      | inr listed ↦ inr (listed_on old.builder new.builder old.spare.keys new.spare.keys c off t stored.put.changed source family_v lt stored.put.contexts stored.put.put stored.spare b listed)
+    ]
+
+    leads_here : MayLead s new.builder new.spare.keys p Q
+    leads_here = elim (cases_source source) [
+      | inl before ↦ inl (comes.0 before)
+      | inr away ↦ inr (listed_now old.builder new.builder old.spare.keys new.spare.keys c off t stored.put.changed source family_v lt stored.put.contexts stored.put.put stored.spare away)
+    ]
+
+    needed_now : (r : Place) → IsListed new.builder new.spare.keys r → IsNeeded s functions r
+    needed_now r listed =
+        elim (listed_back old.builder new.builder old.spare.keys new.spare.keys c off t stored.put.changed source family_v lt stored.put.contexts stored.put.put stored.spare r listed) [
+          | inl old' ↦ leading.sound.needed r old'
+          | inr (same, away) ↦
+              let N : Place → Type 0 = λ x. IsNeeded s functions x in
+              subst N (sym same) (inr (record {
+                from = p;
+                state = leading.state;
+                given = t;
+                derived = leading.derived;
+                gives = leading.gives Q t (inl (refl, refl));
+                elsewhere = comes.1 away;
+              }))
+        ]
+
+    kept_now : IsTable state_order (flow_of s functions) new.builder new.waiting filled' (MayLead s new.builder new.spare.keys) (λ _. ⊥) (PendsFrom p qs t)
+    kept_now = table_put state_order (flow_of s functions) state_laws old.builder new.builder old.waiting new.waiting filled filled' (MayLead s old.builder old.spare.keys) (MayLead s new.builder new.spare.keys)
+        c off t stored.put.changed (PendsFrom p (Q ∷ qs) t) (PendsFrom p qs t) leading.sound.kept lt stored.put.put fills stored.put.contexts stored.put.family stored.put.waiting derived_q
+        (λ a r u h. elim h.1 [
+          | inl now ↦ let M : Place → Type 0 = λ x. MayLead s new.builder new.spare.keys x Q in inr (now.0, now.1, subst M (sym h.0) leads_here)
+          | inr later ↦ inl (h.0, later)
+        ])
+        (λ a r u h. (h.0, inr h.1)) leads
+
+    low : state_order.left t ≤ height_of s
+    low = derived_height state_order (flow_of s functions) (height_of s) laws.flow Q t derived_q
+
+    ranged : (r : Place) (a : State) → family_of old.builder r ≡ Some a → state_order.InRange a
+    ranged r a at =
+        (derived_is state_order (flow_of s functions) (height_of s) laws.flow r a
+        (leading.sound.kept.sound.derived r a (kept_state old.marks (family_of old.builder) filled r a leading.sound.marks at))).in_range
+
+    -- with new counts of visits
+    made : (visits : Place → ℕ) (points : List Place) → AreVisits s (height_of s) (family_of new.builder) filled' (λ r. IsAmong new.builder new.waiting r ⊎ ⊥) visits
+        → ArePoints filled' visits points (new.changes + new.passes) → ((r : Place) → Precedes s p r → family_of new.builder r ≡ None → visits r + 1 ≤ visits p)
+        → (IsAmong new.builder new.waiting p → (r : Place) → Precedes s p r → family_of new.builder r ≡ None → visits r + 2 ≤ visits p) → IsLeading s functions new p qs t
+    made visits points visited counted ahead twice = record {
+      state = leading.state;
+      derived = leading.derived;
+      gives = λ x u h. leading.gives x u (inr h);
+      sound = record {
+        filled = filled';
+        kept = kept_now;
+        marks = kept_put old.marks new.marks (family_of old.builder) (family_of new.builder) filled Q leading.sound.marks stored.marks stored.fresh stored.put.put.elsewhere;
+        start = listed_on old.builder new.builder old.spare.keys new.spare.keys c off t stored.put.changed source family_v lt stored.put.contexts stored.put.put stored.spare ([], 0) leading.sound.start;
+        needed = needed_now;
+        budget = let B : ℕ → Type 0 = λ n. IsWithinBudget state_order (height_of s) new.builder n in
+            subst B (sym stored.put.changes) (budget_put state_order state_laws (height_of s) old.builder new.builder c off t old.changes stored.put.changed ranged low leading.sound.budget stored.put.put stored.put.sums);
+        visits = visits;
+        visited = visited;
+        points = points;
+        counted = counted;
+      };
+      here = λ free.
+          stays state_order state_laws (flow_of s functions) same_or_apart filled filled' (λ r. IsAmong new.builder new.waiting r) Q t stored.put.changed fills on_here p free
+          ∙ leading.here (λ hit. free (on p hit));
+      ahead = ahead;
+      twice = twice;
+    }
+
+    made_changed : stored.put.changed ≡ true → IsLeading s functions new p qs t
+    made_changed is =
+        let visits = leading.sound.visits in
+        let P : Bool → Type 0 = λ b. PutsAt state_order (family_of old.builder) (family_of new.builder) Q t b in
+        let (u, at) = there_now old.builder new.builder old.spare.keys new.spare.keys c off t stored.put.changed source family_v lt stored.put.contexts stored.put.put stored.spare in
+        let (points, counted) = points_more filled filled' visits leading.sound.points (old.changes + old.passes) Q u leading.sound.counted (filled_here ∙ at) filled_else in
+        let one : ◌≡◌ {A = ℕ} (cond stored.put.changed 1 0) 1 = ap (λ (b : Bool). cond {A = ℕ} b 1 0) is in
+        let changes = stored.put.changes in
+        let passes = stored.passes in
+        let count : old.changes + old.passes + 1 ≡ new.changes + new.passes = omega arith in
+        let A : ℕ → Type 0 = λ n. ArePoints filled' (one_more visits Q) points n in
+        let gone : (r : Place) → family_of new.builder r ≡ None → r ≢ Q =
+        λ r none same. absurd (let no_such : Some u ≡ None = sym at ∙ ap (family_of new.builder) (sym same) ∙ none in cc) in
+        made (one_more visits Q) points
+        (visits_changed s (height_of s) (family_of old.builder) (family_of new.builder) filled filled' (λ r. IsAmong old.builder old.waiting r ⊎ ⊥) (λ r. IsAmong new.builder new.waiting r ⊎ ⊥) visits Q t
+        leading.sound.visited (subst P is stored.put.put) kept_q filled_here filled_else low (ranged Q)
+        (λ r w. elim w [ inl hit ↦ elim (back r hit) [ inl old' ↦ inl (inl old') | inr now ↦ inr now.0 ] | inr never ↦ absurd never ]))
+        (subst A count counted)
+        (λ r just none.
+        let other = gone r none in
+        let was = sym (stored.put.put.elsewhere r other) ∙ none in
+        let n = leading.ahead r just was in
+        let e = more_elsewhere visits Q r other in
+        let m = more_rises visits Q p in
+        omega arith)
+        (λ hit r just none.
+        let other = gone r none in
+        let was = sym (stored.put.put.elsewhere r other) ∙ none in
+        let e = more_elsewhere visits Q r other in
+        elim (back p hit) [
+          | inl old' ↦ let n = leading.twice old' r just was in let m = more_rises visits Q p in omega arith
+          | inr now ↦
+              let n = leading.ahead r just was in
+              let e' = ap (one_more visits Q) now.0 in
+              let e'' = ap visits now.0 in
+              let m = more_here visits Q in
+              omega arith
+        ])
+
+    made_same : stored.put.changed ≡ false → IsLeading s functions new p qs t
+    made_same is =
+        let visits = leading.sound.visits in
+        let G : Bool → Type 0 = λ b. PutGives state_order (family_of old.builder Q) t (family_of new.builder Q) b in
+        let kept : family_of new.builder Q ≡ family_of old.builder Q = gives_same state_order (family_of old.builder Q) t (family_of new.builder Q) (subst G is stored.put.put.here) in
+        let one : ◌≡◌ {A = ℕ} (cond stored.put.changed 1 0) 0 = ap (λ (b : Bool). cond {A = ℕ} b 1 0) is in
+        let changes = stored.put.changes in
+        let passes = stored.passes in
+        let count : old.changes + old.passes ≡ new.changes + new.passes = omega arith in
+        let A : ℕ → Type 0 = λ n. ArePoints filled' visits leading.sound.points n in
+        made visits leading.sound.points
+        (visits_same s (height_of s) (family_of old.builder) (family_of new.builder) filled filled' (λ r. IsAmong old.builder old.waiting r ⊎ ⊥) (λ r. IsAmong new.builder new.waiting r ⊎ ⊥) visits
+        leading.sound.visited (stored_is kept) (filled_is kept)
+        (λ r w. elim w [ inl hit ↦ elim (back r hit) [ inl old' ↦ inl old' | inr now ↦ absurd (not_changed is now.1) ] | inr never ↦ absurd never ]))
+        (subst A count (points_same filled filled' visits leading.sound.points (old.changes + old.passes) leading.sound.counted (filled_is kept)))
+        (λ r just none. leading.ahead r just (sym (stored_is kept r) ∙ none))
+        (λ hit r just none. elim (back p hit) [
+          | inl old' ↦ leading.twice old' r just (sym (stored_is kept r) ∙ none)
+          | inr now ↦ absurd (not_changed is now.1)
+        ])
+      where
+        not_changed : stored.put.changed ≡ false → stored.put.changed ≡ true → ⊥
+        not_changed e h = let no_such : true ≡ false = sym h ∙ e in cc
+
+        stored_is : family_of new.builder Q ≡ family_of old.builder Q → (r : Place) → family_of new.builder r ≡ family_of old.builder r
+        stored_is kept r = elim (same_or_apart r Q) [
+          | inl same ↦ ap (family_of new.builder) same ∙ kept ∙ ap (family_of old.builder) (sym same)
+          | inr other ↦ stored.put.put.elsewhere r other
+        ]
+
+        filled_is : family_of new.builder Q ≡ family_of old.builder Q → (r : Place) → filled' r ≡ filled r
+        filled_is kept r = elim (same_or_apart r Q) [
+          | inl same ↦ ap filled' same ∙ filled_here ∙ kept ∙ kept_q ∙ ap filled (sym same)
+          | inr other ↦ filled_else r other
+        ]
+
+    pub leading_put : IsLeading s functions new p qs t
+    leading_put = elim (cases_Bool stored.put.changed) [ inl is ↦ made_changed is | inr is ↦ made_same is ]
+
+  -- The state goes over the place just after.
+
+  module _ (old new : Table) (p : Place) (c off : ℕ) (t : State) (leading : IsLeading s functions old p (place_of old.builder c off ∷ []) t)
+      (lt : c < length old.builder.contexts) (passed : IsPassed old new (spot_of (frames_at old.builder.contexts c)) off) (just : Precedes s p (place_of old.builder c off)) where
+    abbrev O : Place
+    O = place_of old.builder c off
+
+    abbrev over : Place → Option State
+    over = leading.sound.filled
+
+    abbrev over' : Place → Option State
+    over' = with_slot leading.sound.filled (place_of old.builder c off) (Some t)
+
+    abbrev table : Table
+    table = record old { marks = new.marks; passes = new.passes }
+
+    gone : family_of old.builder O ≡ None
+    gone = none_kept old.marks (family_of old.builder) over O leading.sound.marks passed.fresh
+
+    here : over' O ≡ Some t
+    here = slot_here over O (Some t)
+
+    elsewhere : (r : Place) → r ≢ O → over' r ≡ over r
+    elsewhere r other = slot_elsewhere over O (Some t) r other
+
+    derived_over : IsDerived s functions O t
+    derived_over = leading.sound.kept.sound.rest_derived p O t (refl, inl (refl, refl))
+
+    not_entry : ◌≢◌ {A = Place} ([], 0) O
+    not_entry e = let P : Place → Type 0 = λ x. Precedes s p x in precedes_no_start s p [] (subst P (sym e) just)
+
+    only : (r : Place) → MayLead s old.builder old.spare.keys r O → r ≡ p
+    only r may = elim may [
+      | inl before ↦ precedes_one s r p O before just
+      | inr listed ↦ absurd (let no_such : None ≡ Some listed.state = sym gone ∙ listed.kept in cc)
+    ]
+
+    not_waiting : IsAmong old.builder old.waiting O → ⊥
+    not_waiting hit =
+        let (a, at) = leading.sound.kept.held (number_of old.builder.contexts O.0) off hit in
+        let no_such : None ≡ Some a = sym gone ∙ at in cc
+
+    passed_here : IsOnWay s functions table O t
+    passed_here =
+        let (points, counted) = points_more over over' leading.sound.visits leading.sound.points (old.changes + old.passes) O t leading.sound.counted here elsewhere in
+        let passes = passed.passes in
+        let count : old.changes + old.passes + 1 ≡ old.changes + new.passes = omega arith in
+        let A : ℕ → Type 0 = λ n. ArePoints over' (one_more leading.sound.visits O) points n in
+        record {
+          sound = record {
+            filled = over';
+            kept = record {
+              family = leading.sound.kept.family;
+              entered = leading.sound.kept.entered;
+              held = leading.sound.kept.held;
+              sound = sound_passed state_order state_laws (flow_of s functions) same_or_apart over over' (MayLead s old.builder old.spare.keys) (λ r. IsAmong old.builder old.waiting r ⊎ ⊥)
+                  (λ r. IsAmong old.builder old.waiting r ⊎ (r ≡ O)) (PendsFrom p (O ∷ []) t) p O leading.state t leading.sound.kept.sound here elsewhere derived_over
+                  (λ r x u h. elim h.1 [ inl now ↦ (h.0, now.0, now.1) | inr never ↦ absurd never ]) (inl just) only (leading.gives O t (inl (refl, refl)))
+                  (λ u v g g'. laws.flow.one_at p leading.state O u v g g') not_entry (λ free. leading.here (λ hit. free (inl hit)))
+                  (λ r w. elim w [ inl hit ↦ inl hit | inr never ↦ absurd never ]) (inr refl);
+            };
+            marks = kept_passed old.marks new.marks (family_of old.builder) over O (Some t) leading.sound.marks passed.marks passed.fresh;
+            start = leading.sound.start;
+            needed = leading.sound.needed;
+            budget = leading.sound.budget;
+            visits = one_more leading.sound.visits O;
+            visited = visits_passed s (height_of s) (family_of old.builder) over over' (λ r. IsAmong old.builder old.waiting r ⊎ ⊥) (λ r. IsAmong old.builder old.waiting r ⊎ (r ≡ O))
+                leading.sound.visits p O t leading.sound.visited gone here elsewhere just (leading.ahead O just gone)
+                (λ w. elim w [ inl hit ↦ leading.twice hit O just gone | inr never ↦ absurd never ])
+                (λ r w. elim w [ inl hit ↦ inl (inl hit) | inr same ↦ inr same ]);
+            points = points;
+            counted = subst A count counted;
+          };
+          here = here;
+          apart = not_waiting;
+        }
+
+    pub leading_passed : IsOnWay s functions new (place_of new.builder c off) t
+    leading_passed = let W : Table → Type 0 = λ x. IsOnWay s functions x (place_of x.builder c off) t in subst W (sym passed.same) passed_here
+
+  -- One more context may be there.
+
+  module _ (table : Table) (v' : Contents) (p : Place) (frames : List Frame) (number off : ℕ) (t : State) (leading : IsLeading s functions table p ((frames, off) ∷ []) t)
+      (adds : AddsContext table.builder.contexts v'.contexts frames number) (states : v'.states ≡ table.builder.states) (family' : IsFamily v') where
+    family_old : IsFamily table.builder
+    family_old = leading.sound.kept.family
+
+    same_family : (r : Place) → family_of v' r ≡ family_of table.builder r
+    same_family = family_kept table.builder v' frames number adds states family_old family'
+
+    waits_later : (r : Place) → IsAmong table.builder table.waiting r → IsAmong v' table.waiting r
+    waits_later r hit =
+        let (a, at) = leading.sound.kept.held (number_of table.builder.contexts r.0) r.1 hit in
+        ap (has_point table.waiting) (key_kept table.builder v' frames number adds states r (family_old.held (number_of table.builder.contexts r.0) r.1 a at)) ∙ hit
+
+    waits_before : (r : Place) → IsAmong v' table.waiting r → IsAmong table.builder table.waiting r
+    waits_before r hit =
+        let (a, at) = leading.sound.kept.held (number_of v'.contexts r.0) r.1 hit in
+        let old : number_of v'.contexts r.0 < length table.builder.contexts = family_old.held (number_of v'.contexts r.0) r.1 a at in
+        let (stay, there) = frames_stay table.builder.contexts v'.contexts frames number (number_of v'.contexts r.0) adds old in
+        let most = number_of-place table.builder.contexts r.0 (number_of v'.contexts r.0) old (sym stay ∙ at-number_of v'.contexts r.0 there) in
+        ap (has_point table.waiting) (sym (key_kept table.builder v' frames number adds states r (omega arith))) ∙ hit
+
+    pub leading_grown : IsLeading s functions (record table { builder = v' }) p ((frames, off) ∷ []) t
+    leading_grown = record {
+      state = leading.state;
+      derived = leading.derived;
+      gives = leading.gives;
+      sound = record {
+        filled = leading.sound.filled;
+        kept = table_grown state_order (flow_of s functions) state_laws table.builder v' table.waiting leading.sound.filled (MayLead s table.builder table.spare.keys) (MayLead s v' table.spare.keys)
+            (PendsFrom p ((frames, off) ∷ []) t) frames number off t leading.sound.kept adds states family' (leading.sound.kept.sound.rest_derived p (frames, off) t (refl, inl (refl, refl)))
+            (λ a b may. elim may [ inl just ↦ inl just | inr listed ↦ inr (listed_grown table.builder v' table.spare.keys frames number family_old family' adds states b listed) ]);
+        marks = record {
+          kept = λ r is. same_family r ∙ leading.sound.marks.kept r is;
+          passed = λ r is. same_family r ∙ leading.sound.marks.passed r is;
+          free = λ r is. let (a, b) = leading.sound.marks.free r is in (same_family r ∙ a, b);
+        };
+        start = listed_grown table.builder v' table.spare.keys frames number family_old family' adds states ([], 0) leading.sound.start;
+        needed = λ r listed. leading.sound.needed r (listed_before table.builder v' table.spare.keys frames number family_old family' adds states r listed);
+        budget = budget_same state_order state_laws (height_of s) table.builder v' table.changes states leading.sound.budget;
+        visits = leading.sound.visits;
+        visited = visits_same s (height_of s) (family_of table.builder) (family_of v') leading.sound.filled leading.sound.filled (λ r. IsAmong table.builder table.waiting r ⊎ ⊥)
+            (λ r. IsAmong v' table.waiting r ⊎ ⊥) leading.sound.visits leading.sound.visited same_family (λ _. refl)
+            (λ r w. elim w [ inl hit ↦ inl (waits_before r hit) | inr never ↦ absurd never ]);
+        points = leading.sound.points;
+        counted = leading.sound.counted;
+      };
+      here = λ free. leading.here (λ hit. free (waits_later p hit));
+      ahead = λ r just none. leading.ahead r just (sym (same_family r) ∙ none);
+      twice = λ hit r just none. leading.twice (waits_before p hit) r just (sym (same_family r) ∙ none);
+    }
+
+  -- What the finder's numbers are.
+
+  pub room_left : (table : Table) (Here : Place → Type 0) (Rest : Place → Place → State → Type 0) → IsSound s functions table Here Rest → table.changes < 18446744073709551615
+  room_left table Here Rest sound = room_for (height_of s) table.changes laws.height (updates_fit state_order state_laws (height_of s) table.builder table.changes sound.kept.family sound.budget)
+
+  -- the numbers of each context's last call are small
+  pub countable_left : (table : Table) (c : ℕ) (Here : Place → Type 0) (Rest : Place → Place → State → Type 0) → IsSound s functions table Here Rest → c < length table.builder.contexts
+      → IsCountable table.builder.contexts c
+  countable_left table c Here Rest sound lt f fs at =
+      let (off, a, d) = sound.kept.entered c lt in
+      let point : IsPlace (frames_at table.builder.contexts c, off) = (derived_is state_order (flow_of s functions) (height_of s) laws.flow (frames_at table.builder.contexts c, off) a d).point in
+      let P : List Frame → Type 0 = λ x. IsPlace (x, off) in
+      let there : IsPlace (f ∷ fs, off) = subst P at point in
+      let frame = there.frames.each.0 in
+      let call = there.calls.0 in
+      let call_fits = call.1 in
+      let within = frame.within in
+      let few = frame.countable in
+      (omega arith, omega arith)
+
+  -- What justifies refusals.
+
+  -- a derived state that is refused
+  pub refused_left : (p : Place) (a : State) → IsDerived s functions p a → (fault : FindFault) → NamesPlace (IsRefusedAt s p a) fault → NamesPlace (IsJustified s functions) fault
+  refused_left p a derived fault h =
+      names_map (IsRefusedAt s p a) (IsJustified s functions) (λ q r x.
+      let J : Place → Type 0 = λ y. IsJustified s functions y r in
+      subst J (sym x.place) (refused p a r derived x.refused)) fault h
+
+  -- two derived states that differ in depth
+  pub apart_left : (table : Table) (p at : Place) (t : State) (qs : List Place) → IsLeading s functions table p (at ∷ qs) t → (q : Place) (r : Reason) → IsApart (family_of table.builder) at t q r
+      → IsJustified s functions q r
+  apart_left table p at t qs leading q r x =
+      let J : Place × Reason → Type 0 = λ y. IsJustified s functions y.0 y.1 in
+      let both : ◌≡◌ {A = Place × Reason} (at, DepthMismatch) (q, r) = λ i. (sym x.place i, sym x.reason i) in
+      let there = kept_state table.marks (family_of table.builder) leading.sound.filled at x.state leading.sound.marks x.found in
+      subst J both (apart at x.state t (leading.sound.kept.sound.derived at x.state there) (leading.sound.kept.sound.rest_derived p at t (refl, inl (refl, refl))) x.apart)
+
+  -- one context too many
+  derived_contexts : (table : Table) (p q : Place) (t : State) → IsLeading s functions table p (q ∷ []) t → (HasContext table.builder.contexts q.0 → ⊥)
+      → AreDerivedContexts s functions (table.builder.contexts ++ q.0 ∷ [])
+  derived_contexts table p q t leading absent =
+      let sound = leading.sound in
+      let xs = table.builder.contexts in
+      let y : List Frame = q.0 in
+      let d = sound.kept.sound.rest_derived p q t (refl, inl (refl, refl)) in
+      let long = length-append xs (y ∷ []) in
+      let old = λ (i : ℕ) (lt : i < length xs). get_or-append xs (y ∷ []) [] i lt in
+      let last : frames_at (xs ++ y ∷ []) (length xs) ≡ y = get_or-append_seam xs y [] [] in
+      let has = λ (i : ℕ) (lt : i < length xs) (at : frames_at xs i ≡ y). absent (let most = number_of-place xs y i lt at in omega arith) in
+      record {
+        distinct = λ i j li lj same. elim (cases_lt i (length xs)) [
+          | inl lt_i ↦ elim (cases_lt j (length xs)) [
+            | inl lt_j ↦ sound.kept.family.distinct i j lt_i lt_j (sym (old i lt_i) ∙ same ∙ old j lt_j)
+            | inr ge_j ↦
+                let j_is : j ≡ length xs = omega arith in
+                absurd (has i lt_i (sym (old i lt_i) ∙ same ∙ ap (frames_at (xs ++ y ∷ [])) j_is ∙ last))
+          ]
+          | inr ge_i ↦
+              let i_is : i ≡ length xs = omega arith in
+              elim (cases_lt j (length xs)) [
+                | inl lt_j ↦ absurd (has j lt_j (sym (old j lt_j) ∙ sym same ∙ ap (frames_at (xs ++ y ∷ [])) i_is ∙ last))
+                | inr ge_j ↦ omega arith
+              ]
+        ];
+        derived = λ i lt. elim (cases_lt i (length xs)) [
+          | inl lt_i ↦
+              let (a, b, da) = sound.kept.entered i lt_i in
+              let D : List Frame → Type 0 = λ x. IsDerived s functions (x, a) b in
+              (a, b, subst D (sym (old i lt_i)) da)
+          | inr ge_i ↦
+              let e : length xs ≡ i = omega arith in
+              let at : y ≡ frames_at (xs ++ y ∷ []) i = sym last ∙ ap (frames_at (xs ++ y ∷ [])) e in
+              let D : List Frame → Type 0 = λ x. IsDerived s functions (x, q.1) t in
+              (q.1, t, subst D at d)
+        ];
+      }
+
+  pub too_many_left : (table : Table) (p q : Place) (t : State) → IsLeading s functions table p (q ∷ []) t → (HasContext table.builder.contexts q.0 → ⊥) → length table.builder.contexts ≡ 65535
+      → IsJustified s functions p TooManyContexts
+  too_many_left table p q t leading absent full =
+      let xs = table.builder.contexts in
+      let long = length-append xs (q.0 ∷ []) in
+      let last : frames_at (xs ++ q.0 ∷ []) (length xs) ≡ q.0 = get_or-append_seam xs q.0 [] [] in
+      too_many p (record {
+        contexts = xs ++ q.0 ∷ [];
+        derived = derived_contexts table p q t leading absent;
+        many = omega arith;
+        state = leading.state;
+        here = leading.derived;
+        next = q;
+        next_state = t;
+        gives = leading.gives q t (inl (refl, refl));
+        into = let most = number_of-place (xs ++ q.0 ∷ []) q.0 (length xs) (omega arith) last in omega arith;
+      })
+
+-- a put, after the point's offset was marked
+pub stored_from : (old middle new last : Table) (c off : ℕ) (t : State) (source : Source) (marks : Marks) → middle ≡ record old { marks = marks } → IsPut middle new c off t → KeepsRest middle new
+    → mark_of old.marks (spot_of (frames_at old.builder.contexts c)) off ≢ Passed → SetsMark old.marks marks (spot_of (frames_at old.builder.contexts c)) off Kept
+    → SparesAt new.spare.keys last.spare.keys (c, off) (family_of old.builder (place_of old.builder c off)) source → last ≡ record new { spare = last.spare }
+    → IsStored old last c off t source
+stored_from old middle new last c off t source marks is put rest fresh sets spares same =
+    let from : IsPut (record old { marks = marks }) new c off t = let P : Table → Type 0 = λ x. IsPut x new c off t in subst P is put in
+    let kept : KeepsRest (record old { marks = marks }) new = let P : Table → Type 0 = λ x. KeepsRest x new in subst P is rest in
+    let S : Table → Type 0 = λ x. IsStored old x c off t source in
+    subst S (sym same) (record {
+      put = record {
+        changed = from.changed;
+        put = from.put;
+        sums = from.sums;
+        contexts = from.contexts;
+        family = from.family;
+        waiting = from.waiting;
+        changes = from.changes;
+        risen = record { waiting = from.risen.waiting; changes = from.risen.changes };
+      };
+      fresh = fresh;
+      marks = let M : Marks → Type 0 = λ x. SetsMark old.marks x (spot_of (frames_at old.builder.contexts c)) off Kept in subst M (sym kept.marks) sets;
+      spare =
+          let K : List (ℕ × ℕ) → Type 0 = λ x. SparesAt x last.spare.keys (c, off) (family_of old.builder (place_of old.builder c off)) source in
+          subst K (ap (λ (x : BTreeSet (ℕ × ℕ)). x.keys) kept.spare) spares;
+      passes = kept.passes;
+    })

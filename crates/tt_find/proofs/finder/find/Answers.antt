@@ -1,0 +1,47 @@
+use Rattle.tt_abs.specs.Settings.{setting_of}
+use Rattle.tt_cert.specs.Contents.{family_of}
+use Rattle.tt_find.proofs.Finished.{contexts_left, found_left, keeps_without, listed_without, lists_without, needed_left, never_both_left, never_ends_from, none_good_from}
+use Rattle.tt_find.proofs.finder.find.Goals as goal
+
+pub returns-in-Err-clause-none_good : goal.returns-in-Err-clause-none_good
+returns-in-Err-clause-none_good c =
+    none_good_from (setting_of c.args.setting.now) c.args.setting.now.start.now c.fill_whole.ensures.laws c.in-Err.fault c.in-Err.ensures.justified
+
+pub returns-in-Err-clause-never_ends : goal.returns-in-Err-clause-never_ends
+returns-in-Err-clause-never_ends c = λ family lacks.
+    (tt, never_ends_from (setting_of c.args.setting.now) c.args.setting.now.start.now c.fill_whole.ensures.laws family lacks c.in-Err.fault c.in-Err.ensures.justified)
+
+pub returns-in-Ok-finish_without-clause-filling : goal.returns-in-Ok-finish_without-clause-filling
+returns-in-Ok-finish_without-clause-filling c =
+    let s = setting_of c.args.setting.now in
+    let fs = c.args.setting.now.start.now in
+    let laws = c.fill_whole.ensures.laws in
+    let table = c.fill_whole.new.table in
+    let found = c.in-Ok.ensures.found in
+    let family = family_of c.in-Ok-finish_without.certificate in
+    let same = c.in-Ok-finish_without.ensures.same.family in
+    found_left s fs laws table found.whole found.none family c.in-Ok.updates (keeps_without s fs laws table found.whole found.none family same)
+    (lists_without s fs laws table found.whole found.none family same) found.short found.ends found.count
+
+pub returns-in-Ok-finish_without-clause-contexts : goal.returns-in-Ok-finish_without-clause-contexts
+returns-in-Ok-finish_without-clause-contexts c =
+    let found = c.in-Ok.ensures.found in
+    contexts_left (setting_of c.args.setting.now) c.args.setting.now.start.now c.fill_whole.ensures.laws c.fill_whole.new.table found.whole found.none c.in-Ok-finish_without.certificate.contexts
+    (λ frames. (c.in-Ok-finish_without.ensures.same.contexts frames).1)
+
+pub returns-in-Ok-finish_without-clause-needed : goal.returns-in-Ok-finish_without-clause-needed
+returns-in-Ok-finish_without-clause-needed c =
+    let s = setting_of c.args.setting.now in
+    let fs = c.args.setting.now.start.now in
+    let laws = c.fill_whole.ensures.laws in
+    let table = c.fill_whole.new.table in
+    let found = c.in-Ok.ensures.found in
+    let family = family_of c.in-Ok-finish_without.certificate in
+    let same = c.in-Ok-finish_without.ensures.same.family in
+    needed_left s fs laws table found.whole found.none family c.in-Ok.updates (keeps_without s fs laws table found.whole found.none family same)
+    (lists_without s fs laws table found.whole found.none family same) found.short found.ends (listed_without s fs laws table found.whole found.none family same)
+
+pub returns-in-Ok-finish_without-clause-never_ends : goal.returns-in-Ok-finish_without-clause-never_ends
+returns-in-Ok-finish_without-clause-never_ends c = λ family lacks.
+    let found = c.in-Ok.ensures.found in
+    (never_both_left (setting_of c.args.setting.now) c.args.setting.now.start.now c.fill_whole.ensures.laws c.fill_whole.new.table found.whole found.none family found.ends lacks, tt)

@@ -1,0 +1,287 @@
+//! A run: from a point where its state is kept a state is carried on in place, until states are kept where it comes, or until it goes elsewhere.
+
+ghost use Rattle.std.specs.Prelude.{◌≡◌, ◌↔◌, ◌<◌, IfErr, IfOk, IfSome, Some, [], ◌∷◌, length};
+ghost use Rattle.tt_abs.specs.Lines.{EndsAt};
+ghost use Rattle.tt_abs.specs.Settings.{frames_of, setting_of};
+ghost use Rattle.tt_abs.specs.StateFlow.{Place};
+ghost use Rattle.tt_abs.specs.States.{state_order};
+ghost use Rattle.tt_cert.specs.Contents.{family_of, frames_at};
+ghost use Rattle.tt_cert.specs.Puts.{place_of};
+ghost use Rattle.tt_find.specs.Found.{IsJustified, NamesPlace, NamesStop};
+ghost use Rattle.tt_find.specs.Tables.{AreInTurn, GoesOn, HasLaws, HasRisen, IsApart, IsCarried, IsJustAfter, IsLeading, IsOnWay, IsPopped, IsRefusedAt, IsStored, IsWalk, IsWhole, TellsSource, here_of, places_behind};
+
+use crate::fault::FindFault;
+use crate::reaching::reach;
+use crate::source::Source;
+use crate::stop::Stop;
+use crate::table::{Table, refused_at};
+use crate::walk::Walk;
+use std::alloc::AllocError;
+use tt_abs::{Move, Moves, Point, Refusal, Setting, Stepped, step_at};
+use tt_cert::{Builder, ContextFault, added_after};
+use tt_code::Reason;
+
+/// Where the state at an offset of the walk's context leads; with what it leads there the walk holds then. None at the main program's end.
+fn carried(
+    builder: &Builder,
+    walk: &mut Walk,
+    setting: &Setting<'_>,
+    offset: u32,
+) -> Result<Option<Stepped>, FindFault>
+    requires walk { IsWalk builder.now walk.old }
+    requires in_range { state_order.InRange walk.old.state }
+    ensures carried { IfOk result (λ step. IsCarried (setting_of setting.now) (here_of builder.now walk.old offset) walk.old.state step walk.new.state) }
+    ensures walk { IfOk result (λ _. IsWalk builder.now walk.new) }
+    ensures context { IfOk result (λ _. walk.new.context ≡ walk.old.context) }
+    ensures refused { IfErr result (NamesPlace (IsRefusedAt (setting_of setting.now) (here_of builder.now walk.old offset) walk.old.state)) }
+{
+    let point = Point {
+        frames: walk.frames.as_slice(),
+        offset,
+    };
+    if setting.is_end(&point, offset) {
+        return Ok(None);
+    }
+    walk.known = None;
+    match step_at(setting, &point, &mut walk.state) {
+        Ok(step) => Ok(Some(step)),
+        Err(Refusal::Refused(reason)) => Err(refused_at(builder, walk.context, offset, reason)),
+        Err(Refusal::OutOfMemory(error)) => Err(FindFault::OutOfMemory(error)),
+    }
+}
+
+/// From where a state comes to an offset, if there is one at which an instruction ends that leads there.
+fn source_of(after: Option<u32>, next: u32) -> Source
+    ensures { TellsSource after next result }
+{
+    match after {
+        Some(after) if after == next => Source::JustBefore,
+        _ => Source::Elsewhere,
+    }
+}
+
+/// Puts the walk's state at a point. From then on states are kept there.
+///
+/// # Errors
+/// `Fault` with `Refused` for a state of another depth, at the point, or with `OutOfMemory`; `Met` where states went over that offset.
+pub(crate) fn store(
+    table: &mut Table,
+    walk: &mut Walk,
+    context: u32,
+    offset: u32,
+    source: Source,
+) -> Result<(), Stop>
+    requires there { context < length table.old.builder.contexts }
+    requires in_range { state_order.InRange walk.old.state }
+    requires room { table.old.changes < 18446744073709551615 }
+    requires walk { IsWalk table.old.builder walk.old }
+    ensures stored { IfOk result (λ _. IsStored table.old table.new context offset walk.old.state source) }
+    ensures stops { IfErr result (NamesStop (IsApart (family_of table.old.builder) (place_of table.old.builder context offset) walk.old.state) table.old.marks.everywhere) }
+    ensures state { IfOk result (λ _. walk.new.state ≡ walk.old.state) }
+    ensures context { IfOk result (λ _. walk.new.context ≡ walk.old.context) }
+    ensures walk { IfOk result (λ _. IsWalk table.new.builder walk.new) }
+{
+    let spot = table.builder.spot(context);
+    if !table.marks.keep(spot, offset) {
+        return Err(Stop::Met);
+    }
+    let joined = match walk.put(table, context, offset) {
+        Ok(joined) => joined,
+        Err(fault) => return Err(Stop::Fault(fault)),
+    };
+    if let Err(error) = table.note(context, offset, source, joined) {
+        return Err(Stop::Fault(FindFault::OutOfMemory(error)));
+    }
+    Ok(())
+}
+
+/// Leads the state that an instruction left to the last of its offsets: over it, which is answered, where that is just after the
+/// instruction and states aren't kept there.
+fn lead_to(
+    table: &mut Table,
+    walk: &mut Walk,
+    setting: &Setting<'_>,
+    offset: u32,
+    after: Option<u32>,
+    next: u32,
+) -> Result<Option<u32>, Stop>
+    requires laws { HasLaws (setting_of setting.now) setting.now.start.now }
+    requires walk { IsWalk table.old.builder walk.old }
+    requires after { IsJustAfter (setting_of setting.now) (here_of table.old.builder walk.old offset) after }
+    requires leading { IsLeading (setting_of setting.now) setting.now.start.now table.old (here_of table.old.builder walk.old offset) (here_of table.old.builder walk.old next ∷ []) walk.old.state }
+    ensures goes { IfOk result (λ onward. GoesOn (setting_of setting.now) setting.now.start.now table.new walk.new onward) }
+    ensures further { IfOk result (λ onward. IfSome onward (λ at. offset < at)) }
+    ensures risen { IfOk result (λ _. HasRisen table.old table.new) }
+    ensures walk { IfOk result (λ _. IsWalk table.new.builder walk.new) }
+    ensures stops { IfErr result (NamesStop (IsJustified (setting_of setting.now) setting.now.start.now) table.old.marks.everywhere) }
+    ensures everywhere { IfOk result (λ _. table.new.marks.everywhere ≡ table.old.marks.everywhere) }
+{
+    let source = source_of(after, next);
+    if let Source::JustBefore = source {
+        if table.may_pass(walk.context, walk.spot, next) {
+            if let Err(error) = table.pass(walk.spot, next) {
+                return Err(Stop::Fault(FindFault::OutOfMemory(error)));
+            }
+            return Ok(Some(next));
+        }
+    }
+    let context = walk.context;
+    if let Err(stop) = store(table, walk, context, next, source) {
+        return Err(stop);
+    }
+    Ok(None)
+}
+
+/// The offset to which a state is led first, and the other one: over the first of two it goes last, if it may.
+fn in_turn(goes_over: bool, first: u32, second: u32) -> (u32, u32)
+    ensures { AreInTurn first second result.0 result.1 }
+{
+    if goes_over {
+        (second, first)
+    } else {
+        (first, second)
+    }
+}
+
+/// Leads the state that an instruction left to two offsets, the smaller one first, but for one over which it goes.
+fn lead_both(
+    table: &mut Table,
+    walk: &mut Walk,
+    setting: &Setting<'_>,
+    offset: u32,
+    after: Option<u32>,
+    first: u32,
+    second: u32,
+) -> Result<Option<u32>, Stop>
+    requires laws { HasLaws (setting_of setting.now) setting.now.start.now }
+    requires walk { IsWalk table.old.builder walk.old }
+    requires after { IsJustAfter (setting_of setting.now) (here_of table.old.builder walk.old offset) after }
+    requires leading { IsLeading (setting_of setting.now) setting.now.start.now table.old (here_of table.old.builder walk.old offset) (here_of table.old.builder walk.old first ∷ here_of table.old.builder walk.old second ∷ []) walk.old.state }
+    ensures goes { IfOk result (λ onward. GoesOn (setting_of setting.now) setting.now.start.now table.new walk.new onward) }
+    ensures further { IfOk result (λ onward. IfSome onward (λ at. offset < at)) }
+    ensures risen { IfOk result (λ _. HasRisen table.old table.new) }
+    ensures walk { IfOk result (λ _. IsWalk table.new.builder walk.new) }
+    ensures stops { IfErr result (NamesStop (IsJustified (setting_of setting.now) setting.now.start.now) table.old.marks.everywhere) }
+    ensures everywhere { IfOk result (λ _. table.new.marks.everywhere ≡ table.old.marks.everywhere) }
+{
+    let context = walk.context;
+    let goes_over = match source_of(after, first) {
+        Source::JustBefore => table.may_pass(context, walk.spot, first),
+        Source::Elsewhere => false,
+    };
+    let (sooner, later) = in_turn(goes_over, first, second);
+    if let Err(stop) = store(table, walk, context, sooner, source_of(after, sooner)) {
+        return Err(stop);
+    }
+    lead_to(table, walk, setting, offset, after, later)
+}
+
+/// Leads the state that an instruction left to where that leads.
+fn lead_away(
+    table: &mut Table,
+    walk: &mut Walk,
+    setting: &Setting<'_>,
+    offset: u32,
+    after: Option<u32>,
+    way: Move,
+) -> Result<Option<u32>, Stop>
+    requires laws { HasLaws (setting_of setting.now) setting.now.start.now }
+    requires walk { IsWalk table.old.builder walk.old }
+    requires after { IsJustAfter (setting_of setting.now) (here_of table.old.builder walk.old offset) after }
+    requires leading { IsLeading (setting_of setting.now) setting.now.start.now table.old (here_of table.old.builder walk.old offset) (places_behind (frames_at table.old.builder.contexts walk.old.context) (Moves.One way)) walk.old.state }
+    ensures goes { IfOk result (λ onward. GoesOn (setting_of setting.now) setting.now.start.now table.new walk.new onward) }
+    ensures further { IfOk result (λ onward. IfSome onward (λ at. offset < at)) }
+    ensures risen { IfOk result (λ _. HasRisen table.old table.new) }
+    ensures walk { IfOk result (λ _. IsWalk table.new.builder walk.new) }
+    ensures stops { IfErr result (NamesStop (IsJustified (setting_of setting.now) setting.now.start.now) table.old.marks.everywhere) }
+    ensures everywhere { IfOk result (λ _. table.new.marks.everywhere ≡ table.old.marks.everywhere) }
+{
+    let here = walk.context;
+    let (context, next) = match reach(&mut table.builder, here, way) {
+        Ok(place) => place,
+        Err(ContextFault::TooManyContexts) => {
+            let reason = Reason::TooManyContexts;
+            return Err(Stop::Fault(refused_at(&table.builder, here, offset, reason)));
+        }
+        Err(ContextFault::OutOfMemory) => {
+            return Err(Stop::Fault(FindFault::OutOfMemory(AllocError)));
+        }
+    };
+    if context == here {
+        return lead_to(table, walk, setting, offset, after, next);
+    }
+    if let Err(stop) = store(table, walk, context, next, Source::Elsewhere) {
+        return Err(stop);
+    }
+    Ok(None)
+}
+
+/// Carries the walk's state on at an offset of its context. Answers the next offset, if the state goes on there in place.
+///
+/// # Errors
+/// `Fault` with `Refused`, if the state is refused there, or enters a context too many; or for two states of different depths, where they
+/// meet; or with `OutOfMemory`. `Met` where a state is to be kept at an offset over which states went.
+fn step_on(
+    table: &mut Table,
+    walk: &mut Walk,
+    setting: &Setting<'_>,
+    offset: u32,
+) -> Result<Option<u32>, Stop>
+    requires laws { HasLaws (setting_of setting.now) setting.now.start.now }
+    requires walk { IsWalk table.old.builder walk.old }
+    requires way { IsOnWay (setting_of setting.now) setting.now.start.now table.old (here_of table.old.builder walk.old offset) walk.old.state }
+    ensures goes { IfOk result (λ onward. GoesOn (setting_of setting.now) setting.now.start.now table.new walk.new onward) }
+    ensures further { IfOk result (λ onward. IfSome onward (λ at. offset < at)) }
+    ensures risen { IfOk result (λ _. HasRisen table.old table.new) }
+    ensures walk { IfOk result (λ _. IsWalk table.new.builder walk.new) }
+    ensures stops { IfErr result (NamesStop (IsJustified (setting_of setting.now) setting.now.start.now) table.old.marks.everywhere) }
+    ensures everywhere { IfOk result (λ _. table.new.marks.everywhere ≡ table.old.marks.everywhere) }
+{
+    let step = match carried(&table.builder, walk, setting, offset) {
+        Ok(Some(step)) => step,
+        Ok(None) => return Ok(None),
+        Err(fault) => return Err(Stop::Fault(fault)),
+    };
+    let point = Point {
+        frames: walk.frames.as_slice(),
+        offset,
+    };
+    let after = added_after(setting, &point, step.end);
+    match step.moves {
+        Moves::One(way) => lead_away(table, walk, setting, offset, after, way),
+        Moves::Two(first, second) => {
+            lead_both(table, walk, setting, offset, after, first, second)
+        }
+    }
+}
+
+/// Carries the state at a point on, in place as far as that goes.
+///
+/// # Errors
+/// As for each instruction on the way.
+pub(crate) fn run(
+    table: &mut Table,
+    walk: &mut Walk,
+    setting: &Setting<'_>,
+    context: u32,
+    offset: u32,
+) -> Result<(), Stop>
+    requires laws { HasLaws (setting_of setting.now) setting.now.start.now }
+    requires walk { IsWalk table.old.builder walk.old }
+    requires popped { IsPopped (setting_of setting.now) setting.now.start.now table.old context offset }
+    ensures whole { IfOk result (λ _. IsWhole (setting_of setting.now) setting.now.start.now table.new) }
+    ensures risen { IfOk result (λ _. HasRisen table.old table.new) }
+    ensures walk { IfOk result (λ _. IsWalk table.new.builder walk.new) }
+    ensures stops { IfErr result (NamesStop (IsJustified (setting_of setting.now) setting.now.start.now) table.old.marks.everywhere) }
+    ensures everywhere { IfOk result (λ _. table.new.marks.everywhere ≡ table.old.marks.everywhere) }
+{
+    walk.go_to(&table.builder, context)?;
+    if !walk.take(&table.builder, context, offset)? {
+        return Ok(());
+    }
+    let mut at = offset;
+    while let Some(next) = step_on(table, walk, setting, at)? {
+        at = next;
+    }
+    Ok(())
+}

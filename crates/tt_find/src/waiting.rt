@@ -1,0 +1,102 @@
+//! The points that are still to be carried on.
+
+ghost use Rattle.std.specs.Prelude.{◌≡◌, ◌∷◌, [], false, None, IfSome, OnErr, OnOk};
+ghost use Rattle.std.specs.BTreeSet.{insert_key};
+ghost use Rattle.tt_cert.specs.Places.{has_point, place_cmp};
+
+use std::alloc::{AllocError, Global};
+use std::cmp::Ordering;
+use std::collections::BTreeSet;
+use std::marker::Model;
+
+/// The points that are still to be carried on, in their order, each as its context's number and its offset. The first stands apart, so that
+/// one alone takes no memory.
+#[derive(Drop)]
+pub(crate) struct Waiting {
+    next: Option<(u32, u32)>,
+    /// The others.
+    rest: BTreeSet<(u32, u32)>,
+}
+
+impl Model for Waiting {
+    ghost use Rattle.std.specs.Prelude.{List, ℕ};
+    ghost use Rattle.tt_find.specs.Waiting.{AreInOrder, waiting_of};
+
+    ghost Value = { List (ℕ × ℕ) };
+
+    ghost view = { λ m. waiting_of m.next m.rest };
+
+    ghost invariant = { λ m. AreInOrder m.next m.rest };
+}
+
+impl Waiting {
+    /// No point.
+    pub(crate) fn new(alloc: Global) -> Waiting
+        ensures { result ≡ [] }
+    {
+        Waiting {
+            next: None,
+            rest: BTreeSet::new(alloc),
+        }
+    }
+
+    /// Puts a point in at its place, unless it is there.
+    ///
+    /// # Errors
+    /// If memory runs out; then the points stay as they are.
+    pub(crate) fn insert(&mut self, point: (u32, u32)) -> Result<(), AllocError>
+        ensures ok { OnOk result (self.new ≡ insert_key place_cmp self.old point) }
+        ensures err { OnErr result (self.new ≡ self.old) }
+    {
+        let Some(next) = self.next else {
+            self.next = Some(point);
+            return Ok(());
+        };
+        match point.cmp(&next) {
+            Ordering::Less => {
+                if let Err(_) = self.rest.insert(next) {
+                    return Err(AllocError);
+                }
+                self.next = Some(point);
+            }
+            Ordering::Equal => {}
+            Ordering::Greater => {
+                if let Err(_) = self.rest.insert(point) {
+                    return Err(AllocError);
+                }
+            }
+        }
+        Ok(())
+    }
+
+    /// Does a point come before this one?
+    pub(crate) fn has_before(&self, point: (u32, u32)) -> bool {
+        match self.next {
+            Some(next) => next < point,
+            None => false,
+        }
+    }
+
+    /// Takes all points out.
+    pub(crate) fn clear(&mut self)
+        ensures { self.new ≡ [] }
+    {
+        self.next = None;
+        self.rest.clear();
+    }
+
+    /// Takes the first point out, if there is one.
+    pub(crate) fn pop_first(&mut self) -> Option<(u32, u32)>
+        ensures none { result ≡ None → (self.old ≡ []) × (self.new ≡ []) }
+        ensures some { IfSome result (λ point. self.old ≡ point ∷ self.new) }
+        ensures apart { IfSome result (λ point. has_point self.new point ≡ false) }
+    {
+        match self.next {
+            None => None,
+            Some(point) => {
+                self.next = self.rest.pop_first();
+                Some(point)
+            }
+        }
+    }
+}
