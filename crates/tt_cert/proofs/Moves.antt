@@ -154,7 +154,7 @@ module _ (old new new' : Contents) (numbers : List ℕ) (spare : List (ℕ × �
               ap (family_of new') (point_is p here) ∙ slot ∙ sym (ap (listed_at spare states) here ∙ ap (λ b. cond b None (states_of states place)) listed ∙ last)
           | inr apart ↦ put.elsewhere p (λ e. apart (point_from p e)) ∙ same p
               ∙ ap (λ x. cond (has_point spare (number_of old.contexts p.0, p.1)) None x)
-                  (sym (lookup_apart (is_at (place_cmp (number_of old.contexts p.0, p.1))) done place s (places_apart (number_of old.contexts p.0, p.1) place (λ e. apart (sym e)))))
+              (sym (lookup_apart (is_at (place_cmp (number_of old.contexts p.0, p.1))) done place s (places_apart (number_of old.contexts p.0, p.1) place (λ e. apart (sym e)))))
         ],
   )
 
@@ -178,17 +178,20 @@ pub HasSoFar-spare : (old new : Contents) (spare : List (ℕ × ℕ)) (place : �
 HasSoFar-spare old new spare place s hit rest rest' so_far rest_is =
     let (done, split, same) = so_far in
     let split_here : old.states ≡ done ++ (place, s) ∷ rest' = split ∙ ap (λ l. done ++ l) rest_is in
-    let states = done ++ (place, s) ∷ [] in
-    (states, split_here ∙ sym (append_assoc done ((place, s) ∷ []) rest'), λ p.
-    let key : ℕ × ℕ = (number_of old.contexts p.0, p.1) in
-    elim (cases_place key place) [
-      | inl here ↦
-          let is : has_point spare key ≡ true = ap (has_point spare) here ∙ hit in
-          same p ∙ ap (λ b. cond b None (states_of done key)) is ∙ sym (ap (λ b. cond b None (states_of states key)) is)
-      | inr apart ↦
-          same p
-          ∙ ap (λ x. cond (has_point spare key) None x) (sym (lookup_apart (is_at (place_cmp key)) done place s (places_apart key place (λ e. apart (sym e)))))
-    ])
+    let states = done ++ (place, s) ∷ [] in (
+      states,
+      split_here ∙ sym (append_assoc done ((place, s) ∷ []) rest'),
+      λ p.
+          let key : ℕ × ℕ = (number_of old.contexts p.0, p.1) in
+          elim (cases_place key place) [
+            | inl here ↦
+                let is : has_point spare key ≡ true = ap (has_point spare) here ∙ hit in
+                same p ∙ ap (λ b. cond b None (states_of done key)) is ∙ sym (ap (λ b. cond b None (states_of states key)) is)
+            | inr apart ↦
+                same p
+                ∙ ap (λ x. cond (has_point spare key) None x) (sym (lookup_apart (is_at (place_cmp key)) done place s (places_apart key place (λ e. apart (sym e)))))
+          ],
+    )
 
 pub HasSoFar-end : (old new : Contents) (spare : List (ℕ × ℕ)) (rest : List ((ℕ × ℕ) × State)) → HasSoFar old new spare rest → rest ≡ []
     → (p : List Frame × ℕ) → family_of new p ≡ family_without old spare p

@@ -1,5 +1,5 @@
 -- What the finder's last table says, and what its refusals say of all families.
-use Rattle.std.specs.Prelude.{◌≡◌, ◌⊎◌, ℕ, zero, suc, ◌+◌, ◌*◌, ◌≤◌, ◌<◌, cond, Option, Some, None, List, [], length}
+use Rattle.std.specs.Prelude.{◌≡◌, ◌⊎◌, ℕ, zero, suc, ◌+◌, ◌<◌, cond, Option, Some, None, List, [], length}
 use Rattle.std.proofs.Common.{refl, sym, ◌∙◌, ap, subst, arith, inl, inr}
 use Rattle.std.proofs.lemmas.Bool.{cases_Bool}
 use Rattle.tt_code.specs.Cut.{size}
@@ -242,10 +242,10 @@ module _ (s : Setting) (functions : List (ℕ × ℕ)) (laws : HasLaws s functio
     listed_without family same q a at = elim (cases_Bool (has_point table.spare.keys (key_of table.builder q))) [
       | inl spare ↦ absurd (let no_such : None ≡ Some a = sym (same q ∙ ap (λ b. cond b None (family_of table.builder q)) spare) ∙ at in cc)
       | inr not_spare ↦ record {
-          state = a;
-          kept = sym (same q ∙ ap (λ b. cond b None (family_of table.builder q)) not_spare) ∙ at;
-          not_spare = not_spare;
-        }
+        state = a;
+        kept = sym (same q ∙ ap (λ b. cond b None (family_of table.builder q)) not_spare) ∙ at;
+        not_spare = not_spare;
+      }
     ]
 
     pub keeps_without : (family : Place → Option State) → ((p : Place) → family p ≡ family_without table.builder table.spare.keys p) → (p : Place) (a : State) → family p ≡ Some a

@@ -1,5 +1,5 @@
 -- Where a state is led to, and from where it comes there.
-use Rattle.std.specs.Prelude.{◌≡◌, ◌↔◌, ◌⊎◌, ℕ, ◌<◌, Option, Some, List, [], ◌∷◌, length, reverse}
+use Rattle.std.specs.Prelude.{◌≡◌, ℕ, ◌<◌, Option, List, [], ◌∷◌, length, reverse}
 use Rattle.std.proofs.Common.{refl, sym, ◌∙◌, ap, subst, inl, inr}
 use Rattle.tt_code.specs.Settings.{Setting}
 use Rattle.tt_code.specs.declared.machine.Frame.{Frame}
@@ -89,7 +89,7 @@ module _ (s : Setting) (functions : List (ℕ × ℕ)) (laws : HasLaws s functio
         (offset_behind (frames_at table.builder.contexts c) way) t leading adds states family' in
         let L : Place × Place → Type 0 = λ x. IsLeading s functions (record table { builder = v' }) x.0 (x.1 ∷ []) t in
         let both : ◌≡◌ {A = Place × Place} (place_of table.builder c off, (frames_behind (frames_at table.builder.contexts c) way, offset_behind (frames_at table.builder.contexts c) way))
-            (place_of v' c off, place_of v' number next) = λ i. ((sym stay.0 i, off), (sym adds.at i, sym offset i)) in
+        (place_of v' c off, place_of v' number next) = λ i. ((sym stay.0 i, off), (sym adds.at i, sym offset i)) in
         subst L both grown
 
     pub reached_here : number ≡ c → IsLeading s functions (record table { builder = v' }) (place_of v' c off) (place_of v' c next ∷ []) t

@@ -57,10 +57,10 @@ module _ (v v' : Contents) (spare spare' : List (ℕ × ℕ)) (c off : ℕ) (t :
   pub listed_on : (q : Place) → IsListed v spare q → IsListed v' spare' q
   listed_on q listed = elim (same_or_apart q (place_of v c off)) [
     | inr apart ↦ record {
-        state = listed.state;
-        kept = put.elsewhere q apart ∙ listed.kept;
-        not_spare = ap (has_point spare') (key_same q) ∙ spares.elsewhere (key_of v q) (apart_key q listed.state listed.kept apart) ∙ listed.not_spare;
-      }
+      state = listed.state;
+      kept = put.elsewhere q apart ∙ listed.kept;
+      not_spare = ap (has_point spare') (key_same q) ∙ spares.elsewhere (key_of v q) (apart_key q listed.state listed.kept apart) ∙ listed.not_spare;
+    }
     | inl here ↦
         let (u, is) = there_now in
         let L : Place → Type 0 = λ x. IsListed v' spare' x in

@@ -1,5 +1,5 @@
 -- No filling can do without a state that is listed.
-use Rattle.std.specs.Prelude.{◌≡◌, ◌≢◌, ◌⊎◌, ℕ, zero, suc, ◌+◌, ◌<◌, Option, Some, None, List, []}
+use Rattle.std.specs.Prelude.{◌≡◌, ◌≢◌, ℕ, zero, suc, ◌+◌, ◌<◌, Option, Some, None, List, []}
 use Rattle.std.proofs.Common.{refl, sym, ◌∙◌, ap, subst, arith, inl, inr}
 use Rattle.tt_code.specs.Cut.{size}
 use Rattle.tt_code.specs.Settings.{Setting, Kind, FontProgram, CvtProgram, GlyphProgram}
@@ -12,7 +12,7 @@ use Rattle.tt_abs.specs.Lines.{Precedes}
 use Rattle.tt_abs.specs.StateFlow.{GivesState, Place, RefusesState, flow_of, height_of}
 use Rattle.tt_abs.specs.States.{start_of, state_laws, state_order}
 use Rattle.tt_abs.proofs.LineLaws.{precedes_no_start, precedes_rises}
-use Rattle.tt_cert.specs.Checks.{BreaksAt, IsFillingBrokenFirst, IsFirstBreakOnTheWay, IsGap, LeavesGap, stores, refused, leaves, too_long, no_start, no_end, no_way}
+use Rattle.tt_cert.specs.Checks.{BreaksAt, IsFillingBrokenFirst, IsFirstBreakOnTheWay, IsGap, stores, refused, leaves, too_long, no_start, no_end, no_way}
 use Rattle.tt_cert.specs.Contents.{Contents, family_of}
 use Rattle.tt_cert.specs.Fillings.{HasGoodFilling, IsFilling}
 use Rattle.tt_cert.specs.GoodFamilies.{EndsWell, IsGoodFamily}

@@ -1,5 +1,5 @@
 -- The steps of the finder on its contexts and on the points that wait, for any order and flow of states.
-use Rattle.std.specs.Prelude.{◌≡◌, ◌≢◌, ◌⊎◌, ◌↔◌, ◌==◌, ◌&&◌, ℕ, ◌<◌, Bool, true, false, cond, Option, Some, None, List, [], ◌∷◌, ◌++◌, length}
+use Rattle.std.specs.Prelude.{◌≡◌, ◌≢◌, ◌⊎◌, ◌==◌, ◌&&◌, ℕ, ◌<◌, Bool, true, false, cond, Option, Some, None, List, [], ◌∷◌, ◌++◌, length}
 use Rattle.std.proofs.Common.{refl, sym, ◌∙◌, ap, subst, arith, inl, inr, length-append}
 use Rattle.std.proofs.Math.ListN.{get_or-append}
 use Rattle.std.proofs.Math.Seq.{get_or-append_seam}
@@ -10,15 +10,15 @@ use Rattle.tt_code.specs.declared.reason.Reason.{Reason}
 use Rattle.tt_abs.specs.declared.state.State.{State}
 use Rattle.tt_abs.specs.Orders.{Order, OrderLaws}
 use Rattle.tt_abs.specs.Flows.{Flow}
-use Rattle.tt_abs.specs.Families.{CoversAt, Derived}
+use Rattle.tt_abs.specs.Families.{Derived}
 use Rattle.tt_abs.specs.StateFlow.{Place}
 use Rattle.tt_cert.specs.Checks.{key_of}
-use Rattle.tt_cert.specs.Contents.{AddsContext, Contents, HasContext, IsFamily, family_of, frames_at, number_of, same_frames}
+use Rattle.tt_cert.specs.Contents.{AddsContext, Contents, IsFamily, family_of, frames_at, number_of, same_frames}
 use Rattle.tt_cert.specs.Numbers.{at-number_of, number_of-append, number_of-place, same_frames-decides}
 use Rattle.tt_cert.specs.Places.{PutGives, PutsAt, has_point, states_of}
 use Rattle.tt_cert.specs.Puts.{family_at, number_at, place_of}
 use Rattle.tt_cert.proofs.Puts.{cases_place}
-use Rattle.tt_find.specs.Tables.{IsAmong, IsSoundFamily, IsTable, WaitsMore}
+use Rattle.tt_find.specs.Tables.{IsAmong, IsTable, WaitsMore}
 use Rattle.tt_find.proofs.Waits.{point_behind, point_here}
 use Rattle.tt_find.proofs.Sound.{sound_moved, sound_opened, sound_put}
 

@@ -1,5 +1,5 @@
 -- The finder's first table.
-use Rattle.std.specs.Prelude.{◌≡◌, ◌≢◌, ◌⊎◌, ℕ, ◌+◌, ◌≤◌, ◌<◌, Bool, true, false, cond, Option, Some, None, List, [], ◌∷◌, length}
+use Rattle.std.specs.Prelude.{◌≡◌, ◌≢◌, ◌⊎◌, ℕ, ◌+◌, ◌<◌, Bool, true, cond, Option, Some, None, List, [], length}
 use Rattle.std.proofs.Common.{refl, sym, ◌∙◌, ap, subst, arith, inl, inr}
 use Rattle.tt_code.specs.Settings.{Setting}
 use Rattle.tt_code.specs.declared.machine.Frame.{Frame}
@@ -8,13 +8,13 @@ use Rattle.tt_abs.specs.Families.{started}
 use Rattle.tt_abs.specs.FamilyLaws.{derived_height}
 use Rattle.tt_abs.specs.StateFlow.{Place, flow_of, height_of}
 use Rattle.tt_abs.specs.States.{start_of, state_laws, state_order}
-use Rattle.tt_cert.specs.Contents.{Contents, IsFamily, family_of, frames_at, number_of}
+use Rattle.tt_cert.specs.Contents.{family_of, frames_at, number_of}
 use Rattle.tt_cert.specs.Places.{PutGives, PutsAt, has_point, states_of}
 use Rattle.tt_cert.specs.Puts.{number_at, place_of}
 use Rattle.tt_find.specs.declared.source.Source.TheVariants.{Elsewhere}
 use Rattle.tt_find.specs.declared.table.Table.{Table}
 use Rattle.tt_find.specs.Found.{IsDerived}
-use Rattle.tt_find.specs.Tables.{ArePoints, AreKept, AreVisits, HasLaws, IsAmong, IsEmptyTable, IsListed, IsStored, IsWhole, IsWithinBudget, MayLead}
+use Rattle.tt_find.specs.Tables.{ArePoints, AreKept, AreVisits, HasLaws, IsAmong, IsEmptyTable, IsListed, IsStored, IsWhole, IsWithinBudget}
 use Rattle.tt_find.proofs.Budget.{budget_start}
 use Rattle.tt_find.proofs.Listed.{listed_now}
 use Rattle.tt_find.proofs.Marking.{kept_put}
@@ -93,9 +93,9 @@ module _ (s : Setting) (functions : List (ℕ × ℕ)) (laws : HasLaws s functio
   back : (p : Place) → IsAmong new.builder new.waiting p → p ≡ Q
   back p hit = elim (waits_back state_order (flow_of s functions) old.builder new.builder old.waiting new.waiting 0 0 stored.put.changed stored.put.contexts stored.put.waiting empty.family some_context
       (λ a b m. absurd (none_waits a b m)) p hit) [
-    | inl old' ↦ absurd (none_waiting old.waiting _ empty.waiting old')
-    | inr now ↦ now.0
-  ]
+        | inl old' ↦ absurd (none_waiting old.waiting _ empty.waiting old')
+        | inr now ↦ now.0
+      ]
 
   derived : IsDerived s functions Q t
   derived =

@@ -1,5 +1,5 @@
 -- What the steps of a run leave of the finder's table, and what justifies its refusals.
-use Rattle.std.specs.Prelude.{◌≡◌, ◌≢◌, ◌⊎◌, ℕ, ◌+◌, ◌≤◌, ◌<◌, Bool, true, false, cond, Option, Some, None, List, [], ◌∷◌, ◌++◌, Result, IfOk, IfErr, length}
+use Rattle.std.specs.Prelude.{◌≡◌, ◌≢◌, ◌⊎◌, ℕ, ◌+◌, ◌≤◌, ◌<◌, Bool, true, false, cond, Option, Some, None, List, [], ◌∷◌, ◌++◌, length}
 use Rattle.std.specs.BTreeSet.{BTreeSet}
 use Rattle.std.proofs.Common.{refl, sym, ◌∙◌, ap, subst, arith, inl, inr, length-append}
 use Rattle.std.proofs.Math.ListN.{get_or-append}
@@ -9,24 +9,19 @@ use Rattle.tt_code.specs.Settings.{Setting, is_main_end}
 use Rattle.tt_code.specs.declared.machine.Frame.{Frame}
 use Rattle.tt_code.specs.declared.reason.Reason.{Reason}
 use Rattle.tt_code.specs.declared.reason.Reason.TheVariants.{DepthMismatch, TooManyContexts}
-use Rattle.tt_abs.specs.declared.moves.Move.{Move}
 use Rattle.tt_abs.specs.declared.moves.Moves.{Moves}
-use Rattle.tt_abs.specs.declared.moves.Moves.TheVariants as moves
 use Rattle.tt_abs.specs.declared.state.State.{State}
 use Rattle.tt_abs.specs.FamilyLaws.{derived_height, derived_is}
 use Rattle.tt_abs.specs.Lines.{Precedes}
-use Rattle.tt_abs.specs.Moves.{frames_behind, offset_behind}
-use Rattle.tt_abs.specs.StateFlow.{GivesState, IsPlace, Place, flow_of, height_of}
+use Rattle.tt_abs.specs.StateFlow.{IsPlace, Place, flow_of, height_of}
 use Rattle.tt_abs.specs.States.{state_laws, state_order}
-use Rattle.tt_abs.proofs.LineLaws.{precedes_no_start, precedes_one, precedes_rises}
+use Rattle.tt_abs.proofs.LineLaws.{precedes_no_start, precedes_one}
 use Rattle.tt_cert.specs.Checks.{key_of}
 use Rattle.tt_cert.specs.Contents.{AddsContext, Contents, HasContext, IsFamily, family_of, frames_at, number_of}
 use Rattle.tt_cert.specs.Numbers.{at-number_of, number_of-place}
 use Rattle.tt_cert.specs.Places.{PutGives, PutsAt, has_point, states_of}
 use Rattle.tt_cert.specs.Puts.{family_at, number_at, place_of}
 use Rattle.tt_cert.specs.Spots.{spot_of}
-use Rattle.tt_cert.specs.declared.spot.Spot.{Spot}
-use Rattle.tt_cert.proofs.FillingLaws.{some_or_none}
 use Rattle.tt_cert.proofs.Puts.{cases_place}
 use Rattle.tt_find.specs.declared.fault.FindFault.{FindFault}
 use Rattle.tt_find.specs.declared.fault.FindFault.TheVariants.{Refused, OutOfMemory}
@@ -34,7 +29,6 @@ use Rattle.tt_find.specs.Marks.{SetsMark, mark_of}
 use Rattle.tt_find.specs.declared.marks.Mark.TheVariants.{Kept, Passed}
 use Rattle.tt_find.specs.declared.marks.Marks.{Marks}
 use Rattle.tt_find.specs.declared.source.Source.{Source}
-use Rattle.tt_find.specs.declared.source.Source.TheVariants.{JustBefore, Elsewhere}
 use Rattle.tt_find.specs.declared.stop.Stop.{Stop}
 use Rattle.tt_find.specs.declared.stop.Stop.TheVariants.{Fault, Met}
 use Rattle.tt_find.specs.declared.table.Table.{Table}
@@ -179,7 +173,7 @@ module _ (s : Setting) (functions : List (ℕ × ℕ)) (laws : HasLaws s functio
               sound.kept way.here (ways_safe s p a ways t on.running on.result on.in_range) (λ q u g. (refl, (give q u).1 g)) (λ r q u h. (give q u).0 h.1);
           marks = sound.marks;
           start = sound.start;
-        needed = sound.needed;
+          needed = sound.needed;
           budget = sound.budget;
           visits = sound.visits;
           visited = visits_same s (height_of s) (family_of table.builder) (family_of table.builder) sound.filled sound.filled (λ q. IsAmong table.builder table.waiting q ⊎ (q ≡ p))
@@ -244,7 +238,7 @@ module _ (s : Setting) (functions : List (ℕ × ℕ)) (laws : HasLaws s functio
           };
           marks = sound.marks;
           start = sound.start;
-        needed = sound.needed;
+          needed = sound.needed;
           budget = sound.budget;
           visits = sound.visits;
           visited = sound.visited;

@@ -1,8 +1,7 @@
 -- How often states come to the places.
-use Rattle.std.specs.Prelude.{◌≡◌, ◌≢◌, ◌⊎◌, ◌==◌, ◌&&◌, ℕ, zero, suc, ◌+◌, ◌*◌, ◌≤◌, ◌<◌, Bool, true, false, cond, Option, Some, None, List, [], ◌∷◌, length}
-use Rattle.std.specs.List.{All, sum_by}
+use Rattle.std.specs.Prelude.{◌≡◌, ◌≢◌, ◌⊎◌, ℕ, zero, suc, ◌+◌, ◌*◌, ◌≤◌, ◌<◌, true, false, Option, Some, None, List, [], ◌∷◌, length}
+use Rattle.std.specs.List.{sum_by}
 use Rattle.std.proofs.Common.{refl, sym, ◌∙◌, ap, subst, arith, inl, inr}
-use Rattle.std.proofs.lemmas.Bool.{cases_Bool}
 use Rattle.std.proofs.lemmas.List.Sums.{sum_by-cons}
 use Rattle.tt_code.specs.Settings.{Setting}
 use Rattle.tt_abs.specs.declared.state.State.{State}
@@ -12,10 +11,9 @@ use Rattle.tt_abs.specs.States.{state_laws, state_order}
 use Rattle.tt_abs.proofs.LineLaws.{precedes_one, precedes_rises}
 use Rattle.tt_cert.specs.Places.{PutGives, PutsAt}
 use Rattle.tt_cert.proofs.FillingLaws.{some_or_none}
-use Rattle.tt_find.specs.Found.{AreApart, ArePointsOf, HasPlace}
+use Rattle.tt_find.specs.Found.{HasPlace}
 use Rattle.tt_find.specs.Tables.{ArePoints, AreVisits}
 use Rattle.tt_find.proofs.Points.{same_or_apart}
-use Rattle.tt_find.proofs.Sound.{gives_same}
 
 -- one more at a place
 abbrev pub one_more : (Place → ℕ) → Place → Place → ℕ
@@ -82,7 +80,9 @@ sum_at_most f m le (p ∷ ps) =
 pub points_more : (filled filled' : Place → Option State) (visits : Place → ℕ) (points : List Place) (count : ℕ) (q : Place) (t : State) → ArePoints filled visits points count
     → filled' q ≡ Some t → ((p : Place) → p ≢ q → filled' p ≡ filled p) → (points' : List Place) × ArePoints filled' (one_more visits q) points' (count + 1)
 points_more filled filled' visits points count q t are here elsewhere = elim (some_or_none (filled q)) [
-  | inl (a, at) ↦ (points, record {
+  | inl (a, at) ↦ (
+    points,
+    record {
       exact = record {
         apart = are.exact.apart;
         all = λ p b at'. elim (same_or_apart p q) [
@@ -99,8 +99,11 @@ points_more filled filled' visits points count q t are here elsewhere = elim (so
           let more = more_here visits q in
           let sums = sum_more visits (one_more visits q) (more_rises visits q) q (omega arith) points (are.exact.all q a at) in
           let m = are.most in omega arith;
-    })
-  | inr none ↦ (q ∷ points, record {
+    },
+  )
+  | inr none ↦ (
+    q ∷ points,
+    record {
       exact = record {
         apart = ((λ has. let (b, at) = are.exact.only q has in let no_such : None ≡ Some b = sym none ∙ at in cc), are.exact.apart);
         all = λ p b at'. elim (same_or_apart p q) [
@@ -121,7 +124,8 @@ points_more filled filled' visits points count q t are here elsewhere = elim (so
           let sums = sum_rises visits (one_more visits q) (more_rises visits q) points in
           let e = sum_by-cons (one_more visits q) q points in
           let m = are.most in omega arith;
-    })
+    },
+  )
 ]
 
 pub points_same : (filled filled' : Place → Option State) (visits : Place → ℕ) (points : List Place) (count : ℕ) → ArePoints filled visits points count

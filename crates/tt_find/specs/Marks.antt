@@ -1,5 +1,5 @@
 -- At which offsets of the programs states are kept.
-use Rattle.std.specs.Prelude.{◌≡◌, ℕ, Bool, cond, List, slice_index_or}
+use Rattle.std.specs.Prelude.{◌≡◌, ℕ, cond, List, slice_index_or}
 use Rattle.tt_abs.specs.StateFlow.{Place}
 use Rattle.tt_cert.specs.Spots.{spot_of}
 use Rattle.tt_cert.specs.declared.spot.Spot.{Spot}

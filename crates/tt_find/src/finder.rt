@@ -143,14 +143,19 @@ pub struct Finder {
 
 impl Finder {
     /// A finder without memory.
-    pub fn new(alloc: Global) -> Finder {
+    pub fn new(alloc: Global) -> Finder
+        ensures { IsEmptyTable result.table }
+    {
         Finder {
             table: Table::new(alloc),
         }
     }
 
-    /// Takes the memory of a certificate back.
-    pub fn take_back(&mut self, certificate: Certificate) {
+    /// Takes the memory of a certificate back, in the place of what states the finder has.
+    pub fn take_back(&mut self, certificate: Certificate)
+        ensures contexts { self.new.table.builder.contexts ≡ [] ∷ [] }
+        ensures states { self.new.table.builder.states ≡ [] }
+    {
         self.table.builder = certificate.into_builder();
     }
 

@@ -90,7 +90,11 @@ fn one_finder_for_many_programs(rt: HostRuntime) {
         let mut finder = Finder::new(rt.alloc());
         for (font, program) in &table {
             let is_alike = is_found_alike(rt.alloc(), &mut finder, font, program, gives_back);
-            assert_eq!(rt; is_alike, Some(true), "of {font:?} and {program:?}, {gives_back}");
+            assert_eq!(rt;
+                is_alike,
+                Some(true),
+                "of {font:?} and {program:?}, {gives_back}"
+            );
         }
     }
 }

@@ -1,4 +1,4 @@
-use Rattle.std.proofs.Common.{◌≡◌, ◌∙◌, [], ap, refl, subst}
+use Rattle.std.proofs.Common.{◌∙◌, [], ap, refl}
 use Rattle.tt_code.specs.declared.reason.Reason.TheVariants.{TooManyContexts}
 use Rattle.tt_abs.specs.Moves.{frames_behind, offset_behind}
 use Rattle.tt_abs.specs.Settings.{setting_of}

@@ -1,5 +1,3 @@
-use Rattle.std.proofs.Common.{ap, refl, sym, ◌∙◌}
-use Rattle.tt_find.specs.declared.marks.Mark.{Mark}
 use Rattle.tt_find.proofs.Marking.{sets_font, sets_main, sets_prep}
 use Rattle.tt_find.proofs.marks.Marks.set.Goals as goal
 
