@@ -43,7 +43,7 @@ byte_at k [] h = omega arith
 byte_at zero (x ∷ xs) h = h.0
 byte_at (suc k) (x ∷ xs) h = byte_at k xs h.1
 
-small_number : (place : ℕ) (xs : List ℕ) → AreBytes xs → u16_at place xs < 2 ^ 16
+pub small_number : (place : ℕ) (xs : List ℕ) → AreBytes xs → u16_at place xs < 2 ^ 16
 unfolding u16_at
 small_number place xs h =
     let high = byte_at 0 (drop place xs) (dropped place xs h) in

@@ -1,26 +1,27 @@
 -- What is known at the ends of a font's programs, and what the next program is looked at with.
-use Rattle.std.specs.Prelude.{IfErr, IfSome, is_some}
-use Rattle.std.specs.Result.{IsErrAnd}
-use Rattle.std.proofs.Common.{◌≡◌, ℕ, List, [], Option, Some, None, Result, Ok, Err, refl, sym, ◌∙◌, ap, subst, true, Bor}
+use Rattle.std.specs.Prelude.{IfSome, is_some}
+use Rattle.std.proofs.Common.{◌≡◌, ℕ, List, [], Option, Some, None, refl, sym, ◌∙◌, ap, subst, true, Bor}
 use Rattle.tt_code.specs.Cut.{Instruction, size}
+use Rattle.tt_code.specs.Fonts.{Font, font_setting}
+use Rattle.tt_code.specs.declared.limits.Limits.{Limits}
 use Rattle.tt_code.specs.Settings.{Kind, FontProgram, CvtProgram, GlyphProgram, Setting as MachineSetting}
-use Rattle.tt_abs.specs.declared.setting.Kind.TheVariants as kind
 use Rattle.tt_abs.specs.declared.setting.Setting.{Setting}
 use Rattle.tt_abs.specs.declared.state.State.{State}
 use Rattle.tt_abs.specs.Entries.{Rises}
-use Rattle.tt_abs.specs.Settings.{kind_of}
+use Rattle.tt_abs.specs.Settings.{programs_of, setting_of}
 use Rattle.tt_abs.specs.StateFlow.{FunctionsFit, Place}
 use Rattle.tt_cert.specs.GoodFamilies.{EndsWell, HasEnd, IsGoodFamily}
+use Rattle.tt_cert.specs.declared.fault.ProgramFault.{ProgramFault}
+use Rattle.tt_cert.specs.declared.fault.ProgramFault.TheVariants.{Refused, OutOfMemory}
 use Rattle.tt_cert.proofs.FillingLaws.{ends_listed}
-use Rattle.tt_font.specs.Reading.{FontData, GlyphData}
-use Rattle.hintcheck.specs.FontLooks.{ComesToEnd, EndsLook, IsKnownAtEnd, subject_in}
+use Rattle.tt_font.specs.Reading.{FontData}
+use Rattle.hintcheck.specs.FontLooks.{AreAllRefused, ComesToEnd, IsKnownAtEnd}
 use Rattle.hintcheck.specs.FontPrograms.{cvt_refused, cvt_subject, font_refused, font_subject}
-use Rattle.hintcheck.specs.Looks.{IfRefused, IsAccepted, IsLookedAt}
+use Rattle.hintcheck.specs.Looks.{IfRefused, IsAccepted, IsListed, IsLookedAt, told_at}
 use Rattle.hintcheck.specs.Programs.{EndsWith, HasLeastFamily, IsCutInto, IsRefusal, Subject}
-use Rattle.hintcheck.specs.declared.fonts.Common.{Common}
-use Rattle.hintcheck.specs.declared.look.LookFault.{LookFault}
-use Rattle.hintcheck.specs.declared.look.LookFault.TheVariants.{Refused, OutOfMemory}
+use Rattle.hintcheck.proofs.LookLemmas.{looked_at}
 use Rattle.hintcheck.specs.declared.report.Name.TheVariants as name
+use Rattle.hintcheck.specs.declared.report.Refused.{Refused as AnyRefused}
 
 -- the functions of a good family's states rise by number
 pub functions_rise : (s : MachineSetting) (functions : List (ℕ × ℕ)) (family : Place → Option State) (p : Place) (a : State) → IsGoodFamily s functions family → family p ≡ Some a → Rises a.functions
@@ -64,14 +65,15 @@ least_of x is family a = record { instructions = is; cut = a.cut; family = a.fil
 
 -- a refused font program and a refused CVT program end the look
 
-pub font_ends_look : (d : FontData) (fault : LookFault) → IfRefused fault (IsRefusal (font_subject d)) → IfRefused fault (EndsLook d)
-font_ends_look d (Refused r) is = font_refused r is
-font_ends_look d (OutOfMemory e) is = tt
+pub font_ends_look : (d : FontData) (fault : ProgramFault) (rs : List AnyRefused) → IfRefused name.Font fault (IsRefusal (font_subject d)) → IsListed name.Font fault [] rs → AreAllRefused d rs
+font_ends_look d (Refused spot offset r) rs is listed = let A : List AnyRefused → Type 0 = λ t. AreAllRefused d t in subst A (sym listed) (font_refused (told_at name.Font spot offset r) is)
+font_ends_look d (OutOfMemory e) rs is listed = absurd listed
 
-pub cvt_ends_look : (d : FontData) (f : List Instruction) (functions : List (ℕ × ℕ)) (fault : LookFault) → EndsWith (font_subject d) f functions
-    → IfRefused fault (IsRefusal (cvt_subject d f functions)) → IfRefused fault (EndsLook d)
-cvt_ends_look d f functions (Refused r) ends is = cvt_refused f functions r ends is
-cvt_ends_look d f functions (OutOfMemory e) ends is = tt
+pub cvt_ends_look : (d : FontData) (f : List Instruction) (functions : List (ℕ × ℕ)) (fault : ProgramFault) (rs : List AnyRefused) → EndsWith (font_subject d) f functions
+    → IfRefused name.Cvt fault (IsRefusal (cvt_subject d f functions)) → IsListed name.Cvt fault [] rs → AreAllRefused d rs
+cvt_ends_look d f functions (Refused spot offset r) rs ends is listed =
+    let A : List AnyRefused → Type 0 = λ t. AreAllRefused d t in subst A (sym listed) (cvt_refused f functions (told_at name.Cvt spot offset r) ends is)
+cvt_ends_look d f functions (OutOfMemory e) rs ends is listed = absurd listed
 
 -- the functions of an accepted program, as the code reads and copies them
 pub known_of_accepted : (x : Subject) (is : List Instruction) (family : Place → Option State) (n : ℕ) (found : Option (Bor (List (ℕ × ℕ)))) (functions : Bor (List (ℕ × ℕ))) (copy : List (ℕ × ℕ))
@@ -82,18 +84,11 @@ known_of_accepted x is family n found functions copy a size_is some e copied =
     let (end, at, same) = subst S e some in
     known_at_end x is family end copy a (ap (λ (k : ℕ). family ([], k)) (sym size_is) ∙ at) (copied ∙ same)
 
--- a glyph's program is looked at in the setting that has it
-pub glyph_looked : (common : Common) (id : ℕ) (g : GlyphData) (s : Setting) → IsCutInto (subject_in common id g) s.main.now → s.limits ≡ common.font.now.limits
-    → s.cvt ≡ common.font.now.cvt_count → s.kind ≡ kind.Glyph g.points g.contours → s.font.now ≡ common.fpgm.now → s.prep.now ≡ common.prep.now → s.start.now ≡ common.known.now
-    → IsLookedAt (subject_in common id g) (name.Glyph id) s
-glyph_looked common id g s is_cut limits cvt kind_is font prep start = record {
-  name = refl;
-  cut = is_cut;
-  setting = λ i. record { limits = sym limits i; cvt = sym cvt i; kind = sym (ap kind_of kind_is) i; main = s.main.now; font = sym font i; prep = sym prep i };
-  functions = sym start;
-}
-
--- an error passed on
-pub passed_on : {T : Type 0} (r : Result T LookFault) (fault : LookFault) (P : LookFault → Type 0) → IsErrAnd r (λ x. x ≡ fault) → P fault → IfErr r P
-passed_on (Ok x) fault P is h = absurd is
-passed_on (Err x) fault P is h = subst P (sym is) h
+-- the font program is looked at in its setting
+pub font_looked : (d : FontData) (s : Setting) (is : List Instruction) (limits : Limits) (cvt : ℕ) → IsCutInto (font_subject d) is → setting_of s ≡ font_setting (programs_of s)
+    → programs_of s ≡ record { limits = limits; cvt = cvt; font_program = is; cvt_program = is } → limits ≡ d.limits → cvt ≡ d.cvt_count → s.main.now ≡ is → s.start.now ≡ []
+    → IsLookedAt (font_subject d) s
+font_looked d s is limits cvt cut setting programs el ec main start =
+    let F : Limits → ℕ → Font = λ l n. record { limits = l; cvt = n; font_program = is; cvt_program = is } in
+    let same : programs_of s ≡ F d.limits d.cvt_count = programs ∙ (λ i. F (el i) (ec i)) in
+    looked_at (font_subject d) s is cut main (setting ∙ ap font_setting same) start

@@ -11,7 +11,11 @@ use Rattle.tt_font.specs.declared.glyph_part.GlyphPart.{GlyphPart}
 use Rattle.hintcheck.specs.FontLooks.{AreRefusedBelow}
 use Rattle.hintcheck.specs.FontPrograms.{AreRefused, accepted, all_looked_at, glyph_subject, refused}
 use Rattle.hintcheck.specs.Programs.{HasLeastFamily, IsRefusal}
+use Rattle.hintcheck.specs.Looks.{IfRefused, IsListed, told_at}
+use Rattle.hintcheck.specs.declared.report.Name.TheVariants as name
 use Rattle.hintcheck.specs.declared.report.Refused.{Refused}
+use Rattle.tt_cert.specs.declared.fault.ProgramFault.{ProgramFault}
+use Rattle.tt_cert.specs.declared.fault.ProgramFault.TheVariants as fault
 
 -- a number below that of the glyphs has its glyph
 pub glyph_there : (part : Option GlyphPart) (gs : List GlyphData) (id : ℕ) → option_map glyph_data part ≡ slice_get gs id → id < length gs → IsSome part
@@ -39,12 +43,20 @@ module _ (font : Font) (functions : List (ℕ × ℕ)) (gs : List GlyphData) whe
       let R : List GlyphData → Type 0 = λ xs. AreRefused font functions id xs others in
       below others (subst R (sym (dropped_next gs id g at)) (accepted id g (drop (id + 1) gs) others least h))
 
-  pub refused_next : (id : ℕ) (g : GlyphData) (rs : List Refused) (r : Refused) → AreRefusedBelow font functions gs id rs → slice_get gs id ≡ Some g
+  refused_next : (id : ℕ) (g : GlyphData) (rs : List Refused) (r : Refused) → AreRefusedBelow font functions gs id rs → slice_get gs id ≡ Some g
       → IsRefusal (glyph_subject font functions id g) r → AreRefusedBelow font functions gs (id + 1) (rs ++ r ∷ [])
   refused_next id g rs r below at is others h =
       let R : List GlyphData → Type 0 = λ xs. AreRefused font functions id xs (r ∷ others) in
       let Q : List Refused → Type 0 = λ qs. AreRefused font functions 0 gs qs in
       subst Q (sym (append_assoc rs (r ∷ []) others)) (below (r ∷ others) (subst R (sym (dropped_next gs id g at)) (refused id g (drop (id + 1) gs) r others is h)))
+
+  -- the refused one that is listed
+  pub listed_next : (id : ℕ) (g : GlyphData) (rs rs' : List Refused) (f : ProgramFault) → AreRefusedBelow font functions gs id rs → slice_get gs id ≡ Some g
+      → IfRefused (name.Glyph id) f (IsRefusal (glyph_subject font functions id g)) → IsListed (name.Glyph id) f rs rs' → AreRefusedBelow font functions gs (id + 1) rs'
+  listed_next id g rs rs' (fault.Refused spot offset r) below at is listed =
+      let B : List Refused → Type 0 = λ t. AreRefusedBelow font functions gs (id + 1) t in
+      subst B (sym listed) (refused_next id g rs (told_at (name.Glyph id) spot offset r) below at is)
+  listed_next id g rs rs' (fault.OutOfMemory e) below at is listed = absurd listed
 
   pub all_below : (rs : List Refused) → AreRefusedBelow font functions gs (length gs) rs → AreRefused font functions 0 gs rs
   all_below rs below =

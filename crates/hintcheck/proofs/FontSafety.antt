@@ -14,11 +14,12 @@ use Rattle.tt_abs.specs.StateFlow.{Place}
 use Rattle.tt_abs.proofs.Soundness.{good_is_safe}
 use Rattle.tt_cert.specs.GoodFamilies.{IsGoodFamily}
 use Rattle.tt_font.specs.Reading.{FontData, GlyphData}
-use Rattle.hintcheck.specs.FontPrograms.{AreRefused, IsSafeFont, IsSafeGlyph, IsVerdict, all_looked_at, accepted, refused, cvt_refused, cvt_subject, font_of, font_refused, font_subject, glyph_subject, looked_at_all}
+use Rattle.hintcheck.specs.FontPrograms.{AreRefused, IsSafeFont, IsSafeGlyph, IsVerdict, all_looked_at, accepted, refused, cvt_refused, cvt_subject, font_of, font_refused, font_subject, glyph_subject, looked_at_all, one_glyph_font}
 use Rattle.hintcheck.specs.FontLooks.{AreFewBytes, IsFontInRange}
 use Rattle.hintcheck.specs.Programs.{EndsWith, HasLeastFamily}
 use Rattle.hintcheck.specs.Verdicts.{Judgement}
 use Rattle.hintcheck.specs.declared.report.Refused.{Refused}
+use Rattle.hintcheck.proofs.FontBytes.{small_number}
 use Rattle.hintcheck.proofs.FontEnds.{functions_rise}
 use Rattle.tt_cert.proofs.EndFunctions.{AllStartWith}
 use Rattle.hintcheck.proofs.FontRuns.{cvt_starts, font_starts, glyph_starts, never_faults_from}
@@ -57,34 +58,35 @@ family_is_safe s functions family depth main font prep rises good =
 
 -- an accepted glyph program
 
-module _ (d : FontData) (range : IsFontInRange d) (f p : List Instruction) (font_range : AreInRange f) (prep_range : AreInRange p)
-    (known : List (ℕ × ℕ)) (rises : Rises known) (starts : AllStartWith (StartsGlyphProgram (font_of d f p)) known) where
-  glyph_is_safe : (id : ℕ) (g : GlyphData) → AreFewBytes g.program → HasLeastFamily (glyph_subject (font_of d f p) known id g) → IsSafeGlyph (font_of d f p) g
+module _ (font : Font) (depth : font.limits.stack < 2 ^ 16) (font_range : AreInRange font.font_program) (prep_range : AreInRange font.cvt_program)
+    (known : List (ℕ × ℕ)) (rises : Rises known) (starts : AllStartWith (StartsGlyphProgram font) known) where
+  glyph_is_safe : (id : ℕ) (g : GlyphData) → AreFewBytes g.program → HasLeastFamily (glyph_subject font known id g) → IsSafeGlyph font g
   glyph_is_safe id g few h =
-      let s : Setting = glyph_setting (font_of d f p) g.points g.contours h.instructions in
+      let s : Setting = glyph_setting font g.points g.contours h.instructions in
       let e : size h.instructions ≡ length g.program = size_is h.instructions ∙ ap length h.cut.is_cut.joined in
-      let short : size h.instructions ≤ d.limits.program_size = h.good.short in
+      let short : size h.instructions ≤ font.limits.program_size = h.good.short in
       record {
         short = omega arith;
         instructions = h.instructions;
         is_cut = h.cut.is_cut;
         structured = h.cut.structured;
-        never_faults = never_faults_from s known h.family (StartsGlyphProgram (font_of d f p))
-            (family_is_safe s known h.family range.depth (cut_in_range g.program h.instructions few h.cut.is_cut) font_range prep_range rises h.good) starts;
+        never_faults = never_faults_from s known h.family (StartsGlyphProgram font)
+            (family_is_safe s known h.family depth (cut_in_range g.program h.instructions few h.cut.is_cut) font_range prep_range rises h.good) starts;
       }
 
   -- where none of the glyph programs is refused, each has its least family
-  none_refused : (id : ℕ) (gs : List GlyphData) (rs : List Refused) → AreRefused (font_of d f p) known id gs rs → rs ≡ []
-      → (k : ℕ) (g : GlyphData) → slice_get gs k ≡ Some g → (n : ℕ) × HasLeastFamily (glyph_subject (font_of d f p) known n g)
+  none_refused : (id : ℕ) (gs : List GlyphData) (rs : List Refused) → AreRefused font known id gs rs → rs ≡ []
+      → (k : ℕ) (g : GlyphData) → slice_get gs k ≡ Some g → (n : ℕ) × HasLeastFamily (glyph_subject font known n g)
   none_refused id gs rs (all_looked_at n) e k g at = absurd (cc)
   none_refused id gs rs (accepted n x xs qs least rest) e zero g at =
-      let G : GlyphData → Type 0 = λ y. HasLeastFamily (glyph_subject (font_of d f p) known n y) in
+      let G : GlyphData → Type 0 = λ y. HasLeastFamily (glyph_subject font known n y) in
       let same : x ≡ g = cc in (n, subst G same least)
   none_refused id gs rs (accepted n x xs qs least rest) e (suc k) g at = none_refused (n + 1) xs qs rest e k g at
   none_refused id gs rs (refused n x xs r qs is rest) e k g at = absurd (cc)
 
-  glyphs_are_safe : AreRefused (font_of d f p) known 0 d.glyphs [] → (id : ℕ) (g : GlyphData) → slice_get d.glyphs id ≡ Some g → IsSafeGlyph (font_of d f p) g
-  glyphs_are_safe h id g at = let (n, least) = none_refused 0 d.glyphs [] h refl id g at in glyph_is_safe n g (range.glyphs id g at) least
+  glyphs_are_safe : (gs : List GlyphData) → ((id : ℕ) (g : GlyphData) → slice_get gs id ≡ Some g → AreFewBytes g.program) → AreRefused font known 0 gs []
+      → (id : ℕ) (g : GlyphData) → slice_get gs id ≡ Some g → IsSafeGlyph font g
+  glyphs_are_safe gs few h id g at = let (n, least) = none_refused 0 gs [] h refl id g at in glyph_is_safe n g (few id g at) least
 
 -- the font
 
@@ -112,7 +114,7 @@ all_looked_at_safe d range f p functions known font cvt glyphs =
       cvt_structured = cvt.cut.structured;
       font_never_faults = never_faults_from (font_setting F) [] font.family (StartsFontProgram F) font_safe (font_starts F);
       cvt_never_faults = never_faults_from (cvt_setting F) functions cvt.family (StartsCvtProgram F) cvt_safe cvt_start;
-      glyphs = glyphs_are_safe d range f p f_range p_range known known_rises glyph_start glyphs;
+      glyphs = glyphs_are_safe F range.depth f_range p_range known known_rises glyph_start d.glyphs range.glyphs glyphs;
     }
 
 pub font_is_safe : (d : FontData) → IsFontInRange d → (v : Judgement) → IsVerdict d v → v.refused ≡ [] → IsSafeFont d
@@ -121,3 +123,17 @@ font_is_safe d range v (cvt_refused f functions r ends is) e = absurd (cc)
 font_is_safe d range v (looked_at_all f p functions known rs font cvt glyphs) e =
     let N : List Refused → Type 0 = λ rs. AreRefused (font_of d f p) known 0 d.glyphs rs in
     all_looked_at_safe d range f p functions known font cvt (subst N e glyphs)
+
+-- a glyph alone
+
+none_in_range : AreInRange []
+none_in_range = record { bytes = tt; short = omega arith }
+
+no_function_starts : (font : Font) → AllStartWith (StartsGlyphProgram font) []
+no_function_starts font m start = record { fresh = start.0; defined = λ n body e. absurd (cc) }
+
+pub only_glyph_is_safe : (maxp : List ℕ) (cvt : ℕ) (g : GlyphData) → AreBytes maxp → AreFewBytes g.program → HasLeastFamily (glyph_subject (font_of (one_glyph_font maxp cvt g) [] []) [] 0 g)
+    → IsSafeGlyph (font_of (one_glyph_font maxp cvt g) [] []) g
+only_glyph_is_safe maxp cvt g bytes few least =
+    let font : Font = font_of (one_glyph_font maxp cvt g) [] [] in
+    glyph_is_safe font (small_number 24 maxp bytes) none_in_range none_in_range [] tt (no_function_starts font) 0 g few least

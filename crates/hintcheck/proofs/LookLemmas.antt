@@ -1,6 +1,7 @@
 -- Why a program that is looked at is accepted or refused.
-use Rattle.std.proofs.Common.{◌≡◌, ◌⊎◌, inl, inr, ℕ, List, [], Option, Some, Result, Ok, Err, sym, ◌∙◌, ap, subst}
+use Rattle.std.proofs.Common.{◌≡◌, ◌⊎◌, inl, inr, ℕ, List, [], Option, Some, Result, Ok, Err, refl, sym, ◌∙◌, ap, subst}
 use Rattle.std.specs.Prelude.{IfErr, IfOk}
+use Rattle.std.specs.Result.{IsErrAnd}
 use Rattle.tt_code.specs.Cut.{Instruction, IsCut, CannotBeCut, size}
 use Rattle.tt_code.specs.Grammar.{IsFault}
 use Rattle.tt_code.specs.Settings.{Kind, FontProgram, CvtProgram, GlyphProgram, Setting}
@@ -8,28 +9,29 @@ use Rattle.tt_code.specs.declared.reason.Reason.{Reason}
 use Rattle.tt_code.specs.declared.reason.Reason.TheVariants as reason
 use Rattle.tt_code.proofs.CutLemmas.{one_cut}
 use Rattle.tt_code.proofs.ProgramLemmas.{no_fault}
+use Rattle.tt_abs.specs.declared.setting.Setting.{Setting as AnySetting}
 use Rattle.tt_abs.specs.declared.state.State.{State}
 use Rattle.tt_abs.specs.Entries.{Rises}
 use Rattle.tt_abs.specs.Families.{IsBelowFamily, IsGood}
 use Rattle.tt_abs.specs.FamilyLaws.{none_where_refused}
 use Rattle.tt_abs.specs.Ranges.{IsSettingInRange}
+use Rattle.tt_abs.specs.Settings.{setting_of}
 use Rattle.tt_abs.specs.Soundness.{IsSafe}
 use Rattle.tt_abs.specs.StateFlow.{AreProgramsShort, FitsLimits, FunctionsFit, Place, flow_of, height_of}
 use Rattle.tt_abs.specs.States.{state_laws, state_order}
 use Rattle.tt_abs.proofs.FlowOfStates.{state_flow_laws}
 use Rattle.tt_abs.proofs.Soundness.{good_is_safe}
+use Rattle.tt_cert.specs.Checks.{IsWantOfMemory}
 use Rattle.tt_cert.specs.Contents.{Contents, family_of}
 use Rattle.tt_cert.specs.Fillings.{HasGoodFilling, HasOneGoodFilling, IsFilling}
 use Rattle.tt_cert.specs.GoodFamilies.{EndsWell, IsGoodFamily}
 use Rattle.tt_cert.specs.Spots.{spot_of}
+use Rattle.tt_cert.specs.declared.fault.ProgramFault.{ProgramFault}
+use Rattle.tt_cert.specs.declared.fault.ProgramFault.TheVariants as fault
 use Rattle.tt_cert.specs.declared.spot.Spot.{Spot}
-use Rattle.tt_find.specs.declared.fault.FindFault.{FindFault}
-use Rattle.tt_find.specs.declared.fault.FindFault.TheVariants as find_fault
-use Rattle.tt_find.specs.Found.{HasLeastFilling, IsJustified, IsLeast, IsNeverEnding, IsWantOfMemory as IsWantOfFindMemory, LacksEnd, NamesPlace, NoneIsGood, too_long, refused, apart, too_many, never_ends}
+use Rattle.tt_find.specs.Found.{HasLeastFilling, IsJustified, IsLeast, IsNeverEnding, LacksEnd, NamesPlace, NoneIsGood, too_long, refused, apart, too_many, never_ends}
 use Rattle.hintcheck.specs.Programs.{HasGoodFamily, HasLeastFamily, IsCause, IsCutInto, IsRefusal, Subject, no_family, program_at}
-use Rattle.hintcheck.specs.Looks.{IfRefused, IsAccepted, IsWantOfMemory, told_at}
-use Rattle.hintcheck.specs.declared.look.LookFault.{LookFault}
-use Rattle.hintcheck.specs.declared.look.LookFault.TheVariants as fault
+use Rattle.hintcheck.specs.Looks.{IfRefused, IsAccepted, IsLookedAt, told_at}
 use Rattle.hintcheck.specs.declared.report.Name.{Name}
 use Rattle.hintcheck.specs.declared.report.Refused.{Refused as AnyRefused}
 
@@ -66,26 +68,22 @@ pub good_of_least : (x : Subject) → HasLeastFamily x → HasGoodFamily x
 good_of_least x l = record { instructions = l.instructions; cut = l.cut; family = l.family; good = l.good }
 
 -- what is told of a refusal
-pub is_refusal : (x : Subject) (called : Name) (at : Place) (spot : Spot) (offset : ℕ) (r : Reason) → x.name ≡ called → spot ≡ spot_of at.0 → offset ≡ at.1
-    → IsCause x at r → (HasLeastFamily x → ⊥) → ((r ≡ reason.NeverEnds) ⊎ (HasGoodFamily x → ⊥)) → IsRefusal x (told_at called spot offset r)
-is_refusal x called at spot offset r en es eo cause no_least no_good = record {
-  program = sym en;
+pub is_refusal : (x : Subject) (at : Place) (spot : Spot) (offset : ℕ) (r : Reason) → spot ≡ spot_of at.0 → offset ≡ at.1
+    → IsCause x at r → (HasLeastFamily x → ⊥) → ((r ≡ reason.NeverEnds) ⊎ (HasGoodFamily x → ⊥)) → IsRefusal x (told_at x.name spot offset r)
+is_refusal x at spot offset r es eo cause no_least no_good = record {
+  program = refl;
   at = at;
-  spot = same_program called x.name spot (spot_of at.0) (sym en) es;
+  spot = ap (program_at x.name) es;
   offset = eo;
   cause = cause;
   no_least = no_least;
   no_good = no_good;
 }
-  where
-    same_program : (a b : Name) (s t : Spot) → a ≡ b → s ≡ t → program_at a s ≡ program_at b t
-    same_program a b s t e f = ap (λ n. program_at n s) e ∙ ap (λ p. program_at b p) f
 
 -- the refusal of a program that has no good family
-pub without_good : (x : Subject) (called : Name) (at : Place) (spot : Spot) (offset : ℕ) (r : Reason) → x.name ≡ called → spot ≡ spot_of at.0 → offset ≡ at.1
-    → IsCause x at r → (HasGoodFamily x → ⊥) → IsRefusal x (told_at called spot offset r)
-without_good x called at spot offset r en es eo cause none =
-    is_refusal x called at spot offset r en es eo cause (λ l. none (good_of_least x l)) (inr none)
+pub without_good : (x : Subject) (at : Place) (spot : Spot) (offset : ℕ) (r : Reason) → spot ≡ spot_of at.0 → offset ≡ at.1
+    → IsCause x at r → (HasGoodFamily x → ⊥) → IsRefusal x (told_at x.name spot offset r)
+without_good x at spot offset r es eo cause none = is_refusal x at spot offset r es eo cause (λ l. none (good_of_least x l)) (inr none)
 
 -- bytes that aren't cut
 
@@ -185,40 +183,45 @@ accepted x is s fs updates found (Ok a) c es ef h one least same (filling, fills
       safe = of_subject (λ t f. IsSafe t f filling) x is s fs es ef (good_is_safe s h.range h.short fs h.rises filling good.good);
     }
 
--- want of memory refuses nothing
-pub refuses_nothing : {T : Type 0} (r : Result T LookFault) (Is : AnyRefused → Type 0) → IfErr r IsWantOfMemory → IfErr r (λ f. IfRefused f Is)
-refuses_nothing (Ok a) Is h = tt
-refuses_nothing (Err (fault.Refused v)) Is h = absurd h
-refuses_nothing (Err (fault.OutOfMemory e)) Is h = tt
-
 -- a refusal that is told
-pub told : (f : LookFault) (r : AnyRefused) (Is : AnyRefused → Type 0) → f ≡ fault.Refused r → Is r → IfRefused f Is
-told f r Is e h = let P : LookFault → Type 0 = λ t. IfRefused t Is in subst P (sym e) h
+pub told : (called : Name) (f : ProgramFault) (spot : Spot) (offset : ℕ) (r : Reason) (Is : AnyRefused → Type 0) → f ≡ fault.Refused spot offset r → Is (told_at called spot offset r)
+    → IfRefused called f Is
+told called f spot offset r Is e h = let P : ProgramFault → Type 0 = λ t. IfRefused called t Is in subst P (sym e) h
+
+-- a fault that is passed on
+pub passed_on : {T : Type 0} (r : Result T ProgramFault) (f : ProgramFault) (P : ProgramFault → Type 0) → IsErrAnd r (λ x. x ≡ f) → P f → IfErr r P
+passed_on (Ok x) f P is h = absurd is
+passed_on (Err x) f P is h = subst P (sym is) h
 
 -- what the finder says, in a subject's words
 
-pub found_refusal : (x : Subject) (is : List Instruction) (s : Setting) (fs : List (ℕ × ℕ)) (called : Name) (p : Place) (spot : Spot) (offset : ℕ) (r : Reason) → x.name ≡ called
-    → IsCutInto x is → x.setting is ≡ s → x.functions ≡ fs → HasFlow s fs → spot ≡ spot_of p.0 → offset ≡ p.1 → IsJustified s fs p r → IsNoFamily s fs r
-    → IsRefusal x (told_at called spot offset r)
-found_refusal x is s fs called p spot offset r en c es ef h at_spot at_offset justified none =
+abbrev pub IsUnfound : Setting → List (ℕ × ℕ) → ProgramFault → Type 0
+IsUnfound s fs f = IsWantOfMemory f ⊎ (IsNeverEnding f ⊎ NoneIsGood s fs)
+
+no_family_at : (s : Setting) (fs : List (ℕ × ℕ)) (spot : Spot) (offset : ℕ) (r : Reason) → IsUnfound s fs (fault.Refused spot offset r) → IsNoFamily s fs r
+no_family_at s fs spot offset r (inl h) = absurd h
+no_family_at s fs spot offset r (inr none) = none
+
+pub found_refusal : (x : Subject) (is : List Instruction) (s : Setting) (fs : List (ℕ × ℕ)) (f : ProgramFault) → IsCutInto x is → x.setting is ≡ s → x.functions ≡ fs → HasFlow s fs
+    → NamesPlace (IsJustified s fs) f → IsUnfound s fs f → IfRefused x.name f (IsRefusal x)
+found_refusal x is s fs (fault.OutOfMemory e) c es ef h names unfound = tt
+found_refusal x is s fs (fault.Refused spot offset r) c es ef h (p, at_spot, at_offset, justified) unfound =
     let h' = of_subject HasFlow x is s fs es ef h in
     let justified' = of_subject (λ t f. IsJustified t f p r) x is s fs es ef justified in
-    let none' = of_subject (λ t f. IsNoFamily t f r) x is s fs es ef none in
-    is_refusal x called p spot offset r en at_spot at_offset (no_family is p r c justified') (found_no_least x is c h' p r justified' none') (found_no_good x is c r none')
+    let none' = of_subject (λ t f. IsNoFamily t f r) x is s fs es ef (no_family_at s fs spot offset r unfound) in
+    is_refusal x p spot offset r at_spot at_offset (no_family is p r c justified') (found_no_least x is c h' p r justified' none') (found_no_good x is c r none')
 
-pub glyph_without_good : (x : Subject) (is : List Instruction) (s : Setting) (fs : List (ℕ × ℕ)) (points contours : ℕ) (p : Place) (r : Reason) → IsCutInto x is → x.setting is ≡ s
-    → x.functions ≡ fs → s.kind ≡ GlyphProgram points contours → HasFlow s fs → IsJustified s fs p r → IsNoFamily s fs r → HasGoodFamily x → ⊥
-glyph_without_good x is s fs points contours p r c es ef k h justified none =
+pub glyph_without_good : (x : Subject) (is : List Instruction) (s : Setting) (fs : List (ℕ × ℕ)) (points contours : ℕ) (f : ProgramFault) → IsCutInto x is → x.setting is ≡ s
+    → x.functions ≡ fs → s.kind ≡ GlyphProgram points contours → HasFlow s fs → NamesPlace (IsJustified s fs) f → IsUnfound s fs f → IfRefused x.name f (λ _. HasGoodFamily x → ⊥)
+glyph_without_good x is s fs points contours (fault.OutOfMemory e) c es ef k h names unfound = tt
+glyph_without_good x is s fs points contours (fault.Refused spot offset r) c es ef k h (p, at_spot, at_offset, justified) unfound =
     glyph_no_good x is points contours (ap (λ (t : Setting). t.kind) es ∙ k) c (of_subject HasFlow x is s fs es ef h) p r
-    (of_subject (λ t f. IsJustified t f p r) x is s fs es ef justified) (of_subject (λ t f. IsNoFamily t f r) x is s fs es ef none)
+    (of_subject (λ t f. IsJustified t f p r) x is s fs es ef justified) (of_subject (λ t f. IsNoFamily t f r) x is s fs es ef (no_family_at s fs spot offset r unfound))
 
--- the finder's refusal names its place
-pub named : (s : Setting) (fs : List (ℕ × ℕ)) (f : FindFault) (spot : Spot) (offset : ℕ) (r : Reason) → f ≡ find_fault.Refused spot offset r → NamesPlace (IsJustified s fs) f
-    → (p : Place) × (spot ≡ spot_of p.0) × (offset ≡ p.1) × IsJustified s fs p r
-named s fs f spot offset r e h = let P : FindFault → Type 0 = λ t. NamesPlace (IsJustified s fs) t in subst P e h
-
-pub no_family_at : (s : Setting) (fs : List (ℕ × ℕ)) (f : FindFault) (spot : Spot) (offset : ℕ) (r : Reason) → f ≡ find_fault.Refused spot offset r
-    → IsWantOfFindMemory f ⊎ (IsNeverEnding f ⊎ NoneIsGood s fs) → IsNoFamily s fs r
-no_family_at s fs f spot offset r e (inl h) = let P : FindFault → Type 0 = λ t. IsWantOfFindMemory t in absurd (subst P e h)
-no_family_at s fs f spot offset r e (inr (inl h)) = let P : FindFault → Type 0 = λ t. IsNeverEnding t in inl (subst P e h)
-no_family_at s fs f spot offset r e (inr (inr h)) = inr h
+-- a program is looked at in the setting that it has with its instructions
+pub looked_at : (x : Subject) (s : AnySetting) (is : List Instruction) → IsCutInto x is → s.main.now ≡ is → setting_of s ≡ x.setting is → s.start.now ≡ x.functions → IsLookedAt x s
+looked_at x s is cut main setting start = record {
+  cut = subst (IsCutInto x) (sym main) cut;
+  setting = ap x.setting main ∙ sym setting;
+  functions = sym start;
+}

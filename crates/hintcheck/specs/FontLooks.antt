@@ -1,18 +1,18 @@
 -- How far the look at a font's programs has come. (Representation: no public clause cites it.)
-use Rattle.std.specs.Prelude.{◌≡◌, ℕ, ◌<◌, ◌^◌, List, [], ◌∷◌, ◌++◌, Some, drop, length, slice_get}
+use Rattle.std.specs.Prelude.{◌≡◌, ℕ, ◌<◌, ◌^◌, List, ◌++◌, Some, drop, length, slice_get}
 use Rattle.tt_code.specs.Cut.{Instruction}
 use Rattle.tt_code.specs.Fonts.{Font}
 use Rattle.tt_code.specs.Settings.{Kind, FontProgram, CvtProgram, GlyphProgram}
 use Rattle.tt_abs.specs.Entries.{Rises}
 use Rattle.tt_abs.specs.Ranges.{AreBytes}
+use Rattle.tt_abs.specs.Settings.{programs_of}
 use Rattle.tt_abs.specs.StateFlow.{FunctionsFit}
 use Rattle.tt_abs.specs.declared.setting.Setting.{Setting}
 use Rattle.tt_font.specs.Reading.{FontData, GlyphData}
-use Rattle.hintcheck.specs.FontPrograms.{AreRefused, IsVerdict, font_of, glyph_subject, judgement_on}
+use Rattle.hintcheck.specs.FontPrograms.{AreRefused, IsVerdict, glyph_subject, judgement_on}
 use Rattle.hintcheck.specs.Looks.{IsLookedAt}
 use Rattle.hintcheck.specs.Programs.{EndsWith, Subject}
 use Rattle.hintcheck.specs.declared.fonts.Common.{Common}
-use Rattle.hintcheck.specs.declared.report.Name.{Name}
 use Rattle.hintcheck.specs.declared.report.Refused.{Refused}
 
 -- fewer than 2^31 bytes
@@ -28,8 +28,8 @@ pub record IsFontInRange (d : FontData) : Type 0 where
   pub glyphs : (id : ℕ) (g : GlyphData) → slice_get d.glyphs id ≡ Some g → AreFewBytes g.program
 
 -- a program is looked at in this setting
-abbrev pub IsOfSubject : Name → Setting → Type 0
-IsOfSubject name s = (x : Subject) × IsLookedAt x name s
+abbrev pub IsOfSubject : Setting → Type 0
+IsOfSubject s = (x : Subject) × IsLookedAt x s
 
 -- a font program or a CVT program, which come to their ends
 abbrev pub ComesToEnd : Kind → Type 0
@@ -45,10 +45,10 @@ pub record IsKnownAtEnd (x : Subject) (instructions : List Instruction) (functio
 
 -- the font, and a glyph's program as it is looked at
 abbrev pub font_in : Common → Font
-font_in c = font_of c.font.now c.fpgm.now c.prep.now
+font_in c = programs_of c.setting
 
 abbrev pub subject_in : Common → ℕ → GlyphData → Subject
-subject_in c id g = glyph_subject (font_in c) c.known.now id g
+subject_in c id g = glyph_subject (font_in c) c.functions.now id g
 
 -- these are the refused ones of the glyph programs below a number: with those of the others they are those of all
 abbrev pub AreRefusedBelow : Font → List (ℕ × ℕ) → List GlyphData → ℕ → List Refused → Type 0
@@ -57,7 +57,3 @@ AreRefusedBelow font functions glyphs id rs = (others : List Refused) → AreRef
 -- the verdict on the font is that these programs are refused
 abbrev pub AreAllRefused : FontData → List Refused → Type 0
 AreAllRefused d rs = IsVerdict d (judgement_on d rs)
-
--- a refusal that ends the look
-abbrev pub EndsLook : FontData → Refused → Type 0
-EndsLook d r = AreAllRefused d (r ∷ [])

@@ -1,5 +1,5 @@
--- What the look at one program answers.
-use Rattle.std.specs.Prelude.{◌≡◌, ℕ, List, Option, Some}
+-- What the look at one program answers, and what is told of it.
+use Rattle.std.specs.Prelude.{◌≡◌, ℕ, List, [], ◌∷◌, ◌++◌, Option, Some}
 use Rattle.tt_code.specs.Cut.{Instruction}
 use Rattle.tt_code.specs.declared.reason.Reason.{Reason}
 use Rattle.tt_abs.specs.declared.setting.Setting.{Setting}
@@ -9,17 +9,16 @@ use Rattle.tt_abs.specs.Soundness.{IsSafe}
 use Rattle.tt_abs.specs.StateFlow.{FitsLimits, Place}
 use Rattle.tt_cert.specs.Fillings.{IsFilling}
 use Rattle.tt_cert.specs.GoodFamilies.{IsGoodFamily}
+use Rattle.tt_cert.specs.declared.fault.ProgramFault.{ProgramFault}
+use Rattle.tt_cert.specs.declared.fault.ProgramFault.TheVariants.{Refused, OutOfMemory}
 use Rattle.tt_cert.specs.declared.spot.Spot.{Spot}
 use Rattle.tt_find.specs.Found.{IsLeast}
 use Rattle.hintcheck.specs.Programs.{IsCutInto, Subject, program_at}
-use Rattle.hintcheck.specs.declared.look.LookFault.{LookFault}
-use Rattle.hintcheck.specs.declared.look.LookFault.TheVariants.{Refused, OutOfMemory}
 use Rattle.hintcheck.specs.declared.report.Name.{Name}
 use Rattle.hintcheck.specs.declared.report.Refused.{Refused as AnyRefused}
 
--- this is the program that is looked at by this name in this setting
-pub record IsLookedAt (x : Subject) (called : Name) (s : Setting) : Type 0 where
-  pub name : x.name ≡ called
+-- this is the program that is looked at in this setting
+pub record IsLookedAt (x : Subject) (s : Setting) : Type 0 where
   pub cut : IsCutInto x s.main.now
   pub setting : x.setting s.main.now ≡ setting_of s
   pub functions : x.functions ≡ s.start.now
@@ -39,12 +38,12 @@ pub record IsAccepted (x : Subject) (instructions : List Instruction) (family : 
 abbrev pub told_at : Name → Spot → ℕ → Reason → AnyRefused
 told_at called spot offset r = record { program = called; place = record { program = program_at called spot; offset = offset }; reason = r }
 
--- so it is with the refusal that the fault names; want of memory says nothing
-abbrev pub IfRefused : LookFault → (AnyRefused → Type 0) → Type 0
-IfRefused (Refused r) Is = Is r
-IfRefused (OutOfMemory e) Is = Unit {0}
+-- so it is with what is told of a program by this name, where the fault refuses it; want of memory says nothing
+abbrev pub IfRefused : Name → ProgramFault → (AnyRefused → Type 0) → Type 0
+IfRefused called (Refused spot offset r) Is = Is (told_at called spot offset r)
+IfRefused called (OutOfMemory e) Is = Unit {0}
 
--- a growth of memory was refused
-abbrev pub IsWantOfMemory : LookFault → Type 0
-IsWantOfMemory (Refused r) = ⊥
-IsWantOfMemory (OutOfMemory e) = Unit {0}
+-- the fault refuses a program by this name, which stands last in the list
+abbrev pub IsListed : Name → ProgramFault → List AnyRefused → List AnyRefused → Type 0
+IsListed called (Refused spot offset r) old new = new ≡ old ++ told_at called spot offset r ∷ []
+IsListed called (OutOfMemory e) old new = ⊥

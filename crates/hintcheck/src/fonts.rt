@@ -1,23 +1,24 @@
 //! The verdict on a font.
 
-ghost use Rattle.std.specs.Prelude.{◌≡◌, ◌<◌, ◌^◌, [], IfErr, IfOk, length};
+ghost use Rattle.std.specs.Prelude.{◌≡◌, ℕ, ◌<◌, ◌^◌, [], IfErr, IfOk, length};
 ghost use Rattle.tt_abs.specs.Entries.{Rises};
-ghost use Rattle.tt_abs.specs.Settings.{setting_of};
+ghost use Rattle.tt_abs.specs.Settings.{programs_of, setting_of};
 ghost use Rattle.tt_abs.specs.StateFlow.{FunctionsFit};
-ghost use Rattle.tt_code.specs.Fonts.{cvt_setting, font_setting};
+ghost use Rattle.tt_code.specs.Fonts.{cvt_setting as setting_of_cvt_program, font_setting};
 ghost use Rattle.tt_font.specs.Conditions.{TestsWithMemory};
 ghost use Rattle.tt_font.specs.FileFaults.{font_fault};
 ghost use Rattle.tt_font.specs.GlyphParts.{glyph_data};
 ghost use Rattle.tt_font.specs.Reading.{FontData, Reads};
-ghost use Rattle.hintcheck.specs.FontLooks.{AreAllRefused, ComesToEnd, EndsLook, IsFontInRange, IsKnownAtEnd, IsOfSubject, font_in, subject_in};
+ghost use Rattle.hintcheck.specs.FontLooks.{AreAllRefused, ComesToEnd, IsFontInRange, IsKnownAtEnd, IsOfSubject, font_in, subject_in};
 ghost use Rattle.hintcheck.specs.FontPrograms.{AreRefused, IsSafeFont, IsVerdict, cvt_subject, font_of, font_subject};
-ghost use Rattle.hintcheck.specs.Looks.{IfRefused, IsLookedAt};
-ghost use Rattle.hintcheck.specs.Programs.{HasLeastFamily, IsCutInto, IsRefusal, Subject};
+ghost use Rattle.hintcheck.specs.Looks.{IfRefused, IsListed, IsLookedAt};
+ghost use Rattle.hintcheck.specs.Programs.{HasGoodFamily, HasLeastFamily, IsRefusal, Subject};
 
-use crate::look::{LookFault, cut, look};
+use crate::look::{cut, list_refused, look};
 use crate::report::{Name, Refused, Verdict};
 use std::alloc::{AllocError, Global};
-use tt_abs::{Kind, Setting};
+use tt_abs::Setting;
+use tt_cert::ProgramFault;
 use tt_code::Program;
 use tt_find::Finder;
 use tt_font::{Font, FontFault, GlyphPart};
@@ -26,17 +27,16 @@ use tt_font::{Font, FontFault, GlyphPart};
 fn end_functions(
     alloc: Global,
     finder: &mut Finder,
-    name: Name,
     setting: &Setting<'_>,
-) -> Result<Vec<(u16, u32)>, LookFault>
-    requires subject { IsOfSubject name setting.now }
+) -> Result<Vec<(u16, u32)>, ProgramFault>
+    requires subject { IsOfSubject setting.now }
     requires ends { ComesToEnd (setting_of setting.now).kind }
     requires rises { Rises setting.now.start.now }
     requires fits { FunctionsFit (setting_of setting.now) setting.now.start.now }
-    ensures known { (x : Subject) → IsLookedAt x name setting.now → IfOk result (λ functions. IsKnownAtEnd x setting.now.main.now functions.items) }
-    ensures refused { (x : Subject) → IsLookedAt x name setting.now → IfErr result (λ fault. IfRefused fault (IsRefusal x)) }
+    ensures known { (x : Subject) → IsLookedAt x setting.now → IfOk result (λ functions. IsKnownAtEnd x setting.now.main.now functions.items) }
+    ensures refused { (x : Subject) → IsLookedAt x setting.now → IfErr result (λ fault. IfRefused x.name fault (IsRefusal x)) }
 {
-    let certificate = look(alloc, finder, name, setting)?;
+    let certificate = look(alloc, finder, setting)?;
     // An accepted font program or CVT program has a state at its end.
     let functions = certificate.end_functions(setting.main.len()).unwrap();
     let copy = Vec::from_slice(alloc, functions)?;
@@ -44,101 +44,99 @@ fn end_functions(
     Ok(copy)
 }
 
-/// Looks at the font program: the functions that are known at its end.
-fn look_at_font_program(
-    alloc: Global,
-    finder: &mut Finder,
-    font: &Font<'_>,
-    fpgm: &Program<'_>,
-) -> Result<Vec<(u16, u32)>, LookFault>
-    requires { IsCutInto (font_subject font.now) fpgm.now }
-    ensures known { IfOk result (λ functions. IsKnownAtEnd (font_subject font.now) fpgm.now functions.items) }
-    ensures refused { IfErr result (λ fault. IfRefused fault (IsRefusal (font_subject font.now))) }
-{
-    let setting = Setting {
-        limits: font.limits(),
-        cvt: font.cvt_count(),
-        kind: Kind::Font,
-        main: fpgm,
-        font: fpgm,
-        prep: fpgm,
-        start: &[],
-    };
-    end_functions(alloc, finder, Name::Font, &setting)
+/// A font program or a CVT program, and the functions that are known where it ends, by rising number.
+#[derive(Drop)]
+struct Ended<'a> {
+    program: Program<'a>,
+    functions: Vec<(u16, u32)>,
 }
 
-/// Looks at the CVT program, which starts with the functions that are known where the font program ends: those that are known at its own
-/// end.
-fn look_at_cvt_program(
+/// Looks at the font program.
+///
+/// # Errors
+/// `Refused`; `OutOfMemory`.
+fn look_at_font_program<'a>(
     alloc: Global,
     finder: &mut Finder,
-    font: &Font<'_>,
-    fpgm: &Program<'_>,
-    prep: &Program<'_>,
-    functions: &[(u16, u32)],
-) -> Result<Vec<(u16, u32)>, LookFault>
-    requires cut { IsCutInto (cvt_subject font.now fpgm.now functions.now) prep.now }
-    requires rises { Rises functions.now }
-    requires fits { FunctionsFit (cvt_setting (font_of font.now fpgm.now prep.now)) functions.now }
-    ensures known { IfOk result (λ known. IsKnownAtEnd (cvt_subject font.now fpgm.now functions.now) prep.now known.items) }
-    ensures refused { IfErr result (λ fault. IfRefused fault (IsRefusal (cvt_subject font.now fpgm.now functions.now))) }
+    font: &Font<'a>,
+) -> Result<Ended<'a>, ProgramFault>
+    requires { IsFontInRange font.now }
+    ensures known { IfOk result (λ fpgm. IsKnownAtEnd (font_subject font.now) fpgm.program fpgm.functions.items) }
+    ensures refused { IfErr result (λ fault. IfRefused Name.Font fault (IsRefusal (font_subject font.now))) }
 {
-    let setting = Setting {
-        limits: font.limits(),
-        cvt: font.cvt_count(),
-        kind: Kind::Cvt,
-        main: prep,
-        font: fpgm,
-        prep,
-        start: functions,
-    };
-    end_functions(alloc, finder, Name::Cvt, &setting)
+    let program = cut(alloc, font.fpgm())?;
+    let setting = Setting::for_font_program(font.limits(), font.cvt_count(), &program);
+    let functions = end_functions(alloc, finder, &setting)?;
+    Ok(Ended { program, functions })
 }
 
-/// What the glyph programs of a font share: the font, its two other programs, and the functions that are known where the CVT program
-/// ends.
+/// The setting of the CVT program, which starts with the functions that are known where the font program ends.
+fn cvt_setting<'a>(font: &Font<'_>, fpgm: &'a Ended<'_>, program: &'a Program<'_>) -> Setting<'a>
+    ensures setting { setting_of result ≡ setting_of_cvt_program (font_of font.now fpgm.entry.now.program program.entry.now) }
+    ensures programs { programs_of result ≡ font_of font.now fpgm.entry.now.program program.entry.now }
+    ensures main { result.main.now ≡ program.entry.now }
+    ensures start { result.start.now ≡ fpgm.entry.now.functions.items }
+{
+    let setting = Setting::for_font_program(font.limits(), font.cvt_count(), &fpgm.program);
+    setting.for_cvt_program(program, &fpgm.functions)
+}
+
+/// Looks at the CVT program, in a font with this font program.
+///
+/// # Errors
+/// `Refused`; `OutOfMemory`.
+fn look_at_cvt_program<'a>(
+    alloc: Global,
+    finder: &mut Finder,
+    font: &Font<'a>,
+    fpgm: &Ended<'_>,
+) -> Result<Ended<'a>, ProgramFault>
+    requires range { IsFontInRange font.now }
+    requires ended { IsKnownAtEnd (font_subject font.now) fpgm.now.program fpgm.now.functions.items }
+    ensures known { IfOk result (λ prep. IsKnownAtEnd (cvt_subject font.now fpgm.now.program fpgm.now.functions.items) prep.program prep.functions.items) }
+    ensures refused { IfErr result (λ fault. IfRefused Name.Cvt fault (IsRefusal (cvt_subject font.now fpgm.now.program fpgm.now.functions.items))) }
+{
+    let program = cut(alloc, font.prep())?;
+    let setting = cvt_setting(font, fpgm, &program);
+    let functions = end_functions(alloc, finder, &setting)?;
+    Ok(Ended { program, functions })
+}
+
+/// What the glyph programs of a font share: the setting of its CVT program, and the functions that are known where that one ends, by
+/// rising number.
 #[derive(Clone, Copy)]
-struct Common<'a> {
-    font: &'a Font<'a>,
-    fpgm: &'a Program<'a>,
-    prep: &'a Program<'a>,
-    known: &'a [(u16, u32)],
+pub(crate) struct Common<'a> {
+    pub(crate) setting: Setting<'a>,
+    pub(crate) functions: &'a [(u16, u32)],
 }
 
-/// Looks at the program of the glyph with this number, if it has instructions, in a finder's memory, which the finder has again where
-/// memory doesn't run out.
-fn look_at_glyph(
+/// Looks at the program of a glyph, if it has instructions, in a finder's memory, which the finder has again where memory doesn't run
+/// out.
+///
+/// # Errors
+/// `Refused`; `OutOfMemory`.
+pub(crate) fn look_at_glyph(
     alloc: Global,
     finder: &mut Finder,
     common: &Common<'_>,
-    id: u16,
     glyph: &GlyphPart<'_>,
-) -> Result<(), LookFault>
+) -> Result<(), ProgramFault>
     requires few { length glyph.now.program.now < 2 ^ 31 }
-    requires rises { Rises common.now.known.now }
-    requires fits { FunctionsFit (font_setting (font_in common.now)) common.now.known.now }
-    ensures least { IfOk result (λ _. HasLeastFamily (subject_in common.now id (glyph_data glyph.now))) }
-    ensures refused { IfErr result (λ fault. IfRefused fault (IsRefusal (subject_in common.now id (glyph_data glyph.now)))) }
+    requires rises { Rises common.now.functions.now }
+    requires fits { FunctionsFit (font_setting (font_in common.now)) common.now.functions.now }
+    ensures least { (id : ℕ) → IfOk result (λ _. HasLeastFamily (subject_in common.now id (glyph_data glyph.now))) }
+    ensures refused { (id : ℕ) → IfErr result (λ fault. IfRefused (Name.Glyph id) fault (IsRefusal (subject_in common.now id (glyph_data glyph.now)))) }
+    ensures none_good { (id : ℕ) → IfErr result (λ fault. IfRefused (Name.Glyph id) fault (λ _. HasGoodFamily (subject_in common.now id (glyph_data glyph.now)) → ⊥)) }
 {
     // A glyph without instructions: nothing can be refused.
     if glyph.program.is_empty() {
         return Ok(());
     }
-    let name = Name::Glyph(id);
-    let main = cut(alloc, name, glyph.program)?;
-    let setting = Setting {
-        limits: common.font.limits(),
-        cvt: common.font.cvt_count(),
-        kind: Kind::Glyph {
-            points: glyph.points,
-            contours: glyph.contours,
-        },
-        main: &main,
-        font: common.fpgm,
-        prep: common.prep,
-        start: common.known,
-    };
-    let certificate = look(alloc, finder, name, &setting)?;
+    let program = cut(alloc, glyph.program)?;
+    let setting = common
+        .setting
+        .for_glyph_program(glyph.points, glyph.contours, &program, common.functions);
+    let certificate = look(alloc, finder, &setting)?;
     finder.take_back(certificate);
     Ok(())
 }
@@ -147,62 +145,53 @@ fn look_at_glyph(
 fn refused_glyphs(
     alloc: Global,
     finder: &mut Finder,
+    font: &Font<'_>,
     common: &Common<'_>,
 ) -> Result<Vec<Refused>, AllocError>
-    requires range { IsFontInRange common.now.font.now }
-    requires rises { Rises common.now.known.now }
-    requires fits { FunctionsFit (font_setting (font_in common.now)) common.now.known.now }
-    ensures { IfOk result (λ refused. AreRefused (font_in common.now) common.now.known.now 0 common.now.font.now.glyphs refused.items) }
+    requires range { IsFontInRange font.now }
+    requires rises { Rises common.now.functions.now }
+    requires fits { FunctionsFit (font_setting (font_in common.now)) common.now.functions.now }
+    ensures { IfOk result (λ refused. AreRefused (font_in common.now) common.now.functions.now 0 font.now.glyphs refused.items) }
 {
     let mut refused = Vec::new(alloc);
-    for id in 0..common.font.glyph_count() {
-        let glyph = common.font.glyph(id).unwrap();
-        match look_at_glyph(alloc, finder, common, id, &glyph) {
+    for id in 0..font.glyph_count() {
+        let glyph = font.glyph(id).unwrap();
+        match look_at_glyph(alloc, finder, common, &glyph) {
             Ok(()) => {}
-            Err(LookFault::Refused(refusal)) => refused.push(refusal)?,
-            Err(LookFault::OutOfMemory(error)) => return Err(error),
+            Err(fault) => list_refused(&mut refused, Name::Glyph(id), fault)?,
         }
     }
     Ok(refused)
 }
 
-/// Looks at the programs of a font, one after the other, each in the memory of those before: the refused glyph programs.
-///
-/// # Errors
-/// `Refused` for the font program or the CVT program, which ends the look; `OutOfMemory`.
-fn look_at_all(alloc: Global, font: &Font<'_>) -> Result<Vec<Refused>, LookFault>
-    requires { IsFontInRange font.now }
-    ensures all { IfOk result (λ refused. AreAllRefused font.now refused.items) }
-    ensures ended { IfErr result (λ fault. IfRefused fault (EndsLook font.now)) }
+/// The program of this name as the only refused one: the fault refuses it, and ends the look.
+fn refused_alone(alloc: Global, name: Name, fault: ProgramFault) -> Result<Vec<Refused>, AllocError>
+    ensures { IfOk result (λ refused. IsListed name fault [] refused.items) }
 {
-    let mut finder = Finder::new(alloc);
-    let fpgm = cut(alloc, Name::Font, font.fpgm())?;
-    let functions = look_at_font_program(alloc, &mut finder, font, &fpgm)?;
-    let prep = cut(alloc, Name::Cvt, font.prep())?;
-    let known = look_at_cvt_program(alloc, &mut finder, font, &fpgm, &prep, &functions)?;
-    let common = Common {
-        font,
-        fpgm: &fpgm,
-        prep: &prep,
-        known: &known,
-    };
-    Ok(refused_glyphs(alloc, &mut finder, &common)?)
+    let mut refused = Vec::new(alloc);
+    list_refused(&mut refused, name, fault)?;
+    Ok(refused)
 }
 
-/// The refused programs of a font, in their order.
+/// Looks at the programs of a font, one after the other, each in the memory of those before: the refused ones, in their order.
 fn refused_programs(alloc: Global, font: &Font<'_>) -> Result<Vec<Refused>, AllocError>
     requires { IsFontInRange font.now }
     ensures { IfOk result (λ refused. AreAllRefused font.now refused.items) }
 {
-    match look_at_all(alloc, font) {
-        Ok(refused) => Ok(refused),
-        Err(LookFault::Refused(refusal)) => {
-            let mut refused = Vec::new(alloc);
-            refused.push(refusal)?;
-            Ok(refused)
-        }
-        Err(LookFault::OutOfMemory(error)) => Err(error),
-    }
+    let mut finder = Finder::new(alloc);
+    let fpgm = match look_at_font_program(alloc, &mut finder, font) {
+        Ok(fpgm) => fpgm,
+        Err(fault) => return refused_alone(alloc, Name::Font, fault),
+    };
+    let prep = match look_at_cvt_program(alloc, &mut finder, font, &fpgm) {
+        Ok(prep) => prep,
+        Err(fault) => return refused_alone(alloc, Name::Cvt, fault),
+    };
+    let common = Common {
+        setting: cvt_setting(font, &fpgm, &prep.program),
+        functions: &prep.functions,
+    };
+    refused_glyphs(alloc, &mut finder, font, &common)
 }
 
 /// The verdict on the programs of a font file: on the font program, then on the CVT program, then on each glyph program. The CVT program

@@ -2,30 +2,20 @@
 
 ghost use Rattle.std.specs.Prelude.{◌≡◌, ◌≤◌, ◌<◌, ◌^◌, ◌⊎◌, ◌↔◌, [], All, IfErr, IfOk, None, OnOk, length};
 ghost use Rattle.hintcheck.specs.FontPrograms.{IsSafeGlyph, font_of, glyph_subject, one_glyph_font};
-ghost use Rattle.hintcheck.specs.Judging.{IsAtFault, IsFine, IsMemory};
-ghost use Rattle.hintcheck.specs.Looks.{IfRefused};
+ghost use Rattle.hintcheck.specs.Judging.{IsJudged, IsMemory, font_around};
 ghost use Rattle.hintcheck.specs.Programs.{HasGoodFamily, IsRefusal};
 ghost use Rattle.tt_font.specs.Reading.{GlyphData};
 ghost use Rattle.tt_font.specs.Conditions.{maxp_fault};
+ghost use Rattle.tt_font.specs.GlyphParts.{glyph_data};
 
-use crate::look::{LookFault, cut, look};
+use crate::fonts::{Common, look_at_glyph};
+use crate::look::list_refused;
 use crate::report::{Name, Refused, Verdict};
 use std::alloc::{AllocError, Global};
-use tt_abs::{Kind, Setting};
+use tt_abs::Setting;
 use tt_code::{Limits, Program};
 use tt_find::Finder;
-use tt_font::{FontFault, read_maxp};
-
-/// What a glyph program is checked against, in a font whose font program and CVT program are empty.
-#[derive(Clone, Copy)]
-struct Glyph {
-    limits: Limits,
-    /// How many control values the font has.
-    cvt: u16,
-    /// How many points the glyph has, without the four phantom points.
-    points: u16,
-    contours: u16,
-}
+use tt_font::{FontFault, GlyphPart, read_maxp};
 
 /// The program without instructions.
 fn empty_program(alloc: Global) -> Result<Program<'static>, AllocError>
@@ -38,48 +28,27 @@ fn empty_program(alloc: Global) -> Result<Program<'static>, AllocError>
     }
 }
 
-/// Looks at the program of the glyph `g0`.
-fn look_at(alloc: Global, glyph: &Glyph, program: &[u8]) -> Result<(), LookFault>
-    requires { length program.now < 2 ^ 31 }
-    ensures fine { IfOk result (λ _. IsFine glyph.now program.now) }
-    ensures at_fault { IfErr result (λ fault. IfRefused fault (IsAtFault glyph.now program.now)) }
-{
-    let name = Name::Glyph(0);
-    let main = cut(alloc, name, program)?;
-    let empty = empty_program(alloc)?;
-    let setting = Setting {
-        limits: glyph.limits,
-        cvt: u32::from(glyph.cvt),
-        kind: Kind::Glyph {
-            points: glyph.points,
-            contours: glyph.contours,
-        },
-        main: &main,
-        font: &empty,
-        prep: &empty,
-        start: &[],
-    };
-    let mut finder = Finder::new(alloc);
-    look(alloc, &mut finder, name, &setting)?;
-    Ok(())
-}
-
-/// The refused ones of the only program.
+/// The refused ones of the only program, that of the glyph `g0` in a font whose font program and CVT program are empty.
 fn refused_programs(
     alloc: Global,
-    glyph: &Glyph,
-    program: &[u8],
+    limits: Limits,
+    cvt: u16,
+    glyph: &GlyphPart<'_>,
 ) -> Result<Vec<Refused>, AllocError>
-    requires { length program.now < 2 ^ 31 }
-    ensures fine { IfOk result (λ refused. refused.items ≡ [] → IsFine glyph.now program.now) }
-    ensures at_fault { IfOk result (λ refused. All (IsAtFault glyph.now program.now) refused.items) }
-    ensures one { IfOk result (λ refused. length refused.items ≤ 1) }
+    requires { length glyph.now.program.now < 2 ^ 31 }
+    ensures { IfOk result (λ refused. IsJudged (glyph_subject (font_around limits cvt) [] 0 (glyph_data glyph.now)) refused.items) }
 {
+    let empty = empty_program(alloc)?;
+    let font_setting = Setting::for_font_program(limits, u32::from(cvt), &empty);
+    let common = Common {
+        setting: font_setting.for_cvt_program(&empty, &[]),
+        functions: &[],
+    };
+    let mut finder = Finder::new(alloc);
     let mut refused = Vec::new(alloc);
-    match look_at(alloc, glyph, program) {
+    match look_at_glyph(alloc, &mut finder, &common, glyph) {
         Ok(()) => {}
-        Err(LookFault::Refused(refusal)) => refused.push(refusal)?,
-        Err(LookFault::OutOfMemory(error)) => return Err(error),
+        Err(fault) => list_refused(&mut refused, Name::Glyph(0), fault)?,
     }
     Ok(refused)
 }
@@ -110,12 +79,11 @@ pub fn bare(
     ensures faults { IfErr result (λ e. (maxp_fault maxp.now ≡ Some e) ⊎ (IsMemory e × (maxp_fault maxp.now ≡ None))) }
 {
     let limits = read_maxp(maxp)?;
-    let glyph = Glyph {
-        limits,
-        cvt,
+    let glyph = GlyphPart {
         points,
         contours,
+        program,
     };
-    let refused = refused_programs(alloc, &glyph, program)?;
+    let refused = refused_programs(alloc, limits, cvt, &glyph)?;
     Ok(Verdict::new(1, refused))
 }

@@ -1,5 +1,5 @@
 -- Where the code's moves lead.
-use Rattle.std.specs.Prelude.{◌≡◌, ℕ, ◌+◌, List, [], ◌∷◌, Ok, Err}
+use Rattle.std.specs.Prelude.{◌≡◌, ℕ, ◌+◌, List, [], ◌∷◌, Ok, Err, map}
 use Rattle.tt_code.specs.Refusals.{Tested}
 use Rattle.tt_code.specs.Settings.{body_offset}
 use Rattle.tt_code.specs.declared.machine.Frame.{Frame}
@@ -17,7 +17,7 @@ use Rattle.tt_abs.specs.declared.state.State.{State}
 use Rattle.tt_abs.specs.Cells.{Abstract}
 use Rattle.tt_abs.specs.Settings.{setting_of, frames_of}
 use Rattle.tt_abs.specs.States.{abstract_of}
-use Rattle.tt_abs.specs.Transfers.{Next, one_way, controlled_cells, outcome_on_cells}
+use Rattle.tt_abs.specs.Transfers.{Next, controlled_cells, outcome_on_cells}
 
 -- the calls behind a move, the innermost first
 abbrev pub frames_behind : List Frame → Move → List Frame
@@ -37,10 +37,18 @@ offset_behind (f ∷ fs) NextTurn = body_offset f.body
 offset_behind [] Return = 0
 offset_behind (f ∷ fs) Return = f.call + 1
 
+-- the ways, one after the other
+abbrev pub ways_of : Moves → List Move
+ways_of (moves.One way) = way ∷ []
+ways_of (moves.Two m n) = To m ∷ To n ∷ []
+
+-- the place to which a way leads, with the state
+abbrev pub next_by : List Frame → Abstract → Move → Next
+next_by fs a way = record { frames = frames_behind fs way; offset = offset_behind fs way; state = a }
+
 -- the places to which the ways lead, with the state
 abbrev pub nexts_of : List Frame → Moves → Abstract → List Next
-nexts_of fs (moves.One move) a = one_way (frames_behind fs move) (offset_behind fs move) a
-nexts_of fs (moves.Two m n) a = record { frames = fs; offset = m; state = a } ∷ one_way fs n a
+nexts_of fs moves a = map (next_by fs a) (ways_of moves)
 
 -- What the code's settings, points and states say of an instruction at its place.
 

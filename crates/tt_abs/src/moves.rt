@@ -1,10 +1,10 @@
 //! Where a program goes on.
 
-ghost use Rattle.std.specs.Prelude.{◌≡◌, List};
+ghost use Rattle.std.specs.Prelude.{◌≡◌, List, Some, slice_get};
 ghost use Rattle.tt_code.specs.declared.machine.Frame.{Frame as AnyFrame};
 ghost use Rattle.tt_abs.specs.Cells.{Abstract};
 ghost use Rattle.tt_abs.specs.Transfers.{two_ways};
-ghost use Rattle.tt_abs.specs.Moves.{nexts_of};
+ghost use Rattle.tt_abs.specs.Moves.{nexts_of, ways_of};
 
 use tt_code::Frame;
 
@@ -21,7 +21,7 @@ pub enum Move {
     Return,
 }
 
-/// The ways that a program may go on, all with one state.
+/// The ways that a program may go on, all with one state: a short list, which is read by `first` and `get`.
 #[derive(Clone, Copy, Debug, PartialEq, Eq)]
 pub enum Moves {
     One(Move),
@@ -30,6 +30,27 @@ pub enum Moves {
 }
 
 impl Moves {
+    /// The first of them.
+    pub fn first(&self) -> Move
+        ensures { slice_get (ways_of self.now) 0 ≡ Some result }
+    {
+        match *self {
+            Moves::One(way) => way,
+            Moves::Two(offset, _) => Move::To(offset),
+        }
+    }
+
+    /// The one that has this number, from 0 on, if they are so many.
+    pub fn get(&self, index: usize) -> Option<Move>
+        ensures { result ≡ slice_get (ways_of self.now) index }
+    {
+        match *self {
+            Moves::Two(_, offset) if index == 1 => Some(Move::To(offset)),
+            _ if index == 0 => Some(self.first()),
+            _ => None,
+        }
+    }
+
     /// The two ways to two offsets; one where they are the same.
     pub(crate) fn two(one: u32, other: u32) -> Moves
         ensures { (fs : List AnyFrame) (a : Abstract) → two_ways fs one other a ≡ nexts_of fs result a }

@@ -1,8 +1,11 @@
 -- What the check of one point says.
-use Rattle.std.specs.Prelude.{◌≡◌, ◌↔◌, ℕ, ◌+◌, ◌<◌, Option, Some, None, List, [], ◌∷◌, true, false, IsTrue, Result, Ok, Err, IfOk, IfErr, length, reverse, slice_get, zero, suc}
+use Rattle.std.specs.Prelude.{◌≡◌, ◌↔◌, ℕ, ◌+◌, ◌<◌, Option, Some, None, List, [], ◌∷◌, true, false, IsTrue, Result, Ok, Err, IfOk, IfErr, length, map, reverse, slice_get, zero, suc}
 use Rattle.std.specs.Borrow.{Bor}
 use Rattle.std.proofs.Common.{refl, sym, ◌∙◌, ap, subst, arith, inl, inr}
+use Rattle.std.specs.Option.{option_map}
+use Rattle.std.proofs.lemmas.Bool.{cases_lt}
 use Rattle.std.proofs.lemmas.List.{reverse-reverse}
+use Rattle.std.proofs.lemmas.Option.{slice_get-map}
 use Rattle.tt_code.specs.Settings.{Setting, is_main_end}
 use Rattle.tt_code.specs.declared.machine.Frame.{Frame}
 use Rattle.tt_code.specs.declared.reason.Reason.{Reason}
@@ -14,7 +17,7 @@ use Rattle.tt_abs.specs.declared.moves.Moves.{Moves}
 use Rattle.tt_abs.specs.declared.moves.Moves.TheVariants as moves
 use Rattle.tt_abs.specs.Cells.{Abstract}
 use Rattle.tt_abs.specs.Families.{CoversAt}
-use Rattle.tt_abs.specs.Moves.{frames_behind, offset_behind, nexts_of}
+use Rattle.tt_abs.specs.Moves.{frames_behind, next_by, nexts_of, offset_behind, ways_of}
 use Rattle.tt_abs.specs.StateFlow.{Place, GivesState}
 use Rattle.tt_abs.specs.States.{abstract_of, state_order}
 use Rattle.tt_abs.specs.Transfers.{Next, outcome_on_cells}
@@ -22,9 +25,9 @@ use Rattle.tt_abs.proofs.StateParts.{one_state}
 use Rattle.tt_cert.specs.Checks.{AreCovered, AreMet, BreaksAt, IsFirstGap, IsGap, IsMet, IsSoundAt, Names, NamesAt, place_of_next, told_offset, stores, refused, leaves}
 use Rattle.tt_cert.specs.GoodFamilies.{IsStoredWithin}
 use Rattle.tt_cert.specs.Spots.{spot_of}
-use Rattle.tt_cert.specs.Walks.{AreMetBy, IsAfter, IsLeftOut, IsMetBy, IsPassed, met_both}
-use Rattle.tt_cert.specs.declared.checking.CheckFault.{CheckFault}
-use Rattle.tt_cert.specs.declared.checking.CheckFault.TheVariants.{Refused, OutOfMemory}
+use Rattle.tt_cert.specs.Walks.{AreMetBy, IsAfter, IsLeftOut, IsMetBy, IsNextState, IsPassed, met_both}
+use Rattle.tt_cert.specs.declared.fault.ProgramFault.{ProgramFault}
+use Rattle.tt_cert.specs.declared.fault.ProgramFault.TheVariants.{Refused, OutOfMemory}
 use Rattle.tt_cert.specs.declared.meeting.Met.{Met}
 use Rattle.tt_cert.specs.declared.meeting.Met.TheVariants as met
 
@@ -50,7 +53,7 @@ gap_same family L L' q t f MissingPoint (none, not) = (none, λ may. not (f may)
 gap_same family L L' q t f NotCovered gap = gap
 gap_same family L L' q t f _ gap = absurd gap
 
-pub named_gap_same : (family : Place → Option State) (L L' : Type 0) (q : Place) (t : State) → (L' → L) → (fault : CheckFault) → NamesAt q (IsGap family L q t) fault
+pub named_gap_same : (family : Place → Option State) (L L' : Type 0) (q : Place) (t : State) → (L' → L) → (fault : ProgramFault) → NamesAt q (IsGap family L q t) fault
     → NamesAt q (IsGap family L' q t) fault
 named_gap_same family L L' q t f (Refused spot offset r) (a, b, gap) = (a, b, gap_same family L L' q t f r gap)
 named_gap_same family L L' q t f (OutOfMemory e) h = tt
@@ -68,7 +71,7 @@ leads_elsewhere [] Return after other forward (same, is) = let lt = forward 0 is
 leads_elsewhere (f ∷ fs) Return after other forward (same, is) = let long = ap length same in omega arith
 
 -- where no state may be left out, in other words for the same place
-module _ (family : Place → Option State) (L : Type 0) (next : Option (ℕ × ℕ × Bor State)) (q q' : Place) (t : State) (r : Result Met CheckFault) (same : q ≡ q') where
+module _ (family : Place → Option State) (L : Type 0) (next : Option (ℕ × ℕ × Bor State)) (q q' : Place) (t : State) (r : Result Met ProgramFault) (same : q ≡ q') where
   pub elsewhere_met : IfOk r (IsMetBy family (IsTrue false) next q t) → IfOk r (IsMetBy family L next q' t)
   elsewhere_met h =
       let A : Place → Type 0 = λ x. IfOk r (IsMetBy family L next x t) in
@@ -81,6 +84,12 @@ module _ (family : Place → Option State) (L : Type 0) (next : Option (ℕ × �
 
 -- At all places that come next.
 
+below_none : (ns : List Next) (k i : ℕ) (n : Next) → slice_get ns k ≡ None → slice_get ns i ≡ Some n → i < k
+below_none [] k i n none e = absurd (cc)
+below_none (x ∷ xs) zero i n none e = absurd (cc)
+below_none (x ∷ xs) (suc k) zero n none e = omega arith
+below_none (x ∷ xs) (suc k) (suc i) n none e = let lt = below_none xs k i n none e in omega arith
+
 module _ (family : Place → Option State) (fs : List Frame) (after : Option ℕ) (next : Option (ℕ × ℕ × Bor State)) (t : State) where
   abbrev IsMetAt : Place → Met → Type 0
   IsMetAt q m = IsMetBy family (IsAfter fs after q) next q t m
@@ -90,131 +99,93 @@ module _ (family : Place → Option State) (fs : List Frame) (after : Option ℕ
   is_met q met.Listed covered = inl covered
   is_met q met.Added (none, may) = inr (none, may)
 
-  one_of_one : (P : Place → Type 0) (n : Next) → P (place_of_next n) → (i : ℕ) (x : Next) → slice_get (n ∷ []) i ≡ Some x → P (place_of_next x)
-  one_of_one P n h zero x e = let same : n ≡ x = cc in let C : Next → Type 0 = λ y. P (place_of_next y) in subst C same h
-  one_of_one P n h (suc i) x e = absurd (cc)
+  -- of the places with the numbers below a bound
+  abbrev AreAllBelow : (Next → Type 0) → List Next → ℕ → Type 0
+  AreAllBelow P ns k = (i : ℕ) (n : Next) → i < k → slice_get ns i ≡ Some n → P n
 
-  one_of_two : (P : Place → Type 0) (n m : Next) → P (place_of_next n) → P (place_of_next m) → (i : ℕ) (x : Next) → slice_get (n ∷ m ∷ []) i ≡ Some x → P (place_of_next x)
-  one_of_two P n m h k zero x e = let same : n ≡ x = cc in let C : Next → Type 0 = λ y. P (place_of_next y) in subst C same h
-  one_of_two P n m h k (suc i) x e = one_of_one P m k i x e
+  abbrev IsCoveredAt : Next → Type 0
+  IsCoveredAt n = CoversAt state_order family (place_of_next n) t
 
-  met_one : (n : Next) (m : Met) → IsMetAt (place_of_next n) m → AreMetBy family fs after next (n ∷ []) t m
-  met_one n met.Next (covered, same) = (one_of_one (λ q. CoversAt state_order family q t) n covered, same)
-  met_one n met.Listed covered = one_of_one (λ q. CoversAt state_order family q t) n covered
-  met_one n met.Added (none, may) = (
-    one_of_one (λ q. IsMet family (IsAfter fs after q) q t) n (inr (none, may)),
-    record { index = 0; next = n; found = refl; just_after = may; none = none },
-  )
+  abbrev IsMetThere : Next → Type 0
+  IsMetThere n = IsMet family (IsAfter fs after (place_of_next n)) (place_of_next n) t
 
-  module _ (n m : Next) where
-    first_added : IsMetAt (place_of_next n) met.Added → (k : Met) → IsMetAt (place_of_next m) k → AreMetBy family fs after next (n ∷ m ∷ []) t met.Added
-    first_added (none, may) k second = (
-      one_of_two (λ q. IsMet family (IsAfter fs after q) q t) n m (inr (none, may)) (is_met (place_of_next m) k second),
-      record { index = 0; next = n; found = refl; just_after = may; none = none },
-    )
+  -- how a state is met at these places
+  abbrev pub AreMetBelow : List Next → ℕ → Met → Type 0
+  AreMetBelow ns k met.Next = AreAllBelow IsCoveredAt ns k × IsNextState next t
+  AreMetBelow ns k met.Listed = AreAllBelow IsCoveredAt ns k
+  AreMetBelow ns k met.Added = AreAllBelow IsMetThere ns k × IsLeftOut family fs after ns
 
-    second_added : (k : Met) → IsMetAt (place_of_next n) k → IsMetAt (place_of_next m) met.Added → AreMetBy family fs after next (n ∷ m ∷ []) t met.Added
-    second_added k first (none, may) = (
-      one_of_two (λ q. IsMet family (IsAfter fs after q) q t) n m (is_met (place_of_next n) k first) (inr (none, may)),
-      record { index = 1; next = m; found = refl; just_after = may; none = none },
-    )
+  module _ (ns : List Next) (k : ℕ) (n : Next) (at : slice_get ns k ≡ Some n) where
+    one_more : (P : Next → Type 0) → P n → AreAllBelow P ns k → AreAllBelow P ns (k + 1)
+    one_more P here before i x lt e = elim (cases_lt i k) [
+      | inl lower ↦ before i x lower e
+      | inr higher ↦
+          let same : i ≡ k = omega arith in
+          let it : Some n ≡ Some x = sym at ∙ ap (slice_get ns) (sym same) ∙ e in
+          let is : n ≡ x = cc in subst P is here
+    ]
 
-    both_covered : CoversAt state_order family (place_of_next n) t → CoversAt state_order family (place_of_next m) t → AreCovered family (n ∷ m ∷ []) t
-    both_covered first second = one_of_two (λ q. CoversAt state_order family q t) n m first second
+    added_now : IsMetAt (place_of_next n) met.Added → AreAllBelow IsMetThere ns k → AreMetBelow ns (k + 1) met.Added
+    added_now (none, may) before = (one_more IsMetThere (inr (none, may)) before, record { index = k; next = n; found = at; just_after = may; none = none })
 
-    met_two : (j k : Met) → IsMetAt (place_of_next n) j → IsMetAt (place_of_next m) k → AreMetBy family fs after next (n ∷ m ∷ []) t (met_both j k)
-    met_two met.Added k first second = first_added first k second
-    met_two met.Next met.Added first second = second_added met.Next first second
-    met_two met.Listed met.Added first second = second_added met.Listed first second
-    met_two met.Next met.Next first second = (both_covered first.0 second.0, first.1)
-    met_two met.Next met.Listed first second = (both_covered first.0 second, first.1)
-    met_two met.Listed met.Next first second = both_covered first second.0
-    met_two met.Listed met.Listed first second = both_covered first second
+    pub met_more : (j m : Met) → AreMetBelow ns k j → IsMetAt (place_of_next n) m → AreMetBelow ns (k + 1) (met_both j m)
+    met_more met.Added m (before, left) here = (one_more IsMetThere (is_met (place_of_next n) m here) before, left)
+    met_more met.Next met.Added (covered, same) here = added_now here (λ i x lt e. inl (covered i x lt e))
+    met_more met.Listed met.Added covered here = added_now here (λ i x lt e. inl (covered i x lt e))
+    met_more met.Next met.Next first second = (one_more IsCoveredAt second.0 first.0, first.1)
+    met_more met.Next met.Listed first second = (one_more IsCoveredAt second first.0, first.1)
+    met_more met.Listed met.Next first second = one_more IsCoveredAt second.0 first
+    met_more met.Listed met.Listed first second = one_more IsCoveredAt second first
 
-  gap_head : (n : Next) (rest : List Next) (fault : CheckFault) → NamesAt (place_of_next n) (IsGap family (IsAfter fs after (place_of_next n)) (place_of_next n) t) fault
-      → Names (IsFirstGap family (IsAfter fs after) (n ∷ rest) t) fault
-  gap_head n rest (Refused spot offset r) h = (
-    place_of_next n,
-    h.0,
-    h.1,
-    record {
-      index = 0;
-      here = record { next = n; found = refl; place = refl; gap = h.2 };
-      before = λ i m lt e. absurd (omega arith);
-    },
-  )
-  gap_head n rest (OutOfMemory error) h = tt
+    -- it isn't met at the next one
+    pub gap_next : AreAllBelow IsMetThere ns k → (fault : ProgramFault) → NamesAt (place_of_next n) (IsGap family (IsAfter fs after (place_of_next n)) (place_of_next n) t) fault
+        → Names (IsFirstGap family (IsAfter fs after) ns t) fault
+    gap_next before (Refused spot offset r) h =
+        (place_of_next n, h.0, h.1, record { index = k; here = record { next = n; found = at; place = refl; gap = h.2 }; before = before })
+    gap_next before (OutOfMemory error) h = tt
 
-  gap_second : (n m : Next) (k : Met) (fault : CheckFault) → IsMetAt (place_of_next n) k → NamesAt (place_of_next m) (IsGap family (IsAfter fs after (place_of_next m)) (place_of_next m) t) fault
-      → Names (IsFirstGap family (IsAfter fs after) (n ∷ m ∷ []) t) fault
-  gap_second n m k (Refused spot offset r) first h = (
-    place_of_next m,
-    h.0,
-    h.1,
-    record {
-      index = 1;
-      here = record { next = m; found = refl; place = refl; gap = h.2 };
-      before = λ i x lt e. let zero_is : i ≡ 0 = omega arith in
-          one_of_one (λ q. IsMet family (IsAfter fs after q) q t) n (is_met (place_of_next n) k first) 0 x (ap (λ k. slice_get (n ∷ []) k) (sym zero_is) ∙ at_head i x lt e);
-    },
-  )
-    where
-      at_head : (i : ℕ) (x : Next) → i < 1 → slice_get (n ∷ m ∷ []) i ≡ Some x → slice_get (n ∷ []) i ≡ Some x
-      at_head zero x lt e = e
-      at_head (suc i) x lt e = absurd (omega arith)
-  gap_second n m k (OutOfMemory error) first h = tt
+  none_below : (P : Next → Type 0) (ns : List Next) → AreAllBelow P ns 0
+  none_below P ns i n lt e = absurd (omega arith)
 
-  module _ (ways : Moves) where
-    pub one_met : (way : Move) (r : Result Met CheckFault) → ways ≡ moves.One way → IfOk r (IsMetAt (frames_behind fs way, offset_behind fs way))
-        → IfOk r (AreMetBy family fs after next (nexts_of fs ways (abstract_of t)) t)
-    one_met way r is h =
-        let A : Moves → Type 0 = λ x. IfOk r (AreMetBy family fs after next (nexts_of fs x (abstract_of t)) t) in
-        subst A (sym is) (ok_map r _ _ (met_one (record { frames = frames_behind fs way; offset = offset_behind fs way; state = abstract_of t })) h)
+  pub none_all_below : (ns : List Next) → AreAllBelow IsMetThere ns 0
+  none_all_below = none_below IsMetThere
 
-    pub one_gap : (way : Move) (r : Result Met CheckFault) → ways ≡ moves.One way
-        → IfErr r (NamesAt (frames_behind fs way, offset_behind fs way) (IsGap family (IsAfter fs after (frames_behind fs way, offset_behind fs way)) (frames_behind fs way, offset_behind fs way) t))
-        → IfErr r (Names (IsFirstGap family (IsAfter fs after) (nexts_of fs ways (abstract_of t)) t))
-    one_gap way r is h =
-        let A : Moves → Type 0 = λ x. IfErr r (Names (IsFirstGap family (IsAfter fs after) (nexts_of fs x (abstract_of t)) t)) in
-        subst A (sym is) (err_map r _ _ (gap_head (record { frames = frames_behind fs way; offset = offset_behind fs way; state = abstract_of t }) []) h)
+  pub met_first : (ns : List Next) (n : Next) → slice_get ns 0 ≡ Some n → (m : Met) → IsMetAt (place_of_next n) m → AreMetBelow ns 1 m
+  met_first ns n at met.Next (covered, same) = (one_more ns 0 n at IsCoveredAt covered (none_below IsCoveredAt ns), same)
+  met_first ns n at met.Listed covered = one_more ns 0 n at IsCoveredAt covered (none_below IsCoveredAt ns)
+  met_first ns n at met.Added here = added_now ns 0 n at here (none_below IsMetThere ns)
 
-    abbrev at_offset : ℕ → Next
-    at_offset n = record { frames = fs; offset = n; state = abstract_of t }
+  pub met_below : (ns : List Next) (k : ℕ) (m : Met) → AreMetBelow ns k m → AreAllBelow IsMetThere ns k
+  met_below ns k met.Next (covered, same) = λ i n lt e. inl (covered i n lt e)
+  met_below ns k met.Listed covered = λ i n lt e. inl (covered i n lt e)
+  met_below ns k met.Added (before, left) = before
 
-    -- at an offset of the same calls
-    pub first_gap : (m n : ℕ) (fault : CheckFault) → ways ≡ moves.Two m n → NamesAt (fs, m) (IsGap family (after ≡ Some m) (fs, m) t) fault
-        → Names (IsFirstGap family (IsAfter fs after) (nexts_of fs ways (abstract_of t)) t) fault
-    first_gap m n fault is h =
-        let A : Moves → Type 0 = λ x. Names (IsFirstGap family (IsAfter fs after) (nexts_of fs x (abstract_of t)) t) fault in
-        subst A (sym is) (gap_head (at_offset m) (at_offset n ∷ []) fault (named_gap_same family (after ≡ Some m) (IsAfter fs after (fs, m)) (fs, m) t (λ h. h.1) fault h))
+  -- after the last of them
+  pub met_all : (ns : List Next) (k : ℕ) → slice_get ns k ≡ None → (m : Met) → AreMetBelow ns k m → AreMetBy family fs after next ns t m
+  met_all ns k none met.Next (covered, same) = ((λ i n e. covered i n (below_none ns k i n none e) e), same)
+  met_all ns k none met.Listed covered = λ i n e. covered i n (below_none ns k i n none e) e
+  met_all ns k none met.Added (before, left) = ((λ i n e. before i n (below_none ns k i n none e) e), left)
 
-    here_met : (n : ℕ) (k : Met) → IsMetBy family (after ≡ Some n) next (fs, n) t k → IsMetAt (fs, n) k
-    here_met n k h = met_by_same family (after ≡ Some n) (IsAfter fs after (fs, n)) next (fs, n) t (λ e. (refl, e)) k h
+-- where a way leads
+pub next_found : (fs : List Frame) (ways : Moves) (a : Abstract) (k : ℕ) (way : Move) → slice_get (ways_of ways) k ≡ Some way → slice_get (nexts_of fs ways a) k ≡ Some (next_by fs a way)
+next_found fs ways a k way e = slice_get-map (next_by fs a) (ways_of ways) k ∙ ap (option_map (next_by fs a)) e
 
-    pub two_met : (m n : ℕ) (j k : Met) → ways ≡ moves.Two m n → IsMetBy family (after ≡ Some m) next (fs, m) t j → IsMetBy family (after ≡ Some n) next (fs, n) t k
-        → AreMetBy family fs after next (nexts_of fs ways (abstract_of t)) t (met_both j k)
-    two_met m n j k is first second =
-        let A : Moves → Type 0 = λ x. AreMetBy family fs after next (nexts_of fs x (abstract_of t)) t (met_both j k) in
-        subst A (sym is) (met_two (at_offset m) (at_offset n) j k (here_met m j first) (here_met n k second))
+pub no_next : (fs : List Frame) (ways : Moves) (a : Abstract) (k : ℕ) → slice_get (ways_of ways) k ≡ None → slice_get (nexts_of fs ways a) k ≡ None
+no_next fs ways a k e = slice_get-map (next_by fs a) (ways_of ways) k ∙ ap (option_map (next_by fs a)) e
 
-    pub second_gap : (m n : ℕ) (k : Met) (fault : CheckFault) → ways ≡ moves.Two m n → IsMetBy family (after ≡ Some m) next (fs, m) t k
-        → NamesAt (fs, n) (IsGap family (after ≡ Some n) (fs, n) t) fault → Names (IsFirstGap family (IsAfter fs after) (nexts_of fs ways (abstract_of t)) t) fault
-    second_gap m n k fault is first h =
-        let A : Moves → Type 0 = λ x. Names (IsFirstGap family (IsAfter fs after) (nexts_of fs x (abstract_of t)) t) fault in
-        subst A (sym is) (gap_second (at_offset m) (at_offset n) k fault (here_met m k first)
-        (named_gap_same family (after ≡ Some n) (IsAfter fs after (fs, n)) (fs, n) t (λ h. h.1) fault h))
+map_found : {A B : Type 0} (f : A → B) (xs : List A) (i : ℕ) (y : B) → slice_get (map f xs) i ≡ Some y → (x : A) × (slice_get xs i ≡ Some x) × (f x ≡ y)
+map_found f [] i y e = absurd (cc)
+map_found f (x ∷ xs) zero y e = (x, refl, cc)
+map_found f (x ∷ xs) (suc i) y e = map_found f xs i y e
 
 -- each next abstract state of moves is the one
 pub same_states : (fs : List Frame) (ways : Moves) (b : Abstract) (i : ℕ) (n : Next) → slice_get (nexts_of fs ways b) i ≡ Some n → b ≡ n.state
-same_states fs (moves.One way) b zero n e = let same : record { frames = frames_behind fs way; offset = offset_behind fs way; state = b } ≡ n = cc in ap (λ (x : Next). x.state) same
-same_states fs (moves.One way) b (suc i) n e = absurd (cc)
-same_states fs (moves.Two k l) b zero n e = let same : record { frames = fs; offset = k; state = b } ≡ n = cc in ap (λ (x : Next). x.state) same
-same_states fs (moves.Two k l) b (suc zero) n e = let same : record { frames = fs; offset = l; state = b } ≡ n = cc in ap (λ (x : Next). x.state) same
-same_states fs (moves.Two k l) b (suc (suc i)) n e = absurd (cc)
+same_states fs ways b i n e =
+    let (way, found, same) = map_found (next_by fs b) (ways_of ways) i n e in ap (λ (x : Next). x.state) same
 
 module _ (s : Setting) (family : Place → Option State) (L : Place → Type 0) (p : Place) (a : State) where
-  pub stores_here : (fault : CheckFault) → fault ≡ Refused (spot_of p.0) (told_offset p.1) Storage → (IsStoredWithin s a → ⊥) → Names (BreaksAt s family L p a) fault
-  stores_here fault e above = let N : CheckFault → Type 0 = λ x. Names (BreaksAt s family L p a) x in subst N (sym e) (p, refl, refl, stores above)
+  pub stores_here : (fault : ProgramFault) → fault ≡ Refused (spot_of p.0) (told_offset p.1) Storage → (IsStoredWithin s a → ⊥) → Names (BreaksAt s family L p a) fault
+  stores_here fault e above = let N : ProgramFault → Type 0 = λ x. Names (BreaksAt s family L p a) x in subst N (sym e) (p, refl, refl, stores above)
 
   -- at the end storage indexes alone are looked at
   pub passed_at_end : (carried : Option ℕ) (t : State) → carried ≡ None → IsStoredWithin s a → is_main_end s p.0 p.1 ≡ true → IsPassed s family L p a carried t
@@ -296,7 +267,7 @@ module _ (s : Setting) (family : Place → Option State) (L : Place → Type 0) 
     gap_where : (q : Place) (u : State) (r : Reason) → IsGap family (IsAfter p.0 after q) q u r → IsGap family (L q) q u r
     gap_where q u r gap = gap_same family (IsAfter p.0 after q) (L q) q u (same_places q).1 r gap
 
-    pub broken_here : (fault : CheckFault) → Names (IsFirstGap family (IsAfter p.0 after) (nexts_of p.0 ways (abstract_of t)) t) fault → Names (BreaksAt s family L p a) fault
+    pub broken_here : (fault : ProgramFault) → Names (IsFirstGap family (IsAfter p.0 after) (nexts_of p.0 ways (abstract_of t)) t) fault → Names (BreaksAt s family L p a) fault
     broken_here (Refused spot offset r) (q, e, f, first) = (
       q,
       e,
@@ -317,10 +288,10 @@ module _ (s : Setting) (family : Place → Option State) (L : Place → Type 0) 
     )
     broken_here (OutOfMemory error) h = tt
 
-  pub refused_here : IsStoredWithin s a → is_main_end s p.0 p.1 ≡ false → (fault : CheckFault) (r : Reason) → fault ≡ Refused (spot_of p.0) (told_offset p.1) r
+  pub refused_here : IsStoredWithin s a → is_main_end s p.0 p.1 ≡ false → (fault : ProgramFault) (r : Reason) → fault ≡ Refused (spot_of p.0) (told_offset p.1) r
       → outcome_on_cells s p.0 p.1 (abstract_of a) ≡ Err r → Names (BreaksAt s family L p a) fault
   refused_here stored running fault r e h =
-      let N : CheckFault → Type 0 = λ x. Names (BreaksAt s family L p a) x in
+      let N : ProgramFault → Type 0 = λ x. Names (BreaksAt s family L p a) x in
       subst N (sym e) (p, refl, refl, refused r stored (record { running = running; refused = h }))
 
 -- frames that were turned round twice

@@ -20,12 +20,13 @@ state_there v p n o family lt frames offset =
     λ i. states_of v.states (sym number i, offset i)
 
 -- at an offset of more than 32 bits there is no state in a context whose states stand below
-pub no_state_above : (v : Contents) (n o : ℕ) → IsFamily v → n < length v.contexts → AreToldBefore v (n + 1) → 2 ^ 32 ≤ o → family_of v (frames_at v.contexts n, o) ≡ None
-no_state_above v n o family lt told above = sym (state_there v (frames_at v.contexts n, o) n o family lt refl refl) ∙ go (states_of v.states (n, o)) refl
+pub no_state_above : (v : Contents) (p : Place) (n from : ℕ) → IsFamily v → from < length v.contexts → AreToldBefore v from → n < from → frames_at v.contexts n ≡ p.0
+    → 2 ^ 32 ≤ p.1 → family_of v p ≡ None
+no_state_above v p n from family lt told before frames above = sym (state_there v p n p.1 family (omega arith) frames refl) ∙ go (states_of v.states (n, p.1)) refl
   where
-    go : (x : Option State) → states_of v.states (n, o) ≡ x → states_of v.states (n, o) ≡ None
+    go : (x : Option State) → states_of v.states (n, p.1) ≡ x → states_of v.states (n, p.1) ≡ None
     go None e = e
-    go (Some u) e = absurd (let below = told n o u (omega arith) e in omega arith)
+    go (Some u) e = absurd (let below = told n p.1 u before e in omega arith)
 
 -- a state that comes next at a place covers itself there
 pub coming_covered : (v : Contents) (next : Option (ℕ × ℕ × Bor State)) (n o : ℕ) (t : State) → IsFamily v → n < length v.contexts → IsEntry v next → IsComing next n o t

@@ -1,7 +1,9 @@
 -- The next turn of a call: what leads there ends a turn that isn't the last.
-use Rattle.std.specs.Prelude.{◌≡◌, ℕ, ℤ, pos, negsuc, ◌+◌, ◌<◌, nat_lt, nat_le, not, if◌then◌else◌, Bool, true, false, Option, Some, None, List, [], ◌∷◌, Ok, Err, length, zero, suc}
-use Rattle.std.proofs.Common.{refl, ap, subst, arith}
+use Rattle.std.specs.Prelude.{◌≡◌, ℕ, ℤ, pos, negsuc, ◌+◌, ◌<◌, nat_lt, nat_le, not, if◌then◌else◌, Bool, true, false, Option, Some, None, List, [], ◌∷◌, Ok, Err, length, slice_get, zero, suc}
+use Rattle.std.specs.Option.{option_map}
+use Rattle.std.proofs.Common.{refl, ◌∙◌, ap, subst, arith}
 use Rattle.std.proofs.lemmas.Bool.{ltb-true}
+use Rattle.std.proofs.lemmas.Option.{slice_get-map}
 use Rattle.tt_code.specs.Cut.{Instruction}
 use Rattle.tt_code.specs.Operands.{top}
 use Rattle.tt_code.specs.Refusals.{Tested, ◌>>=◌, holds_or}
@@ -14,9 +16,8 @@ use Rattle.tt_abs.specs.declared.cells.Cell.{Cell}
 use Rattle.tt_abs.specs.declared.cells.Cell.TheVariants.{Known, Unknown}
 use Rattle.tt_abs.specs.declared.moves.Move.TheVariants.{NextTurn}
 use Rattle.tt_abs.specs.declared.moves.Moves.{Moves}
-use Rattle.tt_abs.specs.declared.moves.Moves.TheVariants as moves
 use Rattle.tt_abs.specs.Cells.{Abstract}
-use Rattle.tt_abs.specs.Moves.{nexts_of}
+use Rattle.tt_abs.specs.Moves.{next_by, nexts_of, ways_of}
 use Rattle.tt_abs.specs.Transfers.{Next, one_way, known, leaves_cells, called_cell, is_running, enters_cells, loops_cells, returns_cells, does_cells, controlled_cells, performs_cells, instruction_of, outcome_on_cells}
 use Rattle.tt_abs.proofs.Places.{LeadTo, leads_after, leads_one, leads_within, does_leads}
 use Rattle.tt_cert.specs.Checks.{HasNextTurn}
@@ -110,11 +111,13 @@ module _ (s : Setting) (f : Frame) (fs : List Frame) (at : ℕ) where
     outcome_on = performs_on (instruction_of s (f ∷ fs) at)
 
 -- where an instruction leads to the next turn, there is one
-pub turn_left : (s : Setting) (fs : List Frame) (at : ℕ) (a b : Abstract) (ways : Moves) → outcome_on_cells s fs at a ≡ Ok (nexts_of fs ways b) → ways ≡ moves.One NextTurn → HasNextTurn fs
-turn_left s fs at a b ways e way f gs fs_is =
-    let P : List Frame × Moves → Type 0 = λ x. outcome_on_cells s x.0 at a ≡ Ok (nexts_of x.0 x.1 b) in
-    let both : ◌≡◌ {A = List Frame × Moves} (fs, ways) (f ∷ gs, moves.One NextTurn) = λ i. (fs_is i, way i) in
-    let ok : outcome_on_cells s (f ∷ gs) at a ≡ Ok (nexts_of (f ∷ gs) (moves.One NextTurn) b) = subst P both e in
+pub turn_left : (s : Setting) (fs : List Frame) (at : ℕ) (a b : Abstract) (ways : Moves) → outcome_on_cells s fs at a ≡ Ok (nexts_of fs ways b)
+    → (i : ℕ) → slice_get (ways_of ways) i ≡ Some NextTurn → HasNextTurn fs
+turn_left s fs at a b ways e i way f gs fs_is =
+    let P : List Frame → Type 0 = λ x. outcome_on_cells s x at a ≡ Ok (nexts_of x ways b) in
+    let ok : outcome_on_cells s (f ∷ gs) at a ≡ Ok (nexts_of (f ∷ gs) ways b) = subst P fs_is e in
     let R : Tested (List Next) → Type 0 = λ r. LeadTo (CountsOn s f gs at) r in
-    let led : LeadTo (CountsOn s f gs at) (Ok (nexts_of (f ∷ gs) (moves.One NextTurn) b)) = subst R ok (outcome_on s f gs at a) in
-    led.1 0 _ refl refl
+    let led : LeadTo (CountsOn s f gs at) (Ok (nexts_of (f ∷ gs) ways b)) = subst R ok (outcome_on s f gs at a) in
+    let found : slice_get (nexts_of (f ∷ gs) ways b) i ≡ Some (next_by (f ∷ gs) b NextTurn) =
+    slice_get-map (next_by (f ∷ gs) b) (ways_of ways) i ∙ ap (option_map (next_by (f ∷ gs) b)) way in
+    led.1 i _ found refl

@@ -24,8 +24,8 @@ use Rattle.tt_cert.specs.Places.{IsLess, place_cmp, states_of}
 use Rattle.tt_cert.specs.Puts.{number_at, place_of}
 use Rattle.tt_cert.specs.Checks.{AreToldBefore, BreaksAt, IsFilledBy, IsFirstBreakOnTheWay, IsSoundAt, Names, WasAdded, key_of}
 use Rattle.tt_cert.specs.Walks.{Entry, IsAfter, IsAtPoint, IsCarried, IsComingAfter, IsEntry, IsOnWay, IsPassed, IsRead, IsUnlisted, IsWalkedThrough, IsWalkedTo, MayLeaveOut, to_come}
-use Rattle.tt_cert.specs.declared.checking.CheckFault.{CheckFault}
-use Rattle.tt_cert.specs.declared.checking.CheckFault.TheVariants.{Refused, OutOfMemory}
+use Rattle.tt_cert.specs.declared.fault.ProgramFault.{ProgramFault}
+use Rattle.tt_cert.specs.declared.fault.ProgramFault.TheVariants.{Refused, OutOfMemory}
 use Rattle.tt_cert.specs.declared.listing.Listing.{Listing}
 use Rattle.tt_cert.specs.declared.listing.Listing.TheVariants.{Whole, Sparse}
 use Rattle.tt_cert.specs.declared.walk.Walk.{Walk}
@@ -528,7 +528,7 @@ module _ (s : Setting) (listing : Listing) (v : Contents) (family : IsFamily v) 
     here_is = place_of v walk.context offset
 
     -- what is broken there is broken first
-    pub first_on_way : (fault : CheckFault) → Names (BreaksAt s (family_of v) (MayLeaveOut listing s here_is) here_is walk.made) fault
+    pub first_on_way : (fault : ProgramFault) → Names (BreaksAt s (family_of v) (MayLeaveOut listing s here_is) here_is walk.made) fault
         → Names (IsFirstBreakOnTheWay s (MayLeaveOut listing s) v) fault
     first_on_way (Refused spot o r) (q, e, f, breaks) = (
       q,

@@ -1,5 +1,5 @@
 -- What a check asks of a family beside goodness, and what it names where the family isn't good.
-use Rattle.std.specs.Prelude.{◌≡◌, ◌⊎◌, ℕ, ◌<◌, ◌^◌, min, false, Ok, Option, Some, None, List, [], ◌∷◌, length, slice_get}
+use Rattle.std.specs.Prelude.{◌≡◌, ◌⊎◌, ℕ, ◌<◌, ◌^◌, min, false, Ok, Option, Some, None, List, [], ◌∷◌, slice_get}
 use Rattle.tt_code.specs.Cut.{size}
 use Rattle.tt_code.specs.Settings.{Setting, is_main_end}
 use Rattle.tt_code.specs.declared.machine.Frame.{Frame}
@@ -11,14 +11,12 @@ use Rattle.tt_abs.specs.Lines.{Precedes}
 use Rattle.tt_abs.specs.StateFlow.{Place, GivesState, RefusesState}
 use Rattle.tt_abs.specs.States.{abstract_of, start_of, state_order}
 use Rattle.tt_abs.specs.Transfers.{Next, outcome_on_cells}
-use Rattle.tt_cert.specs.Contents.{Contents, family_of, frames_at, number_of}
+use Rattle.tt_cert.specs.Contents.{Contents, family_of, number_of}
 use Rattle.tt_cert.specs.GoodFamilies.{EndsWell, IsShortEnough, IsStoredWithin}
 use Rattle.tt_cert.specs.Places.{IsLess, states_of}
 use Rattle.tt_cert.specs.Spots.{spot_of}
-use Rattle.tt_cert.specs.declared.checking.CheckFault.{CheckFault}
-use Rattle.tt_cert.specs.declared.checking.CheckFault.TheVariants.{Refused, OutOfMemory}
-use Rattle.tt_cert.specs.declared.landing.Landing.{Landing}
-use Rattle.tt_cert.specs.declared.landing.Landing.TheVariants.{In, Nowhere as NoPlace}
+use Rattle.tt_cert.specs.declared.fault.ProgramFault.{ProgramFault}
+use Rattle.tt_cert.specs.declared.fault.ProgramFault.TheVariants.{Refused, OutOfMemory}
 
 -- a place as its context's number and its offset
 abbrev pub key_of : Contents → Place → ℕ × ℕ
@@ -27,11 +25,6 @@ key_of contents p = (number_of contents.contexts p.0, p.1)
 -- an offset as a number of 32 bits: the largest one stands for those that are above
 abbrev pub told_offset : ℕ → ℕ
 told_offset offset = min offset 4294967295
-
--- the landing stands for the place: it is an offset of the context that has the place's frames, or the family has no state there
-abbrev pub IsLanding : Contents → Place → Landing → Type 0
-IsLanding contents place (In n offset) = (n < length contents.contexts) × (frames_at contents.contexts n ≡ place.0) × (offset ≡ place.1)
-IsLanding contents place (NoPlace spot offset) = (family_of contents place ≡ None) × (spot ≡ spot_of place.0) × (offset ≡ told_offset place.1)
 
 -- no place
 abbrev pub Nowhere : Place → Type 0
@@ -48,12 +41,12 @@ IsGap family MayBeLeftOut q t NotCovered = (u : State) × (family q ≡ Some u) 
 IsGap family MayBeLeftOut q t _ = ⊥
 
 -- the fault names the place and the reason; want of memory says nothing
-abbrev pub NamesAt : Place → (Reason → Type 0) → CheckFault → Type 0
+abbrev pub NamesAt : Place → (Reason → Type 0) → ProgramFault → Type 0
 NamesAt p Is (Refused spot offset reason) = (spot ≡ spot_of p.0) × (offset ≡ told_offset p.1) × Is reason
 NamesAt p Is (OutOfMemory e) = Unit {0}
 
 -- the fault names such a place, and the reason
-abbrev pub Names : (Place → Reason → Type 0) → CheckFault → Type 0
+abbrev pub Names : (Place → Reason → Type 0) → ProgramFault → Type 0
 Names Is (Refused spot offset reason) = (p : Place) × (spot ≡ spot_of p.0) × (offset ≡ told_offset p.1) × Is p reason
 Names Is (OutOfMemory e) = Unit {0}
 
@@ -175,6 +168,6 @@ abbrev pub IsFillingBrokenFirst : Setting → List (ℕ × ℕ) → Contents →
 IsFillingBrokenFirst s functions contents = IsBrokenBy s functions contents (IsFirstBreakOnTheWay s (Precedes s) contents)
 
 -- a growth of memory was refused
-abbrev pub IsWantOfMemory : CheckFault → Type 0
+abbrev pub IsWantOfMemory : ProgramFault → Type 0
 IsWantOfMemory (Refused spot offset reason) = ⊥
 IsWantOfMemory (OutOfMemory e) = Unit {0}

@@ -13,5 +13,6 @@ pub mod GoodFamilies
 pub mod Spots
 pub mod Fillings
 pub mod Checks
+pub mod Landings
 pub mod Walks
 pub mod Ends

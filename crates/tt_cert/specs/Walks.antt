@@ -11,17 +11,18 @@ use Rattle.tt_abs.specs.declared.state.State.{State}
 use Rattle.tt_abs.specs.Families.{CoversAt}
 use Rattle.tt_abs.specs.Lines.{Precedes}
 use Rattle.tt_abs.specs.StateFlow.{Place, GivesState, RefusesState}
-use Rattle.tt_abs.specs.Moves.{frames_behind, nexts_of, offset_behind}
+use Rattle.tt_abs.specs.Moves.{frames_behind, nexts_of, offset_behind, ways_of}
 use Rattle.tt_abs.specs.States.{abstract_of, start_of, state_order}
 use Rattle.tt_abs.specs.declared.moves.Move.{Move}
+use Rattle.tt_abs.specs.declared.moves.Move.TheVariants.{NextTurn}
 use Rattle.tt_abs.specs.declared.moves.Moves.{Moves}
 use Rattle.tt_abs.specs.Transfers.{Next}
 use Rattle.tt_cert.specs.Contents.{Contents, HasContext, family_of, frames_at}
 use Rattle.tt_cert.specs.GoodFamilies.{EndsWell, IsShortEnough}
 use Rattle.tt_cert.specs.Places.{IsLess, place_cmp, states_of}
 use Rattle.tt_cert.specs.Puts.{place_of}
-use Rattle.tt_cert.specs.Checks.{AreCovered, AreMet, BreaksAt, IsBrokenBy, IsFilledBy, IsFirstBreakOnTheWay, IsFirstGap, IsGap, IsSoundAt, Names, NamesAt, Nowhere, key_of, place_of_next}
-use Rattle.tt_cert.specs.declared.checking.CheckFault.{CheckFault}
+use Rattle.tt_cert.specs.Checks.{AreCovered, AreMet, BreaksAt, HasNextTurn, IsBrokenBy, IsFilledBy, IsFirstBreakOnTheWay, IsFirstGap, IsGap, IsSoundAt, Names, NamesAt, Nowhere, key_of, place_of_next}
+use Rattle.tt_cert.specs.declared.fault.ProgramFault.{ProgramFault}
 use Rattle.tt_cert.specs.declared.listing.Listing.{Listing}
 use Rattle.tt_cert.specs.declared.listing.Listing.TheVariants.{Whole, Sparse}
 use Rattle.tt_cert.specs.declared.meeting.Met.{Met}
@@ -204,15 +205,19 @@ abbrev pub IsMadeMet : Contents → Walk → Option ℕ → Place → Met → Ty
 IsMadeMet contents walk after q = IsMetBy (family_of contents) (IsAfter (calls_of contents walk) after q) walk.next q walk.made
 
 -- the fault names the place, at which what was made isn't met
-abbrev pub NamesGapMade : Contents → Walk → Option ℕ → Place → CheckFault → Type 0
+abbrev pub NamesGapMade : Contents → Walk → Option ℕ → Place → ProgramFault → Type 0
 NamesGapMade contents walk after q = NamesAt q (IsGap (family_of contents) (IsAfter (calls_of contents walk) after q) q walk.made)
+
+-- where one of the ways leads to the next turn of the innermost call, there is one
+abbrev pub MayTurn : List Frame → Moves → Type 0
+MayTurn fs moves = (i : ℕ) → slice_get (ways_of moves) i ≡ Some NextTurn → HasNextTurn fs
 
 -- what was made is met so at all places to which moves lead
 abbrev pub AreMadeMet : Contents → Walk → Option ℕ → Moves → Met → Type 0
 AreMadeMet contents walk after moves = AreMetBy (family_of contents) (calls_of contents walk) after walk.next (nexts_made contents walk moves) walk.made
 
 -- the fault names the first of them at which it isn't
-abbrev pub NamesFirstGapMade : Contents → Walk → Option ℕ → Moves → CheckFault → Type 0
+abbrev pub NamesFirstGapMade : Contents → Walk → Option ℕ → Moves → ProgramFault → Type 0
 NamesFirstGapMade contents walk after moves = Names (IsFirstGap (family_of contents) (IsAfter (calls_of contents walk) after) (nexts_made contents walk moves) walk.made)
 
 -- where a state may be left out, the certificate has none unless that comes next or before
@@ -229,14 +234,14 @@ PassesPoint s listing contents old new offset =
     IsPassed s (family_of contents) (MayLeaveOut listing s (point_of contents old offset)) (point_of contents old offset) old.made new.carried new.made
 
 -- the fault names what is broken first of what was made there
-abbrev pub NamesBreak : Setting → Listing → Contents → Walk → ℕ → CheckFault → Type 0
+abbrev pub NamesBreak : Setting → Listing → Contents → Walk → ℕ → ProgramFault → Type 0
 NamesBreak s listing contents walk offset =
     Names (BreaksAt s (family_of contents) (MayLeaveOut listing s (point_of contents walk offset)) (point_of contents walk offset) walk.made)
 
 -- the fault names what is broken first in the order of the walk
-abbrev pub NamesFirstBreak : Setting → Listing → Contents → CheckFault → Type 0
+abbrev pub NamesFirstBreak : Setting → Listing → Contents → ProgramFault → Type 0
 NamesFirstBreak s listing contents = Names (IsFirstBreakOnTheWay s (MayLeaveOut listing s) contents)
 
 -- or before it begins
-abbrev pub NamesFirst : Setting → List (ℕ × ℕ) → Listing → Contents → CheckFault → Type 0
+abbrev pub NamesFirst : Setting → List (ℕ × ℕ) → Listing → Contents → ProgramFault → Type 0
 NamesFirst s functions listing contents = Names (IsBrokenBy s functions contents (IsFirstBreakOnTheWay s (MayLeaveOut listing s) contents))

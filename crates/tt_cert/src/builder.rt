@@ -39,7 +39,7 @@ pub struct Builder {
     /// The contexts but the empty one, each with its parent's number and its last frame.
     entries: Vec<(u32, Frame)>,
     /// The number of each context but the empty one, by parent, call, body, turn and count.
-    index: BTreeMap<Key, u32>,
+    index: BTreeMap<ContextKey, u32>,
     /// The states by context and offset.
     states: StateTable,
 }
@@ -57,10 +57,10 @@ impl Model for Builder {
 }
 
 /// The parent, call, body, turn and count of a context, by which contexts rise.
-type Key = (u32, u32, u32, u32, u32);
+type ContextKey = (u32, u32, u32, u32, u32);
 
 /// The number of a key. Most keys that are asked for are greater than all that are there.
-fn number_of(index: &BTreeMap<Key, u32>, key: Key) -> Option<u32>
+fn number_of(index: &BTreeMap<ContextKey, u32>, key: ContextKey) -> Option<u32>
     ensures { result ≡ get key_cmp index.now key }
 {
     if let Some((greatest, _)) = index.last_key_value() {
@@ -72,7 +72,7 @@ fn number_of(index: &BTreeMap<Key, u32>, key: Key) -> Option<u32>
 }
 
 /// By what an entry's context rises.
-fn key_of(entry: &(u32, Frame)) -> Key
+fn key_of(entry: &(u32, Frame)) -> ContextKey
     ensures { result ≡ key_of_entry entry.now }
 {
     let (parent, frame) = *entry;
@@ -93,7 +93,7 @@ fn rises(entries: &[(u32, Frame)]) -> bool
 
 /// Puts the numbers of a context's children behind the others, in the order of their frames.
 fn push_children(
-    index: &BTreeMap<Key, u32>,
+    index: &BTreeMap<ContextKey, u32>,
     parent: u32,
     order: &mut Vec<u32>,
 ) -> Result<(), AllocError>

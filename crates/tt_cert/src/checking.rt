@@ -17,41 +17,15 @@ ghost use Rattle.tt_cert.specs.Walks.{AreToCome, AreUnlisted, IsAfter, IsFoundSo
 
 use crate::builder::Builder;
 use crate::certificate::Certificate;
+use crate::fault::ProgramFault;
 use crate::listing::{Listing, added_after};
 use crate::meeting::{Met, check_covered, check_moves, fault_in};
 use crate::spot::Spot;
 use crate::states::States;
 use crate::walk::Walk;
-use std::alloc::{AllocError, Global};
-use thiserror::Error;
+use std::alloc::Global;
 use tt_abs::{Kind, Point, Refusal, Setting, step_at};
 use tt_code::Reason;
-
-/// Why a certificate is refused.
-#[derive(Debug, Drop, Error)]
-pub enum CheckFault {
-    /// What is broken first, and where: in which program, and at what offset there, 4,294,967,295 for one that is above.
-    #[error("{reason}")]
-    Refused {
-        spot: Spot,
-        offset: u32,
-        reason: Reason,
-    },
-    /// A growth of memory was refused, which says nothing of the certificate.
-    #[error(transparent)]
-    OutOfMemory(AllocError),
-}
-
-impl From<AllocError> for CheckFault {
-    ghost use Rattle.std.specs.Prelude.{◌≡◌};
-    ghost use Rattle.tt_cert.specs.declared.checking.CheckFault.{CheckFault};
-
-    ghost from_gives = { λ r e. e ≡ CheckFault.OutOfMemory r };
-
-    fn from(error: AllocError) -> CheckFault {
-        CheckFault::OutOfMemory(error)
-    }
-}
 
 /// Are the indexes of these storage cells below the limit?
 fn are_stored_within(stored: &[(u16, i32)], limit: u16) -> bool
@@ -91,7 +65,7 @@ pub fn ends_well(setting: &Setting<'_>, builder: &Builder) -> bool
 
 /// Is the state with which the walk begins covered at the program's start? The walk is told whether that is the very state that comes
 /// first, as it mostly is: then there is nothing to copy.
-fn check_start(certificate: &Certificate, walk: &mut Walk<'_>) -> Result<(), CheckFault>
+fn check_start(certificate: &Certificate, walk: &mut Walk<'_>) -> Result<(), ProgramFault>
     requires walk { IsWalk certificate.now walk.old }
     requires apart { IsFalse walk.old.is_next }
     ensures covered { IfOk result (λ _. CoversAt state_order (family_of certificate.now) ([], 0) walk.old.made) }
@@ -133,7 +107,7 @@ fn check_point(
     certificate: &Certificate,
     walk: &mut Walk<'_>,
     offset: u32,
-) -> Result<(), CheckFault>
+) -> Result<(), ProgramFault>
     requires walk { IsWalk certificate.now walk.old }
     requires told { AreToldBefore certificate.now walk.old.context }
     requires in_range { state_order.InRange walk.old.made }
@@ -162,7 +136,7 @@ fn check_point(
         Err(Refusal::Refused(reason)) => {
             return Err(fault_in(certificate, walk.context, offset, reason));
         }
-        Err(Refusal::OutOfMemory(error)) => return Err(CheckFault::OutOfMemory(error)),
+        Err(Refusal::OutOfMemory(error)) => return Err(ProgramFault::OutOfMemory(error)),
     };
     let after = left_out_after(setting, listing, &point, step.end);
     match check_moves(certificate, walk, step.moves, after) {
@@ -182,7 +156,7 @@ fn check_points<'a>(
     certificate: &Certificate,
     walk: &mut Walk<'a>,
     mut states: States<'a>,
-) -> Result<(), CheckFault>
+) -> Result<(), ProgramFault>
     requires walk { IsWalk certificate.now walk.old }
     requires to_come { AreToCome certificate.now walk.old.next states }
     requires all { certificate.now.states ≡ to_come walk.old.next states }
@@ -208,14 +182,14 @@ fn check_listed(
     setting: &Setting<'_>,
     listing: Listing,
     certificate: &Certificate,
-) -> Result<(), CheckFault>
+) -> Result<(), ProgramFault>
     requires rises { Rises setting.now.start.now }
     ensures sound { IfOk result (λ _. IsFoundSound (setting_of setting.now) setting.now.start.now listing certificate.now) }
     ensures first { IfErr result (NamesFirst (setting_of setting.now) setting.now.start.now listing certificate.now) }
 {
     certificate.is_in_order();
     if !is_short(setting) {
-        return Err(CheckFault::Refused {
+        return Err(ProgramFault::Refused {
             spot: Spot::Main,
             offset: u32::from(setting.limits.program_size),
             reason: Reason::ProgramTooLong,
@@ -227,7 +201,7 @@ fn check_listed(
         return Err(fault);
     }
     if !ends_well(setting, certificate.builder()) {
-        return Err(CheckFault::Refused {
+        return Err(ProgramFault::Refused {
             spot: Spot::Main,
             offset: setting.main.len(),
             reason: Reason::MissingPoint,
@@ -248,7 +222,7 @@ pub fn check_full(
     alloc: Global,
     setting: &Setting<'_>,
     certificate: &Certificate,
-) -> Result<(), CheckFault>
+) -> Result<(), ProgramFault>
     requires rises { Rises setting.now.start.now }
     ensures family { IfOk result (λ _. IsGoodFamily (setting_of setting.now) setting.now.start.now (family_of certificate.now)) }
     ensures safe { IfOk result (λ _. IsSafe (setting_of setting.now) setting.now.start.now (family_of certificate.now)) }
@@ -271,7 +245,7 @@ pub fn check(
     alloc: Global,
     setting: &Setting<'_>,
     certificate: &Certificate,
-) -> Result<(), CheckFault>
+) -> Result<(), ProgramFault>
     requires rises { Rises setting.now.start.now }
     ensures filling { IfOk result (λ _. HasGoodFilling (setting_of setting.now) setting.now.start.now (family_of certificate.now)) }
     ensures safe { IfOk result (λ _. HasSafeFilling (setting_of setting.now) setting.now.start.now (family_of certificate.now)) }

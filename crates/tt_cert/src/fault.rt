@@ -1,6 +1,9 @@
-//! Why a builder refuses.
+//! Why a builder refuses, and why a program is refused.
 
+use crate::spot::Spot;
+use std::alloc::AllocError;
 use thiserror::Error;
+use tt_code::Reason;
 
 /// Why a builder refuses a context; it is as it was.
 #[derive(Clone, Copy, Debug, PartialEq, Eq, Error)]
@@ -22,4 +25,30 @@ pub enum JoinFault {
     /// A growth of memory was refused, or there are 4,294,967,295 states.
     #[error("out of memory")]
     OutOfMemory,
+}
+
+/// Why a program is refused: by the finder, for which no family is good, or by the check, for which a certificate's isn't.
+#[derive(Debug, Drop, Error)]
+pub enum ProgramFault {
+    /// What is broken first, and where: in which program, and at what offset there, 4,294,967,295 for one that is above.
+    #[error("{reason}")]
+    Refused {
+        spot: Spot,
+        offset: u32,
+        reason: Reason,
+    },
+    /// A growth of memory was refused, which says nothing of the program.
+    #[error(transparent)]
+    OutOfMemory(AllocError),
+}
+
+impl From<AllocError> for ProgramFault {
+    ghost use Rattle.std.specs.Prelude.{◌≡◌};
+    ghost use Rattle.tt_cert.specs.declared.fault.ProgramFault.{ProgramFault};
+
+    ghost from_gives = { λ r e. e ≡ ProgramFault.OutOfMemory r };
+
+    fn from(error: AllocError) -> ProgramFault {
+        ProgramFault::OutOfMemory(error)
+    }
 }

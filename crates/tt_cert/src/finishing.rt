@@ -9,6 +9,7 @@ ghost use Rattle.tt_cert.specs.Rising.{AreMoved, IsFinished, SameContents, SameW
 use crate::builder::Builder;
 use crate::certificate::Certificate;
 use crate::fault::{ContextFault, JoinFault};
+use crate::places::PointKey;
 use std::alloc::AllocError;
 use std::collections::BTreeSet;
 
@@ -77,7 +78,7 @@ fn move_states(
     old: &Builder,
     new: &mut Builder,
     numbers: &[u32],
-    spare: &BTreeSet<(u32, u32)>,
+    spare: &BTreeSet<PointKey>,
 ) -> Result<(), JoinFault>
     requires family { IsFamily new.old }
     requires empty { new.old.states ≡ [] }
@@ -98,7 +99,7 @@ fn move_states(
 }
 
 /// The same family with its contexts in the order of the file, without the states at the spare points.
-fn reordered(old: &Builder, spare: &BTreeSet<(u32, u32)>) -> Result<Builder, AllocError>
+fn reordered(old: &Builder, spare: &BTreeSet<PointKey>) -> Result<Builder, AllocError>
     ensures same { IfOk result (λ new. SameWithout old.now new spare.now.keys) }
     ensures points { IfOk result (λ new. spare.now.keys ≡ [] → points_of new ≡ points_of old.now) }
     ensures finished { IfOk result (λ new. IsFinished new) }
@@ -135,7 +136,7 @@ impl Builder {
     ///
     /// # Errors
     /// If memory runs out: then the builder comes back as it was.
-    pub fn finish_without(self, spare: &BTreeSet<(u32, u32)>) -> Result<Certificate, Builder>
+    pub fn finish_without(self, spare: &BTreeSet<PointKey>) -> Result<Certificate, Builder>
         ensures same { IfOk result (λ certificate. SameWithout self certificate spare.now.keys) }
         ensures points { IfOk result (λ certificate. spare.now.keys ≡ [] → points_of certificate ≡ points_of self) }
         ensures finished { IfOk result (λ certificate. IsFinished certificate) }

@@ -1,104 +1,107 @@
-//! Where moves lead in a certificate.
+//! Where a way leads from a context.
 
-ghost use Rattle.std.specs.Prelude.{◌≡◌, ◌+◌, ◌<◌, ◌∷◌, length};
-ghost use Rattle.tt_code.specs.Settings.{body_offset as offset_of_body};
-ghost use Rattle.tt_abs.specs.Moves.{frames_behind, offset_behind};
-ghost use Rattle.tt_cert.specs.Checks.{AreToldBefore, HasNextTurn, IsLanding};
+ghost use Rattle.std.specs.Prelude.{◌≡◌, ◌<◌, IfErr, IfOk, None, length};
+ghost use Rattle.tt_cert.specs.Checks.{AreToldBefore, HasNextTurn};
 ghost use Rattle.tt_cert.specs.Contents.{frames_at};
+ghost use Rattle.tt_cert.specs.Landings.{IsLanding, IsMissing, IsPointOf, IsTurnCountable, place_from};
 
+use crate::builder::Builder;
 use crate::certificate::Certificate;
+use crate::fault::ProgramFault;
+use crate::places::PointKey;
 use crate::spot::Spot;
 use tt_abs::Move;
 use tt_abs::setting::body_offset;
-use tt_code::Frame;
+use tt_code::{Frame, Reason};
 
-/// Where a move leads.
+/// Where a way leads from a context.
 #[derive(Clone, Copy)]
-pub(crate) enum Landing {
+pub enum Landing {
     /// To an offset of the context of this number.
     In { context: u32, offset: u32 },
-    /// To a place at which the certificate has no state.
-    Nowhere { spot: Spot, offset: u32 },
+    /// To the start of a function's body, in the context that has one call more than the one of this number.
+    Body { parent: u32, frame: Frame },
+    /// After a call at the greatest offset of the context of this number, where no program is so long.
+    Beyond { context: u32 },
 }
 
-/// The place where a function's body begins.
-fn place_entered(certificate: &Certificate, parent: u32, frame: Frame) -> Landing
-    requires { parent < length certificate.now.contexts }
-    ensures { IsLanding certificate.now (frame ∷ frames_at certificate.now.contexts parent, offset_of_body frame.body) result }
+/// Where a way leads from a context, for all who follow ways: the check looks the context up in which a body starts, and the finder
+/// adds it.
+pub fn landing_of(builder: &Builder, context: u32, way: Move) -> Landing
+    requires there { context < length builder.now.contexts }
+    requires turn { way ≡ Move.NextTurn → IsTurnCountable (frames_at builder.now.contexts context) }
+    ensures { IsLanding builder.now.contexts context (place_from builder.now.contexts context way) result }
 {
-    certificate.is_in_order();
-    let offset = body_offset(frame.body);
-    match certificate.number(parent, frame) {
-        Some(context) => Landing::In { context, offset },
-        None => Landing::Nowhere {
-            spot: Spot::of_body(frame.body),
-            offset,
+    builder.is_family();
+    match way {
+        Move::To(offset) => Landing::In { context, offset },
+        Move::Enter(frame) => Landing::Body {
+            parent: context,
+            frame,
+        },
+        Move::NextTurn => match builder.context(context) {
+            Some((parent, frame)) => {
+                let turn = frame.turn + 1;
+                let frame = Frame { turn, ..frame };
+                Landing::Body { parent, frame }
+            }
+            None => Landing::In {
+                context: 0,
+                offset: 0,
+            },
+        },
+        Move::Return => match builder.context(context) {
+            Some((parent, frame)) => match frame.call.checked_add(1) {
+                Some(offset) => Landing::In {
+                    context: parent,
+                    offset,
+                },
+                None => Landing::Beyond { context: parent },
+            },
+            None => Landing::In {
+                context: 0,
+                offset: 0,
+            },
         },
     }
 }
 
-/// The place to which the innermost call's next turn leads, where it has one more.
-fn place_of_turn(certificate: &Certificate, context: u32) -> Landing
-    requires there { context < length certificate.now.contexts }
-    requires turn { HasNextTurn (frames_at certificate.now.contexts context) }
-    ensures { IsLanding certificate.now (frames_behind (frames_at certificate.now.contexts context) Move.NextTurn, offset_behind (frames_at certificate.now.contexts context) Move.NextTurn) result }
+/// The fault of a place where the certificate has no state.
+fn missing(spot: Spot, offset: u32) -> ProgramFault
+    ensures { result ≡ ProgramFault.Refused spot offset Reason.MissingPoint }
 {
-    certificate.is_in_order();
-    match certificate.context(context) {
-        Some((parent, frame)) => {
-            let turn = frame.turn + 1;
-            place_entered(certificate, parent, Frame { turn, ..frame })
-        }
-        None => Landing::In {
-            context: 0,
-            offset: 0,
-        },
+    ProgramFault::Refused {
+        spot,
+        offset,
+        reason: Reason::MissingPoint,
     }
 }
 
-/// The place behind a call in a context whose states stand at offsets of 32 bits.
-fn place_after(certificate: &Certificate, context: u32, call: u32) -> Landing
-    requires there { context < length certificate.now.contexts }
-    requires told { AreToldBefore certificate.now (context + 1) }
-    ensures { IsLanding certificate.now (frames_at certificate.now.contexts context, call + 1) result }
-{
-    certificate.is_in_order();
-    match call.checked_add(1) {
-        Some(offset) => Landing::In { context, offset },
-        None => Landing::Nowhere {
-            spot: certificate.spot(context),
-            offset: u32::MAX,
-        },
-    }
-}
-
-/// The place behind the innermost call.
-fn place_of_return(certificate: &Certificate, context: u32) -> Landing
-    requires there { context < length certificate.now.contexts }
-    requires told { AreToldBefore certificate.now context }
-    ensures { IsLanding certificate.now (frames_behind (frames_at certificate.now.contexts context) Move.Return, offset_behind (frames_at certificate.now.contexts context) Move.Return) result }
-{
-    certificate.is_in_order();
-    match certificate.context(context) {
-        Some((parent, frame)) => place_after(certificate, parent, frame.call),
-        None => Landing::In {
-            context: 0,
-            offset: 0,
-        },
-    }
-}
-
-/// The place to which a move leads from a context.
-pub(crate) fn place_behind(certificate: &Certificate, context: u32, way: Move) -> Landing
+/// The number of the context, and the offset, to which a way leads from a context.
+///
+/// # Errors
+/// `MissingPoint` where the certificate can have no state: it lacks the context, or tells no such offset.
+pub(crate) fn reach(
+    certificate: &Certificate,
+    context: u32,
+    way: Move,
+) -> Result<PointKey, ProgramFault>
     requires there { context < length certificate.now.contexts }
     requires told { AreToldBefore certificate.now context }
     requires turn { way ≡ Move.NextTurn → HasNextTurn (frames_at certificate.now.contexts context) }
-    ensures { IsLanding certificate.now (frames_behind (frames_at certificate.now.contexts context) way, offset_behind (frames_at certificate.now.contexts context) way) result }
+    ensures point { IfOk result (IsPointOf certificate.now.contexts (place_from certificate.now.contexts context way)) }
+    ensures missing { IfErr result (IsMissing certificate.now (place_from certificate.now.contexts context way)) }
 {
-    match way {
-        Move::To(offset) => Landing::In { context, offset },
-        Move::Enter(frame) => place_entered(certificate, context, frame),
-        Move::NextTurn => place_of_turn(certificate, context),
-        Move::Return => place_of_return(certificate, context),
+    certificate.is_in_order();
+    match landing_of(certificate.builder(), context, way) {
+        Landing::In { context, offset } => Ok((context, offset)),
+        Landing::Body { parent, frame } => {
+            let offset = body_offset(frame.body);
+            match certificate.number(parent, frame) {
+                Some(number) => Ok((number, offset)),
+                None => Err(missing(Spot::of_body(frame.body), offset)),
+            }
+        }
+        Landing::Beyond { context } => Err(missing(certificate.spot(context), u32::MAX)),
     }
 }

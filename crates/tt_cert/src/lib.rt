@@ -19,9 +19,11 @@ mod walk;
 
 pub use builder::Builder;
 pub use certificate::Certificate;
-pub use checking::{CheckFault, check, check_full, ends_well, is_short, one_good_filling};
-pub use fault::{ContextFault, JoinFault};
+pub use checking::{check, check_full, ends_well, is_short, one_good_filling};
+pub use fault::{ContextFault, JoinFault, ProgramFault, ProgramFault as CheckFault};
 pub use joined::Joined;
+pub use landing::{Landing, landing_of};
 pub use listing::added_after;
+pub use places::PointKey;
 pub use spot::Spot;
 pub use states::States;

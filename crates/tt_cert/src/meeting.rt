@@ -5,11 +5,11 @@ ghost use Rattle.tt_cert.specs.Checks.{AreToldBefore, HasNextTurn, IsGap, NamesA
 ghost use Rattle.tt_cert.specs.Contents.{family_of, frames_at};
 ghost use Rattle.tt_cert.specs.Puts.{place_of};
 ghost use Rattle.tt_cert.specs.Spots.{spot_of};
-ghost use Rattle.tt_cert.specs.Walks.{AreMadeMet, IsEntry, IsMadeMet, IsMetBy, IsPastStart, IsUnlisted, IsUnlistedAfter, IsWalk, NamesFirstGapMade, NamesGapMade, calls_of, met_both, place_behind as place_of_move, point_of};
+ghost use Rattle.tt_cert.specs.Walks.{AreMadeMet, IsEntry, IsMadeMet, IsMetBy, IsPastStart, IsUnlisted, IsUnlistedAfter, IsWalk, MayTurn, NamesFirstGapMade, NamesGapMade, calls_of, met_both, place_behind as place_of_move, point_of};
 
 use crate::certificate::Certificate;
-use crate::checking::CheckFault;
-use crate::landing::{Landing, place_behind};
+use crate::fault::ProgramFault;
+use crate::landing::reach;
 use crate::walk::{Walk, is_coming, is_coming_after};
 use tt_abs::{Move, Moves, Order, State};
 use tt_code::Reason;
@@ -44,11 +44,11 @@ pub(crate) fn fault_in(
     context: u32,
     offset: u32,
     reason: Reason,
-) -> CheckFault
+) -> ProgramFault
     requires { context < length certificate.now.contexts }
-    ensures { result ≡ CheckFault.Refused (spot_of (frames_at certificate.now.contexts context)) (told_offset offset) reason }
+    ensures { result ≡ ProgramFault.Refused (spot_of (frames_at certificate.now.contexts context)) (told_offset offset) reason }
 {
-    CheckFault::Refused {
+    ProgramFault::Refused {
         spot: certificate.spot(context),
         offset,
         reason,
@@ -64,7 +64,7 @@ pub(crate) fn check_covered(
     offset: u32,
     state: &State,
     may_be_left_out: bool,
-) -> Result<Met, CheckFault>
+) -> Result<Met, ProgramFault>
     requires there { context < length certificate.now.contexts }
     requires next { IsEntry certificate.now next }
     requires unlisted { IsTrue may_be_left_out → IsUnlisted certificate.now next context offset }
@@ -102,7 +102,7 @@ fn check_offset(
     walk: &Walk<'_>,
     offset: u32,
     after: Option<u32>,
-) -> Result<Met, CheckFault>
+) -> Result<Met, ProgramFault>
     requires walk { IsWalk certificate.now walk.now }
     requires unlisted { IsUnlistedAfter certificate.now walk.now after }
     ensures met { IfOk result (IsMetBy (family_of certificate.now) (after ≡ Some offset) walk.now.next (point_of certificate.now walk.now offset) walk.now.made) }
@@ -124,7 +124,7 @@ fn check_way(
     walk: &Walk<'_>,
     way: Move,
     after: Option<u32>,
-) -> Result<Met, CheckFault>
+) -> Result<Met, ProgramFault>
     requires walk { IsWalk certificate.now walk.now }
     requires told { AreToldBefore certificate.now walk.now.context }
     requires turn { way ≡ Move.NextTurn → HasNextTurn (calls_of certificate.now walk.now) }
@@ -136,15 +136,11 @@ fn check_way(
     if let Move::To(offset) = way {
         return check_offset(certificate, walk, offset, after);
     }
-    match place_behind(certificate, walk.context, way) {
-        Landing::In { context, offset } => {
+    match reach(certificate, walk.context, way) {
+        Ok((context, offset)) => {
             check_covered(certificate, walk.next, context, offset, &walk.made, false)
         }
-        Landing::Nowhere { spot, offset } => Err(CheckFault::Refused {
-            spot,
-            offset,
-            reason: Reason::MissingPoint,
-        }),
+        Err(fault) => Err(fault),
     }
 }
 
@@ -155,27 +151,26 @@ pub(crate) fn check_moves(
     walk: &Walk<'_>,
     moves: Moves,
     after: Option<u32>,
-) -> Result<Met, CheckFault>
+) -> Result<Met, ProgramFault>
     requires walk { IsWalk certificate.now walk.now }
     requires told { AreToldBefore certificate.now walk.now.context }
-    requires turn { moves ≡ Moves.One Move.NextTurn → HasNextTurn (calls_of certificate.now walk.now) }
+    requires turn { MayTurn (calls_of certificate.now walk.now) moves }
     requires unlisted { IsUnlistedAfter certificate.now walk.now after }
     requires forward { IsPastStart after }
     ensures met { IfOk result (AreMadeMet certificate.now walk.now after moves) }
     ensures gap { IfErr result (NamesFirstGapMade certificate.now walk.now after moves) }
 {
-    match moves {
-        Moves::One(way) => check_way(certificate, walk, way, after),
-        Moves::Two(first, second) => {
-            let one = match check_offset(certificate, walk, first, after) {
-                Ok(one) => one,
-                Err(fault) => return Err(fault),
-            };
-            let other = match check_offset(certificate, walk, second, after) {
-                Ok(other) => other,
-                Err(fault) => return Err(fault),
-            };
-            Ok(met_by_both(one, other))
+    let mut met = match check_way(certificate, walk, moves.first(), after) {
+        Ok(met) => met,
+        Err(fault) => return Err(fault),
+    };
+    let mut index = 1;
+    while let Some(way) = moves.get(index) {
+        match check_way(certificate, walk, way, after) {
+            Ok(other) => met = met_by_both(met, other),
+            Err(fault) => return Err(fault),
         }
+        index += 1;
     }
+    Ok(met)
 }

@@ -14,6 +14,9 @@ use std::marker::Model;
 /// So many rows keep their memory.
 const KEPT_ROWS: usize = 64;
 
+/// What a stored state is found by: its context's number and its offset.
+pub type PointKey = (u32, u32);
+
 /// The slots of points by context and offset. Within a context the points mostly come by rising offset: those stand in a row, and the
 /// others in a tree.
 #[derive(Drop)]
@@ -23,7 +26,7 @@ pub(crate) struct Places {
     /// How many rows may hold points. The rows behind those are empty, and are kept for their memory alone.
     used: usize,
     /// The points that came before a greater offset of their context.
-    rest: BTreeMap<(u32, u32), u32>,
+    rest: BTreeMap<PointKey, u32>,
     /// How many points there are.
     count: u32,
 }
@@ -62,8 +65,8 @@ fn add_rows(rows: &mut Vec<Row>, context: u32) -> Result<(), AllocError>
 /// If memory runs out; then the points stay as they are.
 fn put(
     rows: &mut Vec<Row>,
-    rest: &mut BTreeMap<(u32, u32), u32>,
-    place: (u32, u32),
+    rest: &mut BTreeMap<PointKey, u32>,
+    place: PointKey,
     slot: u32,
 ) -> Result<(), AllocError>
     requires places { ArePlaces rows.old.items rest.old.entries }
@@ -215,7 +218,7 @@ impl<'a> RowsIter<'a> {
     }
 
     /// Takes the first of the points that are still to come.
-    fn take_first(&mut self) -> Option<((u32, u32), u32)>
+    fn take_first(&mut self) -> Option<(PointKey, u32)>
         ensures none { result ≡ None → self.old ≡ [] }
         ensures some { IfSome result (λ e. self.old ≡ e ∷ self.new) }
     {
@@ -235,7 +238,7 @@ impl<'a> RowsIter<'a> {
 }
 
 /// Takes the first of the points of a tree that are still to come.
-fn next_in(rest: &mut Iter<'_, (u32, u32), u32>) -> Option<((u32, u32), u32)>
+fn next_in(rest: &mut Iter<'_, PointKey, u32>) -> Option<(PointKey, u32)>
     ensures none { result ≡ None → rest.old ≡ [] }
     ensures some { IfSome result (λ e. rest.old ≡ e ∷ rest.new) }
 {
@@ -244,7 +247,7 @@ fn next_in(rest: &mut Iter<'_, (u32, u32), u32>) -> Option<((u32, u32), u32)>
 }
 
 /// Whether the first point beside the rows comes before the first point of the rows.
-fn is_first(other: Option<((u32, u32), u32)>, first: Option<((u32, u32), u32)>) -> bool
+fn is_first(other: Option<(PointKey, u32)>, first: Option<(PointKey, u32)>) -> bool
     ensures { result ≡ comes_first other first }
 {
     match (other, first) {
@@ -258,13 +261,13 @@ fn is_first(other: Option<((u32, u32), u32)>, first: Option<((u32, u32), u32)>) 
 #[derive(Drop)]
 pub(crate) struct PlacesIter<'a> {
     /// The first point of the rows.
-    first: Option<((u32, u32), u32)>,
+    first: Option<(PointKey, u32)>,
     /// The others of the rows.
     rows: RowsIter<'a>,
     /// The first point beside the rows.
-    other: Option<((u32, u32), u32)>,
+    other: Option<(PointKey, u32)>,
     /// The others beside the rows.
-    rest: Iter<'a, (u32, u32), u32>,
+    rest: Iter<'a, PointKey, u32>,
 }
 
 impl<'a> Model for PlacesIter<'a> {
@@ -280,7 +283,7 @@ impl<'a> Model for PlacesIter<'a> {
 
 impl<'a> PlacesIter<'a> {
     /// Takes the first of the points that are still to come.
-    pub(crate) fn take_first(&mut self) -> Option<((u32, u32), u32)>
+    pub(crate) fn take_first(&mut self) -> Option<(PointKey, u32)>
         ensures none { result ≡ None → (self.old ≡ []) × (self.new ≡ []) }
         ensures some { IfSome result (λ e. self.old ≡ e ∷ self.new) }
     {

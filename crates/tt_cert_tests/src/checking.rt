@@ -6,7 +6,7 @@ ghost use Rattle.tt_abs.specs.States.{state_order};
 use crate::fixtures::{Row, add, certificate, finished_if, join, put, put_all, put_at, state_of};
 use std::alloc::Global;
 use tt_abs::{Cell, Kind, Setting, State};
-use tt_cert::{Builder, Certificate, CheckFault, Spot, check, check_full};
+use tt_cert::{Builder, Certificate, ProgramFault, Spot, check, check_full};
 use tt_code::kinds::Reference;
 use tt_code::{Frame, Limits, Program, Reason};
 
@@ -63,13 +63,13 @@ fn answer_in(
     match answer {
         Ok(()) => Some(Ok(())),
         Err(
-            CheckFault::Refused {
+            ProgramFault::Refused {
                 spot,
                 offset,
                 reason,
             },
         ) => Some(Err((spot, offset, reason))),
-        Err(CheckFault::OutOfMemory(_)) => None,
+        Err(ProgramFault::OutOfMemory(_)) => None,
     }
 }
 

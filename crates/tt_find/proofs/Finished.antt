@@ -15,7 +15,7 @@ use Rattle.tt_abs.specs.StateFlow.{FitsLimits, GivesState, Place, flow_of, heigh
 use Rattle.tt_abs.specs.States.{state_laws, state_order}
 use Rattle.tt_abs.proofs.FunctionBodies.{derived_bodies}
 use Rattle.tt_abs.proofs.LineLaws.{precedes_one, precedes_rises}
-use Rattle.tt_cert.specs.Checks.{key_of}
+use Rattle.tt_cert.specs.Checks.{IsWantOfMemory, key_of}
 use Rattle.tt_cert.specs.Contents.{HasContext, family_of, number_of}
 use Rattle.tt_cert.specs.Fillings.{IsFilling}
 use Rattle.tt_cert.specs.GoodFamilies.{EndsWell, HasEnd, HasFewContexts, IsGoodFamily, IsShortEnough}
@@ -23,10 +23,10 @@ use Rattle.tt_cert.specs.Numbers.{at-number_of}
 use Rattle.tt_cert.specs.Places.{has_point}
 use Rattle.tt_cert.specs.Rising.{family_without}
 use Rattle.tt_cert.proofs.FillingLaws.{ends_kept, ends_listed, some_or_none}
-use Rattle.tt_find.specs.declared.fault.FindFault.{FindFault}
-use Rattle.tt_find.specs.declared.fault.FindFault.TheVariants.{Refused, OutOfMemory}
+use Rattle.tt_cert.specs.declared.fault.ProgramFault.{ProgramFault}
+use Rattle.tt_cert.specs.declared.fault.ProgramFault.TheVariants.{Refused, OutOfMemory}
 use Rattle.tt_find.specs.declared.table.Table.{Table}
-use Rattle.tt_find.specs.Found.{AreDerivedContexts, AreLeastContexts, HasLeastFilling, KeepsBodies, IsDerived, IsJustified, IsLeast, IsNeverEnding, IsWantOfMemory, LacksEnd, NamesPlace, NeedsAll, NoneIsGood, too_long, refused, apart, too_many, never_ends}
+use Rattle.tt_find.specs.Found.{AreDerivedContexts, AreLeastContexts, HasLeastFilling, KeepsBodies, IsDerived, IsJustified, IsLeast, IsNeverEnding, LacksEnd, NamesPlace, NeedsAll, NoneIsGood, too_long, refused, apart, too_many, never_ends}
 use Rattle.tt_find.specs.Tables.{HasLaws, IsAmong, IsListed, IsWhole, MayLead}
 use Rattle.tt_find.proofs.Many.{few_from_all}
 use Rattle.tt_find.proofs.Marking.{kept_state}
@@ -277,7 +277,7 @@ module _ (s : Setting) (functions : List (ℕ × ℕ)) (laws : HasLaws s functio
   none_or_endless p r (too_many q h) = inr (λ family short good few. none_where_many h.contexts h.derived h.many family good few)
   none_or_endless p r (never_ends family h) = inl refl
 
-  pub none_good_from : (fault : FindFault) → NamesPlace (IsJustified s functions) fault → IsWantOfMemory fault ⊎ IsNeverEnding fault ⊎ NoneIsGood s functions
+  pub none_good_from : (fault : ProgramFault) → NamesPlace (IsJustified s functions) fault → IsWantOfMemory fault ⊎ IsNeverEnding fault ⊎ NoneIsGood s functions
   none_good_from (Refused spot offset r) (p, e, f, h) = elim (none_or_endless p r h) [ inl ends ↦ inr (inl ends) | inr none ↦ inr (inr none) ]
   none_good_from (OutOfMemory e) h = inl tt
 
@@ -287,7 +287,7 @@ module _ (s : Setting) (functions : List (ℕ × ℕ)) (laws : HasLaws s functio
   lacks_short CvtProgram family endless = tt
   lacks_short (GlyphProgram points contours) family endless = absurd (endless tt)
 
-  pub never_ends_from : (family : Place → Option State) → LacksEnd s functions family → (fault : FindFault) → NamesPlace (IsJustified s functions) fault → IsWantOfMemory fault ⊎ IsNeverEnding fault
+  pub never_ends_from : (family : Place → Option State) → LacksEnd s functions family → (fault : ProgramFault) → NamesPlace (IsJustified s functions) fault → IsWantOfMemory fault ⊎ IsNeverEnding fault
   never_ends_from family lacks fault h = elim (none_good_from fault h) [
     | inl memory ↦ inl memory
     | inr (inl ends) ↦ inr ends

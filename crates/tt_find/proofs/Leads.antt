@@ -1,43 +1,66 @@
 -- Where a state is led to, and from where it comes there.
-use Rattle.std.specs.Prelude.{◌≡◌, ℕ, ◌<◌, Option, List, [], ◌∷◌, length, reverse}
-use Rattle.std.proofs.Common.{refl, sym, ◌∙◌, ap, subst, inl, inr}
+use Rattle.std.specs.Prelude.{◌≡◌, ℕ, zero, suc, ◌+◌, ◌<◌, Option, Some, None, List, [], ◌∷◌, ◌++◌, drop, length, map, reverse, slice_get}
+use Rattle.std.proofs.Common.{refl, sym, ◌∙◌, ap, subst, inl, inr, arith}
 use Rattle.tt_code.specs.Settings.{Setting}
 use Rattle.tt_code.specs.declared.machine.Frame.{Frame}
+use Rattle.tt_code.specs.declared.reason.Reason.TheVariants.{TooManyContexts}
 use Rattle.tt_abs.specs.declared.moves.Move.{Move}
+use Rattle.tt_abs.specs.declared.moves.Moves.{Moves}
 use Rattle.tt_abs.specs.declared.state.State.{State}
 use Rattle.tt_abs.specs.FamilyLaws.{derived_is}
 use Rattle.tt_abs.specs.Lines.{Precedes}
-use Rattle.tt_abs.specs.Moves.{frames_behind, offset_behind}
+use Rattle.tt_abs.specs.Moves.{frames_behind, offset_behind, ways_of}
 use Rattle.tt_abs.specs.StateFlow.{Place, flow_of, height_of}
 use Rattle.tt_abs.specs.States.{state_order}
-use Rattle.tt_cert.specs.Contents.{AddsContext, Contents, IsFamily, frames_at}
+use Rattle.tt_cert.specs.Contents.{AddsContext, Contents, HasContext, IsFamily, frames_at}
 use Rattle.tt_cert.specs.Places.{states_of}
 use Rattle.tt_cert.specs.Puts.{place_of}
 use Rattle.tt_cert.specs.Spots.{spot_of}
-use Rattle.tt_find.specs.Tables.{AreInTurn, ComesFrom, HasLaws, IsJustAfter, IsLeading, IsOnWay, IsStored, IsWalk, IsWhole, TellsSource}
+use Rattle.tt_cert.specs.Checks.{IsWantOfMemory}
+use Rattle.tt_cert.specs.declared.fault.ContextFault.{ContextFault}
+use Rattle.tt_cert.specs.declared.fault.ContextFault.TheVariants.{TooManyContexts as TooMany, OutOfMemory as NoMemory}
+use Rattle.tt_cert.specs.declared.fault.ProgramFault.{ProgramFault}
+use Rattle.tt_cert.specs.declared.fault.ProgramFault.TheVariants.{Refused, OutOfMemory}
+use Rattle.tt_find.specs.Found.{IsJustified, NamesPlace}
+use Rattle.tt_find.specs.Tables.{ComesFrom, IsCountable, HasLaws, IsJustAfter, IsLeading, IsLeadingAt, IsLeadingOn, IsLeadingTo, IsOnWay, IsStored, IsWalk, IsWhole, TellsSource, calls_of, here_of, place_behind, place_over, places_from}
 use Rattle.tt_find.specs.declared.source.Source.{Source}
 use Rattle.tt_find.specs.declared.source.Source.TheVariants.{JustBefore, Elsewhere}
 use Rattle.tt_find.specs.declared.table.Table.{Table}
 use Rattle.tt_find.specs.declared.walk.Walk.{Walk}
 use Rattle.tt_find.proofs.Points.{frames_stay}
-use Rattle.tt_find.proofs.Steps.{leading_ends, leading_grown, leading_put, leading_swap}
+use Rattle.tt_find.proofs.Steps.{countable_left, leading_ends, leading_grown, leading_put, leading_swap, names_at, too_many_left}
 
--- a place at an offset of the same context
+drop_next : {A : Type 0} (xs : List A) (i : ℕ) (x : A) → slice_get xs i ≡ Some x → drop i xs ≡ x ∷ drop (suc i) xs
+drop_next [] i x e = absurd (cc)
+drop_next (y ∷ xs) zero x e = let same : y ≡ x = cc in ap (λ z. z ∷ xs) same
+drop_next (y ∷ xs) (suc i) x e = drop_next xs i x e
 
-pub just_from : (s : Setting) (p : Place) (after : Option ℕ) (next : ℕ) (source : Source) → IsJustAfter s p after → TellsSource after next source → source ≡ JustBefore → Precedes s p (p.0, next)
-just_from s p after next source is tells before = (is (p.0, next)).0 (refl, tells.0 before)
+drop_found : {A : Type 0} (xs : List A) (i : ℕ) (x : A) → slice_get xs i ≡ Some x → drop i xs ≡ x ∷ drop (i + 1) xs
+drop_found xs i x e = let next : suc i ≡ i + 1 = omega arith in drop_next xs i x e ∙ ap (λ n. x ∷ drop n xs) next
 
-pub comes_here : (s : Setting) (p : Place) (after : Option ℕ) (next : ℕ) (source : Source) → IsJustAfter s p after → TellsSource after next source → ComesFrom s p (p.0, next) source
-comes_here s p after next source is tells = (
-  (λ before. just_from s p after next source is tells before),
+drop_none : {A : Type 0} (xs : List A) (i : ℕ) → slice_get xs i ≡ None → drop i xs ≡ []
+drop_none [] zero e = refl
+drop_none [] (suc i) e = refl
+drop_none (y ∷ xs) zero e = absurd (cc)
+drop_none (y ∷ xs) (suc i) e = drop_none xs i e
+
+-- a state comes from just before
+pub comes_before : (s : Setting) (p q : Place) → Precedes s p q → ComesFrom s p q JustBefore
+comes_before s p q just = ((λ _. just), (λ away _. let no_such : JustBefore ≡ Elsewhere = away in cc))
+
+-- from where a state comes to a place
+pub comes_by : (s : Setting) (v : Contents) (c off number next : ℕ) (after : Option ℕ) (source : Source) → IsFamily v → c < length v.contexts → number < length v.contexts
+    → IsJustAfter s (place_of v c off) after → TellsSource c number after next source → ComesFrom s (place_of v c off) (place_of v number next) source
+comes_by s v c off number next after source family lt there is tells = (
+  (λ before.
+      let (same, at) = tells.0 before in
+      let P : ℕ → Type 0 = λ x. Precedes s (place_of v c off) (place_of v x next) in
+      subst P (sym same) ((is (place_of v c next)).0 (refl, at))),
   (λ away just.
-      let before : source ≡ JustBefore = tells.1 ((is (p.0, next)).1 just).1 in
+      let same : number ≡ c = family.distinct number c there lt just.calls in
+      let before : source ≡ JustBefore = tells.1 (same, ((is (place_of v number next)).1 just).1) in
       let no_such : JustBefore ≡ Elsewhere = sym before ∙ away in cc),
 )
-
--- a place of another context
-pub comes_away : (s : Setting) (p q : Place) → (q.0 ≡ p.0 → ⊥) → ComesFrom s p q Elsewhere
-comes_away s p q other = ((λ before. let no_such : Elsewhere ≡ JustBefore = before in absurd (cc)), (λ _ just. other just.calls))
 
 module _ (s : Setting) (functions : List (ℕ × ℕ)) (laws : HasLaws s functions) where
   pub ranged_to : (table : Table) (p q : Place) (t : State) (qs : List Place) → IsLeading s functions table p (q ∷ qs) t → state_order.InRange t
@@ -53,63 +76,122 @@ module _ (s : Setting) (functions : List (ℕ × ℕ)) (laws : HasLaws s functio
   whole_put old new p c off t source leading lt stored comes =
       leading_ends s functions laws new p t (leading_put s functions laws old new p c off t [] source leading lt stored comes)
 
-  -- two places, in either order
-  pub leading_turned : (table : Table) (p : Place) (fs : List Frame) (first second sooner later : ℕ) (t : State) → IsLeading s functions table p ((fs, first) ∷ (fs, second) ∷ []) t
-      → AreInTurn first second sooner later → IsLeading s functions table p ((fs, sooner) ∷ (fs, later) ∷ []) t
-  leading_turned table p fs first second sooner later t leading turn =
-      let L : ℕ × ℕ → Type 0 = λ x. IsLeading s functions table p ((fs, x.0) ∷ (fs, x.1) ∷ []) t in
-      elim turn [
-        | inl (a, b) ↦ let both : ◌≡◌ {A = ℕ × ℕ} (first, second) (sooner, later) = λ i. (sym a i, sym b i) in subst L both leading
-        | inr (a, b) ↦
-            let both : ◌≡◌ {A = ℕ × ℕ} (second, first) (sooner, later) = λ i. (sym a i, sym b i) in
-            subst L both (leading_swap s functions laws table p (fs, first) (fs, second) t leading)
-      ]
+  -- the fault that tells of a context too many
+  pub not_entered : (p : Place) (fault : ContextFault) (result : ProgramFault) → (fault ≡ TooMany → result ≡ Refused (spot_of p.0) p.1 TooManyContexts) → (fault ≡ NoMemory → IsWantOfMemory result)
+      → (fault ≡ TooMany → IsJustified s functions p TooManyContexts) → NamesPlace (IsJustified s functions) result
+  not_entered p TooMany result full memory just = names_at (IsJustified s functions) p TooManyContexts result (full refl) (just refl)
+  not_entered p NoMemory result full memory just = no_memory result (memory refl)
+    where
+      no_memory : (result : ProgramFault) → IsWantOfMemory result → NamesPlace (IsJustified s functions) result
+      no_memory (Refused spot offset r) never = absurd never
+      no_memory (OutOfMemory e) h = tt
 
-  -- the first of two places of one context has the state now
-  pub leading_later : (old new : Table) (c off sooner later : ℕ) (t : State) (source : Source)
-      → IsLeading s functions old (place_of old.builder c off) (place_of old.builder c sooner ∷ place_of old.builder c later ∷ []) t → c < length old.builder.contexts
-      → IsStored old new c sooner t source → ComesFrom s (place_of old.builder c off) (place_of old.builder c sooner) source
-      → IsLeading s functions new (place_of new.builder c off) (place_of new.builder c later ∷ []) t
-  leading_later old new c off sooner later t source leading lt stored comes =
-      let put = leading_put s functions laws old new (place_of old.builder c off) c sooner t (place_of old.builder c later ∷ []) source leading lt stored comes in
-      let L : List (List Frame) → Type 0 = λ x. IsLeading s functions new (frames_at x c, off) ((frames_at x c, later) ∷ []) t in
-      subst L (sym stored.put.contexts) put
+  -- The state is led to one place after the other.
 
-  -- the way leads to a context that may be new
-  module _ (table : Table) (v' : Contents) (c off : ℕ) (way : Move) (number next : ℕ) (t : State) (lt : c < length table.builder.contexts)
-      (leading : IsLeading s functions table (place_of table.builder c off) ((frames_behind (frames_at table.builder.contexts c) way, offset_behind (frames_at table.builder.contexts c) way) ∷ []) t)
-      (adds : AddsContext table.builder.contexts v'.contexts (frames_behind (frames_at table.builder.contexts c) way) number)
-      (offset : next ≡ offset_behind (frames_at table.builder.contexts c) way) (states : v'.states ≡ table.builder.states) (family' : IsFamily v') where
-    stay : (frames_at v'.contexts c ≡ frames_at table.builder.contexts c) × (c < length v'.contexts)
-    stay = frames_stay table.builder.contexts v'.contexts (frames_behind (frames_at table.builder.contexts c) way) number c adds lt
+  -- the place of the next way comes first
+  way_first : (table : Table) (p : Place) (fs : List Frame) (ways : Moves) (index : ℕ) (over : Option ℕ) (way : Move) (t : State) → slice_get (ways_of ways) index ≡ Some way
+      → IsLeading s functions table p (place_over fs over ++ places_from fs ways index) t
+      → IsLeading s functions table p (place_behind fs way ∷ place_over fs over ++ places_from fs ways (index + 1)) t
+  way_first table p fs ways index None way t e leading =
+      let L : List Place → Type 0 = λ x. IsLeading s functions table p x t in
+      subst L (ap (map (place_behind fs)) (drop_found (ways_of ways) index way e)) leading
+  way_first table p fs ways index (Some o) way t e leading =
+      let L : List Place → Type 0 = λ x. IsLeading s functions table p ((fs, o) ∷ x) t in
+      leading_swap s functions laws table p (fs, o) (place_behind fs way) (places_from fs ways (index + 1)) t
+      (subst L (ap (map (place_behind fs)) (drop_found (ways_of ways) index way e)) leading)
 
-    pub reached : IsLeading s functions (record table { builder = v' }) (place_of v' c off) (place_of v' number next ∷ []) t
+  -- its context may be new
+  module _ (table : Table) (walk : Walk) (off : ℕ) (after : Option ℕ) (ways : Moves) (index : ℕ) (over : Option ℕ) (v' : Contents) (way : Move) (number next : ℕ)
+      (on : IsLeadingOn s functions table walk off after ways index over) (found : slice_get (ways_of ways) index ≡ Some way)
+      (adds : AddsContext table.builder.contexts v'.contexts (frames_behind (calls_of table walk) way) number)
+      (offset : next ≡ offset_behind (calls_of table walk) way) (states : v'.states ≡ table.builder.states) (family' : IsFamily v') where
+    stay : (frames_at v'.contexts walk.context ≡ calls_of table walk) × (walk.context < length v'.contexts)
+    stay = frames_stay table.builder.contexts v'.contexts (frames_behind (calls_of table walk) way) number walk.context adds on.walks.there
+
+    pub walk_still : IsWalk v' walk
+    walk_still = record {
+      there = stay.1;
+      calls = on.walks.calls ∙ ap reverse (sym stay.0);
+      spot = on.walks.spot ∙ ap spot_of (sym stay.0);
+      known = λ a b known. ap (λ x. states_of x (a, b)) states ∙ on.walks.known a b known;
+    }
+
+    pub reached : IsLeadingTo s functions (record table { builder = v' }) walk off after ways (index + 1) over number next
     reached =
-        let grown = leading_grown s functions laws table v' (place_of table.builder c off) (frames_behind (frames_at table.builder.contexts c) way) number
-        (offset_behind (frames_at table.builder.contexts c) way) t leading adds states family' in
-        let L : Place × Place → Type 0 = λ x. IsLeading s functions (record table { builder = v' }) x.0 (x.1 ∷ []) t in
-        let both : ◌≡◌ {A = Place × Place} (place_of table.builder c off, (frames_behind (frames_at table.builder.contexts c) way, offset_behind (frames_at table.builder.contexts c) way))
-        (place_of v' c off, place_of v' number next) = λ i. ((sym stay.0 i, off), (sym adds.at i, sym offset i)) in
-        subst L both grown
+        let fs = calls_of table walk in
+        let qs = place_over fs over ++ places_from fs ways (index + 1) in
+        let grown = leading_grown s functions laws table v' (fs, off) (frames_behind fs way) number (offset_behind fs way) walk.state qs
+        (way_first table (fs, off) fs ways index over way walk.state found on.leading) adds states family' in
+        let L : List Frame × Place → Type 0 =
+        λ x. IsLeading s functions (record table { builder = v' }) (x.0, off) (x.1 ∷ place_over x.0 over ++ places_from x.0 ways (index + 1)) walk.state in
+        let both : ◌≡◌ {A = List Frame × Place} (fs, place_behind fs way) (frames_at v'.contexts walk.context, place_of v' number next) = λ i. (sym stay.0 i, (sym adds.at i, sym offset i)) in
+        let A : List Frame → Type 0 = λ x. IsJustAfter s (x, off) after in
+        record { leading = subst L both grown; there = adds.there; just_after = subst A (sym stay.0) on.just_after; goes_over = on.goes_over; walks = walk_still }
 
-    pub reached_here : number ≡ c → IsLeading s functions (record table { builder = v' }) (place_of v' c off) (place_of v' c next ∷ []) t
-    reached_here same =
-        let L : ℕ → Type 0 = λ n. IsLeading s functions (record table { builder = v' }) (place_of v' c off) (place_of v' n next ∷ []) t in
-        subst L same reached
+  -- so it is where the walk's context has this number
+  module _ (table : Table) (walk : Walk) (off : ℕ) (after : Option ℕ) (ways : Moves) (index : ℕ) (over : Option ℕ) (way : Move) (here : ℕ) (same : walk.context ≡ here)
+      (on : IsLeadingOn s functions table walk off after ways index over) (found : slice_get (ways_of ways) index ≡ Some way) where
+    pub reached_from : (v' : Contents) (number next : ℕ) → AddsContext table.builder.contexts v'.contexts (frames_behind (frames_at table.builder.contexts here) way) number
+        → next ≡ offset_behind (frames_at table.builder.contexts here) way → v'.states ≡ table.builder.states → IsFamily v'
+        → IsLeadingTo s functions (record table { builder = v' }) walk off after ways (index + 1) over number next
+    reached_from v' number next adds offset states family' =
+        let A : ℕ → Type 0 = λ n. AddsContext table.builder.contexts v'.contexts (frames_behind (frames_at table.builder.contexts n) way) number in
+        let O : ℕ → Type 0 = λ n. next ≡ offset_behind (frames_at table.builder.contexts n) way in
+        reached table walk off after ways index over v' way number next on found (subst A (sym same) adds) (subst O (sym same) offset) states family'
 
-    pub just_after_still : (after : Option ℕ) → IsJustAfter s (place_of table.builder c off) after → IsJustAfter s (place_of v' c off) after
-    just_after_still after is = let A : List Frame → Type 0 = λ x. IsJustAfter s (x, off) after in subst A (sym stay.0) is
+    pub countable_on : IsCountable table.builder.contexts here
+    countable_on =
+        let C : ℕ → Type 0 = λ n. IsCountable table.builder.contexts n in
+        subst C same (countable_left s functions laws table walk.context _ _ on.leading.sound on.walks.there)
 
-    pub away : (number ≡ c → ⊥) → ComesFrom s (place_of v' c off) (place_of v' number next) Elsewhere
-    away other = comes_away s (place_of v' c off) (place_of v' number next) (λ same. other (family'.distinct number c adds.there stay.1 same))
+    -- there is one context too many
+    pub too_many_on : (HasContext table.builder.contexts (frames_behind (frames_at table.builder.contexts here) way) → ⊥) → length table.builder.contexts ≡ 65535
+        → IsJustified s functions (frames_at table.builder.contexts here, off) TooManyContexts
+    too_many_on absent full =
+        let fs = calls_of table walk in
+        let qs = place_over fs over ++ places_from fs ways (index + 1) in
+        let H : ℕ → Type 0 = λ n. HasContext table.builder.contexts (frames_behind (frames_at table.builder.contexts n) way) → ⊥ in
+        let J : ℕ → Type 0 = λ n. IsJustified s functions (frames_at table.builder.contexts n, off) TooManyContexts in
+        subst J same (too_many_left s functions laws table (fs, off) (place_behind fs way) walk.state qs (way_first table (fs, off) fs ways index over way walk.state found on.leading) (subst H (sym same) absent) full)
 
-    pub walk_still : (walk : Walk) → walk.context ≡ c → IsWalk table.builder walk → IsWalk v' walk
-    walk_still walk here is =
-        let same : frames_at v'.contexts walk.context ≡ frames_at table.builder.contexts walk.context = ap (frames_at v'.contexts) here ∙ stay.0 ∙ ap (frames_at table.builder.contexts) (sym here) in
-        let T : ℕ → Type 0 = λ n. n < length v'.contexts in
-        record {
-          there = subst T (sym here) stay.1;
-          calls = is.calls ∙ ap reverse (sym same);
-          spot = is.spot ∙ ap spot_of (sym same);
-          known = λ a b known. ap (λ x. states_of x (a, b)) states ∙ is.known a b known;
-        }
+  -- over it the state goes last
+  pub held : (table : Table) (walk : Walk) (off : ℕ) (after : Option ℕ) (ways : Moves) (index number next : ℕ) → IsLeadingTo s functions table walk off after ways index None number next
+      → number ≡ walk.context → after ≡ Some next → IsLeadingOn s functions table walk off after ways index (Some next)
+  held table walk off after ways index number next to same at =
+      let L : ℕ → Type 0 = λ x. IsLeadingAt s functions table walk off (place_of table.builder x next ∷ places_from (calls_of table walk) ways index) in
+      record { leading = subst L same to.leading; just_after = to.just_after; goes_over = λ n e. let one : next ≡ n = cc in at ∙ ap Some one; walks = to.walks }
+
+  -- it has the state now
+  pub put : (old new : Table) (walk walk' : Walk) (off : ℕ) (after : Option ℕ) (ways : Moves) (index : ℕ) (over : Option ℕ) (number next : ℕ) (source : Source)
+      → IsLeadingTo s functions old walk off after ways index over number next → IsStored old new number next walk.state source → TellsSource walk.context number after next source
+      → IsWalk new.builder walk' → walk'.context ≡ walk.context → walk'.state ≡ walk.state → IsLeadingOn s functions new walk' off after ways index over
+  put old new walk walk' off after ways index over number next source to stored tells is context state =
+      let fs = calls_of old walk in
+      let comes = comes_by s old.builder walk.context off number next after source to.leading.sound.kept.family to.walks.there to.there to.just_after tells in
+      let led = leading_put s functions laws old new (fs, off) number next walk.state (place_over fs over ++ places_from fs ways index) source to.leading to.there stored comes in
+      let L : List (List Frame) × ℕ × State → Type 0 =
+      λ x. IsLeading s functions new (frames_at x.0 x.1, off) (place_over (frames_at x.0 x.1) over ++ places_from (frames_at x.0 x.1) ways index) x.2 in
+      let all : ◌≡◌ {A = List (List Frame) × ℕ × State} (old.builder.contexts, walk.context, walk.state) (new.builder.contexts, walk'.context, walk'.state) =
+      λ i. (sym stored.put.contexts i, sym context i, sym state i) in
+      let A : List (List Frame) × ℕ → Type 0 = λ x. IsJustAfter s (frames_at x.0 x.1, off) after in
+      let both : ◌≡◌ {A = List (List Frame) × ℕ} (old.builder.contexts, walk.context) (new.builder.contexts, walk'.context) = λ i. (sym stored.put.contexts i, sym context i) in
+      record { leading = subst L all led; just_after = subst A both to.just_after; goes_over = to.goes_over; walks = is }
+
+  -- after the last of them
+  pub none_over : (table : Table) (walk : Walk) (off : ℕ) (after : Option ℕ) (ways : Moves) (index : ℕ) (over : Option ℕ) → IsLeadingOn s functions table walk off after ways index over
+      → slice_get (ways_of ways) index ≡ None → over ≡ None → IsWhole s functions table
+  none_over table walk off after ways index over on none is =
+      let L : Option ℕ × List Move → Type 0 = λ x. IsLeadingAt s functions table walk off (place_over (calls_of table walk) x.0 ++ map (place_behind (calls_of table walk)) x.1) in
+      let both : ◌≡◌ {A = Option ℕ × List Move} (over, drop index (ways_of ways)) (None, []) = λ i. (is i, drop_none (ways_of ways) index none i) in
+      leading_ends s functions laws table (here_of table.builder walk off) walk.state (subst L both on.leading)
+
+  pub last_over : (table : Table) (walk : Walk) (off : ℕ) (after : Option ℕ) (ways : Moves) (index : ℕ) (over : Option ℕ) (next : ℕ) → IsLeadingOn s functions table walk off after ways index over
+      → slice_get (ways_of ways) index ≡ None → over ≡ Some next → IsLeadingAt s functions table walk off (here_of table.builder walk next ∷ [])
+  last_over table walk off after ways index over next on none is =
+      let L : Option ℕ × List Move → Type 0 = λ x. IsLeadingAt s functions table walk off (place_over (calls_of table walk) x.0 ++ map (place_behind (calls_of table walk)) x.1) in
+      let both : ◌≡◌ {A = Option ℕ × List Move} (over, drop index (ways_of ways)) (Some next, []) = λ i. (is i, drop_none (ways_of ways) index none i) in
+      subst L both on.leading
+
+  pub just_over : (table : Table) (walk : Walk) (off : ℕ) (after : Option ℕ) (ways : Moves) (index : ℕ) (over : Option ℕ) (next : ℕ) → IsLeadingOn s functions table walk off after ways index over
+      → over ≡ Some next → Precedes s (here_of table.builder walk off) (here_of table.builder walk next)
+  just_over table walk off after ways index over next on is = (on.just_after (here_of table.builder walk next)).0 (refl, on.goes_over next is)

@@ -23,8 +23,8 @@ use Rattle.tt_cert.specs.Places.{PutGives, PutsAt, has_point, states_of}
 use Rattle.tt_cert.specs.Puts.{family_at, number_at, place_of}
 use Rattle.tt_cert.specs.Spots.{spot_of}
 use Rattle.tt_cert.proofs.Puts.{cases_place}
-use Rattle.tt_find.specs.declared.fault.FindFault.{FindFault}
-use Rattle.tt_find.specs.declared.fault.FindFault.TheVariants.{Refused, OutOfMemory}
+use Rattle.tt_cert.specs.declared.fault.ProgramFault.{ProgramFault}
+use Rattle.tt_cert.specs.declared.fault.ProgramFault.TheVariants.{Refused, OutOfMemory}
 use Rattle.tt_find.specs.Marks.{SetsMark, mark_of}
 use Rattle.tt_find.specs.declared.marks.Mark.TheVariants.{Kept, Passed}
 use Rattle.tt_find.specs.declared.marks.Marks.{Marks}
@@ -33,7 +33,7 @@ use Rattle.tt_find.specs.declared.stop.Stop.{Stop}
 use Rattle.tt_find.specs.declared.stop.Stop.TheVariants.{Fault, Met}
 use Rattle.tt_find.specs.declared.table.Table.{Table}
 use Rattle.tt_find.specs.Found.{AreDerivedContexts, IsDerived, IsJustified, IsNeeded, NamesPlace, NamesStop, refused, apart, too_many}
-use Rattle.tt_find.specs.Tables.{ArePoints, AreVisits, ComesFrom, HasLaws, HasRisen, IsAmong, IsApart, IsCarriedOn, IsCountable, IsLeading, IsListed, IsOnWay, IsPassed, IsPopped, IsPut, IsRefusedAt, IsSound, IsStored, IsTable, IsWhole, IsWithinBudget, KeepsRest, MayLead, Pends, PendsFrom, SparesAt, places_behind}
+use Rattle.tt_find.specs.Tables.{ArePoints, AreVisits, ComesFrom, HasLaws, HasRisen, IsAmong, IsApart, IsCarriedOn, IsCountable, IsLeading, IsListed, IsOnWay, IsPassed, IsPopped, IsPut, IsRefusedAt, IsSound, IsStored, IsTable, IsWhole, IsWithinBudget, KeepsRest, MayLead, Pends, PendsFrom, SparesAt, places_from}
 use Rattle.tt_find.proofs.Budget.{budget_put, budget_same, room_for, updates_fit}
 use Rattle.tt_find.proofs.Listed.{cases_source, listed_back, listed_before, listed_grown, listed_now, listed_on, there_now}
 use Rattle.tt_find.proofs.Marking.{kept_here, kept_passed, kept_put, kept_state, none_kept}
@@ -43,7 +43,7 @@ use Rattle.tt_find.proofs.Visits.{more_elsewhere, more_here, more_rises, one_mor
 use Rattle.tt_find.proofs.Waits.{point_behind, point_here}
 use Rattle.tt_find.proofs.Ways.{end_gives, end_safe, ways_give, ways_safe}
 
-pub names_map : (A B : Place → Reason → Type 0) → ((p : Place) (r : Reason) → A p r → B p r) → (fault : FindFault) → NamesPlace A fault → NamesPlace B fault
+pub names_map : (A B : Place → Reason → Type 0) → ((p : Place) (r : Reason) → A p r → B p r) → (fault : ProgramFault) → NamesPlace A fault → NamesPlace B fault
 names_map A B turn (Refused spot offset r) (p, e, f, h) = (p, e, f, turn p r h)
 names_map A B turn (OutOfMemory e) h = tt
 
@@ -53,8 +53,8 @@ stop_map A B everywhere everywhere' same turn (Fault fault) h = names_map A B tu
 stop_map A B everywhere everywhere' same turn Met h = sym same ∙ h
 
 -- a fault that is at a place
-pub names_at : (Is : Place → Reason → Type 0) (p : Place) (r : Reason) (fault : FindFault) → fault ≡ Refused (spot_of p.0) p.1 r → Is p r → NamesPlace Is fault
-names_at Is p r fault e h = let N : FindFault → Type 0 = λ x. NamesPlace Is x in subst N (sym e) (p, refl, refl, h)
+pub names_at : (Is : Place → Reason → Type 0) (p : Place) (r : Reason) (fault : ProgramFault) → fault ≡ Refused (spot_of p.0) p.1 r → Is p r → NamesPlace Is fault
+names_at Is p r fault e h = let N : ProgramFault → Type 0 = λ x. NamesPlace Is x in subst N (sym e) (p, refl, refl, h)
 
 pub risen_on : (a b c : Table) → HasRisen a b → HasRisen b c → HasRisen a c
 risen_on a b c h k =
@@ -65,10 +65,10 @@ risen_on a b c h k =
     record { waiting = omega arith; changes = omega arith }
 
 -- what is put of two ways
-pends_swap : (q r : Place) (t : State) (p : Place) (u : State) → Pends (q ∷ r ∷ []) t p u → Pends (r ∷ q ∷ []) t p u
-pends_swap q r t p u h = elim h [
+pends_swap : (q r : Place) (qs : List Place) (t : State) (p : Place) (u : State) → Pends (q ∷ r ∷ qs) t p u → Pends (r ∷ q ∷ qs) t p u
+pends_swap q r qs t p u h = elim h [
   | inl first ↦ inr (inl first)
-  | inr rest ↦ elim rest [ inl second ↦ inl second | inr never ↦ absurd never ]
+  | inr rest ↦ elim rest [ inl second ↦ inl second | inr more ↦ inr (inr more) ]
 ]
 
 module _ (s : Setting) (functions : List (ℕ × ℕ)) (laws : HasLaws s functions) where
@@ -159,7 +159,7 @@ module _ (s : Setting) (functions : List (ℕ × ℕ)) (laws : HasLaws s functio
 
   -- it leads on
   pub way_leads : (table : Table) (p : Place) (a : State) (ways : Moves) (end : ℕ) (t : State) → IsOnWay s functions table p a → IsCarriedOn s p a ways end t
-      → IsLeading s functions table p (places_behind p.0 ways) t
+      → IsLeading s functions table p (places_from p.0 ways 0) t
   way_leads table p a ways end t way on =
       let sound = way.sound in
       let give = ways_give s p a ways t on.running on.result on.in_range in
@@ -169,7 +169,7 @@ module _ (s : Setting) (functions : List (ℕ × ℕ)) (laws : HasLaws s functio
         gives = λ q u h. (give q u).0 h;
         sound = record {
           filled = sound.filled;
-          kept = table_opened state_order (flow_of s functions) state_laws table.builder table.waiting sound.filled (MayLead s table.builder table.spare.keys) p a (PendsFrom p (places_behind p.0 ways) t)
+          kept = table_opened state_order (flow_of s functions) state_laws table.builder table.waiting sound.filled (MayLead s table.builder table.spare.keys) p a (PendsFrom p (places_from p.0 ways 0) t)
               sound.kept way.here (ways_safe s p a ways t on.running on.result on.in_range) (λ q u g. (refl, (give q u).1 g)) (λ r q u h. (give q u).0 h.1);
           marks = sound.marks;
           start = sound.start;
@@ -215,13 +215,13 @@ module _ (s : Setting) (functions : List (ℕ × ℕ)) (laws : HasLaws s functio
       }
 
   -- the other of two ways may come first
-  pub leading_swap : (table : Table) (p q r : Place) (t : State) → IsLeading s functions table p (q ∷ r ∷ []) t → IsLeading s functions table p (r ∷ q ∷ []) t
-  leading_swap table p q r t leading =
+  pub leading_swap : (table : Table) (p q r : Place) (qs : List Place) (t : State) → IsLeading s functions table p (q ∷ r ∷ qs) t → IsLeading s functions table p (r ∷ q ∷ qs) t
+  leading_swap table p q r qs t leading =
       let sound = leading.sound in
       record {
         state = leading.state;
         derived = leading.derived;
-        gives = λ x u h. leading.gives x u (pends_swap r q t x u h);
+        gives = λ x u h. leading.gives x u (pends_swap r q qs t x u h);
         sound = record {
           filled = sound.filled;
           kept = record {
@@ -230,10 +230,10 @@ module _ (s : Setting) (functions : List (ℕ × ℕ)) (laws : HasLaws s functio
             held = sound.kept.held;
             sound = record {
               derived = sound.kept.sound.derived;
-              rest_derived = λ from x u h. sound.kept.sound.rest_derived from x u (h.0, pends_swap r q t x u h.1);
+              rest_derived = λ from x u h. sound.kept.sound.rest_derived from x u (h.0, pends_swap r q qs t x u h.1);
               start = sound.kept.sound.start;
               safe = sound.kept.sound.safe;
-              closed = λ p' a x u at free gives. elim (sound.kept.sound.closed p' a x u at free gives) [ inl covered ↦ inl covered | inr rest ↦ inr (rest.0, pends_swap q r t x u rest.1) ];
+              closed = λ p' a x u at free gives. elim (sound.kept.sound.closed p' a x u at free gives) [ inl covered ↦ inl covered | inr rest ↦ inr (rest.0, pends_swap q r qs t x u rest.1) ];
             };
           };
           marks = sound.marks;
@@ -530,7 +530,7 @@ module _ (s : Setting) (functions : List (ℕ × ℕ)) (laws : HasLaws s functio
 
   -- One more context may be there.
 
-  module _ (table : Table) (v' : Contents) (p : Place) (frames : List Frame) (number off : ℕ) (t : State) (leading : IsLeading s functions table p ((frames, off) ∷ []) t)
+  module _ (table : Table) (v' : Contents) (p : Place) (frames : List Frame) (number off : ℕ) (t : State) (qs : List Place) (leading : IsLeading s functions table p ((frames, off) ∷ qs) t)
       (adds : AddsContext table.builder.contexts v'.contexts frames number) (states : v'.states ≡ table.builder.states) (family' : IsFamily v') where
     family_old : IsFamily table.builder
     family_old = leading.sound.kept.family
@@ -551,7 +551,7 @@ module _ (s : Setting) (functions : List (ℕ × ℕ)) (laws : HasLaws s functio
         let most = number_of-place table.builder.contexts r.0 (number_of v'.contexts r.0) old (sym stay ∙ at-number_of v'.contexts r.0 there) in
         ap (has_point table.waiting) (sym (key_kept table.builder v' frames number adds states r (omega arith))) ∙ hit
 
-    pub leading_grown : IsLeading s functions (record table { builder = v' }) p ((frames, off) ∷ []) t
+    pub leading_grown : IsLeading s functions (record table { builder = v' }) p ((frames, off) ∷ qs) t
     leading_grown = record {
       state = leading.state;
       derived = leading.derived;
@@ -559,7 +559,7 @@ module _ (s : Setting) (functions : List (ℕ × ℕ)) (laws : HasLaws s functio
       sound = record {
         filled = leading.sound.filled;
         kept = table_grown state_order (flow_of s functions) state_laws table.builder v' table.waiting leading.sound.filled (MayLead s table.builder table.spare.keys) (MayLead s v' table.spare.keys)
-            (PendsFrom p ((frames, off) ∷ []) t) frames number off t leading.sound.kept adds states family' (leading.sound.kept.sound.rest_derived p (frames, off) t (refl, inl (refl, refl)))
+            (PendsFrom p ((frames, off) ∷ qs) t) frames number off t leading.sound.kept adds states family' (leading.sound.kept.sound.rest_derived p (frames, off) t (refl, inl (refl, refl)))
             (λ a b may. elim may [ inl just ↦ inl just | inr listed ↦ inr (listed_grown table.builder v' table.spare.keys frames number family_old family' adds states b listed) ]);
         marks = record {
           kept = λ r is. same_family r ∙ leading.sound.marks.kept r is;
@@ -604,7 +604,7 @@ module _ (s : Setting) (functions : List (ℕ × ℕ)) (laws : HasLaws s functio
   -- What justifies refusals.
 
   -- a derived state that is refused
-  pub refused_left : (p : Place) (a : State) → IsDerived s functions p a → (fault : FindFault) → NamesPlace (IsRefusedAt s p a) fault → NamesPlace (IsJustified s functions) fault
+  pub refused_left : (p : Place) (a : State) → IsDerived s functions p a → (fault : ProgramFault) → NamesPlace (IsRefusedAt s p a) fault → NamesPlace (IsJustified s functions) fault
   refused_left p a derived fault h =
       names_map (IsRefusedAt s p a) (IsJustified s functions) (λ q r x.
       let J : Place → Type 0 = λ y. IsJustified s functions y r in
@@ -620,9 +620,9 @@ module _ (s : Setting) (functions : List (ℕ × ℕ)) (laws : HasLaws s functio
       subst J both (apart at x.state t (leading.sound.kept.sound.derived at x.state there) (leading.sound.kept.sound.rest_derived p at t (refl, inl (refl, refl))) x.apart)
 
   -- one context too many
-  derived_contexts : (table : Table) (p q : Place) (t : State) → IsLeading s functions table p (q ∷ []) t → (HasContext table.builder.contexts q.0 → ⊥)
+  derived_contexts : (table : Table) (p q : Place) (t : State) (qs : List Place) → IsLeading s functions table p (q ∷ qs) t → (HasContext table.builder.contexts q.0 → ⊥)
       → AreDerivedContexts s functions (table.builder.contexts ++ q.0 ∷ [])
-  derived_contexts table p q t leading absent =
+  derived_contexts table p q t qs leading absent =
       let sound = leading.sound in
       let xs = table.builder.contexts in
       let y : List Frame = q.0 in
@@ -659,15 +659,15 @@ module _ (s : Setting) (functions : List (ℕ × ℕ)) (laws : HasLaws s functio
         ];
       }
 
-  pub too_many_left : (table : Table) (p q : Place) (t : State) → IsLeading s functions table p (q ∷ []) t → (HasContext table.builder.contexts q.0 → ⊥) → length table.builder.contexts ≡ 65535
+  pub too_many_left : (table : Table) (p q : Place) (t : State) (qs : List Place) → IsLeading s functions table p (q ∷ qs) t → (HasContext table.builder.contexts q.0 → ⊥) → length table.builder.contexts ≡ 65535
       → IsJustified s functions p TooManyContexts
-  too_many_left table p q t leading absent full =
+  too_many_left table p q t qs leading absent full =
       let xs = table.builder.contexts in
       let long = length-append xs (q.0 ∷ []) in
       let last : frames_at (xs ++ q.0 ∷ []) (length xs) ≡ q.0 = get_or-append_seam xs q.0 [] [] in
       too_many p (record {
         contexts = xs ++ q.0 ∷ [];
-        derived = derived_contexts table p q t leading absent;
+        derived = derived_contexts table p q t qs leading absent;
         many = omega arith;
         state = leading.state;
         here = leading.derived;

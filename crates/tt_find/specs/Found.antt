@@ -18,8 +18,8 @@ use Rattle.tt_cert.specs.Contents.{Contents, HasContext, family_of, frames_at}
 use Rattle.tt_cert.specs.Fillings.{HasGoodFilling, IsFilling}
 use Rattle.tt_cert.specs.GoodFamilies.{EndsWell, HasFewContexts, IsGoodFamily, IsShortEnough}
 use Rattle.tt_cert.specs.Spots.{spot_of}
-use Rattle.tt_find.specs.declared.fault.FindFault.{FindFault}
-use Rattle.tt_find.specs.declared.fault.FindFault.TheVariants.{Refused, OutOfMemory}
+use Rattle.tt_cert.specs.declared.fault.ProgramFault.{ProgramFault}
+use Rattle.tt_cert.specs.declared.fault.ProgramFault.TheVariants.{Refused, OutOfMemory}
 use Rattle.tt_find.specs.declared.stop.Stop.{Stop}
 use Rattle.tt_find.specs.declared.stop.Stop.TheVariants.{Fault, Met}
 
@@ -141,14 +141,9 @@ pub data IsJustified (s : Setting) (functions : List (ℕ × ℕ)) : Place → R
   never_ends : (family : Place → Option State) → LacksEnd s functions family → IsJustified s functions ([], 0) NeverEnds
 
 -- the fault names such a place, and the reason; want of memory says nothing
-abbrev pub NamesPlace : (Place → Reason → Type 0) → FindFault → Type 0
+abbrev pub NamesPlace : (Place → Reason → Type 0) → ProgramFault → Type 0
 NamesPlace Is (Refused spot offset reason) = (p : Place) × (spot ≡ spot_of p.0) × (offset ≡ p.1) × Is p reason
 NamesPlace Is (OutOfMemory e) = Unit {0}
-
--- a growth of memory was refused
-abbrev pub IsWantOfMemory : FindFault → Type 0
-IsWantOfMemory (Refused spot offset reason) = ⊥
-IsWantOfMemory (OutOfMemory e) = Unit {0}
 
 -- a state came where states had passed; where states are kept everywhere this isn't so
 abbrev pub NamesStop : (Place → Reason → Type 0) → Bool → Stop → Type 0
@@ -156,6 +151,6 @@ NamesStop Is everywhere (Fault fault) = NamesPlace Is fault
 NamesStop Is everywhere Met = everywhere ≡ false
 
 -- the end isn't reached
-abbrev pub IsNeverEnding : FindFault → Type 0
+abbrev pub IsNeverEnding : ProgramFault → Type 0
 IsNeverEnding (Refused spot offset reason) = reason ≡ NeverEnds
 IsNeverEnding (OutOfMemory e) = ⊥

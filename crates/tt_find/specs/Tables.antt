@@ -1,18 +1,18 @@
 -- What the finder keeps of the family so far, the points that are still to be carried on, and the count of updates.
-use Rattle.std.specs.Prelude.{◌≡◌, ◌≢◌, ℕ, ◌+◌, ◌*◌, ◌≤◌, ◌<◌, ◌^◌, ◌⊎◌, ◌↔◌, Bool, true, false, cond, Option, Some, None, List, [], ◌∷◌, Ok, length, reverse}
+use Rattle.std.specs.Prelude.{◌≡◌, ◌≢◌, ℕ, ◌+◌, ◌*◌, ◌≤◌, ◌<◌, ◌^◌, ◌⊎◌, ◌↔◌, Bool, true, false, cond, Option, Some, None, List, [], ◌∷◌, ◌++◌, Ok, drop, length, map, reverse}
 use Rattle.std.specs.List.{sum_by}
 use Rattle.tt_code.specs.Settings.{Setting, is_main_end}
 use Rattle.tt_code.specs.declared.machine.Frame.{Frame}
 use Rattle.tt_code.specs.declared.reason.Reason.{Reason}
 use Rattle.tt_code.specs.declared.reason.Reason.TheVariants.{DepthMismatch}
+use Rattle.tt_abs.specs.declared.moves.Move.{Move}
 use Rattle.tt_abs.specs.declared.moves.Moves.{Moves}
-use Rattle.tt_abs.specs.declared.moves.Moves.TheVariants as moves
 use Rattle.tt_abs.specs.declared.state.State.{State}
 use Rattle.tt_abs.specs.declared.stepping.Stepped.{Stepped}
 use Rattle.tt_abs.specs.Families.{CoversAt, Derived}
 use Rattle.tt_abs.specs.Flows.{Flow, FlowLaws}
 use Rattle.tt_abs.specs.Lines.{EndsAt, Precedes}
-use Rattle.tt_abs.specs.Moves.{frames_behind, nexts_of, offset_behind}
+use Rattle.tt_abs.specs.Moves.{frames_behind, nexts_of, offset_behind, ways_of}
 use Rattle.tt_abs.specs.Orders.{Order}
 use Rattle.tt_abs.specs.StateFlow.{AreProgramsShort, GivesState, Place, RefusesState, flow_of, height_of}
 use Rattle.tt_abs.specs.States.{abstract_of, state_order}
@@ -216,10 +216,18 @@ pub record IsRefusedAt (s : Setting) (at : Place) (state : State) (p : Place) (r
   pub place : p ≡ at
   pub refused : RefusesState s at state r
 
--- the places to which the moves lead
-abbrev pub places_behind : List Frame → Moves → List Place
-places_behind fs (moves.One way) = (frames_behind fs way, offset_behind fs way) ∷ []
-places_behind fs (moves.Two m n) = (fs, m) ∷ (fs, n) ∷ []
+-- the place to which a way leads
+abbrev pub place_behind : List Frame → Move → Place
+place_behind fs way = (frames_behind fs way, offset_behind fs way)
+
+-- the places to which the ways lead from this number on
+abbrev pub places_from : List Frame → Moves → ℕ → List Place
+places_from fs ways index = map (place_behind fs) (drop index (ways_of ways))
+
+-- the place over which the state goes last, if there is one
+abbrev pub place_over : List Frame → Option ℕ → List Place
+place_over fs None = []
+place_over fs (Some offset) = (fs, offset) ∷ []
 
 -- the state is still to be put at each of these places
 abbrev pub Pends : List Place → State → Place → State → Type 0
@@ -259,17 +267,13 @@ pub record IsPopped (s : Setting) (functions : List (ℕ × ℕ)) (table : Table
   pub kept : states_of table.builder.states (context, offset) ≡ Some state
   pub apart : has_point table.waiting (context, offset) ≡ false
 
--- the two are these, in either order
-abbrev pub AreInTurn : ℕ → ℕ → ℕ → ℕ → Type 0
-AreInTurn first second sooner later = ((sooner ≡ first) × (later ≡ second)) ⊎ ((sooner ≡ second) × (later ≡ first))
-
 -- where an instruction ends, if no instruction but this one leads there as to the place just after it
 abbrev pub IsJustAfter : Setting → Place → Option ℕ → Type 0
 IsJustAfter s p after = (q : Place) → IsAfter p.0 after q ↔ Precedes s p q
 
--- the state comes from just before exactly where it comes to that offset
-abbrev pub TellsSource : Option ℕ → ℕ → Source → Type 0
-TellsSource after next source = (source ≡ JustBefore) ↔ (after ≡ Some next)
+-- the state comes from just before exactly where it stays in the context and comes to that offset
+abbrev pub TellsSource : ℕ → ℕ → Option ℕ → ℕ → Source → Type 0
+TellsSource here context after next source = (source ≡ JustBefore) ↔ ((context ≡ here) × (after ≡ Some next))
 
 -- the state comes to the second place from just before, or from elsewhere
 abbrev pub ComesFrom : Setting → Place → Place → Source → Type 0
@@ -285,6 +289,29 @@ pub record IsWalk (contents : Contents) (walk : Walk) : Type 0 where
   pub calls : walk.frames.items ≡ reverse (frames_at contents.contexts walk.context)
   pub spot : walk.spot ≡ spot_of (frames_at contents.contexts walk.context)
   pub known : (c offset : ℕ) → walk.known ≡ Some (c, offset) → states_of contents.states (c, offset) ≡ Some walk.state
+
+-- the walk's calls, the innermost first
+abbrev pub calls_of : Table → Walk → List Frame
+calls_of table walk = frames_at table.builder.contexts walk.context
+
+-- what is still to be done at an offset of the walk's context: the state is led to these places
+abbrev pub IsLeadingAt : Setting → List (ℕ × ℕ) → Table → Walk → ℕ → List Place → Type 0
+IsLeadingAt s functions table walk offset qs = IsLeading s functions table (here_of table.builder walk offset) qs walk.state
+
+-- The state is still to be led to where the ways lead from this number on, and over the last of its places.
+pub record IsLeadingOn (s : Setting) (functions : List (ℕ × ℕ)) (table : Table) (walk : Walk) (offset : ℕ) (after : Option ℕ) (ways : Moves) (index : ℕ) (over : Option ℕ) : Type 0 where
+  pub leading : IsLeadingAt s functions table walk offset (place_over (calls_of table walk) over ++ places_from (calls_of table walk) ways index)
+  pub just_after : IsJustAfter s (here_of table.builder walk offset) after
+  pub goes_over : (at : ℕ) → over ≡ Some at → after ≡ Some at
+  pub walks : IsWalk table.builder walk
+
+-- So it is, and before that it is led to an offset of the context of this number.
+pub record IsLeadingTo (s : Setting) (functions : List (ℕ × ℕ)) (table : Table) (walk : Walk) (offset : ℕ) (after : Option ℕ) (ways : Moves) (index : ℕ) (over : Option ℕ) (number next : ℕ) : Type 0 where
+  pub leading : IsLeadingAt s functions table walk offset (place_of table.builder number next ∷ place_over (calls_of table walk) over ++ places_from (calls_of table walk) ways index)
+  pub there : number < length table.builder.contexts
+  pub just_after : IsJustAfter s (here_of table.builder walk offset) after
+  pub goes_over : (at : ℕ) → over ≡ Some at → after ≡ Some at
+  pub walks : IsWalk table.builder walk
 
 -- the context's last call returns to an offset of 32 bits, and its next turn is a number of 32 bits
 abbrev pub IsCountable : List (List Frame) → ℕ → Type 0

@@ -5,11 +5,11 @@ ghost use Rattle.tt_abs.specs.declared.state.State.{State as AnyState};
 ghost use Rattle.tt_abs.specs.Entries.{Rises};
 ghost use Rattle.tt_abs.specs.Settings.{setting_of};
 ghost use Rattle.tt_abs.specs.StateFlow.{FunctionsFit, Place};
+ghost use Rattle.tt_cert.specs.Checks.{IsWantOfMemory};
 ghost use Rattle.tt_cert.specs.Contents.{family_of};
-ghost use Rattle.tt_find.specs.Found.{AreLeastContexts, HasLeastFilling, IsJustified, IsNeverEnding, IsWantOfMemory, LacksEnd, NamesPlace, NamesStop, NeedsAll, NoneIsGood};
+ghost use Rattle.tt_find.specs.Found.{AreLeastContexts, HasLeastFilling, IsJustified, IsNeverEnding, LacksEnd, NamesPlace, NamesStop, NeedsAll, NoneIsGood};
 ghost use Rattle.tt_find.specs.Tables.{HasLaws, IsEmptyTable, IsFound, IsWhole};
 
-use crate::fault::FindFault;
 use crate::run::{run, store};
 use crate::source::Source;
 use crate::stop::Stop;
@@ -19,7 +19,7 @@ use std::alloc::{AllocError, Global};
 use std::mem;
 use tt_abs::Setting;
 use tt_abs::laws::flow_laws;
-use tt_cert::{Builder, Certificate, Spot, ends_well, is_short};
+use tt_cert::{Builder, Certificate, ProgramFault, Spot, ends_well, is_short};
 use tt_code::Reason;
 
 /// So often the finder starts at most. The last time it keeps states everywhere.
@@ -74,7 +74,7 @@ fn fill(alloc: Global, table: &mut Table, setting: &Setting<'_>) -> Result<(), S
 ///
 /// # Errors
 /// As `find` refuses what comes on the way.
-fn fill_anew(alloc: Global, table: &mut Table, setting: &Setting<'_>) -> Result<(), FindFault>
+fn fill_anew(alloc: Global, table: &mut Table, setting: &Setting<'_>) -> Result<(), ProgramFault>
     requires rises { Rises setting.now.start.now }
     requires laws { HasLaws (setting_of setting.now) setting.now.start.now }
     ensures whole { IfOk result (λ _. IsWhole (setting_of setting.now) setting.now.start.now table.new) }
@@ -93,14 +93,14 @@ fn fill_anew(alloc: Global, table: &mut Table, setting: &Setting<'_>) -> Result<
             Err(Stop::Met) => {}
         }
     }
-    Err(FindFault::OutOfMemory(AllocError))
+    Err(ProgramFault::OutOfMemory(AllocError))
 }
 
 /// The fault at a place of the main program.
-fn refused_in_main(offset: u32, reason: Reason) -> FindFault
-    ensures { result ≡ FindFault.Refused Spot.Main offset reason }
+fn refused_in_main(offset: u32, reason: Reason) -> ProgramFault
+    ensures { result ≡ ProgramFault.Refused Spot.Main offset reason }
 {
-    FindFault::Refused {
+    ProgramFault::Refused {
         spot: Spot::Main,
         offset,
         reason,
@@ -111,7 +111,7 @@ fn refused_in_main(offset: u32, reason: Reason) -> FindFault
 ///
 /// # Errors
 /// As `find`.
-fn fill_whole(alloc: Global, table: &mut Table, setting: &Setting<'_>) -> Result<u64, FindFault>
+fn fill_whole(alloc: Global, table: &mut Table, setting: &Setting<'_>) -> Result<u64, ProgramFault>
     requires rises { Rises setting.now.start.now }
     requires fits { FunctionsFit (setting_of setting.now) setting.now.start.now }
     ensures laws { HasLaws (setting_of setting.now) setting.now.start.now }
@@ -131,7 +131,7 @@ fn fill_whole(alloc: Global, table: &mut Table, setting: &Setting<'_>) -> Result
     }
     match table.changes.checked_add(table.passes) {
         Some(updates) => Ok(updates),
-        None => Err(FindFault::OutOfMemory(AllocError)),
+        None => Err(ProgramFault::OutOfMemory(AllocError)),
     }
 }
 
@@ -164,7 +164,7 @@ impl Finder {
     ///
     /// # Errors
     /// As `find`.
-    pub fn find(&mut self, alloc: Global, setting: &Setting<'_>) -> Result<Found, FindFault>
+    pub fn find(&mut self, alloc: Global, setting: &Setting<'_>) -> Result<Found, ProgramFault>
         requires rises { Rises setting.now.start.now }
         requires fits { FunctionsFit (setting_of setting.now) setting.now.start.now }
         ensures filling { IfOk result (λ found. HasLeastFilling (setting_of setting.now) setting.now.start.now found.updates (family_of found.certificate)) }
@@ -184,7 +184,7 @@ impl Finder {
                 certificate,
                 updates,
             }),
-            Err(_) => Err(FindFault::OutOfMemory(AllocError)),
+            Err(_) => Err(ProgramFault::OutOfMemory(AllocError)),
         }
     }
 }
@@ -197,7 +197,7 @@ impl Finder {
 /// `Refused`, for a glyph program longer than maxSizeOfInstructions, at that offset; for a state that an instruction refuses, with its reason,
 /// at that instruction; for two states of different depths, where they meet; for more than 65,535 contexts, at the instruction that
 /// enters one more; for a font program or a CVT program that comes nowhere to its end, at its start. `OutOfMemory`.
-pub fn find(alloc: Global, setting: &Setting<'_>) -> Result<Found, FindFault>
+pub fn find(alloc: Global, setting: &Setting<'_>) -> Result<Found, ProgramFault>
     requires rises { Rises setting.now.start.now }
     requires fits { FunctionsFit (setting_of setting.now) setting.now.start.now }
     ensures filling { IfOk result (λ found. HasLeastFilling (setting_of setting.now) setting.now.start.now found.updates (family_of found.certificate)) }
@@ -218,6 +218,6 @@ pub fn find(alloc: Global, setting: &Setting<'_>) -> Result<Found, FindFault>
             certificate,
             updates,
         }),
-        Err(_) => Err(FindFault::OutOfMemory(AllocError)),
+        Err(_) => Err(ProgramFault::OutOfMemory(AllocError)),
     }
 }

@@ -1,7 +1,6 @@
 //! The least family of abstract states that is good for a program.
 #![tactic(auto)]
 
-pub mod fault;
 pub mod finder;
 mod marks;
 mod reaching;
@@ -12,5 +11,4 @@ mod table;
 mod waiting;
 mod walk;
 
-pub use fault::FindFault;
 pub use finder::{Finder, Found, find};

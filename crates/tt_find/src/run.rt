@@ -1,24 +1,25 @@
 //! A run: from a point where its state is kept a state is carried on in place, until states are kept where it comes, or until it goes elsewhere.
 
-ghost use Rattle.std.specs.Prelude.{◌≡◌, ◌↔◌, ◌<◌, IfErr, IfOk, IfSome, Some, [], ◌∷◌, length};
-ghost use Rattle.tt_abs.specs.Lines.{EndsAt};
+ghost use Rattle.std.specs.Prelude.{◌≡◌, ◌↔◌, ◌<◌, IfErr, IfOk, IfSome, IsTrue, Some, [], ◌∷◌, length};
+ghost use Rattle.tt_abs.specs.Lines.{EndsAt, Precedes};
 ghost use Rattle.tt_abs.specs.Settings.{frames_of, setting_of};
 ghost use Rattle.tt_abs.specs.StateFlow.{Place};
 ghost use Rattle.tt_abs.specs.States.{state_order};
+ghost use Rattle.tt_cert.specs.Checks.{IsWantOfMemory};
 ghost use Rattle.tt_cert.specs.Contents.{family_of, frames_at};
 ghost use Rattle.tt_cert.specs.Puts.{place_of};
+ghost use Rattle.tt_cert.specs.Spots.{spot_of};
 ghost use Rattle.tt_find.specs.Found.{IsJustified, NamesPlace, NamesStop};
-ghost use Rattle.tt_find.specs.Tables.{AreInTurn, GoesOn, HasLaws, HasRisen, IsApart, IsCarried, IsJustAfter, IsLeading, IsOnWay, IsPopped, IsRefusedAt, IsStored, IsWalk, IsWhole, TellsSource, here_of, places_behind};
+ghost use Rattle.tt_find.specs.Tables.{GoesOn, HasLaws, HasRisen, IsApart, IsCarried, IsJustAfter, IsLeadingAt, IsOnWay, IsPopped, IsRefusedAt, IsStored, IsWalk, IsWhole, TellsSource, calls_of, here_of, places_from};
 
-use crate::fault::FindFault;
 use crate::reaching::reach;
 use crate::source::Source;
 use crate::stop::Stop;
 use crate::table::{Table, refused_at};
 use crate::walk::Walk;
 use std::alloc::AllocError;
-use tt_abs::{Move, Moves, Point, Refusal, Setting, Stepped, step_at};
-use tt_cert::{Builder, ContextFault, added_after};
+use tt_abs::{Moves, Point, Refusal, Setting, Stepped, step_at};
+use tt_cert::{Builder, ContextFault, ProgramFault, added_after};
 use tt_code::Reason;
 
 /// Where the state at an offset of the walk's context leads; with what it leads there the walk holds then. None at the main program's end.
@@ -27,7 +28,7 @@ fn carried(
     walk: &mut Walk,
     setting: &Setting<'_>,
     offset: u32,
-) -> Result<Option<Stepped>, FindFault>
+) -> Result<Option<Stepped>, ProgramFault>
     requires walk { IsWalk builder.now walk.old }
     requires in_range { state_order.InRange walk.old.state }
     ensures carried { IfOk result (λ step. IsCarried (setting_of setting.now) (here_of builder.now walk.old offset) walk.old.state step walk.new.state) }
@@ -46,16 +47,16 @@ fn carried(
     match step_at(setting, &point, &mut walk.state) {
         Ok(step) => Ok(Some(step)),
         Err(Refusal::Refused(reason)) => Err(refused_at(builder, walk.context, offset, reason)),
-        Err(Refusal::OutOfMemory(error)) => Err(FindFault::OutOfMemory(error)),
+        Err(Refusal::OutOfMemory(error)) => Err(ProgramFault::OutOfMemory(error)),
     }
 }
 
-/// From where a state comes to an offset, if there is one at which an instruction ends that leads there.
-fn source_of(after: Option<u32>, next: u32) -> Source
-    ensures { TellsSource after next result }
+/// From where a state comes to an offset of a context, from one in which an instruction ends at `after`, if it leads there.
+fn source_of(here: u32, context: u32, after: Option<u32>, next: u32) -> Source
+    ensures { TellsSource here context after next result }
 {
     match after {
-        Some(after) if after == next => Source::JustBefore,
+        Some(after) if after == next && context == here => Source::JustBefore,
         _ => Source::Elsewhere,
     }
 }
@@ -90,25 +91,33 @@ pub(crate) fn store(
         Err(fault) => return Err(Stop::Fault(fault)),
     };
     if let Err(error) = table.note(context, offset, source, joined) {
-        return Err(Stop::Fault(FindFault::OutOfMemory(error)));
+        return Err(Stop::Fault(ProgramFault::OutOfMemory(error)));
     }
     Ok(())
 }
 
-/// Leads the state that an instruction left to the last of its offsets: over it, which is answered, where that is just after the
-/// instruction and states aren't kept there.
-fn lead_to(
+/// May the walk's state go over an offset to which it comes from there?
+fn goes_over(table: &Table, walk: &Walk, source: Source, next: u32) -> bool
+    ensures { IsTrue result → source ≡ Source.JustBefore }
+{
+    match source {
+        Source::JustBefore => table.may_pass(walk.context, walk.spot, next),
+        Source::Elsewhere => false,
+    }
+}
+
+/// Leads the state that an instruction left to the offset just after it: over it, which is answered, where states aren't kept there.
+fn lead_over(
     table: &mut Table,
     walk: &mut Walk,
     setting: &Setting<'_>,
     offset: u32,
-    after: Option<u32>,
     next: u32,
 ) -> Result<Option<u32>, Stop>
     requires laws { HasLaws (setting_of setting.now) setting.now.start.now }
     requires walk { IsWalk table.old.builder walk.old }
-    requires after { IsJustAfter (setting_of setting.now) (here_of table.old.builder walk.old offset) after }
-    requires leading { IsLeading (setting_of setting.now) setting.now.start.now table.old (here_of table.old.builder walk.old offset) (here_of table.old.builder walk.old next ∷ []) walk.old.state }
+    requires just { Precedes (setting_of setting.now) (here_of table.old.builder walk.old offset) (here_of table.old.builder walk.old next) }
+    requires leading { IsLeadingAt (setting_of setting.now) setting.now.start.now table.old walk.old offset (here_of table.old.builder walk.old next ∷ []) }
     ensures goes { IfOk result (λ onward. GoesOn (setting_of setting.now) setting.now.start.now table.new walk.new onward) }
     ensures further { IfOk result (λ onward. IfSome onward (λ at. offset < at)) }
     ensures risen { IfOk result (λ _. HasRisen table.old table.new) }
@@ -116,79 +125,47 @@ fn lead_to(
     ensures stops { IfErr result (NamesStop (IsJustified (setting_of setting.now) setting.now.start.now) table.old.marks.everywhere) }
     ensures everywhere { IfOk result (λ _. table.new.marks.everywhere ≡ table.old.marks.everywhere) }
 {
-    let source = source_of(after, next);
-    if let Source::JustBefore = source {
-        if table.may_pass(walk.context, walk.spot, next) {
-            if let Err(error) = table.pass(walk.spot, next) {
-                return Err(Stop::Fault(FindFault::OutOfMemory(error)));
-            }
-            return Ok(Some(next));
-        }
-    }
     let context = walk.context;
-    if let Err(stop) = store(table, walk, context, next, source) {
+    if table.may_pass(context, walk.spot, next) {
+        if let Err(error) = table.pass(walk.spot, next) {
+            return Err(Stop::Fault(ProgramFault::OutOfMemory(error)));
+        }
+        return Ok(Some(next));
+    }
+    if let Err(stop) = store(table, walk, context, next, Source::JustBefore) {
         return Err(stop);
     }
     Ok(None)
 }
 
-/// The offset to which a state is led first, and the other one: over the first of two it goes last, if it may.
-fn in_turn(goes_over: bool, first: u32, second: u32) -> (u32, u32)
-    ensures { AreInTurn first second result.0 result.1 }
+/// The fault that a context can't be entered from an offset of another one.
+fn not_entered(builder: &Builder, context: u32, offset: u32, fault: ContextFault) -> ProgramFault
+    requires { context < length builder.now.contexts }
+    ensures full { fault ≡ ContextFault.TooManyContexts → result ≡ ProgramFault.Refused (spot_of (frames_at builder.now.contexts context)) offset Reason.TooManyContexts }
+    ensures memory { fault ≡ ContextFault.OutOfMemory → IsWantOfMemory result }
 {
-    if goes_over {
-        (second, first)
-    } else {
-        (first, second)
+    match fault {
+        ContextFault::TooManyContexts => {
+            refused_at(builder, context, offset, Reason::TooManyContexts)
+        }
+        ContextFault::OutOfMemory => ProgramFault::OutOfMemory(AllocError),
     }
 }
 
-/// Leads the state that an instruction left to two offsets, the smaller one first, but for one over which it goes.
-fn lead_both(
-    table: &mut Table,
-    walk: &mut Walk,
-    setting: &Setting<'_>,
-    offset: u32,
-    after: Option<u32>,
-    first: u32,
-    second: u32,
-) -> Result<Option<u32>, Stop>
-    requires laws { HasLaws (setting_of setting.now) setting.now.start.now }
-    requires walk { IsWalk table.old.builder walk.old }
-    requires after { IsJustAfter (setting_of setting.now) (here_of table.old.builder walk.old offset) after }
-    requires leading { IsLeading (setting_of setting.now) setting.now.start.now table.old (here_of table.old.builder walk.old offset) (here_of table.old.builder walk.old first ∷ here_of table.old.builder walk.old second ∷ []) walk.old.state }
-    ensures goes { IfOk result (λ onward. GoesOn (setting_of setting.now) setting.now.start.now table.new walk.new onward) }
-    ensures further { IfOk result (λ onward. IfSome onward (λ at. offset < at)) }
-    ensures risen { IfOk result (λ _. HasRisen table.old table.new) }
-    ensures walk { IfOk result (λ _. IsWalk table.new.builder walk.new) }
-    ensures stops { IfErr result (NamesStop (IsJustified (setting_of setting.now) setting.now.start.now) table.old.marks.everywhere) }
-    ensures everywhere { IfOk result (λ _. table.new.marks.everywhere ≡ table.old.marks.everywhere) }
-{
-    let context = walk.context;
-    let goes_over = match source_of(after, first) {
-        Source::JustBefore => table.may_pass(context, walk.spot, first),
-        Source::Elsewhere => false,
-    };
-    let (sooner, later) = in_turn(goes_over, first, second);
-    if let Err(stop) = store(table, walk, context, sooner, source_of(after, sooner)) {
-        return Err(stop);
-    }
-    lead_to(table, walk, setting, offset, after, later)
-}
-
-/// Leads the state that an instruction left to where that leads.
+/// Leads the state that an instruction left to each place where its ways lead, one after the other, but to the one over which it goes last.
+/// Answers that one's offset.
 fn lead_away(
     table: &mut Table,
     walk: &mut Walk,
     setting: &Setting<'_>,
     offset: u32,
     after: Option<u32>,
-    way: Move,
+    ways: Moves,
 ) -> Result<Option<u32>, Stop>
     requires laws { HasLaws (setting_of setting.now) setting.now.start.now }
     requires walk { IsWalk table.old.builder walk.old }
     requires after { IsJustAfter (setting_of setting.now) (here_of table.old.builder walk.old offset) after }
-    requires leading { IsLeading (setting_of setting.now) setting.now.start.now table.old (here_of table.old.builder walk.old offset) (places_behind (frames_at table.old.builder.contexts walk.old.context) (Moves.One way)) walk.old.state }
+    requires leading { IsLeadingAt (setting_of setting.now) setting.now.start.now table.old walk.old offset (places_from (calls_of table.old walk.old) ways 0) }
     ensures goes { IfOk result (λ onward. GoesOn (setting_of setting.now) setting.now.start.now table.new walk.new onward) }
     ensures further { IfOk result (λ onward. IfSome onward (λ at. offset < at)) }
     ensures risen { IfOk result (λ _. HasRisen table.old table.new) }
@@ -197,23 +174,27 @@ fn lead_away(
     ensures everywhere { IfOk result (λ _. table.new.marks.everywhere ≡ table.old.marks.everywhere) }
 {
     let here = walk.context;
-    let (context, next) = match reach(&mut table.builder, here, way) {
-        Ok(place) => place,
-        Err(ContextFault::TooManyContexts) => {
-            let reason = Reason::TooManyContexts;
-            return Err(Stop::Fault(refused_at(&table.builder, here, offset, reason)));
+    let mut over = None;
+    let mut index = 0;
+    while let Some(way) = ways.get(index) {
+        let (context, next) = match reach(&mut table.builder, here, way) {
+            Ok(place) => place,
+            Err(fault) => {
+                return Err(Stop::Fault(not_entered(&table.builder, here, offset, fault)));
+            }
+        };
+        let source = source_of(here, context, after, next);
+        if over.is_none() && goes_over(table, walk, source, next) {
+            over = Some(next);
+        } else if let Err(stop) = store(table, walk, context, next, source) {
+            return Err(stop);
         }
-        Err(ContextFault::OutOfMemory) => {
-            return Err(Stop::Fault(FindFault::OutOfMemory(AllocError)));
-        }
-    };
-    if context == here {
-        return lead_to(table, walk, setting, offset, after, next);
+        index += 1;
     }
-    if let Err(stop) = store(table, walk, context, next, Source::Elsewhere) {
-        return Err(stop);
+    match over {
+        Some(next) => lead_over(table, walk, setting, offset, next),
+        None => Ok(None),
     }
-    Ok(None)
 }
 
 /// Carries the walk's state on at an offset of its context. Answers the next offset, if the state goes on there in place.
@@ -247,12 +228,7 @@ fn step_on(
         offset,
     };
     let after = added_after(setting, &point, step.end);
-    match step.moves {
-        Moves::One(way) => lead_away(table, walk, setting, offset, after, way),
-        Moves::Two(first, second) => {
-            lead_both(table, walk, setting, offset, after, first, second)
-        }
-    }
+    lead_away(table, walk, setting, offset, after, step.moves)
 }
 
 /// Carries the state at a point on, in place as far as that goes.

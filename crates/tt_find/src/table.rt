@@ -12,14 +12,13 @@ ghost use Rattle.tt_find.specs.Found.{NamesPlace};
 ghost use Rattle.tt_find.specs.Tables.{IsApart, IsEmptyTable, IsPassed, IsPut, KeepsRest, SparesAt};
 ghost use Rattle.tt_find.specs.Marks.{mark_of};
 
-use crate::fault::FindFault;
 use crate::marks::{Mark, Marks};
 use crate::source::Source;
 use crate::waiting::Waiting;
 use std::alloc::{AllocError, Global};
 use std::collections::BTreeSet;
 use tt_abs::State;
-use tt_cert::{Builder, JoinFault, Joined, Spot};
+use tt_cert::{Builder, JoinFault, Joined, PointKey, ProgramFault, Spot};
 use tt_code::Reason;
 
 /// The family so far. Its states are kept at the points where ways meet; those between are made again on the way.
@@ -30,7 +29,7 @@ pub(crate) struct Table {
     /// The points whose state is new or has changed, each as its context's number and its offset.
     pub waiting: Waiting,
     /// The points with kept states to which no state came but from just before.
-    pub spare: BTreeSet<(u32, u32)>,
+    pub spare: BTreeSet<PointKey>,
     /// At which offsets states are kept.
     pub marks: Marks,
     /// How often a kept state was new or changed.
@@ -40,11 +39,16 @@ pub(crate) struct Table {
 }
 
 /// The fault that names a point for this reason.
-pub(crate) fn refused_at(builder: &Builder, context: u32, offset: u32, reason: Reason) -> FindFault
+pub(crate) fn refused_at(
+    builder: &Builder,
+    context: u32,
+    offset: u32,
+    reason: Reason,
+) -> ProgramFault
     requires { context < length builder.now.contexts }
-    ensures { result ≡ FindFault.Refused (spot_of (frames_at builder.now.contexts context)) offset reason }
+    ensures { result ≡ ProgramFault.Refused (spot_of (frames_at builder.now.contexts context)) offset reason }
 {
-    FindFault::Refused {
+    ProgramFault::Refused {
         spot: builder.spot(context),
         offset,
         reason,
@@ -88,7 +92,7 @@ impl Table {
         context: u32,
         offset: u32,
         state: &State,
-    ) -> Result<Joined, FindFault>
+    ) -> Result<Joined, ProgramFault>
         requires there { context < length self.old.builder.contexts }
         requires in_range { state_order.InRange state.now }
         requires room { self.old.changes < 18446744073709551615 }
@@ -103,13 +107,13 @@ impl Table {
             Err(JoinFault::DepthMismatch) => {
                 return Err(refused_at(&self.builder, context, offset, Reason::DepthMismatch));
             }
-            Err(JoinFault::OutOfMemory) => return Err(FindFault::OutOfMemory(AllocError)),
+            Err(JoinFault::OutOfMemory) => return Err(ProgramFault::OutOfMemory(AllocError)),
         };
         if !joined.is_change() {
             return Ok(joined);
         }
         if let Err(_) = self.waiting.insert((context, offset)) {
-            return Err(FindFault::OutOfMemory(AllocError));
+            return Err(ProgramFault::OutOfMemory(AllocError));
         }
         self.changes += 1;
         Ok(joined)

@@ -8,14 +8,15 @@ use std::alloc::{AllocError, Global};
 use std::cmp::Ordering;
 use std::collections::BTreeSet;
 use std::marker::Model;
+use tt_cert::PointKey;
 
 /// The points that are still to be carried on, in their order, each as its context's number and its offset. The first stands apart, so that
 /// one alone takes no memory.
 #[derive(Drop)]
 pub(crate) struct Waiting {
-    next: Option<(u32, u32)>,
+    next: Option<PointKey>,
     /// The others.
-    rest: BTreeSet<(u32, u32)>,
+    rest: BTreeSet<PointKey>,
 }
 
 impl Model for Waiting {
@@ -44,7 +45,7 @@ impl Waiting {
     ///
     /// # Errors
     /// If memory runs out; then the points stay as they are.
-    pub(crate) fn insert(&mut self, point: (u32, u32)) -> Result<(), AllocError>
+    pub(crate) fn insert(&mut self, point: PointKey) -> Result<(), AllocError>
         ensures ok { OnOk result (self.new ≡ insert_key place_cmp self.old point) }
         ensures err { OnErr result (self.new ≡ self.old) }
     {
@@ -70,7 +71,7 @@ impl Waiting {
     }
 
     /// Does a point come before this one?
-    pub(crate) fn has_before(&self, point: (u32, u32)) -> bool {
+    pub(crate) fn has_before(&self, point: PointKey) -> bool {
         match self.next {
             Some(next) => next < point,
             None => false,
@@ -86,7 +87,7 @@ impl Waiting {
     }
 
     /// Takes the first point out, if there is one.
-    pub(crate) fn pop_first(&mut self) -> Option<(u32, u32)>
+    pub(crate) fn pop_first(&mut self) -> Option<PointKey>
         ensures none { result ≡ None → (self.old ≡ []) × (self.new ≡ []) }
         ensures some { IfSome result (λ point. self.old ≡ point ∷ self.new) }
         ensures apart { IfSome result (λ point. has_point self.new point ≡ false) }

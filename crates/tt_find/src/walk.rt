@@ -10,11 +10,10 @@ ghost use Rattle.tt_cert.specs.Puts.{place_of};
 ghost use Rattle.tt_find.specs.Found.{NamesPlace};
 ghost use Rattle.tt_find.specs.Tables.{IsApart, IsPut, IsWalk, KeepsRest};
 
-use crate::fault::FindFault;
 use crate::table::Table;
 use std::alloc::{AllocError, Global};
 use tt_abs::State;
-use tt_cert::{Builder, Joined, Spot};
+use tt_cert::{Builder, Joined, PointKey, ProgramFault, Spot};
 use tt_code::Frame;
 
 /// The calls of a context, the outermost first, and a state in whose memory the state at a point is carried on.
@@ -26,7 +25,7 @@ pub(crate) struct Walk {
     pub spot: Spot,
     pub state: State,
     /// A point whose state this is, as its context's number and its offset.
-    pub known: Option<(u32, u32)>,
+    pub known: Option<PointKey>,
 }
 
 impl Walk {
@@ -113,7 +112,7 @@ impl Walk {
         table: &mut Table,
         context: u32,
         offset: u32,
-    ) -> Result<Joined, FindFault>
+    ) -> Result<Joined, ProgramFault>
         requires there { context < length table.old.builder.contexts }
         requires in_range { state_order.InRange self.old.state }
         requires room { table.old.changes < 18446744073709551615 }

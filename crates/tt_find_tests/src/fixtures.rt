@@ -5,9 +5,9 @@ ghost use Rattle.tt_abs.specs.Entries.{Rises};
 use crate::fillings::filled_points;
 use std::alloc::Global;
 use tt_abs::{Kind, Setting};
-use tt_cert::{Certificate, CheckFault, Spot, States, check};
+use tt_cert::{Certificate, ProgramFault, Spot, States, check};
 use tt_code::{Limits, Program, Reason};
-use tt_find::{FindFault, Finder, Found, find};
+use tt_find::{Finder, Found, find};
 
 /// How many contexts and points the least family has, filled up, and how many updates made it.
 pub(crate) type Size = (u32, u32, u64);
@@ -79,18 +79,18 @@ fn checked(alloc: Global, setting: &Setting<'_>, found: &Found) -> Option<Answer
             Some(Ok((found.certificate.contexts(), points, found.updates)))
         }
         Err(
-            CheckFault::Refused {
+            ProgramFault::Refused {
                 spot,
                 offset,
                 reason,
             },
         ) => Some(Err((spot, offset, reason))),
-        Err(CheckFault::OutOfMemory(_)) => None,
+        Err(ProgramFault::OutOfMemory(_)) => None,
     }
 }
 
 /// What is told of a program for which this was found; nothing for want of memory.
-fn told_of(alloc: Global, setting: &Setting<'_>, found: Result<Found, FindFault>) -> Option<Told>
+fn told_of(alloc: Global, setting: &Setting<'_>, found: Result<Found, ProgramFault>) -> Option<Told>
     requires { Rises setting.now.start.now }
 {
     match found {
@@ -102,7 +102,7 @@ fn told_of(alloc: Global, setting: &Setting<'_>, found: Result<Found, FindFault>
             })
         }
         Err(
-            FindFault::Refused {
+            ProgramFault::Refused {
                 spot,
                 offset,
                 reason,
@@ -111,7 +111,7 @@ fn told_of(alloc: Global, setting: &Setting<'_>, found: Result<Found, FindFault>
             answer: Err((spot, offset, reason)),
             certificate: None,
         }),
-        Err(FindFault::OutOfMemory(_)) => None,
+        Err(ProgramFault::OutOfMemory(_)) => None,
     }
 }
 

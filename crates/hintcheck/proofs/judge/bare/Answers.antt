@@ -1,15 +1,21 @@
-use Rattle.std.proofs.Common.{◌≡◌, [], subst}
-use Rattle.std.specs.Prelude.{◌↔◌}
+use Rattle.std.proofs.Common.{◌∙◌, [], ap, arith, subst, sym}
+use Rattle.tt_code.proofs.ByteLemmas.{bytes_fit}
 use Rattle.tt_code.specs.declared.limits.Limits.{Limits}
-use Rattle.hintcheck.specs.Judging.{subject_of}
-use Rattle.hintcheck.specs.Programs.{HasGoodFamily}
-use Rattle.hintcheck.specs.declared.judge.Glyph.{Glyph}
-use Rattle.hintcheck.proofs.JudgeLemmas.{is_exact}
+use Rattle.tt_font.specs.Maxp.{limits_of}
+use Rattle.tt_font.specs.Reading.{GlyphData}
+use Rattle.hintcheck.specs.FontPrograms.{glyph_subject}
+use Rattle.hintcheck.specs.Judging.{IsJudged, font_around}
+use Rattle.hintcheck.specs.Verdicts.{Judgement}
+use Rattle.hintcheck.proofs.FontSafety.{only_glyph_is_safe}
+use Rattle.hintcheck.proofs.JudgeLemmas.{least_where_none}
 use Rattle.hintcheck.proofs.judge.bare.Goals as goal
 
-pub returns-clause-exact : goal.returns-clause-exact
-returns-clause-exact c =
-    let glyph : Limits → Glyph = λ l. record { limits = l; cvt = c.args.cvt; points = c.args.points; contours = c.args.contours } in
-    let P : Limits → Type 0 = λ l. (c.new.result.refused ≡ []) ↔ HasGoodFamily (subject_of (glyph l) c.args.program.now) in
-    subst P c.in_ok-limits.ensures.limits
-    (is_exact (glyph c.in_ok-limits.limits) c.args.program.now c.new.result c.in_ok-refused.refused.items c.new.ensures c.in_ok-refused.ensures.fine c.in_ok-refused.ensures.at_fault)
+pub returns-clause-accepted : goal.returns-clause-accepted
+returns-clause-accepted c = λ none.
+    let glyph : GlyphData = record { points = c.args.points; contours = c.args.contours; program = c.args.program.now } in
+    let rs = c.in_ok-refused.refused.items in
+    let J : Limits → Type 0 = λ l. IsJudged (glyph_subject (font_around l c.args.cvt) [] 0 glyph) rs in
+    only_glyph_is_safe c.args.maxp.now c.args.cvt glyph (bytes_fit c.args.maxp.now c.type_inv.maxp)
+    (record { bytes = bytes_fit c.args.program.now c.type_inv.program; few = omega arith })
+    (least_where_none (glyph_subject (font_around (limits_of c.args.maxp.now) c.args.cvt) [] 0 glyph) rs (subst J c.in_ok-limits.ensures.limits c.in_ok-refused.ensures)
+    (sym (ap (λ (v : Judgement). v.refused) c.new.ensures) ∙ none))

@@ -2,39 +2,38 @@ use Rattle.std.proofs.Common.{ℕ, List, [], Err, refl, sym, ap, subst}
 use Rattle.tt_code.specs.Cut.{CannotBeCut, IsCut}
 use Rattle.tt_code.specs.declared.reason.Reason.TheVariants as reason
 use Rattle.tt_cert.specs.declared.spot.Spot.TheVariants as spot
-use Rattle.hintcheck.specs.Looks.{told_at}
 use Rattle.hintcheck.specs.Programs.{HasGoodFamily, IsRefusal, no_cut, no_structure}
 use Rattle.hintcheck.proofs.LookLemmas.{not_cut, not_structured, told, without_good}
 use Rattle.hintcheck.proofs.look.cut.Goals as goal
 
 pub returns-in-Err-CannotCut-clause-refused : goal.returns-in-Err-CannotCut-clause-refused
-returns-in-Err-CannotCut-clause-refused c = λ x en eb.
+returns-in-Err-CannotCut-clause-refused c = λ x eb.
     let offset = c.in-Err-CannotCut.offset in
     let P : List ℕ → Type 0 = λ b. CannotBeCut b offset in
     let cannot = subst P (sym eb) (c.in-Err-CannotCut.ensures.refused offset (ap Err c.in-Err-CannotCut.field-0-is)) in
-    told c.refused_at.result (told_at c.args.name spot.Main offset reason.CannotCut) (IsRefusal x) c.refused_at.ensures
-    (without_good x c.args.name ([], offset) spot.Main offset reason.CannotCut en refl refl (no_cut offset cannot) (not_cut x offset cannot))
+    told x.name c.refused_at.result spot.Main offset reason.CannotCut (IsRefusal x) c.refused_at.ensures
+    (without_good x ([], offset) spot.Main offset reason.CannotCut refl refl (no_cut offset cannot) (not_cut x offset cannot))
 
 pub returns-in-Err-CannotCut-clause-none_good : goal.returns-in-Err-CannotCut-clause-none_good
 returns-in-Err-CannotCut-clause-none_good c = λ x eb.
     let offset = c.in-Err-CannotCut.offset in
     let P : List ℕ → Type 0 = λ b. CannotBeCut b offset in
     let cannot = subst P (sym eb) (c.in-Err-CannotCut.ensures.refused offset (ap Err c.in-Err-CannotCut.field-0-is)) in
-    told c.refused_at.result (told_at c.args.name spot.Main offset reason.CannotCut) (λ _. HasGoodFamily x → ⊥) c.refused_at.ensures (not_cut x offset cannot)
+    told x.name c.refused_at.result spot.Main offset reason.CannotCut (λ _. HasGoodFamily x → ⊥) c.refused_at.ensures (not_cut x offset cannot)
 
 pub returns-in-Err-Structure-clause-refused : goal.returns-in-Err-Structure-clause-refused
-returns-in-Err-Structure-clause-refused c = λ x en eb.
+returns-in-Err-Structure-clause-refused c = λ x eb.
     let offset = c.in-Err-Structure.offset in
     let (is, cut, fault) = c.in-Err-Structure.ensures.unstructured offset (ap Err c.in-Err-Structure.field-0-is) in
     let P : List ℕ → Type 0 = λ b. IsCut b is in
     let is_cut = subst P (sym eb) cut in
-    told c.refused_at-in-Err-Structure.result (told_at c.args.name spot.Main offset reason.Structure) (IsRefusal x) c.refused_at-in-Err-Structure.ensures
-    (without_good x c.args.name ([], offset) spot.Main offset reason.Structure en refl refl (no_structure is offset is_cut fault) (not_structured x is offset is_cut fault))
+    told x.name c.refused_at-in-Err-Structure.result spot.Main offset reason.Structure (IsRefusal x) c.refused_at-in-Err-Structure.ensures
+    (without_good x ([], offset) spot.Main offset reason.Structure refl refl (no_structure is offset is_cut fault) (not_structured x is offset is_cut fault))
 
 pub returns-in-Err-Structure-clause-none_good : goal.returns-in-Err-Structure-clause-none_good
 returns-in-Err-Structure-clause-none_good c = λ x eb.
     let offset = c.in-Err-Structure.offset in
     let (is, cut, fault) = c.in-Err-Structure.ensures.unstructured offset (ap Err c.in-Err-Structure.field-0-is) in
     let P : List ℕ → Type 0 = λ b. IsCut b is in
-    told c.refused_at-in-Err-Structure.result (told_at c.args.name spot.Main offset reason.Structure) (λ _. HasGoodFamily x → ⊥) c.refused_at-in-Err-Structure.ensures
+    told x.name c.refused_at-in-Err-Structure.result spot.Main offset reason.Structure (λ _. HasGoodFamily x → ⊥) c.refused_at-in-Err-Structure.ensures
     (not_structured x is offset (subst P (sym eb) cut) fault)

@@ -3,7 +3,7 @@ use Rattle.tt_code.specs.declared.reason.Reason.TheVariants.{NeverEnds, ProgramT
 use Rattle.tt_abs.specs.Settings.{setting_of}
 use Rattle.tt_cert.specs.declared.spot.Spot.TheVariants.{Main}
 use Rattle.tt_cert.proofs.Judged.{not_both}
-use Rattle.tt_find.specs.declared.fault.FindFault.TheVariants.{Refused}
+use Rattle.tt_cert.specs.declared.fault.ProgramFault.TheVariants.{Refused}
 use Rattle.tt_find.specs.Found.{IsJustified, never_ends, too_long}
 use Rattle.tt_find.proofs.Finished.{lacks_end}
 use Rattle.tt_find.proofs.Steps.{names_at}

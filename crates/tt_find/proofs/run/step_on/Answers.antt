@@ -1,12 +1,10 @@
 use Rattle.std.proofs.Common.{◌≡◌, ℕ, sym, subst}
 use Rattle.std.specs.Prelude.{Option}
 use Rattle.tt_abs.specs.Settings.{setting_of}
-use Rattle.tt_abs.specs.declared.moves.Moves.{Moves}
-use Rattle.tt_abs.specs.declared.moves.Moves.TheVariants as moves
 use Rattle.tt_abs.specs.declared.stepping.Stepped.{Stepped}
 use Rattle.tt_cert.specs.Contents.{frames_at}
 use Rattle.tt_cert.specs.Puts.{place_of}
-use Rattle.tt_find.specs.Tables.{IsCarried, IsLeading, places_behind}
+use Rattle.tt_find.specs.Tables.{IsCarried, IsLeading, places_from}
 use Rattle.tt_find.proofs.Leads.{ranged_on}
 use Rattle.tt_find.proofs.Steps.{refused_left, way_ends, way_leads}
 use Rattle.tt_find.proofs.run.step_on.Goals as goal
@@ -38,20 +36,5 @@ lead_away-requires-clause-leading c =
     let t = c.carried.new.walk.state in
     let C : Option Stepped → Type 0 = λ x. IsCarried s p c.args.walk.now.state x t in
     let on = subst C c.in-Ok-Some.field-0-is c.in-Ok-Some.ensures.carried in
-    let L : ℕ × Moves → Type 0 = λ x. IsLeading s fs table (place_of table.builder x.0 c.args.offset) (places_behind (frames_at table.builder.contexts x.0) x.1) t in
-    let both : ◌≡◌ {A = ℕ × Moves} (c.args.walk.now.context, c.in-Ok-Some.step.moves) (c.carried.new.walk.context, moves.One c.in-One.way) = λ i. (sym c.in-Ok-Some.ensures.context i, c.in-One.is i) in
-    subst L both (way_leads s fs c.requires.laws table p c.args.walk.now.state c.in-Ok-Some.step.moves c.in-Ok-Some.step.end t c.requires.way on)
-
-pub lead_both-requires-clause-leading : goal.lead_both-requires-clause-leading
-lead_both-requires-clause-leading c =
-    let s = setting_of c.args.setting.now in
-    let fs = c.args.setting.now.start.now in
-    let table = c.args.table.now in
-    let p = place_of table.builder c.args.walk.now.context c.args.offset in
-    let t = c.carried.new.walk.state in
-    let C : Option Stepped → Type 0 = λ x. IsCarried s p c.args.walk.now.state x t in
-    let on = subst C c.in-Ok-Some.field-0-is c.in-Ok-Some.ensures.carried in
-    let L : ℕ × Moves → Type 0 = λ x. IsLeading s fs table (place_of table.builder x.0 c.args.offset) (places_behind (frames_at table.builder.contexts x.0) x.1) t in
-    let both : ◌≡◌ {A = ℕ × Moves} (c.args.walk.now.context, c.in-Ok-Some.step.moves) (c.carried.new.walk.context, moves.Two c.in-Two.first c.in-Two.second) =
-    λ i. (sym c.in-Ok-Some.ensures.context i, c.in-Two.is i) in
-    subst L both (way_leads s fs c.requires.laws table p c.args.walk.now.state c.in-Ok-Some.step.moves c.in-Ok-Some.step.end t c.requires.way on)
+    let L : ℕ → Type 0 = λ x. IsLeading s fs table (place_of table.builder x c.args.offset) (places_from (frames_at table.builder.contexts x) c.in-Ok-Some.step.moves 0) t in
+    subst L (sym c.in-Ok-Some.ensures.context) (way_leads s fs c.requires.laws table p c.args.walk.now.state c.in-Ok-Some.step.moves c.in-Ok-Some.step.end t c.requires.way on)

@@ -5,9 +5,10 @@ use Rattle.tt_cert.specs.Puts.{place_of}
 use Rattle.tt_cert.specs.declared.spot.Spot.{Spot}
 use Rattle.tt_find.specs.Found.{IsJustified}
 use Rattle.tt_find.specs.Tables.{IsApart, IsPassed}
-use Rattle.tt_find.proofs.Leads.{comes_here, just_from, ranged_to, whole_put}
+use Rattle.tt_find.specs.declared.source.Source.TheVariants.{JustBefore}
+use Rattle.tt_find.proofs.Leads.{comes_before, ranged_to, whole_put}
 use Rattle.tt_find.proofs.Steps.{apart_left, leading_passed, stop_map}
-use Rattle.tt_find.proofs.run.lead_to.Goals as goal
+use Rattle.tt_find.proofs.run.lead_over.Goals as goal
 
 pub returns-then-may_pass-clause-goes : goal.returns-then-may_pass-clause-goes
 returns-then-may_pass-clause-goes c =
@@ -16,14 +17,10 @@ returns-then-may_pass-clause-goes c =
     let p = place_of c.args.table.now.builder context c.args.offset in
     let P : Spot → Type 0 = λ x. IsPassed c.args.table.now c.pass.new.self x c.args.next in
     leading_passed s c.args.setting.now.start.now c.requires.laws c.args.table.now c.pass.new.self p context c.args.next c.args.walk.now.state c.requires.leading c.requires.walk.there
-    (subst P c.requires.walk.spot c.in_default-pass.ensures)
-    (just_from s p c.args.after c.args.next c.source_of-source.result c.requires.after c.source_of-source.ensures c.in-JustBefore.is)
+    (subst P c.requires.walk.spot c.in_default.ensures) c.requires.just
 
 pub returns-then-may_pass-clause-further : goal.returns-then-may_pass-clause-further
-returns-then-may_pass-clause-further c =
-    let s = setting_of c.args.setting.now in
-    let p = place_of c.args.table.now.builder c.args.walk.now.context c.args.offset in
-    (just_from s p c.args.after c.args.next c.source_of-source.result c.requires.after c.source_of-source.ensures c.in-JustBefore.is).ends.forward
+returns-then-may_pass-clause-further c = c.requires.just.ends.forward
 
 pub store-requires-clause-in_range : goal.store-requires-clause-in_range
 store-requires-clause-in_range c =
@@ -47,5 +44,6 @@ returns-clause-goes c =
     let table = c.args.table.now in
     let context = c.args.walk.now.context in
     let p = place_of table.builder context c.args.offset in
-    whole_put s c.args.setting.now.start.now c.requires.laws table c.store.new.table p context c.args.next c.args.walk.now.state c.source_of-source.result c.requires.leading c.requires.walk.there
-    c.in_default-store.ensures.stored (comes_here s p c.args.after c.args.next c.source_of-source.result c.requires.after c.source_of-source.ensures)
+    let q = place_of table.builder context c.args.next in
+    whole_put s c.args.setting.now.start.now c.requires.laws table c.store.new.table p context c.args.next c.args.walk.now.state JustBefore c.requires.leading c.requires.walk.there
+    c.in_default-store.ensures.stored (comes_before s p q c.requires.just)
