@@ -1,5 +1,5 @@
 -- The family's state at a landing's place.
-use Rattle.std.specs.Prelude.{◌≡◌, ℕ, ◌+◌, ◌<◌, ◌≤◌, ◌^◌, Option, Some, None, length}
+use Rattle.std.specs.Prelude.{◌≡◌, ℕ, ◌<◌, ◌≤◌, ◌^◌, Option, Some, None, length}
 use Rattle.std.specs.Borrow.{Bor}
 use Rattle.std.proofs.Common.{refl, sym, ◌∙◌, arith}
 use Rattle.tt_abs.specs.declared.state.State.{State}

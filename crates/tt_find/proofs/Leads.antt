@@ -1,6 +1,6 @@
 -- Where a state is led to, and from where it comes there.
 use Rattle.std.specs.Prelude.{◌≡◌, ℕ, zero, suc, ◌+◌, ◌<◌, Option, Some, None, List, [], ◌∷◌, ◌++◌, drop, length, map, reverse, slice_get}
-use Rattle.std.proofs.Common.{refl, sym, ◌∙◌, ap, subst, inl, inr, arith}
+use Rattle.std.proofs.Common.{refl, sym, ◌∙◌, ap, subst, inl, arith}
 use Rattle.tt_code.specs.Settings.{Setting}
 use Rattle.tt_code.specs.declared.machine.Frame.{Frame}
 use Rattle.tt_code.specs.declared.reason.Reason.TheVariants.{TooManyContexts}

@@ -1,6 +1,6 @@
 use Rattle.std.specs.Prelude.{false}
 use Rattle.std.specs.Option.{is_some}
-use Rattle.std.proofs.Common.{◌≡◌, ◌∙◌, ◌+◌, ◌∷◌, ◌++◌, List, ℕ, Option, Some, None, Err, ap, arith, refl, sym, subst}
+use Rattle.std.proofs.Common.{◌≡◌, ◌∙◌, ◌+◌, ◌++◌, ℕ, Option, Some, None, Err, ap, arith, refl, sym, subst}
 use Rattle.tt_code.specs.declared.reason.Reason.TheVariants.{TooManyContexts}
 use Rattle.tt_abs.specs.Settings.{setting_of}
 use Rattle.tt_cert.specs.Contents.{Contents, family_of, frames_at}
