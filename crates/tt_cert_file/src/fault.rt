@@ -1,0 +1,64 @@
+use std::alloc::{AllocError, AllocFailed};
+use thiserror::Error;
+use tt_stream::{ReadFailed, WriteFailed};
+
+/// Why a certificate wasn't read or written.
+#[derive(Debug, Drop, Error)]
+pub enum CertFault {
+    /// The bytes are no certificate: the place of the first byte of what breaks a rule, or of the input's end where that comes too early.
+    #[error("certificate form at byte {0}")]
+    Form(u64),
+    /// A read failed.
+    #[error("read")]
+    Read,
+    /// A write failed.
+    #[error("write")]
+    Write,
+    /// Memory ran out.
+    #[error("out of memory")]
+    OutOfMemory(AllocError),
+}
+
+impl From<ReadFailed> for CertFault {
+    ghost use Rattle.std.specs.Prelude.{◌≡◌};
+    ghost use Rattle.tt_cert_file.specs.declared.fault.CertFault.TheVariants.{Read};
+
+    ghost from_gives = { λ _ fault. fault ≡ Read };
+
+    fn from(_failed: ReadFailed) -> CertFault {
+        CertFault::Read
+    }
+}
+
+impl From<WriteFailed> for CertFault {
+    ghost use Rattle.std.specs.Prelude.{◌≡◌};
+    ghost use Rattle.tt_cert_file.specs.declared.fault.CertFault.TheVariants.{Write};
+
+    ghost from_gives = { λ _ fault. fault ≡ Write };
+
+    fn from(_failed: WriteFailed) -> CertFault {
+        CertFault::Write
+    }
+}
+
+impl From<AllocError> for CertFault {
+    ghost use Rattle.std.specs.Prelude.{◌≡◌};
+    ghost use Rattle.tt_cert_file.specs.declared.fault.CertFault.TheVariants.{OutOfMemory};
+
+    ghost from_gives = { λ error fault. fault ≡ OutOfMemory error };
+
+    fn from(error: AllocError) -> CertFault {
+        CertFault::OutOfMemory(error)
+    }
+}
+
+impl<T: Drop> From<AllocFailed<T>> for CertFault {
+    ghost use Rattle.std.specs.Prelude.{◌≡◌, alloc_error};
+    ghost use Rattle.tt_cert_file.specs.declared.fault.CertFault.TheVariants.{OutOfMemory};
+
+    ghost from_gives = { λ _ fault. fault ≡ OutOfMemory alloc_error };
+
+    fn from(_failed: AllocFailed<T>) -> CertFault {
+        CertFault::OutOfMemory(AllocError)
+    }
+}

@@ -1,0 +1,18 @@
+//! Certificate files: the text of a font's certificate, written to and read from streams.
+#![tactic(auto)]
+
+mod contexts;
+mod fault;
+mod form;
+mod header;
+mod lists;
+mod name;
+mod reading;
+mod states;
+mod units;
+
+pub use fault::CertFault;
+pub use form::Form;
+pub use header::{read_header, write_header};
+pub use name::Name;
+pub use reading::decode;
