@@ -55,10 +55,11 @@ entry_last {V} n v (e ∷ es) below =
     let not_same = ne_eqb n e.0 (λ same. absurd (omega arith)) in
     rw (not_before, not_same) (ap (λ (l : List (ℕ × V)). e ∷ l) (entry_last n v es below.1))
 
-pub stored : (old now new : State) (cells : List (ℕ × ℤ)) (k : ℕ) (d : ℕ × ℤ) → Rises cells → k < length cells → now ≡ with_storage old (take k cells)
-    → new ≡ with_storage now (with_cell (slice_index_or cells k d).0 (Known (slice_index_or cells k d).1) now.storage) → new ≡ with_storage old (take (k + 1) cells)
-stored old now new cells k d rises lt before one =
+pub stored : (old now new : State) (cells : List (ℕ × ℤ)) (k : ℕ) (d : ℕ × ℤ) (z : ℤ) → z ≡ (slice_index_or cells k d).1 → Rises cells → k < length cells
+    → now ≡ with_storage old (take k cells) → new ≡ with_storage now (with_cell (slice_index_or cells k d).0 (Known z) now.storage) → new ≡ with_storage old (take (k + 1) cells)
+stored old now new cells k d z same rises lt before one =
     let x : ℕ × ℤ = slice_index_or cells k d in
     let below = before_entry cells k x rises (slice_get-get_or cells k d lt) in
     let more : with_entry x.0 x.1 (take k cells) ≡ take (k + 1) cells = entry_last x.0 x.1 (take k cells) below ∙ sym (take_more cells k d lt) in
-    one ∙ ap (λ (s : State). with_storage s (with_entry x.0 x.1 s.storage)) before ∙ ap (with_storage old) more
+    one ∙ ap (λ (y : ℤ). with_storage now (with_entry x.0 y now.storage)) same ∙ ap (λ (s : State). with_storage s (with_entry x.0 x.1 s.storage)) before
+    ∙ ap (with_storage old) more

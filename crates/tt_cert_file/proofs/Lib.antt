@@ -8,3 +8,5 @@ pub mod ContextLists
 pub mod Bodies
 pub mod StateLists
 pub mod Building
+pub mod Listed
+pub mod Pushed

@@ -10,9 +10,11 @@ mod name;
 mod reading;
 mod states;
 mod units;
+mod writing;
 
 pub use fault::CertFault;
 pub use form::Form;
 pub use header::{read_header, write_header};
 pub use name::Name;
 pub use reading::decode;
+pub use writing::encode;

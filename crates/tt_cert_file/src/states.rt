@@ -54,8 +54,8 @@ fn store_cells(state: &mut State, cells: &[(u16, i32)]) -> Result<(), AllocError
     ensures stored { OnOk result (state.new ≡ record state.old { storage = cells.now }) }
     ensures in_range { state_order.InRange state.old → state_order.InRange state.new }
 {
-    for (index, number) in cells {
-        state.set_storage(*index, Cell::Known(*number))?;
+    for &(index, number) in cells {
+        state.set_storage(index, Cell::Known(number))?;
     }
     Ok(())
 }

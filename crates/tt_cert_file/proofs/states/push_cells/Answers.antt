@@ -1,7 +1,7 @@
-use Rattle.std.proofs.Common.{◌≡◌, ℕ, take_all, reverse, ap, ◌∙◌, arith}
-use Rattle.tt_abs.specs.declared.cells.Cell.{Cell}
-use Rattle.tt_abs.specs.declared.cells.Cell.TheVariants.{Unknown}
-use Rattle.tt_cert_file.proofs.Building.{depth_is, none_pushed, pushed, with_stack}
+use Rattle.std.proofs.Common.{arith}
+use Rattle.std.specs.Prelude.{pos}
+use Rattle.tt_abs.specs.declared.cells.Cell.TheVariants.{Known}
+use Rattle.tt_cert_file.proofs.Building.{depth_is, none_pushed, pushed}
 use Rattle.tt_cert_file.proofs.states.push_cells.Goals as goal
 
 pub loop-cell-init : goal.loop-cell-init
@@ -14,6 +14,6 @@ push-requires c =
 
 pub loop-cell-preserved : goal.loop-cell-preserved
 loop-cell-preserved c = (
-    pushed c.args.state.now c.loop-cell.state _ c.args.cells.now c.loop-cell.cell-index Unknown c.loop-cell-test.true c.loop-cell.invariant.0 c.in_ok-push.ensures.ok,
+    pushed c.args.state.now c.loop-cell.state _ c.args.cells.now c.loop-cell.cell-index (Known (pos 0)) c.loop-cell-test.true c.loop-cell.invariant.0 c.in_ok-push.ensures.ok,
     λ h. c.push.ensures.in_range (c.loop-cell.invariant.1 h),
 )
