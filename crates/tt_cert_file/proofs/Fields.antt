@@ -112,6 +112,12 @@ pub none_is : {A : Type 0} (y : A) → None ≡ some y → ⊥
 unfolding some
 none_is y e = cc
 
+pub some_same : {A : Type 0} (x y : A) → ◌≡◌ {A = Option A} (Some x) (Some y) → x ≡ y
+some_same x y e = cc
+
+pub none_same : {A : Type 0} (y : A) → ◌≡◌ {A = Option A} None (Some y) → ⊥
+none_same y e = cc
+
 IsSpelled : ℕ → ℕ → Name → Type 0
 IsSpelled kind glyph y = (name_text y ≡ kind ∷ to_be_bytes w16 glyph) × NameFits y
 

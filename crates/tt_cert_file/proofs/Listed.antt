@@ -9,8 +9,8 @@ use Rattle.tt_cert.specs.Contents.{Contents, IsFamily, frames_at}
 use Rattle.tt_cert.specs.Contexts.{frames_of, length-grow}
 use Rattle.tt_cert.specs.Puts.{number_at}
 use Rattle.tt_cert.specs.Rising.{IsFinished}
-use Rattle.tt_cert_file.specs.declared.fault.CertFault.{CertFault}
-use Rattle.tt_cert_file.specs.declared.fault.CertFault.TheVariants as fault
+use Rattle.tt_cert_file.specs.declared.fault.DecodeFault.{DecodeFault}
+use Rattle.tt_cert_file.specs.declared.fault.DecodeFault.TheVariants as fault
 use Rattle.tt_cert_file.specs.declared.form.Form.{Form}
 use Rattle.tt_cert_file.specs.declared.name.Name.{Name}
 use Rattle.tt_cert_file.specs.Answers.{Fails}
@@ -35,7 +35,7 @@ context_listed v i c family lt frames parent =
     slice_get-map (context_of v.contexts) (drop 1 v.contexts) i ∙ ap (option_map (context_of v.contexts)) (get_behind v.contexts i ∙ at) ∙ ap Some is
 
 pub length_listed : (v : Contents) → length (contexts_in v.contexts) ≡ length v.contexts - 1
-length_listed v = length-map (context_of v.contexts) (drop 1 v.contexts) ∙ length-drop 1 v.contexts
+length_listed v = length-map (drop 1 v.contexts) (context_of v.contexts) ∙ length-drop 1 v.contexts
 
 same_by_get : {A : Type 0} (xs ys : List A) → length xs ≡ length ys → ((i : ℕ) (y : A) → slice_get ys i ≡ Some y → slice_get xs i ≡ Some y) → xs ≡ ys
 same_by_get [] [] len get = refl
@@ -79,11 +79,10 @@ states_refused : (form : Form) (i : Input) (name : Name) (i1 : Input) (contexts 
 unfolding section_at
 states_refused form i name i1 contexts i2 m place e1 e2 e3 e4 = rw (e1, e2, ← e3, e4) refl
 
-pub section_fails : (form : Form) (i : Input) (name : Name) (i1 : Input) (contexts : List Context) (i2 : Input) (m : ℕ) (e : CertFault)
+pub section_fails : (form : Form) (i : Input) (name : Name) (i1 : Input) (contexts : List Context) (i2 : Input) (m : ℕ) (e : DecodeFault)
     → name_at i ≡ Ok (name, i1) → contexts_at form i1 ≡ Ok (contexts, i2) → m ≡ length contexts + 1 → Fails e (states_at form m i2) → Fails e (section_at form i)
 section_fails form i name i1 contexts i2 m (fault.Form place) e1 e2 e3 h = states_refused form i name i1 contexts i2 m place e1 e2 e3 h
 section_fails form i name i1 contexts i2 m fault.Read e1 e2 e3 h = tt
-section_fails form i name i1 contexts i2 m fault.Write e1 e2 e3 h = h
 section_fails form i name i1 contexts i2 m (fault.OutOfMemory error) e1 e2 e3 h = tt
 
 -- how many contexts a builder of these has

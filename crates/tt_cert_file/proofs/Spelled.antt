@@ -22,7 +22,7 @@ use Rattle.tt_cert_file.specs.Rules.{CellFits, ContextFits, EachAfter, EntryFits
 use Rattle.tt_cert_file.specs.Sections.{Context, Entry, Section}
 use Rattle.tt_cert_file.specs.Text.{cell_text, context_text, counted, graphics_text, header_text, long, name_text, pair_text, section_text, state_text, storage_text, stored_text, word, zone_text}
 use Rattle.tt_cert_file.proofs.Codecs.{IsCodec, Takes, Takes-then, and_then_codec, bind_ok, codec_of, counted_codec, given_ok, here, made_of_codec, ok_is, ruled_codec}
-use Rattle.tt_cert_file.proofs.Fields.{PairFits, both, chosen, none_is, some, some_is, cell_codec, long_codec, name_codec, pair_codec, signed_back, word_codec, zone_codec}
+use Rattle.tt_cert_file.proofs.Fields.{PairFits, both, chosen, none_same, some_same, cell_codec, long_codec, name_codec, pair_codec, signed_back, word_codec, zone_codec}
 
 any : {A : Type 0} → A → Type 0
 any x = Unit {0}
@@ -53,8 +53,8 @@ turn_fits : (c : Context) (before : List Context) → may_follow before c ≡ tr
 turn_fits c before follows =
     let last = (both _ _ (both _ _ (both _ _ follows).1).1).0 in
     let more = (both _ _ last).1 in
-    let turn = leb-true _ _ (both _ _ more).0 in
-    let count = ltb-true _ _ (both _ _ more).1 in
+    let turn : c.1.turn ≤ c.1.count = leb-true _ _ (both _ _ more).0 in
+    let count : c.1.count < 2 ^ 31 = ltb-true _ _ (both _ _ more).1 in
     (omega arith, omega arith)
 
 pub context_codec : (before : List Context) → IsCodec (context_at before) context_text (ContextFits before)
@@ -271,17 +271,17 @@ IsFormOf : ℕ → Form → Type 0
 IsFormOf n form = form_number form ≡ n
 
 form_is : (n : ℕ) (form : Form) → form_of n ≡ Some form → IsFormOf n form
-unfolding some IsFormOf
+unfolding IsFormOf
 form_is n form e =
     elim (chosen (eqb n 1) (Some One) (cond (eqb n 2) (Some Two) (cond (eqb n 3) (Some Three) (cond (eqb n 4) (Some Four) None))) (Some form) e) [
-      | inl h ↦ subst (λ (x : Form). form_number x ≡ n) (some_is One form h.1) (sym (eqb-true n 1 h.0))
+      | inl h ↦ subst (λ (x : Form). form_number x ≡ n) (some_same One form h.1) (sym (eqb-true n 1 h.0))
       | inr h ↦ elim (chosen (eqb n 2) (Some Two) (cond (eqb n 3) (Some Three) (cond (eqb n 4) (Some Four) None)) (Some form) h.1) [
-        | inl f ↦ subst (λ (x : Form). form_number x ≡ n) (some_is Two form f.1) (sym (eqb-true n 2 f.0))
+        | inl f ↦ subst (λ (x : Form). form_number x ≡ n) (some_same Two form f.1) (sym (eqb-true n 2 f.0))
         | inr f ↦ elim (chosen (eqb n 3) (Some Three) (cond (eqb n 4) (Some Four) None) (Some form) f.1) [
-          | inl g ↦ subst (λ (x : Form). form_number x ≡ n) (some_is Three form g.1) (sym (eqb-true n 3 g.0))
+          | inl g ↦ subst (λ (x : Form). form_number x ≡ n) (some_same Three form g.1) (sym (eqb-true n 3 g.0))
           | inr g ↦ elim (chosen (eqb n 4) (Some Four) None (Some form) g.1) [
-            | inl q ↦ subst (λ (x : Form). form_number x ≡ n) (some_is Four form q.1) (sym (eqb-true n 4 q.0))
-            | inr q ↦ absurd (none_is form q.1)
+            | inl q ↦ subst (λ (x : Form). form_number x ≡ n) (some_same Four form q.1) (sym (eqb-true n 4 q.0))
+            | inr q ↦ absurd (none_same form q.1)
           ]
         ]
       ]

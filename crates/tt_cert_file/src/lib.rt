@@ -12,9 +12,9 @@ mod states;
 mod units;
 mod writing;
 
-pub use fault::CertFault;
+pub use fault::{DecodeFault, EncodeFault};
 pub use form::Form;
-pub use header::{read_header, write_header};
+pub use header::{read_end, read_header, write_header};
 pub use name::Name;
 pub use reading::decode;
 pub use writing::encode;

@@ -9,7 +9,7 @@ ghost use Rattle.tt_cert_file.specs.Counts.{AreCountable, IsCountable};
 ghost use Rattle.tt_cert_file.specs.Sections.{contexts_in, section_of};
 ghost use Rattle.tt_cert_file.specs.Text.{cell_text, context_text, counted, graphics_text, long, name_text, pair_text, section_text, state_text, stored_text, word, zone_text};
 
-use crate::fault::CertFault;
+use crate::fault::EncodeFault;
 use crate::form::Form;
 use crate::name::Name;
 use std::alloc::{AllocError, Global};
@@ -212,7 +212,7 @@ pub fn encode<W: Sink>(
     name: Name,
     certificate: &Certificate,
     sink: &mut W,
-) -> Result<(), CertFault>
+) -> Result<(), EncodeFault>
     requires { AreCountable certificate.now }
     ensures written { OnOk result (Appends (W.contents sink.old) (W.contents sink.new) (section_text Form.Four (section_of name certificate.now))) }
     ensures beginning { OnErr result (AppendsBeginning (W.contents sink.old) (W.contents sink.new) (section_text Form.Four (section_of name certificate.now))) }
