@@ -12,7 +12,7 @@ use Rattle.tt_cert_file.specs.Reading.{section_at}
 use Rattle.tt_cert_file.specs.Rules.{Fits}
 use Rattle.tt_cert_file.specs.Sections.{Section, section_of}
 use Rattle.tt_cert_file.specs.Text.{section_text}
-use Rattle.tt_cert_file.proofs.Codecs.{Takes, here, ok_is}
+use Rattle.tt_cert_file.proofs.Codecs.{here, ok_is}
 use Rattle.tt_cert_file.proofs.Spelled.{section_codec}
 
 abbrev Decoded : Type 0

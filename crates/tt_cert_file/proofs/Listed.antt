@@ -1,14 +1,12 @@
 -- The contexts of a family as a section lists them.
-use Rattle.std.proofs.Common.{◌≡◌, ℕ, zero, suc, ◌+◌, ◌-◌, ◌<◌, ◌≤◌, List, [], ◌∷◌, ◌++◌, length, take, drop, map, Option, Some, None, Ok, Err, refl, sym, ap, subst, ◌∙◌, arith, length-drop}
+use Rattle.std.proofs.Common.{◌≡◌, ℕ, suc, ◌+◌, ◌-◌, ◌<◌, List, [], ◌∷◌, ◌++◌, length, take, drop, Some, Ok, Err, refl, sym, ap, subst, ◌∙◌, arith, length-drop}
 use Rattle.std.specs.Prelude.{option_map, slice_get, slice_index_or}
 use Rattle.std.proofs.lemmas.List.{length-map, take_more}
 use Rattle.std.proofs.lemmas.Option.{slice_get-get_or, slice_get-map, slice_get_within}
 use Rattle.tt_code.specs.declared.machine.Frame.{Frame}
-use Rattle.tt_abs.specs.declared.state.State.{State}
 use Rattle.tt_cert.specs.Contents.{Contents, IsFamily, frames_at}
 use Rattle.tt_cert.specs.Contexts.{frames_of, length-grow}
 use Rattle.tt_cert.specs.Puts.{number_at}
-use Rattle.tt_cert.specs.Rising.{IsFinished}
 use Rattle.tt_cert_file.specs.declared.fault.DecodeFault.{DecodeFault}
 use Rattle.tt_cert_file.specs.declared.fault.DecodeFault.TheVariants as fault
 use Rattle.tt_cert_file.specs.declared.form.Form.{Form}
@@ -17,7 +15,7 @@ use Rattle.tt_cert_file.specs.Answers.{Fails}
 use Rattle.tt_cert_file.specs.Readers.{Input}
 use Rattle.tt_cert_file.specs.Reading.{contexts_at, name_at, section_at, states_at}
 use Rattle.tt_cert_file.specs.Rules.{AreContexts}
-use Rattle.tt_cert_file.specs.Sections.{Context, Entry, Section, context_of, contexts_in}
+use Rattle.tt_cert_file.specs.Sections.{Context, Entry, context_of, contexts_in}
 use Rattle.tt_cert_file.proofs.Bodies.{frames_at_context}
 use Rattle.tt_cert_file.proofs.ContextLists.{HaveParents-from}
 
@@ -54,10 +52,10 @@ listed_back contexts v is family rules =
     let long : length v.contexts ≡ 1 + length contexts = ap length is ∙ grown in
     same_by_get (contexts_in v.contexts) contexts (omega (arith, length_listed v))
     (λ i c at.
-        let within = slice_get_within contexts i c at in
-        let parent = HaveParents-from contexts rules i c at in
-        let F : List (List Frame) → Type 0 = λ x. frames_at x (i + 1) ≡ c.1 ∷ frames_at x c.0 in
-        context_listed v i c family (omega arith) (subst F (sym is) (frames_at_context contexts (HaveParents-from contexts rules) i c at)) (omega arith))
+    let within = slice_get_within contexts i c at in
+    let parent = HaveParents-from contexts rules i c at in
+    let F : List (List Frame) → Type 0 = λ x. frames_at x (i + 1) ≡ c.1 ∷ frames_at x c.0 in
+    context_listed v i c family (omega arith) (subst F (sym is) (frames_at_context contexts (HaveParents-from contexts rules) i c at)) (omega arith))
 
 -- one more context of the list
 pub listed_more : (v : Contents) (i : ℕ) (c : Context) → slice_get (contexts_in v.contexts) i ≡ Some c → take (i + 1) (contexts_in v.contexts) ≡ take i (contexts_in v.contexts) ++ c ∷ []

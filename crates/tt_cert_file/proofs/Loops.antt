@@ -1,11 +1,11 @@
 -- Reading values one after the other, as a loop does.
-use Rattle.std.proofs.Common.{◌≡◌, ℕ, suc, ◌-◌, ◌+◌, ◌≤◌, ◌<◌, Bool, true, List, [], ◌∷◌, ◌++◌, Option, is_some, Result, Ok, Err, refl, sym, ap, ◌∙◌, arith}
+use Rattle.std.proofs.Common.{◌≡◌, ℕ, suc, ◌-◌, ◌+◌, ◌≤◌, ◌<◌, true, List, [], ◌∷◌, ◌++◌, Option, is_some, Ok, Err, refl, sym, ◌∙◌, arith}
 use Rattle.tt_stream.specs.Reads.{ConsumesBeginning}
 use Rattle.tt_stream.proofs.Beginnings.{consumes_then}
 use Rattle.tt_cert_file.specs.declared.fault.DecodeFault.{DecodeFault}
 use Rattle.tt_cert_file.specs.declared.fault.DecodeFault.TheVariants as fault
 use Rattle.tt_cert_file.specs.Answers.{Fails, Gives, input_at}
-use Rattle.tt_cert_file.specs.Readers.{Answer, Input, list_at, ◌>>=◌}
+use Rattle.tt_cert_file.specs.Readers.{Answer, Input, list_at}
 
 goes_on : {A : Type 0} (one : List A → Input → Answer A) (xs : List A) (count k : ℕ) (i : Input) (x : A) (j : Input) (total : Answer (List A))
     → k < count → one xs i ≡ Ok (x, j) → list_at one xs (count - k) i ≡ total → list_at one (xs ++ x ∷ []) (count - (k + 1)) j ≡ total

@@ -46,10 +46,7 @@ fn read_form<S: Source>(source: &mut S, place: u64) -> Result<(Form, u64), Decod
 
 /// Reads a header at a place, and answers it with the place after it.
 #[tactic(auto, unfolding(crate::specs::Reading::header_at))]
-fn read_header_at<S: Source>(
-    source: &mut S,
-    place: u64,
-) -> Result<((Form, u32), u64), DecodeFault>
+fn read_header_at<S: Source>(source: &mut S, place: u64) -> Result<((Form, u32), u64), DecodeFault>
     ensures reads { Gives (λ x. x) (S.remaining source.old) (S.remaining source.new) result (header_at (input_at place (S.remaining source.old))) }
     ensures beginning { ConsumesBeginning (S.remaining source.old) (S.remaining source.new) }
     ensures failures { CountsRead result (S.failures source.old) (S.failures source.new) }

@@ -7,7 +7,7 @@ pub returns-in_err-name-clause-only : goal.returns-in_err-name-clause-only
 returns-in_err-name-clause-only g c =
     let p = err_from_is_err_and c.from_residual.result c.from_residual.ensures.1 in
     rw (p.1, p.2) (is_read c.args.form (g.S.Source.remaining c.args.source.now) (g.S.Source.remaining c.read_section.new.source) c.args.start (Err c.in_err-name.field-0.0)
-        c.ranges.start.fits c.in_err-name.ensures.reads)
+    c.ranges.start.fits c.in_err-name.ensures.reads)
 
 pub returns-clause-found : goal.returns-clause-found
 returns-clause-found g c =

@@ -1,10 +1,10 @@
-use Rattle.std.proofs.Common.{◌≡◌, ℕ, List, Ok, sym, ap, subst, ◌∙◌, length}
+use Rattle.std.proofs.Common.{◌≡◌, Ok, sym, ap, ◌∙◌, length}
 use Rattle.std.proofs.lemmas.Result.{err_from_is_err_and}
 use Rattle.tt_cert.specs.Contents.{Contents}
 use Rattle.tt_cert.specs.Contexts.{frames_of}
 use Rattle.tt_cert_file.specs.Answers.{input_at}
-use Rattle.tt_cert_file.specs.Readers.{Answer, Input}
-use Rattle.tt_cert_file.specs.Sections.{Context, Entry, Section, contexts_in, section_of}
+use Rattle.tt_cert_file.specs.Readers.{Answer}
+use Rattle.tt_cert_file.specs.Sections.{Section, contexts_in, section_of}
 use Rattle.tt_cert_file.proofs.Listed.{length_built, listed_back, section_fails, section_steps}
 use Rattle.tt_stream.proofs.Beginnings.{consumes_then}
 use Rattle.tt_cert_file.proofs.reading.read_section.Goals as goal
@@ -27,10 +27,10 @@ returns-in_err-builder-2-clause-reads g c =
     let contexts = c.in_ok-contexts.contexts.items in
     let is : c.in_ok-builder.builder.contexts ≡ frames_of contexts = c.in_ok-builder.ensures.contexts ∙ ap frames_of c.deref.ensures.value in
     rw (p.1, p.2) (λ known.
-        let name = c.in_ok-name.ensures.reads known in
-        let read = c.in_ok-contexts.ensures.reads name.0 in
-        section_fails c.args.form _ c.in_ok-name.name _ contexts _ (length c.in_ok-builder.builder.contexts) c.in_err-builder-2.field-0.0 name.1 read.1
-        (length_built contexts c.in_ok-builder.builder.contexts is) (c.in_err-builder-2.ensures.reads read.0))
+    let name = c.in_ok-name.ensures.reads known in
+    let read = c.in_ok-contexts.ensures.reads name.0 in
+    section_fails c.args.form _ c.in_ok-name.name _ contexts _ (length c.in_ok-builder.builder.contexts) c.in_err-builder-2.field-0.0 name.1 read.1
+    (length_built contexts c.in_ok-builder.builder.contexts is) (c.in_err-builder-2.ensures.reads read.0))
 
 pub returns-clause-reads : goal.returns-clause-reads
 returns-clause-reads g c = λ known.

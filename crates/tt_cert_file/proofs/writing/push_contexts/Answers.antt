@@ -1,6 +1,5 @@
-use Rattle.std.proofs.Common.{◌≡◌, ℕ, ◌+◌, ◌<◌, List, ◌∷◌, Option, Some, length, subst, arith}
+use Rattle.std.proofs.Common.{◌≡◌, ◌+◌, ◌<◌, ◌∷◌, Option, length, subst, arith}
 use Rattle.std.specs.Prelude.{IfSome}
-use Rattle.tt_code.specs.declared.machine.Frame.{Frame}
 use Rattle.tt_cert.specs.Contents.{frames_at}
 use Rattle.tt_cert_file.specs.Sections.{Context, contexts_in}
 use Rattle.tt_cert_file.specs.Text.{context_text, word}
