@@ -1,14 +1,13 @@
 //! Readers and writers that give or take little at a time, or fail, and what the calls of the crate make of them.
 
 ghost use Rattle.std.specs.Prelude.{◌≡◌, ◌<◌};
-ghost use Rattle.tt_cert_file.specs.Counts.{AreCountable};
 
-use std::alloc::{AllocError, Global};
+use std::alloc::Global;
 use std::io;
 use std::io::{ErrorKind, Write};
 use std::marker::Brand;
 use std::sync::ledger::{Blank, Ledger};
-use tt_cert::{Certificate, States};
+use tt_cert::Certificate;
 use tt_cert_file::{
     DecodeFault, EncodeFault, Form, Name, decode, encode, read_end, read_header, write_header,
 };
@@ -211,22 +210,6 @@ pub(crate) fn told_of_end(steps: Steps<'_>, place: u64) -> Told {
     end_over::<Brand>(steps, place, Blank::new(1))
 }
 
-/// Are all lists of these states short enough for numbers of 16 bits to count them?
-fn are_countable(certificate: &Certificate) -> bool
-    ensures { result ≡ true → AreCountable certificate.now }
-{
-    let mut states = certificate.states();
-    'states: while let Some((_, _, state)) = states.take_first() {
-        if state.depth() > 65_535
-            || state.functions().len() > 65_535
-            || state.stored().len() > 65_535
-        {
-            return false;
-        }
-    }
-    true
-}
-
 fn encode_over<L: Ledger>(
     alloc: Global,
     section: &Section,
@@ -236,7 +219,6 @@ fn encode_over<L: Ledger>(
     requires name { blank.name ≡ L.name }
     requires parts { blank.parts ≡ L.parts }
     requires some { 0 < blank.parts }
-    requires countable { AreCountable section.now.certificate }
 {
     let mut sink = Counted::<Taker, L>::new(taker, blank);
     let result = encode(alloc, section.name, &section.certificate, &mut sink);
@@ -245,9 +227,6 @@ fn encode_over<L: Ledger>(
 
 /// What writing a section tells, and the bytes that were taken.
 pub(crate) fn encoded(alloc: Global, section: &Section, taker: Taker) -> (Told, Vec<u8>) {
-    if !are_countable(&section.certificate) {
-        return (Told::OutOfMemory, taker.bytes);
-    }
     encode_over::<Brand>(alloc, section, taker, Blank::new(1))
 }
 

@@ -72,11 +72,12 @@ fn is_read(
         calls: ALL,
     };
     let after = 100u64.saturating_add(length);
-    match decoded(alloc, steps, 100, form) {
-        (Some(section), told) => {
+    let (section, told) = decoded(alloc, steps, 100, form);
+    match section {
+        Some(section) => {
             told == Told::Section { after, left: 2 } && has_content(&section, content)
         }
-        (None, _) => false,
+        None => false,
     }
 }
 

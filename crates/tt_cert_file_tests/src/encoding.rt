@@ -6,7 +6,6 @@ use crate::sections::{
     EMPTY_IN_FORM_1, EMPTY_IN_FORM_4, FULL, GLYPH_IN_FORM_1, GLYPH_IN_FORM_4, SPARSE_GLYPH,
 };
 use std::alloc::Global;
-use std::test::Fail;
 use tt_cert_file::Form;
 
 /// The section with these parts.

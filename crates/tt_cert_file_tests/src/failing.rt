@@ -5,7 +5,6 @@ use crate::calls::{Taker, Told, encoded, told_of_calls};
 use crate::encoding::section_of;
 use crate::sections::{FULL, FULL_LENGTH};
 use std::alloc::Global;
-use std::test::Fail;
 use tt_cert_file::Form;
 
 /// A change to a part of the full section, or none.

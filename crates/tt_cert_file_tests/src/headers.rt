@@ -3,7 +3,6 @@
 use crate::bytes::bytes_of;
 use crate::calls::{ALL, Steps, Taker, Told, told_of_end, told_of_header, written_header};
 use std::alloc::Global;
-use std::test::Fail;
 use tt_cert_file::Form;
 
 /// What reading a header byte by byte tells, where a call fails after so many.
