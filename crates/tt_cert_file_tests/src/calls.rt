@@ -210,6 +210,36 @@ pub(crate) fn told_of_end(steps: Steps<'_>, place: u64) -> Told {
     end_over::<Brand>(steps, place, Blank::new(1))
 }
 
+/// Reads a file over a ledger: its header, its sections, and its end.
+fn file_over<L: Ledger>(alloc: Global, steps: Steps<'_>, blank: Blank) -> Result<u64, DecodeFault>
+    requires name { blank.name ≡ L.name }
+    requires parts { blank.parts ≡ L.parts }
+    requires some { 0 < blank.parts }
+{
+    let mut source = Counted::<Steps<'_>, L>::new(steps, blank);
+    let (form, sections) = read_header(&mut source)?;
+    let mut place = 10;
+    for _ in 0..sections {
+        let (_, _, after) = decode(alloc, &mut source, place, form)?;
+        place = after;
+    }
+    read_end(&mut source, place)?;
+    Ok(place)
+}
+
+/// What reading a file in steps of 5 bytes tells.
+pub(crate) fn told_of_file(alloc: Global, bytes: &[u8]) -> Told {
+    let steps = Steps {
+        bytes,
+        step: 5,
+        calls: ALL,
+    };
+    match file_over::<Brand>(alloc, steps, Blank::new(1)) {
+        Ok(after) => Told::Section { after, left: 0 },
+        Err(fault) => told_by_decode_fault(fault),
+    }
+}
+
 fn encode_over<L: Ledger>(
     alloc: Global,
     section: &Section,
