@@ -36,7 +36,14 @@ fn told_with(alloc: Global, part: usize, digits: &str) -> Told {
 #[test]
 fn smallest_file(rt: HostRuntime) {
     let table = [
-        (14, "", Told::Section { after: 142, left: 0 }),
+        (
+            14,
+            "",
+            Told::Section {
+                after: 142,
+                left: 0,
+            },
+        ),
         (14, "00", Told::Form(142)),
         (14, "02 0001", Told::Form(142)),
         // A section too few, and one too many.
@@ -48,7 +55,11 @@ fn smallest_file(rt: HostRuntime) {
         (13, "0000 00", Told::Form(141)),
     ];
     for (part, digits, want) in table {
-        assert_eq!(rt; told_with(rt.alloc(), part, digits), want, "{digits} in part {part}");
+        assert_eq!(rt;
+            told_with(rt.alloc(), part, digits),
+            want,
+            "{digits} in part {part}"
+        );
     }
 }
 

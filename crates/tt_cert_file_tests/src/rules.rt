@@ -90,6 +90,13 @@ fn contexts(rt: HostRuntime) {
         at_part(3, "0001 00000005 00000009 00000000 00000000", 23),
         // The body that the parent's last call runs.
         at_part(3, "0001 00000005 00000003 00000002 00000002", 23),
+        // The number and three contexts in one part: the third has the body of the outermost call.
+        at_part(
+            1,
+            "0003 0000 00000003 00000003 00000001 00000001 \
+             0001 00000005 00000009 00000002 00000002 0002 00000007 00000003 00000001 00000001",
+            41,
+        ),
     ];
     assert_eq!(rt; first_not_told(rt.alloc(), &changes), None);
 }
