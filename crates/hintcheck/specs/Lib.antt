@@ -6,3 +6,5 @@ pub mod FontLooks
 pub mod Judging
 pub mod Commands
 pub mod MeansSafe
+pub mod CheckedFonts
+pub mod CertificateFaults

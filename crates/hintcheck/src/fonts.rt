@@ -46,9 +46,9 @@ fn end_functions(
 
 /// A font program or a CVT program, and the functions that are known where it ends, by rising number.
 #[derive(Drop)]
-struct Ended<'a> {
-    program: Program<'a>,
-    functions: Vec<(u16, u32)>,
+pub(crate) struct Ended<'a> {
+    pub(crate) program: Program<'a>,
+    pub(crate) functions: Vec<(u16, u32)>,
 }
 
 /// Looks at the font program.
@@ -71,7 +71,7 @@ fn look_at_font_program<'a>(
 }
 
 /// The setting of the CVT program, which starts with the functions that are known where the font program ends.
-fn cvt_setting<'a>(font: &Font<'_>, fpgm: &'a Ended<'_>, program: &'a Program<'_>) -> Setting<'a>
+pub(crate) fn cvt_setting<'a>(font: &Font<'_>, fpgm: &'a Ended<'_>, program: &'a Program<'_>) -> Setting<'a>
     ensures setting { setting_of result ≡ setting_of_cvt_program (font_of font.now fpgm.entry.now.program program.entry.now) }
     ensures programs { programs_of result ≡ font_of font.now fpgm.entry.now.program program.entry.now }
     ensures main { result.main.now ≡ program.entry.now }
@@ -174,7 +174,7 @@ fn refused_alone(alloc: Global, name: Name, fault: ProgramFault) -> Result<Vec<R
 }
 
 /// Looks at the programs of a font, one after the other, each in the memory of those before: the refused ones, in their order.
-fn refused_programs(alloc: Global, font: &Font<'_>) -> Result<Vec<Refused>, AllocError>
+pub(crate) fn refused_programs(alloc: Global, font: &Font<'_>) -> Result<Vec<Refused>, AllocError>
     requires { IsFontInRange font.now }
     ensures { IfOk result (λ refused. AreAllRefused font.now refused.items) }
 {
