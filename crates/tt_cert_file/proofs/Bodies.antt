@@ -1,5 +1,5 @@
 -- Which bodies run in the calls of a context, call by call.
-use Rattle.std.proofs.Common.{◌≡◌, ℕ, zero, suc, ◌+◌, ◌-◌, ◌<◌, ◌≤◌, Bool, true, false, List, [], ◌∷◌, length, refl, sym, ap, ◌∙◌, arith}
+use Rattle.std.proofs.Common.{◌≡◌, ℕ, ◌+◌, ◌-◌, ◌<◌, ◌≤◌, Bool, true, false, List, [], ◌∷◌, length, refl, ap, ◌∙◌, arith}
 use Rattle.std.specs.Prelude.{Some, slice_get, slice_index_or, ◌==◌}
 use Rattle.std.proofs.lemmas.Option.{slice_get-get_or}
 use Rattle.tt_cert.specs.Contents.{frames_at}

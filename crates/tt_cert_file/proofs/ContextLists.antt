@@ -1,5 +1,5 @@
 -- Contexts that may follow one another.
-use Rattle.std.proofs.Common.{◌≡◌, ◌⊎◌, ℕ, zero, suc, ◌+◌, ◌-◌, ◌<◌, ◌≤◌, Bool, true, List, [], ◌∷◌, ◌++◌, length, take, Option, Some, None, refl, sym, ap, subst, ◌∙◌, arith, append_assoc, append-nil, length-append, inl, inr}
+use Rattle.std.proofs.Common.{◌≡◌, ℕ, zero, suc, ◌+◌, ◌-◌, ◌<◌, ◌≤◌, true, List, [], ◌∷◌, ◌++◌, length, take, Option, Some, refl, sym, ap, subst, ◌∙◌, arith, append_assoc, append-nil, inl, inr}
 use Rattle.std.specs.Prelude.{slice_get, slice_index_or}
 use Rattle.std.specs.declared.cmp.Ordering.{Ordering}
 use Rattle.std.specs.declared.cmp.Ordering.TheVariants.{Less, Equal, Greater}
@@ -9,7 +9,7 @@ use Rattle.std.proofs.lemmas.List.{length-take-le, take_more}
 use Rattle.std.proofs.lemmas.Option.{slice_get_within, slice_get-get_or}
 use Rattle.tt_code.specs.declared.machine.Frame.{Frame}
 use Rattle.tt_cert.specs.Built.{Key, RisesByKey, key_cmp, key_of}
-use Rattle.tt_cert.specs.Contents.{AddsContext, Contents, IsFamily, HasContext, frames_at}
+use Rattle.tt_cert.specs.Contents.{AddsContext, Contents, IsFamily, frames_at}
 use Rattle.tt_cert.specs.Contexts.{frames_of, grow-at, grow-push, length-grow}
 use Rattle.tt_cert.specs.Rising.{IsFinished, StandsAt}
 use Rattle.tt_cert.proofs.Adding.{cons_apart, cons_same, key_same}
@@ -94,20 +94,23 @@ module _ (contexts : List Context) (v : Contents) (is : v.contexts ≡ frames_of
       key_same d e (family.distinct d.0 e.0 (omega arith) (omega arith) same.0) same.1
 
   pub IsFinished-from : IsFinished v
-  IsFinished-from = (family, record {
-    parents = λ n some lt. let (i, c, n_is, at, stands) = entry_of n some lt in (c, stands);
-    rises = λ m n d e less at_d at_e.
-        let some = at_d.1 in
-        let lt = at_d.0 in
-        let lt' = at_e.0 in
-        let (i, d', m_is, at_i, stands_m) = entry_of m (omega arith) lt in
-        let (j, e', n_is, at_j, stands_n) = entry_of n (omega arith) lt' in
-        let j_is : j ≡ i + 1 + (j - (i + 1)) = omega arith in
-        let same_d = one_entry m d' d stands_m at_d in
-        let same_e = one_entry n e' e stands_n at_e in
-        let below = rises_over contexts (RisesByKey-from contexts rules) i (j - (i + 1)) d' e' at_i (ap (slice_get contexts) (sym j_is) ∙ at_j) in
-        ap (λ x. key_cmp x (key_of e)) (sym same_d) ∙ ap (key_cmp (key_of d')) (sym same_e) ∙ below;
-  })
+  IsFinished-from = (
+    family,
+    record {
+      parents = λ n some lt. let (i, c, n_is, at, stands) = entry_of n some lt in (c, stands);
+      rises = λ m n d e less at_d at_e.
+          let some = at_d.1 in
+          let lt = at_d.0 in
+          let lt' = at_e.0 in
+          let (i, d', m_is, at_i, stands_m) = entry_of m (omega arith) lt in
+          let (j, e', n_is, at_j, stands_n) = entry_of n (omega arith) lt' in
+          let j_is : j ≡ i + 1 + (j - (i + 1)) = omega arith in
+          let same_d = one_entry m d' d stands_m at_d in
+          let same_e = one_entry n e' e stands_n at_e in
+          let below = rises_over contexts (RisesByKey-from contexts rules) i (j - (i + 1)) d' e' at_i (ap (slice_get contexts) (sym j_is) ∙ at_j) in
+          ap (λ x. key_cmp x (key_of e)) (sym same_d) ∙ ap (key_cmp (key_of d')) (sym same_e) ∙ below;
+    },
+  )
 
 not_less : (k : Key) → key_cmp k k ≡ Less → ⊥
 not_less k e =
@@ -138,6 +141,7 @@ is_new contexts v c is family rules follows (suc k) lt at =
     old [] i x at = absurd cc
     old (y ∷ ys) zero x at = at
     old (y ∷ ys) (suc i) x at = old ys i x at
+
     last : (xs : List Context) → slice_get (xs ++ c ∷ []) (length xs) ≡ Some c
     last [] = refl
     last (x ∷ xs) = last xs

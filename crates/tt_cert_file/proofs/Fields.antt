@@ -1,5 +1,5 @@
 -- The units of a section, each with its text.
-use Rattle.std.proofs.Common.{◌≡◌, ℕ, ℤ, zero, suc, ◌+◌, ◌-◌, ◌^◌, ◌<◌, ◌≤◌, Bool, true, false, cond, eqb, List, [], ◌∷◌, ◌++◌, length, take, drop, Option, Some, None, Result, Ok, Err, refl, sym, ap, subst, ◌∙◌, arith, inl, inr, ◌⊎◌, slice_index, ◌&&◌}
+use Rattle.std.proofs.Common.{◌≡◌, ℕ, suc, ◌^◌, ◌<◌, Bool, true, false, cond, eqb, List, [], ◌∷◌, ◌++◌, length, take, drop, Option, Some, None, Ok, Err, refl, sym, ap, subst, ◌∙◌, arith, inl, inr, ◌⊎◌, slice_index, ◌&&◌}
 use Rattle.std.specs.Int.{w16, w32, from_be_bytes, to_be_bytes, cast_signed, cast_unsigned}
 use Rattle.std.proofs.lemmas.Bool.{eqb-true}
 use Rattle.std.proofs.lemmas.List.{take-append-drop, length-take, length-drop, nil_from_length}
@@ -14,10 +14,10 @@ use Rattle.tt_cert_file.specs.declared.name.Name.{Name}
 use Rattle.tt_cert_file.specs.declared.name.Name.TheVariants as name
 use Rattle.tt_cert_file.specs.Answers.{AreBytes}
 use Rattle.tt_cert_file.specs.Readers.{Answer, Input, given, place_after, unit, ◌>>=◌}
-use Rattle.tt_cert_file.specs.Reading.{cell_at, long_at, name_at, name_of, pair_at, with_sign, word_at, zone_at, zone_of}
+use Rattle.tt_cert_file.specs.Reading.{cell_at, long_at, name_at, name_of, pair_at, word_at, zone_at, zone_of}
 use Rattle.tt_cert_file.specs.Rules.{CellFits, NameFits}
 use Rattle.tt_cert_file.specs.Text.{cell_text, long, name_text, pair_text, word, zone_text}
-use Rattle.tt_cert_file.proofs.Codecs.{AreBytes-drop, AreBytes-take, IsCodec, Takes, Takes-then, bind_ok, given_ok, guard_ok, here, ok_is, rule_ok, unit_again, unit_takes}
+use Rattle.tt_cert_file.proofs.Codecs.{AreBytes-drop, AreBytes-take, IsCodec, Takes, Takes-then, bind_ok, given_ok, here, ok_is, unit_again, unit_takes}
 
 -- numbers
 
@@ -111,6 +111,12 @@ some_is x y e = cc
 pub none_is : {A : Type 0} (y : A) → None ≡ some y → ⊥
 unfolding some
 none_is y e = cc
+
+pub some_same : {A : Type 0} (x y : A) → ◌≡◌ {A = Option A} (Some x) (Some y) → x ≡ y
+some_same x y e = cc
+
+pub none_same : {A : Type 0} (y : A) → ◌≡◌ {A = Option A} None (Some y) → ⊥
+none_same y e = cc
 
 IsSpelled : ℕ → ℕ → Name → Type 0
 IsSpelled kind glyph y = (name_text y ≡ kind ∷ to_be_bytes w16 glyph) × NameFits y

@@ -1,11 +1,11 @@
 -- Reading values one after the other, as a loop does.
-use Rattle.std.proofs.Common.{◌≡◌, ℕ, suc, ◌-◌, ◌+◌, ◌≤◌, ◌<◌, Bool, true, List, [], ◌∷◌, ◌++◌, Option, is_some, Result, Ok, Err, refl, sym, ap, ◌∙◌, arith}
+use Rattle.std.proofs.Common.{◌≡◌, ℕ, suc, ◌-◌, ◌+◌, ◌≤◌, ◌<◌, true, List, [], ◌∷◌, ◌++◌, Option, is_some, Ok, Err, refl, sym, ◌∙◌, arith}
 use Rattle.tt_stream.specs.Reads.{ConsumesBeginning}
 use Rattle.tt_stream.proofs.Beginnings.{consumes_then}
-use Rattle.tt_cert_file.specs.declared.fault.CertFault.{CertFault}
-use Rattle.tt_cert_file.specs.declared.fault.CertFault.TheVariants as fault
+use Rattle.tt_cert_file.specs.declared.fault.DecodeFault.{DecodeFault}
+use Rattle.tt_cert_file.specs.declared.fault.DecodeFault.TheVariants as fault
 use Rattle.tt_cert_file.specs.Answers.{Fails, Gives, input_at}
-use Rattle.tt_cert_file.specs.Readers.{Answer, Input, list_at, ◌>>=◌}
+use Rattle.tt_cert_file.specs.Readers.{Answer, Input, list_at}
 
 goes_on : {A : Type 0} (one : List A → Input → Answer A) (xs : List A) (count k : ℕ) (i : Input) (x : A) (j : Input) (total : Answer (List A))
     → k < count → one xs i ≡ Ok (x, j) → list_at one xs (count - k) i ≡ total → list_at one (xs ++ x ∷ []) (count - (k + 1)) j ≡ total
@@ -47,11 +47,10 @@ reads_on {A = A} one old now next total xs ys count k place after f g h x inv lt
   failures_are = same ∙ inv.failures_are;
 }
 
-pub reads_fail : {A : Type 0} (one : List A → Input → Answer A) (old now : Option (List ℕ)) (total : Answer (List A)) (xs : List A) (count k place f g : ℕ) (e : CertFault)
+pub reads_fail : {A : Type 0} (one : List A → Input → Answer A) (old now : Option (List ℕ)) (total : Answer (List A)) (xs : List A) (count k place f g : ℕ) (e : DecodeFault)
     → IsReading one old now total xs count k place f g → k < count
     → (is_some now ≡ true → Fails e (one xs (input_at place now))) → is_some old ≡ true → Fails e total
 reads_fail {A = A} one old now total xs count k place f g fault.Read inv lt fails known = tt
-reads_fail {A = A} one old now total xs count k place f g fault.Write inv lt fails known = let was = inv.known known in fails was.0
 reads_fail {A = A} one old now total xs count k place f g (fault.OutOfMemory error) inv lt fails known = tt
 reads_fail {A = A} one old now total xs count k place f g (fault.Form p) inv lt fails known =
     let was = inv.known known in stops one xs count k (input_at place now) p total lt (fails was.0) was.1

@@ -1,28 +1,28 @@
 -- The parts of a section and of a header, each with its text.
-use Rattle.std.proofs.Common.{◌≡◌, ℕ, ℤ, ◌+◌, ◌^◌, ◌<◌, ◌≤◌, Bool, true, List, [], ◌∷◌, ◌++◌, length, Option, Some, None, Ok, Err, refl, sym, ap, subst, ◌∙◌, arith, reverse, eqb, lit<, cond, inl, inr}
-use Rattle.std.specs.Prelude.{nat_le, FitsSigned}
+use Rattle.std.proofs.Common.{◌≡◌, ℕ, ℤ, ◌+◌, ◌^◌, ◌<◌, ◌≤◌, Bool, true, List, [], ◌++◌, length, Option, Some, None, Ok, refl, sym, ap, subst, arith, reverse, eqb, lit<, cond, inl, inr}
+use Rattle.std.specs.Prelude.{nat_le, nat_lt, ◌&&◌, FitsSigned}
+use Rattle.tt_cert.specs.Contents.{frames_at}
+use Rattle.tt_cert.specs.Contexts.{frames_of}
 use Rattle.std.specs.List.{flat_map}
-use Rattle.std.specs.Int.{w16, w32, cast_signed, cast_unsigned}
+use Rattle.std.specs.Int.{w32, cast_unsigned}
 use Rattle.std.proofs.lemmas.Bool.{eqb-true, leb-true, le-leb, ltb-true}
 use Rattle.std.proofs.lemmas.List.{reverse-reverse}
-use Rattle.std.proofs.lemmas.Int.{to_z-of_z, of_z-to_z}
+use Rattle.std.proofs.lemmas.Int.{to_z-of_z}
 use Rattle.std.proofs.Math.Facts.{sfits_to_z, Fits-of_z, Fits-of_lt, Fits-lt-pow}
 use Rattle.tt_abs.specs.Cells.{Cells}
 use Rattle.tt_abs.specs.declared.cells.Cell.{Cell}
-use Rattle.tt_abs.specs.declared.cells.ZoneCell.{ZoneCell}
 use Rattle.tt_abs.specs.declared.state.State.{State}
 use Rattle.tt_cert_file.specs.declared.form.Form.{Form}
 use Rattle.tt_cert_file.specs.declared.form.Form.TheVariants.{One, Two, Three, Four}
-use Rattle.tt_cert_file.specs.declared.name.Name.{Name}
 use Rattle.tt_cert_file.specs.Answers.{AreBytes}
 use Rattle.tt_cert_file.specs.Forms.{form_number, form_of, most_contexts}
-use Rattle.tt_cert_file.specs.Readers.{Answer, Input, and_then, given, list_at, made_of, place_after, ruled, unit, ◌>>=◌}
-use Rattle.tt_cert_file.specs.Reading.{Fields, Numbers, Parts, Registers, cell_at, context_at, context_count_at, context_from, contexts_at, entry_at, entry_after, fields_at, form_at, function_at, functions_at, graphics_at, graphics_from, header_at, header_from, is_magic, long_at, magic_at, name_at, numbers_at, pair_at, parts_at, place_at, registers_at, section_at, section_from, stack_at, state_at, state_from, states_at, storage_at, stored_at, with_sign, word_at, zone_at}
-use Rattle.tt_cert_file.specs.Rules.{CellFits, ContextFits, EachAfter, EntryFits, Fits, FunctionFits, GraphicsFits, ListFits, NameFits, PlaceFits, StateFits, StorageFits, StoredFits, is_above, is_next_place, last_of, last_place, may_follow}
+use Rattle.tt_cert_file.specs.Readers.{Answer, Input, and_then, given, list_at, made_of, place_after, ◌>>=◌}
+use Rattle.tt_cert_file.specs.Reading.{Fields, Numbers, Parts, Registers, cell_at, context_at, context_count_at, context_from, contexts_at, entry_at, fields_at, form_at, function_at, functions_at, graphics_at, graphics_from, header_at, header_from, is_magic, long_at, magic_at, name_at, numbers_at, pair_at, parts_at, place_at, registers_at, section_at, section_from, stack_at, state_at, state_from, states_at, storage_at, stored_at, with_sign, word_at, zone_at}
+use Rattle.tt_cert_file.specs.Rules.{CellFits, ContextFits, EachAfter, EntryFits, Fits, FunctionFits, GraphicsFits, ListFits, NameFits, PlaceFits, StateFits, StorageFits, StoredFits, is_above, is_above_context, is_new_body, is_next_place, is_turn, last_of, last_place, may_follow}
 use Rattle.tt_cert_file.specs.Sections.{Context, Entry, Section}
 use Rattle.tt_cert_file.specs.Text.{cell_text, context_text, counted, graphics_text, header_text, long, name_text, pair_text, section_text, state_text, storage_text, stored_text, word, zone_text}
-use Rattle.tt_cert_file.proofs.Codecs.{IsCodec, Takes, Takes-then, and_then_codec, bind_ok, codec_of, counted_codec, given_ok, here, made_of_codec, ok_is, ruled_codec}
-use Rattle.tt_cert_file.proofs.Fields.{PairFits, both, chosen, none_is, some, some_is, cell_codec, long_codec, name_codec, pair_codec, signed_back, word_codec, zone_codec}
+use Rattle.tt_cert_file.proofs.Codecs.{IsCodec, Takes, and_then_codec, bind_ok, codec_of, counted_codec, given_ok, here, made_of_codec, ok_is, ruled_codec}
+use Rattle.tt_cert_file.proofs.Fields.{PairFits, both, chosen, none_same, some_same, cell_codec, long_codec, name_codec, pair_codec, signed_back, word_codec, zone_codec}
 
 any : {A : Type 0} → A → Type 0
 any x = Unit {0}
@@ -51,10 +51,14 @@ numbers_codec =
 
 turn_fits : (c : Context) (before : List Context) → may_follow before c ≡ true → (c.1.turn < 2 ^ 32) × (c.1.count < 2 ^ 32)
 turn_fits c before follows =
-    let last = (both _ _ (both _ _ (both _ _ follows).1).1).0 in
-    let more = (both _ _ last).1 in
-    let turn = leb-true _ _ (both _ _ more).0 in
-    let count = ltb-true _ _ (both _ _ more).1 in
+    let fresh : Bool = is_new_body (frames_at (frames_of before) c.0) c.1.body in
+    let above : Bool = is_above_context (last_of before) c in
+    let few : Bool = nat_lt c.1.count (2 ^ 31) in
+    let after_parent = (both (nat_le c.0 (length before)) (above && (is_turn c.1 && fresh)) follows).1 in
+    let turns = (both (is_turn c.1) fresh (both above (is_turn c.1 && fresh) after_parent).1).0 in
+    let bounds = both (nat_le c.1.turn c.1.count) few (both (nat_le 1 c.1.turn) (nat_le c.1.turn c.1.count && few) turns).1 in
+    let turn : c.1.turn ≤ c.1.count = leb-true c.1.turn c.1.count bounds.0 in
+    let count : c.1.count < 2 ^ 31 = ltb-true c.1.count (2 ^ 31) bounds.1 in
     (omega arith, omega arith)
 
 pub context_codec : (before : List Context) → IsCodec (context_at before) context_text (ContextFits before)
@@ -204,8 +208,10 @@ plain_text form s = parts_text form (parts_of s)
 plain_codec : (form : Form) → IsCodec (state_at form) (plain_text form) (StateFits form)
 unfolding state_at PartsFit
 plain_codec form = made_of_codec state_from parts_of (parts_at form) (parts_text form) (PartsFit form) (StateFits form)
-    (λ x h. (ap (λ (l : List Cell). (l, x.1)) (reverse-reverse x.0),
-        record { stack = subst (ListFits (λ _ cell. CellFits cell)) (sym (reverse-reverse x.0)) h.0; graphics = h.1.0; functions = h.1.1.0; storage = h.1.1.1 }))
+    (λ x h. (
+      ap (λ (l : List Cell). (l, x.1)) (reverse-reverse x.0),
+      record { stack = subst (ListFits (λ _ cell. CellFits cell)) (sym (reverse-reverse x.0)) h.0; graphics = h.1.0; functions = h.1.1.0; storage = h.1.1.1 },
+    ))
     (λ s h. (ap (λ (l : List Cell). record s { stack = l }) (reverse-reverse s.stack), (h.stack, (h.graphics, (h.functions, h.storage)))))
     (parts_codec form)
 
@@ -271,17 +277,17 @@ IsFormOf : ℕ → Form → Type 0
 IsFormOf n form = form_number form ≡ n
 
 form_is : (n : ℕ) (form : Form) → form_of n ≡ Some form → IsFormOf n form
-unfolding some IsFormOf
+unfolding IsFormOf
 form_is n form e =
     elim (chosen (eqb n 1) (Some One) (cond (eqb n 2) (Some Two) (cond (eqb n 3) (Some Three) (cond (eqb n 4) (Some Four) None))) (Some form) e) [
-      | inl h ↦ subst (λ (x : Form). form_number x ≡ n) (some_is One form h.1) (sym (eqb-true n 1 h.0))
+      | inl h ↦ subst (λ (x : Form). form_number x ≡ n) (some_same One form h.1) (sym (eqb-true n 1 h.0))
       | inr h ↦ elim (chosen (eqb n 2) (Some Two) (cond (eqb n 3) (Some Three) (cond (eqb n 4) (Some Four) None)) (Some form) h.1) [
-        | inl f ↦ subst (λ (x : Form). form_number x ≡ n) (some_is Two form f.1) (sym (eqb-true n 2 f.0))
+        | inl f ↦ subst (λ (x : Form). form_number x ≡ n) (some_same Two form f.1) (sym (eqb-true n 2 f.0))
         | inr f ↦ elim (chosen (eqb n 3) (Some Three) (cond (eqb n 4) (Some Four) None) (Some form) f.1) [
-          | inl g ↦ subst (λ (x : Form). form_number x ≡ n) (some_is Three form g.1) (sym (eqb-true n 3 g.0))
+          | inl g ↦ subst (λ (x : Form). form_number x ≡ n) (some_same Three form g.1) (sym (eqb-true n 3 g.0))
           | inr g ↦ elim (chosen (eqb n 4) (Some Four) None (Some form) g.1) [
-            | inl q ↦ subst (λ (x : Form). form_number x ≡ n) (some_is Four form q.1) (sym (eqb-true n 4 q.0))
-            | inr q ↦ absurd (none_is form q.1)
+            | inl q ↦ subst (λ (x : Form). form_number x ≡ n) (some_same Four form q.1) (sym (eqb-true n 4 q.0))
+            | inr q ↦ absurd (none_same form q.1)
           ]
         ]
       ]

@@ -5,4 +5,3 @@ pub mod Rules
 pub mod Readers
 pub mod Reading
 pub mod Answers
-pub mod Counts

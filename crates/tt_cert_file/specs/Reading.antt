@@ -1,8 +1,7 @@
 -- Reading a section, unit by unit: the units are a name, a number of contexts, a context, a number of states, a state's context with its offset,
 -- a depth, a cell's tag, a cell's number, a zone, a number of functions, a function, a number of storage cells, and a storage cell.
-use Rattle.std.specs.Prelude.{◌==◌, ℕ, ℤ, ◌+◌, ◌&&◌, nat_lt, nat_le, Bool, List, [], ◌∷◌, length, reverse, take, drop, slice_index, Option, Some, None, Result, Ok, Err, if◌then◌else◌}
+use Rattle.std.specs.Prelude.{◌==◌, ℕ, ℤ, ◌+◌, ◌&&◌, nat_le, Bool, List, [], length, reverse, take, drop, slice_index, Option, Some, None, Ok, Err, if◌then◌else◌}
 use Rattle.std.specs.Int.{w16, w32, from_be_bytes, cast_signed}
-use Rattle.tt_code.specs.declared.machine.Frame.{Frame}
 use Rattle.tt_abs.specs.Cells.{Cells}
 use Rattle.tt_abs.specs.declared.cells.Cell.{Cell}
 use Rattle.tt_abs.specs.declared.cells.Cell.TheVariants.{Known, Unknown}

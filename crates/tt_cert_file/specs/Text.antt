@@ -7,7 +7,6 @@ use Rattle.tt_abs.specs.declared.cells.Cell.{Cell}
 use Rattle.tt_abs.specs.declared.cells.Cell.TheVariants.{Known, Unknown}
 use Rattle.tt_abs.specs.declared.cells.ZoneCell.{ZoneCell}
 use Rattle.tt_abs.specs.declared.cells.ZoneCell.TheVariants as zone
-use Rattle.tt_abs.specs.declared.state.State.{State}
 use Rattle.tt_cert_file.specs.declared.form.Form.{Form}
 use Rattle.tt_cert_file.specs.declared.form.Form.TheVariants.{One, Two, Three, Four}
 use Rattle.tt_cert_file.specs.declared.name.Name.{Name}

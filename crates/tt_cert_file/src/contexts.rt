@@ -13,7 +13,7 @@ ghost use Rattle.tt_cert_file.specs.Readers.{list_at};
 ghost use Rattle.tt_cert_file.specs.Reading.{context_at, context_count_at, contexts_at};
 ghost use Rattle.tt_cert_file.specs.Rules.{AreContexts, HaveParents, is_above_context, is_new_body as is_new_body_of, is_turn as is_turn_of, last_of, may_follow as may_follow_after};
 
-use crate::fault::CertFault;
+use crate::fault::DecodeFault;
 use crate::form::Form;
 use crate::units::{read_long, read_word};
 use std::alloc::{AllocError, Global};
@@ -83,7 +83,7 @@ fn read_context<S: Source>(
     source: &mut S,
     place: u64,
     before: &[(u32, Frame)],
-) -> Result<((u32, Frame), u64), CertFault>
+) -> Result<((u32, Frame), u64), DecodeFault>
     requires { HaveParents before.now }
     ensures reads { Gives (λ x. x) (S.remaining source.old) (S.remaining source.new) result (context_at before.now (input_at place (S.remaining source.old))) }
     ensures follows { IfOk result (λ r. may_follow_after before.now r.0 ≡ true) }
@@ -103,13 +103,13 @@ fn read_context<S: Source>(
     };
     let context = (u32::from(parent), frame);
     if !may_follow(before, &context) {
-        return Err(CertFault::Form(place));
+        return Err(DecodeFault::Form(place));
     }
     Ok((context, at))
 }
 
 /// Reads how many contexts a section has beside the main one.
-fn read_count<S: Source>(source: &mut S, place: u64, form: Form) -> Result<(u16, u64), CertFault>
+fn read_count<S: Source>(source: &mut S, place: u64, form: Form) -> Result<(u16, u64), DecodeFault>
     ensures reads { Gives (λ x. x) (S.remaining source.old) (S.remaining source.new) result (context_count_at form (input_at place (S.remaining source.old))) }
     ensures few { IfOk result (λ r. r.0 ≤ most_contexts form) }
     ensures beginning { ConsumesBeginning (S.remaining source.old) (S.remaining source.new) }
@@ -117,7 +117,7 @@ fn read_count<S: Source>(source: &mut S, place: u64, form: Form) -> Result<(u16,
 {
     let (count, at) = read_word(source, place)?;
     if count > form.most_contexts() {
-        return Err(CertFault::Form(place));
+        return Err(DecodeFault::Form(place));
     }
     Ok((count, at))
 }
@@ -128,7 +128,7 @@ fn read_context_list<S: Source>(
     source: &mut S,
     place: u64,
     count: u16,
-) -> Result<(Vec<(u32, Frame)>, u64), CertFault>
+) -> Result<(Vec<(u32, Frame)>, u64), DecodeFault>
     ensures reads { Gives (λ v. v.items) (S.remaining source.old) (S.remaining source.new) result (list_at context_at [] count (input_at place (S.remaining source.old))) }
     ensures few { IfOk result (λ r. length r.0.items ≤ count) }
     ensures contexts { IfOk result (λ r. AreContexts r.0.items) }
@@ -152,7 +152,7 @@ pub(crate) fn read_contexts<S: Source>(
     source: &mut S,
     place: u64,
     form: Form,
-) -> Result<(Vec<(u32, Frame)>, u64), CertFault>
+) -> Result<(Vec<(u32, Frame)>, u64), DecodeFault>
     ensures reads { Gives (λ v. v.items) (S.remaining source.old) (S.remaining source.new) result (contexts_at form (input_at place (S.remaining source.old))) }
     ensures few { IfOk result (λ r. length r.0.items ≤ most_contexts form) }
     ensures contexts { IfOk result (λ r. AreContexts r.0.items) }

@@ -8,7 +8,7 @@ ghost use Rattle.tt_cert_file.specs.Readers.{list_at};
 ghost use Rattle.tt_cert_file.specs.Reading.{cell_at, function_at, functions_at, stack_at, storage_at, stored_at};
 ghost use Rattle.tt_cert_file.specs.Rules.{is_above, last_of};
 
-use crate::fault::CertFault;
+use crate::fault::DecodeFault;
 use crate::form::Form;
 use crate::units::{read_cell, read_pair, read_word};
 use std::alloc::Global;
@@ -21,7 +21,7 @@ fn read_cells<S: Source>(
     source: &mut S,
     place: u64,
     count: u16,
-) -> Result<(Vec<Cell>, u64), CertFault>
+) -> Result<(Vec<Cell>, u64), DecodeFault>
     ensures reads { Gives (λ v. v.items) (S.remaining source.old) (S.remaining source.new) result (list_at (λ _. cell_at) [] count (input_at place (S.remaining source.old))) }
     ensures few { IfOk result (λ r. length r.0.items ≤ count) }
     ensures beginning { ConsumesBeginning (S.remaining source.old) (S.remaining source.new) }
@@ -43,7 +43,7 @@ pub(crate) fn read_stack<S: Source>(
     alloc: Global,
     source: &mut S,
     place: u64,
-) -> Result<(Vec<Cell>, u64), CertFault>
+) -> Result<(Vec<Cell>, u64), DecodeFault>
     ensures reads { Gives (λ v. v.items) (S.remaining source.old) (S.remaining source.new) result (stack_at (input_at place (S.remaining source.old))) }
     ensures few { IfOk result (λ r. length r.0.items ≤ 65535) }
     ensures beginning { ConsumesBeginning (S.remaining source.old) (S.remaining source.new) }
@@ -59,7 +59,7 @@ fn read_function<S: Source>(
     source: &mut S,
     place: u64,
     before: &[(u16, u32)],
-) -> Result<((u16, u32), u64), CertFault>
+) -> Result<((u16, u32), u64), DecodeFault>
     ensures reads { Gives (λ x. x) (S.remaining source.old) (S.remaining source.new) result (function_at before.now (input_at place (S.remaining source.old))) }
     ensures above { IfOk result (λ r. is_above (last_of before.now) r.0 ≡ true) }
     ensures beginning { ConsumesBeginning (S.remaining source.old) (S.remaining source.new) }
@@ -69,7 +69,7 @@ fn read_function<S: Source>(
     if let Some(last) = before.last()
         && entry.0 <= last.0
     {
-        return Err(CertFault::Form(place));
+        return Err(DecodeFault::Form(place));
     }
     Ok((entry, after))
 }
@@ -80,7 +80,7 @@ fn read_function_list<S: Source>(
     source: &mut S,
     place: u64,
     count: u16,
-) -> Result<(Vec<(u16, u32)>, u64), CertFault>
+) -> Result<(Vec<(u16, u32)>, u64), DecodeFault>
     ensures reads { Gives (λ v. v.items) (S.remaining source.old) (S.remaining source.new) result (list_at function_at [] count (input_at place (S.remaining source.old))) }
     ensures rises { IfOk result (λ r. Rises r.0.items) }
     ensures beginning { ConsumesBeginning (S.remaining source.old) (S.remaining source.new) }
@@ -102,7 +102,7 @@ pub(crate) fn read_functions<S: Source>(
     alloc: Global,
     source: &mut S,
     place: u64,
-) -> Result<(Vec<(u16, u32)>, u64), CertFault>
+) -> Result<(Vec<(u16, u32)>, u64), DecodeFault>
     ensures reads { Gives (λ v. v.items) (S.remaining source.old) (S.remaining source.new) result (functions_at (input_at place (S.remaining source.old))) }
     ensures rises { IfOk result (λ r. Rises r.0.items) }
     ensures beginning { ConsumesBeginning (S.remaining source.old) (S.remaining source.new) }
@@ -118,7 +118,7 @@ fn read_stored<S: Source>(
     source: &mut S,
     place: u64,
     before: &[(u16, i32)],
-) -> Result<((u16, i32), u64), CertFault>
+) -> Result<((u16, i32), u64), DecodeFault>
     ensures reads { Gives (λ x. x) (S.remaining source.old) (S.remaining source.new) result (stored_at before.now (input_at place (S.remaining source.old))) }
     ensures above { IfOk result (λ r. is_above (last_of before.now) r.0 ≡ true) }
     ensures beginning { ConsumesBeginning (S.remaining source.old) (S.remaining source.new) }
@@ -128,7 +128,7 @@ fn read_stored<S: Source>(
     if let Some(last) = before.last()
         && index <= last.0
     {
-        return Err(CertFault::Form(place));
+        return Err(DecodeFault::Form(place));
     }
     Ok(((index, number.cast_signed()), after))
 }
@@ -139,7 +139,7 @@ fn read_storage_list<S: Source>(
     source: &mut S,
     place: u64,
     count: u16,
-) -> Result<(Vec<(u16, i32)>, u64), CertFault>
+) -> Result<(Vec<(u16, i32)>, u64), DecodeFault>
     ensures reads { Gives (λ v. v.items) (S.remaining source.old) (S.remaining source.new) result (list_at stored_at [] count (input_at place (S.remaining source.old))) }
     ensures rises { IfOk result (λ r. Rises r.0.items) }
     ensures beginning { ConsumesBeginning (S.remaining source.old) (S.remaining source.new) }
@@ -162,7 +162,7 @@ pub(crate) fn read_storage<S: Source>(
     source: &mut S,
     place: u64,
     form: Form,
-) -> Result<(Vec<(u16, i32)>, u64), CertFault>
+) -> Result<(Vec<(u16, i32)>, u64), DecodeFault>
     ensures reads { Gives (λ v. v.items) (S.remaining source.old) (S.remaining source.new) result (storage_at form (input_at place (S.remaining source.old))) }
     ensures rises { IfOk result (λ r. Rises r.0.items) }
     ensures beginning { ConsumesBeginning (S.remaining source.old) (S.remaining source.new) }

@@ -9,7 +9,7 @@ ghost use Rattle.tt_cert_file.specs.Sections.{Section, section_of};
 ghost use Rattle.tt_cert_file.specs.Text.{section_text};
 
 use crate::contexts::{builder_of, read_contexts};
-use crate::fault::CertFault;
+use crate::fault::DecodeFault;
 use crate::form::Form;
 use crate::name::Name;
 use crate::states::read_states;
@@ -25,7 +25,7 @@ fn read_section<S: Source>(
     source: &mut S,
     place: u64,
     form: Form,
-) -> Result<((Name, Certificate), u64), CertFault>
+) -> Result<((Name, Certificate), u64), DecodeFault>
     ensures reads { Gives (λ x. section_of x.0 x.1) (S.remaining source.old) (S.remaining source.new) result (section_at form (input_at place (S.remaining source.old))) }
     ensures beginning { ConsumesBeginning (S.remaining source.old) (S.remaining source.new) }
     ensures failures { CountsRead result (S.failures source.old) (S.failures source.new) }
@@ -48,7 +48,7 @@ pub fn decode<S: Source>(
     source: &mut S,
     start: u64,
     form: Form,
-) -> Result<(Name, Certificate, u64), CertFault>
+) -> Result<(Name, Certificate, u64), DecodeFault>
     // What is read began the input, which is read so far and no further.
     ensures found { IfOk result (λ r. (input : List ℕ) → S.remaining source.old ≡ Some input → AreBytes input
         → ReadsSection form input start (section_of r.0 r.1) (S.remaining source.new) r.2) }

@@ -9,7 +9,7 @@ ghost use Rattle.tt_cert_file.specs.Readers.{list_at};
 ghost use Rattle.tt_cert_file.specs.Reading.{entry_after, entry_at, place_at, state_at, state_from, states_at};
 ghost use Rattle.tt_cert_file.specs.Rules.{is_next_place as is_next_place_after, last_place};
 
-use crate::fault::CertFault;
+use crate::fault::DecodeFault;
 use crate::form::Form;
 use crate::lists::{read_functions, read_stack, read_storage};
 use crate::units::{read_graphics, read_long, read_pair};
@@ -88,7 +88,7 @@ fn read_state<S: Source>(
     source: &mut S,
     place: u64,
     form: Form,
-) -> Result<(State, u64), CertFault>
+) -> Result<(State, u64), DecodeFault>
     ensures reads { Gives (λ x. x) (S.remaining source.old) (S.remaining source.new) result (state_at form (input_at place (S.remaining source.old))) }
     ensures in_range { IfOk result (λ r. state_order.InRange r.0) }
     ensures beginning { ConsumesBeginning (S.remaining source.old) (S.remaining source.new) }
@@ -120,7 +120,7 @@ fn read_place<S: Source>(
     place: u64,
     contexts: u32,
     last: Option<(u32, u32)>,
-) -> Result<((u32, u32), u64), CertFault>
+) -> Result<((u32, u32), u64), DecodeFault>
     ensures reads { Gives (λ x. x) (S.remaining source.old) (S.remaining source.new) result (place_at contexts last (input_at place (S.remaining source.old))) }
     ensures follows { IfOk result (λ r. is_next_place_after contexts last r.0 ≡ true) }
     ensures beginning { ConsumesBeginning (S.remaining source.old) (S.remaining source.new) }
@@ -129,7 +129,7 @@ fn read_place<S: Source>(
     let ((context, offset), after) = read_pair(source, place)?;
     let at = (u32::from(context), offset);
     if !is_next_place(contexts, last, at) {
-        return Err(CertFault::Form(place));
+        return Err(DecodeFault::Form(place));
     }
     Ok((at, after))
 }
@@ -142,7 +142,7 @@ fn read_entry<S: Source>(
     form: Form,
     contexts: u32,
     last: Option<(u32, u32)>,
-) -> Result<(((u32, u32), State), u64), CertFault>
+) -> Result<(((u32, u32), State), u64), DecodeFault>
     ensures reads { Gives (λ x. x) (S.remaining source.old) (S.remaining source.new) result (entry_after form contexts last (input_at place (S.remaining source.old))) }
     ensures follows { IfOk result (λ r. is_next_place_after contexts last r.0.0 ≡ true) }
     ensures in_range { IfOk result (λ r. state_order.InRange r.0.1) }
@@ -179,7 +179,7 @@ fn read_state_list<S: Source>(
     place: u64,
     form: Form,
     count: u32,
-) -> Result<(Builder, u64), CertFault>
+) -> Result<(Builder, u64), DecodeFault>
     requires { builder.states ≡ [] }
     ensures reads { Gives (λ b. b.states) (S.remaining source.old) (S.remaining source.new) result (list_at (entry_at form (length builder.contexts)) [] count (input_at place (S.remaining source.old))) }
     ensures contexts { IfOk result (λ r. r.0.contexts ≡ builder.contexts) }
@@ -207,7 +207,7 @@ pub(crate) fn read_states<S: Source>(
     source: &mut S,
     place: u64,
     form: Form,
-) -> Result<(Builder, u64), CertFault>
+) -> Result<(Builder, u64), DecodeFault>
     requires { builder.states ≡ [] }
     ensures reads { Gives (λ b. b.states) (S.remaining source.old) (S.remaining source.new) result (states_at form (length builder.contexts) (input_at place (S.remaining source.old))) }
     ensures contexts { IfOk result (λ r. r.0.contexts ≡ builder.contexts) }

@@ -6,7 +6,7 @@ ghost use Rattle.tt_cert_file.specs.Answers.{CountsRead, Gives, input_at};
 ghost use Rattle.tt_cert_file.specs.Readers.{unit};
 ghost use Rattle.tt_cert_file.specs.Reading.{cell_at, graphics_at, long_at, name_at, pair_at, word_at, zone_at};
 
-use crate::fault::CertFault;
+use crate::fault::DecodeFault;
 use crate::name::Name;
 use tt_abs::{Cell, ZoneCell};
 use tt_code::Graphics;
@@ -16,7 +16,7 @@ use tt_stream::{Source, read_full};
 fn read_unit<S: Source, const N: usize>(
     source: &mut S,
     place: u64,
-) -> Result<([u8; N], u64), CertFault>
+) -> Result<([u8; N], u64), DecodeFault>
     ensures reads { Gives (λ x. x) (S.remaining source.old) (S.remaining source.new) result (unit N (input_at place (S.remaining source.old))) }
     ensures beginning { ConsumesBeginning (S.remaining source.old) (S.remaining source.new) }
     ensures failures { CountsRead result (S.failures source.old) (S.failures source.new) }
@@ -25,14 +25,14 @@ fn read_unit<S: Source, const N: usize>(
     let count = read_full(source, &mut bytes)?;
     let after = place.saturating_add(count as u64);
     if count < N {
-        return Err(CertFault::Form(after));
+        return Err(DecodeFault::Form(after));
     }
     Ok((bytes, after))
 }
 
 /// Reads a number of 16 bits.
 #[tactic(auto, unfolding(crate::specs::Reading::word_at))]
-pub(crate) fn read_word<S: Source>(source: &mut S, place: u64) -> Result<(u16, u64), CertFault>
+pub(crate) fn read_word<S: Source>(source: &mut S, place: u64) -> Result<(u16, u64), DecodeFault>
     ensures reads { Gives (λ x. x) (S.remaining source.old) (S.remaining source.new) result (word_at (input_at place (S.remaining source.old))) }
     ensures beginning { ConsumesBeginning (S.remaining source.old) (S.remaining source.new) }
     ensures failures { CountsRead result (S.failures source.old) (S.failures source.new) }
@@ -43,7 +43,7 @@ pub(crate) fn read_word<S: Source>(source: &mut S, place: u64) -> Result<(u16, u
 
 /// Reads a number of 32 bits.
 #[tactic(auto, unfolding(crate::specs::Reading::long_at))]
-pub(crate) fn read_long<S: Source>(source: &mut S, place: u64) -> Result<(u32, u64), CertFault>
+pub(crate) fn read_long<S: Source>(source: &mut S, place: u64) -> Result<(u32, u64), DecodeFault>
     ensures reads { Gives (λ x. x) (S.remaining source.old) (S.remaining source.new) result (long_at (input_at place (S.remaining source.old))) }
     ensures beginning { ConsumesBeginning (S.remaining source.old) (S.remaining source.new) }
     ensures failures { CountsRead result (S.failures source.old) (S.failures source.new) }
@@ -57,7 +57,7 @@ pub(crate) fn read_long<S: Source>(source: &mut S, place: u64) -> Result<(u32, u
 pub(crate) fn read_pair<S: Source>(
     source: &mut S,
     place: u64,
-) -> Result<((u16, u32), u64), CertFault>
+) -> Result<((u16, u32), u64), DecodeFault>
     ensures reads { Gives (λ x. x) (S.remaining source.old) (S.remaining source.new) result (pair_at (input_at place (S.remaining source.old))) }
     ensures beginning { ConsumesBeginning (S.remaining source.old) (S.remaining source.new) }
     ensures failures { CountsRead result (S.failures source.old) (S.failures source.new) }
@@ -71,7 +71,7 @@ pub(crate) fn read_pair<S: Source>(
 
 /// Reads the name of a section's program.
 #[tactic(auto, unfolding(crate::specs::Reading::name_at))]
-pub(crate) fn read_name<S: Source>(source: &mut S, place: u64) -> Result<(Name, u64), CertFault>
+pub(crate) fn read_name<S: Source>(source: &mut S, place: u64) -> Result<(Name, u64), DecodeFault>
     ensures reads { Gives (λ x. x) (S.remaining source.old) (S.remaining source.new) result (name_at (input_at place (S.remaining source.old))) }
     ensures beginning { ConsumesBeginning (S.remaining source.old) (S.remaining source.new) }
     ensures failures { CountsRead result (S.failures source.old) (S.failures source.new) }
@@ -83,13 +83,13 @@ pub(crate) fn read_name<S: Source>(source: &mut S, place: u64) -> Result<(Name, 
         (2, id) => Ok((Name::Glyph(id), after)),
         (0, 0) => Ok((Name::Font, after)),
         (1, 0) => Ok((Name::Cvt, after)),
-        _ => Err(CertFault::Form(place)),
+        _ => Err(DecodeFault::Form(place)),
     }
 }
 
 /// Reads what is known of a number.
 #[tactic(auto, unfolding(crate::specs::Reading::cell_at))]
-pub(crate) fn read_cell<S: Source>(source: &mut S, place: u64) -> Result<(Cell, u64), CertFault>
+pub(crate) fn read_cell<S: Source>(source: &mut S, place: u64) -> Result<(Cell, u64), DecodeFault>
     ensures reads { Gives (λ x. x) (S.remaining source.old) (S.remaining source.new) result (cell_at (input_at place (S.remaining source.old))) }
     ensures beginning { ConsumesBeginning (S.remaining source.old) (S.remaining source.new) }
     ensures failures { CountsRead result (S.failures source.old) (S.failures source.new) }
@@ -102,13 +102,13 @@ pub(crate) fn read_cell<S: Source>(source: &mut S, place: u64) -> Result<(Cell, 
             let (number, after) = read_unit::<S, 4>(source, after)?;
             Ok((Cell::Known(i32::from_be_bytes(number)), after))
         }
-        _ => Err(CertFault::Form(place)),
+        _ => Err(DecodeFault::Form(place)),
     }
 }
 
 /// Reads what is known of a zone pointer.
 #[tactic(auto, unfolding(crate::specs::Reading::zone_at))]
-fn read_zone<S: Source>(source: &mut S, place: u64) -> Result<(ZoneCell, u64), CertFault>
+fn read_zone<S: Source>(source: &mut S, place: u64) -> Result<(ZoneCell, u64), DecodeFault>
     ensures reads { Gives (λ x. x) (S.remaining source.old) (S.remaining source.new) result (zone_at (input_at place (S.remaining source.old))) }
     ensures beginning { ConsumesBeginning (S.remaining source.old) (S.remaining source.new) }
     ensures failures { CountsRead result (S.failures source.old) (S.failures source.new) }
@@ -119,7 +119,7 @@ fn read_zone<S: Source>(source: &mut S, place: u64) -> Result<(ZoneCell, u64), C
         0 => Ok((ZoneCell::Zero, after)),
         1 => Ok((ZoneCell::One, after)),
         2 => Ok((ZoneCell::Either, after)),
-        _ => Err(CertFault::Form(place)),
+        _ => Err(DecodeFault::Form(place)),
     }
 }
 
@@ -128,7 +128,7 @@ fn read_zone<S: Source>(source: &mut S, place: u64) -> Result<(ZoneCell, u64), C
 pub(crate) fn read_graphics<S: Source>(
     source: &mut S,
     place: u64,
-) -> Result<(Graphics<Cell, ZoneCell>, u64), CertFault>
+) -> Result<(Graphics<Cell, ZoneCell>, u64), DecodeFault>
     ensures reads { Gives (λ x. x) (S.remaining source.old) (S.remaining source.new) result (graphics_at (input_at place (S.remaining source.old))) }
     ensures beginning { ConsumesBeginning (S.remaining source.old) (S.remaining source.new) }
     ensures failures { CountsRead result (S.failures source.old) (S.failures source.new) }

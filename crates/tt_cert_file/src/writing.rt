@@ -1,15 +1,14 @@
 //! Sections written to a sink, in form 4.
 
-ghost use Rattle.std.specs.Prelude.{◌≡◌, ◌++◌, ◌<◌, ◌^◌, length, reverse, IfOk, OnErr, OnOk};
+ghost use Rattle.std.specs.Prelude.{◌≡◌, ◌++◌, length, reverse, IfOk, OnErr, OnOk};
 ghost use Rattle.std.specs.Io.KnownBytes.{Appends};
 ghost use Rattle.std.specs.List.{flat_map};
 ghost use Rattle.tt_stream.specs.Streams.{AppendsBeginning};
 ghost use Rattle.tt_cert_file.specs.Answers.{CountsWrite};
-ghost use Rattle.tt_cert_file.specs.Counts.{AreCountable, IsCountable};
 ghost use Rattle.tt_cert_file.specs.Sections.{contexts_in, section_of};
 ghost use Rattle.tt_cert_file.specs.Text.{cell_text, context_text, counted, graphics_text, long, name_text, pair_text, section_text, state_text, stored_text, word, zone_text};
 
-use crate::fault::CertFault;
+use crate::fault::EncodeFault;
 use crate::form::Form;
 use crate::name::Name;
 use std::alloc::{AllocError, Global};
@@ -78,14 +77,22 @@ fn push_zone(out: &mut Vec<u8>, zone: ZoneCell) -> Result<(), AllocError>
     Ok(())
 }
 
+/// How many values a list has. A list of 65,536 or more has no section: that it doesn't fit is told as want of memory.
+fn push_count(out: &mut Vec<u8>, count: usize) -> Result<(), AllocError>
+    ensures { OnOk result (out.new.items ≡ out.old.items ++ word count) }
+{
+    let Ok(count) = u16::try_from(count) else {
+        return Err(AllocError);
+    };
+    push_word(out, count)
+}
+
 /// The stack's cells after their number, from the bottom up.
 fn push_stack(out: &mut Vec<u8>, state: &State) -> Result<(), AllocError>
-    requires { length state.now.stack < 2 ^ 16 }
     ensures { OnOk result (out.new.items ≡ out.old.items ++ counted cell_text (reverse state.now.stack)) }
 {
-    let depth = state.depth();
-    push_word(out, depth as u16)?;
-    for place in 0..depth {
+    push_count(out, state.depth())?;
+    for place in 0..state.depth() {
         let cell = state.cell(place).unwrap();
         push_cell(out, cell)?;
     }
@@ -107,10 +114,9 @@ fn push_graphics(out: &mut Vec<u8>, state: &State) -> Result<(), AllocError>
 
 /// The functions after their number.
 fn push_functions(out: &mut Vec<u8>, functions: &[(u16, u32)]) -> Result<(), AllocError>
-    requires { length functions.now < 2 ^ 16 }
     ensures { OnOk result (out.new.items ≡ out.old.items ++ counted pair_text functions.now) }
 {
-    push_word(out, functions.len() as u16)?;
+    push_count(out, functions.len())?;
     for function in functions {
         push_pair(out, *function)?;
     }
@@ -127,10 +133,9 @@ fn push_stored(out: &mut Vec<u8>, stored: (u16, i32)) -> Result<(), AllocError>
 
 /// The storage cells after their number.
 fn push_storage(out: &mut Vec<u8>, cells: &[(u16, i32)]) -> Result<(), AllocError>
-    requires { length cells.now < 2 ^ 16 }
     ensures { OnOk result (out.new.items ≡ out.old.items ++ counted stored_text cells.now) }
 {
-    push_word(out, cells.len() as u16)?;
+    push_count(out, cells.len())?;
     for cell in cells {
         push_stored(out, *cell)?;
     }
@@ -139,7 +144,6 @@ fn push_storage(out: &mut Vec<u8>, cells: &[(u16, i32)]) -> Result<(), AllocErro
 
 /// A state with its context and offset.
 fn push_state(out: &mut Vec<u8>, point: (u16, u32), state: &State) -> Result<(), AllocError>
-    requires { IsCountable state.now }
     ensures { OnOk result (out.new.items ≡ out.old.items ++ state_text Form.Four (point, state.now)) }
 {
     push_pair(out, point)?;
@@ -175,7 +179,6 @@ fn push_contexts(out: &mut Vec<u8>, certificate: &Certificate) -> Result<(), All
 
 /// The states after their number.
 fn push_states(out: &mut Vec<u8>, certificate: &Certificate) -> Result<(), AllocError>
-    requires { AreCountable certificate.now }
     ensures { OnOk result (out.new.items ≡ out.old.items ++ (long (length certificate.now.states) ++ flat_map (state_text Form.Four) certificate.now.states)) }
 {
     push_long(out, certificate.points())?;
@@ -192,7 +195,6 @@ fn section_bytes(
     name: Name,
     certificate: &Certificate,
 ) -> Result<Vec<u8>, AllocError>
-    requires { AreCountable certificate.now }
     ensures { IfOk result (λ bytes. bytes.items ≡ section_text Form.Four (section_of name certificate.now)) }
 {
     let mut out = Vec::new(alloc);
@@ -202,18 +204,17 @@ fn section_bytes(
     Ok(out)
 }
 
-/// Writes the section of a program with this name and this family, in form 4. No state of the family has a stack, or lists functions or storage
-/// cells, of 65,536 or more.
+/// Writes the section of a program with this name and this family, in form 4.
 ///
 /// # Errors
-/// `Write` exactly where a write failed; `OutOfMemory`. Then a beginning of the section was written, perhaps an empty one.
+/// `Write` exactly where a write failed; `OutOfMemory`, also where a state's stack, or a list of functions or storage cells, has 65,536 values or
+/// more, for which the format has no room. Then a beginning of the section was written, perhaps an empty one.
 pub fn encode<W: Sink>(
     alloc: Global,
     name: Name,
     certificate: &Certificate,
     sink: &mut W,
-) -> Result<(), CertFault>
-    requires { AreCountable certificate.now }
+) -> Result<(), EncodeFault>
     ensures written { OnOk result (Appends (W.contents sink.old) (W.contents sink.new) (section_text Form.Four (section_of name certificate.now))) }
     ensures beginning { OnErr result (AppendsBeginning (W.contents sink.old) (W.contents sink.new) (section_text Form.Four (section_of name certificate.now))) }
     ensures failures { CountsWrite result (W.failures sink.old) (W.failures sink.new) }

@@ -74,11 +74,11 @@ pub fn read_full<R: Source>(source: &mut R, buf: &mut [u8]) -> Result<usize, Rea
 {
     let mut at = 0;
     while at < buf.len() {
-        let count = source.read(&mut buf[at..])?;
-        if count == 0 {
+        let more = source.read(&mut buf[at..])?;
+        if more == 0 {
             break;
         }
-        at += count;
+        at += more;
     }
     Ok(at)
 }

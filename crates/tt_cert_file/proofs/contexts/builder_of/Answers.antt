@@ -1,4 +1,4 @@
-use Rattle.std.proofs.Common.{◌≡◌, take, take_all, ap, ◌∙◌, arith}
+use Rattle.std.proofs.Common.{take_all, ap, ◌∙◌, arith}
 use Rattle.tt_cert.specs.Contexts.{frames_of}
 use Rattle.tt_cert_file.specs.Sections.{Context, no_frame}
 use Rattle.tt_cert_file.proofs.ContextLists.{IsFinished-from, context_added, parent_there}
@@ -15,10 +15,10 @@ add_context-requires c =
 pub loop-parent-preserved : goal.loop-parent-preserved
 unfolding no_context
 loop-parent-preserved c = (
-    context_added c.args.contexts.now c.loop-parent.parent-index no_context c.loop-parent.builder c.add_context.new.self.contexts c.in-Ok.field-0
-    c.requires.contexts c.loop-parent-test.true c.loop-parent.invariant.0 c.loop-parent.invariant.2 c.in-Ok.ensures.added,
-    c.in-Ok.ensures.states ∙ c.loop-parent.invariant.1,
-    c.in-Ok.ensures.family,
+  context_added c.args.contexts.now c.loop-parent.parent-index no_context c.loop-parent.builder c.add_context.new.self.contexts c.in-Ok.field-0
+      c.requires.contexts c.loop-parent-test.true c.loop-parent.invariant.0 c.loop-parent.invariant.2 c.in-Ok.ensures.added,
+  c.in-Ok.ensures.states ∙ c.loop-parent.invariant.1,
+  c.in-Ok.ensures.family,
 )
 
 pub returns-clause-finished : goal.returns-clause-finished

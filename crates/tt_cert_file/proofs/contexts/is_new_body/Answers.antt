@@ -1,4 +1,4 @@
-use Rattle.std.proofs.Common.{◌≡◌, ℕ, ◌+◌, ◌-◌, sym, ap, ◌∙◌, arith}
+use Rattle.std.proofs.Common.{◌≡◌, ◌-◌, sym, ap, ◌∙◌, arith}
 use Rattle.std.specs.Prelude.{slice_index_or}
 use Rattle.std.proofs.lemmas.Bool.{eq-eqb, ne_eqb}
 use Rattle.tt_cert_file.specs.Sections.{Context, no_frame}
@@ -29,11 +29,10 @@ unfolding no_context
 loop-at-preserved c =
     let contexts = c.args.contexts.now in
     let at = context_at_index contexts no_context c.loop-at.at c.loop-at-test.true c.loop-at.invariant.0 in
-    let parent = c.requires.parents (c.loop-at.at - 1) (slice_index_or contexts (c.loop-at.at - 1) no_context) at in
-    (
+    let parent = c.requires.parents (c.loop-at.at - 1) (slice_index_or contexts (c.loop-at.at - 1) no_context) at in (
       omega arith,
       c.loop-at.invariant.1 ∙ new_at_number contexts c.loop-at.at c.args.body c.loop-at-test.true
-      ∙ new_in_parent contexts c.requires.parents (c.loop-at.at - 1) c.args.body (slice_index_or contexts (c.loop-at.at - 1) no_context) at (ne_eqb _ _ c.if-frame-body.false),
+          ∙ new_in_parent contexts c.requires.parents (c.loop-at.at - 1) c.args.body (slice_index_or contexts (c.loop-at.at - 1) no_context) at (ne_eqb _ _ c.if-frame-body.false),
     )
 
 pub returns : goal.returns

@@ -1,4 +1,4 @@
-use Rattle.std.proofs.Common.{◌≡◌, arith}
+use Rattle.std.proofs.Common.{arith}
 use Rattle.std.proofs.lemmas.Result.{err_from_is_err_and}
 use Rattle.tt_stream.proofs.Beginnings.{consumes_then}
 use Rattle.tt_cert_file.specs.Reading.{context_at}
@@ -22,9 +22,11 @@ returns-in_err-push-clause-beginning g c = consumes_then _ _ _ c.contexts.invari
 
 pub contexts-preserved : goal.contexts-preserved
 contexts-preserved g c = (
-    reads_on (context_at) _ _ _ _ c.contexts.contexts.items _ c.args.count c.contexts.counter c.contexts.at c.in_ok-context.after _ _ _ c.in_ok-context.context c.contexts.invariant.0 c.contexts-test.true (rw c.deref.ensures.value at c.in_ok-context.ensures.reads) c.read_context.ensures.beginning c.in_ok-context.ensures.failures c.in_ok-push.ensures.items,
-    (omega (arith, c.contexts.invariant.1.0, ap length c.in_ok-push.ensures.items, length-append {A = Context}),
-        subst AreContexts (sym c.in_ok-push.ensures.items) (AreContexts-push _ _ c.contexts.invariant.1.1 (rw c.deref.ensures.value at c.in_ok-context.ensures.follows))),
+  reads_on (context_at) _ _ _ _ c.contexts.contexts.items _ c.args.count c.contexts.counter c.contexts.at c.in_ok-context.after _ _ _ c.in_ok-context.context c.contexts.invariant.0 c.contexts-test.true (rw c.deref.ensures.value at c.in_ok-context.ensures.reads) c.read_context.ensures.beginning c.in_ok-context.ensures.failures c.in_ok-push.ensures.items,
+  (
+    omega (arith, c.contexts.invariant.1.0, ap length c.in_ok-push.ensures.items, length-append {A = Context}),
+    subst AreContexts (sym c.in_ok-push.ensures.items) (AreContexts-push _ _ c.contexts.invariant.1.1 (rw c.deref.ensures.value at c.in_ok-context.ensures.follows)),
+  ),
 )
 
 pub returns-clause-reads : goal.returns-clause-reads

@@ -1,4 +1,4 @@
-use Rattle.std.proofs.Common.{◌≡◌, arith}
+use Rattle.std.proofs.Common.{arith}
 use Rattle.std.proofs.lemmas.Result.{err_from_is_err_and}
 use Rattle.tt_stream.proofs.Beginnings.{consumes_then}
 use Rattle.tt_cert_file.specs.Reading.{cell_at}
@@ -20,8 +20,8 @@ returns-in_err-push-clause-beginning g c = consumes_then _ _ _ c.cells.invariant
 
 pub cells-preserved : goal.cells-preserved
 cells-preserved g c = (
-    reads_on (λ _ i. cell_at i) _ _ _ _ c.cells.cells.items _ c.args.count c.cells.counter c.cells.at c.in_ok-cell.after _ _ _ c.in_ok-cell.cell c.cells.invariant.0 c.cells-test.true c.in_ok-cell.ensures.reads c.read_cell.ensures.beginning c.in_ok-cell.ensures.failures c.in_ok-push.ensures.items,
-    omega (arith, c.cells.invariant.1, ap length c.in_ok-push.ensures.items, length-append {A = Cell}),
+  reads_on (λ _ i. cell_at i) _ _ _ _ c.cells.cells.items _ c.args.count c.cells.counter c.cells.at c.in_ok-cell.after _ _ _ c.in_ok-cell.cell c.cells.invariant.0 c.cells-test.true c.in_ok-cell.ensures.reads c.read_cell.ensures.beginning c.in_ok-cell.ensures.failures c.in_ok-push.ensures.items,
+  omega (arith, c.cells.invariant.1, ap length c.in_ok-push.ensures.items, length-append {A = Cell}),
 )
 
 pub returns-clause-reads : goal.returns-clause-reads

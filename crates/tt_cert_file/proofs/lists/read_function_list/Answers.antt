@@ -1,4 +1,3 @@
-use Rattle.std.proofs.Common.{◌≡◌, arith}
 use Rattle.std.proofs.lemmas.Result.{err_from_is_err_and}
 use Rattle.tt_stream.proofs.Beginnings.{consumes_then}
 use Rattle.tt_cert_file.specs.Reading.{function_at}
@@ -21,8 +20,8 @@ returns-in_err-push-clause-beginning g c = consumes_then _ _ _ c.functions.invar
 
 pub functions-preserved : goal.functions-preserved
 functions-preserved g c = (
-    reads_on (function_at) _ _ _ _ c.functions.functions.items _ c.args.count c.functions.counter c.functions.at c.in_ok-function.after _ _ _ c.in_ok-function.function c.functions.invariant.0 c.functions-test.true (rw c.deref.ensures.value at c.in_ok-function.ensures.reads) c.read_function.ensures.beginning c.in_ok-function.ensures.failures c.in_ok-push.ensures.items,
-    subst Rises (sym c.in_ok-push.ensures.items) (Rises-push _ _ c.functions.invariant.1 (rw c.deref.ensures.value at c.in_ok-function.ensures.above)),
+  reads_on (function_at) _ _ _ _ c.functions.functions.items _ c.args.count c.functions.counter c.functions.at c.in_ok-function.after _ _ _ c.in_ok-function.function c.functions.invariant.0 c.functions-test.true (rw c.deref.ensures.value at c.in_ok-function.ensures.reads) c.read_function.ensures.beginning c.in_ok-function.ensures.failures c.in_ok-push.ensures.items,
+  subst Rises (sym c.in_ok-push.ensures.items) (Rises-push _ _ c.functions.invariant.1 (rw c.deref.ensures.value at c.in_ok-function.ensures.above)),
 )
 
 pub returns-clause-reads : goal.returns-clause-reads

@@ -1,4 +1,4 @@
-use Rattle.std.proofs.Common.{◌≤◌, [], length}
+use Rattle.std.proofs.Common.{[]}
 use Rattle.tt_cert_file.specs.Answers.{input_at}
 use Rattle.tt_cert_file.specs.Readers.{list_at}
 use Rattle.tt_cert_file.specs.Reading.{stored_at}

@@ -14,6 +14,6 @@ push-requires c =
 
 pub loop-cell-preserved : goal.loop-cell-preserved
 loop-cell-preserved c = (
-    pushed c.args.state.now c.loop-cell.state _ c.args.cells.now c.loop-cell.cell-index (Known (pos 0)) c.loop-cell-test.true c.loop-cell.invariant.0 c.in_ok-push.ensures.ok,
-    λ h. c.push.ensures.in_range (c.loop-cell.invariant.1 h),
+  pushed c.args.state.now c.loop-cell.state _ c.args.cells.now c.loop-cell.cell-index (Known (pos 0)) c.loop-cell-test.true c.loop-cell.invariant.0 c.in_ok-push.ensures.ok,
+  λ h. c.push.ensures.in_range (c.loop-cell.invariant.1 h),
 )

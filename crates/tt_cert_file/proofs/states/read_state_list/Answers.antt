@@ -23,7 +23,7 @@ returns-in_err-point-clause-reads g c =
     let same = entry_same c.args.form c.contexts-contexts.result (length c.args.builder.contexts) c.states.last c.states.builder.states
     (input_at c.states.at (g.S.Source.remaining c.states.source)) c.contexts-contexts.ensures.value c.states.invariant.2 in
     rw (p.1, p.2) (λ known. reads_fail (entry_at c.args.form (length c.args.builder.contexts)) _ _ _ c.states.builder.states c.args.count c.states.counter c.states.at _ _
-        c.in_err-point.field-0.0 c.states.invariant.0 c.states-test.true (λ k. subst (Fails c.in_err-point.field-0.0) same (c.in_err-point.ensures.reads k)) known)
+    c.in_err-point.field-0.0 c.states.invariant.0 c.states-test.true (λ k. subst (Fails c.in_err-point.field-0.0) same (c.in_err-point.ensures.reads k)) known)
 
 pub returns-in_err-point-clause-beginning : goal.returns-in_err-point-clause-beginning
 returns-in_err-point-clause-beginning g c = consumes_then _ _ _ c.states.invariant.0.beginning c.read_entry.ensures.beginning
@@ -35,11 +35,10 @@ pub states-preserved : goal.states-preserved
 states-preserved g c =
     let same = entry_same c.args.form c.contexts-contexts.result (length c.args.builder.contexts) c.states.last c.states.builder.states
     (input_at c.states.at (g.S.Source.remaining c.states.source)) c.contexts-contexts.ensures.value c.states.invariant.2 in
-    let entry : Entry = (c.in_ok-point.point, c.in_ok-point.state) in
-    (
+    let entry : Entry = (c.in_ok-point.point, c.in_ok-point.state) in (
       reads_on (entry_at c.args.form (length c.args.builder.contexts)) _ _ _ _ c.states.builder.states _ c.args.count c.states.counter c.states.at c.in_ok-point.after _ _ _ entry
-      c.states.invariant.0 c.states-test.true (λ k. let r = c.in_ok-point.ensures.reads k in (r.0, sym same ∙ r.1)) c.read_entry.ensures.beginning c.in_ok-point.ensures.failures
-      c.in_ok-add_state.ensures.added,
+          c.states.invariant.0 c.states-test.true (λ k. let r = c.in_ok-point.ensures.reads k in (r.0, sym same ∙ r.1)) c.read_entry.ensures.beginning c.in_ok-point.ensures.failures
+          c.in_ok-add_state.ensures.added,
       c.in_ok-add_state.ensures.contexts ∙ c.states.invariant.1,
       sym (ap last_place c.in_ok-add_state.ensures.added ∙ ap (option_map (λ (e : Entry). e.0)) (last_pushed c.states.builder.states entry)),
     )

@@ -5,9 +5,9 @@ use Rattle.tt_cert_file.specs.Text.{long, state_text}
 use Rattle.tt_cert_file.proofs.Pushed.{AreWritten}
 use Rattle.tt_cert_file.proofs.writing.push_states.Given as goal
 
-abbrev pub invariant-loop : goal.invariant-loop
-invariant-loop l =
+abbrev pub invariant-loop-context : goal.invariant-loop-context
+invariant-loop-context l =
     (done : List Entry) × (l.certificate.states ≡ done ++ l.states) × AreWritten (state_text Four) l.fn.out.items (long (length l.certificate.states)) done l.out.items
 
-abbrev pub decreases-loop : goal.decreases-loop
-decreases-loop l = length l.states
+abbrev pub decreases-loop-context : goal.decreases-loop-context
+decreases-loop-context l = length l.states

@@ -1,4 +1,4 @@
-use Rattle.std.proofs.Common.{length, reverse, take}
+use Rattle.std.proofs.Common.{length, take}
 use Rattle.tt_cert_file.specs.Text.{stored_text, word}
 use Rattle.tt_cert_file.proofs.Pushed.{AreWritten}
 use Rattle.tt_cert_file.proofs.writing.push_storage.Given as goal

@@ -21,12 +21,12 @@ pub loop-at-preserved : goal.loop-at-preserved
 loop-at-preserved g c =
     let from = c.loop-at.at in
     let room = length c.loop-at.buf - from in
-    let n = c.in_ok-count.count in
+    let n = c.in_ok-more.more in
     let within = c.loop-at.invariant.within in
-    let part = slice_range-put_mid from room n c.loop-at.buf c.read.new.buf within c.in_ok-count.ensures.bound.0 in
+    let part = slice_range-put_mid from room n c.loop-at.buf c.read.new.buf within c.in_ok-more.ensures.bound.0 in
     let joined = take_split from (from + n) c.loop-at.buf (put_mid from room c.loop-at.buf c.read.new.buf) (omega arith) (take-put_mid_below _ _ _ _ _ (le_refl _) within) in
     record {
       within = search rules;
-      bytes = subst (Consumes _ _) (ap (λ l. take from c.loop-at.buf ++ l) (sym part) ∙ joined) (Consumes-trans _ _ _ _ _ c.loop-at.invariant.bytes c.in_ok-count.ensures.bytes.0);
-      failures = c.in_ok-count.ensures.failures ∙ c.loop-at.invariant.failures;
+      bytes = subst (Consumes _ _) (ap (λ l. take from c.loop-at.buf ++ l) (sym part) ∙ joined) (Consumes-trans _ _ _ _ _ c.loop-at.invariant.bytes c.in_ok-more.ensures.bytes.0);
+      failures = c.in_ok-more.ensures.failures ∙ c.loop-at.invariant.failures;
     }

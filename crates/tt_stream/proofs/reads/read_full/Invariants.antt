@@ -1,5 +1,4 @@
-use Rattle.std.proofs.Common.{length, ◌-◌, ◌≡◌, ◌≤◌, take}
-use Rattle.std.specs.Io.KnownBytes.{Consumes}
+use Rattle.std.proofs.Common.{length, ◌-◌}
 use Rattle.tt_stream.proofs.Filled.{IsFilled}
 use Rattle.tt_stream.proofs.reads.read_full.Given as goal
 
