@@ -71,7 +71,11 @@ fn look_at_font_program<'a>(
 }
 
 /// The setting of the CVT program, which starts with the functions that are known where the font program ends.
-pub(crate) fn cvt_setting<'a>(font: &Font<'_>, fpgm: &'a Ended<'_>, program: &'a Program<'_>) -> Setting<'a>
+pub(crate) fn cvt_setting<'a>(
+    font: &Font<'_>,
+    fpgm: &'a Ended<'_>,
+    program: &'a Program<'_>,
+) -> Setting<'a>
     ensures setting { setting_of result ≡ setting_of_cvt_program (font_of font.now fpgm.entry.now.program program.entry.now) }
     ensures programs { programs_of result ≡ font_of font.now fpgm.entry.now.program program.entry.now }
     ensures main { result.main.now ≡ program.entry.now }

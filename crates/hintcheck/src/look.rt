@@ -138,10 +138,7 @@ pub(crate) fn look(
 ///
 /// # Errors
 /// `Refused` where no family is found; `OutOfMemory`.
-pub(crate) fn certified(
-    alloc: Global,
-    setting: &Setting<'_>,
-) -> Result<Certificate, ProgramFault>
+pub(crate) fn certified(alloc: Global, setting: &Setting<'_>) -> Result<Certificate, ProgramFault>
     requires rises { Rises setting.now.start.now }
     requires fits { FunctionsFit (setting_of setting.now) setting.now.start.now }
     ensures { (x : Subject) → IsLookedAt x setting.now → IfOk result (λ certificate. IsAccepted x setting.now.main.now (family_of certificate)) }
