@@ -6,3 +6,4 @@ pub mod FontBytes
 pub mod FontSafety
 pub mod FontLists
 pub mod EmptyPrograms
+pub mod NameLemmas

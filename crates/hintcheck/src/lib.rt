@@ -6,6 +6,7 @@ pub mod certifying;
 mod commands;
 pub mod fonts;
 pub mod judge;
+mod listing;
 mod look;
 pub mod report;
 
@@ -15,5 +16,6 @@ pub use commands::faults::CommandFault;
 pub use commands::{command, try_command, verdict_of};
 pub use fonts::verdict;
 pub use judge::bare;
+pub use listing::list_program;
 pub use report::{Name, Place, Refused, Verdict};
 pub use tt_font::{FontFault, Tag, read_maxp};
