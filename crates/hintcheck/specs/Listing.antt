@@ -4,8 +4,8 @@ use Rattle.std.specs.Fmt.{decimal}
 use Rattle.tt_code.specs.Cut.{Instruction, IsCut}
 use Rattle.tt_code.specs.Grammar.{IsStructured}
 use Rattle.tt_font.specs.Reading.{FontData, Reads}
-use Rattle.hintcheck.specs.declared.report.Name.{Name}
-use Rattle.hintcheck.specs.declared.report.Name.TheVariants as name
+use Rattle.tt_cert_file.specs.declared.name.Name.{Name}
+use Rattle.tt_cert_file.specs.declared.name.Name.TheVariants as name
 
 -- a program's name as it is printed, and as a word names it: `f`, `p`, or `g` and the glyph's number in decimal digits, with no zero in front
 abbrev pub text_of : Name → List ℕ

@@ -14,7 +14,7 @@ ghost use Rattle.hintcheck.specs.FontPrograms.{IsSafeFont, cvt_subject, font_sub
 ghost use Rattle.hintcheck.specs.Looks.{IsLookedAt};
 ghost use Rattle.hintcheck.specs.Programs.{HasGoodFamily, Subject};
 
-use crate::fonts::{Common, Ended, cvt_setting};
+use crate::fonts::{Common, Ended, cvt_setting, read_font};
 use crate::look::{cut, list_refused};
 use crate::report::{Name, Refused, Verdict};
 use std::alloc::{AllocError, Global};
@@ -293,6 +293,20 @@ fn check_programs<S: Source>(
     Ok(refused)
 }
 
+/// The verdict on the programs of a font that was read, by its certificate.
+pub(crate) fn check_read_font<S: Source>(
+    alloc: Global,
+    font: &Font<'_>,
+    source: &mut S,
+) -> Result<Verdict, CheckFontFault>
+    requires { IsFontInRange font.now }
+    ensures safe { IfOk result (λ v. v.refused ≡ [] → IsSafeFont font.now) }
+    ensures failures { CountsCheck result (S.failures source.old) (S.failures source.new) }
+{
+    let refused = check_programs(alloc, font, source)?;
+    Ok(Verdict::new(u32::from(font.glyph_count()) + 2, refused))
+}
+
 /// The verdict on the programs of a font file by its certificate, which is all that is left in the source: each program is checked by the family
 /// that its section lists, and nothing is trusted of where the certificate came from. The CVT program starts with the functions that are known
 /// where the font program ends, and a glyph program with those that are known where the CVT program ends. A refused font program or CVT program
@@ -309,7 +323,6 @@ pub fn check_font<S: Source>(
     ensures safe { IfOk result (λ v. (d : FontData) × Reads font.now d × (v.refused ≡ [] → IsSafeFont d)) }
     ensures failures { CountsCheck result (S.failures source.old) (S.failures source.new) }
 {
-    let read = Font::read(alloc, font)?;
-    let refused = check_programs(alloc, &read, source)?;
-    Ok(Verdict::new(u32::from(read.glyph_count()) + 2, refused))
+    let read = read_font(alloc, font)?;
+    check_read_font(alloc, &read, source)
 }

@@ -12,7 +12,7 @@ ghost use Rattle.hintcheck.specs.FontPrograms.{IsSafeFont, IsVerdict, cvt_subjec
 ghost use Rattle.hintcheck.specs.Looks.{IsLookedAt};
 ghost use Rattle.hintcheck.specs.Programs.{Subject};
 
-use crate::fonts::{Common, Ended, cvt_setting, refused_programs};
+use crate::fonts::{Common, Ended, cvt_setting, read_font, refused_programs};
 use crate::look::{certified, cut};
 use crate::report::{Name, Verdict};
 use std::alloc::{AllocError, Global};
@@ -232,6 +232,6 @@ pub fn find_font<W: Sink>(
     ensures unwritten { IfOk result (λ v. WritesNothing (W.contents sink.old) (W.contents sink.new) v) }
     ensures failures { CountsFind result (W.failures sink.old) (W.failures sink.new) }
 {
-    let read = Font::read(alloc, font)?;
+    let read = read_font(alloc, font)?;
     find_programs(alloc, &read, sink)
 }

@@ -198,6 +198,18 @@ pub(crate) fn refused_programs(alloc: Global, font: &Font<'_>) -> Result<Vec<Ref
     refused_glyphs(alloc, &mut finder, font, &common)
 }
 
+/// Reads a font, whose programs and numbers are in their ranges.
+///
+/// # Errors
+/// The faults of `Font::read`.
+pub(crate) fn read_font<'a>(alloc: Global, bytes: &'a [u8]) -> Result<Font<'a>, FontFault>
+    ensures reads { IfOk result (λ font. Reads bytes.entry.now font) }
+    ensures range { IfOk result (λ font. IsFontInRange font) }
+    ensures faults { TestsWithMemory (font_fault bytes.entry.now) result }
+{
+    Font::read(alloc, bytes)
+}
+
 /// The verdict on the programs of a font file: on the font program, then on the CVT program, then on each glyph program. The CVT program
 /// starts with the functions that are known where the font program ends, and a glyph program with those that are known where the CVT
 /// program ends. A refused font program or CVT program ends the look; a refused glyph program doesn't.
@@ -208,7 +220,7 @@ pub fn verdict(alloc: Global, font: &[u8]) -> Result<Verdict, FontFault>
     ensures exact { IfOk result (λ v. (d : FontData) × Reads font.now d × IsVerdict d v × (v.refused ≡ [] → IsSafeFont d)) }
     ensures faults { TestsWithMemory (font_fault font.now) result }
 {
-    let read = Font::read(alloc, font)?;
+    let read = read_font(alloc, font)?;
     let refused = refused_programs(alloc, &read)?;
     Ok(Verdict::new(u32::from(read.glyph_count()) + 2, refused))
 }

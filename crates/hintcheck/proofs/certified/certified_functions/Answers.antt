@@ -3,10 +3,12 @@ use Rattle.tt_cert.specs.Contents.{family_of}
 use Rattle.hintcheck.proofs.FontEnds.{good_at_end, listed_at_end}
 use Rattle.hintcheck.proofs.certified.certified_functions.Goals as goal
 
-pub returns-clause-known : goal.returns-clause-known
-returns-clause-known c = λ x looked.
-    good_at_end x c.args.setting.now (family_of c.args.certificate.now) c.len.result c.end_functions.result c.unwrap-functions.result c.in_ok-from_slice.field-0.items
-    looked c.in_ok-check_section.ensures.good c.len.ensures.value c.end_functions.ensures.some c.unwrap-functions.ensures c.in_ok-from_slice.ensures.items
+pub returns : goal.returns
+returns c = record {
+  known = λ x looked.
+      good_at_end x c.args.setting.now (family_of c.args.certificate.now) c.len.result c.end_functions.result c.unwrap-functions.result c.in_ok-from_slice.field-0.items
+      looked c.in_ok-check_section.ensures.good c.len.ensures.value c.end_functions.ensures.some c.unwrap-functions.ensures c.in_ok-from_slice.ensures.items;
+}
 
 pub unwrap-functions-requires : goal.unwrap-functions-requires
 unwrap-functions-requires c =

@@ -11,10 +11,12 @@ certified_functions-requires-clause-subject c =
     let s = c.cvt_setting-setting in
     (x, looked_at x s.result c.in_ok-program.program (c.in_ok-program.ensures.cut x (sym c.prep.ensures)) s.ensures.main s.ensures.setting s.ensures.start)
 
-pub returns-clause-known : goal.returns-clause-known
-returns-clause-known c =
+pub returns : goal.returns
+returns c =
     let x = cvt_subject c.args.font.now c.args.fpgm.now.program c.args.fpgm.now.functions.items in
     let s = c.cvt_setting-setting in
     let K : List Instruction → Type 0 = λ is. IsGoodAtEnd x is c.in_ok-functions.functions.items in
-    subst K s.ensures.main
-    (c.in_ok-functions.ensures.known x (looked_at x s.result c.in_ok-program.program (c.in_ok-program.ensures.cut x (sym c.prep.ensures)) s.ensures.main s.ensures.setting s.ensures.start))
+    record {
+      known = subst K s.ensures.main
+      (c.in_ok-functions.ensures.known x (looked_at x s.result c.in_ok-program.program (c.in_ok-program.ensures.cut x (sym c.prep.ensures)) s.ensures.main s.ensures.setting s.ensures.start));
+    }

@@ -14,11 +14,13 @@ certified_functions-requires-clause-subject c =
           s.ensures.programs c.limits.ensures c.cvt_count.ensures s.ensures.main s.ensures.start,
     )
 
-pub returns-clause-known : goal.returns-clause-known
-returns-clause-known c =
+pub returns : goal.returns
+returns c =
     let x = font_subject c.args.font.now in
     let s = c.for_font_program-setting in
     let K : List Instruction → Type 0 = λ is. IsGoodAtEnd x is c.in_ok-functions.functions.items in
-    subst K s.ensures.main
-    (c.in_ok-functions.ensures.known x (font_looked c.args.font.now s.result c.in_ok-program.program c.limits.result c.cvt_count.result
-    (c.in_ok-program.ensures.cut x (sym c.fpgm.ensures)) s.ensures.setting s.ensures.programs c.limits.ensures c.cvt_count.ensures s.ensures.main s.ensures.start))
+    record {
+      known = subst K s.ensures.main
+      (c.in_ok-functions.ensures.known x (font_looked c.args.font.now s.result c.in_ok-program.program c.limits.result c.cvt_count.result
+      (c.in_ok-program.ensures.cut x (sym c.fpgm.ensures)) s.ensures.setting s.ensures.programs c.limits.ensures c.cvt_count.ensures s.ensures.main s.ensures.start));
+    }
