@@ -1,5 +1,5 @@
 use Rattle.std.specs.Option.{option_map}
-use Rattle.std.proofs.Common.{◌≡◌, ◌+◌, ◌<◌, List, ℕ, [], sym, ◌∙◌, ap, subst, absurd, arith, length}
+use Rattle.std.proofs.Common.{◌≡◌, ◌+◌, ◌<◌, List, ℕ, [], sym, ◌∙◌, ap, subst, arith, length}
 use Rattle.std.proofs.lemmas.Option.{slice_get_within}
 use Rattle.tt_font.specs.GlyphParts.{glyph_data}
 use Rattle.tt_font.specs.Reading.{GlyphData}
@@ -28,7 +28,7 @@ loop-id-preserved g c =
     elim c.match-check_glyph_program.branch [
       | in-Ok w ↦
           let same : c.match-check_glyph_program.refused.items ≡ c.loop-id.refused.items = ap (λ v. v.items) w.refused-is in
-          ((λ none. good_next common glyphs c.loop-id.id glyph (c.loop-id.invariant.0 (sym same ∙ none)) at (w.in-Ok.ensures c.loop-id.id)), failures)
+          ((λ none. good_next common glyphs c.loop-id.id glyph (c.loop-id.invariant.0 (sym same ∙ none)) at (w.in-Ok.ensures.good c.loop-id.id)), failures)
       | in-Err+in_ok-list_refused-in-Err w ↦
           let I : List Refused → Type 0 = λ rs. IsListed (name.Glyph c.loop-id.id) w.in-Err.fault c.loop-id.refused.items rs in
           let listed = subst I (sym (ap (λ v. v.items) w.refused-is)) w.in_ok-list_refused-in-Err.ensures in
