@@ -35,7 +35,7 @@ is_Less Less p = refl
 is_Less Equal p = absurd p
 is_Less Greater p = absurd p
 
-below_tested : (p : ℕ × ℕ) (es : List Point) → AllByRecursion (λ q. place_cmp p q ≡ Less) (keys_of es) → T (entries.below_all place_cmp p es)
+below_tested : {X : Type 0} (p : ℕ × ℕ) (es : List ((ℕ × ℕ) × X)) → AllByRecursion (λ q. place_cmp p q ≡ Less) (keys_of es) → T (entries.below_all place_cmp p es)
 below_tested p [] h = tt
 below_tested p (e ∷ es) h =
     let L : Ordering → Type 0 = λ o. T (is_lt o) in
@@ -45,7 +45,7 @@ below_from_test : (p : ℕ × ℕ) (es : List Point) → T (entries.below_all pl
 below_from_test p [] h = tt
 below_from_test p (e ∷ es) h = (is_Less (place_cmp p e.0) (first _ (entries.below_all place_cmp p es) h), below_from_test p es (second (is_lt (place_cmp p e.0)) _ h))
 
-rise_tested : (es : List Point) → IsStrictlySortedBy place_cmp (keys_of es) → T (entries.is_sorted place_cmp es)
+rise_tested : {X : Type 0} (es : List ((ℕ × ℕ) × X)) → IsStrictlySortedBy place_cmp (keys_of es) → T (entries.is_sorted place_cmp es)
 unfolding IsStrictlySortedBy
 rise_tested [] h = tt
 rise_tested (e ∷ es) h = both (entries.below_all place_cmp e.0 es) (entries.is_sorted place_cmp es) (below_tested e.0 es h.0) (rise_tested es h.1)
@@ -67,15 +67,15 @@ insert_is_put (e ∷ es) k n =
       | Greater ↦ ap (λ l. e ∷ l) (insert_is_put es k n)
     ]
 
-found_is_find : (es : List Point) (p : ℕ × ℕ) → states_of es p ≡ entries.find place_cmp p es
+found_is_find : {X : Type 0} (es : List ((ℕ × ℕ) × X)) (p : ℕ × ℕ) → states_of es p ≡ entries.find place_cmp p es
 found_is_find [] p = refl
 found_is_find (e ∷ es) p = ap (cond (is_at (place_cmp p) e.0) (Some e.1)) (found_is_find es p)
 
 pub place_exact : (p q : ℕ × ℕ) → place_cmp p q ≡ Equal → p ≡ q
 place_exact p q tied = exact_pairs nat_cmp nat_cmp exact_unsigned exact_unsigned p q tied
 
--- lists of points that rise are the same if they have the same at each place
-pub same_points : (es fs : List Point) → IsStrictlySortedBy place_cmp (keys_of es) → IsStrictlySortedBy place_cmp (keys_of fs)
+-- lists by points that rise are the same if they have the same at each place
+pub same_points : {X : Type 0} (es fs : List ((ℕ × ℕ) × X)) → IsStrictlySortedBy place_cmp (keys_of es) → IsStrictlySortedBy place_cmp (keys_of fs)
     → ((p : ℕ × ℕ) → states_of es p ≡ states_of fs p) → es ≡ fs
 same_points es fs rise rise' same =
     entries.same_entries place_cmp place_total place_exact es fs (rise_tested es rise) (rise_tested fs rise') (λ p. sym (found_is_find es p) ∙ same p ∙ found_is_find fs p)

@@ -40,8 +40,8 @@ impl Model for Certificate {
 }
 
 impl Certificate {
-    /// A builder's family, whose contexts are in order.
-    pub(crate) fn of(builder: Builder) -> Self
+    /// The certificate of a builder's family, whose contexts are in order.
+    pub fn of(builder: Builder) -> Self
         requires { IsFinished builder }
         ensures { result ≡ builder }
     {

@@ -1,3 +1,5 @@
 pub mod Written
 pub mod Windows
 pub mod Printed
+pub mod Beginnings
+pub mod Filled

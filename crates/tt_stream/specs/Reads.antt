@@ -1,6 +1,6 @@
--- What reading to the end does to known bytes, and to a count of failed reads.
-use Rattle.std.specs.Prelude.{◌≡◌, ◌+◌, ℕ, List, Option, Result, Ok, Err}
-use Rattle.std.specs.Io.KnownBytes.{Consumes}
+-- What reading to the end, or a buffer full, does to known bytes, and to a count of failed reads.
+use Rattle.std.specs.Prelude.{◌≡◌, ◌+◌, ◌<◌, ℕ, List, Option, Result, Ok, Err, length, take}
+use Rattle.std.specs.Io.KnownBytes.{Consumes, IsAtEnd}
 use Rattle.tt_stream.specs.declared.reads.ReadFault.{ReadFault}
 use Rattle.tt_stream.specs.declared.reads.ReadFault.TheVariants as fault
 
@@ -14,3 +14,7 @@ abbrev pub CountsReadFault : {T : Type 0} → Result T ReadFault → ℕ → ℕ
 CountsReadFault (Ok bytes) old new = new ≡ old
 CountsReadFault (Err fault.Read) old new = new ≡ old + 1
 CountsReadFault (Err (fault.OutOfMemory error)) old new = new ≡ old
+
+-- the bytes at the front of the buffer were read, as many as it takes, or all that were left
+abbrev pub Fills : Option (List ℕ) → Option (List ℕ) → ℕ → List ℕ → Type 0
+Fills old new count buf = Consumes old new (take count buf) × (count < length buf → IsAtEnd new)

@@ -9,7 +9,7 @@ ghost use Rattle.tt_stream.specs.Streams.{AppendsBeginning, AppendsBeginningOfTe
 mod reads;
 mod text;
 
-pub use reads::{ReadFault, read_all};
+pub use reads::{ReadFault, read_all, read_full};
 use std::fmt::Display;
 use std::io::{Read, Write};
 use std::marker::Model;

@@ -1,0 +1,12 @@
+pub mod Codecs
+pub mod Fields
+pub mod Spelled
+pub mod Decoded
+pub mod Loops
+pub mod Rises
+pub mod ContextLists
+pub mod Bodies
+pub mod StateLists
+pub mod Building
+pub mod Listed
+pub mod Pushed

@@ -1,0 +1,43 @@
+-- Texts of values that are put behind one another.
+use Rattle.std.proofs.Common.{◌≡◌, ℕ, ◌+◌, ◌<◌, ◌≤◌, List, [], ◌∷◌, ◌++◌, length, take, Some, sym, ap, ◌∙◌, append_assoc, append-nil, take_all}
+use Rattle.std.specs.Prelude.{slice_get, slice_index_or}
+use Rattle.std.specs.List.{flat_map}
+use Rattle.std.proofs.lemmas.Grind.{flat_map-append}
+use Rattle.std.proofs.lemmas.List.{take_more}
+use Rattle.std.proofs.lemmas.Option.{slice_get-get_or, slice_get_within}
+
+-- after a head and the texts of some values
+abbrev pub AreWritten : {A : Type 0} → (A → List ℕ) → List ℕ → List ℕ → List A → List ℕ → Type 0
+AreWritten spell old head done now = now ≡ old ++ (head ++ flat_map spell done)
+
+pub none_written : {A : Type 0} (spell : A → List ℕ) (old head now : List ℕ) → now ≡ old ++ head → AreWritten spell old head [] now
+none_written spell old head now e = e ∙ ap (λ (l : List ℕ). old ++ l) (sym (append-nil head))
+
+pub one_written : {A : Type 0} (spell : A → List ℕ) (old head now new : List ℕ) (done : List A) (x : A) → AreWritten spell old head done now → new ≡ now ++ spell x
+    → AreWritten spell old head (done ++ x ∷ []) new
+one_written {A} spell old head now new done x before one =
+    let more : flat_map spell (done ++ x ∷ []) ≡ flat_map spell done ++ spell x =
+    flat_map-append spell done (x ∷ []) ∙ ap (λ (l : List ℕ). flat_map spell done ++ l) (append-nil (spell x)) in
+    one ∙ ap (λ (l : List ℕ). l ++ spell x) before ∙ append_assoc old (head ++ flat_map spell done) (spell x)
+    ∙ ap (λ (l : List ℕ). old ++ l) (append_assoc head (flat_map spell done) (spell x) ∙ ap (λ (l : List ℕ). head ++ l) (sym more))
+
+taken_more : {A : Type 0} (xs : List A) (k : ℕ) (x : A) → slice_get xs k ≡ Some x → take (k + 1) xs ≡ take k xs ++ x ∷ []
+taken_more {A} xs k x at =
+    let within = slice_get_within xs k x at in
+    let one : Some (slice_index_or xs k x) ≡ Some x = sym (slice_get-get_or xs k x within) ∙ at in
+    let same : slice_index_or xs k x ≡ x = cc in
+    take_more xs k x within ∙ ap (λ (y : A). take k xs ++ y ∷ []) same
+
+-- the next of a list
+pub next_written : {A : Type 0} (spell : A → List ℕ) (old head now new : List ℕ) (xs : List A) (k : ℕ) (x : A) → slice_get xs k ≡ Some x
+    → AreWritten spell old head (take k xs) now → new ≡ now ++ spell x → AreWritten spell old head (take (k + 1) xs) new
+next_written {A} spell old head now new xs k x at before one =
+    one_written spell old head now new (take k xs) x before one ∙ ap (λ (l : List A). old ++ (head ++ flat_map spell l)) (sym (taken_more xs k x at))
+
+pub all_written : {A : Type 0} (spell : A → List ℕ) (old head now : List ℕ) (xs : List A) (k : ℕ) → length xs ≤ k → AreWritten spell old head (take k xs) now
+    → AreWritten spell old head xs now
+all_written {A} spell old head now xs k le before = before ∙ ap (λ (l : List A). old ++ (head ++ flat_map spell l)) (take_all k xs le)
+
+-- at a default
+pub at_default : {A : Type 0} (xs : List A) (k : ℕ) (d : A) → k < length xs → slice_get xs k ≡ Some (slice_index_or xs k d)
+at_default xs k d lt = slice_get-get_or xs k d lt

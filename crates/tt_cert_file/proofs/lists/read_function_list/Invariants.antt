@@ -1,0 +1,13 @@
+use Rattle.std.proofs.Common.{[]}
+use Rattle.tt_cert_file.specs.Answers.{input_at}
+use Rattle.tt_cert_file.specs.Readers.{list_at}
+use Rattle.tt_cert_file.specs.Reading.{function_at}
+use Rattle.tt_abs.specs.Entries.{Rises}
+use Rattle.tt_cert_file.proofs.Loops.{IsReading}
+use Rattle.tt_cert_file.proofs.lists.read_function_list.Given as goal
+
+abbrev pub invariant-functions : goal.invariant-functions
+invariant-functions g l =
+    IsReading (function_at) (g.S.Source.remaining l.fn.source) (g.S.Source.remaining l.source)
+    (list_at (function_at) [] l.fn.count (input_at l.fn.place (g.S.Source.remaining l.fn.source))) l.functions.items l.fn.count l.counter l.at
+    (g.S.Source.failures l.fn.source) (g.S.Source.failures l.source) × Rises l.functions.items

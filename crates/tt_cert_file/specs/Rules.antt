@@ -1,0 +1,137 @@
+-- The rules that a section keeps.
+use Rattle.std.specs.Prelude.{◌≡◌, ◌==◌, ℕ, ℤ, ◌+◌, ◌-◌, ◌^◌, ◌<◌, ◌≤◌, ◌&&◌, FitsSigned, nat_lt, nat_le, not, Bool, true, Option, Some, List, [], ◌∷◌, ◌++◌, length, reverse, slice_get, option_map}
+use Rattle.std.specs.Int.{w32}
+use Rattle.std.specs.List.{list_any}
+use Rattle.std.specs.Option.{option_map_or}
+use Rattle.std.specs.Ordering.{is_lt}
+use Rattle.tt_code.specs.declared.machine.Frame.{Frame}
+use Rattle.tt_abs.specs.Cells.{Cells}
+use Rattle.tt_abs.specs.declared.cells.Cell.{Cell}
+use Rattle.tt_abs.specs.declared.cells.Cell.TheVariants.{Known, Unknown}
+use Rattle.tt_abs.specs.declared.state.State.{State}
+use Rattle.tt_cert.specs.Built.{key_cmp, key_of}
+use Rattle.tt_cert.specs.Contents.{frames_at}
+use Rattle.tt_cert.specs.Contexts.{frames_of}
+use Rattle.tt_cert.specs.Places.{place_cmp}
+use Rattle.tt_cert_file.specs.declared.form.Form.{Form}
+use Rattle.tt_cert_file.specs.declared.form.Form.TheVariants.{One, Two, Three, Four}
+use Rattle.tt_cert_file.specs.declared.name.Name.{Name}
+use Rattle.tt_cert_file.specs.declared.name.Name.TheVariants as name
+use Rattle.tt_cert_file.specs.Forms.{most_contexts}
+use Rattle.tt_cert_file.specs.Sections.{Context, Entry, Section}
+
+-- the last value of a list
+abbrev pub last_of : {A : Type 0} → List A → Option A
+last_of xs = slice_get xs (length xs - 1)
+
+-- each value may come after those before it
+abbrev pub EachAfter : {A : Type 0} → (List A → A → Type 0) → List A → List A → Type 0
+EachAfter P before [] = Unit {0}
+EachAfter P before (x ∷ xs) = P before x × EachAfter P (before ++ x ∷ []) xs
+
+-- a glyph's number has 16 bits
+abbrev pub NameFits : Name → Type 0
+NameFits name.Font = Unit {0}
+NameFits name.Cvt = Unit {0}
+NameFits (name.Glyph id) = id < 2 ^ 16
+
+-- the turns of a call are from 1 to its count, and there are fewer than 2^31
+abbrev pub is_turn : Frame → Bool
+is_turn f = nat_le 1 f.turn && (nat_le f.turn f.count && nat_lt f.count (2 ^ 31))
+
+-- a context comes after another by parent, call, body, turn and count
+abbrev pub is_above_context : Option Context → Context → Bool
+is_above_context before c = option_map_or (λ d. is_lt (key_cmp (key_of d) (key_of c))) before true
+
+-- the body runs in none of these calls
+abbrev pub is_new_body : List Frame → ℕ → Bool
+is_new_body frames body = not (list_any (λ f. f.body == body) frames)
+
+-- A context may come after those before it: its parent is one of them, or the main one; it is above the last; its turn is one; and its body
+-- runs in no call of its parent.
+abbrev pub may_follow : List Context → Context → Bool
+may_follow before c = nat_le c.0 (length before) && (is_above_context (last_of before) c
+    && (is_turn c.1 && is_new_body (frames_at (frames_of before) c.0) c.1.body))
+
+-- its numbers fit, and it may come next
+pub record ContextFits (before : List Context) (c : Context) : Type 0 where
+  pub parent : c.0 < 2 ^ 16
+  pub call : c.1.call < 2 ^ 32
+  pub body : c.1.body < 2 ^ 32
+  pub follows : may_follow before c ≡ true
+
+-- each context's parent comes before it
+abbrev pub HaveParents : List Context → Type 0
+HaveParents contexts = (i : ℕ) (c : Context) → slice_get contexts i ≡ Some c → c.0 ≤ i
+
+-- each context may come after those before it
+abbrev pub AreContexts : List Context → Type 0
+AreContexts contexts = EachAfter (λ before c. may_follow before c ≡ true) [] contexts
+
+-- a number of 32 bits, or an unknown one
+abbrev pub CellFits : Cell → Type 0
+CellFits (Known number) = FitsSigned w32 number
+CellFits Unknown = Unit {0}
+
+pub record GraphicsFits (g : Cells) : Type 0 where
+  pub rp0 : CellFits g.rp0
+  pub rp1 : CellFits g.rp1
+  pub rp2 : CellFits g.rp2
+  pub loop_number : CellFits g.loop_number
+
+-- an entry's number is above that of the one before
+abbrev pub is_above : {V : Type 0} → Option (ℕ × V) → ℕ × V → Bool
+is_above before e = option_map_or (λ d. nat_lt d.0 e.0) before true
+
+pub record FunctionFits (before : List (ℕ × ℕ)) (e : ℕ × ℕ) : Type 0 where
+  pub number : e.0 < 2 ^ 16
+  pub body : e.1 < 2 ^ 32
+  pub rises : is_above (last_of before) e ≡ true
+
+pub record StoredFits (before : List (ℕ × ℤ)) (e : ℕ × ℤ) : Type 0 where
+  pub index : e.0 < 2 ^ 16
+  pub number : FitsSigned w32 e.1
+  pub rises : is_above (last_of before) e ≡ true
+
+-- a list of so few values that 16 bits count them, each after those before it
+pub record ListFits {A : Type 0} (P : List A → A → Type 0) (xs : List A) : Type 0 where
+  pub few : length xs < 2 ^ 16
+  pub each : EachAfter P [] xs
+
+-- the first two forms list no storage cell
+abbrev pub StorageFits : Form → List (ℕ × ℤ) → Type 0
+StorageFits One cells = cells ≡ []
+StorageFits Two cells = cells ≡ []
+StorageFits Three cells = ListFits StoredFits cells
+StorageFits Four cells = ListFits StoredFits cells
+
+-- a context with an offset comes after the last one; its context is one of so many
+abbrev pub is_next_place : ℕ → Option (ℕ × ℕ) → ℕ × ℕ → Bool
+is_next_place contexts last p = nat_lt p.0 contexts && option_map_or (λ q. is_lt (place_cmp q p)) last true
+
+-- the place of the last state
+abbrev pub last_place : List Entry → Option (ℕ × ℕ)
+last_place before = option_map (λ e. e.0) (last_of before)
+
+pub record PlaceFits (contexts : ℕ) (last : Option (ℕ × ℕ)) (p : ℕ × ℕ) : Type 0 where
+  pub context : p.0 < 2 ^ 16
+  pub offset : p.1 < 2 ^ 32
+  pub follows : is_next_place contexts last p ≡ true
+
+pub record StateFits (form : Form) (s : State) : Type 0 where
+  pub stack : ListFits (λ _ cell. CellFits cell) (reverse s.stack)
+  pub graphics : GraphicsFits s.graphics
+  pub functions : ListFits FunctionFits s.functions
+  pub storage : StorageFits form s.storage
+
+pub record EntryFits (form : Form) (contexts : ℕ) (before : List Entry) (e : Entry) : Type 0 where
+  pub place : PlaceFits contexts (last_place before) e.0
+  pub state : StateFits form e.1
+
+-- what has a text in this form
+pub record Fits (form : Form) (s : Section) : Type 0 where
+  pub name : NameFits s.name
+  pub few_contexts : length s.contexts ≤ most_contexts form
+  pub contexts : EachAfter ContextFits [] s.contexts
+  pub few_states : length s.states < 2 ^ 32
+  pub states : EachAfter (EntryFits form (length s.contexts + 1)) [] s.states

@@ -1,0 +1,185 @@
+//! Contexts of a section: read one after the other, each by the rules, and made those of a builder.
+
+ghost use Rattle.std.specs.Prelude.{◌≡◌, ◌<◌, ◌≤◌, ℕ, [], true, length, IfOk};
+ghost use Rattle.std.specs.Option.{option_copied};
+ghost use Rattle.tt_cert.specs.Built.{key_of as key_of_context};
+ghost use Rattle.tt_cert.specs.Contents.{IsFamily, frames_at};
+ghost use Rattle.tt_cert.specs.Rising.{IsFinished};
+ghost use Rattle.tt_cert.specs.Contexts.{frames_of};
+ghost use Rattle.tt_stream.specs.Reads.{ConsumesBeginning};
+ghost use Rattle.tt_cert_file.specs.Answers.{CountsRead, Gives, input_at};
+ghost use Rattle.tt_cert_file.specs.Forms.{most_contexts};
+ghost use Rattle.tt_cert_file.specs.Readers.{list_at};
+ghost use Rattle.tt_cert_file.specs.Reading.{context_at, context_count_at, contexts_at};
+ghost use Rattle.tt_cert_file.specs.Rules.{AreContexts, HaveParents, is_above_context, is_new_body as is_new_body_of, is_turn as is_turn_of, last_of, may_follow as may_follow_after};
+
+use crate::fault::DecodeFault;
+use crate::form::Form;
+use crate::units::{read_long, read_word};
+use std::alloc::{AllocError, Global};
+use tt_cert::{Builder, ContextFault};
+use tt_code::Frame;
+use tt_stream::Source;
+
+/// How many turns a call has at most.
+const MOST_TURNS: u32 = 0x7fff_ffff;
+
+/// Is the turn one of the call's?
+fn is_turn(frame: &Frame) -> bool
+    ensures { result ≡ is_turn_of frame.now }
+{
+    1 <= frame.turn && frame.turn <= frame.count && frame.count <= MOST_TURNS
+}
+
+/// By what contexts rise: parent, call, body, turn and count.
+fn key_of(context: &(u32, Frame)) -> (u32, u32, u32, u32, u32)
+    ensures { result ≡ key_of_context context.now }
+{
+    let (parent, frame) = *context;
+    (parent, frame.call, frame.body, frame.turn, frame.count)
+}
+
+/// Is the context above the last one, if there is one?
+fn is_above(last: Option<&(u32, Frame)>, context: &(u32, Frame)) -> bool
+    ensures { result ≡ is_above_context (option_copied last.entry) context.now }
+{
+    match last {
+        Some(last) => key_of(last).cmp(&key_of(context)).is_lt(),
+        None => true,
+    }
+}
+
+/// Does the body run in none of the calls of this context?
+fn is_new_body(contexts: &[(u32, Frame)], number: u32, body: u32) -> bool
+    requires parents { HaveParents contexts.now }
+    requires there { number ≤ length contexts.now }
+    ensures { result ≡ is_new_body_of (frames_at (frames_of contexts.now) number) body }
+{
+    let mut at = number as usize;
+    while at > 0 {
+        let (parent, frame) = contexts[at - 1];
+        if frame.body == body {
+            return false;
+        }
+        at = parent as usize;
+    }
+    true
+}
+
+/// May the context come after these?
+fn may_follow(before: &[(u32, Frame)], context: &(u32, Frame)) -> bool
+    requires { HaveParents before.now }
+    ensures { result ≡ may_follow_after before.now context.now }
+{
+    context.0 as usize <= before.len()
+        && is_above(before.last(), context)
+        && is_turn(&context.1)
+        && is_new_body(before, context.0, context.1.body)
+}
+
+/// Reads a context after those before it, whose numbers are from 1.
+#[tactic(auto, unfolding(crate::specs::Reading::context_at))]
+fn read_context<S: Source>(
+    source: &mut S,
+    place: u64,
+    before: &[(u32, Frame)],
+) -> Result<((u32, Frame), u64), DecodeFault>
+    requires { HaveParents before.now }
+    ensures reads { Gives (λ x. x) (S.remaining source.old) (S.remaining source.new) result (context_at before.now (input_at place (S.remaining source.old))) }
+    ensures follows { IfOk result (λ r. may_follow_after before.now r.0 ≡ true) }
+    ensures beginning { ConsumesBeginning (S.remaining source.old) (S.remaining source.new) }
+    ensures failures { CountsRead result (S.failures source.old) (S.failures source.new) }
+{
+    let (parent, at) = read_word(source, place)?;
+    let (call, at) = read_long(source, at)?;
+    let (body, at) = read_long(source, at)?;
+    let (turn, at) = read_long(source, at)?;
+    let (count, at) = read_long(source, at)?;
+    let frame = Frame {
+        body,
+        call,
+        turn,
+        count,
+    };
+    let context = (u32::from(parent), frame);
+    if !may_follow(before, &context) {
+        return Err(DecodeFault::Form(place));
+    }
+    Ok((context, at))
+}
+
+/// Reads how many contexts a section has beside the main one.
+fn read_count<S: Source>(source: &mut S, place: u64, form: Form) -> Result<(u16, u64), DecodeFault>
+    ensures reads { Gives (λ x. x) (S.remaining source.old) (S.remaining source.new) result (context_count_at form (input_at place (S.remaining source.old))) }
+    ensures few { IfOk result (λ r. r.0 ≤ most_contexts form) }
+    ensures beginning { ConsumesBeginning (S.remaining source.old) (S.remaining source.new) }
+    ensures failures { CountsRead result (S.failures source.old) (S.failures source.new) }
+{
+    let (count, at) = read_word(source, place)?;
+    if count > form.most_contexts() {
+        return Err(DecodeFault::Form(place));
+    }
+    Ok((count, at))
+}
+
+/// Reads so many contexts.
+fn read_context_list<S: Source>(
+    alloc: Global,
+    source: &mut S,
+    place: u64,
+    count: u16,
+) -> Result<(Vec<(u32, Frame)>, u64), DecodeFault>
+    ensures reads { Gives (λ v. v.items) (S.remaining source.old) (S.remaining source.new) result (list_at context_at [] count (input_at place (S.remaining source.old))) }
+    ensures few { IfOk result (λ r. length r.0.items ≤ count) }
+    ensures contexts { IfOk result (λ r. AreContexts r.0.items) }
+    ensures beginning { ConsumesBeginning (S.remaining source.old) (S.remaining source.new) }
+    ensures failures { CountsRead result (S.failures source.old) (S.failures source.new) }
+{
+    let mut contexts = Vec::new(alloc);
+    let mut at = place;
+    'contexts: for _ in 0..count {
+        let (context, after) = read_context(source, at, &contexts)?;
+        contexts.push(context)?;
+        at = after;
+    }
+    Ok((contexts, at))
+}
+
+/// Reads the contexts of a section.
+#[tactic(auto, unfolding(crate::specs::Reading::contexts_at))]
+pub(crate) fn read_contexts<S: Source>(
+    alloc: Global,
+    source: &mut S,
+    place: u64,
+    form: Form,
+) -> Result<(Vec<(u32, Frame)>, u64), DecodeFault>
+    ensures reads { Gives (λ v. v.items) (S.remaining source.old) (S.remaining source.new) result (contexts_at form (input_at place (S.remaining source.old))) }
+    ensures few { IfOk result (λ r. length r.0.items ≤ most_contexts form) }
+    ensures contexts { IfOk result (λ r. AreContexts r.0.items) }
+    ensures beginning { ConsumesBeginning (S.remaining source.old) (S.remaining source.new) }
+    ensures failures { CountsRead result (S.failures source.old) (S.failures source.new) }
+{
+    let (count, at) = read_count(source, place, form)?;
+    read_context_list(alloc, source, at, count)
+}
+
+/// A builder with these contexts, by their numbers, and without a state.
+pub(crate) fn builder_of(alloc: Global, contexts: &[(u32, Frame)]) -> Result<Builder, AllocError>
+    requires contexts { AreContexts contexts.now }
+    requires few { length contexts.now ≤ 65534 }
+    ensures contexts { IfOk result (λ builder. builder.contexts ≡ frames_of contexts.now) }
+    ensures states { IfOk result (λ builder. builder.states ≡ []) }
+    ensures finished { IfOk result (λ builder. IsFinished builder) }
+{
+    let mut builder = Builder::new(alloc);
+    for (parent, frame) in contexts {
+        match builder.add_context(*parent, *frame) {
+            Ok(_) => {}
+            // No context comes twice, and 65,535 are not there yet.
+            Err(ContextFault::OutOfMemory | ContextFault::TooManyContexts) => {
+                return Err(AllocError);
+            },
+        }
+    }
+    Ok(builder)
+}

@@ -1,0 +1,52 @@
+ghost use Rattle.std.specs.Prelude.{◌≡◌};
+ghost use Rattle.tt_cert_file.specs.Forms.{form_number, form_of, most_contexts as form_contexts};
+
+/// A form of certificate files. Form 4 is written, all are read.
+#[derive(Clone, Copy, Debug, PartialEq, Eq)]
+pub enum Form {
+    /// Each state is listed, without its storage cells; at most 4,095 contexts beside the main one.
+    One,
+    /// States may be left out; otherwise as the first.
+    Two,
+    /// As the second, with storage cells.
+    Three,
+    /// As the third, with up to 65,534 contexts beside the main one.
+    Four,
+}
+
+impl Form {
+    /// The form with this number.
+    pub(crate) fn with_number(number: u16) -> Option<Form>
+        ensures { result ≡ form_of number }
+    {
+        match number {
+            1 => Some(Form::One),
+            2 => Some(Form::Two),
+            3 => Some(Form::Three),
+            4 => Some(Form::Four),
+            _ => None,
+        }
+    }
+
+    /// The number by which a header names the form.
+    pub fn number(self) -> u16
+        ensures { result ≡ form_number self }
+    {
+        match self {
+            Form::One => 1,
+            Form::Two => 2,
+            Form::Three => 3,
+            Form::Four => 4,
+        }
+    }
+
+    /// How many contexts a section of this form may have at most, beside the main one.
+    pub fn most_contexts(self) -> u16
+        ensures { result ≡ form_contexts self }
+    {
+        match self {
+            Form::One | Form::Two | Form::Three => 4_095,
+            Form::Four => 65_534,
+        }
+    }
+}

@@ -1,0 +1,12 @@
+//! Laws of the text of certificate files.
+
+ghost use Rattle.std.specs.Prelude.{◌≡◌, ◌++◌, ℕ, List};
+ghost use Rattle.tt_cert_file.specs.Rules.{Fits};
+ghost use Rattle.tt_cert_file.specs.Sections.{Section};
+ghost use Rattle.tt_cert_file.specs.Text.{section_text};
+ghost use Rattle.tt_cert_file.specs.declared.form.Form.{Form};
+
+/// No section's text begins another one's: what begins with the texts of two sections of one form has one section, and one rest after it.
+pub fn no_section_begins_another()
+    ensures { (form : Form) (s t : Section) (a b : List ℕ) → Fits form s → Fits form t → section_text form s ++ a ≡ section_text form t ++ b → (s ≡ t) × (a ≡ b) }
+{}

@@ -1,0 +1,22 @@
+//! Certificate files: the text of a font's certificate, written to and read from streams.
+#![tactic(auto)]
+
+mod contexts;
+mod fault;
+mod form;
+mod header;
+mod laws;
+mod lists;
+mod name;
+mod reading;
+mod states;
+mod units;
+mod writing;
+
+pub use fault::{DecodeFault, EncodeFault};
+pub use form::Form;
+pub use header::{read_end, read_header, write_header};
+pub use laws::no_section_begins_another;
+pub use name::Name;
+pub use reading::decode;
+pub use writing::encode;

@@ -1,0 +1,219 @@
+//! States of a section: each is made of its parts, and put into a builder.
+
+ghost use Rattle.std.specs.Prelude.{◌≡◌, ◌≤◌, [], ◌∷◌, ◌++◌, true, length, reverse, IfOk, OnOk};
+ghost use Rattle.tt_abs.specs.Entries.{Rises};
+ghost use Rattle.tt_abs.specs.States.{state_order};
+ghost use Rattle.tt_stream.specs.Reads.{ConsumesBeginning};
+ghost use Rattle.tt_cert_file.specs.Answers.{CountsRead, Gives, input_at};
+ghost use Rattle.tt_cert_file.specs.Readers.{list_at};
+ghost use Rattle.tt_cert_file.specs.Reading.{entry_after, entry_at, place_at, state_at, state_from, states_at};
+ghost use Rattle.tt_cert_file.specs.Rules.{is_next_place as is_next_place_after, last_place};
+
+use crate::fault::DecodeFault;
+use crate::form::Form;
+use crate::lists::{read_functions, read_stack, read_storage};
+use crate::units::{read_graphics, read_long, read_pair};
+use std::alloc::{AllocError, Global};
+use tt_abs::{Cell, State, ZoneCell};
+use tt_cert::{Builder, JoinFault};
+use tt_code::Graphics;
+use tt_code::kinds::{Pointer, Reference};
+use tt_stream::Source;
+
+/// Puts cells on a stack, from the bottom up.
+fn push_cells(state: &mut State, cells: &[Cell]) -> Result<(), AllocError>
+    requires empty { state.old.stack ≡ [] }
+    requires few { length cells.now ≤ 65535 }
+    ensures pushed { OnOk result (state.new ≡ record state.old { stack = reverse cells.now }) }
+    ensures in_range { state_order.InRange state.old → state_order.InRange state.new }
+{
+    for cell in cells {
+        state.push(*cell)?;
+    }
+    Ok(())
+}
+
+/// Sets what is known of the graphics state.
+fn set_graphics(state: &mut State, graphics: &Graphics<Cell, ZoneCell>)
+    ensures set { state.new ≡ record state.old { graphics = graphics.now } }
+    ensures in_range { state_order.InRange state.old → state_order.InRange state.new }
+{
+    state.set_rp(Reference::Rp0, graphics.rp0);
+    state.set_rp(Reference::Rp1, graphics.rp1);
+    state.set_rp(Reference::Rp2, graphics.rp2);
+    state.set_zone(Pointer::Zp0, graphics.zp0);
+    state.set_zone(Pointer::Zp1, graphics.zp1);
+    state.set_zone(Pointer::Zp2, graphics.zp2);
+    state.set_loop(graphics.loop_number);
+}
+
+/// Makes storage cells known, by rising indexes.
+fn store_cells(state: &mut State, cells: &[(u16, i32)]) -> Result<(), AllocError>
+    requires empty { state.old.storage ≡ [] }
+    requires rises { Rises cells.now }
+    ensures stored { OnOk result (state.new ≡ record state.old { storage = cells.now }) }
+    ensures in_range { state_order.InRange state.old → state_order.InRange state.new }
+{
+    for &(index, number) in cells {
+        state.set_storage(index, Cell::Known(number))?;
+    }
+    Ok(())
+}
+
+/// The state that has these parts: the stack from the bottom up, and lists by rising numbers.
+fn state_of(
+    alloc: Global,
+    stack: &[Cell],
+    graphics: &Graphics<Cell, ZoneCell>,
+    functions: &[(u16, u32)],
+    storage: &[(u16, i32)],
+) -> Result<State, AllocError>
+    requires few { length stack.now ≤ 65535 }
+    requires functions { Rises functions.now }
+    requires storage { Rises storage.now }
+    ensures value { IfOk result (λ state. state ≡ state_from (stack.now, (graphics.now, (functions.now, storage.now)))) }
+    ensures in_range { IfOk result (λ state. state_order.InRange state) }
+{
+    let mut state = State::start(alloc, functions)?;
+    push_cells(&mut state, stack)?;
+    set_graphics(&mut state, graphics);
+    store_cells(&mut state, storage)?;
+    Ok(state)
+}
+
+/// Reads a state, without its place.
+#[tactic(auto, unfolding(crate::specs::Reading::state_at))]
+fn read_state<S: Source>(
+    alloc: Global,
+    source: &mut S,
+    place: u64,
+    form: Form,
+) -> Result<(State, u64), DecodeFault>
+    ensures reads { Gives (λ x. x) (S.remaining source.old) (S.remaining source.new) result (state_at form (input_at place (S.remaining source.old))) }
+    ensures in_range { IfOk result (λ r. state_order.InRange r.0) }
+    ensures beginning { ConsumesBeginning (S.remaining source.old) (S.remaining source.new) }
+    ensures failures { CountsRead result (S.failures source.old) (S.failures source.new) }
+{
+    let (stack, at) = read_stack(alloc, source, place)?;
+    let (graphics, at) = read_graphics(source, at)?;
+    let (functions, at) = read_functions(alloc, source, at)?;
+    let (storage, at) = read_storage(alloc, source, at, form)?;
+    let state = state_of(alloc, &stack, &graphics, &functions, &storage)?;
+    Ok((state, at))
+}
+
+/// May a state stand at this place, in one of so many contexts, after the last one's?
+fn is_next_place(contexts: u32, last: Option<(u32, u32)>, place: (u32, u32)) -> bool
+    ensures { result ≡ is_next_place_after contexts last place }
+{
+    place.0 < contexts
+        && match last {
+            Some(last) => last.cmp(&place).is_lt(),
+            None => true,
+        }
+}
+
+/// Reads a state's context and offset, after the last one's.
+#[tactic(auto, unfolding(crate::specs::Reading::place_at))]
+fn read_place<S: Source>(
+    source: &mut S,
+    place: u64,
+    contexts: u32,
+    last: Option<(u32, u32)>,
+) -> Result<((u32, u32), u64), DecodeFault>
+    ensures reads { Gives (λ x. x) (S.remaining source.old) (S.remaining source.new) result (place_at contexts last (input_at place (S.remaining source.old))) }
+    ensures follows { IfOk result (λ r. is_next_place_after contexts last r.0 ≡ true) }
+    ensures beginning { ConsumesBeginning (S.remaining source.old) (S.remaining source.new) }
+    ensures failures { CountsRead result (S.failures source.old) (S.failures source.new) }
+{
+    let ((context, offset), after) = read_pair(source, place)?;
+    let at = (u32::from(context), offset);
+    if !is_next_place(contexts, last, at) {
+        return Err(DecodeFault::Form(place));
+    }
+    Ok((at, after))
+}
+
+/// Reads a state with its context and offset, after the last one's.
+fn read_entry<S: Source>(
+    alloc: Global,
+    source: &mut S,
+    place: u64,
+    form: Form,
+    contexts: u32,
+    last: Option<(u32, u32)>,
+) -> Result<(((u32, u32), State), u64), DecodeFault>
+    ensures reads { Gives (λ x. x) (S.remaining source.old) (S.remaining source.new) result (entry_after form contexts last (input_at place (S.remaining source.old))) }
+    ensures follows { IfOk result (λ r. is_next_place_after contexts last r.0.0 ≡ true) }
+    ensures in_range { IfOk result (λ r. state_order.InRange r.0.1) }
+    ensures beginning { ConsumesBeginning (S.remaining source.old) (S.remaining source.new) }
+    ensures failures { CountsRead result (S.failures source.old) (S.failures source.new) }
+{
+    let (point, at) = read_place(source, place, contexts, last)?;
+    let (state, at) = read_state(alloc, source, at, form)?;
+    Ok(((point, state), at))
+}
+
+/// Puts a state at a point of the builder that comes after all that have states.
+fn add_state(builder: &mut Builder, point: (u32, u32), state: &State) -> Result<(), AllocError>
+    requires there { is_next_place_after (length builder.old.contexts) (last_place builder.old.states) point ≡ true }
+    requires in_range { state_order.InRange state.now }
+    ensures added { OnOk result (builder.new.states ≡ builder.old.states ++ (point, state.now) ∷ []) }
+    ensures contexts { builder.new.contexts ≡ builder.old.contexts }
+{
+    builder.states();
+    let joined = builder.join_state(point.0, point.1, state);
+    builder.states();
+    match joined {
+        Ok(_) => Ok(()),
+        // No state stands at the point.
+        Err(JoinFault::OutOfMemory | JoinFault::DepthMismatch) => Err(AllocError),
+    }
+}
+
+/// Reads so many states into a builder that has their contexts and no state.
+fn read_state_list<S: Source>(
+    alloc: Global,
+    builder: Builder,
+    source: &mut S,
+    place: u64,
+    form: Form,
+    count: u32,
+) -> Result<(Builder, u64), DecodeFault>
+    requires { builder.states ≡ [] }
+    ensures reads { Gives (λ b. b.states) (S.remaining source.old) (S.remaining source.new) result (list_at (entry_at form (length builder.contexts)) [] count (input_at place (S.remaining source.old))) }
+    ensures contexts { IfOk result (λ r. r.0.contexts ≡ builder.contexts) }
+    ensures beginning { ConsumesBeginning (S.remaining source.old) (S.remaining source.new) }
+    ensures failures { CountsRead result (S.failures source.old) (S.failures source.new) }
+{
+    let mut builder = builder;
+    let contexts = builder.contexts();
+    let mut last = None;
+    let mut at = place;
+    'states: for _ in 0..count {
+        let ((point, state), after) = read_entry(alloc, source, at, form, contexts, last)?;
+        add_state(&mut builder, point, &state)?;
+        last = Some(point);
+        at = after;
+    }
+    Ok((builder, at))
+}
+
+/// Reads the states of a section into a builder that has its contexts and no state.
+#[tactic(auto, unfolding(crate::specs::Reading::states_at))]
+pub(crate) fn read_states<S: Source>(
+    alloc: Global,
+    builder: Builder,
+    source: &mut S,
+    place: u64,
+    form: Form,
+) -> Result<(Builder, u64), DecodeFault>
+    requires { builder.states ≡ [] }
+    ensures reads { Gives (λ b. b.states) (S.remaining source.old) (S.remaining source.new) result (states_at form (length builder.contexts) (input_at place (S.remaining source.old))) }
+    ensures contexts { IfOk result (λ r. r.0.contexts ≡ builder.contexts) }
+    ensures beginning { ConsumesBeginning (S.remaining source.old) (S.remaining source.new) }
+    ensures failures { CountsRead result (S.failures source.old) (S.failures source.new) }
+{
+    let (count, at) = read_long(source, place)?;
+    read_state_list(alloc, builder, source, at, form, count)
+}

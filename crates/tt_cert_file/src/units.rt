@@ -1,0 +1,153 @@
+//! Units of a section, each read whole.
+
+ghost use Rattle.std.specs.Prelude.{◌≡◌, ℕ, List, Option};
+ghost use Rattle.tt_stream.specs.Reads.{ConsumesBeginning};
+ghost use Rattle.tt_cert_file.specs.Answers.{CountsRead, Gives, input_at};
+ghost use Rattle.tt_cert_file.specs.Readers.{unit};
+ghost use Rattle.tt_cert_file.specs.Reading.{cell_at, graphics_at, long_at, name_at, pair_at, word_at, zone_at};
+
+use crate::fault::DecodeFault;
+use crate::name::Name;
+use tt_abs::{Cell, ZoneCell};
+use tt_code::Graphics;
+use tt_stream::{Source, read_full};
+
+/// Reads a unit of N bytes at a place, and answers it with the place after it.
+fn read_unit<S: Source, const N: usize>(
+    source: &mut S,
+    place: u64,
+) -> Result<([u8; N], u64), DecodeFault>
+    ensures reads { Gives (λ x. x) (S.remaining source.old) (S.remaining source.new) result (unit N (input_at place (S.remaining source.old))) }
+    ensures beginning { ConsumesBeginning (S.remaining source.old) (S.remaining source.new) }
+    ensures failures { CountsRead result (S.failures source.old) (S.failures source.new) }
+{
+    let mut bytes = [0u8; N];
+    let count = read_full(source, &mut bytes)?;
+    let after = place.saturating_add(count as u64);
+    if count < N {
+        return Err(DecodeFault::Form(after));
+    }
+    Ok((bytes, after))
+}
+
+/// Reads a number of 16 bits.
+#[tactic(auto, unfolding(crate::specs::Reading::word_at))]
+pub(crate) fn read_word<S: Source>(source: &mut S, place: u64) -> Result<(u16, u64), DecodeFault>
+    ensures reads { Gives (λ x. x) (S.remaining source.old) (S.remaining source.new) result (word_at (input_at place (S.remaining source.old))) }
+    ensures beginning { ConsumesBeginning (S.remaining source.old) (S.remaining source.new) }
+    ensures failures { CountsRead result (S.failures source.old) (S.failures source.new) }
+{
+    let (unit, after) = read_unit::<S, 2>(source, place)?;
+    Ok((u16::from_be_bytes(unit), after))
+}
+
+/// Reads a number of 32 bits.
+#[tactic(auto, unfolding(crate::specs::Reading::long_at))]
+pub(crate) fn read_long<S: Source>(source: &mut S, place: u64) -> Result<(u32, u64), DecodeFault>
+    ensures reads { Gives (λ x. x) (S.remaining source.old) (S.remaining source.new) result (long_at (input_at place (S.remaining source.old))) }
+    ensures beginning { ConsumesBeginning (S.remaining source.old) (S.remaining source.new) }
+    ensures failures { CountsRead result (S.failures source.old) (S.failures source.new) }
+{
+    let (unit, after) = read_unit::<S, 4>(source, place)?;
+    Ok((u32::from_be_bytes(unit), after))
+}
+
+/// Reads a number of 16 bits with one of 32.
+#[tactic(auto, unfolding(crate::specs::Reading::pair_at))]
+pub(crate) fn read_pair<S: Source>(
+    source: &mut S,
+    place: u64,
+) -> Result<((u16, u32), u64), DecodeFault>
+    ensures reads { Gives (λ x. x) (S.remaining source.old) (S.remaining source.new) result (pair_at (input_at place (S.remaining source.old))) }
+    ensures beginning { ConsumesBeginning (S.remaining source.old) (S.remaining source.new) }
+    ensures failures { CountsRead result (S.failures source.old) (S.failures source.new) }
+{
+    let (unit, after) = read_unit::<S, 6>(source, place)?;
+    let [w1, w0, l3, l2, l1, l0] = unit;
+    let word = u16::from_be_bytes([w1, w0]);
+    let long = u32::from_be_bytes([l3, l2, l1, l0]);
+    Ok(((word, long), after))
+}
+
+/// Reads the name of a section's program.
+#[tactic(auto, unfolding(crate::specs::Reading::name_at))]
+pub(crate) fn read_name<S: Source>(source: &mut S, place: u64) -> Result<(Name, u64), DecodeFault>
+    ensures reads { Gives (λ x. x) (S.remaining source.old) (S.remaining source.new) result (name_at (input_at place (S.remaining source.old))) }
+    ensures beginning { ConsumesBeginning (S.remaining source.old) (S.remaining source.new) }
+    ensures failures { CountsRead result (S.failures source.old) (S.failures source.new) }
+{
+    let (unit, after) = read_unit::<S, 3>(source, place)?;
+    let [kind, high, low] = unit;
+    let glyph = u16::from_be_bytes([high, low]);
+    match (kind, glyph) {
+        (2, id) => Ok((Name::Glyph(id), after)),
+        (0, 0) => Ok((Name::Font, after)),
+        (1, 0) => Ok((Name::Cvt, after)),
+        _ => Err(DecodeFault::Form(place)),
+    }
+}
+
+/// Reads what is known of a number.
+#[tactic(auto, unfolding(crate::specs::Reading::cell_at))]
+pub(crate) fn read_cell<S: Source>(source: &mut S, place: u64) -> Result<(Cell, u64), DecodeFault>
+    ensures reads { Gives (λ x. x) (S.remaining source.old) (S.remaining source.new) result (cell_at (input_at place (S.remaining source.old))) }
+    ensures beginning { ConsumesBeginning (S.remaining source.old) (S.remaining source.new) }
+    ensures failures { CountsRead result (S.failures source.old) (S.failures source.new) }
+{
+    let (unit, after) = read_unit::<S, 1>(source, place)?;
+    let [tag] = unit;
+    match tag {
+        0 => Ok((Cell::Unknown, after)),
+        1 => {
+            let (number, after) = read_unit::<S, 4>(source, after)?;
+            Ok((Cell::Known(i32::from_be_bytes(number)), after))
+        }
+        _ => Err(DecodeFault::Form(place)),
+    }
+}
+
+/// Reads what is known of a zone pointer.
+#[tactic(auto, unfolding(crate::specs::Reading::zone_at))]
+fn read_zone<S: Source>(source: &mut S, place: u64) -> Result<(ZoneCell, u64), DecodeFault>
+    ensures reads { Gives (λ x. x) (S.remaining source.old) (S.remaining source.new) result (zone_at (input_at place (S.remaining source.old))) }
+    ensures beginning { ConsumesBeginning (S.remaining source.old) (S.remaining source.new) }
+    ensures failures { CountsRead result (S.failures source.old) (S.failures source.new) }
+{
+    let (unit, after) = read_unit::<S, 1>(source, place)?;
+    let [byte] = unit;
+    match byte {
+        0 => Ok((ZoneCell::Zero, after)),
+        1 => Ok((ZoneCell::One, after)),
+        2 => Ok((ZoneCell::Either, after)),
+        _ => Err(DecodeFault::Form(place)),
+    }
+}
+
+/// Reads what is known of the graphics state.
+#[tactic(auto, unfolding(crate::specs::Reading::graphics_at))]
+pub(crate) fn read_graphics<S: Source>(
+    source: &mut S,
+    place: u64,
+) -> Result<(Graphics<Cell, ZoneCell>, u64), DecodeFault>
+    ensures reads { Gives (λ x. x) (S.remaining source.old) (S.remaining source.new) result (graphics_at (input_at place (S.remaining source.old))) }
+    ensures beginning { ConsumesBeginning (S.remaining source.old) (S.remaining source.new) }
+    ensures failures { CountsRead result (S.failures source.old) (S.failures source.new) }
+{
+    let (rp0, at) = read_cell(source, place)?;
+    let (rp1, at) = read_cell(source, at)?;
+    let (rp2, at) = read_cell(source, at)?;
+    let (zp0, at) = read_zone(source, at)?;
+    let (zp1, at) = read_zone(source, at)?;
+    let (zp2, at) = read_zone(source, at)?;
+    let (loop_number, at) = read_cell(source, at)?;
+    let graphics = Graphics {
+        rp0,
+        rp1,
+        rp2,
+        zp0,
+        zp1,
+        zp2,
+        loop_number,
+    };
+    Ok((graphics, at))
+}

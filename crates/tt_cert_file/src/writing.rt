@@ -1,0 +1,225 @@
+//! Sections written to a sink, in form 4.
+
+ghost use Rattle.std.specs.Prelude.{◌≡◌, ◌++◌, length, reverse, IfOk, OnErr, OnOk};
+ghost use Rattle.std.specs.Io.KnownBytes.{Appends};
+ghost use Rattle.std.specs.List.{flat_map};
+ghost use Rattle.tt_stream.specs.Streams.{AppendsBeginning};
+ghost use Rattle.tt_cert_file.specs.Answers.{CountsWrite};
+ghost use Rattle.tt_cert_file.specs.Sections.{contexts_in, section_of};
+ghost use Rattle.tt_cert_file.specs.Text.{cell_text, context_text, counted, graphics_text, long, name_text, pair_text, section_text, state_text, stored_text, word, zone_text};
+
+use crate::fault::EncodeFault;
+use crate::form::Form;
+use crate::name::Name;
+use std::alloc::{AllocError, Global};
+use tt_abs::{Cell, State, ZoneCell};
+use tt_cert::Certificate;
+use tt_code::Frame;
+use tt_code::kinds::{Pointer, Reference};
+use tt_stream::{Sink, write_all};
+
+/// The kind of a program, and its glyph.
+fn push_name(out: &mut Vec<u8>, name: Name) -> Result<(), AllocError>
+    ensures { OnOk result (out.new.items ≡ out.old.items ++ name_text name) }
+{
+    let (kind, glyph) = match name {
+        Name::Font => (0, 0u16),
+        Name::Cvt => (1, 0),
+        Name::Glyph(id) => (2, id),
+    };
+    let [high, low] = glyph.to_be_bytes();
+    out.extend_from_slice(&[kind, high, low])
+}
+
+fn push_word(out: &mut Vec<u8>, number: u16) -> Result<(), AllocError>
+    ensures { OnOk result (out.new.items ≡ out.old.items ++ word number) }
+{
+    out.extend_from_slice(&number.to_be_bytes())
+}
+
+fn push_long(out: &mut Vec<u8>, number: u32) -> Result<(), AllocError>
+    ensures { OnOk result (out.new.items ≡ out.old.items ++ long number) }
+{
+    out.extend_from_slice(&number.to_be_bytes())
+}
+
+fn push_pair(out: &mut Vec<u8>, pair: (u16, u32)) -> Result<(), AllocError>
+    ensures { OnOk result (out.new.items ≡ out.old.items ++ pair_text pair) }
+{
+    push_word(out, pair.0)?;
+    push_long(out, pair.1)
+}
+
+fn push_cell(out: &mut Vec<u8>, cell: Cell) -> Result<(), AllocError>
+    ensures { OnOk result (out.new.items ≡ out.old.items ++ cell_text cell) }
+{
+    match cell {
+        Cell::Unknown => {
+            out.push(0)?;
+            Ok(())
+        }
+        Cell::Known(number) => {
+            let [b3, b2, b1, b0] = number.to_be_bytes();
+            out.extend_from_slice(&[1, b3, b2, b1, b0])
+        }
+    }
+}
+
+fn push_zone(out: &mut Vec<u8>, zone: ZoneCell) -> Result<(), AllocError>
+    ensures { OnOk result (out.new.items ≡ out.old.items ++ zone_text zone) }
+{
+    let byte = match zone {
+        ZoneCell::Zero => 0,
+        ZoneCell::One => 1,
+        ZoneCell::Either => 2,
+    };
+    out.push(byte)?;
+    Ok(())
+}
+
+/// How many values a list has. A list of 65,536 or more has no section: that it doesn't fit is told as want of memory.
+fn push_count(out: &mut Vec<u8>, count: usize) -> Result<(), AllocError>
+    ensures { OnOk result (out.new.items ≡ out.old.items ++ word count) }
+{
+    let Ok(count) = u16::try_from(count) else {
+        return Err(AllocError);
+    };
+    push_word(out, count)
+}
+
+/// The stack's cells after their number, from the bottom up.
+fn push_stack(out: &mut Vec<u8>, state: &State) -> Result<(), AllocError>
+    ensures { OnOk result (out.new.items ≡ out.old.items ++ counted cell_text (reverse state.now.stack)) }
+{
+    push_count(out, state.depth())?;
+    for place in 0..state.depth() {
+        let cell = state.cell(place).unwrap();
+        push_cell(out, cell)?;
+    }
+    Ok(())
+}
+
+/// What is known of the graphics state.
+fn push_graphics(out: &mut Vec<u8>, state: &State) -> Result<(), AllocError>
+    ensures { OnOk result (out.new.items ≡ out.old.items ++ graphics_text state.now.graphics) }
+{
+    push_cell(out, state.rp(Reference::Rp0))?;
+    push_cell(out, state.rp(Reference::Rp1))?;
+    push_cell(out, state.rp(Reference::Rp2))?;
+    push_zone(out, state.zone(Pointer::Zp0))?;
+    push_zone(out, state.zone(Pointer::Zp1))?;
+    push_zone(out, state.zone(Pointer::Zp2))?;
+    push_cell(out, state.loop_cell())
+}
+
+/// The functions after their number.
+fn push_functions(out: &mut Vec<u8>, functions: &[(u16, u32)]) -> Result<(), AllocError>
+    ensures { OnOk result (out.new.items ≡ out.old.items ++ counted pair_text functions.now) }
+{
+    push_count(out, functions.len())?;
+    for function in functions {
+        push_pair(out, *function)?;
+    }
+    Ok(())
+}
+
+/// A storage cell's index with its number.
+fn push_stored(out: &mut Vec<u8>, stored: (u16, i32)) -> Result<(), AllocError>
+    ensures { OnOk result (out.new.items ≡ out.old.items ++ stored_text stored) }
+{
+    push_word(out, stored.0)?;
+    out.extend_from_slice(&stored.1.to_be_bytes())
+}
+
+/// The storage cells after their number.
+fn push_storage(out: &mut Vec<u8>, cells: &[(u16, i32)]) -> Result<(), AllocError>
+    ensures { OnOk result (out.new.items ≡ out.old.items ++ counted stored_text cells.now) }
+{
+    push_count(out, cells.len())?;
+    for cell in cells {
+        push_stored(out, *cell)?;
+    }
+    Ok(())
+}
+
+/// A state with its context and offset.
+fn push_state(out: &mut Vec<u8>, point: (u16, u32), state: &State) -> Result<(), AllocError>
+    ensures { OnOk result (out.new.items ≡ out.old.items ++ state_text Form.Four (point, state.now)) }
+{
+    push_pair(out, point)?;
+    push_stack(out, state)?;
+    push_graphics(out, state)?;
+    push_functions(out, state.functions())?;
+    push_storage(out, state.stored())
+}
+
+/// A context: its parent's number, and its last call.
+fn push_context(out: &mut Vec<u8>, parent: u16, frame: &Frame) -> Result<(), AllocError>
+    ensures { OnOk result (out.new.items ≡ out.old.items ++ context_text (parent, frame.now)) }
+{
+    push_word(out, parent)?;
+    push_long(out, frame.call)?;
+    push_long(out, frame.body)?;
+    push_long(out, frame.turn)?;
+    push_long(out, frame.count)
+}
+
+/// The contexts but the main one, after their number.
+fn push_contexts(out: &mut Vec<u8>, certificate: &Certificate) -> Result<(), AllocError>
+    ensures { OnOk result (out.new.items ≡ out.old.items ++ counted context_text (contexts_in certificate.now.contexts)) }
+{
+    let count = certificate.contexts() - 1;
+    push_word(out, count as u16)?;
+    for number in 0..count {
+        let (parent, frame) = certificate.context(number + 1).unwrap();
+        push_context(out, parent as u16, &frame)?;
+    }
+    Ok(())
+}
+
+/// The states after their number.
+fn push_states(out: &mut Vec<u8>, certificate: &Certificate) -> Result<(), AllocError>
+    ensures { OnOk result (out.new.items ≡ out.old.items ++ (long (length certificate.now.states) ++ flat_map (state_text Form.Four) certificate.now.states)) }
+{
+    push_long(out, certificate.points())?;
+    let mut states = certificate.states();
+    while let Some((context, offset, state)) = states.take_first() {
+        push_state(out, (context as u16, offset), state)?;
+    }
+    Ok(())
+}
+
+/// The bytes of a section.
+fn section_bytes(
+    alloc: Global,
+    name: Name,
+    certificate: &Certificate,
+) -> Result<Vec<u8>, AllocError>
+    ensures { IfOk result (λ bytes. bytes.items ≡ section_text Form.Four (section_of name certificate.now)) }
+{
+    let mut out = Vec::new(alloc);
+    push_name(&mut out, name)?;
+    push_contexts(&mut out, certificate)?;
+    push_states(&mut out, certificate)?;
+    Ok(out)
+}
+
+/// Writes the section of a program with this name and this family, in form 4.
+///
+/// # Errors
+/// `Write` exactly where a write failed; `OutOfMemory`, also where a state's stack, or a list of functions or storage cells, has 65,536 values or
+/// more, for which the format has no room. Then a beginning of the section was written, perhaps an empty one.
+pub fn encode<W: Sink>(
+    alloc: Global,
+    name: Name,
+    certificate: &Certificate,
+    sink: &mut W,
+) -> Result<(), EncodeFault>
+    ensures written { OnOk result (Appends (W.contents sink.old) (W.contents sink.new) (section_text Form.Four (section_of name certificate.now))) }
+    ensures beginning { OnErr result (AppendsBeginning (W.contents sink.old) (W.contents sink.new) (section_text Form.Four (section_of name certificate.now))) }
+    ensures failures { CountsWrite result (W.failures sink.old) (W.failures sink.new) }
+{
+    let bytes = section_bytes(alloc, name, certificate)?;
+    write_all(sink, &bytes)?;
+    Ok(())
+}
