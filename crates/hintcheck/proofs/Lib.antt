@@ -7,3 +7,4 @@ pub mod FontSafety
 pub mod FontLists
 pub mod EmptyPrograms
 pub mod NameLemmas
+pub mod ListingLemmas
