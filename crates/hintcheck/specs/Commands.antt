@@ -7,6 +7,7 @@ use Rattle.tt_stream.specs.declared.text.PrintFailed.{PrintFailed}
 use Rattle.tt_stream.specs.declared.text.PrintFailed.TheVariants as failed
 use Rattle.tt_stream.specs.declared.reads.ReadFault.{ReadFault}
 use Rattle.tt_stream.specs.declared.reads.ReadFault.TheVariants as reading
+use Rattle.hintcheck_words.specs.Requests.{Request, bare, check, find, list, verdict}
 use Rattle.hintcheck_words.specs.declared.hex_words.WordFault.{WordFault}
 use Rattle.hintcheck_words.specs.declared.hex_words.WordFault.TheVariants as words
 use Rattle.tt_font.specs.declared.fault.FontFault.{FontFault}
@@ -61,3 +62,11 @@ ReadsToEnd old new bytes = Consumes old new bytes × IsAtEnd new
 -- these are the bytes that were left, where those are known
 abbrev pub HasAll : Option (List ℕ) → List ℕ → Type 0
 HasAll left bytes = IfSome left (λ known. bytes ≡ known)
+
+-- a verdict is asked for, and no listing
+abbrev pub IsForVerdict : Request → Type 0
+IsForVerdict (bare maxp cvt points contours program) = Unit {0}
+IsForVerdict (verdict font) = Unit {0}
+IsForVerdict (find font certificate) = Unit {0}
+IsForVerdict (check font certificate) = Unit {0}
+IsForVerdict (list font program) = ⊥

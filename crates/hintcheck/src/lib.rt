@@ -4,6 +4,7 @@
 mod commands;
 pub mod fonts;
 pub mod judge;
+mod listing;
 mod look;
 pub mod report;
 
@@ -11,5 +12,6 @@ pub use commands::faults::CommandFault;
 pub use commands::{command, try_command, verdict_of};
 pub use fonts::verdict;
 pub use judge::bare;
+pub use listing::list_program;
 pub use report::{Name, Place, Refused, Verdict};
 pub use tt_font::{FontFault, Tag, read_maxp};

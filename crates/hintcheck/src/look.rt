@@ -1,6 +1,8 @@
 //! The look at one program: it is cut, a family of abstract states is found for it, and the check of that family decides.
 
-ghost use Rattle.std.specs.Prelude.{◌≡◌, ℕ, ◌<◌, ◌^◌, IfErr, IfOk, OnOk, length};
+ghost use Rattle.std.specs.Prelude.{◌≡◌, ℕ, ◌<◌, ◌^◌, List, IfErr, IfOk, OnOk, length};
+ghost use Rattle.tt_code.specs.Cut.{Instruction, IsCut};
+ghost use Rattle.tt_code.specs.Grammar.{IsStructured};
 ghost use Rattle.tt_code.specs.Settings.{GlyphProgram};
 ghost use Rattle.tt_abs.specs.Entries.{Rises};
 ghost use Rattle.tt_abs.specs.Settings.{setting_of};
@@ -80,6 +82,7 @@ pub(crate) fn cut<'a>(alloc: Global, bytes: &'a [u8]) -> Result<Program<'a>, Pro
     ensures cut { (x : Subject) → x.bytes ≡ bytes.entry.now → IfOk result (λ program. IsCutInto x program) }
     ensures refused { (x : Subject) → x.bytes ≡ bytes.entry.now → IfErr result (λ fault. IfRefused x.name fault (IsRefusal x)) }
     ensures none_good { (x : Subject) → x.bytes ≡ bytes.entry.now → IfErr result (λ fault. IfRefused x.name fault (λ _. HasGoodFamily x → ⊥)) }
+    ensures only { (instructions : List Instruction) → IsCut bytes.entry.now instructions → IsStructured instructions → IfErr result IsWantOfMemory }
 {
     match Program::cut(alloc, bytes) {
         Ok(program) => Ok(program),
