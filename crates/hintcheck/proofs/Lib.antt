@@ -8,3 +8,4 @@ pub mod FontLists
 pub mod EmptyPrograms
 pub mod NameLemmas
 pub mod ListingLemmas
+pub mod CheckedLists

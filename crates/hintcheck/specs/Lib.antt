@@ -7,3 +7,5 @@ pub mod Judging
 pub mod Listing
 pub mod Commands
 pub mod MeansSafe
+pub mod CheckedFonts
+pub mod CertificateFaults

@@ -7,14 +7,9 @@ use Rattle.tt_code.specs.Cut.{Instruction, IsCut, code_of, size}
 use Rattle.tt_code.specs.Grammar.{IsStructured}
 use Rattle.tt_code.specs.Table.{name_of}
 use Rattle.tt_font.specs.Reading.{FontData, Reads}
-use Rattle.hintcheck.specs.declared.report.Name.{Name}
-use Rattle.hintcheck.specs.declared.report.Name.TheVariants as name
-
--- a program's name as it is printed, and as a word names it: `f`, `p`, or `g` and the glyph's number in decimal digits, with no zero in front
-abbrev pub text_of : Name → List ℕ
-text_of name.Font = codes "f"
-text_of name.Cvt = codes "p"
-text_of (name.Glyph id) = codes "g" ++ decimal id
+use Rattle.tt_cert_file.specs.Names.{text_of}
+use Rattle.tt_cert_file.specs.declared.name.Name.{Name}
+use Rattle.tt_cert_file.specs.declared.name.Name.TheVariants as name
 
 -- the text has no plus sign in front, and no zero there but as its only digit
 pub record IsPlain (text : List ℕ) : Type 0 where

@@ -64,13 +64,18 @@ pub record HoldRefusedFont (bytes : List ℕ) : Type 0 where
   pub given : IsVerdict font judgement
   pub some : judgement.refused ≢ []
 
--- What is asked for is refused, as it is safe above. For `list`, some bytes hold a font whose program of this name can't be cut or isn't
+-- The bytes hold a font.
+pub record HoldFont (bytes : List ℕ) : Type 0 where
+  pub font : FontData
+  pub reads : Reads bytes font
+
+-- What is asked for is refused, as it is safe above; of `check` it says no more than that some bytes hold a font. For `list`, some bytes hold a font whose program of this name can't be cut or isn't
 -- structured.
 abbrev pub IsRefusedRequest : Request → Type 0
 IsRefusedRequest (bare maxp cvt points contours program) = SpellRefusedGlyph maxp cvt points contours (unwrap_or program [])
 IsRefusedRequest (verdict font) = (bytes : List ℕ) × HoldRefusedFont bytes
 IsRefusedRequest (find font certificate) = (bytes : List ℕ) × HoldRefusedFont bytes
-IsRefusedRequest (check font certificate) = (bytes : List ℕ) × HoldRefusedFont bytes
+IsRefusedRequest (check font certificate) = (bytes : List ℕ) × HoldFont bytes
 IsRefusedRequest (list font program) = (bytes : List ℕ) × HoldUnlistedProgram bytes program
 
 -- The words ask for something, which is refused.

@@ -5,12 +5,17 @@ ghost use Rattle.std.specs.Prelude.{◌≡◌, ◌≢◌, ◌+◌, ◌≤◌, �
 ghost use Rattle.tt_stream.specs.Streams.{CountsPrintFailure};
 ghost use Rattle.hintcheck_words.specs.Requests.{asked, is_taken};
 ghost use Rattle.hintcheck.specs.Commands.{HasAll, IsForVerdict, IsNoWriteFault, ReadsToEnd, TellsFailedRead, TellsFailure, status_of};
+ghost use Rattle.hintcheck.specs.FontLooks.{IsFontInRange};
+ghost use Rattle.hintcheck.specs.FontPrograms.{IsSafeFont, IsVerdict};
 ghost use Rattle.hintcheck.specs.Listing.{HoldUnlistedProgram};
-ghost use Rattle.hintcheck.specs.MeansSafe.{HoldRefusedFont, HoldSafeFont, IsRefusedRequest, IsSafeRequest, IsVerdictOn, MeansRefused, MeansSafe, SpellRefusedGlyph, SpellSafeGlyph};
+ghost use Rattle.hintcheck.specs.MeansSafe.{HoldFont, HoldRefusedFont, HoldSafeFont, IsRefusedRequest, IsSafeRequest, IsVerdictOn, MeansRefused, MeansSafe, SpellRefusedGlyph, SpellSafeGlyph};
 
 pub mod faults;
 
+use crate::certified::check_read_font;
+use crate::certifying::find_programs;
 use crate::fonts;
+use crate::fonts::read_font;
 use crate::judge::bare;
 use crate::listing::list_program;
 use crate::report::{Name, Verdict};
@@ -18,10 +23,11 @@ use faults::CommandFault;
 use hintcheck_words::{Task, TaskFault, read_words, word_bytes};
 use std::alloc::{AllocError, Global};
 use std::fs;
-use std::io::Read;
+use std::io::{BufReader, Read, Write};
 use std::marker::Brand;
 use std::rt::Files;
 use std::sync::ledger::{Blank, Ledger};
+use tt_font::Font;
 use tt_stream::{Counted, PrintFailed, Sink, Source, read_all};
 
 /// The exit status where every program is accepted, or help was asked for.
@@ -117,32 +123,6 @@ fn file_verdict<R: Files + AllocGlobal>(rt: &R, name: &str) -> Result<Verdict, C
     verdict_on_bytes::<Brand, _>(rt.alloc(), file, Blank::new(1))
 }
 
-/// The verdict on the font file with this name, whose certificate is written to the file with the other name.
-fn find_verdict<R: Files + AllocGlobal>(
-    _rt: &R,
-    _font: &str,
-    _certificate: &str,
-) -> Result<Verdict, CommandFault>
-    ensures safe { IfOk result (λ verdict. verdict.refused ≡ [] → (bytes : List ℕ) × HoldSafeFont bytes) }
-    ensures refused { IfOk result (λ verdict. verdict.refused ≢ [] → (bytes : List ℕ) × HoldRefusedFont bytes) }
-    ensures fault { IfErr result IsNoWriteFault }
-{
-    Err(CommandFault::Text)
-}
-
-/// The verdict on the font file with the first name by the certificate in the file with the second.
-fn check_verdict<R: Files + AllocGlobal>(
-    _rt: &R,
-    _font: &str,
-    _certificate: &str,
-) -> Result<Verdict, CommandFault>
-    ensures safe { IfOk result (λ verdict. verdict.refused ≡ [] → (bytes : List ℕ) × HoldSafeFont bytes) }
-    ensures refused { IfOk result (λ verdict. verdict.refused ≢ [] → (bytes : List ℕ) × HoldRefusedFont bytes) }
-    ensures fault { IfErr result IsNoWriteFault }
-{
-    Err(CommandFault::Text)
-}
-
 /// The bytes that are left in the file.
 fn read_file<L: Ledger, F: Read + Drop>(
     alloc: Global,
@@ -165,6 +145,81 @@ fn file_bytes<R: Files + AllocGlobal>(rt: &R, name: &str) -> Result<Vec<u8>, Com
         return Err(CommandFault::Read);
     };
     read_file::<Brand, _>(rt.alloc(), file, Blank::new(1))
+}
+
+/// The verdict on a font by the certificate that is left in the file.
+fn verdict_by_file<L: Ledger, F: Read + Drop>(
+    alloc: Global,
+    font: &Font<'_>,
+    file: F,
+    blank: Blank,
+) -> Result<Verdict, CommandFault>
+    requires range { IsFontInRange font.now }
+    requires blank { (blank.name ≡ L.name) × (blank.parts ≡ L.parts) × (0 < blank.parts) }
+    ensures safe { IfOk result (λ verdict. verdict.refused ≡ [] → IsSafeFont font.now) }
+    ensures fault { IfErr result IsNoWriteFault }
+{
+    let mut source = Counted::<F, L>::new(file, blank);
+    Ok(check_read_font(alloc, font, &mut source)?)
+}
+
+/// The verdict on the font file with the first name by the certificate in the file with the second, which is opened where the first is a font.
+fn check_verdict<R: Files + AllocGlobal>(
+    rt: &R,
+    font: &str,
+    certificate: &str,
+) -> Result<Verdict, CommandFault>
+    ensures safe { IfOk result (λ verdict. verdict.refused ≡ [] → (bytes : List ℕ) × HoldSafeFont bytes) }
+    ensures font { IfOk result (λ verdict. (bytes : List ℕ) × HoldFont bytes) }
+    ensures fault { IfErr result IsNoWriteFault }
+{
+    let bytes = file_bytes(rt, font)?;
+    let font = read_font(rt.alloc(), &bytes)?;
+    let Ok(file) = fs::open(rt, certificate) else {
+        return Err(CommandFault::Read);
+    };
+    let Ok(file) = BufReader::new(rt.alloc(), file) else {
+        return Err(CommandFault::OutOfMemory);
+    };
+    verdict_by_file::<Brand, _>(rt.alloc(), &font, file, Blank::new(1))
+}
+
+/// The verdict on a font, whose certificate is written to the file.
+fn verdict_to_file<L: Ledger, F: Write + Drop>(
+    alloc: Global,
+    font: &Font<'_>,
+    file: F,
+    blank: Blank,
+) -> Result<Verdict, CommandFault>
+    requires range { IsFontInRange font.now }
+    requires blank { (blank.name ≡ L.name) × (blank.parts ≡ L.parts) × (0 < blank.parts) }
+    ensures exact { IfOk result (λ verdict. IsVerdict font.now verdict) }
+    ensures fault { IfErr result IsNoWriteFault }
+{
+    let mut sink = Counted::<F, L>::new(file, blank);
+    Ok(find_programs(alloc, font, &mut sink)?)
+}
+
+/// The verdict on the font file with the first name, whose certificate is written to the file with the second, which is made or emptied where the
+/// first is a font.
+fn find_verdict<R: Files + AllocGlobal>(
+    rt: &R,
+    font: &str,
+    certificate: &str,
+) -> Result<Verdict, CommandFault>
+    ensures safe { IfOk result (λ verdict. verdict.refused ≡ [] → (bytes : List ℕ) × HoldSafeFont bytes) }
+    ensures refused { IfOk result (λ verdict. verdict.refused ≢ [] → (bytes : List ℕ) × HoldRefusedFont bytes) }
+    ensures fault { IfErr result IsNoWriteFault }
+{
+    if font == certificate {
+        return Err(CommandFault::CertificateWord);
+    }
+    let bytes = file_bytes(rt, font)?;
+    let font = read_font(rt.alloc(), &bytes)?;
+    let Ok(file) = fs::create(rt, certificate) else {
+        return Err(CommandFault::File);
+    };
+    verdict_to_file::<Brand, _>(rt.alloc(), &font, file, Blank::new(1))
 }
 
 /// Lists the program of the font file with this name whose name the word is, and answers the exit status: 0 listed, 1 refused.
@@ -261,7 +316,8 @@ fn do_task<R: Files + AllocGlobal, O: Sink>(
 ///
 /// # Errors
 /// `Write` exactly where a write to `out` failed; `Usage` for words that the command line doesn't take; `MaxpWord` and `ProgramWord` for a
-/// word that spells no bytes; `ProgramWord` for one that names no program of the font too; `Font`, `Read` and `OutOfMemory`.
+/// word that spells no bytes; `ProgramWord` for one that names no program of the font too; `CertificateWord` where a font's file is to be its
+/// certificate's; `Font`, `Form`, `Read`, `File` and `OutOfMemory`.
 pub fn try_command<R: Files + AllocGlobal, O: Sink>(
     rt: &R,
     words: &[&str],

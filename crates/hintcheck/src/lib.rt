@@ -1,6 +1,8 @@
 //! Checks the hint programs of TrueType fonts against the limits of their font.
 #![tactic(auto)]
 
+pub mod certified;
+pub mod certifying;
 mod commands;
 pub mod fonts;
 pub mod judge;
@@ -8,6 +10,8 @@ mod listing;
 mod look;
 pub mod report;
 
+pub use certified::{CheckFontFault, check_font};
+pub use certifying::{FindFontFault, find_font};
 pub use commands::faults::CommandFault;
 pub use commands::{command, try_command, verdict_of};
 pub use fonts::verdict;

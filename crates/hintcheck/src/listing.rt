@@ -7,7 +7,8 @@ ghost use Rattle.std.specs.List.{AllByRecursion};
 ghost use Rattle.tt_code.specs.Cut.{IsInstruction};
 ghost use Rattle.tt_stream.specs.Streams.{CountsPrintFailure};
 ghost use Rattle.hintcheck.specs.Commands.{TellsFailure};
-ghost use Rattle.hintcheck.specs.Listing.{CannotBeListed, HoldListedProgram, HoldNoSuchProgram, HoldUnlistedProgram, IsListed, IsOf16Bits, IsPlain, Names, last_line, line_of, lines_of, program_in, shown_name, text_of};
+ghost use Rattle.hintcheck.specs.Listing.{CannotBeListed, HoldListedProgram, HoldNoSuchProgram, HoldUnlistedProgram, IsListed, IsOf16Bits, IsPlain, Names, last_line, line_of, lines_of, program_in, shown_name};
+ghost use Rattle.tt_cert_file.specs.Names.{text_of};
 
 use crate::commands::faults::CommandFault;
 use crate::look::cut;

@@ -18,7 +18,7 @@ use std::alloc::{AllocError, Global};
 use tt_abs::Setting;
 use tt_cert::{Certificate, ProgramFault, Spot, check, one_good_filling};
 use tt_code::{CodeFault, Program, Reason};
-use tt_find::Finder;
+use tt_find::{Finder, find};
 
 /// The program in which a place stands that is reached from a program of this name.
 fn program_at(name: Name, spot: Spot) -> Name
@@ -135,4 +135,20 @@ pub(crate) fn look(
     one_good_filling();
     let found = finder.find(alloc, setting)?;
     checked(alloc, finder, setting, found.certificate)
+}
+
+/// Looks at the program of this setting as `look` does, for a certificate that lists no state that could be left out.
+///
+/// # Errors
+/// `Refused` where no family is found; `OutOfMemory`.
+pub(crate) fn certified(alloc: Global, setting: &Setting<'_>) -> Result<Certificate, ProgramFault>
+    requires rises { Rises setting.now.start.now }
+    requires fits { FunctionsFit (setting_of setting.now) setting.now.start.now }
+    ensures { (x : Subject) → IsLookedAt x setting.now → IfOk result (λ certificate. IsAccepted x setting.now.main.now (family_of certificate)) }
+{
+    setting.is_within();
+    one_good_filling();
+    let found = find(alloc, setting)?;
+    let mut finder = Finder::new(alloc);
+    checked(alloc, &mut finder, setting, found.certificate)
 }

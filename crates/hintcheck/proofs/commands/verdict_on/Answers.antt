@@ -32,7 +32,7 @@ returns-in-Check-clause-safe g c = IfOk-weaker c.check_verdict.result _ _ (λ v 
 
 pub returns-in-Check-clause-refused : goal.returns-in-Check-clause-refused
 unfolding asked
-returns-in-Check-clause-refused g c = IfOk-weaker c.check_verdict.result _ _ (λ v refused some. rw c.in-Check.is (refused some)) c.check_verdict.ensures.refused
+returns-in-Check-clause-refused g c = IfOk-weaker c.check_verdict.result _ _ (λ v font some. rw c.in-Check.is font) c.check_verdict.ensures.font
 
 pub unreachable-requires : goal.unreachable-requires
 unfolding asked
