@@ -7,4 +7,5 @@ pub mod FontSafety
 pub mod FontLists
 pub mod EmptyPrograms
 pub mod NameLemmas
+pub mod ListingLemmas
 pub mod CheckedLists

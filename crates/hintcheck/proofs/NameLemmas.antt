@@ -10,7 +10,8 @@ use Rattle.std.specs.Result.{OkIff, result_ok}
 use Rattle.std.proofs.lemmas.Option.{slice_get_within}
 use Rattle.tt_font.specs.Reading.{FontData, GlyphData}
 use Rattle.hintcheck.specs.FontLooks.{IsFontInRange}
-use Rattle.hintcheck.specs.Listing.{IsOf16Bits, IsPlain, Names, program_in, text_of}
+use Rattle.hintcheck.specs.Listing.{IsOf16Bits, IsPlain, Names, program_in}
+use Rattle.tt_cert_file.specs.Names.{text_of}
 use Rattle.tt_cert_file.specs.declared.name.Name.{Name}
 use Rattle.tt_cert_file.specs.declared.name.Name.TheVariants as name
 

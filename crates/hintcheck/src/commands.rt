@@ -222,7 +222,10 @@ fn find_verdict<R: Files + AllocGlobal>(
     verdict_to_file::<Brand, _>(rt.alloc(), &font, file, Blank::new(1))
 }
 
-/// Lists the program of the font file with this name whose name the word is, and answers the exit status.
+/// Lists the program of the font file with this name whose name the word is, and answers the exit status: 0 listed, 1 refused.
+///
+/// # Errors
+/// `Read` where the file can't be opened or read; the faults of `list_program`.
 fn list_of_file<R: Files + AllocGlobal, O: Sink>(
     rt: &R,
     name: &str,
@@ -308,12 +311,13 @@ fn do_task<R: Files + AllocGlobal, O: Sink>(
     }
 }
 
-/// Does what the words of a command line ask for and prints the answer to `out`, and answers the exit status: 0 accepted, 1 refused. It
-/// is `command` but that the fault is the caller's to tell.
+/// Does what the words of a command line ask for and prints the answer to `out`, and answers the exit status: 0 accepted or listed, 1
+/// refused. It is `command` but that the fault is the caller's to tell.
 ///
 /// # Errors
 /// `Write` exactly where a write to `out` failed; `Usage` for words that the command line doesn't take; `MaxpWord` and `ProgramWord` for a
-/// word that spells no bytes; `CertificateWord` where a font's file is to be its certificate's; `Font`, `Form`, `Read`, `File` and `OutOfMemory`.
+/// word that spells no bytes; `ProgramWord` for one that names no program of the font too; `CertificateWord` where a font's file is to be its
+/// certificate's; `Font`, `Form`, `Read`, `File` and `OutOfMemory`.
 pub fn try_command<R: Files + AllocGlobal, O: Sink>(
     rt: &R,
     words: &[&str],
@@ -338,7 +342,7 @@ pub fn try_command<R: Files + AllocGlobal, O: Sink>(
 }
 
 /// Does what the words of a command line ask for, prints the answer to `out` or a fault to `err`,
-/// and answers the exit status: 0 accepted, 1 refused, 2 words, input or output that can't be read
+/// and answers the exit status: 0 accepted or listed, 1 refused, 2 words, input or output that can't be read
 /// or written, 3 out of memory. The first word is the program's own name. Printing takes no memory.
 pub fn command<R: Files + AllocGlobal, O: Sink, E: Sink>(
     rt: &R,

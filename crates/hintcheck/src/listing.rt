@@ -1,10 +1,14 @@
 //! The instructions of one program of a font, a line for each.
 
-ghost use Rattle.std.specs.Prelude.{◌≡◌, ◌≢◌, ◌↔◌, ℕ, ◌<◌, ◌≤◌, ◌^◌, List, IfErr, IfNone, IfOk, IfSome, IsTrue, Some, length, option_map};
+ghost use Rattle.std.specs.Prelude.{◌≡◌, ◌≢◌, ◌↔◌, ℕ, ◌++◌, ◌<◌, ◌≤◌, ◌^◌, List, IfErr, IfNone, IfOk, IfSome, IsTrue, OnOk, Some, length, option_map};
 ghost use Rattle.std.specs.Fmt.{decimal};
+ghost use Rattle.std.specs.Io.KnownBytes.{Appends};
+ghost use Rattle.std.specs.List.{AllByRecursion};
+ghost use Rattle.tt_code.specs.Cut.{IsInstruction};
 ghost use Rattle.tt_stream.specs.Streams.{CountsPrintFailure};
 ghost use Rattle.hintcheck.specs.Commands.{TellsFailure};
-ghost use Rattle.hintcheck.specs.Listing.{CannotBeListed, HoldNoSuchProgram, HoldUnlistedProgram, IsOf16Bits, IsPlain, Names, program_in, text_of};
+ghost use Rattle.hintcheck.specs.Listing.{CannotBeListed, HoldListedProgram, HoldNoSuchProgram, HoldUnlistedProgram, IsListed, IsOf16Bits, IsPlain, Names, last_line, line_of, lines_of, program_in, shown_name};
+ghost use Rattle.tt_cert_file.specs.Names.{text_of};
 
 use crate::commands::faults::CommandFault;
 use crate::look::cut;
@@ -90,38 +94,65 @@ fn named_program<'a>(font: &Font<'a>, word: &str) -> Option<Named<'a>>
 struct Digits<'a>(&'a [u8]);
 
 impl fmt::Display for Digits<'_> {
+    ghost use Rattle.std.specs.Prelude.{Some};
+    ghost use Rattle.hintcheck.specs.Listing.{hex_digits};
+
+    ghost output = { λ digits. Some (hex_digits digits.0.now) };
+
     fn fmt<W: fmt::Write>(&self, f: &mut fmt::Formatter<W>) -> fmt::Result {
-        for byte in self.0 {
+        for &byte in self.0 {
             write!(f, "{byte:02x}")?;
         }
         Ok(())
     }
 }
 
-/// Prints an instruction's line: its offset, its bytes and its name, `?` where its code has none.
+/// The name of the instruction's code, `?` where it has none.
+fn name_of(instruction: &Instr<'_>) -> &'static str
+    ensures { result.now ≡ shown_name instruction.now }
+{
+    match name(instruction.code()) {
+        Some(name) => name,
+        None => "?",
+    }
+}
+
+/// Prints an instruction's line: its offset, its bytes and its name.
 fn print_instruction<O: Sink>(
     out: &mut O,
     offset: u32,
     instruction: &Instr<'_>,
 ) -> Result<(), PrintFailed>
+    ensures written { OnOk result (Appends (O.contents out.old) (O.contents out.new) (line_of offset instruction.now)) }
     ensures failures { CountsPrintFailure result (O.failures out.old) (O.failures out.new) }
 {
     let digits = Digits(instruction.bytes());
-    let name = name(instruction.code()).unwrap_or("?");
+    let name = name_of(instruction);
     writeln!(out, "{offset}: {digits} {name}")
+}
+
+/// Prints the line behind those of the instructions.
+fn print_last_line<O: Sink>(out: &mut O, program: &Program<'_>) -> Result<(), PrintFailed>
+    ensures written { OnOk result (Appends (O.contents out.old) (O.contents out.new) (last_line program.now)) }
+    ensures failures { CountsPrintFailure result (O.failures out.old) (O.failures out.new) }
+{
+    let length = program.len();
+    writeln!(out, "end: {length}")
 }
 
 /// Prints a line for each instruction, one after the other, and a last line with the program's length.
 fn print_program<O: Sink>(out: &mut O, program: &Program<'_>) -> Result<(), PrintFailed>
+    requires { AllByRecursion IsInstruction program.now }
+    ensures written { OnOk result (Appends (O.contents out.old) (O.contents out.new) (lines_of 0 program.now ++ last_line program.now)) }
     ensures failures { CountsPrintFailure result (O.failures out.old) (O.failures out.new) }
 {
-    let length = program.len();
+    let _length = program.len();
     let mut offset = 0;
     while let Some(instruction) = program.at(offset) {
         print_instruction(out, offset, &instruction)?;
         offset += instruction.len();
     }
-    writeln!(out, "end: {length}")
+    print_last_line(out, program)
 }
 
 /// The program of this name, refused at this offset of its own.
@@ -137,6 +168,7 @@ fn refused_at(program: Name, offset: u32, reason: Reason) -> Refused {
 fn list_named<O: Sink>(alloc: Global, named: Named<'_>, out: &mut O) -> Result<u8, CommandFault>
     requires { length named.bytes.now < 2 ^ 31 }
     ensures status { IfOk result (λ status. status ≤ 1) }
+    ensures listed { IfOk result (λ status. status ≡ 0 → IsListed named.entry.bytes.now (O.contents out.old) (O.contents out.new)) }
     ensures unlisted { IfOk result (λ status. status ≡ 1 → CannotBeListed named.entry.bytes.now) }
     ensures named { result ≢ Err CommandFault.ProgramWord }
     ensures failures { TellsFailure result (O.failures out.old) (O.failures out.new) }
@@ -168,6 +200,7 @@ pub fn list_program<O: Sink>(
     out: &mut O,
 ) -> Result<u8, CommandFault>
     ensures status { IfOk result (λ status. status ≤ 1) }
+    ensures listed { IfOk result (λ status. status ≡ 0 → HoldListedProgram font.now word.now (O.contents out.old) (O.contents out.new)) }
     ensures unlisted { IfOk result (λ status. status ≡ 1 → HoldUnlistedProgram font.now word.now) }
     ensures unnamed { result ≡ Err CommandFault.ProgramWord → HoldNoSuchProgram font.now word.now }
     ensures failures { TellsFailure result (O.failures out.old) (O.failures out.new) }

@@ -1,59 +1,59 @@
 //! What one instruction does with an abstract state. Stacks are written bottom first.
 
-ghost use Rattle.std.specs.Prelude.{◌≡◌, ◌<◌, length, false, IfOk};
+ghost use Rattle.std.specs.Prelude.{◌≡◌, false, IfOk};
 ghost use Rattle.tt_abs.specs.Covers.{has_body_twice};
 ghost use Rattle.tt_abs.specs.Settings.{frames_of};
 ghost use Rattle.tt_abs.specs.States.{state_order};
 
-use crate::samples::{GRAPHICS, graphics_of, with_stack};
+use crate::samples::{Change, GRAPHICS, graphics_of, has_stack, make_changes, push_all};
 use std::alloc::{AllocError, Global};
 use std::process::Abort;
-use tt_abs::Cell::{Known, Unknown};
+use tt_abs::Cell::Unknown;
 use tt_abs::{
     Cell, Kind, Move, Moves, Point, Refusal, Setting, State, Successors, ZoneCell, transfer,
 };
-use tt_code::kinds::{Pointer, Reference};
 use tt_code::{Frame, Graphics, Limits, Program, Reason};
 
-/// What is known at a place, where it stands and the functions aside.
-#[derive(Clone, Copy, Debug, PartialEq, Eq)]
-pub(crate) struct Way {
-    pub(crate) offset: u32,
-    pub(crate) depth: usize,
-    /// The stack's cells, and behind the top unknown ones.
-    pub(crate) cells: [Cell; 8],
-    pub(crate) graphics: Graphics<Cell, ZoneCell>,
-    /// The storage cell 1.
-    pub(crate) stored: Cell,
-}
-
-/// What a test compares.
-#[derive(Clone, Copy, Debug, PartialEq, Eq)]
-pub(crate) enum Told {
-    /// A test of the instruction fails.
-    Refused(Reason),
-    /// It goes on at one place.
-    One(Way),
-    /// It goes on at one place or the other, the smaller offset first.
-    Two(Way, Way),
-    /// It enters a body or goes on at its end, with a stack so deep.
-    Elsewhere(Move, usize),
-    /// There is no answer: for want of memory, since the program can't be cut, or since no instruction starts there.
-    Nothing,
-}
-
-/// What is known before an instruction, beside the stack.
+/// What an instruction is to do.
 #[derive(Clone, Copy)]
-pub(crate) struct Given {
+pub(crate) enum Want<'a> {
+    /// A test of it fails.
+    Refused(Reason),
+    /// It goes on behind its one byte, which stands at 0, with this stack.
+    Leaves(&'a [Cell]),
+    /// It goes on so, with this stack.
+    Goes(Moves, &'a [Cell]),
+}
+
+/// What has changed before an instruction beside the stack, and what is known where it goes on.
+#[derive(Clone, Copy)]
+pub(crate) struct Given<'a> {
+    /// The changes since the program's start.
+    pub(crate) before: &'a [Change<'a>],
+    /// What is known of the graphics state afterwards.
     pub(crate) graphics: Graphics<Cell, ZoneCell>,
-    /// The storage cell 1.
+    /// What is known of the storage cell 1 afterwards.
     pub(crate) stored: Cell,
 }
 
-pub(crate) const USUAL: Given = Given {
+/// Nothing has changed, and the stack alone changes.
+pub(crate) const USUAL: Given<'static> = Given {
+    before: &[],
     graphics: GRAPHICS,
     stored: Unknown,
 };
+
+/// An instruction of a glyph's program, what is known before it, and what it is to do.
+#[derive(Clone, Copy)]
+pub(crate) struct Case<'a> {
+    pub(crate) program: &'a [u8],
+    /// The call that hasn't returned, if there is one. The instruction stands in the font program then.
+    pub(crate) call: Option<Frame>,
+    pub(crate) offset: u32,
+    pub(crate) stack: &'a [Cell],
+    pub(crate) given: &'a Given<'a>,
+    pub(crate) want: Want<'a>,
+}
 
 const LIMITS: Limits = Limits {
     storage: 4,
@@ -64,47 +64,69 @@ const LIMITS: Limits = Limits {
     twilight: 4,
 };
 
-/// What is told of a place and the state there.
-fn way_of(offset: u32, state: &State) -> Way {
-    let mut cells = [Unknown; 8];
-    for (height, cell) in cells.iter_mut().enumerate() {
-        *cell = state.cell(height).unwrap_or(Unknown);
-    }
-    Way {
-        offset,
-        depth: state.depth(),
-        cells,
-        graphics: graphics_of(state),
-        stored: state.storage(1),
+/// Whether a state has this stack, and what a case wants of all else.
+fn is_left(case: &Case<'_>, stack: &[Cell], state: &State) -> bool {
+    has_stack(state, stack)
+        && graphics_of(state) == case.given.graphics
+        && state.storage(1) == case.given.stored
+}
+
+/// Whether a case wants these ways on, with this state.
+fn wants(case: &Case<'_>, moves: Moves, state: &State) -> bool {
+    match case.want {
+        Want::Refused(_) => false,
+        Want::Leaves(stack) => moves == Moves::One(Move::To(1)) && is_left(case, stack, state),
+        Want::Goes(ways, stack) => moves == ways && is_left(case, stack, state),
     }
 }
 
-/// What is told of the ways on, all with one state.
-fn told_of(moves: Moves, state: &State) -> Told {
-    match moves {
-        Moves::One(Move::To(offset)) => Told::One(way_of(offset, state)),
-        Moves::One(other) => Told::Elsewhere(other, state.depth()),
-        Moves::Two(one, other) => Told::Two(way_of(one, state), way_of(other, state)),
+/// Whether a case wants this refusal.
+fn wants_refusal(case: &Case<'_>, refusal: &Refusal) -> bool {
+    match case.want {
+        Want::Refused(want) => matches!(refusal, Refusal::Refused(reason) if *reason == want),
+        _ => false,
     }
 }
 
-/// What the instruction at the point does with a state.
-fn answer(setting: &Setting<'_>, point: &Point<'_>, state: &State) -> Told
+/// Whether an instruction starts at the point and does what a case wants.
+fn does(setting: &Setting<'_>, point: &Point<'_>, state: &State, case: &Case<'_>) -> bool
     requires in_range { state_order.InRange state.now }
     requires once { has_body_twice (frames_of point.now) ≡ false }
 {
     if !setting.starts(point, point.offset) {
-        return Told::Nothing;
+        return false;
     }
     match transfer(setting, point, state) {
-        Ok(Successors { moves, state }) => told_of(moves, &state),
-        Err(Refusal::Refused(reason)) => Told::Refused(reason),
-        Err(Refusal::OutOfMemory(_)) => Told::Nothing,
+        Ok(Successors { moves, state }) => wants(case, moves, &state),
+        Err(refusal) => wants_refusal(case, &refusal),
+    }
+}
+
+/// The same where the case says in which call the instruction stands.
+fn does_in_call(setting: &Setting<'_>, state: &State, case: &Case<'_>) -> bool
+    requires { state_order.InRange state.now }
+{
+    let offset = case.offset;
+    match case.call {
+        Some(frame) => {
+            let frames = [frame];
+            let point = Point {
+                frames: &frames,
+                offset,
+            };
+            does(setting, &point, state, case)
+        }
+        None => {
+            let point = Point {
+                frames: &[],
+                offset,
+            };
+            does(setting, &point, state, case)
+        }
     }
 }
 
 /// Some instructions with their opcodes. (OpenType specification, "The TrueType instruction set".)
-#[derive(Clone, Copy, Debug)]
 pub(crate) enum Code {
     Szp0 = 0x13,
     Rtg = 0x18,
@@ -151,118 +173,105 @@ const FONT: [u8; 5] = [
 
 pub(crate) const BODY: u32 = 3;
 
-/// A state with these cells, and with function 0.
-fn state_of(alloc: Global, stack: &[Cell], given: &Given) -> Result<State, AllocError>
+/// The state before the instruction of a case, with function 0.
+fn state_before(alloc: Global, case: &Case<'_>) -> Result<State, AllocError>
     ensures { IfOk result (λ state. state_order.InRange state) }
 {
-    let mut state = with_stack(alloc, stack)?;
-    state.define(0, BODY)?;
-    let graphics = given.graphics;
-    state.set_rp(Reference::Rp0, graphics.rp0);
-    state.set_rp(Reference::Rp1, graphics.rp1);
-    state.set_rp(Reference::Rp2, graphics.rp2);
-    state.set_zone(Pointer::Zp0, graphics.zp0);
-    state.set_zone(Pointer::Zp1, graphics.zp1);
-    state.set_zone(Pointer::Zp2, graphics.zp2);
-    state.set_loop(graphics.loop_number);
-    state.set_storage(1, given.stored)?;
+    let mut state = State::start(alloc, &[(0, BODY)])?;
+    push_all(&mut state, case.stack)?;
+    make_changes(&mut state, case.given.before)?;
     Ok(state)
 }
 
-/// What the instruction does at which a glyph's program stands. The glyph has 4 points and 1 contour, so that its zone has 8 points,
-/// and the font has 10 control values.
-pub(crate) fn outcome_at(
-    alloc: Global,
-    program: &[u8],
-    point: &Point<'_>,
-    stack: &[Cell],
-    given: &Given,
-) -> Told
-    requires program { length program.now < 100 }
-    requires once { has_body_twice (frames_of point.now) ≡ false }
-{
-    let (Ok(main), Ok(font), Ok(state)) = (
-        Program::cut(alloc, program),
-        Program::cut(alloc, &FONT),
-        state_of(alloc, stack, given),
-    ) else {
-        return Told::Nothing;
-    };
-    let setting = Setting {
+/// A program of less than 100 bytes, cut.
+fn cut<'a>(alloc: Global, bytes: &'a [u8]) -> Option<Program<'a>> {
+    if bytes.len() >= 100 {
+        return None;
+    }
+    Program::cut(alloc, bytes).ok()
+}
+
+/// The setting of a glyph with 4 points and 1 contour, so that its zone has 8 points, in a font with 10 control values.
+fn setting_of<'a>(main: &'a Program<'a>, font: &'a Program<'a>) -> Setting<'a> {
+    Setting {
         limits: LIMITS,
         cvt: 10,
         kind: Kind::Glyph {
             points: 4,
             contours: 1,
         },
-        main: &main,
-        font: &font,
-        prep: &font,
+        main,
+        font,
+        prep: font,
         start: &[],
-    };
-    let told = answer(&setting, point, &state);
-    // A setting isn't let go by itself.
-    let Setting {
-        limits: _limits,
-        cvt: _cvt,
-        kind: _kind,
-        main: _main,
-        font: _font,
-        prep: _prep,
-        start: _start,
-    } = setting;
-    told
+    }
 }
 
-/// What the instruction at the offset of a glyph's program does, outside all calls.
-pub(crate) fn outcome(
+/// Whether the instruction of a case does what the case wants in its program.
+fn is_done_in(alloc: Global, setting: &Setting<'_>, case: &Case<'_>) -> bool {
+    match state_before(alloc, case) {
+        Ok(state) => does_in_call(setting, &state, case),
+        Err(_) => false,
+    }
+}
+
+/// Whether the instruction of a case does what the case wants; nothing for want of memory, or if the program can't be cut.
+pub(crate) fn is_done(alloc: Global, case: &Case<'_>) -> Option<bool> {
+    let main = cut(alloc, case.program)?;
+    let font = cut(alloc, &FONT)?;
+    Some(is_done_in(alloc, &setting_of(&main, &font), case))
+}
+
+/// An instruction that is a program by itself, its stack, and what it is to do.
+pub(crate) type Single<'a> = (u8, &'a [Cell], Want<'a>);
+
+/// Whether an instruction does what is wanted that is a program by itself.
+pub(crate) fn is_single_done(alloc: Global, given: &Given<'_>, single: &Single<'_>) -> bool {
+    let (code, stack, want) = *single;
+    let case = Case {
+        program: &[code],
+        call: None,
+        offset: 0,
+        stack,
+        given,
+        want,
+    };
+    is_done(alloc, &case) == Some(true)
+}
+
+/// Asserts that instructions do what is wanted that are programs by themselves.
+pub(crate) fn assert_singles(
+    rt: &impl Abort,
+    alloc: Global,
+    given: &Given<'_>,
+    singles: &[Single<'_>],
+) {
+    for single in singles {
+        let (code, stack, _) = *single;
+        assert!(rt;
+            is_single_done(alloc, given, single),
+            "{code:#x} with {stack:?}"
+        );
+    }
+}
+
+/// Asserts that the instruction at this offset of a program does what is wanted with each stack.
+pub(crate) fn assert_at(
+    rt: &impl Abort,
     alloc: Global,
     program: &[u8],
     offset: u32,
-    stack: &[Cell],
-    given: &Given,
-) -> Told
-    requires program { length program.now < 100 }
-{
-    let point = Point {
-        frames: &[],
-        offset,
-    };
-    outcome_at(alloc, program, &point, stack, given)
-}
-
-/// A place with these cells, and all else as it is usually given.
-pub(crate) fn place(offset: u32, stack: &[Cell]) -> Way {
-    let mut cells = [Unknown; 8];
-    for (to, cell) in cells.iter_mut().zip(stack) {
-        *to = *cell;
-    }
-    Way {
-        offset,
-        depth: stack.len(),
-        cells,
-        graphics: GRAPHICS,
-        stored: Unknown,
-    }
-}
-
-/// It goes on behind an instruction of one byte, with these cells.
-pub(crate) fn leaves(stack: &[Cell]) -> Told {
-    Told::One(place(1, stack))
-}
-
-/// Asserts what instructions do that are programs by themselves, each with its stack.
-pub(crate) fn assert_outcomes(
-    rt: &impl Abort,
-    alloc: Global,
-    given: &Given,
-    cases: &[(Code, &[Cell], Told)],
+    cases: &[(&[Cell], Want<'_>)],
 ) {
-    for (code, stack, want) in cases {
-        assert_eq!(rt;
-            outcome(alloc, &[*code as u8], 0, stack, given),
-            *want,
-            "of {code:?} with {stack:?}"
-        );
+    for (stack, want) in cases {
+        let case = Case {
+            program,
+            call: None,
+            offset,
+            stack,
+            given: &USUAL,
+            want: *want,
+        };
+        assert!(rt; is_done(alloc, &case) == Some(true), "with {stack:?}");
     }
 }

@@ -1,20 +1,19 @@
 //! Joins of abstract states with known outcomes.
 
-ghost use Rattle.std.specs.Prelude.{IfOk};
 ghost use Rattle.tt_abs.specs.States.{state_order};
 
 use crate::samples::{
-    ABOVE, APART, BELOW, GRAPHICS, Relation, SAME, compare, graphics_of, join_twice, with_stack,
+    ABOVE, APART, BELOW, Change, GRAPHICS, Relation, SAME, compare, graphics_of, has_stack,
+    join_twice, state_after,
 };
-use std::alloc::{AllocError, Global};
-use std::test::Fail;
+use std::alloc::Global;
 use tt_abs::Cell::{Known, Unknown};
 use tt_abs::{AbsFault, Cell, Order, State, ZoneCell};
 use tt_code::Graphics;
 use tt_code::kinds::Pointer;
 
-/// What is told of a join.
-#[derive(Clone, Copy, Debug, PartialEq, Eq)]
+/// What is told of a join of one state with another.
+#[derive(Clone, Copy)]
 struct Joined {
     /// How the one stood to the other before.
     before: Relation,
@@ -31,168 +30,167 @@ const MET: Joined = Joined {
     after: ABOVE,
 };
 
-/// What is told of the join of one state with another.
-fn told_of_join(one: &mut State, other: &State) -> Joined
+/// What is told where the other covered the one.
+const RISEN: Joined = Joined {
+    before: BELOW,
+    changed: Ok([true, false]),
+    after: SAME,
+};
+
+/// What is told of states of two depths.
+const REFUSED: Joined = Joined {
+    before: APART,
+    changed: Err(AbsFault::DepthMismatch),
+    after: APART,
+};
+
+/// Is this told of the join of one state with another?
+fn is_joined(one: &mut State, other: &State, want: &Joined) -> bool
     requires one { state_order.InRange one.old }
     requires other { state_order.InRange other.now }
 {
-    let before = compare(one, other);
-    let changed = join_twice(one, other);
-    Joined {
-        before,
-        changed,
-        after: compare(one, other),
+    compare(one, other) == want.before
+        && join_twice(one, other) == want.changed
+        && compare(one, other) == want.after
+}
+
+/// Is this told of the join of a state with the one that these changes make?
+fn joins(alloc: Global, one: &mut State, other: &[Change<'_>], want: &Joined) -> bool
+    requires { state_order.InRange one.old }
+{
+    match state_after(alloc, other) {
+        Ok(other) => is_joined(one, &other, want),
+        Err(_) => false,
     }
 }
 
-/// What is told of the join of two states with these stacks, and the lowest cells that it leaves.
-fn joined_stacks(
-    alloc: Global,
-    one: &[Cell],
-    other: &[Cell],
-) -> Result<(Joined, [Option<Cell>; 4]), AllocError> {
-    let mut state = with_stack(alloc, one)?;
-    let other = with_stack(alloc, other)?;
-    let told = told_of_join(&mut state, &other);
-    Ok((
-        told,
-        [state.cell(0), state.cell(1), state.cell(2), state.cell(3)],
-    ))
+/// A number of more than 16 bits between small ones.
+const GREAT: [Cell; 3] = [Known(7), Known(70_000), Known(1)];
+
+/// The same with a number that has the same low bits: 70,000 is 65,536 and 4,464.
+const SMALL: [Cell; 3] = [Known(7), Known(4_464), Known(1)];
+
+/// What such stacks become.
+const NEITHER: [Cell; 3] = [Known(7), Unknown, Known(1)];
+
+/// Two stacks, and what the first becomes by a join with the second.
+type Stacks<'a> = (&'a [Cell], &'a [Cell], &'a [Cell]);
+
+/// Is the join of two stacks such a one?
+fn joins_stacks(alloc: Global, stacks: &Stacks<'_>, want: &Joined) -> bool {
+    let (one, other, left) = *stacks;
+    match state_after(alloc, &[Change::Push(one)]) {
+        Ok(mut state) => {
+            joins(alloc, &mut state, &[Change::Push(other)], want) && has_stack(&state, left)
+        }
+        Err(_) => false,
+    }
 }
 
-// 70,000 is 65,536 and 4,464, so that the two have the same low bits.
+const STACKS_THAT_MEET: [Stacks<'static>; 3] = [
+    (
+        &[Known(1), Known(2)],
+        &[Known(1), Known(3)],
+        &[Known(1), Unknown],
+    ),
+    (&GREAT, &SMALL, &NEITHER),
+    (&SMALL, &GREAT, &NEITHER),
+];
+
 #[test]
 fn joins_of_stacks(rt: HostRuntime) {
-    let table: [(&[Cell], &[Cell], Joined, [Option<Cell>; 4]); 4] = [
-        (
-            &[Known(1), Known(2)],
-            &[Known(1), Known(3)],
-            MET,
-            [Some(Known(1)), Some(Unknown), None, None],
-        ),
-        (
-            &[Known(7), Known(70_000), Known(1)],
-            &[Known(7), Known(4_464), Known(1)],
-            MET,
-            [Some(Known(7)), Some(Unknown), Some(Known(1)), None],
-        ),
-        (
-            &[Known(-32_768)],
-            &[Unknown],
-            Joined {
-                before: BELOW,
-                changed: Ok([true, false]),
-                after: SAME,
-            },
-            [Some(Unknown), None, None, None],
-        ),
-        (
-            &[Known(1)],
-            &[Known(1), Known(2)],
-            Joined {
-                before: APART,
-                changed: Err(AbsFault::DepthMismatch),
-                after: APART,
-            },
-            [Some(Known(1)), None, None, None],
-        ),
-    ];
-    for (one, other, want, cells) in table {
-        assert_eq!(rt;
-            joined_stacks(rt.alloc(), one, other).ok(),
-            Some((want, cells)),
-            "of {one:?} with {other:?}"
-        );
+    for stacks in &STACKS_THAT_MEET {
+        let one = stacks.0;
+        assert!(rt; joins_stacks(rt.alloc(), stacks, &MET), "of {one:?}");
+    }
+    let covered: Stacks<'_> = (&[Known(-32_768)], &[Unknown], &[Unknown]);
+    assert!(rt; joins_stacks(rt.alloc(), &covered, &RISEN));
+    let deeper: Stacks<'_> = (&[Known(1)], &[Known(1), Known(2)], &[Known(1)]);
+    assert!(rt; joins_stacks(rt.alloc(), &deeper, &REFUSED));
+}
+
+/// The join of a state with another; nothing for want of memory, or where they can't be joined.
+fn joined_state(alloc: Global, one: &[Change<'_>], other: &[Change<'_>]) -> Option<State> {
+    let mut state = state_after(alloc, one).ok()?;
+    let other = state_after(alloc, other).ok()?;
+    state.join(&other).ok()?;
+    Some(state)
+}
+
+/// How the joins of two states either way stand to each other.
+fn compare_joins(alloc: Global, one: &[Change<'_>], other: &[Change<'_>]) -> Option<[Relation; 2]> {
+    let first = joined_state(alloc, one, other)?;
+    let second = joined_state(alloc, other, one)?;
+    Some([compare(&first, &second), compare(&second, &first)])
+}
+
+#[test]
+fn joins_of_the_same_low_bits_either_way(rt: HostRuntime) {
+    let told = compare_joins(rt.alloc(), &[Change::Push(&GREAT)], &[Change::Push(&SMALL)]);
+    assert!(rt; told == Some([SAME, SAME]));
+}
+
+/// The join of two states of which neither covers the other; nothing where it isn't such a one, or for want of memory.
+fn met(alloc: Global, one: &[Change<'_>], other: &[Change<'_>]) -> Option<State> {
+    let mut state = state_after(alloc, one).ok()?;
+    if joins(alloc, &mut state, other, &MET) {
+        Some(state)
+    } else {
+        None
     }
 }
 
-/// Joins each of two states with the other as it was: whether they changed.
-fn join_either_way(one: &mut State, other: &mut State, first: &State) -> Result<[bool; 2], AbsFault>
-    requires one { state_order.InRange one.old }
-    requires other { state_order.InRange other.old }
-    requires first { state_order.InRange first.now }
-{
-    let changed = one.join(other)?;
-    Ok([changed, other.join(first)?])
+/// What is left of the storage cells 1 and 2, of which the second has two numbers.
+fn joined_storage(alloc: Global) -> Option<[Cell; 2]> {
+    let state = met(
+        alloc,
+        &[Change::Store(1, Known(7)), Change::Store(2, Known(5))],
+        &[Change::Store(1, Known(7)), Change::Store(2, Known(6))],
+    )?;
+    Some([state.storage(1), state.storage(2)])
 }
 
 #[test]
-fn joins_of_the_same_low_bits_either_way(rt: HostRuntime) -> Result<(), Fail> {
-    let mut one = with_stack(rt.alloc(), &[Known(7), Known(70_000), Known(1)])?;
-    let mut other = with_stack(rt.alloc(), &[Known(7), Known(4_464), Known(1)])?;
-    let first = one.copied()?;
-    assert_eq!(rt;
-        join_either_way(&mut one, &mut other, &first),
-        Ok([true, true])
-    );
-    assert_eq!(rt;
-        [compare(&one, &other), compare(&other, &one)],
-        [SAME, SAME]
-    );
-    Ok(())
+fn joins_of_storage(rt: HostRuntime) {
+    assert!(rt; joined_storage(rt.alloc()) == Some([Known(7), Unknown]));
 }
 
-/// A state with these numbers in the storage cells 1 and 2.
-fn with_storage(alloc: Global, first: i32, second: i32) -> Result<State, AllocError>
-    ensures { IfOk result (λ state. state_order.InRange state) }
-{
-    let mut state = State::start(alloc, &[])?;
-    state.set_storage(1, Known(first))?;
-    state.set_storage(2, Known(second))?;
-    Ok(state)
+/// The state that is left where function 2 has two bodies.
+fn joined_functions(alloc: Global) -> Option<State> {
+    met(
+        alloc,
+        &[Change::Define(1, 10), Change::Define(2, 20)],
+        &[Change::Define(1, 10), Change::Define(2, 30)],
+    )
+}
+
+/// Are these the functions of a state, before and after function 2 is defined?
+fn has_functions(state: &mut State, before: &[(u16, u32)], after: &[(u16, u32)]) -> bool {
+    state.functions() == before && state.define(2, 20).is_ok() && state.functions() == after
 }
 
 #[test]
-fn joins_of_storage(rt: HostRuntime) -> Result<(), Fail> {
-    let mut state = with_storage(rt.alloc(), 7, 5)?;
-    let other = with_storage(rt.alloc(), 7, 6)?;
-    assert_eq!(rt; told_of_join(&mut state, &other), MET);
-    assert_eq!(rt; [state.storage(1), state.storage(2)], [Known(7), Unknown]);
-    Ok(())
+fn joins_of_functions(rt: HostRuntime) {
+    let mut state = joined_functions(rt.alloc()).expect(&rt, "a join");
+    assert!(rt; has_functions(&mut state, &[(1, 10)], &[(1, 10), (2, 20)]));
+}
+
+/// What is left where a zone and the loop number differ.
+fn joined_graphics(alloc: Global) -> Option<Graphics<Cell, ZoneCell>> {
+    let changes = [
+        Change::Zone(Pointer::Zp1, ZoneCell::Zero),
+        Change::Loop(Known(2)),
+    ];
+    let state = met(alloc, &[], &changes)?;
+    Some(graphics_of(&state))
 }
 
 #[test]
-fn forgets_storage(rt: HostRuntime) -> Result<(), Fail> {
-    let mut state = with_storage(rt.alloc(), 7, 5)?;
-    assert_eq!(rt; state.storage(1), Known(7));
-    state.set_storage(1, Unknown)?;
-    assert_eq!(rt; state.storage(1), Unknown);
-    Ok(())
-}
-
-/// The functions that a state knows, of which there are at most three.
-fn functions_of(state: &State) -> [Option<(u16, u32)>; 3] {
-    let functions = state.functions();
-    [
-        functions.first().copied(),
-        functions.get(1).copied(),
-        functions.get(2).copied(),
-    ]
-}
-
-#[test]
-fn joins_of_functions(rt: HostRuntime) -> Result<(), Fail> {
-    let mut state = State::start(rt.alloc(), &[(1, 10), (2, 20)])?;
-    let other = State::start(rt.alloc(), &[(1, 10), (2, 30)])?;
-    assert_eq!(rt; told_of_join(&mut state, &other), MET);
-    assert_eq!(rt; functions_of(&state), [Some((1, 10)), None, None]);
-    state.define(2, 20)?;
-    assert_eq!(rt; functions_of(&state), [Some((1, 10)), Some((2, 20)), None]);
-    Ok(())
-}
-
-#[test]
-fn joins_of_graphics(rt: HostRuntime) -> Result<(), Fail> {
-    let mut state = State::start(rt.alloc(), &[])?;
-    let mut other = State::start(rt.alloc(), &[])?;
-    other.set_zone(Pointer::Zp1, ZoneCell::Zero);
-    other.set_loop(Known(2));
-    assert_eq!(rt; told_of_join(&mut state, &other), MET);
+fn joins_of_graphics(rt: HostRuntime) {
     let want = Graphics {
         zp1: ZoneCell::Either,
         loop_number: Unknown,
         ..GRAPHICS
     };
-    assert_eq!(rt; graphics_of(&state), want);
-    Ok(())
+    assert!(rt; joined_graphics(rt.alloc()) == Some(want));
 }

@@ -1,4 +1,4 @@
-//! States that tests begin with, and what they tell of them.
+//! States that tests make by changes, how they stand to each other, and what they hold.
 
 ghost use Rattle.std.specs.Prelude.{IfOk};
 ghost use Rattle.tt_abs.specs.States.{state_order};
@@ -12,25 +12,104 @@ use tt_code::kinds::{Pointer, Reference};
 /// Test states have at most so many cells on their stacks.
 const MOST_CELLS: usize = 100;
 
-/// A state with these cells, the bottom first.
+/// A change of a state.
+#[derive(Clone, Copy)]
+pub(crate) enum Change<'a> {
+    /// These cells are pushed, one after the other.
+    Push(&'a [Cell]),
+    /// A function has this body from now on.
+    Define(u16, u32),
+    /// A storage cell holds this.
+    Store(u16, Cell),
+    Reference(Reference, Cell),
+    Zone(Pointer, ZoneCell),
+    Loop(Cell),
+}
+
+/// Pushes these cells, one after the other.
 ///
 /// # Errors
-/// If memory runs out, or there are more than 100 cells.
-pub(crate) fn with_stack(alloc: Global, cells: &[Cell]) -> Result<State, AllocError>
+/// If memory runs out, or there were more than 100 cells.
+pub(crate) fn push_all(state: &mut State, cells: &[Cell]) -> Result<(), AllocError>
+    requires { state_order.InRange state.old }
+    ensures { state_order.InRange state.new }
+{
+    for cell in cells {
+        if state.depth() >= MOST_CELLS {
+            return Err(AllocError);
+        }
+        state.push(*cell)?;
+    }
+    Ok(())
+}
+
+fn make_change(state: &mut State, change: &Change<'_>) -> Result<(), AllocError>
+    requires { state_order.InRange state.old }
+    ensures { state_order.InRange state.new }
+{
+    match *change {
+        Change::Push(cells) => return push_all(state, cells),
+        Change::Define(number, body) => return state.define(number, body),
+        Change::Store(index, cell) => return state.set_storage(index, cell),
+        Change::Reference(which, cell) => state.set_rp(which, cell),
+        Change::Zone(which, zone) => state.set_zone(which, zone),
+        Change::Loop(cell) => state.set_loop(cell),
+    }
+    Ok(())
+}
+
+/// Makes these changes, one after the other.
+///
+/// # Errors
+/// If memory runs out, or there were more than 100 cells.
+pub(crate) fn make_changes(state: &mut State, changes: &[Change<'_>]) -> Result<(), AllocError>
+    requires { state_order.InRange state.old }
+    ensures { state_order.InRange state.new }
+{
+    for next in changes {
+        make_change(state, next)?;
+    }
+    Ok(())
+}
+
+/// What the state at a start without functions becomes by these changes.
+///
+/// # Errors
+/// If memory runs out, or there were more than 100 cells.
+pub(crate) fn state_after(alloc: Global, changes: &[Change<'_>]) -> Result<State, AllocError>
     ensures { IfOk result (λ state. state_order.InRange state) }
 {
     let mut state = State::start(alloc, &[])?;
-    if cells.len() > MOST_CELLS {
-        return Err(AllocError);
-    }
-    for cell in cells {
-        state.push(*cell)?;
-    }
+    make_changes(&mut state, changes)?;
     Ok(state)
 }
 
-/// Whether a state's stack holds these cells, the bottom first.
-pub(crate) fn holds(state: &State, cells: &[Cell]) -> bool {
+/// The graphics state with which programs start.
+pub(crate) const GRAPHICS: Graphics<Cell, ZoneCell> = Graphics {
+    rp0: Known(0),
+    rp1: Known(0),
+    rp2: Known(0),
+    zp0: ZoneCell::One,
+    zp1: ZoneCell::One,
+    zp2: ZoneCell::One,
+    loop_number: Known(1),
+};
+
+/// What a state tells of the graphics state.
+pub(crate) fn graphics_of(state: &State) -> Graphics<Cell, ZoneCell> {
+    Graphics {
+        rp0: state.rp(Reference::Rp0),
+        rp1: state.rp(Reference::Rp1),
+        rp2: state.rp(Reference::Rp2),
+        zp0: state.zone(Pointer::Zp0),
+        zp1: state.zone(Pointer::Zp1),
+        zp2: state.zone(Pointer::Zp2),
+        loop_number: state.loop_cell(),
+    }
+}
+
+/// Whether a state's stack holds these cells alone, the bottom first.
+pub(crate) fn has_stack(state: &State, cells: &[Cell]) -> bool {
     for (place, cell) in cells.iter().enumerate() {
         if state.cell(place) != Some(*cell) {
             return false;
@@ -40,7 +119,7 @@ pub(crate) fn holds(state: &State, cells: &[Cell]) -> bool {
 }
 
 /// How one state stands to another.
-#[derive(Clone, Copy, Debug, PartialEq, Eq)]
+#[derive(Clone, Copy, PartialEq, Eq)]
 pub(crate) struct Relation {
     /// Whether the other covers all that the one covers.
     pub(crate) below: bool,
@@ -91,28 +170,4 @@ pub(crate) fn join_twice<T: Order>(one: &mut T, other: &T) -> Result<[bool; 2], 
     let first = one.join(other)?;
     let second = one.join(other)?;
     Ok([first, second])
-}
-
-/// The graphics state with which programs start.
-pub(crate) const GRAPHICS: Graphics<Cell, ZoneCell> = Graphics {
-    rp0: Known(0),
-    rp1: Known(0),
-    rp2: Known(0),
-    zp0: ZoneCell::One,
-    zp1: ZoneCell::One,
-    zp2: ZoneCell::One,
-    loop_number: Known(1),
-};
-
-/// What a state tells of the graphics state.
-pub(crate) fn graphics_of(state: &State) -> Graphics<Cell, ZoneCell> {
-    Graphics {
-        rp0: state.rp(Reference::Rp0),
-        rp1: state.rp(Reference::Rp1),
-        rp2: state.rp(Reference::Rp2),
-        zp0: state.zone(Pointer::Zp0),
-        zp1: state.zone(Pointer::Zp1),
-        zp2: state.zone(Pointer::Zp2),
-        loop_number: state.loop_cell(),
-    }
 }

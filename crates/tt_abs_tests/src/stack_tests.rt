@@ -1,14 +1,17 @@
 //! Stacks of cells with known contents.
 
-use std::alloc::AllocError;
-use std::test::Fail;
+use std::alloc::{AllocError, Global};
+use std::process::Abort;
 use tt_abs::Cell::{Known, Unknown};
 use tt_abs::{Cell, Stack};
 
 /// A change of a stack.
-#[derive(Clone, Copy, Debug)]
-enum Change {
-    Push(Cell),
+#[derive(Clone, Copy)]
+enum Change<'a> {
+    /// These cells are pushed, one after the other.
+    Push(&'a [Cell]),
+    PushBytes(&'a [u8]),
+    PushWords(&'a [u8]),
     /// The cell under so many others is taken out.
     Remove(usize),
     /// So many cells are taken from the top.
@@ -16,116 +19,185 @@ enum Change {
     Clear,
 }
 
-/// How many cells there are, and the three uppermost, the top first.
-type Top = (usize, [Option<Cell>; 3]);
+/// Pushes these cells, one after the other.
+fn push_all(stack: &mut Stack, cells: &[Cell]) -> Result<(), AllocError> {
+    for cell in cells {
+        stack.push(*cell)?;
+    }
+    Ok(())
+}
 
-/// Changes a stack, and tells what is on top then. A cell that isn't there can't be taken out.
-fn changed(stack: &mut Stack, change: Change) -> Option<Top> {
+/// Changes a stack.
+///
+/// # Errors
+/// If memory runs out, or a cell that isn't there is to be taken out.
+fn make_change(stack: &mut Stack, change: Change<'_>) -> Result<(), AllocError> {
     match change {
-        Change::Push(cell) => stack.push(cell).ok()?,
-        Change::Remove(place) => {
-            if place >= stack.len() {
-                return None;
-            }
-            stack.remove(place);
-        }
+        Change::Push(cells) => return push_all(stack, cells),
+        Change::PushBytes(bytes) => return stack.push_bytes(bytes),
+        Change::PushWords(bytes) => return stack.push_words(bytes),
+        Change::Remove(place) if place < stack.len() => stack.remove(place),
+        Change::Remove(_) => return Err(AllocError),
         Change::Cut(count) => stack.cut(count),
         Change::Clear => stack.clear(),
     }
-    Some((
-        stack.len(),
-        [stack.under(0), stack.under(1), stack.under(2)],
-    ))
-}
-
-/// Puts 0 to 19 on a stack.
-fn push_20(stack: &mut Stack) -> Result<(), AllocError> {
-    for number in 0..20 {
-        stack.push(Known(number))?;
-    }
     Ok(())
 }
+
+/// Whether a stack has these cells alone, the bottom first, counted from below and from above.
+fn holds(stack: &Stack, cells: &[Cell]) -> bool {
+    for (place, cell) in cells.iter().enumerate() {
+        if stack.above(place) != Some(*cell) {
+            return false;
+        }
+    }
+    for (place, cell) in cells.iter().rev().enumerate() {
+        if stack.under(place) != Some(*cell) {
+            return false;
+        }
+    }
+    let depth = cells.len();
+    stack.len() == depth && stack.above(depth).is_none() && stack.under(depth).is_none()
+}
+
+/// A change, and the cells that there are then, the bottom first.
+type Step<'a> = (Change<'a>, &'a [Cell]);
+
+/// Asserts what an empty stack becomes by these changes, one after the other.
+fn assert_steps(rt: &impl Abort, alloc: Global, steps: &[Step<'_>]) {
+    let mut stack = Stack::new(alloc);
+    for (next, cells) in steps {
+        let is_changed = make_change(&mut stack, *next).is_ok();
+        assert!(rt; is_changed && holds(&stack, cells), "to {cells:?}");
+    }
+}
+
+/// The numbers from 0 to 19.
+const TWENTY: [Cell; 20] = [
+    Known(0),
+    Known(1),
+    Known(2),
+    Known(3),
+    Known(4),
+    Known(5),
+    Known(6),
+    Known(7),
+    Known(8),
+    Known(9),
+    Known(10),
+    Known(11),
+    Known(12),
+    Known(13),
+    Known(14),
+    Known(15),
+    Known(16),
+    Known(17),
+    Known(18),
+    Known(19),
+];
+
+/// The same without 17.
+const NINETEEN: [Cell; 19] = [
+    Known(0),
+    Known(1),
+    Known(2),
+    Known(3),
+    Known(4),
+    Known(5),
+    Known(6),
+    Known(7),
+    Known(8),
+    Known(9),
+    Known(10),
+    Known(11),
+    Known(12),
+    Known(13),
+    Known(14),
+    Known(15),
+    Known(16),
+    Known(18),
+    Known(19),
+];
+
+const STEPS: [Step<'static>; 4] = [
+    (Change::Push(&TWENTY), &TWENTY),
+    (Change::Remove(2), &NINETEEN),
+    (Change::Cut(17), &[Known(0), Known(1)]),
+    (Change::Cut(5), &[]),
+];
 
 #[test]
-fn calls_of_stacks(rt: HostRuntime) -> Result<(), Fail> {
-    let mut stack = Stack::new(rt.alloc());
-    push_20(&mut stack)?;
-    assert_eq!(rt; stack.len(), 20);
-    assert_eq!(rt;
-        [stack.under(0), stack.above(0), stack.under(20)],
-        [Some(Known(19)), Some(Known(0)), None]
-    );
-    let table = [
-        (
-            Change::Remove(2),
-            (19, [Some(Known(19)), Some(Known(18)), Some(Known(16))]),
-        ),
-        (Change::Cut(17), (2, [Some(Known(1)), Some(Known(0)), None])),
-        (Change::Cut(5), (0, [None; 3])),
-    ];
-    for (change, want) in table {
-        assert_eq!(rt; changed(&mut stack, change), Some(want), "by {change:?}");
-    }
-    Ok(())
+fn calls_of_stacks(rt: HostRuntime) {
+    assert_steps(&rt, rt.alloc(), &STEPS);
 }
 
-/// Puts 0, 255, 32,767, -32,768, -1, 70,000, 2 and an unknown number on a stack.
-fn push_small_and_great_numbers(stack: &mut Stack) -> Result<(), AllocError> {
-    stack.push_bytes(&[0, 255])?;
-    stack.push_words(&[0x7f, 0xff, 0x80, 0x00, 0xff, 0xff])?;
-    stack.push(Known(70_000))?;
-    stack.push(Known(2))?;
-    stack.push(Unknown)
-}
+/// Cells of which the first five fit in 16 bits.
+const GREAT: [Cell; 8] = [
+    Known(0),
+    Known(255),
+    Known(32_767),
+    Known(-32_768),
+    Known(-1),
+    Known(70_000),
+    Known(2),
+    Unknown,
+];
+
+const GREAT_STEPS: [Step<'static>; 9] = [
+    (Change::PushBytes(&[0, 255]), &[Known(0), Known(255)]),
+    (
+        Change::PushWords(&[0x7f, 0xff, 0x80, 0x00, 0xff, 0xff]),
+        &[
+            Known(0),
+            Known(255),
+            Known(32_767),
+            Known(-32_768),
+            Known(-1),
+        ],
+    ),
+    (Change::Push(&[Known(70_000), Known(2), Unknown]), &GREAT),
+    (
+        Change::Remove(1),
+        &[
+            Known(0),
+            Known(255),
+            Known(32_767),
+            Known(-32_768),
+            Known(-1),
+            Known(70_000),
+            Unknown,
+        ],
+    ),
+    (
+        Change::Remove(2),
+        &[
+            Known(0),
+            Known(255),
+            Known(32_767),
+            Known(-32_768),
+            Known(70_000),
+            Unknown,
+        ],
+    ),
+    (
+        Change::Cut(2),
+        &[Known(0), Known(255), Known(32_767), Known(-32_768)],
+    ),
+    (
+        Change::Push(&[Known(9)]),
+        &[
+            Known(0),
+            Known(255),
+            Known(32_767),
+            Known(-32_768),
+            Known(9),
+        ],
+    ),
+    (Change::Cut(3), &[Known(0), Known(255)]),
+    (Change::Clear, &[]),
+];
 
 #[test]
-fn stacks_of_small_and_great_numbers(rt: HostRuntime) -> Result<(), Fail> {
-    let mut stack = Stack::new(rt.alloc());
-    push_small_and_great_numbers(&mut stack)?;
-    assert_eq!(rt; stack.len(), 8);
-    assert_eq!(rt;
-        [stack.above(0), stack.above(1), stack.above(8)],
-        [Some(Known(0)), Some(Known(255)), None]
-    );
-    assert_eq!(rt;
-        [stack.under(5), stack.under(4), stack.under(3)],
-        [Some(Known(32_767)), Some(Known(-32_768)), Some(Known(-1))]
-    );
-    assert_eq!(rt;
-        [stack.under(2), stack.under(0), stack.under(8)],
-        [Some(Known(70_000)), Some(Unknown), None]
-    );
-    Ok(())
-}
-
-#[test]
-fn calls_of_stacks_of_great_numbers(rt: HostRuntime) -> Result<(), Fail> {
-    let mut stack = Stack::new(rt.alloc());
-    push_small_and_great_numbers(&mut stack)?;
-    let great = Some(Known(70_000));
-    let least = Some(Known(-32_768));
-    let table = [
-        (
-            Change::Remove(1),
-            (7, [Some(Unknown), great, Some(Known(-1))]),
-        ),
-        (Change::Remove(2), (6, [Some(Unknown), great, least])),
-        (
-            Change::Cut(2),
-            (4, [least, Some(Known(32_767)), Some(Known(255))]),
-        ),
-        (
-            Change::Push(Known(9)),
-            (5, [Some(Known(9)), least, Some(Known(32_767))]),
-        ),
-        (
-            Change::Cut(3),
-            (2, [Some(Known(255)), Some(Known(0)), None]),
-        ),
-        (Change::Clear, (0, [None; 3])),
-    ];
-    for (change, want) in table {
-        assert_eq!(rt; changed(&mut stack, change), Some(want), "by {change:?}");
-    }
-    Ok(())
+fn stacks_of_small_and_great_numbers(rt: HostRuntime) {
+    assert_steps(&rt, rt.alloc(), &GREAT_STEPS);
 }

@@ -1,80 +1,133 @@
 //! Instructions with known outcomes on abstract states.
 
 use crate::instructions::{
-    BODY, Code, Given, Told, USUAL, Way, assert_outcomes, leaves, outcome, outcome_at, place,
+    BODY, Case, Code, Given, Single, USUAL, Want, assert_at, assert_singles, is_done,
+    is_single_done,
 };
-use crate::samples::GRAPHICS;
+use crate::samples::{Change, GRAPHICS};
+use std::alloc::Global;
 use tt_abs::Cell::{Known, Unknown};
-use tt_abs::{Cell, Move, Point, ZoneCell};
+use tt_abs::{Cell, Move, Moves, ZoneCell};
+use tt_code::kinds::{Pointer, Reference};
 use tt_code::{Frame, Graphics, Reason};
+
+const CALCULATIONS: [Single<'static>; 12] = [
+    (
+        Code::Add as u8,
+        &[Known(i32::MAX - 1), Known(1)],
+        Want::Leaves(&[Known(i32::MAX)]),
+    ),
+    (
+        Code::Add as u8,
+        &[Known(i32::MAX), Known(1)],
+        Want::Leaves(&[Unknown]),
+    ),
+    (
+        Code::Add as u8,
+        &[Known(1)],
+        Want::Refused(Reason::Underflow),
+    ),
+    (
+        Code::Sub as u8,
+        &[Known(5), Known(7)],
+        Want::Leaves(&[Known(-2)]),
+    ),
+    (
+        Code::Neg as u8,
+        &[Known(i32::MIN)],
+        Want::Leaves(&[Unknown]),
+    ),
+    (
+        Code::Neg as u8,
+        &[Known(i32::MAX)],
+        Want::Leaves(&[Known(-i32::MAX)]),
+    ),
+    (
+        Code::Or as u8,
+        &[Unknown, Known(5)],
+        Want::Leaves(&[Known(1)]),
+    ),
+    (
+        Code::Or as u8,
+        &[Known(5), Unknown],
+        Want::Leaves(&[Known(1)]),
+    ),
+    (
+        Code::Or as u8,
+        &[Unknown, Known(0)],
+        Want::Leaves(&[Unknown]),
+    ),
+    (
+        Code::And as u8,
+        &[Unknown, Known(0)],
+        Want::Leaves(&[Known(0)]),
+    ),
+    (
+        Code::Eq as u8,
+        &[Unknown, Unknown],
+        Want::Leaves(&[Unknown]),
+    ),
+    (
+        Code::Lt as u8,
+        &[Unknown, Known(i32::MIN)],
+        Want::Leaves(&[Known(0)]),
+    ),
+];
 
 // A number that doesn't fit in 32 bits is unknown. Where one operand decides, the other may be unknown: a number that isn't 0
 // decides OR, 0 decides AND, and no number is less than the least.
 #[test]
 fn calculations(rt: HostRuntime) {
-    let table: [(Code, &[Cell], Told); 12] = [
-        (
-            Code::Add,
-            &[Known(i32::MAX - 1), Known(1)],
-            leaves(&[Known(i32::MAX)]),
-        ),
-        (Code::Add, &[Known(i32::MAX), Known(1)], leaves(&[Unknown])),
-        (Code::Add, &[Known(1)], Told::Refused(Reason::Underflow)),
-        (Code::Sub, &[Known(5), Known(7)], leaves(&[Known(-2)])),
-        (Code::Neg, &[Known(i32::MIN)], leaves(&[Unknown])),
-        (Code::Neg, &[Known(i32::MAX)], leaves(&[Known(-i32::MAX)])),
-        (Code::Or, &[Unknown, Known(5)], leaves(&[Known(1)])),
-        (Code::Or, &[Known(5), Unknown], leaves(&[Known(1)])),
-        (Code::Or, &[Unknown, Known(0)], leaves(&[Unknown])),
-        (Code::And, &[Unknown, Known(0)], leaves(&[Known(0)])),
-        (Code::Eq, &[Unknown, Unknown], leaves(&[Unknown])),
-        (Code::Lt, &[Unknown, Known(i32::MIN)], leaves(&[Known(0)])),
-    ];
-    assert_outcomes(&rt, rt.alloc(), &USUAL, &table);
+    assert_singles(&rt, rt.alloc(), &USUAL, &CALCULATIONS);
 }
+
+const MOVES: [Single<'static>; 8] = [
+    (
+        Code::Roll as u8,
+        &[Known(1), Known(2), Known(3)],
+        Want::Leaves(&[Known(2), Known(3), Known(1)]),
+    ),
+    (
+        Code::Mindex as u8,
+        &[Known(1), Known(2), Known(3), Known(3)],
+        Want::Leaves(&[Known(2), Known(3), Known(1)]),
+    ),
+    (
+        Code::Cindex as u8,
+        &[Known(1), Known(2), Known(3), Known(2)],
+        Want::Leaves(&[Known(1), Known(2), Known(3), Known(2)]),
+    ),
+    (
+        Code::Depth as u8,
+        &[Known(4), Known(4)],
+        Want::Leaves(&[Known(4), Known(4), Known(2)]),
+    ),
+    (
+        Code::Cindex as u8,
+        &[Known(1), Known(0)],
+        Want::Refused(Reason::Count),
+    ),
+    (
+        Code::Mindex as u8,
+        &[Known(1), Known(i32::MAX)],
+        Want::Refused(Reason::Underflow),
+    ),
+    (
+        Code::Mindex as u8,
+        &[Known(1), Unknown],
+        Want::Refused(Reason::UnknownOperand),
+    ),
+    (
+        Code::Dup as u8,
+        &[Unknown; 8],
+        Want::Refused(Reason::Overflow),
+    ),
+];
 
 // ROLL brings the third element to the top, MINDEX the one that it names. MINDEX and CINDEX count from the top, which is 1.
 #[test]
 fn moves_of_the_stack(rt: HostRuntime) {
-    let table: [(Code, &[Cell], Told); 8] = [
-        (
-            Code::Roll,
-            &[Known(1), Known(2), Known(3)],
-            leaves(&[Known(2), Known(3), Known(1)]),
-        ),
-        (
-            Code::Mindex,
-            &[Known(1), Known(2), Known(3), Known(3)],
-            leaves(&[Known(2), Known(3), Known(1)]),
-        ),
-        (
-            Code::Cindex,
-            &[Known(1), Known(2), Known(3), Known(2)],
-            leaves(&[Known(1), Known(2), Known(3), Known(2)]),
-        ),
-        (
-            Code::Depth,
-            &[Known(4), Known(4)],
-            leaves(&[Known(4), Known(4), Known(2)]),
-        ),
-        (
-            Code::Cindex,
-            &[Known(1), Known(0)],
-            Told::Refused(Reason::Count),
-        ),
-        (
-            Code::Mindex,
-            &[Known(1), Known(i32::MAX)],
-            Told::Refused(Reason::Underflow),
-        ),
-        (
-            Code::Mindex,
-            &[Known(1), Unknown],
-            Told::Refused(Reason::UnknownOperand),
-        ),
-        (Code::Dup, &[Unknown; 8], Told::Refused(Reason::Overflow)),
-    ];
-    assert_outcomes(&rt, rt.alloc(), &USUAL, &table);
+    assert_singles(&rt, rt.alloc(), &USUAL, &MOVES);
 }
 
 /// The jump stands at 1.
@@ -85,32 +138,33 @@ const BY_CONDITION: [u8; 4] = [
     Code::Rtg as u8,
 ];
 
+const JUMPS_BY_CONDITION: [(&[Cell], Want<'static>); 7] = [
+    (
+        &[Unknown, Known(0)],
+        Want::Goes(Moves::One(Move::To(2)), &[]),
+    ),
+    (&[Unknown, Known(1)], Want::Refused(Reason::UnknownOperand)),
+    (&[Unknown, Unknown], Want::Refused(Reason::UnknownOperand)),
+    (
+        &[Known(1), Unknown],
+        Want::Goes(Moves::One(Move::To(2)), &[]),
+    ),
+    (
+        &[Known(5), Known(-1), Unknown],
+        Want::Goes(Moves::Two(0, 2), &[Known(5)]),
+    ),
+    (&[Known(2), Unknown], Want::Goes(Moves::Two(2, 3), &[])),
+    (
+        &[Known(2), Known(-7)],
+        Want::Goes(Moves::One(Move::To(3)), &[]),
+    ),
+];
+
 // A jump counts from its own offset, 1, and the condition is on top. Where the condition is unknown, both ways are gone, to one place
 // if they meet.
 #[test]
 fn jumps_by_a_condition(rt: HostRuntime) {
-    let table: [(&[Cell], Told); 7] = [
-        (&[Unknown, Known(0)], Told::One(place(2, &[]))),
-        (&[Unknown, Known(1)], Told::Refused(Reason::UnknownOperand)),
-        (&[Unknown, Unknown], Told::Refused(Reason::UnknownOperand)),
-        (&[Known(1), Unknown], Told::One(place(2, &[]))),
-        (
-            &[Known(5), Known(-1), Unknown],
-            Told::Two(place(0, &[Known(5)]), place(2, &[Known(5)])),
-        ),
-        (
-            &[Known(2), Unknown],
-            Told::Two(place(2, &[]), place(3, &[])),
-        ),
-        (&[Known(2), Known(-7)], Told::One(place(3, &[]))),
-    ];
-    for (stack, want) in table {
-        assert_eq!(rt;
-            outcome(rt.alloc(), &BY_CONDITION, 1, stack, &USUAL),
-            want,
-            "with {stack:?}"
-        );
-    }
+    assert_at(&rt, rt.alloc(), &BY_CONDITION, 1, &JUMPS_BY_CONDITION);
 }
 
 /// The jump stands at 3, and the end is 5.
@@ -122,283 +176,375 @@ const JUMP: [u8; 5] = [
     Code::Rtg as u8,
 ];
 
+const JUMPS: [(&[Cell], Want<'static>); 6] = [
+    (&[Known(i32::MIN)], Want::Refused(Reason::Target)),
+    (&[Known(i32::MAX)], Want::Refused(Reason::Target)),
+    (&[Known(-4)], Want::Refused(Reason::Target)),
+    (&[Known(-3)], Want::Goes(Moves::One(Move::To(0)), &[])),
+    (&[Known(2)], Want::Goes(Moves::One(Move::To(5)), &[])),
+    (&[Unknown], Want::Refused(Reason::UnknownOperand)),
+];
+
 // A jump may go to the program's start and to its end, and no further.
 #[test]
 fn jumps(rt: HostRuntime) {
-    let table: [(&[Cell], Told); 6] = [
-        (&[Known(i32::MIN)], Told::Refused(Reason::Target)),
-        (&[Known(i32::MAX)], Told::Refused(Reason::Target)),
-        (&[Known(-4)], Told::Refused(Reason::Target)),
-        (&[Known(-3)], Told::One(place(0, &[]))),
-        (&[Known(2)], Told::One(place(5, &[]))),
-        (&[Unknown], Told::Refused(Reason::UnknownOperand)),
-    ];
-    for (stack, want) in table {
-        assert_eq!(rt;
-            outcome(rt.alloc(), &JUMP, 3, stack, &USUAL),
-            want,
-            "with {stack:?}"
-        );
-    }
+    assert_at(&rt, rt.alloc(), &JUMP, 3, &JUMPS);
 }
 
-/// What is known with these reference points.
-fn with_references(rp0: i32, rp1: i32, rp2: i32) -> Graphics<Cell, ZoneCell> {
-    Graphics {
-        rp0: Known(rp0),
-        rp1: Known(rp1),
-        rp2: Known(rp2),
-        ..GRAPHICS
-    }
+/// Whether an instruction that takes the point 2, where rp0 is 1, leaves these reference points.
+fn is_moved(alloc: Global, code: u8, rp0: i32, rp1: i32, rp2: i32) -> bool {
+    let given = Given {
+        before: &[Change::Reference(Reference::Rp0, Known(1))],
+        graphics: Graphics {
+            rp0: Known(rp0),
+            rp1: Known(rp1),
+            rp2: Known(rp2),
+            ..GRAPHICS
+        },
+        ..USUAL
+    };
+    is_single_done(alloc, &given, &(code, &[Known(2)], Want::Leaves(&[])))
 }
 
 // MDRP makes rp0 the new rp1, and its point the new rp2; if told so, the new rp0 too.
 #[test]
 fn reference_points(rt: HostRuntime) {
+    assert!(rt; is_moved(rt.alloc(), Code::Mdrp as u8, 1, 1, 2));
+    assert!(rt; is_moved(rt.alloc(), Code::MdrpSetRp0 as u8, 2, 1, 2));
+}
+
+/// Whether MDAP does what is wanted with a point where zp0 is this zone. Where it goes on, the point is rp0 and rp1.
+fn is_touched(alloc: Global, zp0: ZoneCell, point: i32, want: Want<'_>) -> bool {
     let given = Given {
-        graphics: with_references(1, 0, 0),
+        before: &[Change::Zone(Pointer::Zp0, zp0)],
+        graphics: Graphics {
+            zp0,
+            rp0: Known(point),
+            rp1: Known(point),
+            ..GRAPHICS
+        },
         ..USUAL
     };
-    let keeps = Way {
-        graphics: with_references(1, 1, 2),
-        ..place(1, &[])
-    };
-    let sets = Way {
-        graphics: with_references(2, 1, 2),
-        ..keeps
-    };
-    let table: [(Code, &[Cell], Told); 2] = [
-        (Code::Mdrp, &[Known(2)], Told::One(keeps)),
-        (Code::MdrpSetRp0, &[Known(2)], Told::One(sets)),
-    ];
-    assert_outcomes(&rt, rt.alloc(), &given, &table);
+    is_single_done(alloc, &given, &(Code::Mdap as u8, &[Known(point)], want))
 }
 
-/// What is known besides where zp0 is this zone.
-fn in_zone(zp0: ZoneCell) -> Given {
-    Given {
-        graphics: Graphics { zp0, ..GRAPHICS },
-        ..USUAL
-    }
-}
+const POINTS: [(ZoneCell, i32, Want<'static>); 5] = [
+    (ZoneCell::Either, 3, Want::Leaves(&[])),
+    (ZoneCell::Either, 4, Want::Refused(Reason::Point)),
+    (ZoneCell::Zero, 4, Want::Refused(Reason::Point)),
+    (ZoneCell::One, 8, Want::Refused(Reason::Point)),
+    (ZoneCell::One, 7, Want::Leaves(&[])),
+];
 
-/// MDAP went on, with these reference points and this zone in zp0.
-fn touched(point: i32, zp0: ZoneCell) -> Told {
-    let graphics = Graphics {
-        zp0,
-        ..with_references(point, point, 0)
-    };
-    Told::One(Way {
-        graphics,
-        ..place(1, &[])
-    })
-}
-
-// The twilight zone has the points 0 to 3, the glyph zone 0 to 7; a point of either must be in both. MDAP makes its point rp0 and rp1.
+// The twilight zone has the points 0 to 3, the glyph zone 0 to 7; a point of either must be in both.
 #[test]
 fn points_of_either_zone(rt: HostRuntime) {
-    let refused = Told::Refused(Reason::Point);
-    let table = [
-        (ZoneCell::Either, 3, touched(3, ZoneCell::Either)),
-        (ZoneCell::Either, 4, refused),
-        (ZoneCell::Zero, 4, refused),
-        (ZoneCell::One, 8, refused),
-        (ZoneCell::One, 7, touched(7, ZoneCell::One)),
-    ];
-    for (zp0, point, want) in table {
-        let given = in_zone(zp0);
-        assert_outcomes(
-            &rt,
-            rt.alloc(),
-            &given,
-            &[(Code::Mdap, &[Known(point)], want)],
-        );
+    for (zone, point, want) in &POINTS {
+        assert!(rt; is_touched(rt.alloc(), *zone, *point, *want), "{point}");
     }
 }
+
+/// Changes, what is known of the storage cell 1 behind an instruction, and the instruction.
+type Changed<'a> = (&'a [Change<'a>], Cell, Single<'a>);
+
+/// Whether an instruction does what is wanted behind changes.
+fn is_changed_done(alloc: Global, changed: &Changed<'_>) -> bool {
+    let (before, stored, single) = *changed;
+    let given = Given {
+        before,
+        stored,
+        ..USUAL
+    };
+    is_single_done(alloc, &given, &single)
+}
+
+/// The storage cell 1 is known.
+const STORED: [Change<'static>; 1] = [Change::Store(1, Known(7))];
+
+const STORAGE: [Changed<'static>; 6] = [
+    (
+        &[],
+        Known(7),
+        (Code::Ws as u8, &[Known(1), Known(7)], Want::Leaves(&[])),
+    ),
+    (
+        &[],
+        Unknown,
+        (Code::Rs as u8, &[Known(1)], Want::Leaves(&[Unknown])),
+    ),
+    (
+        &STORED,
+        Known(7),
+        (Code::Ws as u8, &[Known(2), Known(9)], Want::Leaves(&[])),
+    ),
+    (
+        &STORED,
+        Unknown,
+        (Code::Ws as u8, &[Known(1), Unknown], Want::Leaves(&[])),
+    ),
+    (
+        &STORED,
+        Known(7),
+        (Code::Rs as u8, &[Known(1)], Want::Leaves(&[Known(7)])),
+    ),
+    (
+        &STORED,
+        Known(7),
+        (
+            Code::Rs as u8,
+            &[Unknown],
+            Want::Refused(Reason::UnknownOperand),
+        ),
+    ),
+];
 
 // WS makes a cell known or unknown by the number that it stores, and RS pushes what is known.
 #[test]
 fn storage(rt: HostRuntime) {
-    let stores = Given {
-        stored: Known(7),
-        ..USUAL
-    };
-    let left = Way {
-        stored: Known(7),
-        ..place(1, &[])
-    };
-    let read = Way {
-        stored: Known(7),
-        ..place(1, &[Known(7)])
-    };
-    let unknown: [(Code, &[Cell], Told); 2] = [
-        (Code::Ws, &[Known(1), Known(7)], Told::One(left)),
-        (Code::Rs, &[Known(1)], leaves(&[Unknown])),
-    ];
-    let known: [(Code, &[Cell], Told); 4] = [
-        (Code::Ws, &[Known(2), Known(9)], Told::One(left)),
-        (Code::Ws, &[Known(1), Unknown], leaves(&[])),
-        (Code::Rs, &[Known(1)], Told::One(read)),
-        (Code::Rs, &[Unknown], Told::Refused(Reason::UnknownOperand)),
-    ];
-    assert_outcomes(&rt, rt.alloc(), &USUAL, &unknown);
-    assert_outcomes(&rt, rt.alloc(), &stores, &known);
+    for (number, changed) in STORAGE.iter().enumerate() {
+        assert!(rt; is_changed_done(rt.alloc(), changed), "case {number}");
+    }
+}
+
+/// Instructions that take an index, and the reason for which they refuse one that is too great.
+const INDICES: [(u8, Reason); 6] = [
+    (Code::Rcvt as u8, Reason::Cvt),
+    (Code::Rs as u8, Reason::Storage),
+    (Code::Mdap as u8, Reason::Point),
+    (Code::Shc as u8, Reason::Contour),
+    (Code::Szp0 as u8, Reason::Zone),
+    (Code::Call as u8, Reason::Function),
+];
+
+/// Whether an instruction refuses this number for this reason.
+fn refuses(alloc: Global, code: u8, number: i32, reason: Reason) -> bool {
+    let single: Single<'_> = (code, &[Known(number)], Want::Refused(reason));
+    is_single_done(alloc, &USUAL, &single)
 }
 
 // No index is as great as what it counts, or negative.
 #[test]
 fn great_indices(rt: HostRuntime) {
-    let table = [
-        (Code::Rcvt, Reason::Cvt),
-        (Code::Rs, Reason::Storage),
-        (Code::Mdap, Reason::Point),
-        (Code::Shc, Reason::Contour),
-        (Code::Szp0, Reason::Zone),
-        (Code::Call, Reason::Function),
-    ];
-    for (code, reason) in table {
-        let want = Told::Refused(reason);
-        let cases: [(Code, &[Cell], Told); 3] = [
-            (code, &[Known(65_535)], want),
-            (code, &[Known(i32::MAX)], want),
-            (code, &[Known(-1)], want),
-        ];
-        assert_outcomes(&rt, rt.alloc(), &USUAL, &cases);
+    for (code, reason) in &INDICES {
+        for number in [65_535, i32::MAX, -1] {
+            let is_refused = refuses(rt.alloc(), *code, number, *reason);
+            assert!(rt; is_refused, "{number}: {reason}");
+        }
     }
 }
 
-/// What is known besides where the loop number is this one.
-fn in_loop(loop_number: Cell) -> Given {
-    Given {
-        graphics: Graphics {
-            loop_number,
-            ..GRAPHICS
-        },
-        ..USUAL
-    }
-}
+const COUNTS: [Changed<'static>; 4] = [
+    (
+        &[],
+        Unknown,
+        (
+            Code::Deltap as u8,
+            &[Known(0), Known(0), Known(2)],
+            Want::Refused(Reason::Underflow),
+        ),
+    ),
+    (
+        &[],
+        Unknown,
+        (
+            Code::Deltap as u8,
+            &[Known(0), Known(0), Known(i32::MAX)],
+            Want::Refused(Reason::Underflow),
+        ),
+    ),
+    (
+        &[Change::Loop(Known(i32::MAX))],
+        Unknown,
+        (
+            Code::ShpByRp2 as u8,
+            &[Known(0); 3],
+            Want::Refused(Reason::Underflow),
+        ),
+    ),
+    (
+        &[Change::Loop(Known(-1))],
+        Unknown,
+        (
+            Code::ShpByRp2 as u8,
+            &[Known(0); 3],
+            Want::Refused(Reason::Count),
+        ),
+    ),
+];
 
 // SHP takes as many points as the loop number says, and DELTAP twice as many numbers as its first one says.
 #[test]
 fn great_counts(rt: HostRuntime) {
-    let underflow = Told::Refused(Reason::Underflow);
-    let three: &[Cell] = &[Known(0), Known(0), Known(0)];
-    let table: [(Code, &[Cell], Told); 2] = [
-        (Code::Deltap, &[Known(0), Known(0), Known(2)], underflow),
-        (
-            Code::Deltap,
-            &[Known(0), Known(0), Known(i32::MAX)],
-            underflow,
-        ),
-    ];
-    assert_outcomes(&rt, rt.alloc(), &USUAL, &table);
-    let count = Told::Refused(Reason::Count);
-    for (turns, want) in [(i32::MAX, underflow), (-1, count)] {
-        let given = in_loop(Known(turns));
-        assert_outcomes(&rt, rt.alloc(), &given, &[(Code::ShpByRp2, three, want)]);
+    for (number, changed) in COUNTS.iter().enumerate() {
+        assert!(rt; is_changed_done(rt.alloc(), changed), "case {number}");
     }
 }
+
+const DEEP: [Single<'static>; 3] = [
+    (
+        Code::Rtg as u8,
+        &[Known(5); 9],
+        Want::Refused(Reason::Overflow),
+    ),
+    (
+        Code::Rtg as u8,
+        &[Known(5); 8],
+        Want::Leaves(&[Known(5); 8]),
+    ),
+    (
+        Code::Mppem as u8,
+        &[Known(5); 8],
+        Want::Refused(Reason::Overflow),
+    ),
+];
 
 // A stack has 8 elements at most, behind each instruction.
 #[test]
 fn too_deep(rt: HostRuntime) {
-    let deepest = [Known(5); 8];
-    let overflow = Told::Refused(Reason::Overflow);
-    let table: [(Code, &[Cell], Told); 3] = [
-        (Code::Rtg, &[Known(5); 9], overflow),
-        (Code::Rtg, &deepest, leaves(&deepest)),
-        (Code::Mppem, &deepest, overflow),
-    ];
-    assert_outcomes(&rt, rt.alloc(), &USUAL, &table);
+    assert_singles(&rt, rt.alloc(), &USUAL, &DEEP);
 }
 
-/// A graphics state of which nothing is known.
-const NOTHING_KNOWN: Graphics<Cell, ZoneCell> = Graphics {
-    rp0: Unknown,
-    rp1: Unknown,
-    rp2: Unknown,
-    zp0: ZoneCell::Either,
-    zp1: ZoneCell::Either,
-    zp2: ZoneCell::Either,
-    loop_number: Unknown,
-};
+/// Changes behind which nothing is known of the graphics state.
+const NOTHING_KNOWN: [Change<'static>; 7] = [
+    Change::Reference(Reference::Rp0, Unknown),
+    Change::Reference(Reference::Rp1, Unknown),
+    Change::Reference(Reference::Rp2, Unknown),
+    Change::Zone(Pointer::Zp0, ZoneCell::Either),
+    Change::Zone(Pointer::Zp1, ZoneCell::Either),
+    Change::Zone(Pointer::Zp2, ZoneCell::Either),
+    Change::Loop(Unknown),
+];
+
+const UNKNOWN_CELLS: [Changed<'static>; 5] = [
+    (
+        &[],
+        Unknown,
+        (
+            Code::ShpByRp2 as u8,
+            &[Unknown],
+            Want::Refused(Reason::UnknownOperand),
+        ),
+    ),
+    (
+        &[Change::Reference(Reference::Rp2, Unknown)],
+        Unknown,
+        (
+            Code::ShpByRp2 as u8,
+            &[Known(0)],
+            Want::Refused(Reason::UnknownOperand),
+        ),
+    ),
+    (
+        &[
+            Change::Reference(Reference::Rp2, Unknown),
+            Change::Loop(Unknown),
+        ],
+        Unknown,
+        (
+            Code::ShpByRp2 as u8,
+            &[],
+            Want::Refused(Reason::UnknownOperand),
+        ),
+    ),
+    (
+        &NOTHING_KNOWN,
+        Unknown,
+        (
+            Code::ShpByRp2 as u8,
+            &[Unknown; 3],
+            Want::Refused(Reason::UnknownOperand),
+        ),
+    ),
+    (
+        &NOTHING_KNOWN,
+        Unknown,
+        (
+            Code::ShpByRp1 as u8,
+            &[Unknown; 3],
+            Want::Refused(Reason::UnknownOperand),
+        ),
+    ),
+];
 
 // SHP tests its reference point, its loop number and its points, and each must be known.
 #[test]
 fn unknown_cells(rt: HostRuntime) {
-    let without_rp2 = Graphics {
-        rp2: Unknown,
-        ..GRAPHICS
-    };
-    let without_loop = Graphics {
-        loop_number: Unknown,
-        ..without_rp2
-    };
-    let table: [(Code, &[Cell], Graphics<Cell, ZoneCell>); 5] = [
-        (Code::ShpByRp2, &[Unknown], GRAPHICS),
-        (Code::ShpByRp2, &[Known(0)], without_rp2),
-        (Code::ShpByRp2, &[], without_loop),
-        (Code::ShpByRp2, &[Unknown; 3], NOTHING_KNOWN),
-        (Code::ShpByRp1, &[Unknown; 3], NOTHING_KNOWN),
-    ];
-    let unknown = Told::Refused(Reason::UnknownOperand);
-    for (code, stack, graphics) in table {
-        let given = Given { graphics, ..USUAL };
-        assert_outcomes(&rt, rt.alloc(), &given, &[(code, stack, unknown)]);
+    for (number, changed) in UNKNOWN_CELLS.iter().enumerate() {
+        assert!(rt; is_changed_done(rt.alloc(), changed), "case {number}");
     }
 }
 
-/// A call of function 0 from offset 0, in one of so many turns.
-fn call_of(turn: u32, count: u32) -> Frame {
-    Frame {
-        body: BODY,
-        call: 0,
-        turn,
-        count,
-    }
-}
+/// A call of function 0 from offset 0, in the first of its turns.
+const CALL: Frame = Frame {
+    body: BODY,
+    call: 0,
+    turn: 1,
+    count: 1,
+};
+
+/// The same where it has three turns.
+const THREE_TURNS: Frame = Frame { count: 3, ..CALL };
+
+const CALLS: [Single<'static>; 6] = [
+    (
+        Code::Call as u8,
+        &[Unknown, Known(0)],
+        Want::Goes(Moves::One(Move::Enter(CALL)), &[Unknown]),
+    ),
+    (
+        Code::Call as u8,
+        &[Known(1)],
+        Want::Refused(Reason::Function),
+    ),
+    (
+        Code::Loopcall as u8,
+        &[Known(3), Known(0)],
+        Want::Goes(Moves::One(Move::Enter(THREE_TURNS)), &[]),
+    ),
+    (
+        Code::Loopcall as u8,
+        &[Known(0), Known(0)],
+        Want::Leaves(&[]),
+    ),
+    (
+        Code::Loopcall as u8,
+        &[Known(-1), Known(1)],
+        Want::Refused(Reason::Function),
+    ),
+    (
+        Code::Loopcall as u8,
+        &[Unknown, Known(0)],
+        Want::Refused(Reason::UnknownOperand),
+    ),
+];
 
 // CALL is a call with one turn. LOOPCALL's function is on top, and its count below; both are tested, the function first, and a
 // count of 0 or less calls nothing. Function 1 isn't defined.
 #[test]
 fn calls(rt: HostRuntime) {
-    let table: [(Code, &[Cell], Told); 6] = [
-        (
-            Code::Call,
-            &[Unknown, Known(0)],
-            Told::Elsewhere(Move::Enter(call_of(1, 1)), 1),
-        ),
-        (Code::Call, &[Known(1)], Told::Refused(Reason::Function)),
-        (
-            Code::Loopcall,
-            &[Known(3), Known(0)],
-            Told::Elsewhere(Move::Enter(call_of(1, 3)), 0),
-        ),
-        (Code::Loopcall, &[Known(0), Known(0)], leaves(&[])),
-        (
-            Code::Loopcall,
-            &[Known(-1), Known(1)],
-            Told::Refused(Reason::Function),
-        ),
-        (
-            Code::Loopcall,
-            &[Unknown, Known(0)],
-            Told::Refused(Reason::UnknownOperand),
-        ),
-    ];
-    assert_outcomes(&rt, rt.alloc(), &USUAL, &table);
+    assert_singles(&rt, rt.alloc(), &USUAL, &CALLS);
 }
 
-// ENDF stands at 4. It ends a turn, and behind the last one the call.
+/// Whether ENDF, which stands at 4, goes on so in this turn of two.
+fn ends(alloc: Global, turn: u32, want: Move) -> bool {
+    let case = Case {
+        program: &[],
+        call: Some(Frame {
+            turn,
+            count: 2,
+            ..CALL
+        }),
+        offset: 4,
+        stack: &[Unknown],
+        given: &USUAL,
+        want: Want::Goes(Moves::One(want), &[Unknown]),
+    };
+    is_done(alloc, &case) == Some(true)
+}
+
+// ENDF ends a turn, and behind the last one the call.
 #[test]
 fn ends_of_calls(rt: HostRuntime) {
-    let table = [(1, Move::NextTurn), (2, Move::Return)];
-    for (turn, want) in table {
-        let point = Point {
-            frames: &[call_of(turn, 2)],
-            offset: 4,
-        };
-        let told = outcome_at(rt.alloc(), &[], &point, &[Unknown], &USUAL);
-        assert_eq!(rt; told, Told::Elsewhere(want, 1), "in turn {turn}");
-    }
+    assert!(rt; ends(rt.alloc(), 1, Move::NextTurn));
+    assert!(rt; ends(rt.alloc(), 2, Move::Return));
 }

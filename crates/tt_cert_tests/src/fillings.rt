@@ -1,193 +1,173 @@
 //! The check of families that leave states out.
 
-use crate::checking::{Answer, Asked, CALLS, GLYPH, POPS, call_of, checked};
-use crate::fixtures::{Row, certificate};
-use std::alloc::Global;
+use crate::checking::{Asked, CALLING, EMPTY, Family, Subject, assert_families};
 use tt_abs::Kind;
 use tt_cert::Spot;
 use tt_code::Reason;
 
-/// What the check tells of a program without functions that are called, where these states are listed. Two rows at one offset are
-/// joined.
-fn answer(
-    alloc: Global,
-    program: &[u8],
-    kind: Kind,
-    rows: &[Row<'_>],
-    asked: Asked,
-) -> Option<Answer> {
-    let family = certificate(alloc, &[], &[], rows)?;
-    checked(
-        alloc,
-        (program, program, program),
-        kind,
-        &[],
-        &family,
-        asked,
-    )
-}
+/// Programs whose families may leave states out.
+const SPARSE: Subject<'static> = Subject {
+    asked: Asked::Sparse,
+    ..EMPTY
+};
 
 /// MPPEM, IF, PUSHB 1, ELSE, PUSHB 2, EIF, POP: both ways meet at offset 8, where the number is unknown.
-const BRANCHES: [u8; 9] = [0x4b, 0x58, 0xb0, 0x01, 0x1b, 0xb0, 0x02, 0x59, 0x21];
+const BRANCHES: Subject<'static> = Subject {
+    programs: [&[0x4b, 0x58, 0xb0, 0x01, 0x1b, 0xb0, 0x02, 0x59, 0x21]; 3],
+    ..SPARSE
+};
+
+const FAMILIES_OF_BRANCHES: [Family<'static>; 6] = [
+    (
+        &[
+            (0, 0, &[]),
+            (0, 5, &[]),
+            (0, 8, &[1]),
+            (0, 8, &[2]),
+            (0, 9, &[]),
+        ],
+        Ok(()),
+    ),
+    (
+        &[(0, 5, &[]), (0, 8, &[1]), (0, 8, &[2]), (0, 9, &[])],
+        Err((Spot::Main, 0, Reason::MissingPoint)),
+    ),
+    (
+        &[(0, 0, &[]), (0, 8, &[1]), (0, 8, &[2]), (0, 9, &[])],
+        Err((Spot::Main, 5, Reason::MissingPoint)),
+    ),
+    (
+        &[(0, 0, &[]), (0, 5, &[]), (0, 9, &[])],
+        Err((Spot::Main, 8, Reason::MissingPoint)),
+    ),
+    (
+        &[(0, 0, &[]), (0, 5, &[]), (0, 8, &[1]), (0, 8, &[2])],
+        Err((Spot::Main, 9, Reason::MissingPoint)),
+    ),
+    (
+        &[(0, 0, &[]), (0, 5, &[]), (0, 8, &[1]), (0, 9, &[])],
+        Err((Spot::Main, 8, Reason::NotCovered)),
+    ),
+];
+
+#[test]
+fn states_left_out_of_branches(rt: HostRuntime) {
+    assert_families(&rt, rt.alloc(), &BRANCHES, &FAMILIES_OF_BRANCHES);
+}
 
 /// PUSHB 7, POP.
-const STRAIGHT: [u8; 3] = [0xb0, 0x07, 0x21];
+const STRAIGHT: Subject<'static> = Subject {
+    programs: [&[0xb0, 0x07, 0x21]; 3],
+    ..SPARSE
+};
+
+const FAMILIES_OF_STRAIGHT: [Family<'static>; 4] = [
+    (&[(0, 0, &[]), (0, 3, &[])], Ok(())),
+    // It is no fault to list a state that needn't be, nor one that covers more.
+    (
+        &[(0, 0, &[]), (0, 2, &[7]), (0, 2, &[8]), (0, 3, &[])],
+        Ok(()),
+    ),
+    (
+        &[(0, 0, &[]), (0, 2, &[8]), (0, 3, &[])],
+        Err((Spot::Main, 2, Reason::NotCovered)),
+    ),
+    // Offset 1 is inside the first instruction.
+    (
+        &[(0, 0, &[]), (0, 1, &[]), (0, 3, &[])],
+        Err((Spot::Main, 1, Reason::Target)),
+    ),
+];
+
+#[test]
+fn states_left_out_of_a_straight_program(rt: HostRuntime) {
+    assert_families(&rt, rt.alloc(), &STRAIGHT, &FAMILIES_OF_STRAIGHT);
+}
 
 /// PUSHB 1, JMPR, RTG: a jump to the place just after it.
-const JUMPS_BY_ONE: [u8; 4] = [0xb0, 0x01, 0x1c, 0x18];
+const JUMPS_BY_ONE: Subject<'static> = Subject {
+    programs: [&[0xb0, 0x01, 0x1c, 0x18]; 3],
+    ..SPARSE
+};
 
 /// PUSHB 2, JMPR, RTG, RTG: a jump over one instruction.
-const JUMPS: [u8; 5] = [0xb0, 0x02, 0x1c, 0x18, 0x18];
+const JUMPS: Subject<'static> = Subject {
+    programs: [&[0xb0, 0x02, 0x1c, 0x18, 0x18]; 3],
+    ..SPARSE
+};
 
-/// A program and the listed states.
-type Family<'a> = (&'a [u8], &'a [Row<'a>]);
-
-#[test]
-fn states_left_out(rt: HostRuntime) {
-    let table: [Family<'_>; 6] = [
-        (
-            &BRANCHES,
-            &[
-                (0, 0, &[]),
-                (0, 5, &[]),
-                (0, 8, &[1]),
-                (0, 8, &[2]),
-                (0, 9, &[]),
-            ],
-        ),
-        (&STRAIGHT, &[(0, 0, &[]), (0, 3, &[])]),
-        // It is no fault to list a state that needn't be, nor one that covers more.
-        (
-            &STRAIGHT,
-            &[(0, 0, &[]), (0, 2, &[7]), (0, 2, &[8]), (0, 3, &[])],
-        ),
-        (&JUMPS_BY_ONE, &[(0, 0, &[]), (0, 4, &[])]),
-        (&JUMPS, &[(0, 0, &[]), (0, 4, &[]), (0, 5, &[])]),
-        // Offset 3 isn't reached.
-        (
-            &JUMPS,
-            &[(0, 0, &[]), (0, 3, &[]), (0, 4, &[]), (0, 5, &[])],
-        ),
-    ];
-    for (program, rows) in table {
-        let told = answer(rt.alloc(), program, GLYPH, rows, Asked::Sparse);
-        assert_eq!(rt; told, Some(Ok(())), "of {program:?}");
-    }
-}
-
-/// A program, the listed states, and where it is refused for which reason.
-type Broken<'a> = (&'a [u8], &'a [Row<'a>], u32, Reason);
+const FAMILIES_OF_JUMPS: [Family<'static>; 3] = [
+    (&[(0, 0, &[]), (0, 4, &[]), (0, 5, &[])], Ok(())),
+    // Offset 3 isn't reached.
+    (
+        &[(0, 0, &[]), (0, 3, &[]), (0, 4, &[]), (0, 5, &[])],
+        Ok(()),
+    ),
+    (
+        &[(0, 0, &[]), (0, 5, &[])],
+        Err((Spot::Main, 4, Reason::MissingPoint)),
+    ),
+];
 
 #[test]
-fn states_that_have_to_be_listed(rt: HostRuntime) {
-    let table: [Broken<'_>; 8] = [
-        (
-            &BRANCHES,
-            &[(0, 5, &[]), (0, 8, &[1]), (0, 8, &[2]), (0, 9, &[])],
-            0,
-            Reason::MissingPoint,
-        ),
-        (
-            &BRANCHES,
-            &[(0, 0, &[]), (0, 8, &[1]), (0, 8, &[2]), (0, 9, &[])],
-            5,
-            Reason::MissingPoint,
-        ),
-        (
-            &BRANCHES,
-            &[(0, 0, &[]), (0, 5, &[]), (0, 9, &[])],
-            8,
-            Reason::MissingPoint,
-        ),
-        (
-            &BRANCHES,
-            &[(0, 0, &[]), (0, 5, &[]), (0, 8, &[1]), (0, 8, &[2])],
-            9,
-            Reason::MissingPoint,
-        ),
-        (
-            &BRANCHES,
-            &[(0, 0, &[]), (0, 5, &[]), (0, 8, &[1]), (0, 9, &[])],
-            8,
-            Reason::NotCovered,
-        ),
-        (
-            &STRAIGHT,
-            &[(0, 0, &[]), (0, 2, &[8]), (0, 3, &[])],
-            2,
-            Reason::NotCovered,
-        ),
-        // Offset 1 is inside the first instruction.
-        (
-            &STRAIGHT,
-            &[(0, 0, &[]), (0, 1, &[]), (0, 3, &[])],
-            1,
-            Reason::Target,
-        ),
-        (&JUMPS, &[(0, 0, &[]), (0, 5, &[])], 4, Reason::MissingPoint),
-    ];
-    for (program, rows, offset, reason) in table {
-        let told = answer(rt.alloc(), program, GLYPH, rows, Asked::Sparse);
-        assert_eq!(rt;
-            told,
-            Some(Err((Spot::Main, offset, reason))),
-            "of {program:?}"
-        );
-    }
+fn states_left_out_of_jumps(rt: HostRuntime) {
+    assert_families(&rt, rt.alloc(), &JUMPS, &FAMILIES_OF_JUMPS);
+    let start_and_end: Family<'_> = (&[(0, 0, &[]), (0, 4, &[])], Ok(()));
+    assert_families(&rt, rt.alloc(), &JUMPS_BY_ONE, &[start_and_end]);
 }
+
+/// PUSHB 7, POP, of which all states are asked for.
+const WHOLE: Subject<'static> = Subject {
+    asked: Asked::Whole,
+    ..STRAIGHT
+};
 
 #[test]
 fn states_left_out_of_a_whole_family(rt: HostRuntime) {
-    let rows: [Row<'_>; 2] = [(0, 0, &[]), (0, 3, &[])];
-    let told = answer(rt.alloc(), &STRAIGHT, GLYPH, &rows, Asked::Whole);
-    assert_eq!(rt; told, Some(Err((Spot::Main, 2, Reason::MissingPoint))));
+    let want = Err((Spot::Main, 2, Reason::MissingPoint));
+    let start_and_end: Family<'_> = (&[(0, 0, &[]), (0, 3, &[])], want);
+    assert_families(&rt, rt.alloc(), &WHOLE, &[start_and_end]);
 }
 
 /// PUSHB 0, FDEF, ENDF, RTG: the definition leads behind its ENDF.
-const DEFINES: [u8; 5] = [0xb0, 0x00, 0x2c, 0x2d, 0x18];
+const DEFINES: Subject<'static> = Subject {
+    programs: [&[0xb0, 0x00, 0x2c, 0x2d, 0x18]; 3],
+    kind: Kind::Font,
+    ..SPARSE
+};
+
+const FAMILIES_OF_DEFINES: [Family<'static>; 2] = [
+    (&[(0, 0, &[]), (0, 4, &[]), (0, 5, &[])], Ok(())),
+    (
+        &[(0, 0, &[]), (0, 5, &[])],
+        Err((Spot::Main, 4, Reason::MissingPoint)),
+    ),
+];
 
 #[test]
 fn place_behind_a_definition(rt: HostRuntime) {
-    let table: [(&[Row<'_>], Answer); 2] = [
-        (&[(0, 0, &[]), (0, 4, &[]), (0, 5, &[])], Ok(())),
-        (
-            &[(0, 0, &[]), (0, 5, &[])],
-            Err((Spot::Main, 4, Reason::MissingPoint)),
-        ),
-    ];
-    for (rows, want) in table {
-        let told = answer(rt.alloc(), &DEFINES, Kind::Font, rows, Asked::Sparse);
-        assert_eq!(rt; told, Some(want));
-    }
+    assert_families(&rt, rt.alloc(), &DEFINES, &FAMILIES_OF_DEFINES);
 }
 
-/// What the check tells of a program that pushes 7 and calls function 0, which takes it away, where these states are listed.
-fn answer_of_call(alloc: Global, rows: &[Row<'_>]) -> Option<Answer> {
-    let family = certificate(alloc, &[(0, call_of(3))], &[(0, 3)], rows)?;
-    checked(
-        alloc,
-        (&POPS, &[], &CALLS),
-        GLYPH,
-        &[(0, 3)],
-        &family,
-        Asked::Sparse,
-    )
-}
+/// A program that pushes 7 and calls function 0, which takes it away.
+const CALLS: Subject<'static> = Subject {
+    asked: Asked::Sparse,
+    ..CALLING
+};
+
+const FAMILIES_OF_CALLS: [Family<'static>; 3] = [
+    (&[(0, 0, &[]), (0, 4, &[]), (1, 3, &[7])], Ok(())),
+    (
+        &[(0, 0, &[]), (0, 4, &[])],
+        Err((Spot::Font, 3, Reason::MissingPoint)),
+    ),
+    (
+        &[(0, 0, &[]), (1, 3, &[7])],
+        Err((Spot::Main, 4, Reason::MissingPoint)),
+    ),
+];
 
 #[test]
 fn places_of_a_call(rt: HostRuntime) {
-    let table: [(&[Row<'_>], Answer); 3] = [
-        (&[(0, 0, &[]), (0, 4, &[]), (1, 3, &[7])], Ok(())),
-        (
-            &[(0, 0, &[]), (0, 4, &[])],
-            Err((Spot::Font, 3, Reason::MissingPoint)),
-        ),
-        (
-            &[(0, 0, &[]), (1, 3, &[7])],
-            Err((Spot::Main, 4, Reason::MissingPoint)),
-        ),
-    ];
-    for (rows, want) in table {
-        assert_eq!(rt; answer_of_call(rt.alloc(), rows), Some(want));
-    }
+    assert_families(&rt, rt.alloc(), &CALLS, &FAMILIES_OF_CALLS);
 }

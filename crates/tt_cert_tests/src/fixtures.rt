@@ -12,15 +12,16 @@ use tt_code::Frame;
 /// A state of a table: its context, its offset and the numbers on its stack, the bottom first.
 pub(crate) type Row<'a> = (u32, u32, &'a [i32]);
 
-/// The first turn of a call at this offset.
-pub(crate) fn call_at(call: u32) -> Frame {
-    Frame {
-        body: 7,
-        call,
-        turn: 1,
-        count: 1,
-    }
-}
+/// A context of a table: the one that it is below, and its call.
+pub(crate) type Context = (u32, Frame);
+
+/// The first turn of a call at offset 0.
+pub(crate) const CALL: Frame = Frame {
+    body: 7,
+    call: 0,
+    turn: 1,
+    count: 1,
+};
 
 /// The state at a start with these functions, with these numbers on the stack, the bottom first; eight of them at most.
 pub(crate) fn state_of(
@@ -49,7 +50,7 @@ pub(crate) fn add(builder: &mut Builder, parent: u32, frame: Frame) -> Result<u3
 }
 
 /// Adds contexts, each below one that is there; were all of them added?
-pub(crate) fn add_all(builder: &mut Builder, contexts: &[(u32, Frame)]) -> bool {
+pub(crate) fn add_all(builder: &mut Builder, contexts: &[Context]) -> bool {
     for (parent, frame) in contexts {
         if add(builder, *parent, *frame).is_err() {
             return false;
@@ -105,19 +106,26 @@ pub(crate) fn put_all(
     true
 }
 
-/// Joins the start state with this stack at offsets of a context, one after the other; was it joined at all of them?
-pub(crate) fn put_at(
-    alloc: Global,
-    builder: &mut Builder,
-    (context, stack): (u32, &[i32]),
-    offsets: &[u32],
-) -> bool {
+/// Joins the start state at offsets of a context, one after the other; was it joined at all of them?
+pub(crate) fn put_at(alloc: Global, builder: &mut Builder, context: u32, offsets: &[u32]) -> bool {
     for offset in offsets {
-        if put(alloc, builder, &[], (context, *offset, stack)).is_err() {
+        if put(alloc, builder, &[], (context, *offset, &[])).is_err() {
             return false;
         }
     }
     true
+}
+
+/// Contexts and states in which no function is known.
+#[derive(Clone, Copy)]
+pub(crate) struct Filling<'a> {
+    pub(crate) contexts: &'a [Context],
+    pub(crate) rows: &'a [Row<'a>],
+}
+
+/// Puts a filling into a builder; was all of it put?
+pub(crate) fn fill(alloc: Global, builder: &mut Builder, filling: &Filling<'_>) -> bool {
+    add_all(builder, filling.contexts) && put_all(alloc, builder, &[], filling.rows)
 }
 
 /// The certificate of a builder's family, if all of it was put.
@@ -125,16 +133,13 @@ pub(crate) fn finished_if(is_filled: bool, builder: Builder) -> Option<Certifica
     if !is_filled {
         return None;
     }
-    match builder.finish() {
-        Ok(certificate) => Some(certificate),
-        Err(_) => None,
-    }
+    builder.finish().ok()
 }
 
 /// The certificate of the family with these contexts and states.
 pub(crate) fn certificate(
     alloc: Global,
-    contexts: &[(u32, Frame)],
+    contexts: &[Context],
     functions: &[(u16, u32)],
     rows: &[Row<'_>],
 ) -> Option<Certificate>
@@ -144,14 +149,6 @@ pub(crate) fn certificate(
     let is_filled = add_all(&mut builder, contexts)
         && put_all(alloc, &mut builder, functions, rows);
     finished_if(is_filled, builder)
-}
-
-/// The cell at this place from the bottom of the stack at a point.
-pub(crate) fn cell_at(builder: &Builder, context: u32, offset: u32, place: usize) -> Option<Cell> {
-    match builder.state(context, offset) {
-        Some(state) => state.cell(place),
-        None => None,
-    }
 }
 
 /// Does the walk lead through these points alone, in this order?

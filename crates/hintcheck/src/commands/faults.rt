@@ -38,7 +38,7 @@ pub enum CommandFault {
     /// The word spells no bytes.
     #[error("words: MAXP")]
     MaxpWord,
-    /// The word spells no bytes.
+    /// The word spells no bytes, or names no program of the font.
     #[error("words: PROGRAM")]
     ProgramWord,
     /// The font's file is to be its certificate's.
