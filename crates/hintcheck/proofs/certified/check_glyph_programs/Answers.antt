@@ -1,12 +1,12 @@
 use Rattle.std.specs.Option.{option_map}
-use Rattle.std.proofs.Common.{◌≡◌, ◌+◌, ◌<◌, List, ℕ, [], sym, ◌∙◌, ap, subst, arith, length}
+use Rattle.std.proofs.Common.{◌≡◌, List, sym, ◌∙◌, ap, subst, arith, length}
 use Rattle.std.proofs.lemmas.Option.{slice_get_within}
 use Rattle.tt_font.specs.GlyphParts.{glyph_data}
 use Rattle.tt_font.specs.Reading.{GlyphData}
 use Rattle.hintcheck.specs.Looks.{IsListed}
 use Rattle.tt_cert_file.specs.declared.name.Name.TheVariants as name
 use Rattle.hintcheck.specs.declared.report.Refused.{Refused}
-use Rattle.hintcheck.proofs.CheckedLists.{AreGoodBelow, good_next, listed_is_some}
+use Rattle.hintcheck.proofs.CheckedLists.{good_next, listed_is_some}
 use Rattle.hintcheck.proofs.FontLists.{glyph_there}
 use Rattle.hintcheck.proofs.certified.check_glyph_programs.Goals as goal
 use Rattle.hintcheck.proofs.certified.check_glyph_programs.Goals.{in-Ok, in-Err+in_ok-list_refused-in-Err}

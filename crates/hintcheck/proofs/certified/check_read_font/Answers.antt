@@ -1,4 +1,4 @@
-use Rattle.std.proofs.Common.{[], sym, ◌∙◌, ap}
+use Rattle.std.proofs.Common.{sym, ◌∙◌, ap}
 use Rattle.hintcheck.specs.Verdicts.{Judgement}
 use Rattle.hintcheck.proofs.FontSafety.{good_families_are_safe}
 use Rattle.hintcheck.proofs.certified.check_read_font.Goals as goal

@@ -1,5 +1,5 @@
 use Rattle.std.specs.Option.{option_map}
-use Rattle.std.proofs.Common.{sym, ◌∙◌, ap, arith}
+use Rattle.std.proofs.Common.{sym, ◌∙◌, ap}
 use Rattle.tt_font.specs.GlyphParts.{glyph_data}
 use Rattle.hintcheck.proofs.certifying.write_glyph_programs.Goals as goal
 
