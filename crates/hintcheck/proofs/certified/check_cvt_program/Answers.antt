@@ -18,5 +18,5 @@ returns c =
     let K : List Instruction → Type 0 = λ is. IsGoodAtEnd x is c.in_ok-functions.functions.items in
     record {
       known = subst K s.ensures.main
-      (c.in_ok-functions.ensures.known x (looked_at x s.result c.in_ok-program.program (c.in_ok-program.ensures.cut x (sym c.prep.ensures)) s.ensures.main s.ensures.setting s.ensures.start));
+          (c.in_ok-functions.ensures.known x (looked_at x s.result c.in_ok-program.program (c.in_ok-program.ensures.cut x (sym c.prep.ensures)) s.ensures.main s.ensures.setting s.ensures.start));
     }

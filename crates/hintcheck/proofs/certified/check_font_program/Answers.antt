@@ -21,6 +21,6 @@ returns c =
     let K : List Instruction → Type 0 = λ is. IsGoodAtEnd x is c.in_ok-functions.functions.items in
     record {
       known = subst K s.ensures.main
-      (c.in_ok-functions.ensures.known x (font_looked c.args.font.now s.result c.in_ok-program.program c.limits.result c.cvt_count.result
-      (c.in_ok-program.ensures.cut x (sym c.fpgm.ensures)) s.ensures.setting s.ensures.programs c.limits.ensures c.cvt_count.ensures s.ensures.main s.ensures.start));
+          (c.in_ok-functions.ensures.known x (font_looked c.args.font.now s.result c.in_ok-program.program c.limits.result c.cvt_count.result
+          (c.in_ok-program.ensures.cut x (sym c.fpgm.ensures)) s.ensures.setting s.ensures.programs c.limits.ensures c.cvt_count.ensures s.ensures.main s.ensures.start));
     }
