@@ -1,5 +1,6 @@
 -- Each program of a font that was read is a list of fewer than 2^31 bytes.
 use Rattle.std.specs.Prelude.{◌==◌, nat_le, if◌then◌else◌, ◌&&◌, ◌-◌, ◌*◌, ◌^◌, slice_get, slice_range}
+use Rattle.std.specs.Prelude.{IfOk, Result, Ok, Err}
 use Rattle.std.specs.Option.{option_map_or}
 use Rattle.std.proofs.Common.{◌≡◌, ℕ, zero, suc, ◌+◌, ◌<◌, ◌≤◌, List, [], ◌∷◌, Option, None, Some, Bool, true, false, length, take, drop, get_or, refl, sym, subst, arith}
 use Rattle.std.proofs.lemmas.Bool.{leb-true}
@@ -7,7 +8,7 @@ use Rattle.std.proofs.lemmas.Option.{get_or_from_slice_get, slice_get_within}
 use Rattle.tt_abs.specs.Ranges.{AreBytes}
 use Rattle.tt_font.specs.Numbers.{u16_at}
 use Rattle.tt_font.specs.Directory.{Extent, extent, table}
-use Rattle.tt_font.specs.Conditions.{Condition, directory_fault, first, glyphs_fault, lies_in, loca_fault, maxp_fault, optional_table_fault, table_fault, unless}
+use Rattle.tt_font.specs.Conditions.{TestsWithMemory, Condition, directory_fault, first, glyphs_fault, lies_in, loca_fault, maxp_fault, optional_table_fault, table_fault, unless}
 use Rattle.tt_font.specs.declared.tag.Tag.{Tag}
 use Rattle.tt_font.specs.declared.tag.Tag.TheVariants.{Cvt, Fpgm, Glyf, Head, Loca, Maxp, Prep}
 use Rattle.tt_font.specs.declared.fault.FontFault.{FontFault}
@@ -162,3 +163,9 @@ font_in_range bytes d h none reads = record {
       let G : GlyphData → Type 0 = λ x. AreFewBytes x.program in
       subst G is (subst HasFewBytes glyph.program (program_few (font_glyphs bytes id) (glyph_are_bytes bytes id h)));
 }
+
+-- so it is with a font that was read
+pub read_in_range : (bytes : List ℕ) (r : Result FontData FontFault) → AreBytes bytes → TestsWithMemory (font_fault bytes) r → IfOk r (λ font. Reads bytes font)
+    → IfOk r (λ font. IsFontInRange font)
+read_in_range bytes (Ok d) h tests reads = font_in_range bytes d h tests reads
+read_in_range bytes (Err e) h tests reads = tt

@@ -10,6 +10,7 @@ use Rattle.tt_abs.specs.declared.state.State.{State}
 use Rattle.tt_abs.specs.Entries.{Rises}
 use Rattle.tt_abs.specs.Settings.{programs_of, setting_of}
 use Rattle.tt_abs.specs.StateFlow.{FunctionsFit, Place}
+use Rattle.tt_cert.specs.Fillings.{HasGoodFilling, IsFilling}
 use Rattle.tt_cert.specs.GoodFamilies.{EndsWell, HasEnd, IsGoodFamily}
 use Rattle.tt_cert.specs.declared.fault.ProgramFault.{ProgramFault}
 use Rattle.tt_cert.specs.declared.fault.ProgramFault.TheVariants.{Refused, OutOfMemory}
@@ -18,9 +19,10 @@ use Rattle.tt_font.specs.Reading.{FontData}
 use Rattle.hintcheck.specs.FontLooks.{AreAllRefused, ComesToEnd, IsKnownAtEnd}
 use Rattle.hintcheck.specs.FontPrograms.{cvt_refused, cvt_subject, font_refused, font_subject}
 use Rattle.hintcheck.specs.Looks.{IfRefused, IsAccepted, IsListed, IsLookedAt, told_at}
-use Rattle.hintcheck.specs.Programs.{EndsWith, HasLeastFamily, IsCutInto, IsRefusal, Subject}
-use Rattle.hintcheck.proofs.LookLemmas.{looked_at}
-use Rattle.hintcheck.specs.declared.report.Name.TheVariants as name
+use Rattle.hintcheck.specs.CheckedFonts.{IsGoodAtEnd}
+use Rattle.hintcheck.specs.Programs.{EndsWith, HasGoodFamily, HasLeastFamily, IsCutInto, IsRefusal, Subject}
+use Rattle.hintcheck.proofs.LookLemmas.{looked_at, of_subject}
+use Rattle.tt_cert_file.specs.declared.name.Name.TheVariants as name
 use Rattle.hintcheck.specs.declared.report.Refused.{Refused as AnyRefused}
 
 -- the functions of a good family's states rise by number
@@ -47,17 +49,51 @@ comes_there s FontProgram family ends comes = ends
 comes_there s CvtProgram family ends comes = ends
 comes_there s (GlyphProgram points contours) family ends comes = absurd comes
 
-pub found_at_end : (x : Subject) (is : List Instruction) (family : Place → Option State) (s : MachineSetting) (n : ℕ) (found : Option (Bor (List (ℕ × ℕ)))) → IsAccepted x is family → x.setting is ≡ s
-    → ComesToEnd s.kind → n ≡ size s.main → (found ≡ None → family ([], n) ≡ None) → is_some found ≡ true
-found_at_end x is family s n found a same comes long none =
-    let E : MachineSetting → Type 0 = λ t. EndsWell t t.kind family in
-    let ends = subst E same (ends_listed (x.setting is) family a.filling a.fills (x.setting is).kind a.good.ends) in
+pub listed_at_end : (s : MachineSetting) (functions : List (ℕ × ℕ)) (family filling : Place → Option State) (n : ℕ) (found : Option (Bor (List (ℕ × ℕ)))) → IsFilling s family filling
+    → IsGoodFamily s functions filling → ComesToEnd s.kind → n ≡ size s.main → (found ≡ None → family ([], n) ≡ None) → is_some found ≡ true
+listed_at_end s functions family filling n found fills good comes long none =
+    let ends = ends_listed s family filling fills s.kind good.ends in
     let (end, at) = comes_there s s.kind family ends comes in
     go end (ap (λ (k : ℕ). family ([], k)) long ∙ at) found none
   where
     go : (end : State) → family ([], n) ≡ Some end → (o : Option (Bor (List (ℕ × ℕ)))) → (o ≡ None → family ([], n) ≡ None) → is_some o ≡ true
     go end at None none = absurd (let no_such : None ≡ Some end = sym (none refl) ∙ at in cc)
     go end at (Some fs) none = refl
+
+pub found_at_end : (x : Subject) (is : List Instruction) (family : Place → Option State) (s : MachineSetting) (n : ℕ) (found : Option (Bor (List (ℕ × ℕ)))) → IsAccepted x is family → x.setting is ≡ s
+    → ComesToEnd s.kind → n ≡ size s.main → (found ≡ None → family ([], n) ≡ None) → is_some found ≡ true
+found_at_end x is family s n found a same comes long none =
+    let F : MachineSetting → Type 0 = λ t. IsFilling t family a.filling in
+    let G : MachineSetting → Type 0 = λ t. IsGoodFamily t x.functions a.filling in
+    listed_at_end s x.functions family a.filling n found (subst F same a.fills) (subst G same a.good) comes long none
+
+-- what a program by a good family of a filling knows at its end
+pub good_at_end : (x : Subject) (s : Setting) (family : Place → Option State) (n : ℕ) (found : Option (Bor (List (ℕ × ℕ)))) (functions : Bor (List (ℕ × ℕ))) (copy : List (ℕ × ℕ)) → IsLookedAt x s
+    → HasGoodFilling (setting_of s) s.start.now family → n ≡ size s.main.now
+    → IfSome found (λ fs. (end : State) × (family ([], n) ≡ Some end) × (fs.now ≡ end.functions)) → found ≡ Some functions → copy ≡ functions.now → IsGoodAtEnd x s.main.now copy
+good_at_end x s family n found functions copy looked (filling, fills, good) size_is some e copied =
+    let S : Option (Bor (List (ℕ × ℕ))) → Type 0 = λ o. IfSome o (λ fs. (end : State) × (family ([], n) ≡ Some end) × (fs.now ≡ end.functions)) in
+    let (end, at, same) = subst S e some in
+    let x_good : IsGoodFamily (x.setting s.main.now) x.functions filling = of_subject (λ t fs. IsGoodFamily t fs filling) x s.main.now (setting_of s) s.start.now looked.setting looked.functions good in
+    let kept : filling ([], size s.main.now) ≡ Some end = fills.keeps ([], size s.main.now) end (ap (λ (k : ℕ). family ([], k)) (sym size_is) ∙ at) in
+    let R : List (ℕ × ℕ) → Type 0 = λ fs. Rises fs in
+    record {
+      ends = record { cut = looked.cut; family = filling; good = x_good; end = end; at_end = kept; functions_are = sym (copied ∙ same) };
+      rises = subst R (sym (copied ∙ same)) (functions_rise (x.setting s.main.now) x.functions filling ([], size s.main.now) end x_good kept);
+    }
+
+-- a program with a good filling has a good family
+pub good_of_filling : (x : Subject) (s : Setting) (family : Place → Option State) → IsLookedAt x s → HasGoodFilling (setting_of s) s.start.now family → HasGoodFamily x
+good_of_filling x s family looked (filling, fills, good) = record {
+  instructions = s.main.now;
+  cut = looked.cut;
+  family = filling;
+  good = of_subject (λ t fs. IsGoodFamily t fs filling) x s.main.now (setting_of s) s.start.now looked.setting looked.functions good;
+}
+
+-- a good family is its own good filling
+pub own_filling : (s : MachineSetting) (functions : List (ℕ × ℕ)) (family : Place → Option State) → IsGoodFamily s functions family → HasGoodFilling s functions family
+own_filling s functions family good = (family, record { keeps = λ p a at. at; added = λ q t at none. absurd (let no : Some t ≡ None = sym at ∙ none in cc) }, good)
 
 -- an accepted program has its least family
 pub least_of : (x : Subject) (is : List Instruction) (family : Place → Option State) → IsAccepted x is family → HasLeastFamily x

@@ -12,7 +12,7 @@ use Rattle.hintcheck.specs.FontLooks.{AreRefusedBelow}
 use Rattle.hintcheck.specs.FontPrograms.{AreRefused, accepted, all_looked_at, glyph_subject, refused}
 use Rattle.hintcheck.specs.Programs.{HasLeastFamily, IsRefusal}
 use Rattle.hintcheck.specs.Looks.{IfRefused, IsListed, told_at}
-use Rattle.hintcheck.specs.declared.report.Name.TheVariants as name
+use Rattle.tt_cert_file.specs.declared.name.Name.TheVariants as name
 use Rattle.hintcheck.specs.declared.report.Refused.{Refused}
 use Rattle.tt_cert.specs.declared.fault.ProgramFault.{ProgramFault}
 use Rattle.tt_cert.specs.declared.fault.ProgramFault.TheVariants as fault

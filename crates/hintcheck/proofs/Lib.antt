@@ -6,3 +6,6 @@ pub mod FontBytes
 pub mod FontSafety
 pub mod FontLists
 pub mod EmptyPrograms
+pub mod NameLemmas
+pub mod ListingLemmas
+pub mod CheckedLists

@@ -32,7 +32,7 @@ use Rattle.tt_cert.specs.declared.spot.Spot.{Spot}
 use Rattle.tt_find.specs.Found.{HasLeastFilling, IsJustified, IsLeast, IsNeverEnding, LacksEnd, NamesPlace, NoneIsGood, too_long, refused, apart, too_many, never_ends}
 use Rattle.hintcheck.specs.Programs.{HasGoodFamily, HasLeastFamily, IsCause, IsCutInto, IsRefusal, Subject, no_family, program_at}
 use Rattle.hintcheck.specs.Looks.{IfRefused, IsAccepted, IsLookedAt, told_at}
-use Rattle.hintcheck.specs.declared.report.Name.{Name}
+use Rattle.tt_cert_file.specs.declared.name.Name.{Name}
 use Rattle.hintcheck.specs.declared.report.Refused.{Refused as AnyRefused}
 
 -- what holds of a setting and its functions holds of a subject that has them

@@ -3,10 +3,15 @@ use Rattle.std.specs.Prelude.{◌≡◌, ◌+◌, ℕ, List, Option, IfSome, Res
 use Rattle.std.specs.Io.KnownBytes.{Consumes, IsAtEnd}
 use Rattle.hintcheck.specs.declared.commands.faults.CommandFault.{CommandFault}
 use Rattle.hintcheck.specs.declared.commands.faults.CommandFault.TheVariants as fault
+use Rattle.hintcheck.specs.declared.certified.CheckFontFault.{CheckFontFault}
+use Rattle.hintcheck.specs.declared.certified.CheckFontFault.TheVariants as check
+use Rattle.hintcheck.specs.declared.certifying.FindFontFault.{FindFontFault}
+use Rattle.hintcheck.specs.declared.certifying.FindFontFault.TheVariants as find
 use Rattle.tt_stream.specs.declared.text.PrintFailed.{PrintFailed}
 use Rattle.tt_stream.specs.declared.text.PrintFailed.TheVariants as failed
 use Rattle.tt_stream.specs.declared.reads.ReadFault.{ReadFault}
 use Rattle.tt_stream.specs.declared.reads.ReadFault.TheVariants as reading
+use Rattle.hintcheck_words.specs.Requests.{Request, bare, check, find, list, verdict}
 use Rattle.hintcheck_words.specs.declared.hex_words.WordFault.{WordFault}
 use Rattle.hintcheck_words.specs.declared.hex_words.WordFault.TheVariants as words
 use Rattle.tt_font.specs.declared.fault.FontFault.{FontFault}
@@ -37,6 +42,19 @@ abbrev pub fault_of_reading : ReadFault → CommandFault
 fault_of_reading reading.Read = fault.Read
 fault_of_reading (reading.OutOfMemory error) = fault.OutOfMemory
 
+-- the fault of a font that isn't checked by its certificate
+abbrev pub fault_of_check : CheckFontFault → CommandFault
+fault_of_check (check.Font font) = fault.Font (record { 0 = font })
+fault_of_check (check.Form place) = fault.Form place
+fault_of_check check.Read = fault.Read
+fault_of_check (check.OutOfMemory error) = fault.OutOfMemory
+
+-- the fault of a font whose certificate isn't found or written
+abbrev pub fault_of_find : FindFontFault → CommandFault
+fault_of_find (find.Font font) = fault.Font (record { 0 = font })
+fault_of_find find.Write = fault.File
+fault_of_find (find.OutOfMemory error) = fault.OutOfMemory
+
 -- the fault of a word of hexadecimal digits, which is `bad` where it spells no bytes
 abbrev pub fault_of_word : WordFault → CommandFault → CommandFault
 fault_of_word words.BadWord bad = bad
@@ -61,3 +79,11 @@ ReadsToEnd old new bytes = Consumes old new bytes × IsAtEnd new
 -- these are the bytes that were left, where those are known
 abbrev pub HasAll : Option (List ℕ) → List ℕ → Type 0
 HasAll left bytes = IfSome left (λ known. bytes ≡ known)
+
+-- a verdict is asked for, and no listing
+abbrev pub IsForVerdict : Request → Type 0
+IsForVerdict (bare maxp cvt points contours program) = Unit {0}
+IsForVerdict (verdict font) = Unit {0}
+IsForVerdict (find font certificate) = Unit {0}
+IsForVerdict (check font certificate) = Unit {0}
+IsForVerdict (list font program) = ⊥

@@ -4,5 +4,8 @@ pub mod FontPrograms
 pub mod Looks
 pub mod FontLooks
 pub mod Judging
+pub mod Listing
 pub mod Commands
 pub mod MeansSafe
+pub mod CheckedFonts
+pub mod CertificateFaults

@@ -14,7 +14,7 @@ use Rattle.tt_cert.specs.declared.fault.ProgramFault.TheVariants.{Refused, OutOf
 use Rattle.tt_cert.specs.declared.spot.Spot.{Spot}
 use Rattle.tt_find.specs.Found.{IsLeast}
 use Rattle.hintcheck.specs.Programs.{IsCutInto, Subject, program_at}
-use Rattle.hintcheck.specs.declared.report.Name.{Name}
+use Rattle.tt_cert_file.specs.declared.name.Name.{Name}
 use Rattle.hintcheck.specs.declared.report.Refused.{Refused as AnyRefused}
 
 -- this is the program that is looked at in this setting

@@ -12,8 +12,8 @@ use Rattle.tt_cert.specs.Spots.{spot_of}
 use Rattle.tt_cert.specs.declared.spot.Spot.{Spot}
 use Rattle.tt_cert.specs.declared.spot.Spot.TheVariants as spot
 use Rattle.tt_find.specs.Found.{IsJustified, IsLeast}
-use Rattle.hintcheck.specs.declared.report.Name.{Name}
-use Rattle.hintcheck.specs.declared.report.Name.TheVariants as name
+use Rattle.tt_cert_file.specs.declared.name.Name.{Name}
+use Rattle.tt_cert_file.specs.declared.name.Name.TheVariants as name
 use Rattle.hintcheck.specs.declared.report.Refused.{Refused}
 
 -- A program that is looked at: its name; its bytes; what it is checked against, once its instructions are known; and the functions that

@@ -4,22 +4,30 @@
 ghost use Rattle.std.specs.Prelude.{◌≡◌, ◌≢◌, ◌+◌, ◌≤◌, ◌<◌, ◌⊎◌, ℕ, IfErr, IfOk, List, [], map, option_map, string_bytes, true, unwrap_or};
 ghost use Rattle.tt_stream.specs.Streams.{CountsPrintFailure};
 ghost use Rattle.hintcheck_words.specs.Requests.{asked, is_taken};
-ghost use Rattle.hintcheck.specs.Commands.{HasAll, IsNoWriteFault, ReadsToEnd, TellsFailedRead, TellsFailure, status_of};
-ghost use Rattle.hintcheck.specs.MeansSafe.{HoldRefusedFont, HoldSafeFont, IsRefusedRequest, IsSafeRequest, IsVerdictOn, MeansRefused, MeansSafe, SpellRefusedGlyph, SpellSafeGlyph};
+ghost use Rattle.hintcheck.specs.Commands.{HasAll, IsForVerdict, IsNoWriteFault, ReadsToEnd, TellsFailedRead, TellsFailure, status_of};
+ghost use Rattle.hintcheck.specs.FontLooks.{IsFontInRange};
+ghost use Rattle.hintcheck.specs.FontPrograms.{IsSafeFont, IsVerdict};
+ghost use Rattle.hintcheck.specs.Listing.{HoldUnlistedProgram};
+ghost use Rattle.hintcheck.specs.MeansSafe.{HoldFont, HoldRefusedFont, HoldSafeFont, IsRefusedRequest, IsSafeRequest, IsVerdictOn, MeansRefused, MeansSafe, SpellRefusedGlyph, SpellSafeGlyph};
 
 pub mod faults;
 
+use crate::certified::check_read_font;
+use crate::certifying::find_programs;
 use crate::fonts;
+use crate::fonts::read_font;
 use crate::judge::bare;
+use crate::listing::list_program;
 use crate::report::{Name, Verdict};
 use faults::CommandFault;
 use hintcheck_words::{Task, TaskFault, read_words, word_bytes};
 use std::alloc::{AllocError, Global};
 use std::fs;
-use std::io::Read;
+use std::io::{BufReader, Read, Write};
 use std::marker::Brand;
 use std::rt::Files;
 use std::sync::ledger::{Blank, Ledger};
+use tt_font::Font;
 use tt_stream::{Counted, PrintFailed, Sink, Source, read_all};
 
 /// The exit status where every program is accepted, or help was asked for.
@@ -115,6 +123,123 @@ fn file_verdict<R: Files + AllocGlobal>(rt: &R, name: &str) -> Result<Verdict, C
     verdict_on_bytes::<Brand, _>(rt.alloc(), file, Blank::new(1))
 }
 
+/// The bytes that are left in the file.
+fn read_file<L: Ledger, F: Read + Drop>(
+    alloc: Global,
+    file: F,
+    blank: Blank,
+) -> Result<Vec<u8>, CommandFault>
+    requires { (blank.name ≡ L.name) × (blank.parts ≡ L.parts) × (0 < blank.parts) }
+    ensures read { IfOk result (λ bytes. HasAll (F.remaining file) bytes.items) }
+    ensures fault { IfErr result IsNoWriteFault }
+{
+    let mut source = Counted::<F, L>::new(file, blank);
+    Ok(read_all(alloc, &mut source)?)
+}
+
+/// The bytes of the file with this name.
+fn file_bytes<R: Files + AllocGlobal>(rt: &R, name: &str) -> Result<Vec<u8>, CommandFault>
+    ensures { IfErr result IsNoWriteFault }
+{
+    let Ok(file) = fs::open(rt, name) else {
+        return Err(CommandFault::Read);
+    };
+    read_file::<Brand, _>(rt.alloc(), file, Blank::new(1))
+}
+
+/// The verdict on a font by the certificate that is left in the file.
+fn verdict_by_file<L: Ledger, F: Read + Drop>(
+    alloc: Global,
+    font: &Font<'_>,
+    file: F,
+    blank: Blank,
+) -> Result<Verdict, CommandFault>
+    requires range { IsFontInRange font.now }
+    requires blank { (blank.name ≡ L.name) × (blank.parts ≡ L.parts) × (0 < blank.parts) }
+    ensures safe { IfOk result (λ verdict. verdict.refused ≡ [] → IsSafeFont font.now) }
+    ensures fault { IfErr result IsNoWriteFault }
+{
+    let mut source = Counted::<F, L>::new(file, blank);
+    Ok(check_read_font(alloc, font, &mut source)?)
+}
+
+/// The verdict on the font file with the first name by the certificate in the file with the second, which is opened where the first is a font.
+fn check_verdict<R: Files + AllocGlobal>(
+    rt: &R,
+    font: &str,
+    certificate: &str,
+) -> Result<Verdict, CommandFault>
+    ensures safe { IfOk result (λ verdict. verdict.refused ≡ [] → (bytes : List ℕ) × HoldSafeFont bytes) }
+    ensures font { IfOk result (λ verdict. (bytes : List ℕ) × HoldFont bytes) }
+    ensures fault { IfErr result IsNoWriteFault }
+{
+    let bytes = file_bytes(rt, font)?;
+    let font = read_font(rt.alloc(), &bytes)?;
+    let Ok(file) = fs::open(rt, certificate) else {
+        return Err(CommandFault::Read);
+    };
+    let Ok(file) = BufReader::new(rt.alloc(), file) else {
+        return Err(CommandFault::OutOfMemory);
+    };
+    verdict_by_file::<Brand, _>(rt.alloc(), &font, file, Blank::new(1))
+}
+
+/// The verdict on a font, whose certificate is written to the file.
+fn verdict_to_file<L: Ledger, F: Write + Drop>(
+    alloc: Global,
+    font: &Font<'_>,
+    file: F,
+    blank: Blank,
+) -> Result<Verdict, CommandFault>
+    requires range { IsFontInRange font.now }
+    requires blank { (blank.name ≡ L.name) × (blank.parts ≡ L.parts) × (0 < blank.parts) }
+    ensures exact { IfOk result (λ verdict. IsVerdict font.now verdict) }
+    ensures fault { IfErr result IsNoWriteFault }
+{
+    let mut sink = Counted::<F, L>::new(file, blank);
+    Ok(find_programs(alloc, font, &mut sink)?)
+}
+
+/// The verdict on the font file with the first name, whose certificate is written to the file with the second, which is made or emptied where the
+/// first is a font.
+fn find_verdict<R: Files + AllocGlobal>(
+    rt: &R,
+    font: &str,
+    certificate: &str,
+) -> Result<Verdict, CommandFault>
+    ensures safe { IfOk result (λ verdict. verdict.refused ≡ [] → (bytes : List ℕ) × HoldSafeFont bytes) }
+    ensures refused { IfOk result (λ verdict. verdict.refused ≢ [] → (bytes : List ℕ) × HoldRefusedFont bytes) }
+    ensures fault { IfErr result IsNoWriteFault }
+{
+    if font == certificate {
+        return Err(CommandFault::CertificateWord);
+    }
+    let bytes = file_bytes(rt, font)?;
+    let font = read_font(rt.alloc(), &bytes)?;
+    let Ok(file) = fs::create(rt, certificate) else {
+        return Err(CommandFault::File);
+    };
+    verdict_to_file::<Brand, _>(rt.alloc(), &font, file, Blank::new(1))
+}
+
+/// Lists the program of the font file with this name whose name the word is, and answers the exit status: 0 listed, 1 refused.
+///
+/// # Errors
+/// `Read` where the file can't be opened or read; the faults of `list_program`.
+fn list_of_file<R: Files + AllocGlobal, O: Sink>(
+    rt: &R,
+    name: &str,
+    word: &str,
+    out: &mut O,
+) -> Result<u8, CommandFault>
+    ensures status { IfOk result (λ status. status ≤ 1) }
+    ensures refused { IfOk result (λ status. status ≡ 1 → (bytes : List ℕ) × HoldUnlistedProgram bytes word.now) }
+    ensures failures { TellsFailure result (O.failures out.old) (O.failures out.new) }
+{
+    let bytes = file_bytes(rt, name)?;
+    list_program(rt.alloc(), &bytes, word, out)
+}
+
 /// The word, empty where it is left out.
 fn word_or_empty(word: &Option<String>) -> &str
     ensures { result.now ≡ unwrap_or (option_map (λ s. string_bytes s) word.now) [] }
@@ -127,6 +252,7 @@ fn word_or_empty(word: &Option<String>) -> &str
 
 /// The verdict that the task asks for.
 fn verdict_on<R: Files + AllocGlobal>(rt: &R, task: &Task) -> Result<Verdict, CommandFault>
+    requires { IsForVerdict (asked task.now) }
     ensures safe { IfOk result (λ verdict. verdict.refused ≡ [] → IsSafeRequest (asked task.now)) }
     ensures refused { IfOk result (λ verdict. verdict.refused ≢ [] → IsRefusedRequest (asked task.now)) }
     ensures fault { IfErr result IsNoWriteFault }
@@ -147,15 +273,51 @@ fn verdict_on<R: Files + AllocGlobal>(rt: &R, task: &Task) -> Result<Verdict, Co
             word_or_empty(program),
         ),
         Task::Verdict { font } => file_verdict(rt, font),
+        Task::Find { font, certificate } => find_verdict(rt, font, certificate),
+        Task::Check { font, certificate } => check_verdict(rt, font, certificate),
+        Task::List { .. } => unreachable!(),
     }
 }
 
-/// Does what the words of a command line ask for and prints the answer to `out`, and answers the exit status: 0 accepted, 1 refused. It
-/// is `command` but that the fault is the caller's to tell.
+/// Prints the verdict, and answers the exit status.
+fn tell_verdict<O: Sink>(out: &mut O, verdict: Verdict) -> Result<u8, CommandFault>
+    ensures status { IfOk result (λ status. status ≤ 1) }
+    ensures accepted { IfOk result (λ status. status ≡ 0 → verdict.refused ≡ []) }
+    ensures refused { IfOk result (λ status. status ≡ 1 → verdict.refused ≢ []) }
+    ensures failures { TellsFailure result (O.failures out.old) (O.failures out.new) }
+{
+    print_verdict(out, &verdict)?;
+    Ok(if verdict.accepted() {
+        ACCEPTED
+    } else {
+        REFUSED
+    })
+}
+
+/// Does the task, prints the answer to `out`, and answers the exit status.
+fn do_task<R: Files + AllocGlobal, O: Sink>(
+    rt: &R,
+    task: &Task,
+    out: &mut O,
+) -> Result<u8, CommandFault>
+    ensures status { IfOk result (λ status. status ≤ 1) }
+    ensures safe { IfOk result (λ status. status ≡ 0 → IsSafeRequest (asked task.now)) }
+    ensures refused { IfOk result (λ status. status ≡ 1 → IsRefusedRequest (asked task.now)) }
+    ensures failures { TellsFailure result (O.failures out.old) (O.failures out.new) }
+{
+    match task {
+        Task::List { font, program } => list_of_file(rt, font, program, out),
+        task => tell_verdict(out, verdict_on(rt, task)?),
+    }
+}
+
+/// Does what the words of a command line ask for and prints the answer to `out`, and answers the exit status: 0 accepted or listed, 1
+/// refused. It is `command` but that the fault is the caller's to tell.
 ///
 /// # Errors
 /// `Write` exactly where a write to `out` failed; `Usage` for words that the command line doesn't take; `MaxpWord` and `ProgramWord` for a
-/// word that spells no bytes; `Font`, `Read` and `OutOfMemory`.
+/// word that spells no bytes; `ProgramWord` for one that names no program of the font too; `CertificateWord` where a font's file is to be its
+/// certificate's; `Font`, `Form`, `Read`, `File` and `OutOfMemory`.
 pub fn try_command<R: Files + AllocGlobal, O: Sink>(
     rt: &R,
     words: &[&str],
@@ -167,15 +329,7 @@ pub fn try_command<R: Files + AllocGlobal, O: Sink>(
     ensures failures { TellsFailure result (O.failures out.old) (O.failures out.new) }
 {
     match read_words(rt.alloc(), words) {
-        Ok(task) => {
-            let verdict = verdict_on(rt, &task)?;
-            print_verdict(out, &verdict)?;
-            Ok(if verdict.accepted() {
-                ACCEPTED
-            } else {
-                REFUSED
-            })
-        }
+        Ok(task) => do_task(rt, &task, out),
         Err(TaskFault::Words(text)) => {
             if text.use_stderr() {
                 return Err(CommandFault::Usage(TaskFault::Words(text)));
@@ -188,7 +342,7 @@ pub fn try_command<R: Files + AllocGlobal, O: Sink>(
 }
 
 /// Does what the words of a command line ask for, prints the answer to `out` or a fault to `err`,
-/// and answers the exit status: 0 accepted, 1 refused, 2 words, input or output that can't be read
+/// and answers the exit status: 0 accepted or listed, 1 refused, 2 words, input or output that can't be read
 /// or written, 3 out of memory. The first word is the program's own name. Printing takes no memory.
 pub fn command<R: Files + AllocGlobal, O: Sink, E: Sink>(
     rt: &R,

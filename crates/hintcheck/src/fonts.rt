@@ -46,9 +46,9 @@ fn end_functions(
 
 /// A font program or a CVT program, and the functions that are known where it ends, by rising number.
 #[derive(Drop)]
-struct Ended<'a> {
-    program: Program<'a>,
-    functions: Vec<(u16, u32)>,
+pub(crate) struct Ended<'a> {
+    pub(crate) program: Program<'a>,
+    pub(crate) functions: Vec<(u16, u32)>,
 }
 
 /// Looks at the font program.
@@ -71,7 +71,11 @@ fn look_at_font_program<'a>(
 }
 
 /// The setting of the CVT program, which starts with the functions that are known where the font program ends.
-fn cvt_setting<'a>(font: &Font<'_>, fpgm: &'a Ended<'_>, program: &'a Program<'_>) -> Setting<'a>
+pub(crate) fn cvt_setting<'a>(
+    font: &Font<'_>,
+    fpgm: &'a Ended<'_>,
+    program: &'a Program<'_>,
+) -> Setting<'a>
     ensures setting { setting_of result ≡ setting_of_cvt_program (font_of font.now fpgm.entry.now.program program.entry.now) }
     ensures programs { programs_of result ≡ font_of font.now fpgm.entry.now.program program.entry.now }
     ensures main { result.main.now ≡ program.entry.now }
@@ -174,7 +178,7 @@ fn refused_alone(alloc: Global, name: Name, fault: ProgramFault) -> Result<Vec<R
 }
 
 /// Looks at the programs of a font, one after the other, each in the memory of those before: the refused ones, in their order.
-fn refused_programs(alloc: Global, font: &Font<'_>) -> Result<Vec<Refused>, AllocError>
+pub(crate) fn refused_programs(alloc: Global, font: &Font<'_>) -> Result<Vec<Refused>, AllocError>
     requires { IsFontInRange font.now }
     ensures { IfOk result (λ refused. AreAllRefused font.now refused.items) }
 {
@@ -194,6 +198,18 @@ fn refused_programs(alloc: Global, font: &Font<'_>) -> Result<Vec<Refused>, Allo
     refused_glyphs(alloc, &mut finder, font, &common)
 }
 
+/// Reads a font, whose programs and numbers are in their ranges.
+///
+/// # Errors
+/// The faults of `Font::read`.
+pub(crate) fn read_font<'a>(alloc: Global, bytes: &'a [u8]) -> Result<Font<'a>, FontFault>
+    ensures reads { IfOk result (λ font. Reads bytes.entry.now font) }
+    ensures range { IfOk result (λ font. IsFontInRange font) }
+    ensures faults { TestsWithMemory (font_fault bytes.entry.now) result }
+{
+    Font::read(alloc, bytes)
+}
+
 /// The verdict on the programs of a font file: on the font program, then on the CVT program, then on each glyph program. The CVT program
 /// starts with the functions that are known where the font program ends, and a glyph program with those that are known where the CVT
 /// program ends. A refused font program or CVT program ends the look; a refused glyph program doesn't.
@@ -204,7 +220,7 @@ pub fn verdict(alloc: Global, font: &[u8]) -> Result<Verdict, FontFault>
     ensures exact { IfOk result (λ v. (d : FontData) × Reads font.now d × IsVerdict d v × (v.refused ≡ [] → IsSafeFont d)) }
     ensures faults { TestsWithMemory (font_fault font.now) result }
 {
-    let read = Font::read(alloc, font)?;
+    let read = read_font(alloc, font)?;
     let refused = refused_programs(alloc, &read)?;
     Ok(Verdict::new(u32::from(read.glyph_count()) + 2, refused))
 }

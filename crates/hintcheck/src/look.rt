@@ -1,6 +1,8 @@
 //! The look at one program: it is cut, a family of abstract states is found for it, and the check of that family decides.
 
-ghost use Rattle.std.specs.Prelude.{◌≡◌, ℕ, ◌<◌, ◌^◌, IfErr, IfOk, OnOk, length};
+ghost use Rattle.std.specs.Prelude.{◌≡◌, ℕ, ◌<◌, ◌^◌, List, IfErr, IfOk, OnOk, length};
+ghost use Rattle.tt_code.specs.Cut.{Instruction, IsCut};
+ghost use Rattle.tt_code.specs.Grammar.{IsStructured};
 ghost use Rattle.tt_code.specs.Settings.{GlyphProgram};
 ghost use Rattle.tt_abs.specs.Entries.{Rises};
 ghost use Rattle.tt_abs.specs.Settings.{setting_of};
@@ -16,7 +18,7 @@ use std::alloc::{AllocError, Global};
 use tt_abs::Setting;
 use tt_cert::{Certificate, ProgramFault, Spot, check, one_good_filling};
 use tt_code::{CodeFault, Program, Reason};
-use tt_find::Finder;
+use tt_find::{Finder, find};
 
 /// The program in which a place stands that is reached from a program of this name.
 fn program_at(name: Name, spot: Spot) -> Name
@@ -80,6 +82,7 @@ pub(crate) fn cut<'a>(alloc: Global, bytes: &'a [u8]) -> Result<Program<'a>, Pro
     ensures cut { (x : Subject) → x.bytes ≡ bytes.entry.now → IfOk result (λ program. IsCutInto x program) }
     ensures refused { (x : Subject) → x.bytes ≡ bytes.entry.now → IfErr result (λ fault. IfRefused x.name fault (IsRefusal x)) }
     ensures none_good { (x : Subject) → x.bytes ≡ bytes.entry.now → IfErr result (λ fault. IfRefused x.name fault (λ _. HasGoodFamily x → ⊥)) }
+    ensures only { (instructions : List Instruction) → IsCut bytes.entry.now instructions → IsStructured instructions → IfErr result IsWantOfMemory }
 {
     match Program::cut(alloc, bytes) {
         Ok(program) => Ok(program),
@@ -132,4 +135,20 @@ pub(crate) fn look(
     one_good_filling();
     let found = finder.find(alloc, setting)?;
     checked(alloc, finder, setting, found.certificate)
+}
+
+/// Looks at the program of this setting as `look` does, for a certificate that lists no state that could be left out.
+///
+/// # Errors
+/// `Refused` where no family is found; `OutOfMemory`.
+pub(crate) fn certified(alloc: Global, setting: &Setting<'_>) -> Result<Certificate, ProgramFault>
+    requires rises { Rises setting.now.start.now }
+    requires fits { FunctionsFit (setting_of setting.now) setting.now.start.now }
+    ensures { (x : Subject) → IsLookedAt x setting.now → IfOk result (λ certificate. IsAccepted x setting.now.main.now (family_of certificate)) }
+{
+    setting.is_within();
+    one_good_filling();
+    let found = find(alloc, setting)?;
+    let mut finder = Finder::new(alloc);
+    checked(alloc, &mut finder, setting, found.certificate)
 }

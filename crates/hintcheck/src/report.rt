@@ -5,28 +5,8 @@ ghost use Rattle.hintcheck.specs.Verdicts.{Judgement};
 
 use std::fmt;
 use std::marker::Model;
+pub use tt_cert_file::Name;
 use tt_code::Reason;
-
-/// A program of a font.
-#[derive(Clone, Copy, Debug, PartialEq, Eq)]
-pub enum Name {
-    /// The font program, `fpgm`.
-    Font,
-    /// The CVT program, `prep`.
-    Cvt,
-    /// The program of the glyph with this number.
-    Glyph(u16),
-}
-
-impl fmt::Display for Name {
-    fn fmt<W: fmt::Write>(&self, f: &mut fmt::Formatter<W>) -> fmt::Result {
-        match self {
-            Name::Font => f.write_str("f"),
-            Name::Cvt => f.write_str("p"),
-            Name::Glyph(id) => write!(f, "g{id}"),
-        }
-    }
-}
 
 /// An offset in a program.
 #[derive(Clone, Copy, Debug, PartialEq, Eq)]

@@ -12,4 +12,6 @@ mod glyph_programs;
 #[cfg(test)]
 mod lines;
 #[cfg(test)]
+mod listing;
+#[cfg(test)]
 mod outputs;

@@ -1,5 +1,6 @@
--- Words in which clap finds no fault name `bare`, whose numbers are numbers then, or `verdict`.
-use Rattle.std.proofs.Common.{◌≡◌, ◌<◌, Bool, true, false, List, [], ◌∷◌, Option, Some, None, length, refl, sym, ap, subst, ◌∙◌, ◌⊎◌, inl, inr, arith, codes}
+-- Words in which clap finds no fault name a subcommand that asks for something, and the numbers of
+-- `bare` are numbers then.
+use Rattle.std.proofs.Common.{◌≡◌, ◌<◌, Bool, true, false, List, [], ◌∷◌, Option, Some, None, length, refl, sym, ap, subst, ◌∙◌, inl, inr, arith, codes}
 use Rattle.std.specs.Prelude.{find, fold, option_map, option_and_then, is_some, not, pos, ◌&&◌, ◌||◌}
 use Rattle.std.specs.List.{list_all, list_any}
 use Rattle.std.specs.Option.{option_map_or}
@@ -20,7 +21,7 @@ use Rattle.clap.specs.declared.builder.value_parser.ValueParser.TheVariants as v
 use Rattle.clap.proofs.ValueTestLemmas.{accepts-Accepts}
 use Rattle.clap.proofs.SimpleLemmas.{is_nil}
 use Rattle.clap.proofs.WalkLemmas.{both}
-use Rattle.hintcheck_words.specs.Requests.{HasNumber}
+use Rattle.hintcheck_words.specs.Requests.{HasNumber, request_of}
 use Rattle.hintcheck_words.proofs.Rows.{FitsRule, RowFits, RowsFit, all_found, both_empty, found_passes, takes_value, true_or_false}
 use Rattle.hintcheck_words.proofs.Walks.{Fits, HelpsIfAbove, IsNotHelp, OnlyHelp, settled_fits, walk_fits}
 
@@ -207,63 +208,84 @@ number_among s rows id a level n = go (find (λ r. bytes_eq r.id id) rows) refl 
 
 -- ---- the whole command line
 
--- a command whose subcommands are `bare`, `verdict` and `help`
-pub record IsLine (a : App) (s verdicts helps : Shape) : Type 0 where
+-- a subcommand beside `bare`: `help`, or one that asks for something
+abbrev pub is_other : List Row → Shape → Bool
+is_other rows s = is_empty s.aliases && (bytes_eq s.name (codes "help") || (not (bytes_eq s.name (codes "bare")) && is_some (request_of (s.name, rows))))
+
+-- a command whose subcommands are `bare` and others
+pub record IsLine (a : App) (s : Shape) (others : List Shape) : Type 0 where
   pub flags : OnlyHelp a.top.rules
   pub helped : a.top.disable_help_subcommand ≡ false
-  pub subs : a.subs ≡ s ∷ verdicts ∷ helps ∷ []
+  pub subs : a.subs ≡ s ∷ others
   pub leaf : IsLeaf s
-  pub label : label_of s ≡ (codes "bare", [])
-  pub verdict_label : label_of verdicts ≡ (codes "verdict", [])
-  pub help_label : label_of helps ≡ (codes "help", [])
+  pub known : (rows : List Row) → is_some (request_of (s.name, rows)) ≡ true
+  pub others_known : (rows : List Row) → list_all (is_other rows) others ≡ true
 
-pub record NamesBare (s : Shape) (name : Text) (rows : List Row) : Type 0 where
-  pub named : name ≡ codes "bare"
-  pub level : LevelRows s rows
-
-abbrev pub NamesOne : Shape → Text → List Row → Type 0
-NamesOne s name rows = NamesBare s name rows ⊎ (name ≡ codes "verdict")
+-- the subcommand asks for something, and the rows of `bare` have no fault
+pub record Names (s : Shape) (name : Text) (rows : List Row) : Type 0 where
+  pub known : is_some (request_of (name, rows)) ≡ true
+  pub level : name ≡ codes "bare" → LevelRows s rows
 
 pair_parts : (a b : Text) (x y : List Row) → ◌≡◌ {A = Option (Text × List Row)} (Some (a, x)) (Some (b, y)) → (a ≡ b) × (x ≡ y)
 pair_parts a b x y e = let p : ◌≡◌ {A = Text × List Row} (a, x) (b, y) = cc in (ap (λ q. q.0) p, ap (λ q. q.1) p)
 
-stop_names : (a : App) (s verdicts helps : Shape) (line : IsLine a s verdicts helps) (stop : Option (Text × List Text)) (name : Text) (rows : List Row) → IsNotHelp stop → entered_fault a stop ≡ []
-    → entered a stop ≡ Some (name, rows) → NamesOne s name rows
-stop_names a s verdicts helps line None name rows other e met = absurd cc
-stop_names a s verdicts helps line (Some p) name rows other e met = go (rw line.subs at e) (rw line.subs at met)
+-- another subcommand that is not `help`
+other_names : (s t : Shape) (word : Text) (rows : List Row) → answers_to word (label_of t) ≡ true → is_other rows t ≡ true → bytes_eq word (codes "help") ≡ false → Names s t.name rows
+other_names s t word rows answers other not_help =
+    let parts = both _ _ other in
+    let aliases : t.aliases ≡ [] = is_nil _ parts.0 in
+    let here : (bytes_eq t.name word || false) ≡ true = subst (λ (xs : List Text). (bytes_eq t.name word || list_any (λ alias. bytes_eq alias word) xs) ≡ true) aliases answers in
+    let same : t.name ≡ word = (bytes_eq-Decides t.name word).0 (left_true _ here) in
+    let not_named : bytes_eq t.name (codes "help") ≡ false = subst (λ (w : Text). bytes_eq w (codes "help") ≡ false) (sym same) not_help in
+    let rest = both _ _ (right_true _ _ not_named parts.1) in
+    record {
+      known = rest.1;
+      level = λ named. absurd (differs (bytes_eq t.name (codes "bare")) rest.0 ((bytes_eq-Decides t.name (codes "bare")).1 named));
+    }
+  where
+    left_true : (b : Bool) → (b || false) ≡ true → b ≡ true
+    left_true true e = refl
+    left_true false e = e
+
+    right_true : (b c : Bool) → b ≡ false → (b || c) ≡ true → c ≡ true
+    right_true true c f e = absurd cc
+    right_true false c f e = e
+
+    differs : (b : Bool) → not b ≡ true → b ≡ true → ⊥
+    differs true e f = cc
+    differs false e f = cc
+
+stop_names : (a : App) (s : Shape) (others : List Shape) (line : IsLine a s others) (stop : Option (Text × List Text)) (name : Text) (rows : List Row) → IsNotHelp stop → entered_fault a stop ≡ []
+    → entered a stop ≡ Some (name, rows) → Names s name rows
+stop_names a s others line None name rows other e met = absurd cc
+stop_names a s others line (Some p) name rows other e met = go (rw line.subs at e) (rw line.subs at met)
   where
     level : Shape → Kinds
     level t = level_fault t [] nothing_held p.1 false []
 
-    help_other : answers_to p.0 (label_of helps) ≡ false
-    help_other = subst (λ (l : Text × List Text). answers_to p.0 l ≡ false) (sym line.help_label) (elim (true_or_false (bytes_eq (codes "help") p.0)) [
-      | inl same ↦
-          let is : codes "help" ≡ p.0 = (bytes_eq-Decides (codes "help") p.0).0 same in
-          let back : bytes_eq p.0 (codes "help") ≡ true = (bytes_eq-Decides p.0 (codes "help")).1 (sym is) in
-          absurd cc
-      | inr differs ↦ rw differs refl
-    ])
+    among : (found : Option Shape) → find (λ t. answers_to p.0 (label_of t)) others ≡ found → option_map (λ t. rows_at t p.1) found ≡ Some (name, rows) → Names s name rows
+    among None is m = absurd cc
+    among (Some t) is m =
+        let parts = pair_parts t.name name (rows_after t.rules [] p.1) rows m in
+        let answers = found_passes (λ t. answers_to p.0 (label_of t)) others t is in
+        let known = all_found (is_other rows) (λ t. answers_to p.0 (label_of t)) others t (line.others_known rows) is in
+        subst (λ (n : Text). Names s n rows) parts.0 (other_names s t p.0 rows answers known other)
 
-    go : option_map_or level (find (λ t. answers_to p.0 (label_of t)) (s ∷ verdicts ∷ helps ∷ [])) [] ≡ []
-        → option_map (λ t. rows_at t p.1) (find (λ t. answers_to p.0 (label_of t)) (s ∷ verdicts ∷ helps ∷ [])) ≡ Some (name, rows) → NamesOne s name rows
+    go : option_map_or level (find (λ t. answers_to p.0 (label_of t)) (s ∷ others)) [] ≡ []
+        → option_map (λ t. rows_at t p.1) (find (λ t. answers_to p.0 (label_of t)) (s ∷ others)) ≡ Some (name, rows) → Names s name rows
     go f m = elim (true_or_false (answers_to p.0 (label_of s))) [
       | inl here ↦
           let parts = pair_parts s.name name (rows_after s.rules [] p.1) rows (rw here at m) in
-          inl (record {
-            named = sym parts.0 ∙ ap (λ (l : Text × List Text). l.0) line.label;
-            level = subst (LevelRows s) parts.1 (level_rows s line.leaf p.1 (rw here at f));
-          })
-      | inr absent ↦ elim (true_or_false (answers_to p.0 (label_of verdicts))) [
-        | inl here ↦
-            let parts = pair_parts verdicts.name name (rows_after verdicts.rules [] p.1) rows (rw (absent, here) at m) in
-            inr (sym parts.0 ∙ ap (λ (l : Text × List Text). l.0) line.verdict_label)
-        | inr neither ↦ let bad = rw (absent, neither, help_other) at m in absurd cc
-      ]
+          record {
+            known = subst (λ (n : Text). is_some (request_of (n, rows)) ≡ true) parts.0 (line.known rows);
+            level = λ named. subst (LevelRows s) parts.1 (level_rows s line.leaf p.1 (rw here at f));
+          }
+      | inr absent ↦ among _ refl (rw absent at m)
     ]
 
-pub line_names : (a : App) (s verdicts helps : Shape) (line : IsLine a s verdicts helps) (words : List Text) (name : Text) (rows : List Row) → built_fault a nothing_held words ≡ []
-    → entered a (walk a.top.rules (names_of a) nothing_held words).stopped ≡ Some (name, rows) → NamesOne s name rows
-line_names a s verdicts helps line words name rows e met =
+pub line_names : (a : App) (s : Shape) (others : List Shape) (line : IsLine a s others) (words : List Text) (name : Text) (rows : List Row) → built_fault a nothing_held words ≡ []
+    → entered a (walk a.top.rules (names_of a) nothing_held words).stopped ≡ Some (name, rows) → Names s name rows
+line_names a s others line words name rows e met =
     let parts = both_empty _ _ e in
     let walked_fits = walk_fits a.top (names_of a) line.flags (λ waiting word met is. line.helped) words (walk_from nothing_held) (nothing_fits a.top.rules) parts.0 in
-    stop_names a s verdicts helps line (walk a.top.rules (names_of a) nothing_held words).stopped name rows walked_fits.stopped (both_empty _ _ parts.1).0 met
+    stop_names a s others line (walk a.top.rules (names_of a) nothing_held words).stopped name rows walked_fits.stopped (both_empty _ _ parts.1).0 met

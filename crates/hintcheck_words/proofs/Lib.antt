@@ -1,3 +1,4 @@
+pub mod Building
 pub mod Faultless
 pub mod Line
 pub mod Meanings

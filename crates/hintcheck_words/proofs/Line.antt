@@ -1,50 +1,38 @@
 -- The command line of the program, built as clap builds it.
-use Rattle.std.proofs.Common.{◌≡◌, List, [], ◌∷◌, Some, refl, sym, ap, ◌∙◌, inl, inr, codes}
+use Rattle.std.proofs.Common.{◌≡◌, List, [], ◌∷◌, Some, refl, sym, ap, ◌∙◌, codes}
 use Rattle.clap.specs.Faults.{fault_of, is_simple_and_free}
 use Rattle.clap.specs.Simple.{App, new_rule, Shape, argument_words, built}
 use Rattle.clap.specs.Walk.{Row, Rule, Text, arg_by_id}
 use Rattle.clap.proofs.OnLiterals.{clap_on_literals}
 use Rattle.hintcheck_words.specs.CommandLine.{hintcheck}
-use Rattle.hintcheck_words.specs.Requests.{MeetsSubcommand, met}
+use Rattle.hintcheck_words.specs.Requests.{IsReadable, met, request_of, requests}
 use Rattle.hintcheck_words.proofs.Faultless.{IsLeaf, IsLine, IsNumberRule, line_names, number_among, only_help}
-use Rattle.std.specs.Prelude.{true, unwrap_or}
+use Rattle.std.specs.Prelude.{drop, true, unwrap_or}
 
 abbrev first_or : {X : Type 0} → X → List X → X
 first_or d [] = d
 first_or d (x ∷ xs) = x
 
-abbrev second_or : {X : Type 0} → X → List X → X
-second_or d [] = d
-second_or d (x ∷ xs) = first_or d xs
-
-abbrev third_or : {X : Type 0} → X → List X → X
-third_or d [] = d
-third_or d (x ∷ xs) = second_or d xs
-
--- `bare`, `verdict` and `help`, as parts of the built command line
+-- `bare` and the other subcommands, as parts of the built command line
 unfoldable pub bare_built : Shape
 bare_built = first_or hintcheck.top (built hintcheck).subs
 
-unfoldable pub verdict_built : Shape
-verdict_built = second_or hintcheck.top (built hintcheck).subs
-
-unfoldable pub help_built : Shape
-help_built = third_or hintcheck.top (built hintcheck).subs
+unfoldable pub others_built : List Shape
+others_built = drop 1 (built hintcheck).subs
 
 bare_leaf : IsLeaf bare_built
 unfolding hintcheck bare_built clap_on_literals
 bare_leaf = record { flags = only_help bare_built.rules refl refl; defaults = refl; negates = refl }
 
-line : IsLine (built hintcheck) bare_built verdict_built help_built
-unfolding hintcheck bare_built verdict_built help_built clap_on_literals
+line : IsLine (built hintcheck) bare_built others_built
+unfolding hintcheck bare_built others_built request_of requests clap_on_literals
 line = record {
   flags = only_help (built hintcheck).top.rules refl refl;
   helped = refl;
   subs = refl;
   leaf = bare_leaf;
-  label = refl;
-  verdict_label = refl;
-  help_label = refl;
+  known = λ rows. refl;
+  others_known = λ rows. refl;
 }
 
 unfoldable rule_at : Text → Rule
@@ -67,21 +55,18 @@ unfolding hintcheck clap_on_literals
 simple_and_free = refl
 
 -- words in which there is no fault, and that name a subcommand
-pub meets_one : (words : List Text) (name : Text) (rows : List Row) → fault_of hintcheck words ≡ [] → met words ≡ Some (name, rows) → MeetsSubcommand (met words)
+pub meets_one : (words : List Text) (name : Text) (rows : List Row) → fault_of hintcheck words ≡ [] → met words ≡ Some (name, rows) → IsReadable (name, rows)
 unfolding met
 meets_one words name rows e found =
-    elim (line_names (built hintcheck) bare_built verdict_built help_built line (argument_words hintcheck words) name rows e found) [
-      | inl named ↦ inl (record {
-        rows = rows;
-        met = found ∙ ap (λ (n : Text). Some (n, rows)) named.named;
-        numbers = record {
-          cvt = number_among bare_built rows (codes "CVT") (rule_at (codes "CVT")) named.level cvt_rule;
-          points = number_among bare_built rows (codes "POINTS") (rule_at (codes "POINTS")) named.level points_rule;
-          contours = number_among bare_built rows (codes "CONTOURS") (rule_at (codes "CONTOURS")) named.level contours_rule;
-        };
-      })
-      | inr named ↦ inr (record { rows = rows; met = found ∙ ap (λ (n : Text). Some (n, rows)) named })
-    ]
+    let named = line_names (built hintcheck) bare_built others_built line (argument_words hintcheck words) name rows e found in
+    record {
+      known = named.known;
+      numbers = λ bare. record {
+        cvt = number_among bare_built rows (codes "CVT") (rule_at (codes "CVT")) (named.level bare) cvt_rule;
+        points = number_among bare_built rows (codes "POINTS") (rule_at (codes "POINTS")) (named.level bare) points_rule;
+        contours = number_among bare_built rows (codes "CONTOURS") (rule_at (codes "CONTOURS")) (named.level bare) contours_rule;
+      };
+    }
 
 pub fault_is : (a : App) (words : List Text) → a ≡ hintcheck → (is_simple_and_free a ≡ true → fault_of a words ≡ []) → fault_of hintcheck words ≡ []
 fault_is a words same none = sym (ap (λ (b : App). fault_of b words) same) ∙ none (ap is_simple_and_free same ∙ simple_and_free)

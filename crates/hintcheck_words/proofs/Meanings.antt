@@ -1,16 +1,13 @@
 -- From what clap says of a parse to what the words mean.
-use Rattle.std.proofs.Common.{◌≡◌, Bool, true, false, List, Option, Some, None, codes, refl, ap, ◌∙◌, inl, inr, option_map}
-use Rattle.std.specs.Prelude.{◌||◌}
-use Rattle.clap.specs.declared.parser.matches.ArgMatches.{ArgMatches}
+use Rattle.std.proofs.Common.{◌≡◌, Bool, true, false, List, Option, Some, None, refl, ap, ◌∙◌, subst, sym, option_map}
 use Rattle.std.specs.Prelude.{is_some}
-use Rattle.std.proofs.Common.{subst, sym}
-use Rattle.clap.specs.Words.{has_subcommand, subcommand_rows_of, App, Row, Text, is_simple, subcommand_of, takes}
+use Rattle.std.specs.Str.{bytes_eq}
+use Rattle.std.proofs.lemmas.Slice.Eq.{bytes_eq-Decides}
+use Rattle.clap.specs.declared.parser.matches.ArgMatches.{ArgMatches}
+use Rattle.clap.specs.Words.{has_subcommand, subcommand_name_of, subcommand_rows_of, App, Row, Text, is_simple, subcommand_of, takes}
 use Rattle.clap.proofs.OnLiterals.{clap_on_literals}
 use Rattle.hintcheck_words.specs.CommandLine.{hintcheck}
-use Rattle.hintcheck_words.specs.Requests.{HasNumbers, MeetsSubcommand, Request, bare_request, is_taken, meaning, met, request_of, verdict_request}
-
-pub neither : (a b c : Bool) → a ≡ (b || c) → b ≡ false → c ≡ false → a ≡ false
-neither a b c e f g = rw (e, f, g) refl
+use Rattle.hintcheck_words.specs.Requests.{IsReadable, MeetsSubcommand, Request, is_taken, meaning, met, request_of}
 
 hintcheck_simple : is_simple hintcheck ≡ true
 unfolding hintcheck clap_on_literals
@@ -24,25 +21,24 @@ pub takes_is : (a : App) (words : List Text) → a ≡ hintcheck → is_taken wo
 unfolding is_taken
 takes_is a words same taken = ap (λ (b : App). takes b words) same ∙ taken
 
-pub option_map_map : {A B C : Type 0} (f : B → C) (g : A → B) (o : Option A) → option_map f (option_map g o) ≡ option_map (λ x. f (g x)) o
+option_map_map : {A B C : Type 0} (f : B → C) (g : A → B) (o : Option A) → option_map f (option_map g o) ≡ option_map (λ x. f (g x)) o
 option_map_map f g None = refl
 option_map_map f g (Some x) = refl
 
--- the subcommand that a parse met has this name and these rows
-pub pair_is : (o : Option (Text × List Row)) (name : Text) (rows : List Row) → option_map (λ p. p.0) o ≡ Some name → option_map (λ p. p.1) o ≡ Some rows → o ≡ Some (name, rows)
+pair_is : (o : Option (Text × List Row)) (name : Text) (rows : List Row) → option_map (λ p. p.0) o ≡ Some name → option_map (λ p. p.1) o ≡ Some rows → o ≡ Some (name, rows)
 pair_is None name rows e f = absurd cc
 pair_is (Some p) name rows e f =
     let a : p.0 ≡ name = cc in
     let b : p.1 ≡ rows = cc in
     rw (← a, ← b) refl
 
-pub means_bare : (words : List Text) (name : Text) (rows : List Row) (asked : Request) → met words ≡ Some (name, rows) → name ≡ codes "bare" → asked ≡ bare_request rows → meaning words ≡ Some asked
-unfolding meaning request_of
-means_bare words name rows asked found named same = rw (found, named, same) refl
+-- the subcommand that a parse met has this name and these rows
+pub subcommand_is : (m : ArgMatches) (name : Text) (rows : List Row) → Some name ≡ subcommand_name_of m → Some rows ≡ option_map (λ p. p.1) (subcommand_rows_of m) → subcommand_rows_of m ≡ Some (name, rows)
+subcommand_is m name rows e f = pair_is _ name rows (option_map_map _ _ _ ∙ sym e) (sym f)
 
-pub means_verdict : (words : List Text) (name : Text) (rows : List Row) (asked : Request) → met words ≡ Some (name, rows) → name ≡ codes "verdict" → asked ≡ verdict_request rows → meaning words ≡ Some asked
-unfolding meaning request_of
-means_verdict words name rows asked found named same = rw (found, named, same) refl
+pub means : (words : List Text) (p : Text × List Row) (asked : Request) → met words ≡ Some p → request_of p ≡ Some asked → meaning words ≡ Some asked
+unfolding meaning
+means words p asked found same = rw (found, same) refl
 
 some_mapped : {A B : Type 0} (f : A → B) (o : Option A) → is_some o ≡ true → (y : B) × (option_map f o ≡ Some y)
 some_mapped f None e = absurd cc
@@ -51,14 +47,14 @@ some_mapped f (Some x) e = (f x, refl)
 pub rows_met : (m : ArgMatches) → has_subcommand m ≡ true → (p : Text × List Row) × (subcommand_rows_of m ≡ Some p)
 rows_met m e = some_mapped _ _ e
 
-same_pair : (name name' : Text) (rows rows' : List Row) → ◌≡◌ {A = Option (Text × List Row)} (Some (name, rows)) (Some (name', rows')) → (name ≡ name') × (rows ≡ rows')
-same_pair name name' rows rows' e =
-    let pair : ◌≡◌ {A = Text × List Row} (name, rows) (name', rows') = cc in
-    (ap (λ (p : Text × List Row). p.0) pair, ap (λ (p : Text × List Row). p.1) pair)
+-- a text that is not the name of a subcommand
+pub differs : (word name : Text) → (word ≡ name → ⊥) → bytes_eq name word ≡ false
+differs word name other = go (bytes_eq name word) refl
+  where
+    go : (b : Bool) → bytes_eq name word ≡ b → b ≡ false
+    go false e = refl
+    go true e = absurd (other (sym ((bytes_eq-Decides name word).0 e)))
 
--- a subcommand with the name `bare` has its numbers
-pub numbers_of : (found : Option (Text × List Row)) (name : Text) (rows : List Row) → MeetsSubcommand found → found ≡ Some (name, rows) → name ≡ codes "bare" → HasNumbers rows
-numbers_of found name rows (inl m) e named = subst HasNumbers (same_pair _ name m.rows rows (sym m.met ∙ e)).1 m.numbers
-numbers_of found name rows (inr m) e named =
-    let is : codes "verdict" ≡ codes "bare" = (same_pair _ name m.rows rows (sym m.met ∙ e)).0 ∙ named in
-    absurd cc
+-- a subcommand that a parse met asks for something
+pub is_readable : (o : Option (Text × List Row)) (p : Text × List Row) → MeetsSubcommand o → o ≡ Some p → IsReadable p
+is_readable o p met e = subst (λ (q : Option (Text × List Row)). MeetsSubcommand q) e met

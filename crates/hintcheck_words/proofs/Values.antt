@@ -5,7 +5,7 @@ use Rattle.std.specs.Str.Parse.{ParsesUnsigned, digits_value, without_leading_pl
 use Rattle.clap.specs.Matches.{ReadsOne}
 use Rattle.clap.specs.Words.{Row, Text, one_of, without_minus}
 use Rattle.clap.proofs.CallerReads.{signed_reads}
-use Rattle.hintcheck_words.specs.Requests.{HasNumber, bare, number_in, verdict}
+use Rattle.hintcheck_words.specs.Requests.{HasNumber, number_in}
 
 pub text_or_empty : (o : Option (Bor (List ℕ))) (empty : Bor (List ℕ)) → empty.now ≡ [] → (unwrap_or o empty).now ≡ unwrap_or (option_map (λ s. s.now) o) []
 text_or_empty None empty e = e
@@ -19,10 +19,3 @@ number_read {E} G rows id n h parses reads = go n (reads (without_minus h.text) 
     go : (o : Option ℕ) → ReadsOne G (without_minus h.text) o → ((y : ℕ) × (o ≡ Some y) × (0 ≤ y) × (y ≤ 65535)) → (x : ℕ) × (o ≡ Some x) × (x ≡ number_in rows id)
     go None r some = absurd (let bad = some.1 in cc)
     go (Some x) r some = (x, refl, (parses (without_minus h.text) (Ok x) r).1 ∙ ap (λ (o : Option (List ℕ)). digits_value 10 (without_leading_plus (unwrap_or o []))) (sym h.found))
-
-pub same_bare : (maxp maxp' : Text) (cvt cvt' points points' contours contours' : ℕ) (program program' : Option Text)
-    → maxp ≡ maxp' → cvt ≡ cvt' → points ≡ points' → contours ≡ contours' → program ≡ program' → bare maxp cvt points contours program ≡ bare maxp' cvt' points' contours' program'
-same_bare maxp maxp' cvt cvt' points points' contours contours' program program' a b c d e = cc
-
-pub same_verdict : (font font' : Text) → font ≡ font' → verdict font ≡ verdict font'
-same_verdict font font' e = cc

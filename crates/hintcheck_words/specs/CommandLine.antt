@@ -1,7 +1,10 @@
 -- The command line, in clap's words:
 --     hintcheck bare MAXP CVT POINTS CONTOURS [PROGRAM]
 --     hintcheck verdict FONT
-use Rattle.std.specs.Prelude.{codes, true, pos, Some}
+--     hintcheck find FONT CERT
+--     hintcheck check FONT CERT
+--     hintcheck list FONT PROGRAM
+use Rattle.std.specs.Prelude.{codes, fold, List, [], ◌∷◌, true, pos, Some}
 use Rattle.clap.specs.Words.{App, Rule, Text, new_app, new_rule, with_rule, with_subcommand}
 use Rattle.clap.specs.declared.builder.value_parser.ValueParser.TheVariants as parser
 
@@ -15,13 +18,26 @@ needed id = record (new_rule id) { required = true }
 abbrev pub needed_number : Text → Rule
 needed_number id = record (needed id) { parser = Some (parser.Signed (pos 0) (pos 65535)) }
 
+-- a subcommand whose arguments are texts that must be given
+abbrev pub of_texts : Text → List Text → App
+of_texts name ids = fold (λ a id. with_rule a (needed id)) (new_app name) ids
+
 abbrev pub bare : App
 bare = with_rule (with_rule (with_rule (with_rule (with_rule (new_app (codes "bare"))
     (needed (codes "MAXP"))) (needed_number (codes "CVT"))) (needed_number (codes "POINTS")))
     (needed_number (codes "CONTOURS"))) (optional (codes "PROGRAM"))
 
 abbrev pub verdict : App
-verdict = with_rule (new_app (codes "verdict")) (needed (codes "FONT"))
+verdict = of_texts (codes "verdict") (codes "FONT" ∷ [])
+
+abbrev pub find : App
+find = of_texts (codes "find") (codes "FONT" ∷ codes "CERT" ∷ [])
+
+abbrev pub check : App
+check = of_texts (codes "check") (codes "FONT" ∷ codes "CERT" ∷ [])
+
+abbrev pub list : App
+list = of_texts (codes "list") (codes "FONT" ∷ codes "PROGRAM" ∷ [])
 
 -- the program, which is told a subcommand always
 abbrev pub program : App
@@ -30,4 +46,4 @@ program = record (new_app (codes "hintcheck")) {
 }
 
 unfoldable pub hintcheck : App
-hintcheck = with_subcommand (with_subcommand program bare.top) verdict.top
+hintcheck = fold (λ a s. with_subcommand a s.top) program (bare ∷ verdict ∷ find ∷ check ∷ list ∷ [])

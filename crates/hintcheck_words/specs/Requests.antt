@@ -1,5 +1,5 @@
 -- What the words of a command line ask for, by what clap says that a simple command's words mean.
-use Rattle.std.specs.Prelude.{◌≡◌, ◌⊎◌, ℕ, Bool, codes, List, [], Option, Some, None, unwrap_or, option_map, option_and_then, pos, if◌then◌else◌, string_bytes}
+use Rattle.std.specs.Prelude.{◌≡◌, ℕ, Bool, true, codes, List, [], ◌∷◌, find as first_where, Option, Some, IsSomeAnd, is_some, unwrap_or, option_map, option_and_then, pos, string_bytes}
 use Rattle.std.specs.Str.{bytes_eq}
 use Rattle.std.specs.Str.Parse.{digits_value, without_leading_plus}
 use Rattle.clap.specs.Words.{IsSignedIn, Row, Text, first_of, one_of, subcommand_of, takes, without_minus}
@@ -13,6 +13,9 @@ use Rattle.hintcheck_words.specs.declared.words.TaskFault.TheVariants as fault
 pub data Request : Type 0 where
   bare : Text → ℕ → ℕ → ℕ → Option Text → Request
   verdict : Text → Request
+  find : Text → Text → Request
+  check : Text → Text → Request
+  list : Text → Text → Request
 
 -- the first text that an argument got, the number that it spells, and the text of one that may be left out
 abbrev pub text_in : List Row → Text → Text
@@ -34,13 +37,17 @@ unfoldable pub bare_request : List Row → Request
 bare_request rows = bare (text_in rows (codes "MAXP")) (number_in rows (codes "CVT")) (number_in rows (codes "POINTS"))
     (number_in rows (codes "CONTOURS")) (optional_in rows (codes "PROGRAM"))
 
-unfoldable pub verdict_request : List Row → Request
-verdict_request rows = verdict (text_in rows (codes "FONT"))
+-- each subcommand, and what it asks for by what its arguments got
+unfoldable pub requests : List (Text × (List Row → Request))
+requests = (codes "bare", bare_request)
+    ∷ (codes "verdict", λ rows. verdict (text_in rows (codes "FONT")))
+    ∷ (codes "find", λ rows. find (text_in rows (codes "FONT")) (text_in rows (codes "CERT")))
+    ∷ (codes "check", λ rows. check (text_in rows (codes "FONT")) (text_in rows (codes "CERT")))
+    ∷ (codes "list", λ rows. list (text_in rows (codes "FONT")) (text_in rows (codes "PROGRAM"))) ∷ []
 
--- what a subcommand asks for, with what its arguments got
+-- what a subcommand asks for
 unfoldable pub request_of : Text × List Row → Option Request
-request_of p = if bytes_eq p.0 (codes "bare") then Some (bare_request p.1)
-    else (if bytes_eq p.0 (codes "verdict") then Some (verdict_request p.1) else None)
+request_of p = option_map (λ r. r.1 p.1) (first_where (λ r. bytes_eq r.0 p.0) requests)
 
 -- the subcommand that the words name, with what its arguments got
 unfoldable pub met : List Text → Option (Text × List Row)
@@ -60,25 +67,22 @@ pub record HasNumbers (rows : List Row) : Type 0 where
   pub points : HasNumber rows (codes "POINTS")
   pub contours : HasNumber rows (codes "CONTOURS")
 
--- the subcommand is `bare`, and its numbers are there
-pub record MeetsBare (found : Option (Text × List Row)) : Type 0 where
-  pub rows : List Row
-  pub met : found ≡ Some (codes "bare", rows)
-  pub numbers : HasNumbers rows
+-- a subcommand that asks for something, whose numbers are there if it is `bare`
+pub record IsReadable (found : Text × List Row) : Type 0 where
+  pub known : is_some (request_of found) ≡ true
+  pub numbers : found.0 ≡ codes "bare" → HasNumbers found.1
 
--- the subcommand is `verdict`
-pub record MeetsVerdict (found : Option (Text × List Row)) : Type 0 where
-  pub rows : List Row
-  pub met : found ≡ Some (codes "verdict", rows)
-
--- the subcommand is one of the two
+-- there is a subcommand, and it asks for something
 abbrev pub MeetsSubcommand : Option (Text × List Row) → Type 0
-MeetsSubcommand found = MeetsBare found ⊎ MeetsVerdict found
+MeetsSubcommand found = IsSomeAnd found IsReadable
 
 -- a task without where its texts lie in memory
 unfoldable pub asked : Task → Request
 asked (task.Bare maxp cvt points contours program) = bare (string_bytes maxp) cvt points contours (option_map (λ s. string_bytes s) program)
 asked (task.Verdict font) = verdict (string_bytes font)
+asked (task.Find font certificate) = find (string_bytes font) (string_bytes certificate)
+asked (task.Check font certificate) = check (string_bytes font) (string_bytes certificate)
+asked (task.List font program) = list (string_bytes font) (string_bytes program)
 
 -- memory ran out
 unfoldable pub IsWantOfMemory : TaskFault → Type 0

@@ -1,7 +1,7 @@
 ghost use Rattle.std.specs.Prelude.{◌≡◌, IfErr, IfOk, IfSome, Some, true, false, map, option_map, string_bytes};
 ghost use Rattle.clap.specs.Words.{app_of, found_of, rows_of, rule_of, subcommand_rows_of};
-ghost use Rattle.hintcheck_words.specs.CommandLine.{bare, hintcheck, needed as needed_rule, needed_number as number_rule, verdict};
-ghost use Rattle.hintcheck_words.specs.Requests.{HasNumber, HasNumbers, IsWantOfMemory, MeetsSubcommand, asked, bare_request, is_taken, meaning, met, number_in, optional_in, text_in, verdict_request};
+ghost use Rattle.hintcheck_words.specs.CommandLine.{bare, hintcheck, needed as needed_rule, needed_number as number_rule, of_texts};
+ghost use Rattle.hintcheck_words.specs.Requests.{HasNumber, HasNumbers, IsWantOfMemory, IsReadable, MeetsSubcommand, asked, bare_request, is_taken, meaning, met, number_in, optional_in, request_of, text_in};
 
 use clap::error::ErrorKind;
 use clap::{Arg, ArgMatches, Command, value_parser};
@@ -24,6 +24,24 @@ pub enum Task {
     /// Checks all programs of the font file with this name.
     Verdict {
         font: String,
+    },
+    /// Writes the certificate of the font file with this name to a file.
+    Find {
+        font: String,
+        /// The name of the certificate's file.
+        certificate: String,
+    },
+    /// Checks the font file with this name by a certificate.
+    Check {
+        font: String,
+        /// The name of the certificate's file.
+        certificate: String,
+    },
+    /// Lists the instructions of one program of the font file with this name.
+    List {
+        font: String,
+        /// Which program it is.
+        program: String,
     },
 }
 
@@ -74,12 +92,41 @@ fn bare_command<'a>(alloc: Global) -> Result<Command<'a>, AllocError>
         .arg(Arg::new(alloc, "PROGRAM").help("The program, in hexadecimal digits"))
 }
 
-fn verdict_command<'a>(alloc: Global) -> Result<Command<'a>, AllocError>
-    ensures { IfOk result (λ c. app_of c ≡ verdict) }
+/// The subcommand `verdict`, with its help.
+const VERDICT: (&str, &str) = ("verdict", "Checks all programs of a font file");
+
+/// The subcommand `find`, with its help.
+const FIND: (&str, &str) = ("find", "Writes the certificate of a font file");
+
+/// The subcommand `check`, with its help.
+const CHECK: (&str, &str) = ("check", "Checks a font file by its certificate");
+
+/// The subcommand `list`, with its help.
+const LIST: (&str, &str) = ("list", "Lists the instructions of one program");
+
+/// The argument that names a font file, with its help.
+const FONT: (&str, &str) = ("FONT", "The name of the font file");
+
+/// The argument that names a certificate's file, with its help.
+const CERTIFICATE: (&str, &str) = ("CERT", "The name of the certificate's file");
+
+/// The argument that names a program of a font, with its help.
+const PROGRAM: (&str, &str) = ("PROGRAM", "The program: f, p, or g and a number");
+
+/// A subcommand whose arguments are texts that must be given.
+fn texts_command<'a>(
+    alloc: Global,
+    command: (&'a str, &'a str),
+    texts: &[(&'a str, &'a str)],
+) -> Result<Command<'a>, AllocError>
+    ensures { IfOk result (λ c. app_of c ≡ of_texts command.entry.0.now (map (λ t. t.0.now) texts.now)) }
 {
-    Command::new(alloc, "verdict")
-        .about("Checks all programs of a font file")
-        .arg(needed(alloc, "FONT", "The name of the file"))
+    let (name, about) = command;
+    let mut with_texts = Command::new(alloc, name).about(about);
+    for &(id, help) in texts {
+        with_texts = with_texts.arg(needed(alloc, id, help))?;
+    }
+    Ok(with_texts)
 }
 
 fn command_line<'a>(alloc: Global) -> Result<Command<'a>, AllocError>
@@ -90,7 +137,10 @@ fn command_line<'a>(alloc: Global) -> Result<Command<'a>, AllocError>
         .subcommand_required(true)
         .bin_name("hintcheck")?
         .subcommand(bare_command(alloc)?)?
-        .subcommand(verdict_command(alloc)?)
+        .subcommand(texts_command(alloc, VERDICT, &[FONT])?)?
+        .subcommand(texts_command(alloc, FIND, &[FONT, CERTIFICATE])?)?
+        .subcommand(texts_command(alloc, CHECK, &[FONT, CERTIFICATE])?)?
+        .subcommand(texts_command(alloc, LIST, &[FONT, PROGRAM])?)
 }
 
 /// The text that the words give the argument, empty where they give none.
@@ -134,12 +184,30 @@ fn bare_task(alloc: Global, values: &ArgMatches<'_>) -> Result<Task, AllocError>
     })
 }
 
-fn verdict_task(alloc: Global, values: &ArgMatches<'_>) -> Result<Task, AllocError>
-    ensures { IfOk result (λ t. asked t ≡ verdict_request (rows_of (found_of values.now))) }
+/// The task of the subcommand with this name.
+fn task_of(alloc: Global, name: &str, values: &ArgMatches<'_>) -> Result<Task, AllocError>
+    requires { IsReadable (name.now, rows_of (found_of values.now)) }
+    ensures { IfOk result (λ t. request_of (name.now, rows_of (found_of values.now)) ≡ Some (asked t)) }
 {
-    Ok(Task::Verdict {
-        font: text(alloc, values, "FONT")?,
-    })
+    match name {
+        "bare" => bare_task(alloc, values),
+        "verdict" => Ok(Task::Verdict {
+            font: text(alloc, values, "FONT")?,
+        }),
+        "find" => Ok(Task::Find {
+            font: text(alloc, values, "FONT")?,
+            certificate: text(alloc, values, "CERT")?,
+        }),
+        "check" => Ok(Task::Check {
+            font: text(alloc, values, "FONT")?,
+            certificate: text(alloc, values, "CERT")?,
+        }),
+        "list" => Ok(Task::List {
+            font: text(alloc, values, "FONT")?,
+            program: text(alloc, values, "PROGRAM")?,
+        }),
+        _ => unreachable!(),
+    }
 }
 
 /// What the words give the arguments, and the subcommand that they name.
@@ -167,8 +235,7 @@ pub fn read_words<'a>(alloc: Global, words: &'a [&'a str]) -> Result<Task, TaskF
 {
     let matches = matches_of(alloc, words)?;
     match matches.subcommand() {
-        Some(("bare", values)) => Ok(bare_task(alloc, values)?),
-        Some(("verdict", values)) => Ok(verdict_task(alloc, values)?),
-        _ => unreachable!(),
+        Some((name, values)) => Ok(task_of(alloc, name, values)?),
+        None => unreachable!(),
     }
 }

@@ -22,7 +22,7 @@ fn is_bare(task: &Task, with_program: Option<&str>) -> bool {
                 && (*cvt, *points, *contours) == (0, 65_535, 7)
                 && program.as_ref().map(|s| s.as_str()) == with_program
         }
-        Task::Verdict { .. } => false,
+        _ => false,
     }
 }
 
@@ -40,19 +40,49 @@ fn reads_the_words_of_bare_without_a_program(rt: HostRuntime) -> Result<(), Fail
     Ok(())
 }
 
-/// A task is the check of the font file with this name.
-fn is_verdict(task: &Task, name: &str) -> bool {
+/// The subcommand of a task, and its texts.
+fn texts(task: &Task) -> (&str, &str, &str) {
     match task {
-        Task::Verdict { font } => font.as_str() == name,
-        Task::Bare { .. } => false,
+        Task::Bare { maxp, .. } => ("bare", maxp.as_str(), ""),
+        Task::Verdict { font } => ("verdict", font.as_str(), ""),
+        Task::Find { font, certificate } => ("find", font.as_str(), certificate.as_str()),
+        Task::Check { font, certificate } => ("check", font.as_str(), certificate.as_str()),
+        Task::List { font, program } => ("list", font.as_str(), program.as_str()),
     }
 }
 
+/// Words ask for the task with these texts.
+fn asks<'a>(alloc: Global, words: &'a [&'a str], want: (&str, &str, &str)) -> bool {
+    match read_words(alloc, words) {
+        Ok(task) => texts(&task) == want,
+        Err(_) => false,
+    }
+}
+
+/// Words that the command line takes, and the texts of the task.
+const TAKEN: [(&[&str], (&str, &str, &str)); 6] = [
+    (&["hintcheck", "verdict", "a.ttf"], ("verdict", "a.ttf", "")),
+    (
+        &["hintcheck", "find", "a.ttf", "b.cert"],
+        ("find", "a.ttf", "b.cert"),
+    ),
+    (&["hintcheck", "find", "a.ttf", ""], ("find", "a.ttf", "")),
+    (
+        &["hintcheck", "check", "a.ttf", "b.cert"],
+        ("check", "a.ttf", "b.cert"),
+    ),
+    (
+        &["hintcheck", "list", "a.ttf", "g12"],
+        ("list", "a.ttf", "g12"),
+    ),
+    (&["hintcheck", "list", "f", "--", "-f"], ("list", "f", "-f")),
+];
+
 #[test]
-fn reads_the_words_of_verdict(rt: HostRuntime) -> Result<(), Fail> {
-    let task = read_words(rt.alloc(), &["hintcheck", "verdict", "a.ttf"])?;
-    assert!(rt; is_verdict(&task, "a.ttf"), "{task:?}");
-    Ok(())
+fn reads_words_of_texts(rt: HostRuntime) {
+    for (words, want) in TAKEN {
+        assert!(rt; asks(rt.alloc(), words, want), "of {words:?}");
+    }
 }
 
 /// The kind of clap's error, where the words are none of the command line.
@@ -65,7 +95,7 @@ fn refusal<'a>(alloc: Global, words: &'a [&'a str]) -> Option<ErrorKind> {
 }
 
 /// Words that are none of the command line, and the kind of the error.
-const REFUSED: [(&[&str], ErrorKind); 8] = [
+const REFUSED: [(&[&str], ErrorKind); 13] = [
     (
         &["hintcheck", "bare", "00", "1", "2"],
         ErrorKind::MissingRequiredArgument,
@@ -90,6 +120,23 @@ const REFUSED: [(&[&str], ErrorKind); 8] = [
         &["hintcheck", "verdict", "a", "b"],
         ErrorKind::UnknownArgument,
     ),
+    (
+        &["hintcheck", "find", "a"],
+        ErrorKind::MissingRequiredArgument,
+    ),
+    (&["hintcheck", "check"], ErrorKind::MissingRequiredArgument),
+    (
+        &["hintcheck", "check", "a", "b", "c"],
+        ErrorKind::UnknownArgument,
+    ),
+    (
+        &["hintcheck", "list", "a"],
+        ErrorKind::MissingRequiredArgument,
+    ),
+    (
+        &["hintcheck", "list", "a", "-f"],
+        ErrorKind::UnknownArgument,
+    ),
     (&["hintcheck", "bear"], ErrorKind::InvalidSubcommand),
     (&["hintcheck"], ErrorKind::MissingSubcommand),
 ];
@@ -102,7 +149,11 @@ fn refuses_other_words(rt: HostRuntime) {
 }
 
 /// Words that ask for help.
-const HELP: [&[&str]; 2] = [&["hintcheck", "--help"], &["hintcheck", "help", "bare"]];
+const HELP: [&[&str]; 3] = [
+    &["hintcheck", "--help"],
+    &["hintcheck", "help", "bare"],
+    &["hintcheck", "list", "-h"],
+];
 
 #[test]
 fn shows_help(rt: HostRuntime) {

@@ -1,3 +1,4 @@
+pub mod Names
 pub mod Forms
 pub mod Sections
 pub mod Text

@@ -12,6 +12,11 @@ pub enum Name {
 }
 
 impl fmt::Display for Name {
+    ghost use Rattle.std.specs.Prelude.{Some};
+    ghost use Rattle.tt_cert_file.specs.Names.{text_of};
+
+    ghost output = { λ name. Some (text_of name) };
+
     fn fmt<W: fmt::Write>(&self, f: &mut fmt::Formatter<W>) -> fmt::Result {
         match self {
             Name::Font => f.write_str("f"),

@@ -3,6 +3,8 @@
 ghost use Rattle.std.specs.Prelude.{◌≡◌};
 ghost use Rattle.hintcheck.specs.Commands.{IsNoWriteFault, fault_of_word, status_of};
 
+use crate::certified::CheckFontFault;
+use crate::certifying::FindFontFault;
 use hintcheck_words::{TaskFault, WordFault};
 use std::alloc::AllocError;
 use std::fmt;
@@ -36,11 +38,17 @@ pub enum CommandFault {
     /// The word spells no bytes.
     #[error("words: MAXP")]
     MaxpWord,
-    /// The word spells no bytes.
+    /// The word spells no bytes, or names no program of the font.
     #[error("words: PROGRAM")]
     ProgramWord,
+    /// The font's file is to be its certificate's.
+    #[error("words: CERT")]
+    CertificateWord,
     #[error("{0}")]
     Font(Numbered),
+    /// The bytes are no certificate for the font, at this place.
+    #[error("43 certificate form at byte {0}")]
+    Form(u64),
     #[error("9 out of memory")]
     OutOfMemory,
     /// A file can't be opened or read.
@@ -49,6 +57,9 @@ pub enum CommandFault {
     /// The output can't be written.
     #[error("45 write")]
     Write,
+    /// A file can't be made or written.
+    #[error("45 write")]
+    File,
     /// A text gave up on being printed, as none here does: each goes to a window in memory that takes whatever it gets.
     #[error("text")]
     Text,
@@ -87,6 +98,35 @@ impl From<FontFault> for CommandFault {
 
     fn from(font: FontFault) -> CommandFault {
         CommandFault::Font(Numbered(font))
+    }
+}
+
+impl From<CheckFontFault> for CommandFault {
+    ghost use Rattle.hintcheck.specs.Commands.{fault_of_check};
+
+    ghost from_gives = { λ check fault. fault ≡ fault_of_check check };
+
+    fn from(fault: CheckFontFault) -> CommandFault {
+        match fault {
+            CheckFontFault::Font(font) => CommandFault::Font(Numbered(font)),
+            CheckFontFault::Form(place) => CommandFault::Form(place),
+            CheckFontFault::Read => CommandFault::Read,
+            CheckFontFault::OutOfMemory(AllocError) => CommandFault::OutOfMemory,
+        }
+    }
+}
+
+impl From<FindFontFault> for CommandFault {
+    ghost use Rattle.hintcheck.specs.Commands.{fault_of_find};
+
+    ghost from_gives = { λ find fault. fault ≡ fault_of_find find };
+
+    fn from(fault: FindFontFault) -> CommandFault {
+        match fault {
+            FindFontFault::Font(font) => CommandFault::Font(Numbered(font)),
+            FindFontFault::Write => CommandFault::File,
+            FindFontFault::OutOfMemory(AllocError) => CommandFault::OutOfMemory,
+        }
     }
 }
 

@@ -3,7 +3,7 @@ use Rattle.std.proofs.Common.{◌≡◌, ◌+◌, List, ℕ, sym, ◌∙◌, ap,
 use Rattle.tt_font.specs.GlyphParts.{glyph_data}
 use Rattle.hintcheck.specs.FontLooks.{AreRefusedBelow, font_in}
 use Rattle.hintcheck.specs.Looks.{IsListed}
-use Rattle.hintcheck.specs.declared.report.Name.TheVariants as name
+use Rattle.tt_cert_file.specs.declared.name.Name.TheVariants as name
 use Rattle.hintcheck.specs.declared.report.Refused.{Refused}
 use Rattle.hintcheck.proofs.FontLists.{accepted_next, all_below, glyph_there, listed_next}
 use Rattle.hintcheck.proofs.fonts.refused_glyphs.Goals as goal

@@ -1,19 +1,17 @@
 use Rattle.std.proofs.Common.{◌≡◌, ◌+◌, sym, ◌∙◌, subst, length}
-use Rattle.tt_code.proofs.ByteLemmas.{bytes_fit}
 use Rattle.hintcheck.specs.FontLooks.{IsFontInRange}
 use Rattle.hintcheck.specs.FontPrograms.{IsVerdict, judgement_on}
 use Rattle.hintcheck.specs.Verdicts.{Judgement}
-use Rattle.hintcheck.proofs.FontBytes.{font_in_range}
 use Rattle.hintcheck.proofs.FontSafety.{font_is_safe}
 use Rattle.hintcheck.proofs.fonts.verdict.Goals as goal
 
 pub refused_programs-requires : goal.refused_programs-requires
-refused_programs-requires c = font_in_range c.args.font.now c.in_ok-read.read (bytes_fit c.args.font.now c.type_inv.font) c.in_ok-read.ensures.fault c.in_ok-read.ensures.reads
+refused_programs-requires c = c.in_ok-read.ensures.range
 
 pub returns-clause-exact : goal.returns-clause-exact
 returns-clause-exact c =
     let d = c.in_ok-read.read in
-    let range : IsFontInRange d = font_in_range c.args.font.now d (bytes_fit c.args.font.now c.type_inv.font) c.in_ok-read.ensures.fault c.in_ok-read.ensures.reads in
+    let range : IsFontInRange d = c.in_ok-read.ensures.range in
     let count : c.from.result ≡ length d.glyphs = c.from.ensures ∙ c.glyph_count.ensures in
     let same : c.new.result ≡ judgement_on d c.in_ok-refused.refused.items = c.new.ensures ∙ (λ i. record { programs = count i + 2; refused = c.in_ok-refused.refused.items }) in
     let V : Judgement → Type 0 = λ v. IsVerdict d v in

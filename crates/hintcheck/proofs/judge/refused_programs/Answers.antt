@@ -6,7 +6,7 @@ use Rattle.hintcheck.specs.FontPrograms.{glyph_subject}
 use Rattle.hintcheck.specs.Judging.{IsJudged, font_around}
 use Rattle.hintcheck.specs.Looks.{IsListed}
 use Rattle.hintcheck.specs.Programs.{HasLeastFamily, Subject}
-use Rattle.hintcheck.specs.declared.report.Name.TheVariants as name
+use Rattle.tt_cert_file.specs.declared.name.Name.TheVariants as name
 use Rattle.hintcheck.specs.declared.report.Refused.{Refused}
 use Rattle.hintcheck.proofs.JudgeLemmas.{around, judged_refused}
 use Rattle.hintcheck.proofs.judge.refused_programs.Goals as goal

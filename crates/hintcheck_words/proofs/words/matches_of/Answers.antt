@@ -27,7 +27,7 @@ returns-in-Ok-clause-meets c =
     let p = rows_met m has in
     let is_met = met_is _ _ (subcommand_rows_of m) c.in_ok-command.ensures (λ s. (c.in-Ok.ensures.matches s).1) in
     let faultless = fault_is _ _ c.in_ok-command.ensures c.in-Ok.ensures.kinds in
-    subst MeetsSubcommand (sym is_met) (meets_one _ p.0.0 p.0.1 faultless (sym is_met ∙ p.1))
+    subst MeetsSubcommand (sym p.1) (meets_one _ p.0.0 p.0.1 faultless (sym is_met ∙ p.1))
 
 pub returns-in-OutOfMemory-clause-refused : goal.returns-in-OutOfMemory-clause-refused
 unfolding IsWantOfMemory

@@ -1,0 +1,73 @@
+-- The lines of a program's instructions, one after the other.
+use Rattle.std.specs.Prelude.{◌/◌, ◌%◌}
+use Rattle.std.specs.Fmt.{digit_glyph}
+use Rattle.std.specs.Io.KnownBytes.{Appends}
+use Rattle.std.specs.List.{AllByRecursion}
+use Rattle.std.proofs.Common.{◌≡◌, ◌∙◌, ℕ, ◌+◌, ◌<◌, ◌≤◌, List, [], ◌∷◌, ◌++◌, Option, Some, false, length, take, get_or, refl, sym, ap, subst, arith, append_assoc}
+use Rattle.std.proofs.KnownBytes.{Appends-nil, Appends-trans}
+use Rattle.std.proofs.lemmas.List.{append-nil, flat_map_more, take_more}
+use Rattle.tt_code.specs.Cut.{Instruction, IsInstruction, instruction_at, size}
+use Rattle.tt_code.specs.Grammar.{StandsAt}
+use Rattle.tt_code.proofs.CutLemmas.{found_is, size-append, some_bytes}
+use Rattle.tt_code.proofs.StructureLaws.{found_iff_stands}
+use Rattle.hintcheck.specs.Listing.{IsListedBefore, hex_digits, line_of, lines_of}
+
+-- a byte's digits
+
+abbrev pub digits_of_byte : ℕ → List ℕ
+digits_of_byte b = digit_glyph false (b / 16) ∷ digit_glyph false (b % 16) ∷ []
+
+pub digits_more : (bytes : List ℕ) (i : ℕ) → i < length bytes → hex_digits (take i bytes) ++ digits_of_byte (get_or bytes i 0) ≡ hex_digits (take (i + 1) bytes)
+digits_more bytes i h = rw (take_more bytes i 0 h) (flat_map_more digits_of_byte [] (take i bytes) (get_or bytes i 0))
+
+-- one more line
+
+lines_of-append : (offset : ℕ) (is : List Instruction) (i : Instruction) → lines_of offset (is ++ i ∷ []) ≡ lines_of offset is ++ line_of (offset + size is) i
+lines_of-append offset [] i =
+    let here : offset ≡ offset + 0 = omega arith in append-nil (line_of offset i) ∙ ap (λ k. line_of k i) here
+lines_of-append offset (j ∷ is) i =
+    let behind : offset + length j + size is ≡ offset + (length j + size is) = omega arith in
+    ap (λ t. line_of offset j ++ t) (lines_of-append (offset + length j) is i ∙ ap (λ k. lines_of (offset + length j) is ++ line_of k i) behind)
+    ∙ sym (append_assoc (line_of offset j) (lines_of (offset + length j) is) (line_of (offset + (length j + size is)) i))
+
+-- nothing is listed first, then one instruction more, and at last all of them
+
+pub none_listed : (is : List Instruction) (old : Option (List ℕ)) → IsListedBefore is 0 old old
+none_listed is old = record { before = []; after = is; whole = refl; reached = refl; written = Appends-nil old }
+
+one_more : (is : List Instruction) (offset : ℕ) (old mid new : Option (List ℕ)) (i : Instruction) (before after : List Instruction) → is ≡ before ++ (i ∷ after) → size before ≡ offset
+    → Appends old mid (lines_of 0 before) → Appends mid new (line_of offset i) → IsListedBefore is (offset + length i) old new
+one_more is offset old mid new i before after whole reached written line = record {
+  before = before ++ i ∷ [];
+  after = after;
+  whole = whole ∙ sym (append_assoc before (i ∷ []) after);
+  reached = size-append before (i ∷ []) ∙ omega arith;
+  written =
+      let at : 0 + size before ≡ offset = omega arith in
+      let all = Appends-trans old mid new (lines_of 0 before) (line_of offset i) written line in
+      let same : lines_of 0 (before ++ i ∷ []) ≡ lines_of 0 before ++ line_of offset i = lines_of-append 0 before i ∙ ap (λ k. lines_of 0 before ++ line_of k i) at in
+      subst (Appends old new) (sym same) all;
+}
+
+pub next_listed : (is : List Instruction) (offset : ℕ) (i : Instruction) (old mid new : Option (List ℕ)) → AllByRecursion IsInstruction is → IsListedBefore is offset old mid
+    → instruction_at is offset ≡ Some i → offset + length i ≤ size is → Appends mid new (line_of offset i) → IsListedBefore is (offset + length i) old new
+next_listed is offset i old mid new each listed found within line = go listed.after listed.whole
+  where
+    go : (after : List Instruction) → is ≡ listed.before ++ after → IsListedBefore is (offset + length i) old new
+    go [] whole =
+        let all : size is ≡ size listed.before = ap size (whole ∙ append-nil listed.before) in
+        let some : 0 < length i = some_bytes i (found_is is each offset i found) in
+        let reached = listed.reached in absurd (omega arith)
+    go (j ∷ after) whole =
+        let stands : StandsAt is offset j = record { before = listed.before; after = after; whole = whole; offset = listed.reached } in
+        let there : instruction_at is offset ≡ Some j = (found_iff_stands is offset j each).1 stands in
+        let same : j ≡ i = cc in
+        one_more is offset old mid new i listed.before after (whole ∙ ap (λ x. listed.before ++ (x ∷ after)) same) listed.reached listed.written line
+
+pub all_listed : (is : List Instruction) (offset : ℕ) (old new : Option (List ℕ)) → IsListedBefore is offset old new → ((i : Instruction) → StandsAt is offset i → ⊥)
+    → Appends old new (lines_of 0 is)
+all_listed is offset old new listed none = go listed.after listed.whole
+  where
+    go : (after : List Instruction) → is ≡ listed.before ++ after → Appends old new (lines_of 0 is)
+    go [] whole = subst (λ x. Appends old new (lines_of 0 x)) (sym (whole ∙ append-nil listed.before)) listed.written
+    go (j ∷ after) whole = absurd (none j (record { before = listed.before; after = after; whole = whole; offset = listed.reached }))

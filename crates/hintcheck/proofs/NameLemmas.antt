@@ -1,0 +1,88 @@
+-- A glyph's number as a word, and the names of a font's programs.
+use Rattle.std.specs.Prelude.{◌↔◌, IsTrue, option_map, slice_get}
+use Rattle.std.specs.Fmt.{decimal}
+use Rattle.std.specs.Str.Parse.{AllDigits, ParsesUnsigned, digits_value}
+use Rattle.std.proofs.Common.{◌≡◌, ℕ, zero, suc, ◌<◌, ◌^◌, List, Bool, true, false, Option, None, Some, Result, Ok, Err, IfSome, length, get_or, refl, sym, subst, arith, rules, ◌∙◌}
+use Rattle.std.proofs.lemmas.Fmt.{decimal_digit, first_decimal, digits_decimal, decimal-digits_value}
+use Rattle.std.proofs.lemmas.Str.Parse.{IsNumeralModel, numerals_by_value, tells_digits, not_in_digits, parse_plain}
+use Rattle.std.proofs.lemmas.Fmt.{decimal_nonempty}
+use Rattle.std.specs.Result.{OkIff, result_ok}
+use Rattle.std.proofs.lemmas.Option.{slice_get_within}
+use Rattle.tt_font.specs.Reading.{FontData, GlyphData}
+use Rattle.hintcheck.specs.FontLooks.{IsFontInRange}
+use Rattle.hintcheck.specs.Listing.{IsOf16Bits, IsPlain, Names, program_in}
+use Rattle.tt_cert_file.specs.Names.{text_of}
+use Rattle.tt_cert_file.specs.declared.name.Name.{Name}
+use Rattle.tt_cert_file.specs.declared.name.Name.TheVariants as name
+
+own : IsNumeralModel (AllDigits 10) (digits_value 10)
+own = numerals_by_value (AllDigits 10) tells_digits
+
+-- the decimal digits of a number are such a text
+
+only_zero : (n : ℕ) → n < 2 ^ 16 → get_or (decimal n) 0 0 ≡ 48 → length (decimal n) ≡ 1
+only_zero zero small e = subst (λ ds. length ds ≡ 1) (sym (decimal_digit 0 (omega arith))) refl
+only_zero (suc n) small e = let h = first_decimal (suc n) (omega arith) (omega arith) in absurd (omega arith)
+
+pub plain_decimal : (n : ℕ) → n < 2 ^ 16 → IsPlain (decimal n)
+plain_decimal n small = record {
+  unsigned = not_in_digits own (decimal n) 43 (digits_decimal own n (omega arith)) (λ h. absurd (omega arith)) 0 (decimal_nonempty n (omega arith));
+  first = only_zero n small;
+}
+
+-- such a text is read as the number that it is
+
+pub read_plain : {E : Type 0} (s : List ℕ) (r : Result ℕ E) → IsPlain s → ParsesUnsigned 16 10 s r → IfSome (result_ok r) (λ n. s ≡ decimal n)
+read_plain {E} s (Ok n) plain parsed =
+    let h : OkIff {E = E} (Ok n) (AllDigits 10 s × (0 < length s) × (digits_value 10 s < 2 ^ 16)) (digits_value 10 s) = parse_plain own {E = E} 16 s (Ok n) parsed plain.unsigned in
+    let few : digits_value 10 s < 2 ^ 16 = h.0.2 in
+    let e : decimal (digits_value 10 s) ≡ s = decimal-digits_value own s h.0.0 h.0.1 plain.first (omega arith) in
+    sym (subst (λ m. decimal m ≡ s) (sym h.1) e)
+read_plain s (Err e) plain parsed = search rules
+
+-- so no other text is the digits of a number
+pub not_plain : (s t : List ℕ) (b : Bool) → (IsTrue b ↔ IsPlain s) → b ≡ false → s ≡ t → (n : ℕ) → n < 2 ^ 16 → t ≡ decimal n → ⊥
+not_plain s t b test isnt same n small e =
+    let yes : b ≡ true = test.1 (subst IsPlain (sym (same ∙ e)) (plain_decimal n small)) in cc
+
+-- A name of a program that the font has.
+
+number_below : (glyphs : List GlyphData) (id : ℕ) (o : Option GlyphData) → slice_get glyphs id ≡ o → (p : List ℕ) → option_map (λ g. g.program) o ≡ Some p → id < length glyphs
+number_below glyphs id None at p e = absurd (cc)
+number_below glyphs id (Some g) at p e = slice_get_within glyphs id g at
+
+of_16_bits : (d : FontData) → length d.glyphs < 2 ^ 16 → (called : Name) (p : List ℕ) → program_in d called ≡ Some p → IsOf16Bits called
+of_16_bits d few name.Font p e = tt
+of_16_bits d few name.Cvt p e = tt
+of_16_bits d few (name.Glyph id) p e = let h = number_below d.glyphs id (slice_get d.glyphs id) refl p e in omega arith
+
+-- what a word is read as
+abbrev pub IsReadAs : List ℕ → Option Name → Type 0
+IsReadAs word read = (called : Name) → IsOf16Bits called → word ≡ text_of called → read ≡ Some called
+
+pub no_name : (word : List ℕ) (d : FontData) (read : Option Name) → length d.glyphs < 2 ^ 16 → IsReadAs word read → read ≡ None → (p : List ℕ) → Names word d p → ⊥
+no_name word d read few is none p named =
+    let some = is named.name (of_16_bits d few named.name p named.there) named.text in cc
+
+pub no_program : (word : List ℕ) (d : FontData) (read : Option Name) (called : Name) → length d.glyphs < 2 ^ 16 → IsReadAs word read → read ≡ Some called → program_in d called ≡ None
+    → (p : List ℕ) → Names word d p → ⊥
+no_program word d read called few is found none p named =
+    let some : read ≡ Some named.name = is named.name (of_16_bits d few named.name p named.there) named.text in
+    let same : called ≡ named.name = cc in
+    let there : program_in d called ≡ Some p = subst (λ n. program_in d n ≡ Some p) (sym same) named.there in cc
+
+-- a program of a font is a list of fewer than 2^31 bytes
+
+glyph_few : (d : FontData) (id : ℕ) (o : Option GlyphData) → slice_get d.glyphs id ≡ o → IsFontInRange d → (p : List ℕ) → option_map (λ g. g.program) o ≡ Some p → length p < 2 ^ 31
+glyph_few d id None at range p e = absurd (cc)
+glyph_few d id (Some g) at range p e =
+    let same : g.program ≡ p = cc in
+    subst (λ x. length x < 2 ^ 31) same (range.glyphs id g at).few
+
+program_few : (d : FontData) → IsFontInRange d → (called : Name) (p : List ℕ) → program_in d called ≡ Some p → length p < 2 ^ 31
+program_few d range name.Font p e = let same : d.fpgm ≡ p = cc in subst (λ x. length x < 2 ^ 31) same range.fpgm.few
+program_few d range name.Cvt p e = let same : d.prep ≡ p = cc in subst (λ x. length x < 2 ^ 31) same range.prep.few
+program_few d range (name.Glyph id) p e = glyph_few d id (slice_get d.glyphs id) refl range p e
+
+pub named_few : (d : FontData) → IsFontInRange d → (word p : List ℕ) → Names word d p → length p < 2 ^ 31
+named_few d range word p named = program_few d range named.name p named.there

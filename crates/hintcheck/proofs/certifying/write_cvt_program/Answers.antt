@@ -1,0 +1,20 @@
+use Rattle.std.proofs.Common.{List, sym, subst}
+use Rattle.tt_code.specs.Cut.{Instruction}
+use Rattle.hintcheck.specs.FontLooks.{IsKnownAtEnd}
+use Rattle.hintcheck.specs.FontPrograms.{cvt_subject}
+use Rattle.hintcheck.proofs.LookLemmas.{looked_at}
+use Rattle.hintcheck.proofs.certifying.write_cvt_program.Goals as goal
+
+pub write_ended-requires-clause-subject : goal.write_ended-requires-clause-subject
+write_ended-requires-clause-subject g c =
+    let x = cvt_subject c.args.font.now c.args.fpgm.now.program c.args.fpgm.now.functions.items in
+    let s = c.cvt_setting-setting in
+    (x, looked_at x s.result c.in-Ok.program (c.in-Ok.ensures.cut x (sym c.prep.ensures)) s.ensures.main s.ensures.setting s.ensures.start)
+
+pub returns-clause-known : goal.returns-clause-known
+returns-clause-known g c =
+    let x = cvt_subject c.args.font.now c.args.fpgm.now.program c.args.fpgm.now.functions.items in
+    let s = c.cvt_setting-setting in
+    let K : List Instruction → Type 0 = λ is. IsKnownAtEnd x is c.in_ok-functions.functions.items in
+    subst K s.ensures.main
+    (c.in_ok-functions.ensures.known x (looked_at x s.result c.in-Ok.program (c.in-Ok.ensures.cut x (sym c.prep.ensures)) s.ensures.main s.ensures.setting s.ensures.start))

@@ -1,0 +1,15 @@
+use Rattle.tt_abs.specs.Settings.{setting_of}
+use Rattle.tt_cert.specs.Contents.{family_of}
+use Rattle.hintcheck.proofs.FontEnds.{found_at_end, known_of_accepted}
+use Rattle.hintcheck.proofs.certifying.write_ended.Goals as goal
+
+pub returns-clause-known : goal.returns-clause-known
+returns-clause-known g c = λ x looked.
+    known_of_accepted x c.args.setting.now.main.now (family_of c.in-Ok.certificate) c.len.result c.end_functions.result c.unwrap-functions.result c.in_ok-copy.copy.items
+    (c.in-Ok.ensures x looked) c.len.ensures.value c.end_functions.ensures.some c.unwrap-functions.ensures c.in_ok-copy.ensures.items
+
+pub unwrap-functions-requires : goal.unwrap-functions-requires
+unwrap-functions-requires g c =
+    let (x, looked) = c.requires.subject in
+    found_at_end x c.args.setting.now.main.now (family_of c.in-Ok.certificate) (setting_of c.args.setting.now) c.len.result c.end_functions.result
+    (c.in-Ok.ensures x looked) looked.setting c.requires.ends c.len.ensures.value c.end_functions.ensures.none

@@ -1,0 +1,48 @@
+-- Why a font isn't checked by a certificate, and what that says of failed reads.
+use Rattle.std.specs.Prelude.{◌≡◌, ◌≢◌, ◌+◌, ℕ, List, [], Option, Result, Ok, Err}
+use Rattle.tt_cert_file.specs.declared.fault.EncodeFault.{EncodeFault}
+use Rattle.tt_cert_file.specs.declared.fault.EncodeFault.TheVariants as encode
+use Rattle.tt_cert_file.specs.declared.fault.DecodeFault.{DecodeFault}
+use Rattle.tt_cert_file.specs.declared.fault.DecodeFault.TheVariants as decode
+use Rattle.hintcheck.specs.declared.certified.CheckFontFault.{CheckFontFault}
+use Rattle.hintcheck.specs.declared.certified.CheckFontFault.TheVariants as fault
+use Rattle.hintcheck.specs.declared.certifying.FindFontFault.{FindFontFault}
+use Rattle.hintcheck.specs.declared.certifying.FindFontFault.TheVariants as find
+use Rattle.hintcheck.specs.Verdicts.{Judgement}
+
+-- the fault of a certificate that can't be read
+abbrev pub fault_of_decoding : DecodeFault → CheckFontFault
+fault_of_decoding (decode.Form place) = fault.Form place
+fault_of_decoding decode.Read = fault.Read
+fault_of_decoding (decode.OutOfMemory error) = fault.OutOfMemory error
+
+-- the count of failed reads rises by one exactly where the fault is a failed read
+abbrev pub CountsCheck : {T : Type 0} → Result T CheckFontFault → ℕ → ℕ → Type 0
+CountsCheck (Ok done) old new = new ≡ old
+CountsCheck (Err fault.Read) old new = new ≡ old + 1
+CountsCheck (Err (fault.Font font)) old new = new ≡ old
+CountsCheck (Err (fault.Form place)) old new = new ≡ old
+CountsCheck (Err (fault.OutOfMemory error)) old new = new ≡ old
+
+-- the fault of a certificate that can't be written
+abbrev pub fault_of_encoding : EncodeFault → FindFontFault
+fault_of_encoding encode.Write = find.Write
+fault_of_encoding (encode.OutOfMemory error) = find.OutOfMemory error
+
+-- the count of failed writes rises by one exactly where the fault is a failed write
+abbrev pub CountsFind : {T : Type 0} → Result T FindFontFault → ℕ → ℕ → Type 0
+CountsFind (Ok done) old new = new ≡ old
+CountsFind (Err find.Write) old new = new ≡ old + 1
+CountsFind (Err (find.Font font)) old new = new ≡ old
+CountsFind (Err (find.OutOfMemory error)) old new = new ≡ old
+
+-- where the verdict names a refused program, nothing was written
+abbrev pub WritesNothing : Option (List ℕ) → Option (List ℕ) → Judgement → Type 0
+WritesNothing old new judgement = judgement.refused ≢ [] → new ≡ old
+
+-- the fault is no failed read
+abbrev pub IsNoReadFault : CheckFontFault → Type 0
+IsNoReadFault fault.Read = ⊥
+IsNoReadFault (fault.Font font) = Unit {0}
+IsNoReadFault (fault.Form place) = Unit {0}
+IsNoReadFault (fault.OutOfMemory error) = Unit {0}

@@ -1,0 +1,99 @@
+-- The names of a font's programs as words, and what is listed of a program.
+use Rattle.std.specs.Prelude.{◌≡◌, ◌≢◌, ℕ, ◌+◌, ◌/◌, ◌%◌, ◌<◌, ◌^◌, codes, false, List, [], ◌∷◌, ◌++◌, Option, Some, length, option_and_then, option_map, slice_get, slice_index, unwrap_or}
+use Rattle.std.specs.Fmt.{decimal, digit_glyph}
+use Rattle.std.specs.Io.KnownBytes.{Appends}
+use Rattle.std.specs.List.{flat_map}
+use Rattle.tt_code.specs.Cut.{Instruction, IsCut, code_of, size}
+use Rattle.tt_code.specs.Grammar.{IsStructured}
+use Rattle.tt_code.specs.Table.{name_of}
+use Rattle.tt_font.specs.Reading.{FontData, Reads}
+use Rattle.tt_cert_file.specs.Names.{text_of}
+use Rattle.tt_cert_file.specs.declared.name.Name.{Name}
+use Rattle.tt_cert_file.specs.declared.name.Name.TheVariants as name
+
+-- the text has no plus sign in front, and no zero there but as its only digit
+pub record IsPlain (text : List ℕ) : Type 0 where
+  pub unsigned : slice_index text 0 ≢ 43
+  pub first : slice_index text 0 ≡ 48 → length text ≡ 1
+
+-- the number of a glyph is one of 16 bits
+abbrev pub IsOf16Bits : Name → Type 0
+IsOf16Bits name.Font = Unit {0}
+IsOf16Bits name.Cvt = Unit {0}
+IsOf16Bits (name.Glyph id) = id < 2 ^ 16
+
+-- the bytes of the font's program of this name, if the font has it
+abbrev pub program_in : FontData → Name → Option (List ℕ)
+program_in d name.Font = Some d.fpgm
+program_in d name.Cvt = Some d.prep
+program_in d (name.Glyph id) = option_map (λ g. g.program) (slice_get d.glyphs id)
+
+-- the word is the name of this program of the font
+pub record Names (word : List ℕ) (d : FontData) (program : List ℕ) : Type 0 where
+  pub name : Name
+  pub text : word ≡ text_of name
+  pub there : program_in d name ≡ Some program
+
+-- no cut of the program is structured
+abbrev pub CannotBeListed : List ℕ → Type 0
+CannotBeListed program = (is : List Instruction) → IsCut program is → IsStructured is → ⊥
+
+-- The bytes hold a font, and the word is the name of a program of it that can't be cut or isn't structured.
+pub record HoldUnlistedProgram (bytes word : List ℕ) : Type 0 where
+  pub font : FontData
+  pub reads : Reads bytes font
+  pub program : List ℕ
+  pub named : Names word font program
+  pub unlisted : CannotBeListed program
+
+-- The bytes hold a font, and the word is the name of none of its programs.
+pub record HoldNoSuchProgram (bytes word : List ℕ) : Type 0 where
+  pub font : FontData
+  pub reads : Reads bytes font
+  pub none : (program : List ℕ) → Names word font program → ⊥
+
+-- What is listed. (OpenType specification, "The TrueType Instruction Set": the names.)
+
+-- two hexadecimal digits for each byte
+abbrev pub hex_digits : List ℕ → List ℕ
+hex_digits bytes = flat_map (λ b. digit_glyph false (b / 16) ∷ digit_glyph false (b % 16) ∷ []) bytes
+
+-- the name of the instruction's code, `?` where it has none
+unfoldable pub shown_name : Instruction → List ℕ
+shown_name i = unwrap_or (option_and_then name_of (code_of i)) (codes "?")
+
+-- the line of the instruction at an offset
+unfoldable pub line_of : ℕ → Instruction → List ℕ
+line_of offset i = decimal offset ++ (codes ": " ++ (hex_digits i ++ (codes " " ++ (shown_name i ++ codes "\n"))))
+
+-- the lines of instructions, the first of which stands at an offset
+abbrev pub lines_of : ℕ → List Instruction → List ℕ
+lines_of offset [] = []
+lines_of offset (i ∷ is) = line_of offset i ++ lines_of (offset + length i) is
+
+-- the line behind them, with the program's length
+unfoldable pub last_line : List Instruction → List ℕ
+last_line is = codes "end: " ++ (decimal (size is) ++ codes "\n")
+
+-- The program is cut into structured instructions, and their lines and the last one were written, where the written bytes are known.
+pub record IsListed (program : List ℕ) (old new : Option (List ℕ)) : Type 0 where
+  pub instructions : List Instruction
+  pub is_cut : IsCut program instructions
+  pub structured : IsStructured instructions
+  pub written : Appends old new (lines_of 0 instructions ++ last_line instructions)
+
+-- The bytes hold a font, and the word is the name of a program of it that was listed.
+pub record HoldListedProgram (bytes word : List ℕ) (old new : Option (List ℕ)) : Type 0 where
+  pub font : FontData
+  pub reads : Reads bytes font
+  pub program : List ℕ
+  pub named : Names word font program
+  pub listed : IsListed program old new
+
+-- The lines of the instructions before an offset were written. (Representation: no public clause cites it.)
+pub record IsListedBefore (is : List Instruction) (offset : ℕ) (old new : Option (List ℕ)) : Type 0 where
+  pub before : List Instruction
+  pub after : List Instruction
+  pub whole : is ≡ before ++ after
+  pub reached : size before ≡ offset
+  pub written : Appends old new (lines_of 0 before)

@@ -1,0 +1,328 @@
+//! The check of a font by its certificate: each program by the family that its section lists.
+
+ghost use Rattle.std.specs.Prelude.{◌≡◌, ℕ, ◌<◌, ◌^◌, [], IfErr, IfOk, OnOk, length};
+ghost use Rattle.tt_abs.specs.Entries.{Rises};
+ghost use Rattle.tt_abs.specs.Settings.{setting_of};
+ghost use Rattle.tt_cert.specs.Contents.{family_of};
+ghost use Rattle.tt_cert.specs.Fillings.{HasGoodFilling};
+ghost use Rattle.tt_font.specs.GlyphParts.{glyph_data};
+ghost use Rattle.tt_font.specs.Reading.{FontData, Reads};
+ghost use Rattle.hintcheck.specs.CertificateFaults.{CountsCheck, IsNoReadFault};
+ghost use Rattle.hintcheck.specs.CheckedFonts.{AreGoodGlyphs, HasGoodFamilies, IsGoodAtEnd};
+ghost use Rattle.hintcheck.specs.FontLooks.{ComesToEnd, IsFontInRange, IsOfSubject, subject_in};
+ghost use Rattle.hintcheck.specs.FontPrograms.{IsSafeFont, cvt_subject, font_subject};
+ghost use Rattle.hintcheck.specs.Looks.{IsLookedAt};
+ghost use Rattle.hintcheck.specs.Programs.{HasGoodFamily, Subject};
+
+use crate::fonts::{Common, Ended, cvt_setting, read_font};
+use crate::look::{cut, list_refused};
+use crate::report::{Name, Refused, Verdict};
+use std::alloc::{AllocError, Global};
+use thiserror::Error;
+use tt_abs::Setting;
+use tt_cert::{Certificate, ProgramFault, check, check_full};
+use tt_cert_file::{DecodeFault, Form, decode, read_end, read_header};
+use tt_font::{Font, FontFault, GlyphPart};
+use tt_stream::Source;
+
+/// How many bytes the header of a certificate file has.
+const HEADER: u64 = 10;
+
+/// Where the header has the number of sections.
+const SECTIONS: u64 = 6;
+
+/// Why a font isn't checked by its certificate.
+#[derive(Debug, Drop, Error)]
+pub enum CheckFontFault {
+    /// The font's own fault.
+    #[error(transparent)]
+    Font(FontFault),
+    /// The bytes are no certificate for the font: the place of the first byte of what is wrong, or of the certificate's end where that comes too
+    /// early.
+    #[error("certificate form at byte {0}")]
+    Form(u64),
+    /// The certificate can't be read.
+    #[error("read")]
+    Read,
+    /// Memory ran out.
+    #[error("out of memory")]
+    OutOfMemory(AllocError),
+}
+
+impl From<FontFault> for CheckFontFault {
+    ghost use Rattle.std.specs.Prelude.{◌≡◌};
+    ghost use Rattle.hintcheck.specs.declared.certified.CheckFontFault.TheVariants.{Font};
+
+    ghost from_gives = { λ font fault. fault ≡ Font font };
+
+    fn from(font: FontFault) -> CheckFontFault {
+        CheckFontFault::Font(font)
+    }
+}
+
+impl From<AllocError> for CheckFontFault {
+    ghost use Rattle.std.specs.Prelude.{◌≡◌};
+    ghost use Rattle.hintcheck.specs.declared.certified.CheckFontFault.TheVariants.{OutOfMemory};
+
+    ghost from_gives = { λ error fault. fault ≡ OutOfMemory error };
+
+    fn from(error: AllocError) -> CheckFontFault {
+        CheckFontFault::OutOfMemory(error)
+    }
+}
+
+impl From<DecodeFault> for CheckFontFault {
+    ghost use Rattle.std.specs.Prelude.{◌≡◌};
+    ghost use Rattle.hintcheck.specs.CertificateFaults.{fault_of_decoding};
+
+    ghost from_gives = { λ decode fault. fault ≡ fault_of_decoding decode };
+
+    fn from(fault: DecodeFault) -> CheckFontFault {
+        match fault {
+            DecodeFault::Form(place) => CheckFontFault::Form(place),
+            DecodeFault::Read => CheckFontFault::Read,
+            DecodeFault::OutOfMemory(error) => CheckFontFault::OutOfMemory(error),
+        }
+    }
+}
+
+/// How far the certificate was read: its form, and the place of the next section.
+#[derive(Clone, Copy)]
+struct Progress {
+    form: Form,
+    place: u64,
+}
+
+/// Reads the header of the font's certificate, which has a section for each program.
+fn read_start<S: Source>(font: &Font<'_>, source: &mut S) -> Result<Progress, CheckFontFault>
+    ensures failures { CountsCheck result (S.failures source.old) (S.failures source.new) }
+{
+    let (form, sections) = read_header(source)?;
+    if sections != u32::from(font.glyph_count()) + 2 {
+        return Err(CheckFontFault::Form(SECTIONS));
+    }
+    Ok(Progress {
+        form,
+        place: HEADER,
+    })
+}
+
+/// Reads the section of the program with this name, and goes on to the next one.
+fn next_section<S: Source>(
+    alloc: Global,
+    source: &mut S,
+    progress: &mut Progress,
+    name: Name,
+) -> Result<Certificate, CheckFontFault>
+    ensures failures { CountsCheck result (S.failures source.old) (S.failures source.new) }
+{
+    let start = progress.place;
+    let (named, certificate, after) = decode(alloc, source, start, progress.form)?;
+    if named != name {
+        return Err(CheckFontFault::Form(start));
+    }
+    progress.place = after;
+    Ok(certificate)
+}
+
+/// Checks a program by its section of this form: a family that lists each state is checked as a whole.
+///
+/// # Errors
+/// `Refused` where the family has no good filling, or isn't good as a whole; `OutOfMemory`.
+fn check_section(
+    alloc: Global,
+    setting: &Setting<'_>,
+    certificate: &Certificate,
+    form: Form,
+) -> Result<(), ProgramFault>
+    requires { Rises setting.now.start.now }
+    ensures good { OnOk result (HasGoodFilling (setting_of setting.now) setting.now.start.now (family_of certificate.now)) }
+{
+    match form {
+        Form::One => check_full(alloc, setting, certificate),
+        Form::Two | Form::Three | Form::Four => check(alloc, setting, certificate),
+    }
+}
+
+/// The functions that are known where the font program or the CVT program of this setting ends, by its certificate.
+fn certified_functions(
+    alloc: Global,
+    setting: &Setting<'_>,
+    certificate: &Certificate,
+    form: Form,
+) -> Result<Vec<(u16, u32)>, ProgramFault>
+    requires subject { IsOfSubject setting.now }
+    requires ends { ComesToEnd (setting_of setting.now).kind }
+    requires rises { Rises setting.now.start.now }
+    ensures known { (x : Subject) → IsLookedAt x setting.now → IfOk result (λ functions. IsGoodAtEnd x setting.now.main.now functions.items) }
+{
+    check_section(alloc, setting, certificate, form)?;
+    // A checked font program or CVT program has a state at its end.
+    let functions = certificate.end_functions(setting.main.len()).unwrap();
+    Ok(Vec::from_slice(alloc, functions)?)
+}
+
+/// Checks the font program by its certificate.
+///
+/// # Errors
+/// `Refused`; `OutOfMemory`.
+fn check_font_program<'a>(
+    alloc: Global,
+    font: &Font<'a>,
+    certificate: &Certificate,
+    form: Form,
+) -> Result<Ended<'a>, ProgramFault>
+    requires { IsFontInRange font.now }
+    ensures known { IfOk result (λ fpgm. IsGoodAtEnd (font_subject font.now) fpgm.program fpgm.functions.items) }
+{
+    let program = cut(alloc, font.fpgm())?;
+    let setting = Setting::for_font_program(font.limits(), font.cvt_count(), &program);
+    let functions = certified_functions(alloc, &setting, certificate, form)?;
+    Ok(Ended { program, functions })
+}
+
+/// Checks the CVT program by its certificate, in a font with this font program.
+///
+/// # Errors
+/// `Refused`; `OutOfMemory`.
+fn check_cvt_program<'a>(
+    alloc: Global,
+    font: &Font<'a>,
+    fpgm: &Ended<'_>,
+    certificate: &Certificate,
+    form: Form,
+) -> Result<Ended<'a>, ProgramFault>
+    requires range { IsFontInRange font.now }
+    requires rises { Rises fpgm.now.functions.items }
+    ensures known { IfOk result (λ prep. IsGoodAtEnd (cvt_subject font.now fpgm.now.program fpgm.now.functions.items) prep.program prep.functions.items) }
+{
+    let program = cut(alloc, font.prep())?;
+    let setting = cvt_setting(font, fpgm, &program);
+    let functions = certified_functions(alloc, &setting, certificate, form)?;
+    Ok(Ended { program, functions })
+}
+
+/// Checks the program of a glyph by its certificate.
+///
+/// # Errors
+/// `Refused`; `OutOfMemory`.
+fn check_glyph_program(
+    alloc: Global,
+    common: &Common<'_>,
+    glyph: &GlyphPart<'_>,
+    certificate: &Certificate,
+    form: Form,
+) -> Result<(), ProgramFault>
+    requires few { length glyph.now.program.now < 2 ^ 31 }
+    requires rises { Rises common.now.functions.now }
+    ensures good { (id : ℕ) → OnOk result (HasGoodFamily (subject_in common.now id (glyph_data glyph.now))) }
+{
+    let program = cut(alloc, glyph.program)?;
+    let setting = common
+        .setting
+        .for_glyph_program(glyph.points, glyph.contours, &program, common.functions);
+    check_section(alloc, &setting, certificate, form)
+}
+
+/// Checks each glyph program by its section: the refused ones, by rising numbers of their glyphs.
+fn check_glyph_programs<S: Source>(
+    alloc: Global,
+    font: &Font<'_>,
+    common: &Common<'_>,
+    source: &mut S,
+    progress: &mut Progress,
+) -> Result<Vec<Refused>, CheckFontFault>
+    requires range { IsFontInRange font.now }
+    requires rises { Rises common.now.functions.now }
+    ensures good { IfOk result (λ refused. refused.items ≡ [] → AreGoodGlyphs common.now font.now.glyphs) }
+    ensures failures { CountsCheck result (S.failures source.old) (S.failures source.new) }
+{
+    let mut refused = Vec::new(alloc);
+    for id in 0..font.glyph_count() {
+        let certificate = next_section(alloc, source, progress, Name::Glyph(id))?;
+        let glyph = font.glyph(id).unwrap();
+        match check_glyph_program(alloc, common, &glyph, &certificate, progress.form) {
+            Ok(()) => {}
+            Err(fault) => list_refused(&mut refused, Name::Glyph(id), fault)?,
+        }
+    }
+    Ok(refused)
+}
+
+/// The only refused program: a refused font program or CVT program ends the check.
+fn refused_alone(
+    alloc: Global,
+    name: Name,
+    fault: ProgramFault,
+) -> Result<Vec<Refused>, CheckFontFault>
+    ensures some { IfOk result (λ refused. refused.items ≡ [] → ⊥) }
+    ensures failures { IfErr result IsNoReadFault }
+{
+    let mut refused = Vec::new(alloc);
+    list_refused(&mut refused, name, fault)?;
+    Ok(refused)
+}
+
+/// Checks the programs of a font, one after the other, by the sections that the source still has: the refused ones, in their order.
+fn check_programs<S: Source>(
+    alloc: Global,
+    font: &Font<'_>,
+    source: &mut S,
+) -> Result<Vec<Refused>, CheckFontFault>
+    requires { IsFontInRange font.now }
+    ensures good { IfOk result (λ refused. refused.items ≡ [] → HasGoodFamilies font.now) }
+    ensures failures { CountsCheck result (S.failures source.old) (S.failures source.new) }
+{
+    let mut progress = read_start(font, source)?;
+    let certificate = next_section(alloc, source, &mut progress, Name::Font)?;
+    let fpgm = match check_font_program(alloc, font, &certificate, progress.form) {
+        Ok(fpgm) => fpgm,
+        Err(fault) => return refused_alone(alloc, Name::Font, fault),
+    };
+    let certificate = next_section(alloc, source, &mut progress, Name::Cvt)?;
+    let prep = match check_cvt_program(alloc, font, &fpgm, &certificate, progress.form) {
+        Ok(prep) => prep,
+        Err(fault) => return refused_alone(alloc, Name::Cvt, fault),
+    };
+    let common = Common {
+        setting: cvt_setting(font, &fpgm, &prep.program),
+        functions: &prep.functions,
+    };
+    let refused = check_glyph_programs(alloc, font, &common, source, &mut progress)?;
+    read_end(source, progress.place)?;
+    Ok(refused)
+}
+
+/// The verdict on the programs of a font that was read, by its certificate.
+pub(crate) fn check_read_font<S: Source>(
+    alloc: Global,
+    font: &Font<'_>,
+    source: &mut S,
+) -> Result<Verdict, CheckFontFault>
+    requires { IsFontInRange font.now }
+    ensures safe { IfOk result (λ v. v.refused ≡ [] → IsSafeFont font.now) }
+    ensures failures { CountsCheck result (S.failures source.old) (S.failures source.new) }
+{
+    let refused = check_programs(alloc, font, source)?;
+    Ok(Verdict::new(u32::from(font.glyph_count()) + 2, refused))
+}
+
+/// The verdict on the programs of a font file by its certificate, which is all that is left in the source: each program is checked by the family
+/// that its section lists, and nothing is trusted of where the certificate came from. The CVT program starts with the functions that are known
+/// where the font program ends, and a glyph program with those that are known where the CVT program ends. A refused font program or CVT program
+/// ends the check; a refused glyph program doesn't.
+///
+/// # Errors
+/// The faults of `Font::read`; `Form` where the bytes are no certificate for the font; `Read` exactly where a read failed; `OutOfMemory`.
+pub fn check_font<S: Source>(
+    alloc: Global,
+    font: &[u8],
+    source: &mut S,
+) -> Result<Verdict, CheckFontFault>
+    // Where no program is refused, no run of any of them reaches a fault.
+    ensures safe { IfOk result (λ v. (d : FontData) × Reads font.now d × (v.refused ≡ [] → IsSafeFont d)) }
+    ensures failures { CountsCheck result (S.failures source.old) (S.failures source.new) }
+{
+    let read = read_font(alloc, font)?;
+    check_read_font(alloc, &read, source)
+}

@@ -1,0 +1,35 @@
+use Rattle.std.proofs.Common.{refl, ap, sym, Some}
+use Rattle.std.proofs.lemmas.Result.{IfOk-weaker}
+use Rattle.hintcheck_words.specs.Requests.{Request, asked, request_of, requests}
+use Rattle.hintcheck_words.proofs.Meanings.{differs}
+use Rattle.hintcheck_words.proofs.words.task_of.Goals as goal
+
+pub bare_task-requires : goal.bare_task-requires
+bare_task-requires c = c.requires.numbers c.in-bare.is
+
+pub returns-in-bare : goal.returns-in-bare
+unfolding request_of requests
+returns-in-bare c = IfOk-weaker c.bare_task.result _ _ (λ t h. rw c.in-bare.is (ap (λ (r : Request). Some r) (sym h))) c.bare_task.ensures
+
+pub returns-in_ok-text-in-verdict : goal.returns-in_ok-text-in-verdict
+unfolding request_of requests asked
+returns-in_ok-text-in-verdict c = rw (c.in-verdict.is, c.in_ok-text-in-verdict.ensures) refl
+
+pub returns-in_ok-text-in-find-2 : goal.returns-in_ok-text-in-find-2
+unfolding request_of requests asked
+returns-in_ok-text-in-find-2 c = rw (c.in-find.is, c.in_ok-text-in-find.ensures, c.in_ok-text-in-find-2.ensures) refl
+
+pub returns-in_ok-text-in-check-2 : goal.returns-in_ok-text-in-check-2
+unfolding request_of requests asked
+returns-in_ok-text-in-check-2 c = rw (c.in-check.is, c.in_ok-text-in-check.ensures, c.in_ok-text-in-check-2.ensures) refl
+
+pub returns-in_ok-text-in-list-2 : goal.returns-in_ok-text-in-list-2
+unfolding request_of requests asked
+returns-in_ok-text-in-list-2 c = rw (c.in-list.is, c.in_ok-text-in-list.ensures, c.in_ok-text-in-list-2.ensures) refl
+
+pub unreachable-requires : goal.unreachable-requires
+unfolding request_of requests
+unreachable-requires c =
+    let d = c.in_default in
+    let none = rw (differs _ _ d.not-bare, differs _ _ d.not-verdict, differs _ _ d.not-find, differs _ _ d.not-check, differs _ _ d.not-list) at c.requires.known in
+    cc
