@@ -9,3 +9,5 @@ pub mod Commands
 pub mod MeansSafe
 pub mod CheckedFonts
 pub mod CertificateFaults
+pub mod Certificates
+pub mod CertificateTexts
