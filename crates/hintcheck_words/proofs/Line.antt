@@ -1,6 +1,10 @@
 -- The command line of the program, built as clap builds it.
-use Rattle.std.proofs.Common.{◌≡◌, List, [], ◌∷◌, Some, refl, sym, ap, ◌∙◌, codes}
+use Rattle.std.proofs.Common.{◌≡◌, List, [], ◌∷◌, Some, refl, sym, ap, subst, ◌∙◌, inl, inr, codes}
 use Rattle.clap.specs.Faults.{fault_of, is_simple_and_free}
+use Rattle.clap.specs.Kinds.{HasKind, IsAmong}
+use Rattle.clap.specs.Values.{kind_of}
+use Rattle.clap.specs.declared.error.Error.{Error}
+use Rattle.clap.specs.declared.error.kind.ErrorKind.TheVariants as kind
 use Rattle.clap.specs.Simple.{App, new_rule, Shape, argument_words, built}
 use Rattle.clap.specs.Walk.{Row, Rule, Text, arg_by_id}
 use Rattle.clap.proofs.OnLiterals.{clap_on_literals}
@@ -70,3 +74,12 @@ meets_one words name rows e found =
 
 pub fault_is : (a : App) (words : List Text) → a ≡ hintcheck → (is_simple_and_free a ≡ true → fault_of a words ≡ []) → fault_of hintcheck words ≡ []
 fault_is a words same none = sym (ap (λ (b : App). fault_of b words) same) ∙ none (ap is_simple_and_free same ∙ simple_and_free)
+
+-- an error of a kind that clap may tell of this command line, other than want of memory, is among the faults of the words
+pub kind_among : (a : App) (words : List Text) (e : Error) → a ≡ hintcheck → (is_simple_and_free a ≡ true → HasKind (fault_of a words) e)
+    → (kind_of e ≡ kind.OutOfMemory → ⊥) → IsAmong (kind_of e) (fault_of hintcheck words)
+kind_among a words e same has other =
+    elim (subst (λ (b : App). HasKind (fault_of b words) e) same (has (ap is_simple_and_free same ∙ simple_and_free))) [
+      | inl memory ↦ absurd (other memory)
+      | inr among ↦ among
+    ]

@@ -1,8 +1,9 @@
 -- What the words of a command line ask for, by what clap says that a simple command's words mean.
-use Rattle.std.specs.Prelude.{◌≡◌, ℕ, Bool, true, codes, List, [], ◌∷◌, find as first_where, Option, Some, IsSomeAnd, is_some, unwrap_or, option_map, option_and_then, pos, string_bytes}
+use Rattle.std.specs.Prelude.{◌≡◌, ℕ, Bool, true, codes, List, [], ◌∷◌, find as first_where, Option, Some, IsSomeAnd, is_some, unwrap_or, option_map, option_and_then, pos, string_bytes, Result, Ok, Err}
 use Rattle.std.specs.Str.{bytes_eq}
 use Rattle.std.specs.Str.Parse.{digits_value, without_leading_plus}
-use Rattle.clap.specs.Words.{IsSignedIn, Row, Text, first_of, one_of, subcommand_of, takes, without_minus}
+use Rattle.clap.specs.Faults.{fault_of}
+use Rattle.clap.specs.Words.{IsAmong, IsSignedIn, Kinds, Row, Text, first_of, kind_of, one_of, subcommand_of, takes, without_minus}
 use Rattle.hintcheck_words.specs.CommandLine.{hintcheck}
 use Rattle.hintcheck_words.specs.declared.words.Task.{Task}
 use Rattle.hintcheck_words.specs.declared.words.Task.TheVariants as task
@@ -61,6 +62,10 @@ meaning words = option_and_then request_of (met words)
 unfoldable pub is_taken : List Text → Bool
 is_taken words = takes hintcheck words
 
+-- the kinds of faults of which clap may tell one for the words; none where it finds no fault
+unfoldable pub faults_in : List Text → Kinds
+faults_in words = fault_of hintcheck words
+
 -- the numbers of `bare` are there
 pub record HasNumbers (rows : List Row) : Type 0 where
   pub cvt : HasNumber rows (codes "CVT")
@@ -88,3 +93,10 @@ asked (task.List font program) = list (string_bytes font) (string_bytes program)
 unfoldable pub IsWantOfMemory : TaskFault → Type 0
 IsWantOfMemory (fault.Words error) = ⊥
 IsWantOfMemory (fault.OutOfMemory error) = Unit {0}
+
+-- Of the kinds of faults that clap may tell: a task comes only where there is none, words that mean none are told by one of them, and want of
+-- memory says nothing.
+abbrev pub TellsFault : {T : Type 0} → Kinds → Result T TaskFault → Type 0
+TellsFault kinds (Ok task) = kinds ≡ []
+TellsFault kinds (Err (fault.Words error)) = IsAmong (kind_of error) kinds
+TellsFault kinds (Err (fault.OutOfMemory error)) = Unit {0}

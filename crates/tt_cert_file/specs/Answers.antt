@@ -71,3 +71,9 @@ abbrev pub IsFormFault : DecodeFault → Type 0
 IsFormFault (fault.Form place) = Unit {0}
 IsFormFault fault.Read = ⊥
 IsFormFault (fault.OutOfMemory error) = ⊥
+
+-- memory ran out
+abbrev pub IsWantOfMemory : DecodeFault → Type 0
+IsWantOfMemory (fault.Form place) = ⊥
+IsWantOfMemory fault.Read = ⊥
+IsWantOfMemory (fault.OutOfMemory error) = Unit {0}

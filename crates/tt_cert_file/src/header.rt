@@ -4,7 +4,7 @@ ghost use Rattle.std.specs.Prelude.{◌≡◌, ℕ, IfErr, OnErr, OnOk};
 ghost use Rattle.std.specs.Io.KnownBytes.{Appends, IsAtEnd};
 ghost use Rattle.tt_stream.specs.Reads.{ConsumesBeginning};
 ghost use Rattle.tt_stream.specs.Streams.{AppendsBeginning};
-ghost use Rattle.tt_cert_file.specs.Answers.{CountsRead, CountsWrite, Gives, GivesHeader, IsMore, input_at};
+ghost use Rattle.tt_cert_file.specs.Answers.{CountsRead, CountsWrite, Gives, GivesHeader, IsMore, IsWantOfMemory, input_at};
 ghost use Rattle.tt_cert_file.specs.Reading.{form_at, header_at, magic_at};
 ghost use Rattle.tt_cert_file.specs.Text.{header_text};
 
@@ -22,6 +22,7 @@ fn read_magic<S: Source>(source: &mut S, place: u64) -> Result<(u32, u64), Decod
     ensures reads { Gives (λ x. x) (S.remaining source.old) (S.remaining source.new) result (magic_at (input_at place (S.remaining source.old))) }
     ensures beginning { ConsumesBeginning (S.remaining source.old) (S.remaining source.new) }
     ensures failures { CountsRead result (S.failures source.old) (S.failures source.new) }
+    ensures memory { IfErr result (λ fault. ¬ IsWantOfMemory fault) }
 {
     let (magic, at) = read_long(source, place)?;
     if magic != MAGIC {
@@ -36,6 +37,7 @@ fn read_form<S: Source>(source: &mut S, place: u64) -> Result<(Form, u64), Decod
     ensures reads { Gives (λ x. x) (S.remaining source.old) (S.remaining source.new) result (form_at (input_at place (S.remaining source.old))) }
     ensures beginning { ConsumesBeginning (S.remaining source.old) (S.remaining source.new) }
     ensures failures { CountsRead result (S.failures source.old) (S.failures source.new) }
+    ensures memory { IfErr result (λ fault. ¬ IsWantOfMemory fault) }
 {
     let (number, at) = read_word(source, place)?;
     match Form::with_number(number) {
@@ -50,6 +52,7 @@ fn read_header_at<S: Source>(source: &mut S, place: u64) -> Result<((Form, u32),
     ensures reads { Gives (λ x. x) (S.remaining source.old) (S.remaining source.new) result (header_at (input_at place (S.remaining source.old))) }
     ensures beginning { ConsumesBeginning (S.remaining source.old) (S.remaining source.new) }
     ensures failures { CountsRead result (S.failures source.old) (S.failures source.new) }
+    ensures memory { IfErr result (λ fault. ¬ IsWantOfMemory fault) }
 {
     let (_magic, at) = read_magic(source, place)?;
     let (form, at) = read_form(source, at)?;
@@ -66,6 +69,7 @@ pub fn read_header<S: Source>(source: &mut S) -> Result<(Form, u32), DecodeFault
     ensures exact { GivesHeader (S.remaining source.old) (S.remaining source.new) result (header_at (input_at 0 (S.remaining source.old))) }
     ensures beginning { ConsumesBeginning (S.remaining source.old) (S.remaining source.new) }
     ensures failures { CountsRead result (S.failures source.old) (S.failures source.new) }
+    ensures memory { IfErr result (λ fault. ¬ IsWantOfMemory fault) }
 {
     let (header, _after) = read_header_at(source, 0)?;
     Ok(header)
@@ -76,10 +80,11 @@ pub fn read_header<S: Source>(source: &mut S) -> Result<(Form, u32), DecodeFault
 /// # Errors
 /// `Form` with the place of the first byte that follows; `Read` exactly where a read failed.
 pub fn read_end<S: Source>(source: &mut S, place: u64) -> Result<(), DecodeFault>
-    ensures ended { OnOk result (IsAtEnd (S.remaining source.new)) }
+    ensures ended { OnOk result (IsAtEnd (S.remaining source.old) × IsAtEnd (S.remaining source.new)) }
     ensures followed { IfErr result (λ fault. (p : ℕ) → fault ≡ DecodeFault.Form p → (p ≡ place) × IsMore (S.remaining source.old)) }
     ensures beginning { ConsumesBeginning (S.remaining source.old) (S.remaining source.new) }
     ensures failures { CountsRead result (S.failures source.old) (S.failures source.new) }
+    ensures memory { IfErr result (λ fault. ¬ IsWantOfMemory fault) }
 {
     let mut byte = [0u8; 1];
     if read_full(source, &mut byte)? > 0 {
@@ -96,6 +101,7 @@ pub fn write_header<W: Sink>(sections: u32, sink: &mut W) -> Result<(), EncodeFa
     ensures written { OnOk result (Appends (W.contents sink.old) (W.contents sink.new) (header_text Form.Four sections)) }
     ensures beginning { OnErr result (AppendsBeginning (W.contents sink.old) (W.contents sink.new) (header_text Form.Four sections)) }
     ensures failures { CountsWrite result (W.failures sink.old) (W.failures sink.new) }
+    ensures memory { IfErr result (λ fault. fault ≡ EncodeFault.Write) }
 {
     let [m3, m2, m1, m0] = MAGIC.to_be_bytes();
     let [f1, f0] = Form::Four.number().to_be_bytes();

@@ -1,8 +1,8 @@
 //! Units of a section, each read whole.
 
-ghost use Rattle.std.specs.Prelude.{◌≡◌, ℕ, List, Option};
+ghost use Rattle.std.specs.Prelude.{◌≡◌, ℕ, List, Option, IfErr};
 ghost use Rattle.tt_stream.specs.Reads.{ConsumesBeginning};
-ghost use Rattle.tt_cert_file.specs.Answers.{CountsRead, Gives, input_at};
+ghost use Rattle.tt_cert_file.specs.Answers.{CountsRead, Gives, IsWantOfMemory, input_at};
 ghost use Rattle.tt_cert_file.specs.Readers.{unit};
 ghost use Rattle.tt_cert_file.specs.Reading.{cell_at, graphics_at, long_at, name_at, pair_at, word_at, zone_at};
 
@@ -20,6 +20,7 @@ fn read_unit<S: Source, const N: usize>(
     ensures reads { Gives (λ x. x) (S.remaining source.old) (S.remaining source.new) result (unit N (input_at place (S.remaining source.old))) }
     ensures beginning { ConsumesBeginning (S.remaining source.old) (S.remaining source.new) }
     ensures failures { CountsRead result (S.failures source.old) (S.failures source.new) }
+    ensures memory { IfErr result (λ fault. ¬ IsWantOfMemory fault) }
 {
     let mut bytes = [0u8; N];
     let count = read_full(source, &mut bytes)?;
@@ -36,6 +37,7 @@ pub(crate) fn read_word<S: Source>(source: &mut S, place: u64) -> Result<(u16, u
     ensures reads { Gives (λ x. x) (S.remaining source.old) (S.remaining source.new) result (word_at (input_at place (S.remaining source.old))) }
     ensures beginning { ConsumesBeginning (S.remaining source.old) (S.remaining source.new) }
     ensures failures { CountsRead result (S.failures source.old) (S.failures source.new) }
+    ensures memory { IfErr result (λ fault. ¬ IsWantOfMemory fault) }
 {
     let (unit, after) = read_unit::<S, 2>(source, place)?;
     Ok((u16::from_be_bytes(unit), after))
@@ -47,6 +49,7 @@ pub(crate) fn read_long<S: Source>(source: &mut S, place: u64) -> Result<(u32, u
     ensures reads { Gives (λ x. x) (S.remaining source.old) (S.remaining source.new) result (long_at (input_at place (S.remaining source.old))) }
     ensures beginning { ConsumesBeginning (S.remaining source.old) (S.remaining source.new) }
     ensures failures { CountsRead result (S.failures source.old) (S.failures source.new) }
+    ensures memory { IfErr result (λ fault. ¬ IsWantOfMemory fault) }
 {
     let (unit, after) = read_unit::<S, 4>(source, place)?;
     Ok((u32::from_be_bytes(unit), after))

@@ -6,8 +6,8 @@ use Rattle.clap.proofs.CallerLemmas.{subcommand_required}
 use Rattle.clap.proofs.SimpleLemmas.{plain_fields}
 use Rattle.std.proofs.Common.{ap, sym, subst}
 use Rattle.hintcheck_words.specs.CommandLine.{hintcheck}
-use Rattle.hintcheck_words.specs.Requests.{MeetsSubcommand}
-use Rattle.hintcheck_words.proofs.Line.{fault_is, meets_one}
+use Rattle.hintcheck_words.specs.Requests.{MeetsSubcommand, faults_in}
+use Rattle.hintcheck_words.proofs.Line.{fault_is, kind_among, meets_one}
 use Rattle.hintcheck_words.proofs.Meanings.{met_is, rows_met, takes_is}
 use Rattle.hintcheck_words.proofs.words.matches_of.Goals as goal
 
@@ -36,3 +36,11 @@ returns-in-OutOfMemory-clause-refused c = λ taken. tt
 pub returns-clause-refused : goal.returns-clause-refused
 unfolding IsWantOfMemory
 returns-clause-refused c = λ taken. c.in_default.not-OutOfMemory (c.kind.ensures ∙ c.in-Err.ensures.passes (takes_is _ _ c.in_ok-command.ensures taken))
+
+pub returns-in-Ok-clause-faults : goal.returns-in-Ok-clause-faults
+unfolding faults_in
+returns-in-Ok-clause-faults c = fault_is _ _ c.in_ok-command.ensures c.in-Ok.ensures.kinds
+
+pub returns-clause-faults : goal.returns-clause-faults
+unfolding faults_in
+returns-clause-faults c = kind_among _ _ c.in-Err.error c.in_ok-command.ensures c.in-Err.ensures.kinds (λ memory. c.in_default.not-OutOfMemory (c.kind.ensures ∙ memory))
