@@ -9,3 +9,6 @@ pub mod EmptyPrograms
 pub mod NameLemmas
 pub mod ListingLemmas
 pub mod CheckedLists
+pub mod CheckRefusals
+pub mod CheckedSections
+pub mod CheckedPrograms

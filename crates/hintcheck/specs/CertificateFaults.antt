@@ -46,3 +46,10 @@ IsNoReadFault fault.Read = ⊥
 IsNoReadFault (fault.Font font) = Unit {0}
 IsNoReadFault (fault.Form place) = Unit {0}
 IsNoReadFault (fault.OutOfMemory error) = Unit {0}
+
+-- nor is it one of form
+abbrev pub IsNoForm : CheckFontFault → Type 0
+IsNoForm (fault.Form place) = ⊥
+IsNoForm fault.Read = Unit {0}
+IsNoForm (fault.Font font) = Unit {0}
+IsNoForm (fault.OutOfMemory error) = Unit {0}

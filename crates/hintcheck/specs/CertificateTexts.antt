@@ -1,5 +1,6 @@
 -- The text of a font's certificate: a header, and the section of each program, in their order.
-use Rattle.std.specs.Prelude.{◌≡◌, ℕ, ◌+◌, List, [], ◌∷◌, ◌++◌, Some, length}
+use Rattle.std.specs.Prelude.{◌≡◌, ℕ, ◌+◌, List, [], ◌∷◌, ◌++◌, Option, Some, length}
+use Rattle.std.specs.Io.KnownBytes.{Appends}
 use Rattle.tt_code.specs.Cut.{Instruction, size}
 use Rattle.tt_code.specs.Fonts.{Font}
 use Rattle.tt_abs.specs.declared.state.State.{State}
@@ -11,6 +12,7 @@ use Rattle.tt_cert_file.specs.declared.name.Name.TheVariants as name
 use Rattle.tt_cert_file.specs.Rules.{Fits}
 use Rattle.tt_cert_file.specs.Sections.{section_of}
 use Rattle.tt_cert_file.specs.Text.{header_text, section_text}
+use Rattle.tt_find.specs.Found.{NeedsAll}
 use Rattle.tt_font.specs.Reading.{FontData, GlyphData}
 use Rattle.hintcheck.specs.Certificates.{Passes}
 use Rattle.hintcheck.specs.FontPrograms.{cvt_subject, font_of, font_subject, glyph_subject}
@@ -24,7 +26,6 @@ Asked = Subject → List Instruction → Contents → Type 0
 -- The section's text of a program with this name and family, which has its contexts in order.
 pub record IsTextOf (form : Form) (called : Name) (family : Contents) (text : List ℕ) : Type 0 where
   pub in_order : IsFinished family
-  pub fits : Fits form (section_of called family)
   pub text_is : text ≡ section_text form (section_of called family)
 
 -- The family of a font program or a CVT program is as it is asked, this is its section's text, and these functions are known where the program ends.
@@ -36,11 +37,17 @@ pub record IsEndedText (Is : Asked) (form : Form) (x : Subject) (instructions : 
   pub at_end : family_of family ([], size instructions) ≡ Some end
   pub functions_are : end.functions ≡ functions
 
+-- The section's text of a program whose family is as it is asked.
+pub record IsGlyphText (Is : Asked) (form : Form) (x : Subject) (text : List ℕ) : Type 0 where
+  pub instructions : List Instruction
+  pub family : Contents
+  pub is_asked : Is x instructions family
+  pub text_of : IsTextOf form x.name family text
+
 -- The texts of the glyph programs' sections from a number on, whose families are as it is asked.
 pub data AreGlyphTexts (Is : Asked) (form : Form) (font : Font) (functions : List (ℕ × ℕ)) : ℕ → List GlyphData → List ℕ → Type 0 where
   no_glyphs : (id : ℕ) → AreGlyphTexts Is form font functions id [] []
-  one_more : (id : ℕ) (g : GlyphData) (gs : List GlyphData) (instructions : List Instruction) (family : Contents) (text rest : List ℕ)
-      → Is (glyph_subject font functions id g) instructions family → IsTextOf form (name.Glyph id) family text
+  one_more : (id : ℕ) (g : GlyphData) (gs : List GlyphData) (text rest : List ℕ) → IsGlyphText Is form (glyph_subject font functions id g) text
       → AreGlyphTexts Is form font functions (id + 1) gs rest → AreGlyphTexts Is form font functions id (g ∷ gs) (text ++ rest)
 
 -- The bytes are a certificate of this form for the font, whose families are as it is asked. The CVT program starts with the functions that are
@@ -58,10 +65,18 @@ pub record IsCertificate (Is : Asked) (form : Form) (d : FontData) (bytes : List
   pub glyphs : AreGlyphTexts Is form (font_of d font_program cvt_program) known 0 d.glyphs glyph_texts
   pub text_is : bytes ≡ header_text form (length d.glyphs + 2) ++ (font_text ++ (cvt_text ++ glyph_texts))
 
--- a certificate that is good: each family is good as the form lists it
+-- a certificate that is good: each family keeps the rules of its section, and is good as the form lists it
 abbrev pub IsGoodCertificate : Form → FontData → List ℕ → Type 0
-IsGoodCertificate form d bytes = IsCertificate (Passes form) form d bytes
+IsGoodCertificate form d bytes = IsCertificate (λ x instructions family. Fits form (section_of x.name family) × Passes form x instructions family) form d bytes
+
+-- The family is the least one that is good, and lists no state that could be left out.
+abbrev pub IsLeastListing : Subject → List Instruction → Contents → Type 0
+IsLeastListing x instructions family = IsAccepted x instructions (family_of family) × NeedsAll (x.setting instructions) x.functions (family_of family)
 
 -- a certificate with the least families
 abbrev pub IsLeastCertificate : Form → FontData → List ℕ → Type 0
-IsLeastCertificate form d bytes = IsCertificate (λ x instructions family. IsAccepted x instructions (family_of family)) form d bytes
+IsLeastCertificate form d bytes = IsCertificate IsLeastListing form d bytes
+
+-- such a text is appended
+abbrev pub WritesText : Option (List ℕ) → Option (List ℕ) → (List ℕ → Type 0) → Type 0
+WritesText old new Is = (text : List ℕ) × Is text × Appends old new text

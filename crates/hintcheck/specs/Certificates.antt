@@ -52,21 +52,21 @@ pub record PassesToEnd (form : Form) (x : Subject) (instructions : List Instruct
   pub at_end : family_of family ([], size instructions) ≡ Some end
   pub functions_are : end.functions ≡ functions
 
--- Why a program is refused that is checked by a family, and where: it can't be cut; its structure is at fault; the family isn't good.
-pub data IsBreak (form : Form) (x : Subject) (family : Contents) : Place → Reason → Type 0 where
-  no_cut : (offset : ℕ) → CannotBeCut x.bytes offset → IsBreak form x family ([], offset) reason.CannotCut
+-- Why a program is refused that is checked by a family, where, and the offset that is told of it: it can't be cut; its structure is at fault; the
+-- family isn't good, and an offset of more than 32 bits is told as the greatest number of them.
+pub data IsBreak (form : Form) (x : Subject) (family : Contents) : Place → ℕ → Reason → Type 0 where
+  no_cut : (offset : ℕ) → CannotBeCut x.bytes offset → IsBreak form x family ([], offset) offset reason.CannotCut
   no_structure : (instructions : List Instruction) (offset : ℕ) → IsCut x.bytes instructions → IsFault instructions offset
-      → IsBreak form x family ([], offset) reason.Structure
+      → IsBreak form x family ([], offset) offset reason.Structure
   not_good : (instructions : List Instruction) (p : Place) (r : Reason) → IsCutInto x instructions
-      → IsListingBrokenFirst form (x.setting instructions) x.functions family p r → IsBreak form x family p r
+      → IsListingBrokenFirst form (x.setting instructions) x.functions family p r → IsBreak form x family p (told_offset p.1) r
 
 -- The program is refused: the first break is named with its place, and it doesn't pass.
 pub record IsCheckRefusal (form : Form) (x : Subject) (family : Contents) (r : Refused) : Type 0 where
   pub program : r.program ≡ x.name
   pub at : Place
   pub spot : r.place.program ≡ program_at x.name (spot_of at.0)
-  pub offset : r.place.offset ≡ told_offset at.1
-  pub broken : IsBreak form x family at r.reason
+  pub broken : IsBreak form x family at r.place.offset r.reason
   pub not_passed : (instructions : List Instruction) → Passes form x instructions family → ⊥
 
 -- The section of this program is read, which lists this family, with its contexts in order.
@@ -83,21 +83,23 @@ pub data HasNoSection (form : Form) (i : Input) (called : Name) : ℕ → Type 0
 abbrev pub Finding : Type 0
 Finding = Result (List Refused) ℕ
 
+-- a refused program, and then the others
+abbrev pub refused_before : Refused → Finding → Finding
+refused_before r (Ok rs) = Ok (r ∷ rs)
+refused_before r (Err place) = Err place
+
 -- The glyph programs from a number on, each checked by its section, and then the end of the certificate.
 pub data AreChecked (form : Form) (font : Font) (functions : List (ℕ × ℕ)) : ℕ → List GlyphData → Input → Finding → Type 0 where
   at_end : (id : ℕ) (i : Input) → i.bytes ≡ [] → AreChecked form font functions id [] i (Ok [])
   followed : (id : ℕ) (i : Input) → i.bytes ≢ [] → AreChecked form font functions id [] i (Err i.place)
   no_section : (id : ℕ) (g : GlyphData) (gs : List GlyphData) (i : Input) (place : ℕ) → HasNoSection form i (name.Glyph id) place
       → AreChecked form font functions id (g ∷ gs) i (Err place)
-  passed : (id : ℕ) (g : GlyphData) (gs : List GlyphData) (i after : Input) (family : Contents) (instructions : List Instruction) (rest : Finding)
+  passed : (id : ℕ) (g : GlyphData) (gs : List GlyphData) (i after : Input) (family : Contents) (instructions : List Instruction) (finding : Finding)
       → IsSectionOf form i (name.Glyph id) family after → Passes form (glyph_subject font functions id g) instructions family
-      → AreChecked form font functions (id + 1) gs after rest → AreChecked form font functions id (g ∷ gs) i rest
-  refused : (id : ℕ) (g : GlyphData) (gs : List GlyphData) (i after : Input) (family : Contents) (r : Refused) (rs : List Refused)
+      → AreChecked form font functions (id + 1) gs after finding → AreChecked form font functions id (g ∷ gs) i finding
+  refused : (id : ℕ) (g : GlyphData) (gs : List GlyphData) (i after : Input) (family : Contents) (r : Refused) (finding : Finding)
       → IsSectionOf form i (name.Glyph id) family after → IsCheckRefusal form (glyph_subject font functions id g) family r
-      → AreChecked form font functions (id + 1) gs after (Ok rs) → AreChecked form font functions id (g ∷ gs) i (Ok (r ∷ rs))
-  refused_before : (id : ℕ) (g : GlyphData) (gs : List GlyphData) (i after : Input) (family : Contents) (r : Refused) (place : ℕ)
-      → IsSectionOf form i (name.Glyph id) family after → IsCheckRefusal form (glyph_subject font functions id g) family r
-      → AreChecked form font functions (id + 1) gs after (Err place) → AreChecked form font functions id (g ∷ gs) i (Err place)
+      → AreChecked form font functions (id + 1) gs after finding → AreChecked form font functions id (g ∷ gs) i (refused_before r finding)
 
 -- The sections of a font's programs: a refused font program or CVT program ends the check, a refused glyph program doesn't.
 pub data AreSectionsChecked (d : FontData) (form : Form) (i : Input) : Finding → Type 0 where

@@ -1,17 +1,21 @@
 //! The check of a font by its certificate: each program by the family that its section lists.
 
-ghost use Rattle.std.specs.Prelude.{◌≡◌, ℕ, ◌<◌, ◌^◌, [], IfErr, IfOk, OnOk, length};
+ghost use Rattle.std.specs.Prelude.{◌≡◌, ◌↔◌, ℕ, ◌<◌, ◌^◌, List, [], IsTrue, IfErr, IfOk, Ok, Err, OnOk, length};
+ghost use Rattle.tt_code.specs.Cut.{Instruction};
 ghost use Rattle.tt_abs.specs.Entries.{Rises};
 ghost use Rattle.tt_abs.specs.Settings.{setting_of};
+ghost use Rattle.tt_cert.specs.Checks.{IsWantOfMemory, Names};
 ghost use Rattle.tt_cert.specs.Contents.{family_of};
 ghost use Rattle.tt_cert.specs.Fillings.{HasGoodFilling};
+ghost use Rattle.tt_cert_file.specs.Answers.{input_at};
 ghost use Rattle.tt_font.specs.GlyphParts.{glyph_data};
 ghost use Rattle.tt_font.specs.Reading.{FontData, Reads};
-ghost use Rattle.hintcheck.specs.CertificateFaults.{CountsCheck, IsNoReadFault};
-ghost use Rattle.hintcheck.specs.CheckedFonts.{AreGoodGlyphs, HasGoodFamilies, IsGoodAtEnd};
+ghost use Rattle.hintcheck.specs.CertificateFaults.{CountsCheck, IsNoForm, IsNoReadFault};
+ghost use Rattle.hintcheck.specs.Certificates.{AreSectionsChecked, Finding, HasNoSection, IsChecked, IsGoodListing, IsListingBrokenFirst, IsSectionOf, Passes, PassesToEnd};
+ghost use Rattle.hintcheck.specs.CheckedFonts.{AnswersFinding, AreCheckedFrom, AreGoodGlyphs, Finds, HasGoodFamilies, IsGoodAtEnd, IsRefusedBy, IsTold, Leads, all_refused, bytes_in};
 ghost use Rattle.hintcheck.specs.FontLooks.{ComesToEnd, IsFontInRange, IsOfSubject, subject_in};
 ghost use Rattle.hintcheck.specs.FontPrograms.{IsSafeFont, cvt_subject, font_subject};
-ghost use Rattle.hintcheck.specs.Looks.{IsLookedAt};
+ghost use Rattle.hintcheck.specs.Looks.{IsListed, IsLookedAt};
 ghost use Rattle.hintcheck.specs.Programs.{HasGoodFamily, Subject};
 
 use crate::fonts::{Common, Ended, cvt_setting, read_font};
@@ -95,6 +99,9 @@ struct Progress {
 
 /// Reads the header of the font's certificate, which has a section for each program.
 fn read_start<S: Source>(font: &Font<'_>, source: &mut S) -> Result<Progress, CheckFontFault>
+    ensures sections { IsTold (S.remaining source.old) → Finds result
+        (λ p. IsTold (S.remaining source.new) × Leads (AreSectionsChecked font.now p.form (input_at p.place (S.remaining source.new))) (IsChecked font.now (bytes_in (S.remaining source.old))))
+        (λ place. IsChecked font.now (bytes_in (S.remaining source.old)) (Err place)) }
     ensures failures { CountsCheck result (S.failures source.old) (S.failures source.new) }
 {
     let (form, sections) = read_header(source)?;
@@ -107,6 +114,13 @@ fn read_start<S: Source>(font: &Font<'_>, source: &mut S) -> Result<Progress, Ch
     })
 }
 
+/// Are the two names the same?
+fn is_same(one: Name, other: Name) -> bool
+    ensures { IsTrue result ↔ (one ≡ other) }
+{
+    one == other
+}
+
 /// Reads the section of the program with this name, and goes on to the next one.
 fn next_section<S: Source>(
     alloc: Global,
@@ -114,13 +128,18 @@ fn next_section<S: Source>(
     progress: &mut Progress,
     name: Name,
 ) -> Result<Certificate, CheckFontFault>
+    ensures section { IsTold (S.remaining source.old) → Finds result
+        (λ c. IsTold (S.remaining source.new) × IsSectionOf progress.old.form (input_at progress.old.place (S.remaining source.old)) name c (input_at progress.new.place (S.remaining source.new)))
+        (HasNoSection progress.old.form (input_at progress.old.place (S.remaining source.old)) name) }
+    ensures form { progress.new.form ≡ progress.old.form }
     ensures failures { CountsCheck result (S.failures source.old) (S.failures source.new) }
 {
     let start = progress.place;
     let (named, certificate, after) = decode(alloc, source, start, progress.form)?;
-    if named != name {
+    if !is_same(named, name) {
         return Err(CheckFontFault::Form(start));
     }
+    certificate.is_in_order();
     progress.place = after;
     Ok(certificate)
 }
@@ -137,6 +156,9 @@ fn check_section(
 ) -> Result<(), ProgramFault>
     requires { Rises setting.now.start.now }
     ensures good { OnOk result (HasGoodFilling (setting_of setting.now) setting.now.start.now (family_of certificate.now)) }
+    ensures listing { OnOk result (IsGoodListing form (setting_of setting.now) setting.now.start.now certificate.now) }
+    ensures first { IfErr result (Names (IsListingBrokenFirst form (setting_of setting.now) setting.now.start.now certificate.now)) }
+    ensures exact { IsGoodListing form (setting_of setting.now) setting.now.start.now certificate.now → IfErr result IsWantOfMemory }
 {
     match form {
         Form::One => check_full(alloc, setting, certificate),
@@ -155,6 +177,9 @@ fn certified_functions(
     requires ends { ComesToEnd (setting_of setting.now).kind }
     requires rises { Rises setting.now.start.now }
     ensures known { (x : Subject) → IsLookedAt x setting.now → IfOk result (λ functions. IsGoodAtEnd x setting.now.main.now functions.items) }
+    ensures passed { (x : Subject) → IsLookedAt x setting.now
+        → IfOk result (λ functions. PassesToEnd form x setting.now.main.now certificate.now functions.items) }
+    ensures refused { (x : Subject) → IsLookedAt x setting.now → IfErr result (IsRefusedBy form x certificate.now) }
 {
     check_section(alloc, setting, certificate, form)?;
     // A checked font program or CVT program has a state at its end.
@@ -174,6 +199,8 @@ fn check_font_program<'a>(
 ) -> Result<Ended<'a>, ProgramFault>
     requires { IsFontInRange font.now }
     ensures known { IfOk result (λ fpgm. IsGoodAtEnd (font_subject font.now) fpgm.program fpgm.functions.items) }
+    ensures passed { IfOk result (λ fpgm. PassesToEnd form (font_subject font.now) fpgm.program certificate.now fpgm.functions.items) }
+    ensures refused { IfErr result (IsRefusedBy form (font_subject font.now) certificate.now) }
 {
     let program = cut(alloc, font.fpgm())?;
     let setting = Setting::for_font_program(font.limits(), font.cvt_count(), &program);
@@ -195,6 +222,8 @@ fn check_cvt_program<'a>(
     requires range { IsFontInRange font.now }
     requires rises { Rises fpgm.now.functions.items }
     ensures known { IfOk result (λ prep. IsGoodAtEnd (cvt_subject font.now fpgm.now.program fpgm.now.functions.items) prep.program prep.functions.items) }
+    ensures passed { IfOk result (λ prep. PassesToEnd form (cvt_subject font.now fpgm.now.program fpgm.now.functions.items) prep.program certificate.now prep.functions.items) }
+    ensures refused { IfErr result (IsRefusedBy form (cvt_subject font.now fpgm.now.program fpgm.now.functions.items) certificate.now) }
 {
     let program = cut(alloc, font.prep())?;
     let setting = cvt_setting(font, fpgm, &program);
@@ -216,6 +245,8 @@ fn check_glyph_program(
     requires few { length glyph.now.program.now < 2 ^ 31 }
     requires rises { Rises common.now.functions.now }
     ensures good { (id : ℕ) → OnOk result (HasGoodFamily (subject_in common.now id (glyph_data glyph.now))) }
+    ensures passed { (id : ℕ) → OnOk result ((instructions : List Instruction) × Passes form (subject_in common.now id (glyph_data glyph.now)) instructions certificate.now) }
+    ensures refused { (id : ℕ) → IfErr result (IsRefusedBy form (subject_in common.now id (glyph_data glyph.now)) certificate.now) }
 {
     let program = cut(alloc, glyph.program)?;
     let setting = common
@@ -235,6 +266,11 @@ fn check_glyph_programs<S: Source>(
     requires range { IsFontInRange font.now }
     requires rises { Rises common.now.functions.now }
     ensures good { IfOk result (λ refused. refused.items ≡ [] → AreGoodGlyphs common.now font.now.glyphs) }
+    ensures checked { IsTold (S.remaining source.old) → Finds result
+        (λ refused. IsTold (S.remaining source.new) × ((finding : Finding)
+            → AreCheckedFrom progress.old.form common.now font.now.glyphs (length font.now.glyphs) (input_at progress.new.place (S.remaining source.new)) finding
+            → AreCheckedFrom progress.old.form common.now font.now.glyphs 0 (input_at progress.old.place (S.remaining source.old)) (all_refused refused.items finding)))
+        (λ place. AreCheckedFrom progress.old.form common.now font.now.glyphs 0 (input_at progress.old.place (S.remaining source.old)) (Err place)) }
     ensures failures { CountsCheck result (S.failures source.old) (S.failures source.new) }
 {
     let mut refused = Vec::new(alloc);
@@ -255,7 +291,9 @@ fn refused_alone(
     name: Name,
     fault: ProgramFault,
 ) -> Result<Vec<Refused>, CheckFontFault>
+    ensures one { IfOk result (λ refused. IsListed name fault [] refused.items) }
     ensures some { IfOk result (λ refused. refused.items ≡ [] → ⊥) }
+    ensures form { IfErr result IsNoForm }
     ensures failures { IfErr result IsNoReadFault }
 {
     let mut refused = Vec::new(alloc);
@@ -271,6 +309,8 @@ fn check_programs<S: Source>(
 ) -> Result<Vec<Refused>, CheckFontFault>
     requires { IsFontInRange font.now }
     ensures good { IfOk result (λ refused. refused.items ≡ [] → HasGoodFamilies font.now) }
+    ensures exact { IsTold (S.remaining source.old) → Finds result (λ refused. IsChecked font.now (bytes_in (S.remaining source.old)) (Ok refused.items))
+        (λ place. IsChecked font.now (bytes_in (S.remaining source.old)) (Err place)) }
     ensures failures { CountsCheck result (S.failures source.old) (S.failures source.new) }
 {
     let mut progress = read_start(font, source)?;
@@ -301,6 +341,8 @@ pub(crate) fn check_read_font<S: Source>(
 ) -> Result<Verdict, CheckFontFault>
     requires { IsFontInRange font.now }
     ensures safe { IfOk result (λ v. v.refused ≡ [] → IsSafeFont font.now) }
+    ensures exact { IsTold (S.remaining source.old) → Finds result (AnswersFinding font.now (bytes_in (S.remaining source.old)))
+        (λ place. IsChecked font.now (bytes_in (S.remaining source.old)) (Err place)) }
     ensures failures { CountsCheck result (S.failures source.old) (S.failures source.new) }
 {
     let refused = check_programs(alloc, font, source)?;
@@ -321,6 +363,10 @@ pub fn check_font<S: Source>(
 ) -> Result<Verdict, CheckFontFault>
     // Where no program is refused, no run of any of them reaches a fault.
     ensures safe { IfOk result (λ v. (d : FontData) × Reads font.now d × (v.refused ≡ [] → IsSafeFont d)) }
+    // What the check comes to, where the source tells its bytes: the refused programs, or the place at which the bytes are no certificate.
+    ensures exact { IsTold (S.remaining source.old) → Finds result
+        (λ v. (d : FontData) × Reads font.now d × AnswersFinding d (bytes_in (S.remaining source.old)) v)
+        (λ place. (d : FontData) × Reads font.now d × IsChecked d (bytes_in (S.remaining source.old)) (Err place)) }
     ensures failures { CountsCheck result (S.failures source.old) (S.failures source.new) }
 {
     let read = read_font(alloc, font)?;

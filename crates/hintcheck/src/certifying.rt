@@ -1,13 +1,16 @@
 //! The certificate of a font: found, and written where no program is refused.
 
-ghost use Rattle.std.specs.Prelude.{◌≡◌, ℕ, ◌<◌, ◌^◌, [], IfOk, length};
+ghost use Rattle.std.specs.Prelude.{◌≡◌, ℕ, ◌<◌, ◌^◌, [], IfOk, OnOk, length};
 ghost use Rattle.tt_abs.specs.Entries.{Rises};
 ghost use Rattle.tt_abs.specs.Settings.{setting_of};
 ghost use Rattle.tt_abs.specs.StateFlow.{FunctionsFit};
 ghost use Rattle.tt_code.specs.Fonts.{font_setting};
+ghost use Rattle.tt_font.specs.GlyphParts.{glyph_data};
 ghost use Rattle.tt_font.specs.Reading.{FontData, Reads};
+ghost use Rattle.tt_cert_file.specs.declared.form.Form.{Form};
 ghost use Rattle.hintcheck.specs.CertificateFaults.{CountsFind, WritesNothing};
-ghost use Rattle.hintcheck.specs.FontLooks.{ComesToEnd, IsFontInRange, IsKnownAtEnd, IsOfSubject, font_in};
+ghost use Rattle.hintcheck.specs.CertificateTexts.{AreGlyphTexts, IsEndedText, IsGlyphText, IsLeastCertificate, IsLeastListing, WritesText};
+ghost use Rattle.hintcheck.specs.FontLooks.{ComesToEnd, IsFontInRange, IsKnownAtEnd, IsOfSubject, font_in, subject_in};
 ghost use Rattle.hintcheck.specs.FontPrograms.{IsSafeFont, IsVerdict, cvt_subject, font_subject};
 ghost use Rattle.hintcheck.specs.Looks.{IsLookedAt};
 ghost use Rattle.hintcheck.specs.Programs.{Subject};
@@ -85,11 +88,14 @@ fn write_ended<W: Sink>(
     requires rises { Rises setting.now.start.now }
     requires fits { FunctionsFit (setting_of setting.now) setting.now.start.now }
     ensures known { (x : Subject) → IsLookedAt x setting.now → IfOk result (λ functions. IsKnownAtEnd x setting.now.main.now functions.items) }
+    ensures written { (x : Subject) → IsLookedAt x setting.now → x.name ≡ name → IfOk result (λ functions. WritesText (W.contents sink.old) (W.contents sink.new)
+        (λ text. IsEndedText IsLeastListing Form.Four x setting.now.main.now text functions.items)) }
     ensures failures { CountsFind result (W.failures sink.old) (W.failures sink.new) }
 {
     let Ok(certificate) = certified(alloc, setting) else {
         return Err(FindFontFault::OutOfMemory(AllocError));
     };
+    certificate.is_in_order();
     encode(alloc, name, &certificate, sink)?;
     // An accepted font program or CVT program has a state at its end.
     let functions = certificate.end_functions(setting.main.len()).unwrap();
@@ -105,6 +111,8 @@ fn write_font_program<'a, W: Sink>(
 ) -> Result<Ended<'a>, FindFontFault>
     requires { IsFontInRange font.now }
     ensures known { IfOk result (λ fpgm. IsKnownAtEnd (font_subject font.now) fpgm.program fpgm.functions.items) }
+    ensures written { IfOk result (λ fpgm. WritesText (W.contents sink.old) (W.contents sink.new)
+        (λ text. IsEndedText IsLeastListing Form.Four (font_subject font.now) fpgm.program text fpgm.functions.items)) }
     ensures failures { CountsFind result (W.failures sink.old) (W.failures sink.new) }
 {
     let Ok(program) = cut(alloc, font.fpgm()) else {
@@ -125,6 +133,8 @@ fn write_cvt_program<'a, W: Sink>(
     requires range { IsFontInRange font.now }
     requires ended { IsKnownAtEnd (font_subject font.now) fpgm.now.program fpgm.now.functions.items }
     ensures known { IfOk result (λ prep. IsKnownAtEnd (cvt_subject font.now fpgm.now.program fpgm.now.functions.items) prep.program prep.functions.items) }
+    ensures written { IfOk result (λ prep. WritesText (W.contents sink.old) (W.contents sink.new)
+        (λ text. IsEndedText IsLeastListing Form.Four (cvt_subject font.now fpgm.now.program fpgm.now.functions.items) prep.program text prep.functions.items)) }
     ensures failures { CountsFind result (W.failures sink.old) (W.failures sink.new) }
 {
     let Ok(program) = cut(alloc, font.prep()) else {
@@ -146,7 +156,9 @@ fn write_glyph_program<W: Sink>(
     requires few { length glyph.now.program.now < 2 ^ 31 }
     requires rises { Rises common.now.functions.now }
     requires fits { FunctionsFit (font_setting (font_in common.now)) common.now.functions.now }
-    ensures { CountsFind result (W.failures sink.old) (W.failures sink.new) }
+    ensures written { (id : ℕ) → name ≡ Name.Glyph id → OnOk result (WritesText (W.contents sink.old) (W.contents sink.new)
+        (IsGlyphText IsLeastListing Form.Four (subject_in common.now id (glyph_data glyph.now)))) }
+    ensures failures { CountsFind result (W.failures sink.old) (W.failures sink.new) }
 {
     let Ok(program) = cut(alloc, glyph.program) else {
         return Err(FindFontFault::OutOfMemory(AllocError));
@@ -157,6 +169,7 @@ fn write_glyph_program<W: Sink>(
     let Ok(certificate) = certified(alloc, &setting) else {
         return Err(FindFontFault::OutOfMemory(AllocError));
     };
+    certificate.is_in_order();
     encode(alloc, name, &certificate, sink)?;
     Ok(())
 }
@@ -171,7 +184,9 @@ fn write_glyph_programs<W: Sink>(
     requires range { IsFontInRange font.now }
     requires rises { Rises common.now.functions.now }
     requires fits { FunctionsFit (font_setting (font_in common.now)) common.now.functions.now }
-    ensures { CountsFind result (W.failures sink.old) (W.failures sink.new) }
+    ensures written { OnOk result (WritesText (W.contents sink.old) (W.contents sink.new)
+        (AreGlyphTexts IsLeastListing Form.Four (font_in common.now) common.now.functions.now 0 font.now.glyphs)) }
+    ensures failures { CountsFind result (W.failures sink.old) (W.failures sink.new) }
 {
     for id in 0..font.glyph_count() {
         let glyph = font.glyph(id).unwrap();
@@ -187,7 +202,8 @@ fn write_certificate<W: Sink>(
     sink: &mut W,
 ) -> Result<(), FindFontFault>
     requires { IsFontInRange font.now }
-    ensures { CountsFind result (W.failures sink.old) (W.failures sink.new) }
+    ensures written { OnOk result (WritesText (W.contents sink.old) (W.contents sink.new) (IsLeastCertificate Form.Four font.now)) }
+    ensures failures { CountsFind result (W.failures sink.old) (W.failures sink.new) }
 {
     write_header(u32::from(font.glyph_count()) + 2, sink)?;
     let fpgm = write_font_program(alloc, font, sink)?;
@@ -207,6 +223,7 @@ pub(crate) fn find_programs<W: Sink>(
 ) -> Result<Verdict, FindFontFault>
     requires { IsFontInRange font.now }
     ensures exact { IfOk result (λ v. IsVerdict font.now v) }
+    ensures written { IfOk result (λ v. v.refused ≡ [] → WritesText (W.contents sink.old) (W.contents sink.new) (IsLeastCertificate Form.Four font.now)) }
     ensures unwritten { IfOk result (λ v. WritesNothing (W.contents sink.old) (W.contents sink.new) v) }
     ensures failures { CountsFind result (W.failures sink.old) (W.failures sink.new) }
 {
@@ -229,6 +246,9 @@ pub fn find_font<W: Sink>(
     sink: &mut W,
 ) -> Result<Verdict, FindFontFault>
     ensures exact { IfOk result (λ v. (d : FontData) × Reads font.now d × IsVerdict d v × (v.refused ≡ [] → IsSafeFont d)) }
+    // Where no program is refused, what is appended is the certificate of the least families.
+    ensures written { IfOk result (λ v. v.refused ≡ []
+        → (d : FontData) × Reads font.now d × WritesText (W.contents sink.old) (W.contents sink.new) (IsLeastCertificate Form.Four d)) }
     ensures unwritten { IfOk result (λ v. WritesNothing (W.contents sink.old) (W.contents sink.new) v) }
     ensures failures { CountsFind result (W.failures sink.old) (W.failures sink.new) }
 {

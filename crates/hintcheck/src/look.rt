@@ -8,8 +8,11 @@ ghost use Rattle.tt_abs.specs.Entries.{Rises};
 ghost use Rattle.tt_abs.specs.Settings.{setting_of};
 ghost use Rattle.tt_abs.specs.StateFlow.{FunctionsFit};
 ghost use Rattle.tt_cert.specs.Checks.{IsWantOfMemory};
-ghost use Rattle.tt_cert.specs.Contents.{family_of};
+ghost use Rattle.tt_cert.specs.Contents.{Contents, family_of};
 ghost use Rattle.tt_cert.specs.Fillings.{HasGoodFilling};
+ghost use Rattle.tt_cert_file.specs.declared.form.Form.{Form};
+ghost use Rattle.tt_find.specs.Found.{NeedsAll};
+ghost use Rattle.hintcheck.specs.CheckedFonts.{IsRefusedBy};
 ghost use Rattle.hintcheck.specs.Programs.{HasGoodFamily, IsCutInto, IsRefusal, Subject, program_at as program_at_spot};
 ghost use Rattle.hintcheck.specs.Looks.{IfRefused, IsAccepted, IsListed, IsLookedAt};
 
@@ -82,6 +85,7 @@ pub(crate) fn cut<'a>(alloc: Global, bytes: &'a [u8]) -> Result<Program<'a>, Pro
     ensures cut { (x : Subject) → x.bytes ≡ bytes.entry.now → IfOk result (λ program. IsCutInto x program) }
     ensures refused { (x : Subject) → x.bytes ≡ bytes.entry.now → IfErr result (λ fault. IfRefused x.name fault (IsRefusal x)) }
     ensures none_good { (x : Subject) → x.bytes ≡ bytes.entry.now → IfErr result (λ fault. IfRefused x.name fault (λ _. HasGoodFamily x → ⊥)) }
+    ensures uncut { (x : Subject) (form : Form) (family : Contents) → x.bytes ≡ bytes.entry.now → IfErr result (IsRefusedBy form x family) }
     ensures only { (instructions : List Instruction) → IsCut bytes.entry.now instructions → IsStructured instructions → IfErr result IsWantOfMemory }
 {
     match Program::cut(alloc, bytes) {
@@ -144,7 +148,8 @@ pub(crate) fn look(
 pub(crate) fn certified(alloc: Global, setting: &Setting<'_>) -> Result<Certificate, ProgramFault>
     requires rises { Rises setting.now.start.now }
     requires fits { FunctionsFit (setting_of setting.now) setting.now.start.now }
-    ensures { (x : Subject) → IsLookedAt x setting.now → IfOk result (λ certificate. IsAccepted x setting.now.main.now (family_of certificate)) }
+    ensures accepted { (x : Subject) → IsLookedAt x setting.now → IfOk result (λ certificate. IsAccepted x setting.now.main.now (family_of certificate)) }
+    ensures needed { IfOk result (λ certificate. NeedsAll (setting_of setting.now) setting.now.start.now (family_of certificate)) }
 {
     setting.is_within();
     one_good_filling();
