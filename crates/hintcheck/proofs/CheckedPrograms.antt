@@ -78,7 +78,7 @@ glyphs_after_both d form i after end family other f p functions known c finding 
 
 -- the end of the certificate
 
-all_dropped : (glyphs : List GlyphData) → drop (length glyphs) glyphs ≡ []
+pub all_dropped : (glyphs : List GlyphData) → drop (length glyphs) glyphs ≡ []
 all_dropped glyphs = drop_all (length glyphs) glyphs (omega arith)
 
 nothing_left : (known : Option (List ℕ)) (place : ℕ) → IsTold known → IsAtEnd known → (input_at place known).bytes ≡ []

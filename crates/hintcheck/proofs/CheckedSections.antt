@@ -58,7 +58,7 @@ pub nothing_before : (form : Form) (c : Common) (glyphs : List GlyphData) (i : I
 nothing_before form c glyphs i (Ok rs) h = h
 nothing_before form c glyphs i (Err place) h = h
 
-dropped : (glyphs : List GlyphData) (id : ℕ) (g : GlyphData) → slice_get glyphs id ≡ Some g → drop id glyphs ≡ g ∷ drop (id + 1) glyphs
+pub dropped : (glyphs : List GlyphData) (id : ℕ) (g : GlyphData) → slice_get glyphs id ≡ Some g → drop id glyphs ≡ g ∷ drop (id + 1) glyphs
 dropped [] id g at = absurd cc
 dropped (x ∷ xs) zero g at = let same : x ≡ g = cc in ap (λ (y : GlyphData). y ∷ xs) same
 dropped (x ∷ xs) (suc id) g at =

@@ -12,3 +12,4 @@ pub mod CheckedLists
 pub mod CheckRefusals
 pub mod CheckedSections
 pub mod CheckedPrograms
+pub mod CertificateWriting
