@@ -9,3 +9,4 @@ pub mod EmptyPrograms
 pub mod NameLemmas
 pub mod ListingLemmas
 pub mod CheckedLists
+pub mod FaultLemmas

@@ -7,5 +7,6 @@ pub mod Judging
 pub mod Listing
 pub mod Commands
 pub mod MeansSafe
+pub mod CommandFaults
 pub mod CheckedFonts
 pub mod CertificateFaults
