@@ -6,7 +6,7 @@ use Rattle.tt_font.specs.declared.fault.FontFault.{FontFault}
 use Rattle.tt_font.specs.declared.fault.FontFault.TheVariants.{OutOfMemory}
 use Rattle.hintcheck_words.specs.HexWords.{IsHexWord, Spells}
 use Rattle.hintcheck_words.specs.Requests.{Request, bare, check, find, is_taken, list, meaning, verdict}
-use Rattle.hintcheck.specs.Commands.{ReadsToEnd}
+use Rattle.hintcheck.specs.Commands.{ReadsToEnd, status_of}
 use Rattle.hintcheck.specs.Judging.{IsMemory}
 use Rattle.hintcheck.specs.Listing.{HoldNoSuchProgram}
 use Rattle.hintcheck.specs.declared.commands.faults.CommandFault.{CommandFault}
@@ -143,3 +143,9 @@ pub record MeansNoFault (words : List (List ℕ)) : Type 0 where
   pub request : Request
   pub meant : meaning words ≡ Some request
   pub none : HasNoFault request
+
+-- A fault of the words gives this status.
+pub record TellsFault (words : List (List ℕ)) (status : ℕ) : Type 0 where
+  pub told : CommandFault
+  pub why : IsFaultOfWords words told
+  pub status_is : status ≡ status_of told

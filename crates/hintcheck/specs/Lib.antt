@@ -1,4 +1,5 @@
 pub mod Verdicts
+pub mod Texts
 pub mod Programs
 pub mod FontPrograms
 pub mod Looks

@@ -2,14 +2,16 @@
 //! the exit status.
 
 ghost use Rattle.std.specs.Prelude.{◌≡◌, ◌≢◌, ◌+◌, ◌≤◌, ◌<◌, ◌⊎◌, ℕ, IfErr, IfOk, List, OnOk, [], map, option_map, string_bytes, true, unwrap_or};
+ghost use Rattle.std.specs.Io.KnownBytes.{Appends};
 ghost use Rattle.tt_stream.specs.Streams.{CountsPrintFailure};
 ghost use Rattle.hintcheck_words.specs.Requests.{asked, is_taken};
 ghost use Rattle.hintcheck.specs.Commands.{HasAll, IsForVerdict, IsNoWriteFault, ReadsToEnd, TellsFailedRead, TellsFailure, status_of};
-ghost use Rattle.hintcheck.specs.CommandFaults.{HasNoFault, IsFaultOfCertifying, IsFaultOfChecking, IsFaultOfFileListing, IsFaultOfFinding, IsFaultOfFontFile, IsFaultOfGlyph, IsFaultOfPrinting, IsFaultOfReading, IsFaultOfRequest, IsFaultOfSource, IsFaultOfTask, IsFaultOfWords, MeansNoFault, ReadNoFault, SpellNoFault};
+ghost use Rattle.hintcheck.specs.CommandFaults.{HasNoFault, IsFaultOfCertifying, IsFaultOfChecking, IsFaultOfFileListing, IsFaultOfFinding, IsFaultOfFontFile, IsFaultOfGlyph, IsFaultOfPrinting, IsFaultOfReading, IsFaultOfRequest, IsFaultOfSource, IsFaultOfTask, IsFaultOfWords, MeansNoFault, ReadNoFault, SpellNoFault, TellsFault};
 ghost use Rattle.hintcheck.specs.FontLooks.{IsFontInRange};
 ghost use Rattle.hintcheck.specs.FontPrograms.{IsSafeFont, IsVerdict};
 ghost use Rattle.hintcheck.specs.Listing.{HoldUnlistedProgram};
 ghost use Rattle.hintcheck.specs.MeansSafe.{HoldFont, HoldRefusedFont, HoldSafeFont, IsRefusedRequest, IsSafeRequest, IsVerdictOn, MeansRefused, MeansSafe, SpellRefusedGlyph, SpellSafeGlyph};
+ghost use Rattle.hintcheck.specs.Texts.{end_line, verdict_text};
 
 pub mod faults;
 
@@ -39,6 +41,7 @@ const REFUSED: u8 = 1;
 
 /// Prints the verdict: a line for each refused program, and a last line.
 fn print_verdict<O: Sink>(out: &mut O, verdict: &Verdict) -> Result<(), PrintFailed>
+    ensures written { OnOk result (Appends (O.contents out.old) (O.contents out.new) (verdict_text verdict.now)) }
     ensures failures { CountsPrintFailure result (O.failures out.old) (O.failures out.new) }
 {
     for refused in verdict.refused() {
@@ -48,6 +51,7 @@ fn print_verdict<O: Sink>(out: &mut O, verdict: &Verdict) -> Result<(), PrintFai
 }
 
 fn print_last_line<O: Sink>(out: &mut O, verdict: &Verdict) -> Result<(), PrintFailed>
+    ensures written { OnOk result (Appends (O.contents out.old) (O.contents out.new) (end_line verdict.now.programs verdict.now.refused)) }
     ensures failures { CountsPrintFailure result (O.failures out.old) (O.failures out.new) }
 {
     let programs = verdict.programs();
@@ -302,6 +306,7 @@ fn tell_verdict<O: Sink>(out: &mut O, verdict: Verdict) -> Result<u8, CommandFau
     ensures status { IfOk result (λ status. status ≤ 1) }
     ensures accepted { IfOk result (λ status. status ≡ 0 → verdict.refused ≡ []) }
     ensures refused { IfOk result (λ status. status ≡ 1 → verdict.refused ≢ []) }
+    ensures written { OnOk result (Appends (O.contents out.old) (O.contents out.new) (verdict_text verdict)) }
     ensures failures { TellsFailure result (O.failures out.old) (O.failures out.new) }
     ensures faults { IfErr result IsFaultOfPrinting }
 {
@@ -379,6 +384,9 @@ pub fn command<R: Files + AllocGlobal, O: Sink, E: Sink>(
     ensures safe { result ≡ 0 → is_taken (map (λ w. w.now) words.entry.now) ≡ true → MeansSafe (map (λ w. w.now) words.entry.now) }
     // Where the status is 1, the words ask for something, which is refused.
     ensures refused { result ≡ 1 → MeansRefused (map (λ w. w.now) words.entry.now) }
+    // Where the status is 2 or 3, a fault of the words gives it; else they have none where the command line takes them.
+    ensures told { 2 ≤ result → TellsFault (map (λ w. w.now) words.entry.now) result }
+    ensures none { result ≤ 1 → is_taken (map (λ w. w.now) words.entry.now) ≡ true → MeansNoFault (map (λ w. w.now) words.entry.now) }
     // At most one write to `out` failed, and none unless the status is 2.
     ensures unwritten { O.failures out.new ≡ O.failures out.old ⊎ (result ≡ 2 × O.failures out.new ≡ O.failures out.old + 1) }
     ensures untold { E.failures err.old ≤ E.failures err.new }
