@@ -13,3 +13,4 @@ pub mod CheckRefusals
 pub mod CheckedSections
 pub mod CheckedPrograms
 pub mod CertificateWriting
+pub mod FaultLemmas

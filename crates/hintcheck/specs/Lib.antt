@@ -1,4 +1,5 @@
 pub mod Verdicts
+pub mod Texts
 pub mod Programs
 pub mod FontPrograms
 pub mod Looks
@@ -7,6 +8,7 @@ pub mod Judging
 pub mod Listing
 pub mod Commands
 pub mod MeansSafe
+pub mod CommandFaults
 pub mod CheckedFonts
 pub mod CertificateFaults
 pub mod Certificates

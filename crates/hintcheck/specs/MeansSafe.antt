@@ -3,6 +3,7 @@ use Rattle.std.specs.Prelude.{◌≡◌, ◌≢◌, ◌≤◌, ℕ, List, [], So
 use Rattle.tt_font.specs.Reading.{FontData, GlyphData, Reads}
 use Rattle.hintcheck_words.specs.HexWords.{Spells}
 use Rattle.hintcheck_words.specs.Requests.{Request, bare, check, find, is_taken, list, meaning, verdict}
+use Rattle.hintcheck.specs.CommandFaults.{MeansNoFault, TellsFault}
 use Rattle.hintcheck.specs.FontPrograms.{IsSafeFont, IsSafeGlyph, IsVerdict, font_of, glyph_subject, one_glyph_font}
 use Rattle.hintcheck.specs.Listing.{HoldUnlistedProgram}
 use Rattle.hintcheck.specs.Programs.{HasGoodFamily}
@@ -85,8 +86,10 @@ pub record MeansRefused (words : List (List ℕ)) : Type 0 where
   pub refused : IsRefusedRequest request
 
 -- What an exit status says of the words of a command line: they ask for something safe where it is 0 and they are taken, and for something
--- refused where it is 1.
+-- refused where it is 1; where it is more, they have a fault, which gives it, and else, where they are taken, none.
 pub record IsStatusOf (words : List (List ℕ)) (status : ℕ) : Type 0 where
   pub few : status ≤ 3
   pub safe : status ≡ 0 → is_taken words ≡ true → MeansSafe words
   pub refused : status ≡ 1 → MeansRefused words
+  pub told : 2 ≤ status → TellsFault words status
+  pub none : status ≤ 1 → is_taken words ≡ true → MeansNoFault words

@@ -1,14 +1,17 @@
 //! What the words of a command line ask for, done: a verdict or a fault in lines for the user, and
 //! the exit status.
 
-ghost use Rattle.std.specs.Prelude.{◌≡◌, ◌≢◌, ◌+◌, ◌≤◌, ◌<◌, ◌⊎◌, ℕ, IfErr, IfOk, List, [], map, option_map, string_bytes, true, unwrap_or};
+ghost use Rattle.std.specs.Prelude.{◌≡◌, ◌≢◌, ◌+◌, ◌≤◌, ◌<◌, ◌⊎◌, ℕ, IfErr, IfOk, List, OnOk, [], map, option_map, string_bytes, true, unwrap_or};
+ghost use Rattle.std.specs.Io.KnownBytes.{Appends};
 ghost use Rattle.tt_stream.specs.Streams.{CountsPrintFailure};
 ghost use Rattle.hintcheck_words.specs.Requests.{asked, is_taken};
 ghost use Rattle.hintcheck.specs.Commands.{HasAll, IsForVerdict, IsNoWriteFault, ReadsToEnd, TellsFailedRead, TellsFailure, status_of};
+ghost use Rattle.hintcheck.specs.CommandFaults.{HasNoFault, IsFaultOfCertifying, IsFaultOfChecking, IsFaultOfFileListing, IsFaultOfFinding, IsFaultOfFontFile, IsFaultOfGlyph, IsFaultOfPrinting, IsFaultOfReading, IsFaultOfRequest, IsFaultOfSource, IsFaultOfTask, IsFaultOfWords, MeansNoFault, ReadNoFault, SpellNoFault, TellsFault};
 ghost use Rattle.hintcheck.specs.FontLooks.{IsFontInRange};
 ghost use Rattle.hintcheck.specs.FontPrograms.{IsSafeFont, IsVerdict};
 ghost use Rattle.hintcheck.specs.Listing.{HoldUnlistedProgram};
 ghost use Rattle.hintcheck.specs.MeansSafe.{HoldFont, HoldRefusedFont, HoldSafeFont, IsRefusedRequest, IsSafeRequest, IsVerdictOn, MeansRefused, MeansSafe, SpellRefusedGlyph, SpellSafeGlyph};
+ghost use Rattle.hintcheck.specs.Texts.{end_line, verdict_text};
 
 pub mod faults;
 
@@ -38,6 +41,7 @@ const REFUSED: u8 = 1;
 
 /// Prints the verdict: a line for each refused program, and a last line.
 fn print_verdict<O: Sink>(out: &mut O, verdict: &Verdict) -> Result<(), PrintFailed>
+    ensures written { OnOk result (Appends (O.contents out.old) (O.contents out.new) (verdict_text verdict.now)) }
     ensures failures { CountsPrintFailure result (O.failures out.old) (O.failures out.new) }
 {
     for refused in verdict.refused() {
@@ -47,6 +51,7 @@ fn print_verdict<O: Sink>(out: &mut O, verdict: &Verdict) -> Result<(), PrintFai
 }
 
 fn print_last_line<O: Sink>(out: &mut O, verdict: &Verdict) -> Result<(), PrintFailed>
+    ensures written { OnOk result (Appends (O.contents out.old) (O.contents out.new) (end_line verdict.now.programs verdict.now.refused)) }
     ensures failures { CountsPrintFailure result (O.failures out.old) (O.failures out.new) }
 {
     let programs = verdict.programs();
@@ -71,6 +76,8 @@ fn bare_verdict(
     ensures safe { IfOk result (λ verdict. verdict.refused ≡ [] → SpellSafeGlyph maxp.now cvt points contours program.now) }
     ensures refused { IfOk result (λ verdict. verdict.refused ≢ [] → SpellRefusedGlyph maxp.now cvt points contours program.now) }
     ensures fault { IfErr result IsNoWriteFault }
+    ensures faults { IfErr result (IsFaultOfGlyph maxp.now program.now) }
+    ensures none { OnOk result (SpellNoFault maxp.now program.now) }
 {
     let maxp = word_bytes(alloc, maxp).map_err(|fault| CommandFault::of_word(
         fault,
@@ -91,6 +98,9 @@ pub fn verdict_of<S: Source>(alloc: Global, source: &mut S) -> Result<Verdict, C
     ensures exact { IfOk result (λ v. (bytes : List ℕ) × ReadsToEnd (S.remaining source.old) (S.remaining source.new) bytes × IsVerdictOn bytes v) }
     ensures failures { TellsFailedRead result (S.failures source.old) (S.failures source.new) }
     ensures fault { IfErr result IsNoWriteFault }
+    // A fault is the first one of all bytes that were left, but where a read failed or memory ran out.
+    ensures faults { IfErr result (IsFaultOfSource (S.remaining source.old) (S.remaining source.new)) }
+    ensures none { OnOk result (ReadNoFault (S.remaining source.old) (S.remaining source.new)) }
 {
     let bytes = read_all(alloc, source)?;
     Ok(fonts::verdict(alloc, &bytes)?)
@@ -106,6 +116,7 @@ fn verdict_on_bytes<L: Ledger, F: Read + Drop>(
     ensures safe { IfOk result (λ verdict. verdict.refused ≡ [] → (bytes : List ℕ) × HasAll (F.remaining file) bytes × HoldSafeFont bytes) }
     ensures refused { IfOk result (λ verdict. verdict.refused ≢ [] → (bytes : List ℕ) × HasAll (F.remaining file) bytes × HoldRefusedFont bytes) }
     ensures fault { IfErr result IsNoWriteFault }
+    ensures faults { IfErr result IsFaultOfFontFile }
 {
     let mut source = Counted::<F, L>::new(file, blank);
     verdict_of(alloc, &mut source)
@@ -116,6 +127,7 @@ fn file_verdict<R: Files + AllocGlobal>(rt: &R, name: &str) -> Result<Verdict, C
     ensures safe { IfOk result (λ verdict. verdict.refused ≡ [] → (bytes : List ℕ) × HoldSafeFont bytes) }
     ensures refused { IfOk result (λ verdict. verdict.refused ≢ [] → (bytes : List ℕ) × HoldRefusedFont bytes) }
     ensures fault { IfErr result IsNoWriteFault }
+    ensures faults { IfErr result IsFaultOfFontFile }
 {
     let Ok(file) = fs::open(rt, name) else {
         return Err(CommandFault::Read);
@@ -132,6 +144,7 @@ fn read_file<L: Ledger, F: Read + Drop>(
     requires { (blank.name ≡ L.name) × (blank.parts ≡ L.parts) × (0 < blank.parts) }
     ensures read { IfOk result (λ bytes. HasAll (F.remaining file) bytes.items) }
     ensures fault { IfErr result IsNoWriteFault }
+    ensures faults { IfErr result IsFaultOfReading }
 {
     let mut source = Counted::<F, L>::new(file, blank);
     Ok(read_all(alloc, &mut source)?)
@@ -139,7 +152,8 @@ fn read_file<L: Ledger, F: Read + Drop>(
 
 /// The bytes of the file with this name.
 fn file_bytes<R: Files + AllocGlobal>(rt: &R, name: &str) -> Result<Vec<u8>, CommandFault>
-    ensures { IfErr result IsNoWriteFault }
+    ensures fault { IfErr result IsNoWriteFault }
+    ensures faults { IfErr result IsFaultOfReading }
 {
     let Ok(file) = fs::open(rt, name) else {
         return Err(CommandFault::Read);
@@ -158,6 +172,7 @@ fn verdict_by_file<L: Ledger, F: Read + Drop>(
     requires blank { (blank.name ≡ L.name) × (blank.parts ≡ L.parts) × (0 < blank.parts) }
     ensures safe { IfOk result (λ verdict. verdict.refused ≡ [] → IsSafeFont font.now) }
     ensures fault { IfErr result IsNoWriteFault }
+    ensures faults { IfErr result IsFaultOfChecking }
 {
     let mut source = Counted::<F, L>::new(file, blank);
     Ok(check_read_font(alloc, font, &mut source)?)
@@ -172,6 +187,7 @@ fn check_verdict<R: Files + AllocGlobal>(
     ensures safe { IfOk result (λ verdict. verdict.refused ≡ [] → (bytes : List ℕ) × HoldSafeFont bytes) }
     ensures font { IfOk result (λ verdict. (bytes : List ℕ) × HoldFont bytes) }
     ensures fault { IfErr result IsNoWriteFault }
+    ensures faults { IfErr result IsFaultOfChecking }
 {
     let bytes = file_bytes(rt, font)?;
     let font = read_font(rt.alloc(), &bytes)?;
@@ -195,6 +211,7 @@ fn verdict_to_file<L: Ledger, F: Write + Drop>(
     requires blank { (blank.name ≡ L.name) × (blank.parts ≡ L.parts) × (0 < blank.parts) }
     ensures exact { IfOk result (λ verdict. IsVerdict font.now verdict) }
     ensures fault { IfErr result IsNoWriteFault }
+    ensures faults { IfErr result IsFaultOfCertifying }
 {
     let mut sink = Counted::<F, L>::new(file, blank);
     Ok(find_programs(alloc, font, &mut sink)?)
@@ -210,6 +227,8 @@ fn find_verdict<R: Files + AllocGlobal>(
     ensures safe { IfOk result (λ verdict. verdict.refused ≡ [] → (bytes : List ℕ) × HoldSafeFont bytes) }
     ensures refused { IfOk result (λ verdict. verdict.refused ≢ [] → (bytes : List ℕ) × HoldRefusedFont bytes) }
     ensures fault { IfErr result IsNoWriteFault }
+    ensures faults { IfErr result (IsFaultOfFinding font.now certificate.now) }
+    ensures none { OnOk result (font.now ≢ certificate.now) }
 {
     if font == certificate {
         return Err(CommandFault::CertificateWord);
@@ -235,6 +254,7 @@ fn list_of_file<R: Files + AllocGlobal, O: Sink>(
     ensures status { IfOk result (λ status. status ≤ 1) }
     ensures refused { IfOk result (λ status. status ≡ 1 → (bytes : List ℕ) × HoldUnlistedProgram bytes word.now) }
     ensures failures { TellsFailure result (O.failures out.old) (O.failures out.new) }
+    ensures faults { IfErr result (IsFaultOfFileListing word.now) }
 {
     let bytes = file_bytes(rt, name)?;
     list_program(rt.alloc(), &bytes, word, out)
@@ -256,6 +276,8 @@ fn verdict_on<R: Files + AllocGlobal>(rt: &R, task: &Task) -> Result<Verdict, Co
     ensures safe { IfOk result (λ verdict. verdict.refused ≡ [] → IsSafeRequest (asked task.now)) }
     ensures refused { IfOk result (λ verdict. verdict.refused ≢ [] → IsRefusedRequest (asked task.now)) }
     ensures fault { IfErr result IsNoWriteFault }
+    ensures faults { IfErr result (IsFaultOfRequest (asked task.now)) }
+    ensures none { OnOk result (HasNoFault (asked task.now)) }
 {
     match task {
         Task::Bare {
@@ -284,7 +306,9 @@ fn tell_verdict<O: Sink>(out: &mut O, verdict: Verdict) -> Result<u8, CommandFau
     ensures status { IfOk result (λ status. status ≤ 1) }
     ensures accepted { IfOk result (λ status. status ≡ 0 → verdict.refused ≡ []) }
     ensures refused { IfOk result (λ status. status ≡ 1 → verdict.refused ≢ []) }
+    ensures written { OnOk result (Appends (O.contents out.old) (O.contents out.new) (verdict_text verdict)) }
     ensures failures { TellsFailure result (O.failures out.old) (O.failures out.new) }
+    ensures faults { IfErr result IsFaultOfPrinting }
 {
     print_verdict(out, &verdict)?;
     Ok(if verdict.accepted() {
@@ -304,6 +328,8 @@ fn do_task<R: Files + AllocGlobal, O: Sink>(
     ensures safe { IfOk result (λ status. status ≡ 0 → IsSafeRequest (asked task.now)) }
     ensures refused { IfOk result (λ status. status ≡ 1 → IsRefusedRequest (asked task.now)) }
     ensures failures { TellsFailure result (O.failures out.old) (O.failures out.new) }
+    ensures faults { IfErr result (IsFaultOfTask (asked task.now)) }
+    ensures none { OnOk result (HasNoFault (asked task.now)) }
 {
     match task {
         Task::List { font, program } => list_of_file(rt, font, program, out),
@@ -317,7 +343,7 @@ fn do_task<R: Files + AllocGlobal, O: Sink>(
 /// # Errors
 /// `Write` exactly where a write to `out` failed; `Usage` for words that the command line doesn't take; `MaxpWord` and `ProgramWord` for a
 /// word that spells no bytes; `ProgramWord` for one that names no program of the font too; `CertificateWord` where a font's file is to be its
-/// certificate's; `Font`, `Form`, `Read`, `File` and `OutOfMemory`.
+/// certificate's; `Font` for the first fault of the font or of `bare`'s `maxp`; `Form`, `Read`, `File` and `OutOfMemory`.
 pub fn try_command<R: Files + AllocGlobal, O: Sink>(
     rt: &R,
     words: &[&str],
@@ -327,6 +353,9 @@ pub fn try_command<R: Files + AllocGlobal, O: Sink>(
     ensures safe { IfOk result (λ status. status ≡ 0 → is_taken (map (λ w. w.now) words.entry.now) ≡ true → MeansSafe (map (λ w. w.now) words.entry.now)) }
     ensures refused { IfOk result (λ status. status ≡ 1 → MeansRefused (map (λ w. w.now) words.entry.now)) }
     ensures failures { TellsFailure result (O.failures out.old) (O.failures out.new) }
+    // A fault is one of the words, of what they name or of printing, and there is none where the status is answered.
+    ensures faults { IfErr result (IsFaultOfWords (map (λ w. w.now) words.entry.now)) }
+    ensures none { OnOk result (is_taken (map (λ w. w.now) words.entry.now) ≡ true → MeansNoFault (map (λ w. w.now) words.entry.now)) }
 {
     match read_words(rt.alloc(), words) {
         Ok(task) => do_task(rt, &task, out),
@@ -355,6 +384,9 @@ pub fn command<R: Files + AllocGlobal, O: Sink, E: Sink>(
     ensures safe { result ≡ 0 → is_taken (map (λ w. w.now) words.entry.now) ≡ true → MeansSafe (map (λ w. w.now) words.entry.now) }
     // Where the status is 1, the words ask for something, which is refused.
     ensures refused { result ≡ 1 → MeansRefused (map (λ w. w.now) words.entry.now) }
+    // Where the status is 2 or 3, a fault of the words gives it; else they have none where the command line takes them.
+    ensures told { 2 ≤ result → TellsFault (map (λ w. w.now) words.entry.now) result }
+    ensures none { result ≤ 1 → is_taken (map (λ w. w.now) words.entry.now) ≡ true → MeansNoFault (map (λ w. w.now) words.entry.now) }
     // At most one write to `out` failed, and none unless the status is 2.
     ensures unwritten { O.failures out.new ≡ O.failures out.old ⊎ (result ≡ 2 × O.failures out.new ≡ O.failures out.old + 1) }
     ensures untold { E.failures err.old ≤ E.failures err.new }

@@ -6,6 +6,7 @@ ghost use Rattle.std.specs.Io.KnownBytes.{Appends};
 ghost use Rattle.std.specs.List.{AllByRecursion};
 ghost use Rattle.tt_code.specs.Cut.{IsInstruction};
 ghost use Rattle.tt_stream.specs.Streams.{CountsPrintFailure};
+ghost use Rattle.hintcheck.specs.CommandFaults.{IsFaultOfLines, IsFaultOfListing};
 ghost use Rattle.hintcheck.specs.Commands.{TellsFailure};
 ghost use Rattle.hintcheck.specs.Listing.{CannotBeListed, HoldListedProgram, HoldNoSuchProgram, HoldUnlistedProgram, IsListed, IsOf16Bits, IsPlain, Names, last_line, line_of, lines_of, program_in, shown_name};
 ghost use Rattle.tt_cert_file.specs.Names.{text_of};
@@ -172,6 +173,7 @@ fn list_named<O: Sink>(alloc: Global, named: Named<'_>, out: &mut O) -> Result<u
     ensures unlisted { IfOk result (λ status. status ≡ 1 → CannotBeListed named.entry.bytes.now) }
     ensures named { result ≢ Err CommandFault.ProgramWord }
     ensures failures { TellsFailure result (O.failures out.old) (O.failures out.new) }
+    ensures faults { IfErr result IsFaultOfLines }
 {
     match cut(alloc, named.bytes) {
         Ok(program) => {
@@ -204,6 +206,7 @@ pub fn list_program<O: Sink>(
     ensures unlisted { IfOk result (λ status. status ≡ 1 → HoldUnlistedProgram font.now word.now) }
     ensures unnamed { result ≡ Err CommandFault.ProgramWord → HoldNoSuchProgram font.now word.now }
     ensures failures { TellsFailure result (O.failures out.old) (O.failures out.new) }
+    ensures faults { IfErr result (IsFaultOfListing font.now word.now) }
 {
     let font = Font::read(alloc, font)?;
     match named_program(&font, word) {

@@ -28,9 +28,11 @@ impl<'a> Model for States<'a> {
 }
 
 impl<'a> States<'a> {
-    /// Takes the first of the states that are still to come, with its context's number and its offset.
+    /// Takes the first of the states that are still to come, with its context's number and its offset: `None` exactly where none is, from
+    /// then on always.
     pub fn take_first(&mut self) -> Option<(u32, u32, &'a State)>
         ensures none { result ≡ None → self.old ≡ [] }
+        ensures done { result ≡ None → self.new ≡ [] }
         ensures some { IfSome result (λ e. self.old ≡ ((e.0, e.1), e.2.now) ∷ self.new) }
     {
         let (place, number) = self.places.take_first()?;

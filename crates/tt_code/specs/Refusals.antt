@@ -1,5 +1,5 @@
 -- Why a program is refused, by numbers, and outcomes that may be refused. (Own: the numbers are this product's.)
-use Rattle.std.specs.Prelude.{ℕ, Bool, true, false, Option, None, Some, Result, Ok, Err}
+use Rattle.std.specs.Prelude.{ℕ, Bool, true, false, codes, List, Option, None, Some, Result, Ok, Err}
 use Rattle.tt_code.specs.declared.reason.Reason.{Reason}
 use Rattle.tt_code.specs.declared.reason.Reason.TheVariants as reason
 
@@ -27,6 +27,32 @@ number_of reason.TooManyContexts = 39
 number_of reason.NeverEnds = 40
 number_of reason.MissingPoint = 41
 number_of reason.NotCovered = 42
+
+-- the reason in words, as it is printed
+abbrev pub reason_text : Reason → List ℕ
+reason_text reason.CannotCut = codes "cannot cut"
+reason_text reason.Structure = codes "structure"
+reason_text reason.ProgramTooLong = codes "program too long"
+reason_text reason.Opcode = codes "opcode"
+reason_text reason.InstructionDefinition = codes "instruction definition"
+reason_text reason.Recursion = codes "recursion"
+reason_text reason.Underflow = codes "underflow"
+reason_text reason.Overflow = codes "overflow"
+reason_text reason.UnknownOperand = codes "unknown operand"
+reason_text reason.Cvt = codes "cvt"
+reason_text reason.Storage = codes "storage"
+reason_text reason.Function = codes "function"
+reason_text reason.Point = codes "point"
+reason_text reason.Zone = codes "zone"
+reason_text reason.Contour = codes "contour"
+reason_text reason.Target = codes "target"
+reason_text reason.Count = codes "count"
+reason_text reason.Definition = codes "definition"
+reason_text reason.DepthMismatch = codes "depth mismatch"
+reason_text reason.TooManyContexts = codes "too many contexts"
+reason_text reason.NeverEnds = codes "never ends"
+reason_text reason.MissingPoint = codes "missing point"
+reason_text reason.NotCovered = codes "not covered"
 
 -- a value, or the reason of the first test that fails
 abbrev pub Tested : Type 0 → Type 0

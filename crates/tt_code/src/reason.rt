@@ -1,58 +1,36 @@
 //! Why a program is refused.
 
 ghost use Rattle.std.specs.Prelude.{◌≡◌};
-ghost use Rattle.tt_code.specs.Refusals.{number_of};
+ghost use Rattle.tt_code.specs.Refusals.{number_of, reason_text};
 
-use thiserror::Error;
+use std::error::Error;
+use std::fmt;
 
 /// Why a program is refused. Each reason has a number, and its text is what the command prints behind it.
-#[derive(Clone, Copy, Debug, PartialEq, Eq, Drop, Error)]
+#[derive(Clone, Copy, Debug, PartialEq, Eq, Drop)]
 pub enum Reason {
-    #[error("cannot cut")]
     CannotCut = 20,
-    #[error("structure")]
     Structure = 21,
-    #[error("program too long")]
     ProgramTooLong = 22,
-    #[error("opcode")]
     Opcode = 23,
-    #[error("instruction definition")]
     InstructionDefinition = 24,
-    #[error("recursion")]
     Recursion = 25,
-    #[error("underflow")]
     Underflow = 26,
-    #[error("overflow")]
     Overflow = 27,
-    #[error("unknown operand")]
     UnknownOperand = 28,
-    #[error("cvt")]
     Cvt = 29,
-    #[error("storage")]
     Storage = 30,
-    #[error("function")]
     Function = 31,
-    #[error("point")]
     Point = 32,
-    #[error("zone")]
     Zone = 33,
-    #[error("contour")]
     Contour = 34,
-    #[error("target")]
     Target = 35,
-    #[error("count")]
     Count = 36,
-    #[error("definition")]
     Definition = 37,
-    #[error("depth mismatch")]
     DepthMismatch = 38,
-    #[error("too many contexts")]
     TooManyContexts = 39,
-    #[error("never ends")]
     NeverEnds = 40,
-    #[error("missing point")]
     MissingPoint = 41,
-    #[error("not covered")]
     NotCovered = 42,
 }
 
@@ -63,4 +41,48 @@ impl Reason {
     {
         self as u8
     }
+
+    /// The reason in words.
+    pub fn text(self) -> &'static str
+        ensures { result.now ≡ reason_text self }
+    {
+        match self {
+            Reason::CannotCut => "cannot cut",
+            Reason::Structure => "structure",
+            Reason::ProgramTooLong => "program too long",
+            Reason::Opcode => "opcode",
+            Reason::InstructionDefinition => "instruction definition",
+            Reason::Recursion => "recursion",
+            Reason::Underflow => "underflow",
+            Reason::Overflow => "overflow",
+            Reason::UnknownOperand => "unknown operand",
+            Reason::Cvt => "cvt",
+            Reason::Storage => "storage",
+            Reason::Function => "function",
+            Reason::Point => "point",
+            Reason::Zone => "zone",
+            Reason::Contour => "contour",
+            Reason::Target => "target",
+            Reason::Count => "count",
+            Reason::Definition => "definition",
+            Reason::DepthMismatch => "depth mismatch",
+            Reason::TooManyContexts => "too many contexts",
+            Reason::NeverEnds => "never ends",
+            Reason::MissingPoint => "missing point",
+            Reason::NotCovered => "not covered",
+        }
+    }
 }
+
+impl fmt::Display for Reason {
+    ghost use Rattle.std.specs.Prelude.{Some};
+    ghost use Rattle.tt_code.specs.Refusals.{reason_text};
+
+    ghost output = { λ reason. Some (reason_text reason) };
+
+    fn fmt<W: fmt::Write>(&self, f: &mut fmt::Formatter<W>) -> fmt::Result {
+        f.write_str(self.text())
+    }
+}
+
+impl Error for Reason {}

@@ -1,10 +1,11 @@
 -- proofs/commands/do_task/Answers.antt
-use Rattle.std.proofs.Common.{◌≡◌, String, Global, refl}
-use Rattle.std.proofs.lemmas.Result.{IfOk-weaker}
+use Rattle.std.proofs.Common.{◌≡◌, String, Global, inl, refl}
+use Rattle.std.proofs.lemmas.Result.{IfErr-weaker, IfOk-weaker}
 use Rattle.hintcheck_words.specs.Requests.{asked}
 use Rattle.hintcheck_words.specs.declared.words.Task.{Task}
 use Rattle.hintcheck_words.specs.declared.words.Task.TheVariants as task
 use Rattle.hintcheck.specs.Commands.{IsForVerdict}
+use Rattle.hintcheck.proofs.FaultLemmas.{nothing_said}
 use Rattle.hintcheck.proofs.commands.do_task.Goals as goal
 
 for_verdict : (t : Task) → ((font program : String Global) → t ≡ task.List font program → ⊥) → IsForVerdict (asked t)
@@ -34,3 +35,11 @@ returns-in_ok-verdict_on-in_default-clause-safe g c =
 pub returns-in_ok-verdict_on-in_default-clause-refused : goal.returns-in_ok-verdict_on-in_default-clause-refused
 returns-in_ok-verdict_on-in_default-clause-refused g c =
     IfOk-weaker c.tell_verdict.result _ _ (λ status refused one. c.in_ok-verdict_on-in_default.ensures.refused (refused one)) c.tell_verdict.ensures.refused
+
+pub returns-in-List-clause-faults : goal.returns-in-List-clause-faults
+unfolding asked
+returns-in-List-clause-faults g c = IfErr-weaker c.list_of_file.result _ _ (λ told is. inl (rw c.in-List.is (rw (← c.deref-in-List.ensures) is))) c.list_of_file.ensures.faults
+
+pub returns-in-List-clause-none : goal.returns-in-List-clause-none
+unfolding asked
+returns-in-List-clause-none g c = rw c.in-List.is (nothing_said c.list_of_file.result)

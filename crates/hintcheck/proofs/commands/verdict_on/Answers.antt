@@ -1,5 +1,6 @@
-use Rattle.std.proofs.lemmas.Result.{IfOk-weaker}
+use Rattle.std.proofs.lemmas.Result.{IfErr-weaker, IfOk-weaker, on_ok_weaker}
 use Rattle.hintcheck_words.specs.Requests.{asked}
+use Rattle.hintcheck.proofs.FaultLemmas.{nothing_said}
 use Rattle.hintcheck.proofs.commands.verdict_on.Goals as goal
 
 pub returns-in-Bare-clause-safe : goal.returns-in-Bare-clause-safe
@@ -37,3 +38,36 @@ returns-in-Check-clause-refused g c = IfOk-weaker c.check_verdict.result _ _ (λ
 pub unreachable-requires : goal.unreachable-requires
 unfolding asked
 unreachable-requires g c = rw c.in-List.is at c.requires
+
+pub returns-in-Bare-clause-faults : goal.returns-in-Bare-clause-faults
+unfolding asked
+returns-in-Bare-clause-faults g c = IfErr-weaker c.bare_verdict.result _ _ (λ told is. rw c.in-Bare.is (rw (← c.deref.ensures, ← c.word_or_empty.ensures) is)) c.bare_verdict.ensures.faults
+
+pub returns-in-Bare-clause-none : goal.returns-in-Bare-clause-none
+unfolding asked
+returns-in-Bare-clause-none g c = on_ok_weaker c.bare_verdict.result (λ none. rw c.in-Bare.is (rw (← c.deref.ensures, ← c.word_or_empty.ensures) none)) c.bare_verdict.ensures.none
+
+pub returns-in-Verdict-clause-faults : goal.returns-in-Verdict-clause-faults
+unfolding asked
+returns-in-Verdict-clause-faults g c = IfErr-weaker c.file_verdict.result _ _ (λ told is. rw c.in-Verdict.is is) c.file_verdict.ensures.faults
+
+pub returns-in-Verdict-clause-none : goal.returns-in-Verdict-clause-none
+unfolding asked
+returns-in-Verdict-clause-none g c = rw c.in-Verdict.is (nothing_said c.file_verdict.result)
+
+pub returns-in-Find-clause-faults : goal.returns-in-Find-clause-faults
+unfolding asked
+returns-in-Find-clause-faults g c =
+    IfErr-weaker c.find_verdict.result _ _ (λ told is. rw c.in-Find.is (rw (← c.deref-in-Find.ensures, ← c.deref-in-Find-2.ensures) is)) c.find_verdict.ensures.faults
+
+pub returns-in-Find-clause-none : goal.returns-in-Find-clause-none
+unfolding asked
+returns-in-Find-clause-none g c = on_ok_weaker c.find_verdict.result (λ none. rw c.in-Find.is (rw (← c.deref-in-Find.ensures, ← c.deref-in-Find-2.ensures) none)) c.find_verdict.ensures.none
+
+pub returns-in-Check-clause-faults : goal.returns-in-Check-clause-faults
+unfolding asked
+returns-in-Check-clause-faults g c = IfErr-weaker c.check_verdict.result _ _ (λ told is. rw c.in-Check.is is) c.check_verdict.ensures.faults
+
+pub returns-in-Check-clause-none : goal.returns-in-Check-clause-none
+unfolding asked
+returns-in-Check-clause-none g c = rw c.in-Check.is (nothing_said c.check_verdict.result)

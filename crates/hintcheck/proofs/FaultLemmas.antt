@@ -1,0 +1,20 @@
+-- Answers of which nothing is said, and texts that aren't printed.
+use Rattle.std.proofs.Common.{◌≡◌, ℕ, List, IfErr, IsErrAnd, OnOk, Result, Ok, Err, true}
+use Rattle.tt_stream.specs.declared.text.PrintFailed.{PrintFailed}
+use Rattle.tt_stream.specs.declared.text.PrintFailed.TheVariants as failed
+use Rattle.hintcheck_words.specs.Requests.{is_taken}
+use Rattle.hintcheck.specs.declared.commands.faults.CommandFault.{CommandFault}
+use Rattle.hintcheck.specs.Commands.{fault_of_print}
+use Rattle.hintcheck.specs.CommandFaults.{IsFaultOfWords, not_taken}
+
+-- nothing is said of an answer
+pub nothing_said : {T E : Type 0} (r : Result T E) → OnOk r (Unit {0})
+nothing_said (Ok x) = tt
+nothing_said (Err e) = tt
+
+-- a text of words that the command line doesn't take isn't printed
+pub unprinted : {T : Type 0} (words : List (List ℕ)) (e : PrintFailed) (r : Result T CommandFault) → (is_taken words ≡ true → ⊥)
+    → IsErrAnd r (λ told. told ≡ fault_of_print e) → IfErr r (IsFaultOfWords words)
+unprinted words e (Ok x) refuses is = tt
+unprinted words failed.Write (Err told) refuses is = not_taken told refuses (rw is tt)
+unprinted words failed.Format (Err told) refuses is = not_taken told refuses (rw is tt)

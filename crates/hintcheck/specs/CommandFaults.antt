@@ -1,0 +1,151 @@
+-- Which fault a command tells, and when: each says that of its input, and want of memory says nothing.
+use Rattle.std.specs.Prelude.{◌≡◌, ◌≢◌, ◌⊎◌, ℕ, List, Option, Some, None, alloc_error, true, unwrap_or, []}
+use Rattle.tt_font.specs.Conditions.{maxp_fault}
+use Rattle.tt_font.specs.FileFaults.{font_fault}
+use Rattle.tt_font.specs.declared.fault.FontFault.{FontFault}
+use Rattle.tt_font.specs.declared.fault.FontFault.TheVariants.{OutOfMemory}
+use Rattle.hintcheck_words.specs.HexWords.{IsHexWord, Spells}
+use Rattle.hintcheck_words.specs.Requests.{Request, bare, check, find, is_taken, list, meaning, verdict}
+use Rattle.hintcheck.specs.Commands.{ReadsToEnd, status_of}
+use Rattle.hintcheck.specs.Judging.{IsMemory}
+use Rattle.hintcheck.specs.Listing.{HoldNoSuchProgram}
+use Rattle.hintcheck.specs.declared.commands.faults.CommandFault.{CommandFault}
+use Rattle.hintcheck.specs.declared.commands.faults.CommandFault.TheVariants as fault
+
+-- the bytes' first fault as those of a font
+abbrev pub IsFaultOfFont : List ℕ → FontFault → Type 0
+IsFaultOfFont bytes f = f ≢ OutOfMemory alloc_error → font_fault bytes ≡ Some f
+
+-- some bytes' first fault
+abbrev pub IsFaultOfSomeFont : FontFault → Type 0
+IsFaultOfSomeFont f = (bytes : List ℕ) × IsFaultOfFont bytes f
+
+-- Why there is no verdict on the bytes of a source: a read failed, or all of them were read, and this is their first fault.
+abbrev pub IsFaultOfSource : Option (List ℕ) → Option (List ℕ) → CommandFault → Type 0
+IsFaultOfSource old new fault.Read = Unit {0}
+IsFaultOfSource old new fault.OutOfMemory = Unit {0}
+IsFaultOfSource old new (fault.Font numbered) = (bytes : List ℕ) × ReadsToEnd old new bytes × IsFaultOfFont bytes numbered.0
+IsFaultOfSource old new other = ⊥
+
+-- all bytes were read, and have no fault as those of a font
+abbrev pub ReadNoFault : Option (List ℕ) → Option (List ℕ) → Type 0
+ReadNoFault old new = (bytes : List ℕ) × ReadsToEnd old new bytes × (font_fault bytes ≡ None)
+
+-- the words spell a `maxp` table and a program
+abbrev pub AreHexWords : List ℕ → List ℕ → Type 0
+AreHexWords maxp program = IsHexWord maxp × IsHexWord program
+
+-- The words spell a program and a `maxp` table without a fault.
+pub record SpellNoFault (maxp program : List ℕ) : Type 0 where
+  pub words : AreHexWords maxp program
+  pub table : List ℕ
+  pub spelled : Spells maxp table
+  pub none : maxp_fault table ≡ None
+
+-- The words spell a program and a `maxp` table of which this is the first fault; or memory ran out at one without a fault.
+pub record SpellFault (maxp program : List ℕ) (f : FontFault) : Type 0 where
+  pub words : AreHexWords maxp program
+  pub table : List ℕ
+  pub spelled : Spells maxp table
+  pub first : (maxp_fault table ≡ Some f) ⊎ (IsMemory f × (maxp_fault table ≡ None))
+
+-- Why there is no verdict on one glyph program: the first of the words that spells no bytes, and else the fault of `maxp`.
+abbrev pub IsFaultOfGlyph : List ℕ → List ℕ → CommandFault → Type 0
+IsFaultOfGlyph maxp program fault.MaxpWord = IsHexWord maxp → ⊥
+IsFaultOfGlyph maxp program fault.ProgramWord = IsHexWord maxp × (IsHexWord program → ⊥)
+IsFaultOfGlyph maxp program (fault.Font numbered) = SpellFault maxp program numbered.0
+IsFaultOfGlyph maxp program fault.OutOfMemory = Unit {0}
+IsFaultOfGlyph maxp program other = ⊥
+
+-- why there is no verdict on a font file
+abbrev pub IsFaultOfFontFile : CommandFault → Type 0
+IsFaultOfFontFile (fault.Font numbered) = IsFaultOfSomeFont numbered.0
+IsFaultOfFontFile fault.Read = Unit {0}
+IsFaultOfFontFile fault.OutOfMemory = Unit {0}
+IsFaultOfFontFile other = ⊥
+
+-- why the bytes of a file aren't read
+abbrev pub IsFaultOfReading : CommandFault → Type 0
+IsFaultOfReading fault.Read = Unit {0}
+IsFaultOfReading fault.OutOfMemory = Unit {0}
+IsFaultOfReading other = ⊥
+
+-- why there is none on a font file, or its certificate isn't written
+abbrev pub IsFaultOfCertifying : CommandFault → Type 0
+IsFaultOfCertifying (fault.Font numbered) = Unit {0}
+IsFaultOfCertifying fault.File = Unit {0}
+IsFaultOfCertifying other = IsFaultOfReading other
+
+-- the same for a font file and a certificate's file with these names, which are to be two
+abbrev pub IsFaultOfFinding : List ℕ → List ℕ → CommandFault → Type 0
+IsFaultOfFinding font certificate told = ((font ≡ certificate) × (told ≡ fault.CertificateWord)) ⊎ (font ≢ certificate × IsFaultOfCertifying told)
+
+-- why there is none on a font file by its certificate
+abbrev pub IsFaultOfChecking : CommandFault → Type 0
+IsFaultOfChecking (fault.Font numbered) = Unit {0}
+IsFaultOfChecking (fault.Form place) = Unit {0}
+IsFaultOfChecking other = IsFaultOfReading other
+
+-- a text isn't printed
+abbrev pub IsFaultOfPrinting : CommandFault → Type 0
+IsFaultOfPrinting fault.Write = Unit {0}
+IsFaultOfPrinting fault.Text = Unit {0}
+IsFaultOfPrinting other = ⊥
+
+-- why the lines of a program aren't printed
+abbrev pub IsFaultOfLines : CommandFault → Type 0
+IsFaultOfLines fault.OutOfMemory = Unit {0}
+IsFaultOfLines other = IsFaultOfPrinting other
+
+-- why the program with this name of the font in these bytes isn't listed
+abbrev pub IsFaultOfListing : List ℕ → List ℕ → CommandFault → Type 0
+IsFaultOfListing bytes word (fault.Font numbered) = IsFaultOfFont bytes numbered.0
+IsFaultOfListing bytes word fault.ProgramWord = HoldNoSuchProgram bytes word
+IsFaultOfListing bytes word other = IsFaultOfLines other
+
+-- why the program with this name of a font file isn't listed
+abbrev pub IsFaultOfFileListing : List ℕ → CommandFault → Type 0
+IsFaultOfFileListing word told = IsFaultOfReading told ⊎ ((bytes : List ℕ) × IsFaultOfListing bytes word told)
+
+-- Why what is asked for isn't answered.
+abbrev pub IsFaultOfRequest : Request → CommandFault → Type 0
+IsFaultOfRequest (bare maxp cvt points contours program) told = IsFaultOfGlyph maxp (unwrap_or program []) told
+IsFaultOfRequest (verdict font) told = IsFaultOfFontFile told
+IsFaultOfRequest (find font certificate) told = IsFaultOfFinding font certificate told
+IsFaultOfRequest (check font certificate) told = IsFaultOfChecking told
+IsFaultOfRequest (list font program) told = IsFaultOfFileListing program told
+
+-- The words of `bare` have no fault; and those of `find` are two different ones.
+abbrev pub HasNoFault : Request → Type 0
+HasNoFault (bare maxp cvt points contours program) = SpellNoFault maxp (unwrap_or program [])
+HasNoFault (verdict font) = Unit {0}
+HasNoFault (find font certificate) = font ≢ certificate
+HasNoFault (check font certificate) = Unit {0}
+HasNoFault (list font program) = Unit {0}
+
+-- the request has this fault; or it has none, and its answer isn't printed
+abbrev pub IsFaultOfTask : Request → CommandFault → Type 0
+IsFaultOfTask request told = IsFaultOfRequest request told ⊎ (HasNoFault request × IsFaultOfPrinting told)
+
+-- clap's text, which is told or isn't printed
+abbrev pub IsFaultOfUsage : CommandFault → Type 0
+IsFaultOfUsage (fault.Usage text) = Unit {0}
+IsFaultOfUsage other = IsFaultOfPrinting other
+
+-- Why words get no answer: memory ran out; or the command line doesn't take them; or they ask for something that has this fault.
+pub data IsFaultOfWords (words : List (List ℕ)) : CommandFault → Type 0 where
+  no_memory : IsFaultOfWords words fault.OutOfMemory
+  not_taken : (told : CommandFault) → (is_taken words ≡ true → ⊥) → IsFaultOfUsage told → IsFaultOfWords words told
+  of_request : (told : CommandFault) (request : Request) → meaning words ≡ Some request → IsFaultOfTask request told → IsFaultOfWords words told
+
+-- The words ask for something that has no fault.
+pub record MeansNoFault (words : List (List ℕ)) : Type 0 where
+  pub request : Request
+  pub meant : meaning words ≡ Some request
+  pub none : HasNoFault request
+
+-- A fault of the words gives this status.
+pub record TellsFault (words : List (List ℕ)) (status : ℕ) : Type 0 where
+  pub told : CommandFault
+  pub why : IsFaultOfWords words told
+  pub status_is : status ≡ status_of told

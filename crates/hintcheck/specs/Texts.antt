@@ -1,0 +1,39 @@
+-- What is printed of a verdict.
+use Rattle.std.specs.Prelude.{ℕ, codes, List, [], ◌∷◌, ◌++◌, length}
+use Rattle.std.specs.Fmt.{decimal}
+use Rattle.std.specs.List.{flat_map}
+use Rattle.tt_code.specs.Refusals.{number_of, reason_text}
+use Rattle.tt_cert_file.specs.Names.{text_of}
+use Rattle.tt_cert_file.specs.declared.name.Name.{Name}
+use Rattle.tt_cert_file.specs.declared.name.Name.TheVariants as name
+use Rattle.hintcheck.specs.declared.report.Place.{Place}
+use Rattle.hintcheck.specs.declared.report.Refused.{Refused}
+use Rattle.hintcheck.specs.Verdicts.{Judgement}
+
+-- the program's name and the offset, as `g12:73`
+abbrev pub place_text : Place → List ℕ
+place_text p = text_of p.program ++ (codes ":" ++ decimal p.offset)
+
+-- which program is refused, where and why, as `refused g12 at g12:73: 26 underflow`
+abbrev pub refused_text : Refused → List ℕ
+refused_text r = codes "refused " ++ (text_of r.program ++ (codes " at " ++ (place_text r.place ++ (codes ": " ++
+    (decimal (number_of r.reason) ++ (codes " " ++ reason_text r.reason))))))
+
+-- a line for each refused program
+abbrev pub refused_lines : List Refused → List ℕ
+refused_lines rs = flat_map (λ r. refused_text r ++ codes "\n") rs
+
+-- the last line where a program is refused: the font program or the CVT program, which end the look, or so many of the glyph programs
+abbrev pub refused_line : ℕ → ℕ → Name → List ℕ
+refused_line count programs name.Font = codes "refused: font program\n"
+refused_line count programs name.Cvt = codes "refused: cvt program\n"
+refused_line count programs (name.Glyph id) = codes "refused: " ++ (decimal count ++ (codes " of " ++ (decimal programs ++ codes " programs\n")))
+
+-- the last line of a verdict
+abbrev pub end_line : ℕ → List Refused → List ℕ
+end_line programs [] = codes "accepted: " ++ (decimal programs ++ codes " programs\n")
+end_line programs (r ∷ rs) = refused_line (length (r ∷ rs)) programs r.program
+
+-- the lines of a verdict
+abbrev pub verdict_text : Judgement → List ℕ
+verdict_text j = refused_lines j.refused ++ end_line j.programs j.refused
