@@ -11,3 +11,4 @@ pub mod ProgramLists
 pub mod ReadGlyphs
 pub mod LawProofs
 pub mod CompositeLemmas
+pub mod MemoryLemmas

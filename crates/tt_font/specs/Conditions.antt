@@ -33,6 +33,11 @@ abbrev pub TestsWithMemory : {T : Type 0} → Condition → Result T FontFault �
 TestsWithMemory condition answer =
     MatchResult answer (λ _. condition ≡ None) (λ fault. fault ≢ faults.OutOfMemory alloc_error → condition ≡ Some fault)
 
+-- memory ran out
+abbrev pub IsWantOfMemory : FontFault → Type 0
+IsWantOfMemory (faults.OutOfMemory error) = Unit {0}
+IsWantOfMemory _ = ⊥
+
 -- ---- the directory
 
 abbrev pub ends_before : ℕ → List ℕ → Condition

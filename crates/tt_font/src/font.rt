@@ -63,17 +63,17 @@ impl<'a> Model for Font<'a> {
 }
 
 impl<'a> Font<'a> {
-    ghost use Rattle.std.specs.Prelude.{◌≡◌, IfOk, length, slice_get};
+    ghost use Rattle.std.specs.Prelude.{◌≡◌, None, IfErr, IfOk, length, slice_get};
     ghost use Rattle.std.specs.Option.{option_map};
-    ghost use Rattle.tt_font.specs.Conditions.{TestsWithMemory};
-    ghost use Rattle.tt_font.specs.FileFaults.{font_fault};
+    ghost use Rattle.tt_font.specs.Conditions.{IsWantOfMemory, TestsWithMemory};
+    ghost use Rattle.tt_font.specs.FileFaults.{font_fault, tables_fault};
     ghost use Rattle.tt_font.specs.Reading.{Reads, ReadsComponents};
     ghost use Rattle.tt_font.specs.GlyphParts.{glyph_data};
 
     /// Reads the bytes of a font file. No glyph and no program is copied, and the memory that is taken grows with the number of
     /// glyphs alone, once `loca` is known to have an entry for each.
     ///
-    /// Errors: the first of these that stands, or `OutOfMemory`.
+    /// Errors: the first of these that stands, or `OutOfMemory`, which comes only where none of the first five stands.
     /// 1. Fewer than 12 bytes (`DirectoryTruncated`), the version (`NotSfnt`), fewer bytes than the records of the directory
     ///    take (`DirectoryTruncated`).
     /// 2. `maxp` is missing, lies outside the file or has fewer than 4 bytes, isn't of version 1.0, has fewer than 32 bytes.
@@ -89,6 +89,7 @@ impl<'a> Font<'a> {
         ensures fault { TestsWithMemory (font_fault bytes.now) result }
         ensures reads { IfOk result (λ font. Reads bytes.now font) }
         ensures components { IfOk result (λ font. ReadsComponents bytes.now font) }
+        ensures memory { IfErr result (λ fault. IsWantOfMemory fault → tables_fault bytes.now ≡ None) }
     {
         let tables = Tables::read(bytes)?;
         let mut component_reads = 0;

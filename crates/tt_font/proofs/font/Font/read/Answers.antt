@@ -1,10 +1,12 @@
 use Rattle.std.proofs.Common.{subst, ℕ, List, map}
+use Rattle.std.proofs.lemmas.Result.{err_from_is_err_and}
 use Rattle.tt_font.specs.GlyphTables.{glyphs_of}
 use Rattle.tt_font.specs.Outlines.{outlines_of}
 use Rattle.tt_font.specs.GlyphParts.{glyph_data}
 use Rattle.tt_font.specs.Files.{font_glyph_count}
 use Rattle.tt_font.specs.Reading.{ReadsGlyphs}
 use Rattle.tt_font.proofs.ReadGlyphs.{room_for_all, same_glyphs}
+use Rattle.tt_font.proofs.MemoryLemmas.{tables_never}
 use Rattle.tt_font.proofs.font.Font.read.Goals as goal
 
 pub read_glyphs-requires : goal.read_glyphs-requires
@@ -26,3 +28,8 @@ returns-clause-reads c =
       prep = c.in_ok-tables.ensures.prep;
       glyphs = subst G glyphs (subst C count c.in_ok-glyphs.ensures.glyphs);
     }
+
+pub returns-in_err-tables-clause-memory : goal.returns-in_err-tables-clause-memory
+returns-in_err-tables-clause-memory c =
+    let p = err_from_is_err_and c.from_residual.result c.from_residual.ensures.1 in
+    rw (p.1, p.2) (λ wants. absurd (tables_never _ c.in_err-tables.field-0.0 c.in_err-tables.ensures.fault wants))
