@@ -42,7 +42,7 @@ const FAULTS: [(&[u8], Told); 11] = [
 
 #[test]
 fn faults(rt: HostRuntime) {
-    for (bytes, want) in FAULTS {
-        assert_eq!(rt; fault_of(rt.alloc(), bytes), want, "of {bytes:?}");
+    for (bytes, want) in &FAULTS {
+        assert_eq!(rt; fault_of(rt.alloc(), bytes), *want, "of {bytes:?}");
     }
 }

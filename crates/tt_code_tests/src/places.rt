@@ -17,17 +17,33 @@ const INSTRUCTION: [u8; 3] = [0x89, 0x20, 0x2d];
 /// No IF, ELSE or FDEF.
 const NOWHERE: [Option<u32>; 3] = [None; 3];
 
-/// Where control goes behind the IF, the ELSE and the FDEF at an offset, and to which body that belongs.
-fn place(alloc: Global, bytes: &[u8], offset: u32) -> Option<([Option<u32>; 3], Option<Body>)>
+/// Whether control goes to these places behind the IF, the ELSE and the FDEF at an offset, which belongs to this body.
+fn leads(
+    program: &Program<'_>,
+    offset: u32,
+    targets: &[Option<u32>; 3],
+    body: Option<Body>,
+) -> bool {
+    program.after_if(offset) == targets[0]
+        && program.after_else(offset) == targets[1]
+        && program.after_fdef(offset) == targets[2]
+        && program.body_at(offset) == body
+}
+
+/// Whether bytes are a program in which that is so.
+fn places_hold(
+    alloc: Global,
+    bytes: &[u8],
+    offset: u32,
+    targets: &[Option<u32>; 3],
+    body: Option<Body>,
+) -> bool
     requires { length bytes.now < 2 ^ 31 }
 {
-    let program = Program::cut(alloc, bytes).ok()?;
-    let targets = [
-        program.after_if(offset),
-        program.after_else(offset),
-        program.after_fdef(offset),
-    ];
-    Some((targets, program.body_at(offset)))
+    match Program::cut(alloc, bytes) {
+        Ok(program) => leads(&program, offset, targets, body),
+        Err(_) => false,
+    }
 }
 
 /// Offsets in programs, where control goes from there, and to which body they belong.
@@ -45,31 +61,42 @@ const PLACES: [(&[u8], u32, [Option<u32>; 3], Option<Body>); 9] = [
 
 #[test]
 fn places(rt: HostRuntime) {
-    for (bytes, offset, targets, body) in PLACES {
-        let found = place(rt.alloc(), bytes, offset);
-        assert_eq!(rt; found, Some((targets, body)), "{bytes:?} at {offset}");
+    for (bytes, offset, targets, body) in &PLACES {
+        let is_so = places_hold(rt.alloc(), bytes, *offset, targets, *body);
+        assert!(rt; is_so, "{bytes:?} at {offset}");
     }
 }
 
-/// How long a program is, and the instruction at an offset, by itself and with its body.
-fn found(
-    alloc: Global,
-    bytes: &[u8],
-    offset: u32,
-) -> Option<(u32, Option<u32>, Option<(u32, Body)>)>
+/// The length of the instruction at an offset, if one starts there.
+fn length_at(program: &Program<'_>, offset: u32) -> Option<u32> {
+    let instruction = program.at(offset)?;
+    Some(instruction.len())
+}
+
+/// The same with the body that it belongs to.
+fn found_at(program: &Program<'_>, offset: u32) -> Option<(u32, Body)> {
+    let (instruction, body) = program.found_at(offset)?;
+    Some((instruction.len(), body))
+}
+
+/// Whether a program of 6 bytes has an instruction of this length at an offset, which belongs to the main program, or none.
+fn is_found(alloc: Global, bytes: &[u8], offset: u32, size: Option<u32>) -> bool
     requires { length bytes.now < 2 ^ 31 }
 {
-    let program = Program::cut(alloc, bytes).ok()?;
-    let alone = program.at(offset).map(|instruction| instruction.len());
-    let with_body = program
-        .found_at(offset)
-        .map(|found| (found.0.len(), found.1));
-    Some((program.len(), alone, with_body))
+    let Ok(program) = Program::cut(alloc, bytes) else {
+        return false;
+    };
+    let with_body = match size {
+        Some(size) => Some((size, Body::Main)),
+        None => None,
+    };
+    program.len() == 6
+        && length_at(&program, offset) == size
+        && found_at(&program, offset) == with_body
 }
 
 #[test]
 fn finds_instructions(rt: HostRuntime) {
-    let push = Some((6, Some(3), Some((3, Body::Main))));
-    assert_eq!(rt; found(rt.alloc(), &PUSHED_ELSE, 1), push);
-    assert_eq!(rt; found(rt.alloc(), &PUSHED_ELSE, 3), Some((6, None, None)));
+    assert!(rt; is_found(rt.alloc(), &PUSHED_ELSE, 1, Some(3)));
+    assert!(rt; is_found(rt.alloc(), &PUSHED_ELSE, 3, None));
 }
