@@ -9,12 +9,10 @@ use Rattle.tt_cert.specs.Rising.{IsFinished}
 use Rattle.tt_cert_file.specs.declared.form.Form.{Form}
 use Rattle.tt_cert_file.specs.declared.name.Name.{Name}
 use Rattle.tt_cert_file.specs.declared.name.Name.TheVariants as name
-use Rattle.tt_cert_file.specs.Rules.{Fits}
 use Rattle.tt_cert_file.specs.Sections.{section_of}
 use Rattle.tt_cert_file.specs.Text.{header_text, section_text}
 use Rattle.tt_find.specs.Found.{NeedsAll}
 use Rattle.tt_font.specs.Reading.{FontData, GlyphData}
-use Rattle.hintcheck.specs.Certificates.{Passes}
 use Rattle.hintcheck.specs.FontPrograms.{cvt_subject, font_of, font_subject, glyph_subject}
 use Rattle.hintcheck.specs.Looks.{IsAccepted}
 use Rattle.hintcheck.specs.Programs.{Subject}
@@ -64,10 +62,6 @@ pub record IsCertificate (Is : Asked) (form : Form) (d : FontData) (bytes : List
   pub glyph_texts : List ℕ
   pub glyphs : AreGlyphTexts Is form (font_of d font_program cvt_program) known 0 d.glyphs glyph_texts
   pub text_is : bytes ≡ header_text form (length d.glyphs + 2) ++ (font_text ++ (cvt_text ++ glyph_texts))
-
--- a certificate that is good: each family keeps the rules of its section, and is good as the form lists it
-abbrev pub IsGoodCertificate : Form → FontData → List ℕ → Type 0
-IsGoodCertificate form d bytes = IsCertificate (λ x instructions family. Fits form (section_of x.name family) × Passes form x instructions family) form d bytes
 
 -- The family is the least one that is good, and lists no state that could be left out.
 abbrev pub IsLeastListing : Subject → List Instruction → Contents → Type 0

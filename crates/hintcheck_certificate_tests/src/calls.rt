@@ -1,0 +1,175 @@
+//! What the calls answer, on bytes in memory and on files.
+
+ghost use Rattle.std.specs.Prelude.{◌≡◌, ◌<◌};
+
+use hintcheck::{CheckFontFault, FindFontFault, Verdict, check_font, command, find_font};
+use std::alloc::{AllocError, Global};
+use std::io;
+use std::io::{ErrorKind, Write};
+use std::marker::Brand;
+use std::rt::Files;
+use std::sync::ledger::{Blank, Ledger};
+use tt_stream::Counted;
+
+/// Adds the bytes of hexadecimal digits, two for each.
+fn push_digits(bytes: &mut Vec<u8>, digits: &str) -> Result<(), AllocError> {
+    let mut high = None;
+    for digit in digits.chars().filter_map(|c| c.to_digit(16)) {
+        let digit = (digit & 15) as u8;
+        match high {
+            Some(first) => {
+                bytes.push((first << 4) | digit)?;
+                high = None;
+            }
+            None => high = Some(digit),
+        }
+    }
+    Ok(())
+}
+
+/// The bytes of parts in hexadecimal digits, one after the other.
+pub(crate) fn bytes_of(alloc: Global, parts: &[&str]) -> Result<Vec<u8>, AllocError> {
+    let mut bytes = Vec::new(alloc);
+    for part in parts {
+        push_digits(&mut bytes, part)?;
+    }
+    Ok(bytes)
+}
+
+/// Gives so many bytes, and then fails where it is to.
+#[derive(Drop)]
+struct Given<'a> {
+    bytes: &'a [u8],
+    fails: bool,
+}
+
+impl io::Read for Given<'_> {
+    fn read(&mut self, buf: &mut [u8]) -> io::Result<usize> {
+        if self.bytes.is_empty() && self.fails {
+            return Err(io::Error::from(ErrorKind::UnexpectedEof));
+        }
+        let count = self.bytes.len().min(buf.len());
+        let (front, rest) = self.bytes.split_at(count);
+        buf[..count].copy_from_slice(front);
+        self.bytes = rest;
+        Ok(count)
+    }
+}
+
+/// Takes so many bytes, and then fails.
+#[derive(Drop)]
+pub(crate) struct Taker {
+    bytes: Vec<u8>,
+    room: usize,
+}
+
+impl Write for Taker {
+    fn write(&mut self, buf: &[u8]) -> io::Result<usize> {
+        let room = self.room.saturating_sub(self.bytes.len());
+        if room == 0 {
+            return Err(io::Error::from(ErrorKind::StorageFull));
+        }
+        let count = room.min(buf.len());
+        self.bytes.extend_from_slice(&buf[..count])?;
+        Ok(count)
+    }
+
+    fn flush(&mut self) -> io::Result<()> {
+        Ok(())
+    }
+}
+
+/// What a check answers.
+#[derive(Clone, Copy, Debug, PartialEq, Eq)]
+pub(crate) enum Told {
+    Accepted,
+    /// So many programs are refused; the offset and the number of the first.
+    Refused(usize, u32, u8),
+    Font,
+    Form(u64),
+    Read,
+    Write,
+    OutOfMemory,
+}
+
+/// What a verdict says.
+fn told_of_verdict(verdict: &Verdict) -> Told {
+    match verdict.refused() {
+        [] => Told::Accepted,
+        [first, rest @ ..] => Told::Refused(
+            rest.len().saturating_add(1),
+            first.place.offset,
+            first.reason.number(),
+        ),
+    }
+}
+
+fn check_on<L: Ledger>(alloc: Global, font: &[u8], given: Given<'_>, blank: Blank) -> Told
+    requires { (blank.name ≡ L.name) × (blank.parts ≡ L.parts) × (0 < blank.parts) }
+{
+    let mut source = Counted::<Given, L>::new(given, blank);
+    match check_font(alloc, font, &mut source) {
+        Ok(verdict) => told_of_verdict(&verdict),
+        Err(CheckFontFault::Font(_)) => Told::Font,
+        Err(CheckFontFault::Form(place)) => Told::Form(place),
+        Err(CheckFontFault::Read) => Told::Read,
+        Err(CheckFontFault::OutOfMemory(_)) => Told::OutOfMemory,
+    }
+}
+
+/// What the check of a font answers by these bytes, after which a read fails where it is to.
+pub(crate) fn checked(alloc: Global, font: &[u8], bytes: &[u8], fails: bool) -> Told {
+    check_on::<Brand>(alloc, font, Given { bytes, fails }, Blank::new(1))
+}
+
+fn find_on<L: Ledger>(alloc: Global, font: &[u8], taker: Taker, blank: Blank) -> (Told, Vec<u8>)
+    requires { (blank.name ≡ L.name) × (blank.parts ≡ L.parts) × (0 < blank.parts) }
+{
+    let mut sink = Counted::<Taker, L>::new(taker, blank);
+    let told = match find_font(alloc, font, &mut sink) {
+        Ok(verdict) => told_of_verdict(&verdict),
+        Err(FindFontFault::Font(_)) => Told::Font,
+        Err(FindFontFault::Write) => Told::Write,
+        Err(FindFontFault::OutOfMemory(_)) => Told::OutOfMemory,
+    };
+    (told, sink.into_inner().bytes)
+}
+
+/// What the search for a font's certificate answers, and what is written, where there is room for so many bytes.
+pub(crate) fn found(alloc: Global, font: &[u8], room: usize) -> (Told, Vec<u8>) {
+    let taker = Taker {
+        bytes: Vec::new(alloc),
+        room,
+    };
+    find_on::<Brand>(alloc, font, taker, Blank::new(1))
+}
+
+fn run<L: Ledger, M: Ledger, R: Files + AllocGlobal>(
+    rt: &R,
+    words: &[&str],
+    out: Taker,
+    err: Taker,
+    first: Blank,
+    second: Blank,
+) -> (u8, Vec<u8>, Vec<u8>)
+    requires out { (first.name ≡ L.name) × (first.parts ≡ L.parts) × (0 < first.parts) }
+    requires err { (second.name ≡ M.name) × (second.parts ≡ M.parts) × (0 < second.parts) }
+{
+    let mut out = Counted::<Taker, L>::new(out, first);
+    let mut err = Counted::<Taker, M>::new(err, second);
+    let status = command(rt, words, &mut out, &mut err);
+    (status, out.into_inner().bytes, err.into_inner().bytes)
+}
+
+/// The exit status at these words, and what is printed and told.
+pub(crate) fn printed<R: Files + AllocGlobal>(rt: &R, words: &[&str]) -> (u8, Vec<u8>, Vec<u8>) {
+    let out = Taker {
+        bytes: Vec::new(rt.alloc()),
+        room: 10_000,
+    };
+    let err = Taker {
+        bytes: Vec::new(rt.alloc()),
+        room: 10_000,
+    };
+    run::<Brand, Brand, R>(rt, words, out, err, Blank::new(1), Blank::new(1))
+}
