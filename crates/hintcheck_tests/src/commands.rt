@@ -1,26 +1,27 @@
 //! Tests of how the command answers its words, and of what it does where it can't read or write.
 
-use crate::outputs::{MAXP, ROOM, expect_answer, expect_of_bare, printed};
+use crate::outputs::{MAXP, ROOM, answers, answers_on_bare, printed};
 use std::rt::Files;
-use std::test::Fail;
+
+/// A `maxp` table, a program or none, and the line of the fault.
+const FAULTS: [(&str, Option<&str>, &str); 9] = [
+    ("0", Some("00"), "fault: words: MAXP\n"),
+    ("0x", Some("00"), "fault: words: MAXP\n"),
+    ("0", Some("0"), "fault: words: MAXP\n"),
+    (MAXP, Some("0"), "fault: words: PROGRAM\n"),
+    (MAXP, Some("zz"), "fault: words: PROGRAM\n"),
+    ("000100", Some("0"), "fault: words: PROGRAM\n"),
+    ("000100", None, "fault: 4 table outside 'maxp'\n"),
+    ("00010000", None, "fault: 4 table outside 'maxp'\n"),
+    ("000050000001", None, "fault: 5 maxp version\n"),
+];
 
 #[test]
-fn tells_faults_of_bare(rt: HostRuntime) -> Result<(), Fail> {
-    let cases = [
-        ("0", Some("00"), "fault: words: MAXP\n"),
-        ("0x", Some("00"), "fault: words: MAXP\n"),
-        ("0", Some("0"), "fault: words: MAXP\n"),
-        (MAXP, Some("0"), "fault: words: PROGRAM\n"),
-        (MAXP, Some("zz"), "fault: words: PROGRAM\n"),
-        ("000100", Some("0"), "fault: words: PROGRAM\n"),
-        ("000100", None, "fault: 4 table outside 'maxp'\n"),
-        ("00010000", None, "fault: 4 table outside 'maxp'\n"),
-        ("000050000001", None, "fault: 5 maxp version\n"),
-    ];
-    for (maxp, program, line) in &cases {
-        expect_of_bare(&rt, maxp, *program, 2, "", line)?;
+fn tells_faults_of_bare(rt: HostRuntime) {
+    for (maxp, program, line) in &FAULTS {
+        let is_so = answers_on_bare(&rt, maxp, *program, 2, "", line);
+        assert!(rt; is_so, "{maxp}, {program:?}: {line}");
     }
-    Ok(())
 }
 
 /// Whether words that clap refuses are told to the error output alone, with status 2.
@@ -29,19 +30,20 @@ fn is_refused<R: Files + AllocGlobal>(rt: &R, words: &[&str]) -> bool {
     status == 2 && out.is_empty() && err.starts_with(b"error: ")
 }
 
+const REFUSED: [&[&str]; 8] = [
+    &["hintcheck"],
+    &["hintcheck", "bear"],
+    &["hintcheck", "verdict"],
+    &["hintcheck", "verdict", "a.ttf", "b.ttf"],
+    &["hintcheck", "bare", MAXP, "10", "4"],
+    &["hintcheck", "bare", MAXP, "65536", "4", "1"],
+    &["hintcheck", "bare", MAXP, "-1", "4", "1"],
+    &["hintcheck", "bare", MAXP, "10", "4", "1", "00", "00"],
+];
+
 #[test]
 fn refuses_other_words(rt: HostRuntime) {
-    let cases: [&[&str]; 8] = [
-        &["hintcheck"],
-        &["hintcheck", "bear"],
-        &["hintcheck", "verdict"],
-        &["hintcheck", "verdict", "a.ttf", "b.ttf"],
-        &["hintcheck", "bare", MAXP, "10", "4"],
-        &["hintcheck", "bare", MAXP, "65536", "4", "1"],
-        &["hintcheck", "bare", MAXP, "-1", "4", "1"],
-        &["hintcheck", "bare", MAXP, "10", "4", "1", "00", "00"],
-    ];
-    for words in cases {
+    for words in &REFUSED {
         assert!(rt; is_refused(&rt, words), "{words:?}");
     }
 }
@@ -52,15 +54,16 @@ fn is_helped<R: Files + AllocGlobal>(rt: &R, words: &[&str]) -> bool {
     status == 0 && !out.is_empty() && err.is_empty()
 }
 
+const HELPED: [&[&str]; 4] = [
+    &["hintcheck", "--help"],
+    &["hintcheck", "help"],
+    &["hintcheck", "help", "bare"],
+    &["hintcheck", "bare", "-h"],
+];
+
 #[test]
 fn helps(rt: HostRuntime) {
-    let cases: [&[&str]; 4] = [
-        &["hintcheck", "--help"],
-        &["hintcheck", "help"],
-        &["hintcheck", "help", "bare"],
-        &["hintcheck", "bare", "-h"],
-    ];
-    for words in cases {
+    for words in &HELPED {
         assert!(rt; is_helped(&rt, words), "{words:?}");
     }
 }
@@ -94,20 +97,27 @@ fn tells_failed_writes_of<R: Files + AllocGlobal>(rt: &R, words: &[&str]) -> boo
     status < 2 && err.is_empty()
 }
 
-#[test]
-fn tells_failed_writes(rt: HostRuntime) {
-    let words = ["hintcheck", "bare", MAXP, "10", "4", "1"];
-    assert!(rt; tells_failed_writes_of(&rt, &words));
-    let words = ["hintcheck", "--help"];
-    assert!(rt; tells_failed_writes_of(&rt, &words));
-}
+const WRITING: [&[&str]; 2] = [
+    &["hintcheck", "bare", MAXP, "10", "4", "1"],
+    &["hintcheck", "--help"],
+];
 
 #[test]
-fn tells_unreadable_files(rt: HostRuntime) -> Result<(), Fail> {
-    // No file has the first name, and the second is that of a folder, which can be opened.
-    for name in ["no such file.ttf", "."] {
-        let words = ["hintcheck", "verdict", name];
-        expect_answer(&rt, &words, 2, "", "fault: 44 read\n")?;
+fn tells_failed_writes(rt: HostRuntime) {
+    for words in &WRITING {
+        assert!(rt; tells_failed_writes_of(&rt, words), "{words:?}");
     }
-    Ok(())
+}
+
+/// No file has the first name, and the second is that of a folder, which can be opened.
+const UNREADABLE: [&[&str]; 2] = [
+    &["hintcheck", "verdict", "no such file.ttf"],
+    &["hintcheck", "verdict", "."],
+];
+
+#[test]
+fn tells_unreadable_files(rt: HostRuntime) {
+    for words in &UNREADABLE {
+        assert!(rt; answers(&rt, words, 2, "", "fault: 44 read\n"), "{words:?}");
+    }
 }

@@ -3,7 +3,6 @@
 use hintcheck::Tag;
 use hintcheck_words::word_bytes;
 use std::alloc::Global;
-use std::test::Fail;
 
 /// A `head` table with long entries in `loca`.
 const HEAD: [u8; 54] = [
@@ -28,26 +27,30 @@ fn maxp_for(glyphs: u16) -> [u8; 32] {
     maxp
 }
 
-/// A font file with these tables, each beginning at a multiple of 4.
-pub(crate) fn file_of(alloc: Global, tables: &[(Tag, &[u8])]) -> Result<Vec<u8>, Fail> {
+/// A font file with these tables, each beginning at a multiple of 4; nothing for want of memory, or where it is too long.
+pub(crate) fn file_of(alloc: Global, tables: &[(Tag, &[u8])]) -> Option<Vec<u8>> {
     let mut file = Vec::new(alloc);
     let mut data: Vec<u8> = Vec::new(alloc);
-    file.extend_from_slice(&[0, 1, 0, 0])?;
-    file.extend_from_slice(&u16::try_from(tables.len())?.to_be_bytes())?;
-    file.extend_from_slice(&[0; 6])?;
+    file.extend_from_slice(&[0, 1, 0, 0]).ok()?;
+    file.extend_from_slice(&u16::try_from(tables.len()).ok()?.to_be_bytes())
+        .ok()?;
+    file.extend_from_slice(&[0; 6]).ok()?;
     let start = tables.len().saturating_mul(16).saturating_add(12);
     for (tag, bytes) in tables {
         let offset = start.saturating_add(data.len());
-        file.extend_from_slice(&tag.bytes())?;
-        file.extend_from_slice(&[0; 4])?;
-        file.extend_from_slice(&u32::try_from(offset)?.to_be_bytes())?;
-        file.extend_from_slice(&u32::try_from(bytes.len())?.to_be_bytes())?;
-        data.extend_from_slice(bytes)?;
+        file.extend_from_slice(&tag.bytes()).ok()?;
+        file.extend_from_slice(&[0; 4]).ok()?;
+        file.extend_from_slice(&u32::try_from(offset).ok()?.to_be_bytes())
+            .ok()?;
+        file.extend_from_slice(&u32::try_from(bytes.len()).ok()?.to_be_bytes())
+            .ok()?;
+        data.extend_from_slice(bytes).ok()?;
         let padding = [0; 3];
-        data.extend_from_slice(&padding[..(4 - data.len() % 4) % 4])?;
+        data.extend_from_slice(&padding[..(4 - data.len() % 4) % 4])
+            .ok()?;
     }
-    file.extend_from_slice(data.as_slice())?;
-    Ok(file)
+    file.extend_from_slice(data.as_slice()).ok()?;
+    Some(file)
 }
 
 /// A font file with 10 control values, this font program, this CVT program, and so many glyphs, whose bytes are these.
@@ -58,9 +61,9 @@ pub(crate) fn file_with_glyphs(
     glyphs: u16,
     loca: &[u8],
     glyf: &[u8],
-) -> Result<Vec<u8>, Fail> {
-    let fpgm = word_bytes(alloc, fpgm)?;
-    let prep = word_bytes(alloc, prep)?;
+) -> Option<Vec<u8>> {
+    let fpgm = word_bytes(alloc, fpgm).ok()?;
+    let prep = word_bytes(alloc, prep).ok()?;
     file_of(
         alloc,
         &[
@@ -76,32 +79,24 @@ pub(crate) fn file_with_glyphs(
 }
 
 /// Adds a glyph of 4 points with this program to `glyf`, and its end to `loca`.
-fn add_glyph(
-    alloc: Global,
-    glyf: &mut Vec<u8>,
-    loca: &mut Vec<u8>,
-    program: &str,
-) -> Result<(), Fail> {
-    let program = word_bytes(alloc, program)?;
-    glyf.extend_from_slice(&SQUARE)?;
-    glyf.extend_from_slice(&u16::try_from(program.len())?.to_be_bytes())?;
-    glyf.extend_from_slice(&program)?;
-    loca.extend_from_slice(&u32::try_from(glyf.len())?.to_be_bytes())?;
-    Ok(())
+fn add_glyph(alloc: Global, glyf: &mut Vec<u8>, loca: &mut Vec<u8>, program: &str) -> Option<()> {
+    let program = word_bytes(alloc, program).ok()?;
+    glyf.extend_from_slice(&SQUARE).ok()?;
+    glyf.extend_from_slice(&u16::try_from(program.len()).ok()?.to_be_bytes())
+        .ok()?;
+    glyf.extend_from_slice(&program).ok()?;
+    loca.extend_from_slice(&u32::try_from(glyf.len()).ok()?.to_be_bytes())
+        .ok()?;
+    Some(())
 }
 
 /// A font file with 10 control values, this font program, this CVT program and glyphs of 4 points with these programs.
-pub(crate) fn font_of(
-    alloc: Global,
-    fpgm: &str,
-    prep: &str,
-    glyphs: &[&str],
-) -> Result<Vec<u8>, Fail> {
-    let mut loca = [0; 4].to_vec(alloc)?;
+pub(crate) fn font_of(alloc: Global, fpgm: &str, prep: &str, glyphs: &[&str]) -> Option<Vec<u8>> {
+    let mut loca = [0; 4].to_vec(alloc).ok()?;
     let mut glyf = Vec::new(alloc);
     for program in glyphs {
         add_glyph(alloc, &mut glyf, &mut loca, program)?;
     }
-    let count = u16::try_from(glyphs.len())?;
+    let count = u16::try_from(glyphs.len()).ok()?;
     file_with_glyphs(alloc, fpgm, prep, count, &loca, &glyf)
 }

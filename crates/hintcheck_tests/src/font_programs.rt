@@ -1,9 +1,9 @@
 //! Tests of the verdict on a font.
 
 use crate::font_files::font_of;
-use hintcheck::{FontFault, Name, Place, Refused, verdict};
+use hintcheck::{FontFault, Name, Place, Refused, Verdict, verdict};
 use std::alloc::Global;
-use std::test::Fail;
+use std::process::Abort;
 use tt_code::Reason;
 
 /// The function 0 that takes one element.
@@ -21,8 +21,8 @@ const ENDLESS: &str = "B8FFFD1C";
 /// Which program is refused, and the program, the offset and the reason.
 type Refusal = (Name, Name, u32, Reason);
 
-/// A font program, a CVT program and a glyph's program, and which is refused, if one is.
-type Case<'a> = (&'a str, &'a str, &'a str, Option<Refusal>);
+/// A font program, a CVT program and a glyph's program, and which are refused.
+type Case<'a> = (&'a str, &'a str, &'a str, &'a [Refusal]);
 
 fn refused_at((program, place, offset, reason): Refusal) -> Refused {
     Refused {
@@ -35,128 +35,161 @@ fn refused_at((program, place, offset, reason): Refusal) -> Refused {
     }
 }
 
-/// The refused program of a font with one glyph, if one is.
-fn refused(alloc: Global, fpgm: &str, prep: &str, glyph: &str) -> Result<Option<Refused>, Fail> {
-    let file = font_of(alloc, fpgm, prep, &[glyph])?;
-    Ok(verdict(alloc, &file)?.refused().first().copied())
-}
-
-/// Fails at the first of the fonts that isn't judged so.
-fn judge(alloc: Global, fonts: &[Case<'_>]) -> Result<(), Fail> {
-    for (fpgm, prep, glyph, refusal) in fonts {
-        if refused(alloc, fpgm, prep, glyph)? != refusal.map(refused_at) {
-            return Err(Fail::new(format_args!(
-                "{fpgm}, {prep}, {glyph} isn't judged so: {refusal:?}"
-            )));
+/// Whether these programs alone are refused.
+fn has_refused(verdict: &Verdict, refusals: &[Refusal]) -> bool {
+    for (place, refusal) in refusals.iter().enumerate() {
+        if verdict.refused().get(place).copied() != Some(refused_at(*refusal)) {
+            return false;
         }
     }
-    Ok(())
+    verdict.refused().len() == refusals.len()
+}
+
+/// Whether a font with one glyph is judged so.
+fn is_judged(alloc: Global, (fpgm, prep, glyph, refusals): &Case<'_>) -> bool {
+    let Some(file) = font_of(alloc, fpgm, prep, &[*glyph]) else {
+        return false;
+    };
+    match verdict(alloc, &file) {
+        Ok(verdict) => has_refused(&verdict, refusals),
+        Err(_) => false,
+    }
+}
+
+/// Asserts that the fonts are judged so.
+fn assert_judged(rt: &impl Abort, alloc: Global, fonts: &[Case<'_>]) {
+    for case in fonts {
+        let (fpgm, prep, glyph, _) = case;
+        assert!(rt; is_judged(alloc, case), "{fpgm}, {prep}, {glyph}");
+    }
 }
 
 /// The only glyph's program.
 const G0: Name = Name::Glyph(0);
 
+const CALLS_FUNCTIONS_OF_THE_FONT_PROGRAM: [Case<'static>; 6] = [
+    (TAKES, "", CALLS_WITH_7, &[]),
+    (TAKES, "", CALLS, &[(G0, Name::Font, 3, Reason::Underflow)]),
+    (TAKES, "", "B401020303002A", &[]),
+    (
+        TAKES,
+        "",
+        "B401020304002A",
+        &[(G0, Name::Font, 3, Reason::Underflow)],
+    ),
+    (
+        "B0002CB0002B2D",
+        "",
+        CALLS,
+        &[(G0, Name::Font, 5, Reason::Recursion)],
+    ),
+    ("", "", "B0022B", &[(G0, G0, 2, Reason::Function)]),
+];
+
 #[test]
-fn calls_functions_of_the_font_program(rt: HostRuntime) -> Result<(), Fail> {
-    let fonts = [
-        (TAKES, "", CALLS_WITH_7, None),
-        (
-            TAKES,
-            "",
-            CALLS,
-            Some((G0, Name::Font, 3, Reason::Underflow)),
-        ),
-        (TAKES, "", "B401020303002A", None),
-        (
-            TAKES,
-            "",
-            "B401020304002A",
-            Some((G0, Name::Font, 3, Reason::Underflow)),
-        ),
-        (
-            "B0002CB0002B2D",
-            "",
-            CALLS,
-            Some((G0, Name::Font, 5, Reason::Recursion)),
-        ),
-        ("", "", "B0022B", Some((G0, G0, 2, Reason::Function))),
-    ];
-    judge(rt.alloc(), &fonts)
+fn calls_functions_of_the_font_program(rt: HostRuntime) {
+    assert_judged(&rt, rt.alloc(), &CALLS_FUNCTIONS_OF_THE_FONT_PROGRAM);
+}
+
+const CALLS_FUNCTIONS_OF_THE_CVT_PROGRAM: [Case<'static>; 4] = [
+    ("", TAKES, CALLS_WITH_7, &[]),
+    ("", TAKES, CALLS, &[(G0, Name::Cvt, 3, Reason::Underflow)]),
+    (TAKES, "B0002C2D", CALLS, &[]),
+    (
+        TAKES,
+        "4B58B0002C2D59",
+        CALLS,
+        &[(G0, G0, 2, Reason::Function)],
+    ),
+];
+
+#[test]
+fn calls_functions_of_the_cvt_program(rt: HostRuntime) {
+    assert_judged(&rt, rt.alloc(), &CALLS_FUNCTIONS_OF_THE_CVT_PROGRAM);
+}
+
+const ENDS_AT_A_REFUSED_PROGRAM: [Case<'static>; 4] = [
+    (
+        "",
+        ENDLESS,
+        CALLS,
+        &[(Name::Cvt, Name::Cvt, 0, Reason::NeverEnds)],
+    ),
+    (
+        ENDLESS,
+        "",
+        CALLS,
+        &[(Name::Font, Name::Font, 0, Reason::NeverEnds)],
+    ),
+    (
+        "21",
+        "",
+        "",
+        &[(Name::Font, Name::Font, 0, Reason::Underflow)],
+    ),
+    (
+        "",
+        "21",
+        "18",
+        &[(Name::Cvt, Name::Cvt, 0, Reason::Underflow)],
+    ),
+];
+
+#[test]
+fn ends_at_a_refused_program(rt: HostRuntime) {
+    assert_judged(&rt, rt.alloc(), &ENDS_AT_A_REFUSED_PROGRAM);
+}
+
+const KEEPS_THE_STORAGE_AREA_OF_ONE_PROGRAM: [Case<'static>; 3] = [
+    ("", "", "4B58B10102421BB101024259B001432E", &[]),
+    (
+        "",
+        "",
+        "4B58B10102421BB101034259B001432E",
+        &[(G0, G0, 15, Reason::UnknownOperand)],
+    ),
+    (
+        "",
+        "B1010042",
+        "B001432E",
+        &[(G0, G0, 3, Reason::UnknownOperand)],
+    ),
+];
+
+#[test]
+fn keeps_the_storage_area_of_one_program(rt: HostRuntime) {
+    assert_judged(&rt, rt.alloc(), &KEEPS_THE_STORAGE_AREA_OF_ONE_PROGRAM);
+}
+
+/// What is refused in a font with 3 glyphs, of which the second one is accepted.
+const OF_EACH_GLYPH: [Refusal; 2] = [
+    (G0, Name::Font, 3, Reason::Underflow),
+    (Name::Glyph(2), Name::Glyph(2), 0, Reason::Underflow),
+];
+
+/// Whether each glyph of a font is looked at.
+fn is_each_looked_at(alloc: Global) -> bool {
+    let Some(file) = font_of(alloc, TAKES, "", &[CALLS, CALLS_WITH_7, "21"]) else {
+        return false;
+    };
+    match verdict(alloc, &file) {
+        Ok(verdict) => {
+            verdict.programs() == 5 && !verdict.accepted() && has_refused(&verdict, &OF_EACH_GLYPH)
+        }
+        Err(_) => false,
+    }
 }
 
 #[test]
-fn calls_functions_of_the_cvt_program(rt: HostRuntime) -> Result<(), Fail> {
-    let fonts = [
-        ("", TAKES, CALLS_WITH_7, None),
-        (
-            "",
-            TAKES,
-            CALLS,
-            Some((G0, Name::Cvt, 3, Reason::Underflow)),
-        ),
-        (TAKES, "B0002C2D", CALLS, None),
-        (
-            TAKES,
-            "4B58B0002C2D59",
-            CALLS,
-            Some((G0, G0, 2, Reason::Function)),
-        ),
-    ];
-    judge(rt.alloc(), &fonts)
+fn looks_at_each_glyph(rt: HostRuntime) {
+    assert!(rt; is_each_looked_at(rt.alloc()));
 }
 
 #[test]
-fn ends_at_a_refused_program(rt: HostRuntime) -> Result<(), Fail> {
-    let (f, p) = (Name::Font, Name::Cvt);
-    let fonts = [
-        ("", ENDLESS, CALLS, Some((p, p, 0, Reason::NeverEnds))),
-        (ENDLESS, "", CALLS, Some((f, f, 0, Reason::NeverEnds))),
-        ("21", "", "", Some((f, f, 0, Reason::Underflow))),
-        ("", "21", "18", Some((p, p, 0, Reason::Underflow))),
-    ];
-    judge(rt.alloc(), &fonts)
-}
-
-#[test]
-fn keeps_the_storage_area_of_one_program(rt: HostRuntime) -> Result<(), Fail> {
-    let fonts = [
-        ("", "", "4B58B10102421BB101024259B001432E", None),
-        (
-            "",
-            "",
-            "4B58B10102421BB101034259B001432E",
-            Some((G0, G0, 15, Reason::UnknownOperand)),
-        ),
-        (
-            "",
-            "B1010042",
-            "B001432E",
-            Some((G0, G0, 3, Reason::UnknownOperand)),
-        ),
-    ];
-    judge(rt.alloc(), &fonts)
-}
-
-#[test]
-fn looks_at_each_glyph(rt: HostRuntime) -> Result<(), Fail> {
-    let file = font_of(rt.alloc(), TAKES, "", &[CALLS, CALLS_WITH_7, "21"])?;
-    let verdict = verdict(rt.alloc(), &file)?;
-    let last = Name::Glyph(2);
-    let refused = [
-        refused_at((G0, Name::Font, 3, Reason::Underflow)),
-        refused_at((last, last, 0, Reason::Underflow)),
-    ];
-    assert_eq!(rt; verdict.programs(), 5);
-    assert!(rt; !verdict.accepted());
-    assert_eq!(rt; verdict.refused(), refused.as_slice());
-    Ok(())
-}
-
-#[test]
-fn names_faults(rt: HostRuntime) -> Result<(), Fail> {
-    assert_eq!(rt;
-        verdict(rt.alloc(), &[0; 12]).err(),
-        Some(FontFault::NotSfnt)
-    );
-    Ok(())
+fn names_faults(rt: HostRuntime) {
+    let is_named = match verdict(rt.alloc(), &[0; 12]) {
+        Ok(_) => false,
+        Err(fault) => fault == FontFault::NotSfnt,
+    };
+    assert!(rt; is_named);
 }

@@ -7,7 +7,6 @@ use std::io::{self, ErrorKind, Write};
 use std::marker::Brand;
 use std::rt::Files;
 use std::sync::ledger::{Blank, Ledger};
-use std::test::Fail;
 use std::{env, fs, process};
 use tt_stream::Counted;
 
@@ -79,7 +78,7 @@ pub(crate) fn printed<R: Files + AllocGlobal>(
 pub(crate) const ROOM: usize = 10_000;
 
 /// Whether the command answers by this status, with these texts on the output and the error output.
-fn answers<R: Files + AllocGlobal>(
+pub(crate) fn answers<R: Files + AllocGlobal>(
     rt: &R,
     words: &[&str],
     status: u8,
@@ -90,64 +89,84 @@ fn answers<R: Files + AllocGlobal>(
     told == status && out.as_slice() == out_text.as_bytes() && err.as_slice() == err_text.as_bytes()
 }
 
-/// Says that these words have another answer.
-fn other_answer(words: &[&str], out_text: &str, err_text: &str) -> Fail {
-    Fail::new(format_args!("{words:?} aren't answered by: {out_text}{err_text}"))
-}
-
-/// Fails where the command doesn't answer these words so.
-pub(crate) fn expect_answer<R: Files + AllocGlobal>(
-    rt: &R,
-    words: &[&str],
-    status: u8,
-    out_text: &str,
-    err_text: &str,
-) -> Result<(), Fail> {
-    if answers(rt, words, status, out_text, err_text) {
-        return Ok(());
-    }
-    Err(other_answer(words, out_text, err_text))
-}
-
-/// Fails where the command doesn't answer so where it is asked for the verdict on this program, or on none, against this `maxp` table, 10
-/// control values, 4 points and 1 contour.
-pub(crate) fn expect_of_bare<R: Files + AllocGlobal>(
+/// Whether the command answers so where it is asked for the verdict on this program, or on none, against this `maxp` table, 10 control
+/// values, 4 points and 1 contour.
+pub(crate) fn answers_on_bare<R: Files + AllocGlobal>(
     rt: &R,
     maxp: &str,
     program: Option<&str>,
     status: u8,
     out_text: &str,
     err_text: &str,
-) -> Result<(), Fail> {
+) -> bool {
     match program {
         Some(program) => {
             let words = ["hintcheck", "bare", maxp, "10", "4", "1", program];
-            expect_answer(rt, &words, status, out_text, err_text)
+            answers(rt, &words, status, out_text, err_text)
         }
         None => {
             let words = ["hintcheck", "bare", maxp, "10", "4", "1"];
-            expect_answer(rt, &words, status, out_text, err_text)
+            answers(rt, &words, status, out_text, err_text)
         }
     }
 }
 
-/// Fails where the command doesn't answer so where it is asked for the verdict on a file with these bytes.
-pub(crate) fn expect_of_file(
-    rt: &HostRuntime,
-    bytes: &[u8],
+/// What the command is asked for.
+#[derive(Clone, Copy)]
+pub(crate) enum Asked<'a> {
+    /// The verdict on a font.
+    Verdict,
+    /// The list of this program of a font.
+    List(&'a str),
+}
+
+/// Whether the command answers so where it is asked for this of the font file with that name.
+fn answers_on_name<R: Files + AllocGlobal>(
+    rt: &R,
+    name: &str,
+    asked: Asked<'_>,
     status: u8,
     out_text: &str,
     err_text: &str,
-) -> Result<(), Fail> {
-    let process = process::id(rt.process());
-    let name = format!(in rt.alloc(); "hintcheck-{process}.ttf")?;
-    let path = env::temp_dir(rt)?.join(rt.alloc(), name)?;
-    fs::write(rt, path.as_str(), bytes)?;
-    let words = ["hintcheck", "verdict", path.as_str()];
-    let right = answers(rt, &words, status, out_text, err_text);
-    fs::remove_file(rt, path.as_str())?;
-    if right {
-        return Ok(());
+) -> bool {
+    match asked {
+        Asked::Verdict => {
+            let words = ["hintcheck", "verdict", name];
+            answers(rt, &words, status, out_text, err_text)
+        }
+        Asked::List(program) => {
+            let words = ["hintcheck", "list", name, program];
+            answers(rt, &words, status, out_text, err_text)
+        }
     }
-    Err(other_answer(&words, out_text, err_text))
+}
+
+/// Whether that is so of a font file with these bytes; nothing where it can't be written or removed, or for want of memory.
+fn try_on_file(
+    rt: &HostRuntime,
+    bytes: &[u8],
+    asked: Asked<'_>,
+    status: u8,
+    out_text: &str,
+    err_text: &str,
+) -> Option<bool> {
+    let process = process::id(rt.process());
+    let name = format!(in rt.alloc(); "hintcheck-{process}.ttf").ok()?;
+    let path = env::temp_dir(rt).ok()?.join(rt.alloc(), name).ok()?;
+    fs::write(rt, path.as_str(), bytes).ok()?;
+    let is_so = answers_on_name(rt, path.as_str(), asked, status, out_text, err_text);
+    fs::remove_file(rt, path.as_str()).ok()?;
+    Some(is_so)
+}
+
+/// Whether that is so of a font file with these bytes, which can be written and removed.
+pub(crate) fn answers_on_file(
+    rt: &HostRuntime,
+    bytes: &[u8],
+    asked: Asked<'_>,
+    status: u8,
+    out_text: &str,
+    err_text: &str,
+) -> bool {
+    try_on_file(rt, bytes, asked, status, out_text, err_text) == Some(true)
 }

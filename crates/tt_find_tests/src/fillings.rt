@@ -7,8 +7,7 @@ use tt_cert::Certificate;
 /// Does one of the moves lead to this offset of the same body?
 fn leads_to(moves: Moves, offset: u32) -> bool {
     match moves {
-        Moves::One(Move::To(next)) => next == offset,
-        Moves::One(_) => false,
+        Moves::One(next) => next == Move::To(offset),
         Moves::Two(first, second) => first == offset || second == offset,
     }
 }

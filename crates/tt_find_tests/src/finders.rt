@@ -6,6 +6,7 @@ use crate::programs::{
     POPPING, STRAIGHT, TEN_JUMPS_BACK, THREE_TURNS,
 };
 use std::alloc::Global;
+use std::process::Abort;
 use tt_cert::Certificate;
 use tt_find::Finder;
 
@@ -71,30 +72,35 @@ fn is_found_alike(
     Some(is_alike)
 }
 
-// Some programs are refused, two font programs are of one length, and one program is looked at more often than others.
+/// Font programs and glyph programs. Some are refused, two font programs are of one length, and one program is looked at more often than
+/// others.
+const PROGRAMS: [(&[u8], &[u8]); 10] = [
+    (&POPPING, &THREE_TURNS),
+    (&POPPING, &BRANCHES_AND_CALLS),
+    (&POPPING, &CALLS_AND_ADDS),
+    (&POPPING, &BRANCHES_AND_CALLS),
+    (&STRAIGHT, &CALLS),
+    (&JUMPING_BACK, &CALLS_TWICE),
+    (&JUMPING_BACK, &TEN_JUMPS_BACK),
+    (&JUMPING_BACK, &CALLS),
+    (&STRAIGHT, &CALLS_TWICE),
+    (&STRAIGHT, &MAY_STOP_COUNTING),
+];
+
+/// Asserts that one finder, which may get the memory of the certificates back, tells the same of these programs.
+fn assert_alike(rt: &impl Abort, alloc: Global, gives_back: bool) {
+    let mut finder = Finder::new(alloc);
+    for (font, program) in &PROGRAMS {
+        let is_alike = is_found_alike(alloc, &mut finder, font, program, gives_back);
+        assert!(rt;
+            is_alike == Some(true),
+            "of {font:?} and {program:?}, {gives_back}"
+        );
+    }
+}
+
 #[test]
 fn one_finder_for_many_programs(rt: HostRuntime) {
-    let table: [(&[u8], &[u8]); 10] = [
-        (&POPPING, &THREE_TURNS),
-        (&POPPING, &BRANCHES_AND_CALLS),
-        (&POPPING, &CALLS_AND_ADDS),
-        (&POPPING, &BRANCHES_AND_CALLS),
-        (&STRAIGHT, &CALLS),
-        (&JUMPING_BACK, &CALLS_TWICE),
-        (&JUMPING_BACK, &TEN_JUMPS_BACK),
-        (&JUMPING_BACK, &CALLS),
-        (&STRAIGHT, &CALLS_TWICE),
-        (&STRAIGHT, &MAY_STOP_COUNTING),
-    ];
-    for gives_back in [true, false] {
-        let mut finder = Finder::new(rt.alloc());
-        for (font, program) in &table {
-            let is_alike = is_found_alike(rt.alloc(), &mut finder, font, program, gives_back);
-            assert_eq!(rt;
-                is_alike,
-                Some(true),
-                "of {font:?} and {program:?}, {gives_back}"
-            );
-        }
-    }
+    assert_alike(&rt, rt.alloc(), true);
+    assert_alike(&rt, rt.alloc(), false);
 }

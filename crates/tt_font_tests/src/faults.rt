@@ -50,7 +50,7 @@ fn answers_for_every_byte(rt: HostRuntime) -> Result<(), Fail> {
 }
 
 /// A fault is printed as this text.
-fn prints(alloc: Global, fault: FontFault, text: &str) -> bool {
+fn prints(alloc: Global, fault: &FontFault, text: &str) -> bool {
     match format!(in alloc; "{fault}") {
         Ok(printed) => printed.as_str() == text,
         Err(_) => false,
@@ -76,8 +76,8 @@ const TEXTS: [(FontFault, u8, &str); 9] = [
 
 #[test]
 fn prints_faults(rt: HostRuntime) {
-    for (fault, number, text) in TEXTS {
-        assert_eq!(rt; fault.number(), number);
-        assert!(rt; prints(rt.alloc(), fault, text), "{text}");
+    for (fault, number, text) in &TEXTS {
+        let is_so = fault.number() == *number && prints(rt.alloc(), fault, text);
+        assert!(rt; is_so, "{number} {text}");
     }
 }

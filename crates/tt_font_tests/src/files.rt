@@ -2,7 +2,7 @@
 
 use std::alloc::Global;
 use std::test::Fail;
-use tt_font::{Font, FontFault, GlyphPart, Tag};
+use tt_font::{Font, GlyphPart, Tag};
 
 /// A `maxp` table: 1 glyph, zones 2, 4 twilight points, 4 storage cells, 2 functions, a stack of 8, glyph programs of 64 bytes.
 pub const MAXP: [u8; 32] = [
@@ -150,12 +150,10 @@ pub fn many_times(alloc: Global, id: u16, times: u16) -> Result<Vec<u8>, Fail> {
     Ok(glyph)
 }
 
-/// What is read of a glyph, none where the font hasn't as many.
-pub fn glyph_of<'a>(
-    alloc: Global,
-    file: &'a [u8],
-    id: u16,
-) -> Result<Option<GlyphPart<'a>>, FontFault> {
-    let font = Font::read(alloc, file)?;
-    Ok(font.glyph(id))
+/// Whether this is read of a glyph, none where the font hasn't as many.
+pub fn has_glyph(alloc: Global, file: &[u8], id: u16, glyph: Option<GlyphPart<'_>>) -> bool {
+    match Font::read(alloc, file) {
+        Ok(font) => font.glyph(id) == glyph,
+        Err(_) => false,
+    }
 }

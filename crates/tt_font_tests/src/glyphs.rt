@@ -1,6 +1,6 @@
 //! Glyphs of one outline, and glyphs that are made of others.
 
-use crate::files::{Glyphs, MADE, SQUARE, font_of, glyph_of, made, many_times, square};
+use crate::files::{Glyphs, MADE, SQUARE, font_of, has_glyph, made, many_times, square};
 use std::alloc::Global;
 use std::test::Fail;
 use tt_font::{Font, FontFault, GlyphPart};
@@ -31,9 +31,9 @@ const GLYPHS: [(&[u8], Option<FontFault>); 8] = [
 
 #[test]
 fn reads_glyphs(rt: HostRuntime) -> Result<(), Fail> {
-    for (glyph, want) in GLYPHS {
-        let fault = fault_of(rt.alloc(), &[glyph])?;
-        assert_eq!(rt; fault, want, "a glyph of {} bytes", glyph.len());
+    for (glyph, want) in &GLYPHS {
+        let fault = fault_of(rt.alloc(), &[*glyph])?;
+        assert!(rt; fault == *want, "{glyph:?}: {want:?}");
     }
     Ok(())
 }
@@ -63,14 +63,15 @@ const COMPONENTS: [(&[u8], &[u8]); 2] = [
 
 #[test]
 fn sums_components(rt: HostRuntime) -> Result<(), Fail> {
-    for (components, program) in COMPONENTS {
+    for (components, program) in &COMPONENTS {
         let file = font_with(rt.alloc(), components)?;
         let glyph = GlyphPart {
             points: 8,
             contours: 2,
             program,
         };
-        assert_eq!(rt; glyph_of(rt.alloc(), &file, 1), Ok(Some(glyph)));
+        let is_so = has_glyph(rt.alloc(), &file, 1, Some(glyph));
+        assert!(rt; is_so, "{components:?}");
     }
     Ok(())
 }
@@ -81,13 +82,22 @@ const OF_FIRST: [u8; 16] = [0xFF, 0xFF, 0, 0, 0, 0, 0, 0, 0, 0, 0, 0, 0, 0, 0, 0
 /// A composite glyph of the second glyph of a font.
 const OF_SECOND: [u8; 16] = [0xFF, 0xFF, 0, 0, 0, 0, 0, 0, 0, 0, 0, 0, 0, 1, 0, 0];
 
+/// Glyphs in a circle, and which of them is refused.
+const CIRCLES: [(&[&[u8]], u16); 3] = [
+    (&[&OF_FIRST], 0),
+    (&[&OF_SECOND, &OF_FIRST], 0),
+    (&[&[], &OF_SECOND], 1),
+];
+
 #[test]
 fn refuses_circles(rt: HostRuntime) -> Result<(), Fail> {
-    let first = Some(FontFault::Composite(0));
-    let second = Some(FontFault::Composite(1));
-    assert_eq!(rt; fault_of(rt.alloc(), &[&OF_FIRST])?, first);
-    assert_eq!(rt; fault_of(rt.alloc(), &[&OF_SECOND, &OF_FIRST])?, first);
-    assert_eq!(rt; fault_of(rt.alloc(), &[&[], &OF_SECOND])?, second);
+    for (glyphs, number) in &CIRCLES {
+        let fault = fault_of(rt.alloc(), glyphs)?;
+        assert!(rt;
+            fault == Some(FontFault::Composite(*number)),
+            "{number} of {glyphs:?}"
+        );
+    }
     Ok(())
 }
 
