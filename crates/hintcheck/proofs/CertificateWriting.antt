@@ -1,5 +1,5 @@
 -- The text of a font's certificate, as it is written section by section.
-use Rattle.std.proofs.Common.{◌≡◌, true, false, ℕ, zero, suc, ◌+◌, List, [], ◌∷◌, ◌++◌, length, drop, Option, Some, None, Bor, refl, sym, ◌∙◌, ap, subst, arith, append_assoc, append-nil}
+use Rattle.std.proofs.Common.{◌≡◌, true, false, ℕ, ◌+◌, List, [], ◌++◌, length, drop, Option, Some, None, Bor, sym, ◌∙◌, ap, subst, append_assoc, append-nil}
 use Rattle.std.specs.Prelude.{◌==◌, IfSome, slice_get}
 use Rattle.std.specs.Io.KnownBytes.{Appends}
 use Rattle.tt_code.specs.Cut.{Instruction, size}
@@ -100,8 +100,8 @@ written_next c glyphs id g first old new before at next =
     let B : List ℕ → Type 0 = λ t. AreGlyphTexts IsLeastListing Four (font_in c) c.functions.now 0 glyphs t in (
       text ++ one,
       (λ rest texts.
-      subst B (sym (append_assoc text one rest))
-      (below (one ++ rest) (subst (λ gs. A gs (one ++ rest)) (sym (dropped glyphs id g at)) (one_more id g (drop (id + 1) glyphs) one rest is texts)))),
+          subst B (sym (append_assoc text one rest))
+          (below (one ++ rest) (subst (λ gs. A gs (one ++ rest)) (sym (dropped glyphs id g at)) (one_more id g (drop (id + 1) glyphs) one rest is texts)))),
       appends_both first old new text one appended appends,
     )
 

@@ -5,7 +5,6 @@ use Rattle.tt_abs.specs.declared.state.State.{State}
 use Rattle.tt_code.specs.Cut.{CannotBeCut, Instruction, IsCut, size}
 use Rattle.tt_code.specs.Grammar.{IsFault}
 use Rattle.tt_code.specs.declared.reason.Reason.{Reason}
-use Rattle.tt_code.specs.declared.reason.Reason.TheVariants as reason
 use Rattle.tt_code.specs.Settings.{Setting as MachineSetting}
 use Rattle.tt_code.proofs.ProgramLemmas.{no_fault}
 use Rattle.tt_abs.specs.declared.setting.Setting.{Setting}
@@ -19,10 +18,10 @@ use Rattle.tt_cert.specs.declared.fault.ProgramFault.TheVariants as fault
 use Rattle.tt_cert.specs.declared.spot.Spot.{Spot}
 use Rattle.tt_cert_file.specs.declared.form.Form.{Form}
 use Rattle.tt_cert_file.specs.declared.form.Form.TheVariants.{Two, Three, Four}
-use Rattle.hintcheck.specs.Certificates.{IsBreak, IsCheckRefusal, IsGoodListing, IsListingBrokenFirst, Passes, PassesToEnd, no_cut, no_structure, not_good}
+use Rattle.hintcheck.specs.Certificates.{IsBreak, IsCheckRefusal, IsGoodListing, IsListingBrokenFirst, Passes, PassesToEnd, not_good}
 use Rattle.hintcheck.specs.CheckedFonts.{IsRefusedBy}
 use Rattle.hintcheck.specs.Looks.{IsLookedAt, told_at}
-use Rattle.hintcheck.specs.Programs.{IsCutInto, Subject, program_at}
+use Rattle.hintcheck.specs.Programs.{Subject, program_at}
 use Rattle.hintcheck.proofs.LookLemmas.{known_cut, of_subject}
 
 pub check_refusal : (form : Form) (x : Subject) (family : Contents) (at : Place) (spot : Spot) (offset : ℕ) (r : Reason) → spot ≡ spot_of at.0

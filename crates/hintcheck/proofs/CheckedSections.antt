@@ -1,14 +1,12 @@
 -- A section that is read, and the glyph programs that are checked by theirs.
-use Rattle.std.proofs.Common.{◌≡◌, ◌≢◌, ℕ, zero, suc, ◌+◌, ◌<◌, List, [], ◌∷◌, ◌++◌, length, drop, Option, Some, None, Result, Ok, Err, refl, sym, ◌∙◌, ap, subst, arith, append_assoc}
-use Rattle.std.specs.Prelude.{IfErr, IfOk, is_some, slice_get}
-use Rattle.std.proofs.lemmas.List.{drop_all}
+use Rattle.std.proofs.Common.{◌≡◌, ◌≢◌, ℕ, zero, suc, ◌+◌, ◌<◌, List, [], ◌∷◌, ◌++◌, length, drop, Option, Some, Result, Ok, Err, refl, sym, ◌∙◌, ap, subst, arith, append_assoc}
+use Rattle.std.specs.Prelude.{IfErr, IfOk, slice_get}
 use Rattle.tt_code.specs.Cut.{Instruction}
-use Rattle.tt_code.specs.Fonts.{Font}
 use Rattle.tt_cert.specs.Contents.{Contents}
 use Rattle.tt_cert.specs.Rising.{IsFinished}
 use Rattle.tt_cert.specs.declared.fault.ProgramFault.{ProgramFault}
 use Rattle.tt_cert.specs.declared.fault.ProgramFault.TheVariants as program
-use Rattle.tt_cert_file.specs.Answers.{Fails, GivesSection, input_at}
+use Rattle.tt_cert_file.specs.Answers.{GivesSection, input_at}
 use Rattle.tt_cert_file.specs.declared.fault.DecodeFault.{DecodeFault}
 use Rattle.tt_cert_file.specs.declared.fault.DecodeFault.TheVariants as decode
 use Rattle.tt_cert_file.specs.declared.form.Form.{Form}
@@ -17,12 +15,11 @@ use Rattle.tt_cert_file.specs.declared.name.Name.TheVariants as name
 use Rattle.tt_cert_file.specs.Readers.{Input}
 use Rattle.tt_cert_file.specs.Reading.{section_at}
 use Rattle.tt_cert_file.specs.Sections.{section_of}
-use Rattle.tt_font.specs.Reading.{FontData, GlyphData}
+use Rattle.tt_font.specs.Reading.{GlyphData}
 use Rattle.hintcheck.specs.CertificateFaults.{IsNoForm, fault_of_decoding}
-use Rattle.hintcheck.specs.Certificates.{AreChecked, Finding, HasNoSection, IsCheckRefusal, IsSectionOf, Passes, no_section, not_read, of_another, passed, refused, refused_before}
+use Rattle.hintcheck.specs.Certificates.{AreChecked, Finding, HasNoSection, IsSectionOf, Passes, no_section, not_read, of_another, passed, refused, refused_before}
 use Rattle.hintcheck.specs.CheckedFonts.{AreCheckedFrom, Finds, IsRefusedBy, IsTold, all_refused}
 use Rattle.hintcheck.specs.FontLooks.{font_in, subject_in}
-use Rattle.hintcheck.specs.FontPrograms.{glyph_subject}
 use Rattle.hintcheck.specs.Looks.{IsListed, told_at}
 use Rattle.hintcheck.specs.declared.certified.CheckFontFault.{CheckFontFault}
 use Rattle.hintcheck.specs.declared.certified.CheckFontFault.TheVariants as check

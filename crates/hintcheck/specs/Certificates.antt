@@ -1,5 +1,5 @@
 -- What a check of a font by a certificate comes to. A certificate has a header, then a section for each program of the font, in their order.
-use Rattle.std.specs.Prelude.{◌≡◌, ◌≢◌, ℕ, ◌+◌, List, [], ◌∷◌, Option, Some, Result, Ok, Err, length}
+use Rattle.std.specs.Prelude.{◌≡◌, ◌≢◌, ℕ, ◌+◌, List, [], ◌∷◌, Some, Result, Ok, Err, length}
 use Rattle.tt_code.specs.Cut.{Instruction, IsCut, CannotBeCut, size}
 use Rattle.tt_code.specs.Fonts.{Font}
 use Rattle.tt_code.specs.Grammar.{IsFault}

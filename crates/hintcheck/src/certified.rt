@@ -268,8 +268,8 @@ fn check_glyph_programs<S: Source>(
     ensures good { IfOk result (λ refused. refused.items ≡ [] → AreGoodGlyphs common.now font.now.glyphs) }
     ensures checked { IsTold (S.remaining source.old) → Finds result
         (λ refused. IsTold (S.remaining source.new) × ((finding : Finding)
-            → AreCheckedFrom progress.old.form common.now font.now.glyphs (length font.now.glyphs) (input_at progress.new.place (S.remaining source.new)) finding
-            → AreCheckedFrom progress.old.form common.now font.now.glyphs 0 (input_at progress.old.place (S.remaining source.old)) (all_refused refused.items finding)))
+        → AreCheckedFrom progress.old.form common.now font.now.glyphs (length font.now.glyphs) (input_at progress.new.place (S.remaining source.new)) finding
+        → AreCheckedFrom progress.old.form common.now font.now.glyphs 0 (input_at progress.old.place (S.remaining source.old)) (all_refused refused.items finding)))
         (λ place. AreCheckedFrom progress.old.form common.now font.now.glyphs 0 (input_at progress.old.place (S.remaining source.old)) (Err place)) }
     ensures failures { CountsCheck result (S.failures source.old) (S.failures source.new) }
 {

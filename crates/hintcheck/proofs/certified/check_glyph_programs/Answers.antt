@@ -1,5 +1,5 @@
 use Rattle.std.specs.Option.{option_map}
-use Rattle.std.proofs.Common.{◌≡◌, ℕ, ◌+◌, ◌<◌, Err, List, sym, ◌∙◌, ap, subst, arith, length}
+use Rattle.std.proofs.Common.{◌≡◌, ℕ, ◌+◌, ◌<◌, List, sym, ◌∙◌, ap, subst, arith, length}
 use Rattle.std.proofs.lemmas.Result.{err_from_is_err_and}
 use Rattle.tt_code.specs.Cut.{Instruction}
 use Rattle.tt_cert_file.specs.Answers.{input_at}
@@ -7,7 +7,7 @@ use Rattle.tt_cert_file.specs.declared.form.Form.{Form}
 use Rattle.hintcheck.specs.Certificates.{HasNoSection, IsSectionOf, Passes}
 use Rattle.hintcheck.specs.CheckedFonts.{IsRefusedBy}
 use Rattle.hintcheck.specs.FontLooks.{subject_in}
-use Rattle.hintcheck.proofs.CheckedSections.{LeadsBack, finds_fault, no_section_next, nothing_before, passed_next, refused_next, slice_there}
+use Rattle.hintcheck.proofs.CheckedSections.{LeadsBack, finds_fault, no_section_next, passed_next, refused_next, slice_there}
 use Rattle.std.proofs.lemmas.Option.{slice_get_within}
 use Rattle.tt_font.specs.GlyphParts.{glyph_data}
 use Rattle.tt_font.specs.Reading.{GlyphData}

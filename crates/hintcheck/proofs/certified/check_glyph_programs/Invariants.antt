@@ -11,5 +11,5 @@ invariant-loop-id g l =
     × (g.S.Source.failures l.source ≡ g.S.Source.failures l.fn.source)
     × (l.progress.form ≡ l.fn.progress.form)
     × (IsTold (g.S.Source.remaining l.fn.source) → IsTold (g.S.Source.remaining l.source)
-        × LeadsBack l.fn.progress.form l.common l.font.glyphs (input_at l.fn.progress.place (g.S.Source.remaining l.fn.source)) l.refused.items l.id
-            (input_at l.progress.place (g.S.Source.remaining l.source)))
+    × LeadsBack l.fn.progress.form l.common l.font.glyphs (input_at l.fn.progress.place (g.S.Source.remaining l.fn.source)) l.refused.items l.id
+    (input_at l.progress.place (g.S.Source.remaining l.source)))

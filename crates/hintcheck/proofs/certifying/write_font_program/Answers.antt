@@ -30,7 +30,7 @@ returns-clause-written g c =
     let x = font_subject c.args.font.now in
     let s = c.for_font_program-setting in
     let W : List Instruction → Type 0 = λ is.
-        WritesText (g.W.Sink.contents c.args.sink.now) (g.W.Sink.contents c.write_ended.new.sink) (λ text. IsEndedText IsLeastListing Four x is text c.in_ok-functions.functions.items) in
+    WritesText (g.W.Sink.contents c.args.sink.now) (g.W.Sink.contents c.write_ended.new.sink) (λ text. IsEndedText IsLeastListing Four x is text c.in_ok-functions.functions.items) in
     subst W s.ensures.main
     (c.in_ok-functions.ensures.written x (font_looked c.args.font.now s.result c.in-Ok.program c.limits.result c.cvt_count.result
     (c.in-Ok.ensures.cut x (sym c.fpgm.ensures)) s.ensures.setting s.ensures.programs c.limits.ensures c.cvt_count.ensures s.ensures.main s.ensures.start) refl)
