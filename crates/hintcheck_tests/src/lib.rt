@@ -2,6 +2,12 @@
 #![tactic(auto)]
 
 #[cfg(test)]
+mod certificate_calls;
+#[cfg(test)]
+mod certificate_commands;
+#[cfg(test)]
+mod certificates;
+#[cfg(test)]
 mod commands;
 #[cfg(test)]
 mod font_files;
@@ -15,3 +21,5 @@ mod lines;
 mod listing;
 #[cfg(test)]
 mod outputs;
+#[cfg(test)]
+mod stored_certificates;

@@ -1,7 +1,8 @@
 //! The commands `find` and `check`, on files.
 
-use crate::calls::{bytes_of, printed};
-use crate::stored::{FONT, FORM_1, FORM_2, FORM_4, UNDERFLOWING};
+use crate::certificate_calls::bytes_of;
+use crate::outputs::answers;
+use crate::stored_certificates::{FONT, FORM_1, FORM_2, FORM_4, UNDERFLOWING};
 use std::path::PathBuf;
 use std::test::Fail;
 use std::{env, fs, process};
@@ -13,12 +14,6 @@ fn path_of(rt: &HostRuntime, ending: &str) -> Result<PathBuf, Fail> {
     Ok(env::temp_dir(rt)?.join(rt.alloc(), name)?)
 }
 
-/// Whether the command answers by this status, with these texts on the output and the error output.
-fn answers(rt: &HostRuntime, words: &[&str], status: u8, out_text: &str, err_text: &str) -> bool {
-    let (told, out, err) = printed(rt, words);
-    told == status && out.as_slice() == out_text.as_bytes() && err.as_slice() == err_text.as_bytes()
-}
-
 const ACCEPTED: &str = "accepted: 3 programs\n";
 
 const CHECKED_WHOLE: &str = "refused g0 at g0:2: 41 missing point\nrefused: 1 of 3 programs\n";
@@ -27,13 +22,24 @@ const CHECKED: &str = "refused g0 at f:3: 41 missing point\nrefused: 1 of 3 prog
 
 const FOUND: &str = "refused g0 at f:3: 26 underflow\nrefused: 1 of 3 programs\n";
 
+/// Certificates of the font that don't fit the underflowing one, and what is printed of it.
+const UNFIT: [(&[&str], &str); 3] = [
+    (&FORM_1, CHECKED_WHOLE),
+    (&FORM_2, CHECKED),
+    (&FORM_4, CHECKED),
+];
+
 #[test]
 fn commands_on_files(rt: HostRuntime) -> Result<(), Fail> {
     let (font, cert) = (path_of(&rt, "ttf")?, path_of(&rt, "cert")?);
     let find = ["hintcheck", "find", font.as_str(), cert.as_str()];
     let check = ["hintcheck", "check", font.as_str(), cert.as_str()];
-    let form_4 = bytes_of(rt.alloc(), &FORM_4)?;
-    fs::write(&rt, font.as_str(), &bytes_of(rt.alloc(), &FONT)?)?;
+    let form_4 = bytes_of(rt.alloc(), &FORM_4).expect(&rt, "bytes");
+    fs::write(
+        &rt,
+        font.as_str(),
+        &bytes_of(rt.alloc(), &FONT).expect(&rt, "bytes"),
+    )?;
     assert!(rt; answers(&rt, &find, 0, ACCEPTED, ""), "found");
     assert!(rt;
         fs::read(&rt, cert.as_str())?.as_slice() == form_4.as_slice(),
@@ -45,14 +51,17 @@ fn commands_on_files(rt: HostRuntime) -> Result<(), Fail> {
         answers(&rt, &check, 2, "", "fault: 43 certificate form at byte 9\n"),
         "cut short"
     );
-    fs::write(&rt, font.as_str(), &bytes_of(rt.alloc(), &UNDERFLOWING)?)?;
-    let table: [(&[&str], &str); 3] = [
-        (&FORM_1, CHECKED_WHOLE),
-        (&FORM_2, CHECKED),
-        (&FORM_4, CHECKED),
-    ];
-    for (parts, want) in table {
-        fs::write(&rt, cert.as_str(), &bytes_of(rt.alloc(), parts)?)?;
+    fs::write(
+        &rt,
+        font.as_str(),
+        &bytes_of(rt.alloc(), &UNDERFLOWING).expect(&rt, "bytes"),
+    )?;
+    for (parts, want) in &UNFIT {
+        fs::write(
+            &rt,
+            cert.as_str(),
+            &bytes_of(rt.alloc(), parts).expect(&rt, "bytes"),
+        )?;
         assert!(rt; answers(&rt, &check, 1, want, ""), "{want}");
     }
     assert!(rt; answers(&rt, &find, 1, FOUND, ""), "refused");

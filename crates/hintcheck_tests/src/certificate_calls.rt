@@ -1,39 +1,25 @@
-//! What the calls answer, on bytes in memory and on files.
+//! What a check by a certificate and the search for one answer, on bytes in memory.
 
 ghost use Rattle.std.specs.Prelude.{◌≡◌, ◌<◌};
 
-use hintcheck::{CheckFontFault, FindFontFault, Verdict, check_font, command, find_font};
-use std::alloc::{AllocError, Global};
+use hintcheck::{CheckFontFault, FindFontFault, Verdict, check_font, find_font};
+use hintcheck_words::word_bytes;
+use std::alloc::Global;
 use std::io;
 use std::io::{ErrorKind, Write};
 use std::marker::Brand;
-use std::rt::Files;
 use std::sync::ledger::{Blank, Ledger};
 use tt_stream::Counted;
 
-/// Adds the bytes of hexadecimal digits, two for each.
-fn push_digits(bytes: &mut Vec<u8>, digits: &str) -> Result<(), AllocError> {
-    let mut high = None;
-    for digit in digits.chars().filter_map(|c| c.to_digit(16)) {
-        let digit = (digit & 15) as u8;
-        match high {
-            Some(first) => {
-                bytes.push((first << 4) | digit)?;
-                high = None;
-            }
-            None => high = Some(digit),
-        }
-    }
-    Ok(())
-}
-
-/// The bytes of parts in hexadecimal digits, one after the other.
-pub(crate) fn bytes_of(alloc: Global, parts: &[&str]) -> Result<Vec<u8>, AllocError> {
+/// The bytes of parts in hexadecimal digits, one after the other; nothing for want of memory.
+pub(crate) fn bytes_of(alloc: Global, parts: &[&str]) -> Option<Vec<u8>> {
     let mut bytes = Vec::new(alloc);
     for part in parts {
-        push_digits(&mut bytes, part)?;
+        bytes
+            .extend_from_slice(&word_bytes(alloc, part).ok()?)
+            .ok()?;
     }
-    Ok(bytes)
+    Some(bytes)
 }
 
 /// Gives so many bytes, and then fails where it is to.
@@ -58,7 +44,7 @@ impl io::Read for Given<'_> {
 
 /// Takes so many bytes, and then fails.
 #[derive(Drop)]
-pub(crate) struct Taker {
+struct Taker {
     bytes: Vec<u8>,
     room: usize,
 }
@@ -142,34 +128,4 @@ pub(crate) fn found(alloc: Global, font: &[u8], room: usize) -> (Told, Vec<u8>) 
         room,
     };
     find_on::<Brand>(alloc, font, taker, Blank::new(1))
-}
-
-fn run<L: Ledger, M: Ledger, R: Files + AllocGlobal>(
-    rt: &R,
-    words: &[&str],
-    out: Taker,
-    err: Taker,
-    first: Blank,
-    second: Blank,
-) -> (u8, Vec<u8>, Vec<u8>)
-    requires out { (first.name ≡ L.name) × (first.parts ≡ L.parts) × (0 < first.parts) }
-    requires err { (second.name ≡ M.name) × (second.parts ≡ M.parts) × (0 < second.parts) }
-{
-    let mut out = Counted::<Taker, L>::new(out, first);
-    let mut err = Counted::<Taker, M>::new(err, second);
-    let status = command(rt, words, &mut out, &mut err);
-    (status, out.into_inner().bytes, err.into_inner().bytes)
-}
-
-/// The exit status at these words, and what is printed and told.
-pub(crate) fn printed<R: Files + AllocGlobal>(rt: &R, words: &[&str]) -> (u8, Vec<u8>, Vec<u8>) {
-    let out = Taker {
-        bytes: Vec::new(rt.alloc()),
-        room: 10_000,
-    };
-    let err = Taker {
-        bytes: Vec::new(rt.alloc()),
-        room: 10_000,
-    };
-    run::<Brand, Brand, R>(rt, words, out, err, Blank::new(1), Blank::new(1))
 }

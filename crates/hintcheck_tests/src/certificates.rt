@@ -1,22 +1,24 @@
 //! Certificates in memory.
 
-use crate::calls::{Told, bytes_of, checked, found};
-use crate::stored::{FONT, FORM_1, FORM_2, FORM_3, FORM_4, UNDERFLOWING};
+use crate::certificate_calls::{Told, bytes_of, checked, found};
+use crate::stored_certificates::{FONT, FORM_1, FORM_2, FORM_3, FORM_4, UNDERFLOWING};
 use std::alloc::Global;
+
+/// The stored certificates: how many bytes each has, and the offset at which it doesn't fit the other font.
+const STORED: [(&[&str], usize, u32); 4] = [
+    (&FORM_1, 414, 2),
+    (&FORM_2, 288, 3),
+    (&FORM_3, 300, 3),
+    (&FORM_4, 300, 3),
+];
 
 #[test]
 fn stored_certificates(rt: HostRuntime) {
     let font = bytes_of(rt.alloc(), &FONT).expect(&rt, "font");
     let other = bytes_of(rt.alloc(), &UNDERFLOWING).expect(&rt, "other font");
-    let table: [(&[&str], usize, u32); 4] = [
-        (&FORM_1, 414, 2),
-        (&FORM_2, 288, 3),
-        (&FORM_3, 300, 3),
-        (&FORM_4, 300, 3),
-    ];
-    for (parts, length, offset) in table {
+    for (parts, length, offset) in &STORED {
         let bytes = bytes_of(rt.alloc(), parts).expect(&rt, "certificate");
-        assert_eq!(rt; bytes.len(), length);
+        assert_eq!(rt; bytes.len(), *length);
         assert_eq!(rt;
             checked(rt.alloc(), &font, &bytes, false),
             Told::Accepted,
@@ -24,7 +26,7 @@ fn stored_certificates(rt: HostRuntime) {
         );
         assert_eq!(rt;
             checked(rt.alloc(), &other, &bytes, false),
-            Told::Refused(1, offset, 41),
+            Told::Refused(1, *offset, 41),
             "{length} bytes"
         );
     }
@@ -96,22 +98,26 @@ fn with_byte(bytes: &[u8], place: usize, byte: u8, alloc: Global) -> Option<Vec<
     Some(changed)
 }
 
+/// The place of a byte, another byte there, and what is told: the form, the number of sections, and the 7 on the stack where the function begins.
+const CHANGED: [(usize, u8, Told); 4] = [
+    (5, 9, Told::Form(4)),
+    (9, 4, Told::Form(6)),
+    (9, 2, Told::Form(6)),
+    (266, 8, Told::Refused(1, 3, 42)),
+];
+
 #[test]
 fn changed_certificates(rt: HostRuntime) {
     let font = bytes_of(rt.alloc(), &FONT).expect(&rt, "font");
     let bytes = bytes_of(rt.alloc(), &FORM_4).expect(&rt, "certificate");
-    let table = [
-        // The form, the number of sections, and the 7 on the stack where the function begins.
-        (5, 9, Told::Form(4)),
-        (9, 4, Told::Form(6)),
-        (9, 2, Told::Form(6)),
-        (266, 8, Told::Refused(1, 3, 42)),
-    ];
-    for (place, byte, want) in table {
-        let changed = with_byte(&bytes, place, byte, rt.alloc()).expect(&rt, "changed certificate");
+    for (place, byte, want) in &CHANGED {
+        let changed = with_byte(&bytes, *place, *byte, rt.alloc()).expect(
+            &rt,
+            "changed certificate",
+        );
         assert_eq!(rt;
             checked(rt.alloc(), &font, &changed, false),
-            want,
+            *want,
             "byte {place}"
         );
     }
