@@ -46,7 +46,8 @@ fn commands_on_files(rt: HostRuntime) -> Result<(), Fail> {
         "the stored certificate"
     );
     assert!(rt; answers(&rt, &check, 0, ACCEPTED, ""), "checked");
-    fs::write(&rt, cert.as_str(), &form_4[..9])?;
+    let cut = bytes_of(rt.alloc(), &["484352540004000000"]).expect(&rt, "bytes");
+    fs::write(&rt, cert.as_str(), &cut)?;
     assert!(rt;
         answers(&rt, &check, 2, "", "fault: 43 certificate form at byte 9\n"),
         "cut short"
