@@ -2,7 +2,9 @@
 """Runs `rt ci` in a clean clone of HEAD, and tells how its processor time is spent: by crate, for its proof (and a program's two builds), its
 tests and its edits.
 
-Usage: bench/gate.py
+Usage: bench/gate.py [PROCESSORS]
+Nothing is taken from earlier runs. With a number, only so many of the machine's processors are used: where a proof may take several, it shares
+its work out among copies of the prover, each of which reads the libraries anew, so that more processors take more of their time together.
 What `rt ci` prints goes to gate.log in the current folder. The figures are user and system time of the prover's processes, read once a
 second while they run, in minutes; the whole is that of all processes. Nothing else should run beside it.
 """
@@ -48,11 +50,13 @@ def look(seen):
 
 
 def main():
+    if sys.argv[1:]:
+        os.sched_setaffinity(0, sorted(os.sched_getaffinity(0))[: int(sys.argv[1])])
     seen = {}
     with tempfile.TemporaryDirectory(prefix="gate-") as room, open("gate.log", "wb") as log:
         subprocess.run(["git", "clone", "-q", TOP, f"{room}/clone"], check=True)
         begun = time.time()
-        gate = subprocess.Popen(["rt", "ci"], cwd=f"{room}/clone", stdout=log, stderr=subprocess.STDOUT)
+        gate = subprocess.Popen(["rt", "ci", "--anew"], cwd=f"{room}/clone", stdout=log, stderr=subprocess.STDOUT)
         while gate.poll() is None:
             look(seen)
             time.sleep(1)

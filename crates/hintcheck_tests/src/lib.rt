@@ -1,25 +1,21 @@
-//! Tests of the verdicts, and of what the command prints of them.
+//! The tests of all crates, a module for each. They are one crate, since each crate of tests reads the libraries below it once more.
 #![tactic(auto)]
 
 #[cfg(test)]
-mod certificate_calls;
+mod abs;
 #[cfg(test)]
-mod certificate_commands;
+mod cert;
 #[cfg(test)]
-mod certificates;
+mod cert_file;
 #[cfg(test)]
-mod commands;
+mod checker;
 #[cfg(test)]
-mod font_files;
+mod code;
 #[cfg(test)]
-mod font_programs;
+mod find;
 #[cfg(test)]
-mod glyph_programs;
+mod font;
 #[cfg(test)]
-mod lines;
+mod stream;
 #[cfg(test)]
-mod listing;
-#[cfg(test)]
-mod outputs;
-#[cfg(test)]
-mod stored_certificates;
+mod words;

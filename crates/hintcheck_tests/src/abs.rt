@@ -1,0 +1,9 @@
+//! Tests of `tt_abs`: lists of entries, stacks, abstract states and instructions with known outcomes.
+
+mod entries;
+mod instructions;
+mod joins;
+mod samples;
+mod stacks;
+mod states;
+mod transfers;

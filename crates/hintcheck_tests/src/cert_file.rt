@@ -1,0 +1,12 @@
+//! Tests of tt_cert_file: sections and headers of certificate files, whose bytes were worked out by hand.
+
+mod bytes;
+mod calls;
+mod decoding;
+mod encoding;
+mod failing;
+mod files;
+mod headers;
+mod rows;
+mod rules;
+mod sections;

@@ -1,0 +1,13 @@
+//! Tests of the verdicts, and of what the command prints of them.
+
+mod certificate_calls;
+mod certificate_commands;
+mod certificates;
+mod commands;
+mod font_files;
+mod font_programs;
+mod glyph_programs;
+mod lines;
+mod listing;
+mod outputs;
+mod stored_certificates;

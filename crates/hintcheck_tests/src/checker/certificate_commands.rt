@@ -1,0 +1,97 @@
+//! The commands `find` and `check`, on files.
+
+use crate::checker::certificate_calls::bytes_of;
+use crate::checker::outputs::answers;
+use crate::checker::stored_certificates::{FONT, FORM_1, FORM_2, FORM_4, UNDERFLOWING};
+use std::path::PathBuf;
+use std::test::Fail;
+use std::{env, fs, process};
+
+/// The path of a file with this ending, which no other process takes.
+fn path_of(rt: &HostRuntime, ending: &str) -> Result<PathBuf, Fail> {
+    let process = process::id(rt.process());
+    let name = format!(in rt.alloc(); "hintcheck-certificate-{process}.{ending}")?;
+    Ok(env::temp_dir(rt)?.join(rt.alloc(), name)?)
+}
+
+const ACCEPTED: &str = "accepted: 3 programs\n";
+
+const CHECKED_WHOLE: &str = "refused g0 at g0:2: 41 missing point\nrefused: 1 of 3 programs\n";
+
+const CHECKED: &str = "refused g0 at f:3: 41 missing point\nrefused: 1 of 3 programs\n";
+
+const FOUND: &str = "refused g0 at f:3: 26 underflow\nrefused: 1 of 3 programs\n";
+
+/// Certificates of the font that don't fit the underflowing one, and what is printed of it.
+const UNFIT: [(&[&str], &str); 3] = [
+    (&FORM_1, CHECKED_WHOLE),
+    (&FORM_2, CHECKED),
+    (&FORM_4, CHECKED),
+];
+
+#[test]
+fn commands_on_files(rt: HostRuntime) -> Result<(), Fail> {
+    let (font, cert) = (path_of(&rt, "ttf")?, path_of(&rt, "cert")?);
+    let find = ["hintcheck", "find", font.as_str(), cert.as_str()];
+    let check = ["hintcheck", "check", font.as_str(), cert.as_str()];
+    let form_4 = bytes_of(rt.alloc(), &FORM_4).expect(&rt, "bytes");
+    fs::write(
+        &rt,
+        font.as_str(),
+        &bytes_of(rt.alloc(), &FONT).expect(&rt, "bytes"),
+    )?;
+    assert!(rt; answers(&rt, &find, 0, ACCEPTED, ""), "found");
+    assert!(rt;
+        fs::read(&rt, cert.as_str())?.as_slice() == form_4.as_slice(),
+        "the stored certificate"
+    );
+    assert!(rt; answers(&rt, &check, 0, ACCEPTED, ""), "checked");
+    let cut = bytes_of(rt.alloc(), &["484352540004000000"]).expect(&rt, "bytes");
+    fs::write(&rt, cert.as_str(), &cut)?;
+    assert!(rt;
+        answers(&rt, &check, 2, "", "fault: 43 certificate form at byte 9\n"),
+        "cut short"
+    );
+    fs::write(
+        &rt,
+        font.as_str(),
+        &bytes_of(rt.alloc(), &UNDERFLOWING).expect(&rt, "bytes"),
+    )?;
+    for (parts, want) in &UNFIT {
+        fs::write(
+            &rt,
+            cert.as_str(),
+            &bytes_of(rt.alloc(), parts).expect(&rt, "bytes"),
+        )?;
+        assert!(rt; answers(&rt, &check, 1, want, ""), "{want}");
+    }
+    assert!(rt; answers(&rt, &find, 1, FOUND, ""), "refused");
+    assert_eq!(rt; fs::read(&rt, cert.as_str())?.len(), 0);
+    fs::remove_file(&rt, cert.as_str())?;
+    assert!(rt;
+        answers(&rt, &check, 2, "", "fault: 44 read\n"),
+        "no certificate"
+    );
+    let same = ["hintcheck", "find", font.as_str(), font.as_str()];
+    assert!(rt;
+        answers(&rt, &same, 2, "", "fault: words: CERT\n"),
+        "the font's own file"
+    );
+    let room = env::temp_dir(&rt)?;
+    let unmade = ["hintcheck", "find", font.as_str(), room.as_str()];
+    assert!(rt;
+        answers(&rt, &unmade, 2, "", "fault: 45 write\n"),
+        "no file"
+    );
+    fs::write(&rt, font.as_str(), &[0; 12])?;
+    assert!(rt;
+        answers(&rt, &find, 2, "", "fault: 1 not an sfnt file\n"),
+        "no font"
+    );
+    assert!(rt;
+        answers(&rt, &check, 2, "", "fault: 1 not an sfnt file\n"),
+        "no font"
+    );
+    fs::remove_file(&rt, font.as_str())?;
+    Ok(())
+}

@@ -1,0 +1,106 @@
+//! One finder for many programs.
+
+use crate::find::fixtures::{Told, with_function, with_function_by};
+use crate::find::programs::{
+    BRANCHES_AND_CALLS, CALLS, CALLS_AND_ADDS, CALLS_TWICE, JUMPING_BACK, MAY_STOP_COUNTING,
+    POPPING, STRAIGHT, TEN_JUMPS_BACK, THREE_TURNS,
+};
+use std::alloc::Global;
+use std::process::Abort;
+use tt_cert::Certificate;
+use tt_find::Finder;
+
+/// Has a certificate the contexts of another one, and the states that this one lists?
+fn has_all_of(one: &Certificate, other: &Certificate) -> bool {
+    if one.contexts() != other.contexts() {
+        return false;
+    }
+    for context in 0..other.contexts() {
+        if one.context(context) != other.context(context) {
+            return false;
+        }
+    }
+    let mut states = other.states();
+    for _ in 0..other.points() {
+        let Some((context, offset, state)) = states.take_first() else {
+            return false;
+        };
+        match one.state(context, offset) {
+            Some(same) if same.is_same(state) => {}
+            _ => return false,
+        }
+    }
+    true
+}
+
+/// Is the same told by a finder that has looked at other programs as by one of its own? The first may list more states.
+fn is_told_alike(again: &Told, alone: &Told) -> bool {
+    if again.answer != alone.answer {
+        return false;
+    }
+    match &again.certificate {
+        Some(one) => match &alone.certificate {
+            Some(other) => has_all_of(one, other),
+            None => false,
+        },
+        None => alone.certificate.is_none(),
+    }
+}
+
+/// Gives a finder the memory of a certificate back.
+fn give_back(finder: &mut Finder, told: Told) {
+    if let Some(certificate) = told.certificate {
+        finder.take_back(certificate);
+    }
+}
+
+/// Is the same told of a glyph program that starts with function 0 by this finder as by one of its own? Afterwards the finder may get the memory
+/// of its certificate back. Nothing for want of memory.
+fn is_found_alike(
+    alloc: Global,
+    finder: &mut Finder,
+    font: &[u8],
+    program: &[u8],
+    gives_back: bool,
+) -> Option<bool> {
+    let alone = with_function(alloc, font, program)?;
+    let again = with_function_by(alloc, finder, font, program)?;
+    let is_alike = is_told_alike(&again, &alone);
+    if gives_back {
+        give_back(finder, again);
+    }
+    Some(is_alike)
+}
+
+/// Font programs and glyph programs. Some are refused, two font programs are of one length, and one program is looked at more often than
+/// others.
+const PROGRAMS: [(&[u8], &[u8]); 10] = [
+    (&POPPING, &THREE_TURNS),
+    (&POPPING, &BRANCHES_AND_CALLS),
+    (&POPPING, &CALLS_AND_ADDS),
+    (&POPPING, &BRANCHES_AND_CALLS),
+    (&STRAIGHT, &CALLS),
+    (&JUMPING_BACK, &CALLS_TWICE),
+    (&JUMPING_BACK, &TEN_JUMPS_BACK),
+    (&JUMPING_BACK, &CALLS),
+    (&STRAIGHT, &CALLS_TWICE),
+    (&STRAIGHT, &MAY_STOP_COUNTING),
+];
+
+/// Asserts that one finder, which may get the memory of the certificates back, tells the same of these programs.
+fn assert_alike(rt: &impl Abort, alloc: Global, gives_back: bool) {
+    let mut finder = Finder::new(alloc);
+    for (font, program) in &PROGRAMS {
+        let is_alike = is_found_alike(alloc, &mut finder, font, program, gives_back);
+        assert!(rt;
+            is_alike == Some(true),
+            "of {font:?} and {program:?}, {gives_back}"
+        );
+    }
+}
+
+#[test]
+fn one_finder_for_many_programs(rt: HostRuntime) {
+    assert_alike(&rt, rt.alloc(), true);
+    assert_alike(&rt, rt.alloc(), false);
+}

@@ -1,0 +1,6 @@
+//! Tests of `tt_font`: small font files, whole and with faults.
+
+mod faults;
+mod files;
+mod glyphs;
+mod tables;
