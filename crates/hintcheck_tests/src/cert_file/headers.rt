@@ -1,7 +1,9 @@
 //! Headers, and the end of a file.
 
 use crate::cert_file::bytes::bytes_of;
-use crate::cert_file::calls::{ALL, Steps, Taker, Told, told_of_end, told_of_header, written_header};
+use crate::cert_file::calls::{
+    ALL, Steps, Taker, Told, told_of_end, told_of_header, written_header,
+};
 use std::alloc::Global;
 use tt_cert_file::Form;
 
