@@ -3,6 +3,7 @@ pub mod Fields
 pub mod Spelled
 pub mod Decoded
 pub mod Loops
+pub mod Blocks
 pub mod Rises
 pub mod ContextLists
 pub mod Bodies

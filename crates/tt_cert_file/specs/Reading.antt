@@ -28,10 +28,13 @@ long_at i = do
   u ← unit 4 i
   Ok (from_be_bytes w32 u.0, u.1)
 
+abbrev pub pair_from : List ℕ → ℕ × ℕ
+pair_from bytes = (from_be_bytes w16 (take 2 bytes), from_be_bytes w32 (drop 2 bytes))
+
 unfoldable pub pair_at : Input → Answer (ℕ × ℕ)
 pair_at i = do
   u ← unit 6 i
-  Ok ((from_be_bytes w16 (take 2 u.0), from_be_bytes w32 (drop 2 u.0)), u.1)
+  Ok (pair_from u.0, u.1)
 
 -- the program of a kind and a glyph
 abbrev pub name_of : ℕ → ℕ → Option Name

@@ -1,19 +1,27 @@
 //! Lists of a section, each read after the number of its values.
 
-ghost use Rattle.std.specs.Prelude.{◌≡◌, ◌≤◌, [], true, length, IfOk};
+ghost use Rattle.std.specs.Prelude.{◌≡◌, ◌≤◌, [], true, length, IfOk, OnOk};
 ghost use Rattle.tt_abs.specs.Entries.{Rises};
 ghost use Rattle.tt_stream.specs.Reads.{ConsumesBeginning};
+ghost use Rattle.tt_stream.specs.Streams.{CountsFailure};
 ghost use Rattle.tt_cert_file.specs.Answers.{CountsRead, Gives, input_at};
+ghost use Rattle.tt_cert_file.specs.Blocks.{FillsFront, ReadsBlock, Takes};
 ghost use Rattle.tt_cert_file.specs.Readers.{list_at};
 ghost use Rattle.tt_cert_file.specs.Reading.{cell_at, function_at, functions_at, stack_at, storage_at, stored_at};
 ghost use Rattle.tt_cert_file.specs.Rules.{is_above, last_of};
 
 use crate::fault::DecodeFault;
 use crate::form::Form;
-use crate::units::{read_cell, read_pair, read_word};
+use crate::units::{pair_of, read_cell, read_pair, read_word};
 use std::alloc::Global;
 use tt_abs::Cell;
-use tt_stream::Source;
+use tt_stream::{ReadFailed, Source, read_full};
+
+/// How many bytes a function has: its number, and its body.
+const FUNCTION: usize = 6;
+
+/// How many functions are read at a time. A state may list hundreds, most of a certificate's bytes.
+const BLOCK: usize = 64;
 
 /// Reads so many cells.
 fn read_cells<S: Source>(
@@ -53,25 +61,76 @@ pub(crate) fn read_stack<S: Source>(
     read_cells(alloc, source, at, count)
 }
 
-/// Reads a function with its body, after those before it.
-#[tactic(auto, unfolding(crate::specs::Reading::function_at))]
-fn read_function<S: Source>(
+/// May the function come after these?
+fn is_next(functions: &[(u16, u32)], function: (u16, u32)) -> bool
+    ensures { result ≡ is_above (last_of functions.now) function }
+{
+    match functions.last() {
+        Some(last) => last.0 < function.0,
+        None => true,
+    }
+}
+
+/// Takes the functions that are whole in these bytes, after those before them.
+fn take_functions(
+    functions: &mut Vec<(u16, u32)>,
+    place: u64,
+    bytes: &[u8],
+) -> Result<(), DecodeFault>
+    ensures takes { Takes result functions.old.items functions.new.items place bytes.now }
+    ensures rises { Rises functions.old.items → OnOk result (Rises functions.new.items) }
+{
+    functions.reserve(bytes.len() / FUNCTION)?;
+    let mut left = bytes;
+    let mut at = place;
+    'functions: while let Some((unit, rest)) = left.split_first_chunk::<FUNCTION>() {
+        let function = pair_of(*unit);
+        if !is_next(functions, function) {
+            return Err(DecodeFault::Form(at));
+        }
+        functions.push(function)?;
+        at = at.saturating_add(FUNCTION as u64);
+        left = rest;
+    }
+    Ok(())
+}
+
+/// Reads so many bytes into the front of the buffer, or all that are left, and answers how many.
+fn read_front<S: Source>(
+    source: &mut S,
+    buf: &mut [u8],
+    wanted: usize,
+) -> Result<usize, ReadFailed>
+    requires { wanted ≤ length buf.old }
+    ensures front { IfOk result (λ n. FillsFront (S.remaining source.old) (S.remaining source.new) wanted n buf.new) }
+    ensures beginning { ConsumesBeginning (S.remaining source.old) (S.remaining source.new) }
+    ensures failures { CountsFailure result (S.failures source.old) (S.failures source.new) }
+{
+    read_full(source, &mut buf[..wanted])
+}
+
+/// Reads so many functions at once, after those before them, and answers the place after them.
+fn read_function_block<S: Source>(
     source: &mut S,
     place: u64,
-    before: &[(u16, u32)],
-) -> Result<((u16, u32), u64), DecodeFault>
-    ensures reads { Gives (λ x. x) (S.remaining source.old) (S.remaining source.new) result (function_at before.now (input_at place (S.remaining source.old))) }
-    ensures above { IfOk result (λ r. is_above (last_of before.now) r.0 ≡ true) }
+    count: usize,
+    functions: &mut Vec<(u16, u32)>,
+) -> Result<u64, DecodeFault>
+    requires { count ≤ 64 }
+    ensures reads { ReadsBlock result (S.remaining source.old) (S.remaining source.new) functions.old.items functions.new.items place count }
+    ensures rises { Rises functions.old.items → OnOk result (Rises functions.new.items) }
     ensures beginning { ConsumesBeginning (S.remaining source.old) (S.remaining source.new) }
     ensures failures { CountsRead result (S.failures source.old) (S.failures source.new) }
 {
-    let (entry, after) = read_pair(source, place)?;
-    if let Some(last) = before.last()
-        && entry.0 <= last.0
-    {
-        return Err(DecodeFault::Form(place));
+    let mut bytes = [0u8; FUNCTION * BLOCK];
+    let wanted = FUNCTION * count;
+    let read = read_front(source, &mut bytes, wanted)?;
+    take_functions(functions, place, &bytes[..read])?;
+    let after = place.saturating_add(read as u64);
+    if read < wanted {
+        return Err(DecodeFault::Form(after));
     }
-    Ok((entry, after))
+    Ok(after)
 }
 
 /// Reads so many functions.
@@ -88,10 +147,11 @@ fn read_function_list<S: Source>(
 {
     let mut functions = Vec::new(alloc);
     let mut at = place;
-    'functions: for _ in 0..count {
-        let (function, after) = read_function(source, at, &functions)?;
-        functions.push(function)?;
-        at = after;
+    let mut left = usize::from(count);
+    'blocks: while left > 0 {
+        let block = left.min(BLOCK);
+        at = read_function_block(source, at, block, &mut functions)?;
+        left -= block;
     }
     Ok((functions, at))
 }

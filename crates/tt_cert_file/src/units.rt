@@ -4,7 +4,7 @@ ghost use Rattle.std.specs.Prelude.{◌≡◌, ℕ, List, Option, IfErr};
 ghost use Rattle.tt_stream.specs.Reads.{ConsumesBeginning};
 ghost use Rattle.tt_cert_file.specs.Answers.{CountsRead, Gives, IsWantOfMemory, input_at};
 ghost use Rattle.tt_cert_file.specs.Readers.{unit};
-ghost use Rattle.tt_cert_file.specs.Reading.{cell_at, graphics_at, long_at, name_at, pair_at, word_at, zone_at};
+ghost use Rattle.tt_cert_file.specs.Reading.{cell_at, graphics_at, long_at, name_at, pair_at, pair_from, word_at, zone_at};
 
 use crate::fault::DecodeFault;
 use crate::name::Name;
@@ -55,6 +55,16 @@ pub(crate) fn read_long<S: Source>(source: &mut S, place: u64) -> Result<(u32, u
     Ok((u32::from_be_bytes(unit), after))
 }
 
+/// The number of 16 bits with one of 32 that these bytes are.
+pub(crate) fn pair_of(unit: [u8; 6]) -> (u16, u32)
+    ensures { result ≡ pair_from unit }
+{
+    let [w1, w0, l3, l2, l1, l0] = unit;
+    let word = u16::from_be_bytes([w1, w0]);
+    let long = u32::from_be_bytes([l3, l2, l1, l0]);
+    (word, long)
+}
+
 /// Reads a number of 16 bits with one of 32.
 #[tactic(auto, unfolding(crate::specs::Reading::pair_at))]
 pub(crate) fn read_pair<S: Source>(
@@ -66,10 +76,7 @@ pub(crate) fn read_pair<S: Source>(
     ensures failures { CountsRead result (S.failures source.old) (S.failures source.new) }
 {
     let (unit, after) = read_unit::<S, 6>(source, place)?;
-    let [w1, w0, l3, l2, l1, l0] = unit;
-    let word = u16::from_be_bytes([w1, w0]);
-    let long = u32::from_be_bytes([l3, l2, l1, l0]);
-    Ok(((word, long), after))
+    Ok((pair_of(unit), after))
 }
 
 /// Reads the name of a section's program.

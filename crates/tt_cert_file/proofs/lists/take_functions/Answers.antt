@@ -1,0 +1,21 @@
+use Rattle.std.proofs.Common.{arith, sym, subst, ◌∙◌}
+use Rattle.tt_abs.specs.Entries.{Rises}
+use Rattle.tt_cert_file.proofs.Blocks.{taking_breaks, taking_more}
+use Rattle.tt_cert_file.proofs.Rises.{Rises-push}
+use Rattle.tt_cert_file.proofs.lists.take_functions.Goals as goal
+
+pub returns-then-not-is_next-clause-takes : goal.returns-then-not-is_next-clause-takes
+returns-then-not-is_next-clause-takes c =
+    let cut = c.in-Some.ensures.cases in
+    taking_breaks _ _ _ _ _ _ c.in-Some.unit.now c.pair_of-function.result c.functions.invariant.0 (omega (arith, cut.2)) cut.0 c.pair_of-function.ensures
+    (rw c.deref.ensures.value at (sym c.is_next.ensures ∙ c.if-not-is_next.true))
+
+pub functions-preserved : goal.functions-preserved
+functions-preserved c =
+    let cut = c.in-Some.ensures.cases in
+    let above = rw c.deref.ensures.value at (sym c.is_next.ensures ∙ c.if-not-is_next.false) in
+    (
+      taking_more _ _ _ _ _ _ _ _ _ c.in-Some.unit.now c.pair_of-function.result c.functions.invariant.0 (omega (arith, cut.2)) cut.0 cut.1 c.pair_of-function.ensures above
+      c.in_ok-push.ensures.items c.saturating_add-at.ensures,
+      λ rises. subst Rises (sym c.in_ok-push.ensures.items) (Rises-push _ _ (c.functions.invariant.1 rises) above),
+    )

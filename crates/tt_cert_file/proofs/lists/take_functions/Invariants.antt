@@ -1,0 +1,11 @@
+use Rattle.std.proofs.Common.{ℕ, length}
+use Rattle.tt_abs.specs.Entries.{Rises}
+use Rattle.tt_cert_file.specs.Blocks.{IsTaking}
+use Rattle.tt_cert_file.proofs.lists.take_functions.Given as goal
+
+abbrev pub invariant-functions : goal.invariant-functions
+invariant-functions l =
+    IsTaking l.fn.functions.items l.functions.items l.fn.place l.at l.fn.bytes l.left × (Rises l.fn.functions.items → Rises l.functions.items)
+
+abbrev pub decreases-functions : goal.decreases-functions
+decreases-functions l = length l.left
