@@ -141,10 +141,10 @@ pub record Fits (form : Form) (s : Section) : Type 0 where
 abbrev pub AreCallsInTurn : List (List Frame) → Type 0
 AreCallsInTurn contexts = (number : ℕ) → number < length contexts → FramesFit (frames_at contexts number)
 
--- the numbers of the last call have their bits
+-- the numbers of the last call have their bits (Representation: no public clause cites it.)
 abbrev pub CallFits : Context → Type 0
 CallFits c = (c.1.call < 2 ^ 32) × (c.1.body < 2 ^ 32)
 
--- a state in one of so many contexts, at an offset of 32 bits, whose lists fit
+-- a state in one of so many contexts, at an offset of 32 bits, whose lists fit (Representation: no public clause cites it.)
 abbrev pub HasRoom : ℕ → Entry → Type 0
 HasRoom contexts e = (e.0.0 < contexts) × (e.0.1 < 2 ^ 32) × StateFits Four e.1

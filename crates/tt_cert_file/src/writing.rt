@@ -221,7 +221,8 @@ fn section_bytes(
     certificate: &Certificate,
 ) -> Result<Vec<u8>, AllocError>
     ensures text { IfOk result (λ bytes. bytes.items ≡ section_text Form.Four (section_of name certificate.now)) }
-    ensures fits { OnOk result (AreCallsInTurn certificate.now.contexts → Fits Form.Four (section_of name certificate.now)) }
+    ensures fits { OnOk result (AreCallsInTurn certificate.now.contexts
+        → Fits Form.Four (section_of name certificate.now)) }
 {
     let mut out = Vec::new(alloc);
     push_name(&mut out, name)?;
@@ -242,8 +243,9 @@ pub fn encode<W: Sink>(
     sink: &mut W,
 ) -> Result<(), EncodeFault>
     ensures written { OnOk result (Appends (W.contents sink.old) (W.contents sink.new) (section_text Form.Four (section_of name certificate.now))) }
-    // What is written has a text that is read back, where each context's calls are in their turns and no body runs twice.
-    ensures fits { OnOk result (AreCallsInTurn certificate.now.contexts → Fits Form.Four (section_of name certificate.now)) }
+    // The section keeps the rules by which it is read, where each context's calls are in their turns and no body runs twice in them.
+    ensures fits { OnOk result (AreCallsInTurn certificate.now.contexts
+        → Fits Form.Four (section_of name certificate.now)) }
     ensures beginning { OnErr result (AppendsBeginning (W.contents sink.old) (W.contents sink.new) (section_text Form.Four (section_of name certificate.now))) }
     ensures failures { CountsWrite result (W.failures sink.old) (W.failures sink.new) }
 {
