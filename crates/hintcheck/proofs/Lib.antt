@@ -14,3 +14,6 @@ pub mod CheckedSections
 pub mod CheckedPrograms
 pub mod CertificateWriting
 pub mod FaultLemmas
+pub mod OneFinding
+pub mod OneFont
+pub mod CheckedTexts

@@ -1,16 +1,18 @@
 -- Why a program that is looked at is accepted or refused.
-use Rattle.std.proofs.Common.{◌≡◌, ◌⊎◌, inl, inr, ℕ, List, [], Option, Some, Result, Ok, Err, refl, sym, ◌∙◌, ap, subst}
+use Rattle.std.proofs.Common.{◌≡◌, ◌⊎◌, arith, inl, inr, ℕ, List, [], Option, Some, Result, Ok, Err, refl, sym, ◌∙◌, ap, subst}
 use Rattle.std.specs.Prelude.{IfErr, IfOk}
 use Rattle.std.specs.Result.{IsErrAnd}
 use Rattle.tt_code.specs.Cut.{Instruction, IsCut, CannotBeCut, size}
 use Rattle.tt_code.specs.Grammar.{IsFault}
 use Rattle.tt_code.specs.Settings.{Kind, FontProgram, CvtProgram, GlyphProgram, Setting}
+use Rattle.tt_code.specs.declared.machine.Frame.{Frame}
 use Rattle.tt_code.specs.declared.reason.Reason.{Reason}
 use Rattle.tt_code.specs.declared.reason.Reason.TheVariants as reason
 use Rattle.tt_code.proofs.CutLemmas.{one_cut}
 use Rattle.tt_code.proofs.ProgramLemmas.{no_fault}
 use Rattle.tt_abs.specs.declared.setting.Setting.{Setting as AnySetting}
 use Rattle.tt_abs.specs.declared.state.State.{State}
+use Rattle.tt_abs.specs.Contexts.{FramesFit}
 use Rattle.tt_abs.specs.Entries.{Rises}
 use Rattle.tt_abs.specs.Families.{IsBelowFamily, IsGood}
 use Rattle.tt_abs.specs.FamilyLaws.{none_where_refused}
@@ -22,7 +24,9 @@ use Rattle.tt_abs.specs.States.{state_laws, state_order}
 use Rattle.tt_abs.proofs.FlowOfStates.{state_flow_laws}
 use Rattle.tt_abs.proofs.Soundness.{good_is_safe}
 use Rattle.tt_cert.specs.Checks.{IsWantOfMemory}
-use Rattle.tt_cert.specs.Contents.{Contents, family_of}
+use Rattle.tt_cert.specs.Contents.{Contents, HasContext, family_of, frames_at}
+use Rattle.tt_cert.specs.Puts.{number_at}
+use Rattle.tt_cert.specs.Rising.{IsFinished}
 use Rattle.tt_cert.specs.Fillings.{HasGoodFilling, HasOneGoodFilling, IsFilling}
 use Rattle.tt_cert.specs.GoodFamilies.{EndsWell, IsGoodFamily}
 use Rattle.tt_cert.specs.Spots.{spot_of}
@@ -32,6 +36,7 @@ use Rattle.tt_cert.specs.declared.spot.Spot.{Spot}
 use Rattle.tt_find.specs.Found.{HasLeastFilling, IsJustified, IsLeast, IsNeverEnding, LacksEnd, NamesPlace, NoneIsGood, too_long, refused, apart, too_many, never_ends}
 use Rattle.hintcheck.specs.Programs.{HasGoodFamily, HasLeastFamily, IsCause, IsCutInto, IsRefusal, Subject, no_family, program_at}
 use Rattle.hintcheck.specs.Looks.{IfRefused, IsAccepted, IsLookedAt, told_at}
+use Rattle.tt_cert_file.specs.Rules.{AreCallsInTurn}
 use Rattle.tt_cert_file.specs.declared.name.Name.{Name}
 use Rattle.hintcheck.specs.declared.report.Refused.{Refused as AnyRefused}
 
@@ -225,3 +230,9 @@ looked_at x s is cut main setting start = record {
   setting = ap x.setting main ∙ sym setting;
   functions = sym start;
 }
+
+-- the calls of each context that was found are in their turns, and no body runs twice in them
+pub calls_in_turn : (v : Contents) → IsFinished v → ((frames : List Frame) → HasContext v.contexts frames → FramesFit frames) → AreCallsInTurn v.contexts
+calls_in_turn v finished calls number lt =
+    let at = number_at v number finished.0 lt in
+    calls (frames_at v.contexts number) (omega arith)

@@ -1,5 +1,5 @@
 -- The text of a font's certificate: a header, and the section of each program, in their order.
-use Rattle.std.specs.Prelude.{◌≡◌, ℕ, ◌+◌, List, [], ◌∷◌, ◌++◌, Option, Some, length}
+use Rattle.std.specs.Prelude.{◌≡◌, ℕ, ◌+◌, List, [], ◌∷◌, ◌++◌, Ok, Option, Some, length}
 use Rattle.std.specs.Io.KnownBytes.{Appends}
 use Rattle.tt_code.specs.Cut.{Instruction, size}
 use Rattle.tt_code.specs.Fonts.{Font}
@@ -7,11 +7,14 @@ use Rattle.tt_abs.specs.declared.state.State.{State}
 use Rattle.tt_cert.specs.Contents.{Contents, family_of}
 use Rattle.tt_cert.specs.Rising.{IsFinished}
 use Rattle.tt_cert_file.specs.declared.form.Form.{Form}
+use Rattle.tt_cert_file.specs.declared.form.Form.TheVariants.{Four}
 use Rattle.tt_cert_file.specs.declared.name.Name.{Name}
+use Rattle.tt_cert_file.specs.Rules.{Fits}
 use Rattle.tt_cert_file.specs.Sections.{section_of}
 use Rattle.tt_cert_file.specs.Text.{header_text, section_text}
 use Rattle.tt_find.specs.Found.{NeedsAll}
 use Rattle.tt_font.specs.Reading.{FontData, GlyphData}
+use Rattle.hintcheck.specs.Certificates.{IsChecked}
 use Rattle.hintcheck.specs.FontPrograms.{cvt_subject, font_of, font_subject, glyph_subject}
 use Rattle.hintcheck.specs.Looks.{IsAccepted}
 use Rattle.hintcheck.specs.Programs.{Subject}
@@ -69,6 +72,14 @@ IsLeastListing x instructions family = IsAccepted x instructions (family_of fami
 -- a certificate with the least families
 abbrev pub IsLeastCertificate : Form → FontData → List ℕ → Type 0
 IsLeastCertificate form d bytes = IsCertificate IsLeastListing form d bytes
+
+-- a certificate with the least families, by which the check of the font refuses nothing
+abbrev pub IsPassingCertificate : FontData → List ℕ → Type 0
+IsPassingCertificate d bytes = IsLeastCertificate Four d bytes × IsChecked d bytes (Ok [])
+
+-- such a family, whose section keeps the rules by which it is read (Representation: no public clause cites it.)
+abbrev pub IsReadableListing : Subject → List Instruction → Contents → Type 0
+IsReadableListing x instructions family = IsLeastListing x instructions family × Fits Four (section_of x.name family)
 
 -- such a text is appended
 abbrev pub WritesText : Option (List ℕ) → Option (List ℕ) → (List ℕ → Type 0) → Type 0

@@ -367,6 +367,9 @@ pub fn check_font<S: Source>(
     ensures exact { IsTold (S.remaining source.old) → Finds result
         (λ v. (d : FontData) × Reads font.now d × AnswersFinding d (bytes_in (S.remaining source.old)) v)
         (λ place. (d : FontData) × Reads font.now d × IsChecked d (bytes_in (S.remaining source.old)) (Err place)) }
+    // Where the check of the font by the bytes refuses nothing, no program is refused and the form isn't at fault: `find_font` writes such bytes.
+    ensures accepts { IsTold (S.remaining source.old) → (d : FontData) → Reads font.now d
+        → IsChecked d (bytes_in (S.remaining source.old)) (Ok []) → Finds result (λ v. v.refused ≡ []) (λ _. ⊥) }
     ensures failures { CountsCheck result (S.failures source.old) (S.failures source.new) }
 {
     let read = read_font(alloc, font)?;

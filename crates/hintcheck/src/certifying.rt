@@ -9,7 +9,7 @@ ghost use Rattle.tt_font.specs.GlyphParts.{glyph_data};
 ghost use Rattle.tt_font.specs.Reading.{FontData, Reads};
 ghost use Rattle.tt_cert_file.specs.declared.form.Form.{Form};
 ghost use Rattle.hintcheck.specs.CertificateFaults.{CountsFind, WritesNothing};
-ghost use Rattle.hintcheck.specs.CertificateTexts.{AreGlyphTexts, IsEndedText, IsGlyphText, IsLeastCertificate, IsLeastListing, WritesText};
+ghost use Rattle.hintcheck.specs.CertificateTexts.{AreGlyphTexts, IsEndedText, IsGlyphText, IsPassingCertificate, IsReadableListing, WritesText};
 ghost use Rattle.hintcheck.specs.FontLooks.{ComesToEnd, IsFontInRange, IsKnownAtEnd, IsOfSubject, font_in, subject_in};
 ghost use Rattle.hintcheck.specs.FontPrograms.{IsSafeFont, IsVerdict, cvt_subject, font_subject};
 ghost use Rattle.hintcheck.specs.Looks.{IsLookedAt};
@@ -89,7 +89,7 @@ fn write_ended<W: Sink>(
     requires fits { FunctionsFit (setting_of setting.now) setting.now.start.now }
     ensures known { (x : Subject) → IsLookedAt x setting.now → IfOk result (λ functions. IsKnownAtEnd x setting.now.main.now functions.items) }
     ensures written { (x : Subject) → IsLookedAt x setting.now → x.name ≡ name → IfOk result (λ functions. WritesText (W.contents sink.old) (W.contents sink.new)
-        (λ text. IsEndedText IsLeastListing Form.Four x setting.now.main.now text functions.items)) }
+        (λ text. IsEndedText IsReadableListing Form.Four x setting.now.main.now text functions.items)) }
     ensures failures { CountsFind result (W.failures sink.old) (W.failures sink.new) }
 {
     let Ok(certificate) = certified(alloc, setting) else {
@@ -112,7 +112,7 @@ fn write_font_program<'a, W: Sink>(
     requires { IsFontInRange font.now }
     ensures known { IfOk result (λ fpgm. IsKnownAtEnd (font_subject font.now) fpgm.program fpgm.functions.items) }
     ensures written { IfOk result (λ fpgm. WritesText (W.contents sink.old) (W.contents sink.new)
-        (λ text. IsEndedText IsLeastListing Form.Four (font_subject font.now) fpgm.program text fpgm.functions.items)) }
+        (λ text. IsEndedText IsReadableListing Form.Four (font_subject font.now) fpgm.program text fpgm.functions.items)) }
     ensures failures { CountsFind result (W.failures sink.old) (W.failures sink.new) }
 {
     let Ok(program) = cut(alloc, font.fpgm()) else {
@@ -134,7 +134,7 @@ fn write_cvt_program<'a, W: Sink>(
     requires ended { IsKnownAtEnd (font_subject font.now) fpgm.now.program fpgm.now.functions.items }
     ensures known { IfOk result (λ prep. IsKnownAtEnd (cvt_subject font.now fpgm.now.program fpgm.now.functions.items) prep.program prep.functions.items) }
     ensures written { IfOk result (λ prep. WritesText (W.contents sink.old) (W.contents sink.new)
-        (λ text. IsEndedText IsLeastListing Form.Four (cvt_subject font.now fpgm.now.program fpgm.now.functions.items) prep.program text prep.functions.items)) }
+        (λ text. IsEndedText IsReadableListing Form.Four (cvt_subject font.now fpgm.now.program fpgm.now.functions.items) prep.program text prep.functions.items)) }
     ensures failures { CountsFind result (W.failures sink.old) (W.failures sink.new) }
 {
     let Ok(program) = cut(alloc, font.prep()) else {
@@ -157,7 +157,7 @@ fn write_glyph_program<W: Sink>(
     requires rises { Rises common.now.functions.now }
     requires fits { FunctionsFit (font_setting (font_in common.now)) common.now.functions.now }
     ensures written { (id : ℕ) → name ≡ Name.Glyph id → OnOk result (WritesText (W.contents sink.old) (W.contents sink.new)
-        (IsGlyphText IsLeastListing Form.Four (subject_in common.now id (glyph_data glyph.now)))) }
+        (IsGlyphText IsReadableListing Form.Four (subject_in common.now id (glyph_data glyph.now)))) }
     ensures failures { CountsFind result (W.failures sink.old) (W.failures sink.new) }
 {
     let Ok(program) = cut(alloc, glyph.program) else {
@@ -185,7 +185,7 @@ fn write_glyph_programs<W: Sink>(
     requires rises { Rises common.now.functions.now }
     requires fits { FunctionsFit (font_setting (font_in common.now)) common.now.functions.now }
     ensures written { OnOk result (WritesText (W.contents sink.old) (W.contents sink.new)
-        (AreGlyphTexts IsLeastListing Form.Four (font_in common.now) common.now.functions.now 0 font.now.glyphs)) }
+        (AreGlyphTexts IsReadableListing Form.Four (font_in common.now) common.now.functions.now 0 font.now.glyphs)) }
     ensures failures { CountsFind result (W.failures sink.old) (W.failures sink.new) }
 {
     for id in 0..font.glyph_count() {
@@ -202,7 +202,7 @@ fn write_certificate<W: Sink>(
     sink: &mut W,
 ) -> Result<(), FindFontFault>
     requires { IsFontInRange font.now }
-    ensures written { OnOk result (WritesText (W.contents sink.old) (W.contents sink.new) (IsLeastCertificate Form.Four font.now)) }
+    ensures written { OnOk result (WritesText (W.contents sink.old) (W.contents sink.new) (IsPassingCertificate font.now)) }
     ensures failures { CountsFind result (W.failures sink.old) (W.failures sink.new) }
 {
     write_header(u32::from(font.glyph_count()) + 2, sink)?;
@@ -223,7 +223,7 @@ pub(crate) fn find_programs<W: Sink>(
 ) -> Result<Verdict, FindFontFault>
     requires { IsFontInRange font.now }
     ensures exact { IfOk result (λ v. IsVerdict font.now v) }
-    ensures written { IfOk result (λ v. v.refused ≡ [] → WritesText (W.contents sink.old) (W.contents sink.new) (IsLeastCertificate Form.Four font.now)) }
+    ensures written { IfOk result (λ v. v.refused ≡ [] → WritesText (W.contents sink.old) (W.contents sink.new) (IsPassingCertificate font.now)) }
     ensures unwritten { IfOk result (λ v. WritesNothing (W.contents sink.old) (W.contents sink.new) v) }
     ensures failures { CountsFind result (W.failures sink.old) (W.failures sink.new) }
 {
@@ -246,9 +246,9 @@ pub fn find_font<W: Sink>(
     sink: &mut W,
 ) -> Result<Verdict, FindFontFault>
     ensures exact { IfOk result (λ v. (d : FontData) × Reads font.now d × IsVerdict d v × (v.refused ≡ [] → IsSafeFont d)) }
-    // Where no program is refused, what is appended is the certificate of the least families.
+    // Where no program is refused, what is appended is the certificate of the least families, and the check of the font by it refuses nothing.
     ensures written { IfOk result (λ v. v.refused ≡ []
-        → (d : FontData) × Reads font.now d × WritesText (W.contents sink.old) (W.contents sink.new) (IsLeastCertificate Form.Four d)) }
+        → (d : FontData) × Reads font.now d × WritesText (W.contents sink.old) (W.contents sink.new) (IsPassingCertificate d)) }
     ensures unwritten { IfOk result (λ v. WritesNothing (W.contents sink.old) (W.contents sink.new) v) }
     ensures failures { CountsFind result (W.failures sink.old) (W.failures sink.new) }
 {

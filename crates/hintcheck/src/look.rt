@@ -10,6 +10,7 @@ ghost use Rattle.tt_abs.specs.StateFlow.{FunctionsFit};
 ghost use Rattle.tt_cert.specs.Checks.{IsWantOfMemory};
 ghost use Rattle.tt_cert.specs.Contents.{Contents, family_of};
 ghost use Rattle.tt_cert.specs.Fillings.{HasGoodFilling};
+ghost use Rattle.tt_cert_file.specs.Rules.{AreCallsInTurn};
 ghost use Rattle.tt_cert_file.specs.declared.form.Form.{Form};
 ghost use Rattle.tt_find.specs.Found.{NeedsAll};
 ghost use Rattle.hintcheck.specs.CheckedFonts.{IsRefusedBy};
@@ -150,10 +151,12 @@ pub(crate) fn certified(alloc: Global, setting: &Setting<'_>) -> Result<Certific
     requires fits { FunctionsFit (setting_of setting.now) setting.now.start.now }
     ensures accepted { (x : Subject) → IsLookedAt x setting.now → IfOk result (λ certificate. IsAccepted x setting.now.main.now (family_of certificate)) }
     ensures needed { IfOk result (λ certificate. NeedsAll (setting_of setting.now) setting.now.start.now (family_of certificate)) }
+    ensures calls { IfOk result (λ certificate. AreCallsInTurn certificate.contexts) }
 {
     setting.is_within();
     one_good_filling();
     let found = find(alloc, setting)?;
+    found.certificate.is_in_order();
     let mut finder = Finder::new(alloc);
     checked(alloc, &mut finder, setting, found.certificate)
 }

@@ -49,7 +49,7 @@ less_from Equal e = cc
 less_from Greater e = cc
 
 -- the last of those before an index is at the one before it
-last_taken : {A : Type 0} (xs : List A) (i : ℕ) (x : A) → slice_get xs i ≡ Some x → last_of (take (i + 1) xs) ≡ Some x
+pub last_taken : {A : Type 0} (xs : List A) (i : ℕ) (x : A) → slice_get xs i ≡ Some x → last_of (take (i + 1) xs) ≡ Some x
 last_taken [] i x at = absurd cc
 last_taken (y ∷ ys) zero x at = at
 last_taken {A} (y ∷ ys) (suc i) x at =

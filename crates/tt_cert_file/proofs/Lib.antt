@@ -11,3 +11,4 @@ pub mod StateLists
 pub mod Building
 pub mod Listed
 pub mod Pushed
+pub mod Fitting

@@ -1,7 +1,8 @@
 -- Texts of values that are put behind one another.
-use Rattle.std.proofs.Common.{◌≡◌, ℕ, ◌+◌, ◌<◌, ◌≤◌, List, [], ◌∷◌, ◌++◌, length, take, Some, sym, ap, ◌∙◌, append_assoc, append-nil, take_all}
-use Rattle.std.specs.Prelude.{slice_get, slice_index_or}
-use Rattle.std.specs.List.{flat_map}
+use Rattle.std.proofs.Common.{◌≡◌, ℕ, ℤ, ◌+◌, ◌^◌, ◌<◌, ◌≤◌, List, [], ◌∷◌, ◌++◌, length, take, Some, sym, ap, subst, ◌∙◌, append_assoc, append-nil, take_all}
+use Rattle.std.specs.Prelude.{FitsSigned, slice_get, slice_index_or}
+use Rattle.std.specs.Int.{w32}
+use Rattle.std.specs.List.{AllByRecursion, flat_map}
 use Rattle.std.proofs.lemmas.Grind.{flat_map-append}
 use Rattle.std.proofs.lemmas.List.{take_more}
 use Rattle.std.proofs.lemmas.Option.{slice_get-get_or, slice_get_within}
@@ -41,3 +42,19 @@ all_written {A} spell old head now xs k le before = before ∙ ap (λ (l : List 
 -- at a default
 pub at_default : {A : Type 0} (xs : List A) (k : ℕ) (d : A) → k < length xs → slice_get xs k ≡ Some (slice_index_or xs k d)
 at_default xs k d lt = slice_get-get_or xs k d lt
+
+-- the numbers of a storage cell
+abbrev pub StoredPairFits : ℕ × ℤ → Type 0
+StoredPairFits e = (e.0 < 2 ^ 16) × FitsSigned w32 e.1
+
+-- one more of which it holds
+
+pub all_more : {A : Type 0} (P : A → Type 0) (xs : List A) (x : A) → AllByRecursion P xs → P x → AllByRecursion P (xs ++ x ∷ [])
+all_more P [] x all one = (one, tt)
+all_more P (y ∷ ys) x all one = (all.0, all_more P ys x all.1 one)
+
+pub all_next : {A : Type 0} (P : A → Type 0) (xs : List A) (k : ℕ) (x : A) → slice_get xs k ≡ Some x → AllByRecursion P (take k xs) → P x → AllByRecursion P (take (k + 1) xs)
+all_next {A} P xs k x at all one = subst (λ (l : List A). AllByRecursion P l) (sym (taken_more xs k x at)) (all_more P (take k xs) x all one)
+
+pub all_taken : {A : Type 0} (P : A → Type 0) (xs : List A) (k : ℕ) → length xs ≤ k → AllByRecursion P (take k xs) → AllByRecursion P xs
+all_taken {A} P xs k le all = subst (λ (l : List A). AllByRecursion P l) (take_all k xs le) all

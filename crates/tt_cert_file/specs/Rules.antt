@@ -6,6 +6,7 @@ use Rattle.std.specs.Option.{option_map_or}
 use Rattle.std.specs.Ordering.{is_lt}
 use Rattle.tt_code.specs.declared.machine.Frame.{Frame}
 use Rattle.tt_abs.specs.Cells.{Cells}
+use Rattle.tt_abs.specs.Contexts.{FramesFit}
 use Rattle.tt_abs.specs.declared.cells.Cell.{Cell}
 use Rattle.tt_abs.specs.declared.cells.Cell.TheVariants.{Known, Unknown}
 use Rattle.tt_abs.specs.declared.state.State.{State}
@@ -135,3 +136,15 @@ pub record Fits (form : Form) (s : Section) : Type 0 where
   pub contexts : EachAfter ContextFits [] s.contexts
   pub few_states : length s.states < 2 ^ 32
   pub states : EachAfter (EntryFits form (length s.contexts + 1)) [] s.states
+
+-- the calls of each context of a family are in their turns, and no body runs twice in them
+abbrev pub AreCallsInTurn : List (List Frame) → Type 0
+AreCallsInTurn contexts = (number : ℕ) → number < length contexts → FramesFit (frames_at contexts number)
+
+-- the numbers of the last call have their bits (Representation: no public clause cites it.)
+abbrev pub CallFits : Context → Type 0
+CallFits c = (c.1.call < 2 ^ 32) × (c.1.body < 2 ^ 32)
+
+-- a state in one of so many contexts, at an offset of 32 bits, whose lists fit (Representation: no public clause cites it.)
+abbrev pub HasRoom : ℕ → Entry → Type 0
+HasRoom contexts e = (e.0.0 < contexts) × (e.0.1 < 2 ^ 32) × StateFits Four e.1

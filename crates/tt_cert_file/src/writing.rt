@@ -1,10 +1,17 @@
 //! Sections written to a sink, in form 4.
 
-ghost use Rattle.std.specs.Prelude.{◌≡◌, ◌++◌, length, reverse, IfOk, OnErr, OnOk};
+ghost use Rattle.std.specs.Prelude.{◌≡◌, ◌++◌, ◌<◌, ◌^◌, FitsSigned, length, reverse, IfOk, OnErr, OnOk};
+ghost use Rattle.std.specs.Int.{w32};
 ghost use Rattle.std.specs.Io.KnownBytes.{Appends};
-ghost use Rattle.std.specs.List.{flat_map};
+ghost use Rattle.std.specs.List.{AllByRecursion, flat_map};
+ghost use Rattle.std.specs.List.Sorted.{IsStrictlySortedBy};
+ghost use Rattle.std.specs.Map.{keys_of};
+ghost use Rattle.tt_abs.specs.States.{state_order};
+ghost use Rattle.tt_cert.specs.Places.{place_cmp};
+ghost use Rattle.tt_cert.specs.Rising.{IsFinished};
 ghost use Rattle.tt_stream.specs.Streams.{AppendsBeginning};
 ghost use Rattle.tt_cert_file.specs.Answers.{CountsWrite};
+ghost use Rattle.tt_cert_file.specs.Rules.{AreCallsInTurn, CallFits, Fits, HasRoom, NameFits, StateFits};
 ghost use Rattle.tt_cert_file.specs.Sections.{contexts_in, section_of};
 ghost use Rattle.tt_cert_file.specs.Text.{cell_text, context_text, counted, graphics_text, long, name_text, pair_text, section_text, state_text, stored_text, word, zone_text};
 
@@ -20,7 +27,8 @@ use tt_stream::{Sink, write_all};
 
 /// The kind of a program, and its glyph.
 fn push_name(out: &mut Vec<u8>, name: Name) -> Result<(), AllocError>
-    ensures { OnOk result (out.new.items ≡ out.old.items ++ name_text name) }
+    ensures written { OnOk result (out.new.items ≡ out.old.items ++ name_text name) }
+    ensures fits { NameFits name }
 {
     let (kind, glyph) = match name {
         Name::Font => (0, 0u16),
@@ -32,19 +40,22 @@ fn push_name(out: &mut Vec<u8>, name: Name) -> Result<(), AllocError>
 }
 
 fn push_word(out: &mut Vec<u8>, number: u16) -> Result<(), AllocError>
-    ensures { OnOk result (out.new.items ≡ out.old.items ++ word number) }
+    ensures written { OnOk result (out.new.items ≡ out.old.items ++ word number) }
+    ensures fits { number < 2 ^ 16 }
 {
     out.extend_from_slice(&number.to_be_bytes())
 }
 
 fn push_long(out: &mut Vec<u8>, number: u32) -> Result<(), AllocError>
-    ensures { OnOk result (out.new.items ≡ out.old.items ++ long number) }
+    ensures written { OnOk result (out.new.items ≡ out.old.items ++ long number) }
+    ensures fits { number < 2 ^ 32 }
 {
     out.extend_from_slice(&number.to_be_bytes())
 }
 
 fn push_pair(out: &mut Vec<u8>, pair: (u16, u32)) -> Result<(), AllocError>
-    ensures { OnOk result (out.new.items ≡ out.old.items ++ pair_text pair) }
+    ensures written { OnOk result (out.new.items ≡ out.old.items ++ pair_text pair) }
+    ensures fits { OnOk result ((pair.0 < 2 ^ 16) × (pair.1 < 2 ^ 32)) }
 {
     push_word(out, pair.0)?;
     push_long(out, pair.1)
@@ -79,7 +90,8 @@ fn push_zone(out: &mut Vec<u8>, zone: ZoneCell) -> Result<(), AllocError>
 
 /// How many values a list has. A list of 65,536 or more has no section: that it doesn't fit is told as want of memory.
 fn push_count(out: &mut Vec<u8>, count: usize) -> Result<(), AllocError>
-    ensures { OnOk result (out.new.items ≡ out.old.items ++ word count) }
+    ensures written { OnOk result (out.new.items ≡ out.old.items ++ word count) }
+    ensures few { OnOk result (count < 2 ^ 16) }
 {
     let Ok(count) = u16::try_from(count) else {
         return Err(AllocError);
@@ -89,7 +101,8 @@ fn push_count(out: &mut Vec<u8>, count: usize) -> Result<(), AllocError>
 
 /// The stack's cells after their number, from the bottom up.
 fn push_stack(out: &mut Vec<u8>, state: &State) -> Result<(), AllocError>
-    ensures { OnOk result (out.new.items ≡ out.old.items ++ counted cell_text (reverse state.now.stack)) }
+    ensures written { OnOk result (out.new.items ≡ out.old.items ++ counted cell_text (reverse state.now.stack)) }
+    ensures few { OnOk result (length state.now.stack < 2 ^ 16) }
 {
     push_count(out, state.depth())?;
     for place in 0..state.depth() {
@@ -114,7 +127,9 @@ fn push_graphics(out: &mut Vec<u8>, state: &State) -> Result<(), AllocError>
 
 /// The functions after their number.
 fn push_functions(out: &mut Vec<u8>, functions: &[(u16, u32)]) -> Result<(), AllocError>
-    ensures { OnOk result (out.new.items ≡ out.old.items ++ counted pair_text functions.now) }
+    ensures written { OnOk result (out.new.items ≡ out.old.items ++ counted pair_text functions.now) }
+    ensures few { OnOk result (length functions.now < 2 ^ 16) }
+    ensures numbers { OnOk result (AllByRecursion (λ e. (e.0 < 2 ^ 16) × (e.1 < 2 ^ 32)) functions.now) }
 {
     push_count(out, functions.len())?;
     for function in functions {
@@ -125,7 +140,8 @@ fn push_functions(out: &mut Vec<u8>, functions: &[(u16, u32)]) -> Result<(), All
 
 /// A storage cell's index with its number.
 fn push_stored(out: &mut Vec<u8>, stored: (u16, i32)) -> Result<(), AllocError>
-    ensures { OnOk result (out.new.items ≡ out.old.items ++ stored_text stored) }
+    ensures written { OnOk result (out.new.items ≡ out.old.items ++ stored_text stored) }
+    ensures fits { OnOk result ((stored.0 < 2 ^ 16) × FitsSigned w32 stored.1) }
 {
     push_word(out, stored.0)?;
     out.extend_from_slice(&stored.1.to_be_bytes())
@@ -133,7 +149,9 @@ fn push_stored(out: &mut Vec<u8>, stored: (u16, i32)) -> Result<(), AllocError>
 
 /// The storage cells after their number.
 fn push_storage(out: &mut Vec<u8>, cells: &[(u16, i32)]) -> Result<(), AllocError>
-    ensures { OnOk result (out.new.items ≡ out.old.items ++ counted stored_text cells.now) }
+    ensures written { OnOk result (out.new.items ≡ out.old.items ++ counted stored_text cells.now) }
+    ensures few { OnOk result (length cells.now < 2 ^ 16) }
+    ensures numbers { OnOk result (AllByRecursion (λ e. (e.0 < 2 ^ 16) × FitsSigned w32 e.1) cells.now) }
 {
     push_count(out, cells.len())?;
     for cell in cells {
@@ -144,7 +162,9 @@ fn push_storage(out: &mut Vec<u8>, cells: &[(u16, i32)]) -> Result<(), AllocErro
 
 /// A state with its context and offset.
 fn push_state(out: &mut Vec<u8>, point: (u16, u32), state: &State) -> Result<(), AllocError>
-    ensures { OnOk result (out.new.items ≡ out.old.items ++ state_text Form.Four (point, state.now)) }
+    ensures written { OnOk result (out.new.items ≡ out.old.items ++ state_text Form.Four (point, state.now)) }
+    ensures offset { OnOk result (point.1 < 2 ^ 32) }
+    ensures fits { OnOk result (state_order.InRange state.now → StateFits Form.Four state.now) }
 {
     push_pair(out, point)?;
     push_stack(out, state)?;
@@ -155,7 +175,8 @@ fn push_state(out: &mut Vec<u8>, point: (u16, u32), state: &State) -> Result<(),
 
 /// A context: its parent's number, and its last call.
 fn push_context(out: &mut Vec<u8>, parent: u16, frame: &Frame) -> Result<(), AllocError>
-    ensures { OnOk result (out.new.items ≡ out.old.items ++ context_text (parent, frame.now)) }
+    ensures written { OnOk result (out.new.items ≡ out.old.items ++ context_text (parent, frame.now)) }
+    ensures numbers { OnOk result (CallFits (parent, frame.now)) }
 {
     push_word(out, parent)?;
     push_long(out, frame.call)?;
@@ -166,7 +187,9 @@ fn push_context(out: &mut Vec<u8>, parent: u16, frame: &Frame) -> Result<(), All
 
 /// The contexts but the main one, after their number.
 fn push_contexts(out: &mut Vec<u8>, certificate: &Certificate) -> Result<(), AllocError>
-    ensures { OnOk result (out.new.items ≡ out.old.items ++ counted context_text (contexts_in certificate.now.contexts)) }
+    ensures written { OnOk result (out.new.items ≡ out.old.items ++ counted context_text (contexts_in certificate.now.contexts)) }
+    ensures numbers { OnOk result (AllByRecursion CallFits (contexts_in certificate.now.contexts)) }
+    ensures finished { IsFinished certificate.now }
 {
     let count = certificate.contexts() - 1;
     push_word(out, count as u16)?;
@@ -179,7 +202,9 @@ fn push_contexts(out: &mut Vec<u8>, certificate: &Certificate) -> Result<(), All
 
 /// The states after their number.
 fn push_states(out: &mut Vec<u8>, certificate: &Certificate) -> Result<(), AllocError>
-    ensures { OnOk result (out.new.items ≡ out.old.items ++ (long (length certificate.now.states) ++ flat_map (state_text Form.Four) certificate.now.states)) }
+    ensures written { OnOk result (out.new.items ≡ out.old.items ++ (long (length certificate.now.states) ++ flat_map (state_text Form.Four) certificate.now.states)) }
+    ensures room { OnOk result (AllByRecursion (HasRoom (length certificate.now.contexts)) certificate.now.states) }
+    ensures rises { OnOk result (IsStrictlySortedBy place_cmp (keys_of certificate.now.states)) }
 {
     push_long(out, certificate.points())?;
     let mut states = certificate.states();
@@ -195,7 +220,9 @@ fn section_bytes(
     name: Name,
     certificate: &Certificate,
 ) -> Result<Vec<u8>, AllocError>
-    ensures { IfOk result (λ bytes. bytes.items ≡ section_text Form.Four (section_of name certificate.now)) }
+    ensures text { IfOk result (λ bytes. bytes.items ≡ section_text Form.Four (section_of name certificate.now)) }
+    ensures fits { OnOk result (AreCallsInTurn certificate.now.contexts
+        → Fits Form.Four (section_of name certificate.now)) }
 {
     let mut out = Vec::new(alloc);
     push_name(&mut out, name)?;
@@ -216,6 +243,9 @@ pub fn encode<W: Sink>(
     sink: &mut W,
 ) -> Result<(), EncodeFault>
     ensures written { OnOk result (Appends (W.contents sink.old) (W.contents sink.new) (section_text Form.Four (section_of name certificate.now))) }
+    // The section keeps the rules by which it is read, where each context's calls are in their turns and no body runs twice in them.
+    ensures fits { OnOk result (AreCallsInTurn certificate.now.contexts
+        → Fits Form.Four (section_of name certificate.now)) }
     ensures beginning { OnErr result (AppendsBeginning (W.contents sink.old) (W.contents sink.new) (section_text Form.Four (section_of name certificate.now))) }
     ensures failures { CountsWrite result (W.failures sink.old) (W.failures sink.new) }
 {

@@ -1,6 +1,5 @@
 use Rattle.std.proofs.Common.{◌≡◌, [], sym, ◌∙◌, ap, subst}
-use Rattle.tt_cert_file.specs.declared.form.Form.TheVariants.{Four}
-use Rattle.hintcheck.specs.CertificateTexts.{IsLeastCertificate, WritesText}
+use Rattle.hintcheck.specs.CertificateTexts.{IsPassingCertificate, WritesText}
 use Rattle.hintcheck.specs.Verdicts.{Judgement}
 use Rattle.hintcheck.proofs.CertificateWriting.{told_empty}
 use Rattle.hintcheck.proofs.certifying.find_programs.Goals as goal
@@ -9,7 +8,7 @@ use Rattle.hintcheck.proofs.certifying.find_programs.Goals.{then-is_empty+in_ok-
 pub returns-clause-written : goal.returns-clause-written
 returns-clause-written g c = λ none.
     let empty : c.in_ok-refused.refused.items ≡ [] = sym (ap (λ (v : Judgement). v.refused) c.new.ensures) ∙ none in
-    let W : g.row.W.Denot → Type 0 = λ sink. WritesText (g.W.Sink.contents c.args.sink.now) (g.W.Sink.contents sink) (IsLeastCertificate Four c.args.font.now) in
+    let W : g.row.W.Denot → Type 0 = λ sink. WritesText (g.W.Sink.contents c.args.sink.now) (g.W.Sink.contents sink) (IsPassingCertificate c.args.font.now) in
     elim c.if-is_empty.branch [
       | then-is_empty+in_ok-write_certificate w ↦ subst W (sym w.sink-is) w.in_ok-write_certificate.ensures.written
       | else-is_empty w ↦ absurd (told_empty c.in_ok-refused.refused.items c.in_ok-refused.refused.len (sym c.in_ok-refused.refused.ok.0) empty w.if-is_empty.ensures)

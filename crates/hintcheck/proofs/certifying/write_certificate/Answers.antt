@@ -1,4 +1,4 @@
-use Rattle.std.proofs.Common.{ℕ, ◌+◌, List, sym, ap, subst, ◌∙◌}
+use Rattle.std.proofs.Common.{ℕ, ◌+◌, List, arith, sym, ap, subst, ◌∙◌}
 use Rattle.tt_abs.specs.StateFlow.{FunctionsFit}
 use Rattle.tt_code.specs.Fonts.{Font, font_setting}
 use Rattle.hintcheck.specs.FontPrograms.{font_of}
@@ -17,7 +17,7 @@ returns-clause-written g c =
     (λ glyphs.
     certificate_written c.args.font.now common (c.from.result + 2) f.program p.program f.functions.items p.functions.items (at c.args.sink.now) (at c.write_header.new.sink)
     (at c.write_font_program.new.sink) (at c.write_cvt_program.new.sink) (at c.write_glyph_programs.new.sink) c.in_ok-write_header.ensures.written
-    (ap (λ n. n + 2) (c.from.ensures ∙ c.glyph_count.ensures)) c.in_ok-fpgm.ensures.written c.in_ok-prep.ensures.written
+    (ap (λ n. n + 2) (c.from.ensures ∙ c.glyph_count.ensures)) (omega arith) c.in_ok-fpgm.ensures.written c.in_ok-prep.ensures.written
     glyphs c.cvt_setting.ensures.programs c.deref.ensures.value)
     c.write_glyph_programs.ensures.written
 

@@ -12,7 +12,7 @@ returns-clause-known g c = λ x looked.
 pub returns-clause-written : goal.returns-clause-written
 returns-clause-written g c = λ x looked called.
     ended_written x c.args.setting.now c.args.name c.in-Ok.certificate (g.W.Sink.contents c.args.sink.now) (g.W.Sink.contents c.encode.new.sink) c.len.result c.end_functions.result
-    c.unwrap-functions.result c.in_ok-copy.copy.items looked called (c.in-Ok.ensures.accepted x looked) c.in-Ok.ensures.needed c.is_in_order.ensures c.len.ensures.value
+    c.unwrap-functions.result c.in_ok-copy.copy.items looked called (c.in-Ok.ensures.accepted x looked) c.in-Ok.ensures.needed c.is_in_order.ensures (c.in_ok-encode.ensures.fits c.in-Ok.ensures.calls) c.len.ensures.value
     c.end_functions.ensures.some c.unwrap-functions.ensures c.in_ok-copy.ensures.items c.in_ok-encode.ensures.written
 
 pub unwrap-functions-requires : goal.unwrap-functions-requires

@@ -1,6 +1,6 @@
 use Rattle.std.proofs.Common.{List, refl, sym, subst}
 use Rattle.tt_cert_file.specs.declared.form.Form.TheVariants.{Four}
-use Rattle.hintcheck.specs.CertificateTexts.{IsEndedText, IsLeastListing, WritesText}
+use Rattle.hintcheck.specs.CertificateTexts.{IsEndedText, IsReadableListing, WritesText}
 use Rattle.tt_code.specs.Cut.{Instruction}
 use Rattle.hintcheck.specs.FontLooks.{IsKnownAtEnd}
 use Rattle.hintcheck.specs.FontPrograms.{font_subject}
@@ -30,7 +30,7 @@ returns-clause-written g c =
     let x = font_subject c.args.font.now in
     let s = c.for_font_program-setting in
     let W : List Instruction → Type 0 = λ is.
-    WritesText (g.W.Sink.contents c.args.sink.now) (g.W.Sink.contents c.write_ended.new.sink) (λ text. IsEndedText IsLeastListing Four x is text c.in_ok-functions.functions.items) in
+    WritesText (g.W.Sink.contents c.args.sink.now) (g.W.Sink.contents c.write_ended.new.sink) (λ text. IsEndedText IsReadableListing Four x is text c.in_ok-functions.functions.items) in
     subst W s.ensures.main
     (c.in_ok-functions.ensures.written x (font_looked c.args.font.now s.result c.in-Ok.program c.limits.result c.cvt_count.result
     (c.in-Ok.ensures.cut x (sym c.fpgm.ensures)) s.ensures.setting s.ensures.programs c.limits.ensures c.cvt_count.ensures s.ensures.main s.ensures.start) refl)

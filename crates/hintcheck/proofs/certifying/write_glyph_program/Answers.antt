@@ -11,4 +11,4 @@ returns-clause-written g c = λ id called.
     let s = c.for_glyph_program-setting in
     let looked = looked_at x s.result c.in-Ok.program (c.in-Ok.ensures.cut x refl) s.ensures.main s.ensures.setting s.ensures.start in
     glyph_written x s.result c.args.name c.in-Ok-certified.certificate (g.W.Sink.contents c.args.sink.now) (g.W.Sink.contents c.encode.new.sink) looked (sym called)
-    (c.in-Ok-certified.ensures.accepted x looked) c.in-Ok-certified.ensures.needed c.is_in_order.ensures c.in_ok-encode.ensures.written
+    (c.in-Ok-certified.ensures.accepted x looked) c.in-Ok-certified.ensures.needed c.is_in_order.ensures (c.in_ok-encode.ensures.fits c.in-Ok-certified.ensures.calls) c.in_ok-encode.ensures.written

@@ -1,10 +1,11 @@
 use Rattle.std.proofs.Common.{◌≡◌, ◌+◌, ◌<◌, ◌∷◌, Option, length, subst, arith}
 use Rattle.std.specs.Prelude.{IfSome}
 use Rattle.tt_cert.specs.Contents.{frames_at}
+use Rattle.tt_cert_file.specs.Rules.{CallFits}
 use Rattle.tt_cert_file.specs.Sections.{Context, contexts_in}
 use Rattle.tt_cert_file.specs.Text.{context_text, word}
 use Rattle.tt_cert_file.proofs.Listed.{context_listed}
-use Rattle.tt_cert_file.proofs.Pushed.{next_written}
+use Rattle.tt_cert_file.proofs.Pushed.{all_next, next_written}
 use Rattle.tt_cert_file.proofs.writing.push_contexts.Goals as goal
 
 pub loop-number-preserved : goal.loop-number-preserved
@@ -16,5 +17,8 @@ loop-number-preserved c =
     let there = subst S c.unwrap-parent.ensures c.context.ensures.some in
     let lt = there.0 in
     let before = there.1 in
-    next_written context_text c.args.out.now.items (word (length (contexts_in v.contexts))) c.loop-number.out.items _ (contexts_in v.contexts) at e
-    (context_listed v at e c.contexts-count.ensures.finished.0 lt there.2 (omega arith)) c.loop-number.invariant c.in_ok-push_context.ensures
+    let listed = context_listed v at e c.contexts-count.ensures.finished.0 lt there.2 (omega arith) in (
+      next_written context_text c.args.out.now.items (word (length (contexts_in v.contexts))) c.loop-number.out.items _ (contexts_in v.contexts) at e listed
+          c.loop-number.invariant.0 c.in_ok-push_context.ensures.written,
+      all_next CallFits (contexts_in v.contexts) at e listed c.loop-number.invariant.1 c.in_ok-push_context.ensures.numbers,
+    )

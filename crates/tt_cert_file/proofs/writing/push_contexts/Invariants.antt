@@ -1,4 +1,6 @@
 use Rattle.std.proofs.Common.{length, take}
+use Rattle.std.specs.List.{AllByRecursion}
+use Rattle.tt_cert_file.specs.Rules.{CallFits}
 use Rattle.tt_cert_file.specs.Text.{context_text, word}
 use Rattle.tt_cert_file.specs.Sections.{contexts_in}
 use Rattle.tt_cert_file.proofs.Pushed.{AreWritten}
@@ -6,3 +8,4 @@ use Rattle.tt_cert_file.proofs.writing.push_contexts.Given as goal
 
 abbrev pub invariant-loop-number : goal.invariant-loop-number
 invariant-loop-number l = AreWritten context_text l.fn.out.items (word (length (contexts_in l.certificate.contexts))) (take l.number (contexts_in l.certificate.contexts)) l.out.items
+    × AllByRecursion CallFits (take l.number (contexts_in l.certificate.contexts))
