@@ -1,5 +1,4 @@
-use Rattle.std.proofs.lemmas.Result.{err_from_is_err_and}
-use Rattle.tt_cert_file.proofs.Blocks.{read_refused, read_short, read_whole}
+use Rattle.tt_cert_file.proofs.Blocks.{read_short}
 use Rattle.tt_cert_file.proofs.lists.read_function_block.Goals as goal
 
 pub returns-then-read-wanted-clause-reads : goal.returns-then-read-wanted-clause-reads

@@ -1,4 +1,4 @@
-use Rattle.std.proofs.Common.{ℕ, length}
+use Rattle.std.proofs.Common.{length}
 use Rattle.tt_abs.specs.Entries.{Rises}
 use Rattle.tt_cert_file.specs.Blocks.{IsTaking}
 use Rattle.tt_cert_file.proofs.lists.take_functions.Given as goal
