@@ -13,13 +13,13 @@ use Rattle.tt_cert_file.specs.Readers.{Answer, list_at, place_after, unit}
 use Rattle.tt_cert_file.specs.Reading.{function_at, pair_at, pair_from}
 use Rattle.tt_cert_file.specs.Rules.{is_above, last_of}
 
-unit_whole : (n place : ℕ) (bytes rest : List ℕ) → n ≤ length bytes
+pub unit_whole : (n place : ℕ) (bytes rest : List ℕ) → n ≤ length bytes
     → unit n (input_of place bytes rest) ≡ Ok (take n bytes, input_of (place_after place n) (drop n bytes) rest)
 unit_whole n place bytes rest le =
     let no : ltb (length (bytes ++ rest)) n ≡ false = le-ltb _ _ (omega (arith, length-append bytes rest)) in
     rw (no, take-append-le n bytes rest le, drop-append-le n bytes rest le) refl
 
-unit_short : (n place : ℕ) (bytes : List ℕ) → length bytes < n → unit n (input_of place bytes []) ≡ Err (place_after place (length bytes))
+pub unit_short : (n place : ℕ) (bytes : List ℕ) → length bytes < n → unit n (input_of place bytes []) ≡ Err (place_after place (length bytes))
 unit_short n place bytes lt =
     let yes : ltb (length bytes) n ≡ true = lt-ltb _ _ lt in
     rw (append-nil bytes, yes) refl
@@ -93,7 +93,7 @@ taking_breaks old now place at bytes left unit x taking le unit_is x_is below n 
     let count : n ≡ taking.taken + suc m = omega (arith, taking.long) in
     rw count (taking.reads (suc m) rest ∙ none_more now m at left rest le under)
 
-none_left : (bytes : List ℕ) → length bytes ≡ 0 → bytes ≡ []
+pub none_left : (bytes : List ℕ) → length bytes ≡ 0 → bytes ≡ []
 none_left [] none = refl
 none_left (x ∷ xs) none = absurd (omega (arith, none))
 
@@ -130,7 +130,7 @@ block_breaks (Some xs) None before place count broken bytes breaks few consumed 
 block_breaks (Some xs) (Some ys) before place count broken bytes breaks few consumed known n =
     rw consumed (breaks (count + n) ys (omega (arith, few)))
 
-front_long : (read : ℕ) (buf : List ℕ) → read ≤ length buf → length (take read buf) ≡ read
+pub front_long : (read : ℕ) (buf : List ℕ) → read ≤ length buf → length (take read buf) ≡ read
 front_long read buf le = omega (arith, length-take read buf)
 
 -- the same of a buffer whose front was read

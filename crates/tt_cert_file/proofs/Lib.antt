@@ -4,6 +4,7 @@ pub mod Spelled
 pub mod Decoded
 pub mod Loops
 pub mod Blocks
+pub mod Cells
 pub mod Rises
 pub mod ContextLists
 pub mod Bodies

@@ -1,11 +1,12 @@
--- Functions that are read many at a time. Only the representation of reading: nothing above needs it.
-use Rattle.std.specs.Prelude.{◌≡◌, ℕ, ◌+◌, ◌*◌, ◌<◌, ◌≤◌, true, List, ◌++◌, length, take, Option, is_some, Result, Ok, Err}
+-- Functions and cells that are read many at a time. Only the representation of reading: nothing above needs it.
+use Rattle.std.specs.Prelude.{◌≡◌, ℕ, ◌+◌, ◌-◌, ◌*◌, ◌<◌, ◌≤◌, true, List, [], ◌∷◌, ◌++◌, length, take, drop, Option, is_some, unwrap_or, Result, Ok, Err}
 use Rattle.std.specs.Io.KnownBytes.{Consumes, IsAtEnd}
 use Rattle.tt_cert_file.specs.declared.fault.DecodeFault.{DecodeFault}
 use Rattle.tt_cert_file.specs.declared.fault.DecodeFault.TheVariants as fault
 use Rattle.tt_cert_file.specs.Answers.{Fails, input_at}
-use Rattle.tt_cert_file.specs.Readers.{Input, list_at, place_after}
-use Rattle.tt_cert_file.specs.Reading.{function_at}
+use Rattle.tt_abs.specs.declared.cells.Cell.{Cell}
+use Rattle.tt_cert_file.specs.Readers.{Answer, Input, list_at, place_after}
+use Rattle.tt_cert_file.specs.Reading.{cell_at, function_at}
 
 -- these bytes at a place, and then others
 abbrev pub input_of : ℕ → List ℕ → List ℕ → Input
@@ -48,3 +49,64 @@ abbrev pub ReadsBlock : Result ℕ DecodeFault → Option (List ℕ) → Option 
 ReadsBlock (Ok after) old new before now place count = is_some old ≡ true → (is_some new ≡ true)
     × ((n : ℕ) → list_at function_at before (count + n) (input_at place old) ≡ list_at function_at now n (input_at after new))
 ReadsBlock (Err e) old new before now place count = is_some old ≡ true → (n : ℕ) → Fails e (list_at function_at before (count + n) (input_at place old))
+
+-- the buffer was read full after what it held, or to the input's end
+pub record FillsRest (old new : Option (List ℕ)) (held read : ℕ) (before buf : List ℕ) : Type 0 where
+  pub long : length buf ≡ length before
+  pub few : held + read ≤ length buf
+  pub held_is : take held buf ≡ take held before
+  pub consumed : Consumes old new (take read (drop held buf))
+  pub at_end : held + read < length buf → IsAtEnd new
+
+-- so many cells, after those before them
+abbrev pub cells_at : List Cell → ℕ → Input → Answer (List Cell)
+cells_at before n i = list_at (λ _. cell_at) before n i
+
+-- So many cells were taken from the front of the bytes, each of a byte at least, after the old ones, and these bytes are left: the rest of a list
+-- is read from there on.
+pub record IsTakingCells (old now : List Cell) (place at : ℕ) (bytes left : List ℕ) : Type 0 where
+  pub taken : ℕ
+  pub grown : length now ≡ length old + taken
+  pub few : taken + length left ≤ length bytes
+  pub some : length left < length bytes → 0 < taken
+  pub at_is : at ≡ place_after place (length bytes - length left)
+  pub reads : (n : ℕ) (rest : List ℕ) → cells_at old (taken + n) (input_of place bytes rest) ≡ cells_at now n (input_of at left rest)
+
+-- the bytes are the tag of a known cell and a part of its number
+pub record IsBegun (left : List ℕ) : Type 0 where
+  pub number : List ℕ
+  pub left_is : left ≡ 1 ∷ number
+  pub short : length number < 4
+
+-- all cells that are whole were taken; so many bytes are left
+pub record AreCellsTaken (over : ℕ) (old new : List Cell) (place : ℕ) (bytes : List ℕ) : Type 0 where
+  pub at : ℕ
+  pub left : List ℕ
+  pub over_is : over ≡ length left
+  pub suffix : left ≡ drop (length bytes - over) bytes
+  pub begun : 0 < over → IsBegun left
+  pub taking : IsTakingCells old new place at bytes left
+
+-- what comes of taking the cells of these bytes; want of memory says nothing, and no read fails
+abbrev pub TakesCells : Result ℕ DecodeFault → List Cell → List Cell → ℕ → List ℕ → Type 0
+TakesCells (Ok over) old new place bytes = AreCellsTaken over old new place bytes
+TakesCells (Err (fault.Form broken)) old new place bytes =
+    (n : ℕ) (rest : List ℕ) → length bytes ≤ n → cells_at old n (input_of place bytes rest) ≡ Err broken
+TakesCells (Err fault.Read) old new place bytes = ⊥
+TakesCells (Err (fault.OutOfMemory error)) old new place bytes = Unit {0}
+
+-- the input from a known cell on, whose tag and these bytes of its number were read
+abbrev pub input_begun : ℕ → List ℕ → Option (List ℕ) → Input
+input_begun place number known = record { place = place; bytes = 1 ∷ (number ++ unwrap_or known []) }
+
+-- One more cell was read, which was begun; the rest of the list is read from there on.
+abbrev pub ReadsRest : Result ℕ DecodeFault → Option (List ℕ) → Option (List ℕ) → List ℕ → List Cell → List Cell → ℕ → Type 0
+ReadsRest (Ok after) old new number before now place = (length now ≡ length before + 1) × (is_some old ≡ true → (is_some new ≡ true)
+    × ((n : ℕ) → cells_at before (1 + n) (input_begun place number old) ≡ cells_at now n (input_at after new)))
+ReadsRest (Err e) old new number before now place = is_some old ≡ true → (n : ℕ) → Fails e (cells_at before (1 + n) (input_begun place number old))
+
+-- Some cells of so many in all were read after those before them; the rest of the list is read from there on.
+abbrev pub ReadsCells : Result ℕ DecodeFault → Option (List ℕ) → Option (List ℕ) → List Cell → List Cell → ℕ → ℕ → Type 0
+ReadsCells (Ok after) old new before now place count = (length before < length now) × (length now ≤ count) × (is_some old ≡ true → (is_some new ≡ true)
+    × (cells_at before (count - length before) (input_at place old) ≡ cells_at now (count - length now) (input_at after new)))
+ReadsCells (Err e) old new before now place count = is_some old ≡ true → Fails e (cells_at before (count - length before) (input_at place old))

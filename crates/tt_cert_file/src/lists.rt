@@ -1,18 +1,18 @@
 //! Lists of a section, each read after the number of its values.
 
-ghost use Rattle.std.specs.Prelude.{◌≡◌, ◌≤◌, [], true, length, IfOk, OnOk};
+ghost use Rattle.std.specs.Prelude.{◌≡◌, ◌<◌, ◌≤◌, [], true, length, IfOk, OnOk};
 ghost use Rattle.tt_abs.specs.Entries.{Rises};
 ghost use Rattle.tt_stream.specs.Reads.{ConsumesBeginning};
 ghost use Rattle.tt_stream.specs.Streams.{CountsFailure};
 ghost use Rattle.tt_cert_file.specs.Answers.{CountsRead, Gives, input_at};
-ghost use Rattle.tt_cert_file.specs.Blocks.{FillsFront, ReadsBlock, Takes};
+ghost use Rattle.tt_cert_file.specs.Blocks.{FillsFront, FillsRest, ReadsBlock, ReadsCells, ReadsRest, Takes, TakesCells};
 ghost use Rattle.tt_cert_file.specs.Readers.{list_at};
 ghost use Rattle.tt_cert_file.specs.Reading.{cell_at, function_at, functions_at, stack_at, storage_at, stored_at};
 ghost use Rattle.tt_cert_file.specs.Rules.{is_above, last_of};
 
 use crate::fault::DecodeFault;
 use crate::form::Form;
-use crate::units::{pair_of, read_cell, read_pair, read_word};
+use crate::units::{pair_of, read_pair, read_word};
 use std::alloc::Global;
 use tt_abs::Cell;
 use tt_stream::{ReadFailed, Source, read_full};
@@ -20,8 +20,111 @@ use tt_stream::{ReadFailed, Source, read_full};
 /// How many bytes a function has: its number, and its body.
 const FUNCTION: usize = 6;
 
-/// How many functions are read at a time. A state may list hundreds, most of a certificate's bytes.
+/// How many functions, or bytes of cells, are read at a time. Of both a state may list hundreds, which are most of a certificate's bytes.
 const BLOCK: usize = 64;
+
+/// Reads so many bytes into the front of the buffer, or all that are left, and answers how many.
+fn read_front<S: Source>(
+    source: &mut S,
+    buf: &mut [u8],
+    wanted: usize,
+) -> Result<usize, ReadFailed>
+    requires { wanted ≤ length buf.old }
+    ensures front { IfOk result (λ n. FillsFront (S.remaining source.old) (S.remaining source.new) wanted n buf.new) }
+    ensures beginning { ConsumesBeginning (S.remaining source.old) (S.remaining source.new) }
+    ensures failures { CountsFailure result (S.failures source.old) (S.failures source.new) }
+{
+    read_full(source, &mut buf[..wanted])
+}
+
+/// Reads until the buffer is full, of which so many bytes are held already, and answers how many were read.
+fn read_rest<S: Source>(source: &mut S, buf: &mut [u8], held: usize) -> Result<usize, ReadFailed>
+    requires { held ≤ length buf.old }
+    ensures rest { IfOk result (λ n. FillsRest (S.remaining source.old) (S.remaining source.new) held n buf.old buf.new) }
+    ensures beginning { ConsumesBeginning (S.remaining source.old) (S.remaining source.new) }
+    ensures failures { CountsFailure result (S.failures source.old) (S.failures source.new) }
+{
+    read_full(source, &mut buf[held..])
+}
+
+/// Takes the cells that are whole in these bytes, after those before them, and answers how many bytes are left of one more.
+fn take_cells(cells: &mut Vec<Cell>, place: u64, bytes: &[u8]) -> Result<usize, DecodeFault>
+    ensures { TakesCells result cells.old.items cells.new.items place bytes.now }
+{
+    let mut left = bytes;
+    let mut at = place;
+    'cells: while let Some((tag, rest)) = left.split_first() {
+        match *tag {
+            0 => {
+                cells.push(Cell::Unknown)?;
+                at = at.saturating_add(1);
+                left = rest;
+            }
+            1 => {
+                let Some((number, after)) = rest.split_first_chunk::<4>() else {
+                    return Ok(left.len());
+                };
+                cells.push(Cell::Known(i32::from_be_bytes(*number)))?;
+                at = at.saturating_add(5);
+                left = after;
+            }
+            _ => return Err(DecodeFault::Form(at)),
+        }
+    }
+    Ok(0)
+}
+
+/// Reads the rest of a known cell, of whose number these bytes were read, and answers the place after it.
+fn read_rest_of_cell<S: Source>(
+    source: &mut S,
+    place: u64,
+    begun: &[u8],
+    cells: &mut Vec<Cell>,
+) -> Result<u64, DecodeFault>
+    requires { length begun.now ≤ 4 }
+    ensures reads { ReadsRest result (S.remaining source.old) (S.remaining source.new) begun.now cells.old.items cells.new.items place }
+    ensures beginning { ConsumesBeginning (S.remaining source.old) (S.remaining source.new) }
+    ensures failures { CountsRead result (S.failures source.old) (S.failures source.new) }
+{
+    let held = begun.len();
+    let mut number = [0u8; 4];
+    number[..held].copy_from_slice(begun);
+    let more = read_rest(source, &mut number, held)?;
+    let after = place.saturating_add(1 + held as u64 + more as u64);
+    if held + more < 4 {
+        return Err(DecodeFault::Form(after));
+    }
+    cells.push(Cell::Known(i32::from_be_bytes(number)))?;
+    Ok(after)
+}
+
+/// Reads some cells at once, of so many in all, after those before them, and answers the place after them. Each cell has a byte at least:
+/// so as many bytes are read as cells are left, and then those of the last one that are missing.
+fn read_cell_block<S: Source>(
+    source: &mut S,
+    place: u64,
+    count: usize,
+    cells: &mut Vec<Cell>,
+) -> Result<u64, DecodeFault>
+    requires { length cells.old.items < count }
+    ensures reads { ReadsCells result (S.remaining source.old) (S.remaining source.new) cells.old.items cells.new.items place count }
+    ensures beginning { ConsumesBeginning (S.remaining source.old) (S.remaining source.new) }
+    ensures failures { CountsRead result (S.failures source.old) (S.failures source.new) }
+{
+    let mut bytes = [0u8; BLOCK];
+    let wanted = (count - cells.len()).min(BLOCK);
+    let read = read_front(source, &mut bytes, wanted)?;
+    let over = take_cells(cells, place, &bytes[..read])?;
+    if read < wanted {
+        return Err(DecodeFault::Form(place.saturating_add(read as u64)));
+    }
+    let start = read - over;
+    let after = place.saturating_add(start as u64);
+    if over == 0 {
+        return Ok(after);
+    }
+    read_rest_of_cell(source, after, &bytes[start + 1..read], cells)
+}
 
 /// Reads so many cells.
 fn read_cells<S: Source>(
@@ -37,10 +140,8 @@ fn read_cells<S: Source>(
 {
     let mut cells = Vec::new(alloc);
     let mut at = place;
-    'cells: for _ in 0..count {
-        let (cell, after) = read_cell(source, at)?;
-        cells.push(cell)?;
-        at = after;
+    'blocks: while cells.len() < usize::from(count) {
+        at = read_cell_block(source, at, usize::from(count), &mut cells)?;
     }
     Ok((cells, at))
 }
@@ -93,20 +194,6 @@ fn take_functions(
         left = rest;
     }
     Ok(())
-}
-
-/// Reads so many bytes into the front of the buffer, or all that are left, and answers how many.
-fn read_front<S: Source>(
-    source: &mut S,
-    buf: &mut [u8],
-    wanted: usize,
-) -> Result<usize, ReadFailed>
-    requires { wanted ≤ length buf.old }
-    ensures front { IfOk result (λ n. FillsFront (S.remaining source.old) (S.remaining source.new) wanted n buf.new) }
-    ensures beginning { ConsumesBeginning (S.remaining source.old) (S.remaining source.new) }
-    ensures failures { CountsFailure result (S.failures source.old) (S.failures source.new) }
-{
-    read_full(source, &mut buf[..wanted])
 }
 
 /// Reads so many functions at once, after those before them, and answers the place after them.

@@ -1,28 +1,13 @@
 use Rattle.std.proofs.Common.{arith}
-use Rattle.std.proofs.lemmas.Result.{err_from_is_err_and}
 use Rattle.tt_stream.proofs.Beginnings.{consumes_then}
-use Rattle.tt_cert_file.specs.Reading.{cell_at}
-use Rattle.tt_cert_file.proofs.Loops.{reads_all, reads_fail, reads_on}
-use Rattle.std.proofs.Common.{ap, length, length-append}
-use Rattle.tt_abs.specs.declared.cells.Cell.{Cell}
+use Rattle.tt_cert_file.proofs.Cells.{cells_all, cells_on}
 use Rattle.tt_cert_file.proofs.lists.read_cells.Goals as goal
 
-pub returns-in_err-cell-clause-reads : goal.returns-in_err-cell-clause-reads
-returns-in_err-cell-clause-reads g c =
-    let p = err_from_is_err_and c.from_residual.result c.from_residual.ensures.1 in
-    rw (p.1, p.2) (λ known. reads_fail (λ _ i. cell_at i) _ _ _ c.cells.cells.items c.args.count c.cells.counter c.cells.at _ _ c.in_err-cell.field-0.0 c.cells.invariant.0 c.cells-test.true c.in_err-cell.ensures.reads known)
+pub returns-in_err-at-clause-beginning : goal.returns-in_err-at-clause-beginning
+returns-in_err-at-clause-beginning g c = consumes_then _ _ _ c.blocks-2.invariant.beginning c.read_cell_block.ensures.beginning
 
-pub returns-in_err-cell-clause-beginning : goal.returns-in_err-cell-clause-beginning
-returns-in_err-cell-clause-beginning g c = consumes_then _ _ _ c.cells.invariant.0.beginning c.read_cell.ensures.beginning
-
-pub returns-in_err-push-clause-beginning : goal.returns-in_err-push-clause-beginning
-returns-in_err-push-clause-beginning g c = consumes_then _ _ _ c.cells.invariant.0.beginning c.read_cell.ensures.beginning
-
-pub cells-preserved : goal.cells-preserved
-cells-preserved g c = (
-  reads_on (λ _ i. cell_at i) _ _ _ _ c.cells.cells.items _ c.args.count c.cells.counter c.cells.at c.in_ok-cell.after _ _ _ c.in_ok-cell.cell c.cells.invariant.0 c.cells-test.true c.in_ok-cell.ensures.reads c.read_cell.ensures.beginning c.in_ok-cell.ensures.failures c.in_ok-push.ensures.items,
-  omega (arith, c.cells.invariant.1, ap length c.in_ok-push.ensures.items, length-append {A = Cell}),
-)
+pub blocks-2-preserved : goal.blocks-2-preserved
+blocks-2-preserved g c = cells_on _ _ (g.S.Source.remaining c.read_cell_block.new.source) _ _ c.read_cell_block.new.cells.items _ _ c.in_ok-at.at _ _ _ c.blocks-2.invariant (rw c.from-in-blocks-2.ensures at c.in_ok-at.ensures.reads) c.read_cell_block.ensures.beginning c.in_ok-at.ensures.failures
 
 pub returns-clause-reads : goal.returns-clause-reads
-returns-clause-reads g c = reads_all (λ _ i. cell_at i) _ _ _ c.cells.cells.items c.args.count c.cells.counter c.cells.at _ _ c.cells.invariant.0 c.cells-test.false
+returns-clause-reads g c = cells_all _ _ _ _ _ _ _ _ c.blocks-2.invariant (omega (arith, c.blocks-2-test.false, c.len.ensures, c.from.ensures))
