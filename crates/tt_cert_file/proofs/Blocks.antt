@@ -1,14 +1,15 @@
 -- Functions that are read many at a time.
-use Rattle.std.proofs.Common.{◌≡◌, ℕ, suc, ◌+◌, ◌-◌, ◌*◌, ◌^◌, ◌<◌, ◌≤◌, true, false, ltb, List, [], ◌∷◌, ◌++◌, length, take, drop, Option, Some, None, is_some, Ok, Err, refl, sym, ap, subst, ◌∙◌, arith, append-nil}
+use Rattle.std.proofs.Common.{◌≡◌, ℕ, suc, ◌+◌, ◌-◌, ◌*◌, ◌<◌, ◌≤◌, true, false, ltb, List, [], ◌∷◌, ◌++◌, length, take, drop, Option, Some, None, is_some, Ok, Err, refl, sym, ap, subst, ◌∙◌, arith, append-nil, append_assoc}
 use Rattle.std.proofs.lemmas.Bool.{le-ltb, lt-ltb}
-use Rattle.std.proofs.lemmas.List.{take-append-le, drop-append-le, length-append, length-drop, length-take}
+use Rattle.std.proofs.lemmas.List.{take-append-le, drop-append-le, drop-drop, drop-take, length-append, length-drop, length-take}
+use Rattle.std.proofs.Math.Seq.{take-add}
 use Rattle.std.specs.Io.KnownBytes.{Consumes, IsAtEnd}
 use Rattle.tt_stream.specs.Reads.{ConsumesBeginning}
 use Rattle.tt_stream.proofs.Beginnings.{consumes_then}
 use Rattle.tt_cert_file.specs.declared.fault.DecodeFault.{DecodeFault}
 use Rattle.tt_cert_file.specs.declared.fault.DecodeFault.TheVariants as fault
 use Rattle.tt_cert_file.specs.Answers.{Fails, input_at}
-use Rattle.tt_cert_file.specs.Blocks.{AreTaken, BreaksAt, FillsFront, IsTaking, ReadsBlock, Takes, input_of}
+use Rattle.tt_cert_file.specs.Blocks.{AreTaken, BreaksAt, FillsOn, IsTaking, ReadsBlock, Takes, input_held, input_of}
 use Rattle.tt_cert_file.specs.Readers.{Answer, list_at, place_after, unit}
 use Rattle.tt_cert_file.specs.Reading.{function_at, pair_at, pair_from}
 use Rattle.tt_cert_file.specs.Rules.{is_above, last_of}
@@ -58,15 +59,6 @@ cut_short : (xs : List (ℕ × ℕ)) (n place : ℕ) (bytes : List ℕ) → leng
 unfolding list_at
 cut_short xs n place bytes lt = rw (function_cut xs place bytes lt) refl
 
--- nothing was taken yet
-pub taking_none : (old : List (ℕ × ℕ)) (place : ℕ) (bytes : List ℕ) → place < 2 ^ 64 → IsTaking old old place place bytes bytes
-taking_none old place bytes fits = record {
-  taken = 0;
-  long = omega arith;
-  at_is = omega arith;
-  reads = λ n rest. let none : 0 + n ≡ n = omega arith in rw none refl;
-}
-
 -- one more was taken
 pub taking_more : (old now next : List (ℕ × ℕ)) (place at after : ℕ) (bytes left rest unit : List ℕ) (x : ℕ × ℕ) → IsTaking old now place at bytes left
     → 6 ≤ length left → unit ≡ take 6 left → rest ≡ drop 6 left → x ≡ pair_from unit → is_above (last_of now) x ≡ true
@@ -97,77 +89,188 @@ pub none_left : (bytes : List ℕ) → length bytes ≡ 0 → bytes ≡ []
 none_left [] none = refl
 none_left (x ∷ xs) none = absurd (omega (arith, none))
 
--- a block that was read whole
-pub block_whole : (old new : Option (List ℕ)) (before now : List (ℕ × ℕ)) (place count after : ℕ) (bytes : List ℕ) → AreTaken before now place bytes
-    → length bytes ≡ 6 * count → Consumes old new bytes → after ≡ place_after place (length bytes) → ReadsBlock (Ok after) old new before now place count
-block_whole None new before now place count after bytes taken whole consumed after_is known = absurd cc
-block_whole (Some xs) None before now place count after bytes taken whole consumed after_is known = absurd consumed
-block_whole (Some xs) (Some ys) before now place count after bytes taken whole consumed after_is known =
-    let t = taken.taking in
-    let none : taken.left ≡ [] = none_left taken.left (omega (arith, t.long, taken.short, whole)) in
-    let count_is : count ≡ t.taken = omega (arith, t.long, taken.short, whole) in
-    let at_is : after ≡ taken.at = omega (arith, t.at_is, t.long, taken.short, whole, after_is) in
-    (refl, λ n. rw (consumed, count_is, at_is) (t.reads n ys ∙ ap (λ (l : List ℕ). list_at function_at now n (input_of taken.at l ys)) none))
+-- what is left after so many more bytes
+pub suffix_on : (bytes left rest : List ℕ) (width : ℕ) → left ≡ drop (length bytes - length left) bytes → rest ≡ drop width left → length left ≡ width + length rest
+    → rest ≡ drop (length bytes - length rest) bytes
+suffix_on bytes left rest width left_is rest_is long =
+    let k = length bytes - length left in
+    let left_long : length left ≡ length bytes - k = ap length left_is ∙ length-drop k bytes in
+    let all : k + width ≡ length bytes - length rest = omega (arith, left_long, long) in
+    rest_is ∙ ap (drop width) left_is ∙ drop-drop width k bytes ∙ ap (λ (n : ℕ). drop n bytes) all
 
--- a block at the input's end
-pub block_short : (old new : Option (List ℕ)) (before now : List (ℕ × ℕ)) (place count after : ℕ) (bytes : List ℕ) → AreTaken before now place bytes
-    → length bytes < 6 * count → Consumes old new bytes → IsAtEnd new → after ≡ place_after place (length bytes) → is_some old ≡ true
-    → (n : ℕ) → list_at function_at before (count + n) (input_at place old) ≡ Err after
-block_short None new before now place count after bytes taken few consumed end after_is known n = absurd cc
-block_short (Some xs) None before now place count after bytes taken few consumed end after_is known n = absurd consumed
-block_short (Some xs) (Some ys) before now place count after bytes taken few consumed end after_is known n =
-    let t = taken.taking in
-    let m = (count + n) - (t.taken + 1) in
-    let count_is : count + n ≡ t.taken + suc m = omega (arith, t.long, taken.short, few) in
-    let at_is : after ≡ place_after taken.at (length taken.left) = omega (arith, t.at_is, t.long, after_is) in
-    rw (consumed, end, count_is, at_is) (t.reads (suc m) [] ∙ cut_short now m taken.at taken.left taken.short)
+pub suffix_fits : (bytes left : List ℕ) → left ≡ drop (length bytes - length left) bytes → length left ≤ length bytes
+suffix_fits bytes left left_is = omega (arith, ap length left_is, length-drop (length bytes - length left) bytes)
 
--- a block with a function that breaks the rule
-pub block_breaks : (old new : Option (List ℕ)) (before : List (ℕ × ℕ)) (place count broken : ℕ) (bytes : List ℕ) → BreaksAt before place bytes broken
-    → length bytes ≤ 6 * count → Consumes old new bytes → is_some old ≡ true → (n : ℕ) → list_at function_at before (count + n) (input_at place old) ≡ Err broken
-block_breaks None new before place count broken bytes breaks few consumed known n = absurd cc
-block_breaks (Some xs) None before place count broken bytes breaks few consumed known n = absurd consumed
-block_breaks (Some xs) (Some ys) before place count broken bytes breaks few consumed known n =
-    rw consumed (breaks (count + n) ys (omega (arith, few)))
+-- the bytes of a buffer that are held: those up to the filled ones, without the taken ones
+abbrev pub held_in : ℕ → ℕ → List ℕ → List ℕ
+held_in taken filled buf = drop taken (take filled buf)
 
-pub front_long : (read : ℕ) (buf : List ℕ) → read ≤ length buf → length (take read buf) ≡ read
-front_long read buf le = omega (arith, length-take read buf)
+pub held_slice : (taken filled : ℕ) (buf : List ℕ) → taken ≤ filled → take (filled - taken) (drop taken buf) ≡ held_in taken filled buf
+held_slice taken filled buf le =
+    let all : taken + (filled - taken) ≡ filled = omega arith in
+    sym (drop-take taken (filled - taken) buf) ∙ ap (λ (n : ℕ). drop taken (take n buf)) all
 
--- the same of a buffer whose front was read
-pub read_whole : (old new : Option (List ℕ)) (before now : List (ℕ × ℕ)) (place count after read : ℕ) (buf : List ℕ) → AreTaken before now place (take read buf)
-    → FillsFront old new (6 * count) read buf → 6 * count ≤ read → after ≡ place_after place read → ReadsBlock (Ok after) old new before now place count
-read_whole old new before now place count after read buf taken fills whole after_is =
-    let long = front_long read buf (omega (arith, fills.few, fills.room)) in
-    block_whole old new before now place count after (take read buf) taken (omega (arith, long, fills.few)) fills.consumed (after_is ∙ ap (place_after place) (sym long))
+-- what holds of such a slice, holds of the held bytes
+pub at_held : (P : ℕ → List ℕ → Type 0) (place taken at filled : ℕ) (buf : List ℕ) → taken ≤ filled → at ≡ place_after place taken
+    → P at (take (filled - taken) (drop taken buf)) → P (place_after place taken) (held_in taken filled buf)
+at_held P place taken at filled buf le at_is holds =
+    subst (P (place_after place taken)) (held_slice taken filled buf le) (subst (λ (p : ℕ). P p (take (filled - taken) (drop taken buf))) at_is holds)
 
-pub read_short : (old new : Option (List ℕ)) (before now : List (ℕ × ℕ)) (place count after read : ℕ) (buf : List ℕ) → AreTaken before now place (take read buf)
-    → FillsFront old new (6 * count) read buf → read < 6 * count → after ≡ place_after place read → ReadsBlock (Err (fault.Form after)) old new before now place count
-read_short old new before now place count after read buf taken fills few after_is =
-    let long = front_long read buf (omega (arith, fills.few, fills.room)) in
-    block_short old new before now place count after (take read buf) taken (omega (arith, long)) fills.consumed (fills.at_end few) (after_is ∙ ap (place_after place) (sym long))
+pub held_long : (taken filled : ℕ) (buf : List ℕ) → filled ≤ length buf → length (held_in taken filled buf) ≡ filled - taken
+held_long taken filled buf le = omega (arith, length-drop taken (take filled buf), length-take filled buf)
 
--- what is refused in the front of such a buffer
-pub read_refused : (e : DecodeFault) (old new : Option (List ℕ)) (before now : List (ℕ × ℕ)) (place count read : ℕ) (buf : List ℕ)
-    → Takes {T = Unit {0}} (Err e) before now place (take read buf) → FillsFront old new (6 * count) read buf → ReadsBlock (Err e) old new before now place count
-read_refused (fault.Form broken) old new before now place count read buf breaks fills =
-    let long = front_long read buf (omega (arith, fills.few, fills.room)) in
-    block_breaks old new before place count broken (take read buf) breaks (omega (arith, long, fills.few)) fills.consumed
-read_refused fault.Read old new before now place count read buf breaks fills = absurd breaks
-read_refused (fault.OutOfMemory error) old new before now place count read buf breaks fills = λ known n. tt
+pub held_none : (taken filled : ℕ) (buf : List ℕ) → filled ≤ length buf → filled ≤ taken → held_in taken filled buf ≡ []
+held_none taken filled buf le none = none_left (held_in taken filled buf) (omega (arith, held_long taken filled buf le, none))
+
+-- more was read into the buffer
+pub held_on : (old new : Option (List ℕ)) (taken filled wanted more : ℕ) (was buf : List ℕ) → FillsOn old new filled wanted more was buf → taken ≤ filled
+    → held_in taken (filled + more) buf ≡ held_in taken filled was ++ take more (drop filled buf)
+held_on old new taken filled wanted more was buf fills le =
+    let front : take filled buf ≡ take filled was = fills.held_is in
+    let long : length (take filled buf) ≡ filled = omega (arith, length-take filled buf, fills.few, fills.room) in
+    ap (drop taken) (take-add filled more buf) ∙ drop-append-le taken (take filled buf) (take more (drop filled buf)) (omega (arith, long))
+    ∙ ap (λ (l : List ℕ). drop taken l ++ take more (drop filled buf)) front
+
+-- what was left of the held bytes is held
+pub held_left : (taken filled over after : ℕ) (buf left : List ℕ) → filled ≤ length buf → taken ≤ filled → over ≤ filled - taken → after ≡ filled - over
+    → left ≡ drop (length (held_in taken filled buf) - over) (held_in taken filled buf) → left ≡ held_in after filled buf
+held_left taken filled over after buf left le order few after_is left_is =
+    let long = held_long taken filled buf le in
+    let all : taken + (length (held_in taken filled buf) - over) ≡ after = omega (arith, long, after_is) in
+    left_is ∙ drop-drop (length (held_in taken filled buf) - over) taken (take filled buf) ∙ ap (λ (n : ℕ). drop n (take filled buf)) all
+
+-- what the filling of a block keeps: so many bytes are filled, of which so many are taken, as functions
+pub record IsBlock (old now : Option (List ℕ)) (before xs : List (ℕ × ℕ)) (place count filled taken : ℕ) (buf : List ℕ) (failures failures_now : ℕ) : Type 0 where
+  pub done : ℕ
+  pub all : taken ≡ 6 * done
+  pub short : filled < taken + 6
+  pub order : taken ≤ filled
+  pub within : filled ≤ 6 * count
+  pub long : length buf ≡ 384
+  pub known : is_some old ≡ true → (is_some now ≡ true)
+      × ((n : ℕ) → list_at function_at before (count + n) (input_at place old)
+          ≡ list_at function_at xs ((count + n) - done) (input_held (place_after place taken) (held_in taken filled buf) now))
+  pub beginning : ConsumesBeginning old now
+  pub failures_are : failures_now ≡ failures
+
+pub fill_on : (old now next : Option (List ℕ)) (before xs ys : List (ℕ × ℕ)) (place count filled taken more over after : ℕ) (was buf : List ℕ) (f g h : ℕ)
+    → IsBlock old now before xs place count filled taken was f g → FillsOn now next filled (6 * count) more was buf
+    → AreTaken over xs ys (place_after place taken) (held_in taken (filled + more) buf) → ConsumesBeginning now next → h ≡ g → after ≡ (filled + more) - over
+    → IsBlock old next before ys place count (filled + more) after buf f h
+fill_on old now next before xs ys place count filled taken more over after was buf f g h inv fills took some same after_is = record {
+  done = inv.done + t.taken;
+  all = omega (arith, t.long, long, took.over_is, inv.all, inv.order, after_is);
+  short = omega (arith, t.long, long, took.over_is, took.short, after_is);
+  order = omega (arith, after_is);
+  within = omega (arith, fills.few);
+  long = fills.long ∙ inv.long;
+  known = known old now next fills.consumed inv.known;
+  beginning = consumes_then _ _ _ inv.beginning some;
+  failures_are = same ∙ inv.failures_are;
+}
+  where
+    slice : List ℕ
+    slice = held_in taken (filled + more) buf
+    t : IsTaking xs ys (place_after place taken) took.at slice took.left
+    t = took.taking
+    room : filled + more ≤ length buf
+    room = omega (arith, fills.few, fills.room)
+    long : length slice ≡ (filled + more) - taken
+    long = held_long taken (filled + more) buf room
+    left_is : took.left ≡ held_in after (filled + more) buf
+    left_is = held_left taken (filled + more) over after buf took.left room (omega (arith, inv.order)) (omega (arith, t.long, long, took.over_is)) after_is took.suffix
+    at_is : took.at ≡ place_after place after
+    at_is = omega (arith, t.at_is, t.long, long, took.over_is, inv.order, after_is)
+
+    known : (a b c : Option (List ℕ)) → Consumes b c (take more (drop filled buf))
+        → (is_some a ≡ true → (is_some b ≡ true) × ((n : ℕ) → list_at function_at before (count + n) (input_at place a)
+            ≡ list_at function_at xs ((count + n) - inv.done) (input_held (place_after place taken) (held_in taken filled was) b)))
+        → is_some a ≡ true → (is_some c ≡ true) × ((n : ℕ) → list_at function_at before (count + n) (input_at place a)
+            ≡ list_at function_at ys ((count + n) - (inv.done + t.taken)) (input_held (place_after place after) (held_in after (filled + more) buf) c))
+    known a None c consumed so_far e = absurd (none_known (so_far e).0)
+      where
+        none_known : is_some {T = List ℕ} None ≡ true → ⊥
+        none_known h = cc
+    known a (Some nb) None consumed so_far e = absurd consumed
+    known a (Some nb) (Some yb) consumed so_far e = (refl, λ n.
+      let m = (count + n) - (inv.done + t.taken) in
+      let bytes : held_in taken filled was ++ nb ≡ slice ++ yb =
+        ap (λ (l : List ℕ). held_in taken filled was ++ l) consumed ∙ sym (append_assoc (held_in taken filled was) (take more (drop filled buf)) yb)
+        ∙ ap (λ (l : List ℕ). l ++ yb) (sym (held_on now next taken filled (6 * count) more was buf fills inv.order)) in
+      let count_is : (count + n) - inv.done ≡ t.taken + m = omega (arith, t.long, long, inv.all, inv.order, fills.few) in
+      let there : list_at function_at ys m (input_of took.at took.left yb) ≡ list_at function_at ys m (input_of (place_after place after) (held_in after (filled + more) buf) yb) =
+        ap (λ (p : ℕ). list_at function_at ys m (input_of p took.left yb)) at_is
+        ∙ ap (λ (l : List ℕ). list_at function_at ys m (input_of (place_after place after) l yb)) left_is in
+      (so_far e).1 n ∙ rw (bytes, count_is) (t.reads m yb) ∙ there)
+
+-- the block is full
+pub fill_done : (old now : Option (List ℕ)) (before xs : List (ℕ × ℕ)) (place count filled taken after : ℕ) (buf : List ℕ) (f g : ℕ)
+    → IsBlock old now before xs place count filled taken buf f g → 6 * count ≤ filled → 6 * count ≤ 384 → after ≡ place_after place taken
+    → ReadsBlock (Ok after) old now before xs place count
+fill_done old now before xs place count filled taken after buf f g inv full few after_is known =
+    let was = inv.known known in
+    let none : held_in taken filled buf ≡ [] = held_none taken filled buf (omega (arith, inv.within, inv.long)) (omega (arith, inv.all, inv.short, inv.within, inv.order, full)) in
+    let done_is : inv.done ≡ count = omega (arith, inv.all, inv.short, inv.within, inv.order, full) in
+    (was.0, λ n.
+      let count_is : (count + n) - inv.done ≡ n = omega (arith, done_is) in
+      was.1 n ∙ rw (none, count_is, after_is) refl)
+
+-- the input ends within the block
+pub fill_end : (old now next : Option (List ℕ)) (before xs : List (ℕ × ℕ)) (place count filled taken more after : ℕ) (was buf : List ℕ) (f g : ℕ)
+    → IsBlock old now before xs place count filled taken was f g → FillsOn now next filled (6 * count) more was buf → more ≡ 0 → filled < 6 * count → 6 * count ≤ 384
+    → after ≡ place_after place (filled + more) → ReadsBlock (Err (fault.Form after)) old next before xs place count
+fill_end old now next before xs place count filled taken more after was buf f g inv fills none few room after_is e n =
+    (so_far.1 n) ∙ ends now next fills.consumed (fills.at_end none) so_far.0
+  where
+    so_far : (is_some now ≡ true) × ((n : ℕ) → list_at function_at before (count + n) (input_at place old)
+        ≡ list_at function_at xs ((count + n) - inv.done) (input_held (place_after place taken) (held_in taken filled was) now))
+    so_far = inv.known e
+    held : List ℕ
+    held = held_in taken filled was
+    long : length held ≡ filled - taken
+    long = held_long taken filled was (omega (arith, inv.long))
+
+    ends : (b c : Option (List ℕ)) → Consumes b c (take more (drop filled buf)) → IsAtEnd c → is_some b ≡ true
+        → list_at function_at xs ((count + n) - inv.done) (input_held (place_after place taken) held b) ≡ Err after
+    ends None c consumed end known = absurd cc
+    ends (Some nb) None consumed end known = absurd consumed
+    ends (Some nb) (Some yb) consumed end known =
+        let m = (count + n) - (inv.done + 1) in
+        let count_is : (count + n) - inv.done ≡ suc m = omega (arith, inv.all, inv.order, few) in
+        let empty : take more (drop filled buf) ≡ [] = none_left (take more (drop filled buf)) (omega (arith, length-take more (drop filled buf), none)) in
+        let nothing : nb ≡ [] = consumed ∙ ap (λ (l : List ℕ). l ++ yb) empty ∙ end in
+        let there : place_after (place_after place taken) (length held) ≡ after = omega (arith, long, inv.order, none, after_is) in
+        rw (count_is, nothing) (cut_short xs m (place_after place taken) held (omega (arith, long, inv.short)) ∙ ap (λ (p : ℕ). Err p) there)
+
+-- a function of the block is refused
+pub fill_refused : (e : DecodeFault) (old now next : Option (List ℕ)) (before xs ys : List (ℕ × ℕ)) (place count filled taken more : ℕ) (was buf : List ℕ) (f g : ℕ)
+    → IsBlock old now before xs place count filled taken was f g → FillsOn now next filled (6 * count) more was buf
+    → Takes (Err e) xs ys (place_after place taken) (held_in taken (filled + more) buf) → ReadsBlock (Err e) old next before ys place count
+fill_refused fault.Read old now next before xs ys place count filled taken more was buf f g inv fills breaks = absurd breaks
+fill_refused (fault.OutOfMemory error) old now next before xs ys place count filled taken more was buf f g inv fills breaks = λ known n. tt
+fill_refused (fault.Form broken) old now next before xs ys place count filled taken more was buf f g inv fills breaks =
+    λ e n. (inv.known e).1 n ∙ refused now next fills.consumed (inv.known e).0 n
+  where
+    slice : List ℕ
+    slice = held_in taken (filled + more) buf
+    long : length slice ≡ (filled + more) - taken
+    long = held_long taken (filled + more) buf (omega (arith, fills.few, fills.room))
+
+    refused : (b c : Option (List ℕ)) → Consumes b c (take more (drop filled buf)) → is_some b ≡ true
+        → (n : ℕ) → list_at function_at xs ((count + n) - inv.done) (input_held (place_after place taken) (held_in taken filled was) b) ≡ Err broken
+    refused None c consumed known n = absurd cc
+    refused (Some nb) None consumed known n = absurd consumed
+    refused (Some nb) (Some yb) consumed known n =
+        let bytes : held_in taken filled was ++ nb ≡ slice ++ yb =
+          ap (λ (l : List ℕ). held_in taken filled was ++ l) consumed ∙ sym (append_assoc (held_in taken filled was) (take more (drop filled buf)) yb)
+          ∙ ap (λ (l : List ℕ). l ++ yb) (sym (held_on now next taken filled (6 * count) more was buf fills inv.order)) in
+        rw bytes (breaks ((count + n) - inv.done) yb (omega (arith, long, inv.all, inv.order, fills.few)))
 
 -- what a loop over blocks keeps
 pub record IsReadingBlocks (old now : Option (List ℕ)) (total : Answer (List (ℕ × ℕ))) (xs : List (ℕ × ℕ)) (left place failures failures_now : ℕ) : Type 0 where
   pub known : is_some old ≡ true → (is_some now ≡ true) × (list_at function_at xs left (input_at place now) ≡ total)
   pub beginning : ConsumesBeginning old now
   pub failures_are : failures_now ≡ failures
-
-pub blocks_begin : (old : Option (List ℕ)) (count place failures : ℕ)
-    → IsReadingBlocks old old (list_at function_at [] count (input_at place old)) [] count place failures failures
-blocks_begin old count place failures = record { known = λ e. (e, refl); beginning = keeps old; failures_are = refl }
-  where
-    keeps : (known : Option (List ℕ)) → ConsumesBeginning known known
-    keeps None = record { bytes = []; consumed = tt }
-    keeps (Some xs) = record { bytes = []; consumed = refl }
 
 pub blocks_on : (old now next : Option (List ℕ)) (total : Answer (List (ℕ × ℕ))) (xs ys : List (ℕ × ℕ)) (left fewer place after block f g h : ℕ)
     → IsReadingBlocks old now total xs left place f g → block ≤ left → fewer ≡ left - block → ReadsBlock (Ok after) now next xs ys place block

@@ -1,8 +1,9 @@
 -- Cells that are read many at a time.
-use Rattle.std.proofs.Common.{◌≡◌, ℕ, suc, ◌+◌, ◌-◌, ◌^◌, ◌<◌, ◌≤◌, true, false, eqb, List, [], ◌∷◌, ◌++◌, length, take, drop, Option, Some, None, is_some, Result, Ok, Err, refl, sym, ap, subst, ◌∙◌, arith, append_assoc}
-use Rattle.std.proofs.lemmas.List.{length-append, length-drop, length-take, drop-drop, drop-take, take-append-le, take-append-drop, take_all}
+use Rattle.std.proofs.Common.{◌≡◌, ℕ, suc, ◌+◌, ◌-◌, ◌<◌, ◌≤◌, true, false, eqb, List, [], ◌∷◌, ◌++◌, length, take, drop, Option, Some, None, is_some, Result, Ok, Err, inl, inr, refl, sym, ap, subst, ◌∙◌, arith, append_assoc}
+use Rattle.std.proofs.lemmas.Bool.{cases_lt}
+use Rattle.std.proofs.lemmas.List.{length-append, length-drop, length-take, drop-drop, take-append-le, take-append-drop, take_all}
 use Rattle.std.specs.Int.{w32, from_be_bytes, cast_signed}
-use Rattle.std.specs.Io.KnownBytes.{Consumes}
+use Rattle.std.specs.Io.KnownBytes.{Consumes, IsAtEnd}
 use Rattle.tt_abs.specs.declared.cells.Cell.{Cell}
 use Rattle.tt_abs.specs.declared.cells.Cell.TheVariants.{Known, Unknown}
 use Rattle.tt_stream.specs.Reads.{ConsumesBeginning}
@@ -10,10 +11,10 @@ use Rattle.tt_stream.proofs.Beginnings.{consumes_then}
 use Rattle.tt_cert_file.specs.declared.fault.DecodeFault.{DecodeFault}
 use Rattle.tt_cert_file.specs.declared.fault.DecodeFault.TheVariants as fault
 use Rattle.tt_cert_file.specs.Answers.{Fails, input_at}
-use Rattle.tt_cert_file.specs.Blocks.{AreCellsTaken, FillsFront, FillsRest, IsBegun, IsTakingCells, ReadsCells, ReadsRest, TakesCells, cells_at, input_begun, input_of}
+use Rattle.tt_cert_file.specs.Blocks.{AreCellsTaken, FillsOn, FillsRest, IsBegun, IsTakingCells, ReadsCells, ReadsRest, TakesCells, cells_at, input_begun, input_held, input_of}
 use Rattle.tt_cert_file.specs.Readers.{Answer, list_at, place_after}
 use Rattle.tt_cert_file.specs.Reading.{cell_at}
-use Rattle.tt_cert_file.proofs.Blocks.{front_long, none_left, unit_short, unit_whole}
+use Rattle.tt_cert_file.proofs.Blocks.{held_in, held_left, held_long, held_none, held_on, held_slice, none_left, suffix_fits, suffix_on, unit_short, unit_whole}
 
 -- the number of a known cell
 abbrev pub number_of : List ℕ → Cell
@@ -55,17 +56,6 @@ no_cell : (xs : List Cell) (n place broken : ℕ) (bytes tail : List ℕ) → ce
 unfolding list_at
 no_cell xs n place broken bytes tail one = rw one refl
 
--- nothing was taken yet
-pub cells_none : (old : List Cell) (place : ℕ) (bytes : List ℕ) → place < 2 ^ 64 → IsTakingCells old old place place bytes bytes
-cells_none old place bytes fits = record {
-  taken = 0;
-  grown = omega arith;
-  few = omega arith;
-  some = λ lt. absurd (omega (arith, lt));
-  at_is = omega arith;
-  reads = λ n rest. let none : 0 + n ≡ n = omega arith in rw none refl;
-}
-
 cells_more : (old now next : List Cell) (place at after : ℕ) (bytes left rest : List ℕ) (x : Cell) (width : ℕ) → IsTakingCells old now place at bytes left
     → length left ≡ width + length rest → 0 < width → ((tail : List ℕ) → cell_at (input_of at left tail) ≡ Ok (x, input_of (place_after at width) rest tail))
     → next ≡ now ++ x ∷ [] → after ≡ place_after at width → length left ≤ length bytes → IsTakingCells old next place after bytes rest
@@ -79,18 +69,6 @@ cells_more old now next place at after bytes left rest x width taking long wide 
     let count : (taking.taken + 1) + n ≡ taking.taken + suc n = omega arith in
     rw (count, pushed, after_is) (taking.reads (suc n) tail ∙ next_cell now n at (place_after at width) left rest tail x (one tail));
 }
-
--- what is left after so many more bytes
-suffix_on : (bytes left rest : List ℕ) (width : ℕ) → left ≡ drop (length bytes - length left) bytes → rest ≡ drop width left → length left ≡ width + length rest
-    → rest ≡ drop (length bytes - length rest) bytes
-suffix_on bytes left rest width left_is rest_is long =
-    let k = length bytes - length left in
-    let left_long : length left ≡ length bytes - k = ap length left_is ∙ length-drop k bytes in
-    let all : k + width ≡ length bytes - length rest = omega (arith, left_long, long) in
-    rest_is ∙ ap (drop width) left_is ∙ drop-drop width k bytes ∙ ap (λ (n : ℕ). drop n bytes) all
-
-suffix_fits : (bytes left : List ℕ) → left ≡ drop (length bytes - length left) bytes → length left ≤ length bytes
-suffix_fits bytes left left_is = omega (arith, ap length left_is, length-drop (length bytes - length left) bytes)
 
 -- what is taken, and that the bytes that are left are the last ones
 abbrev pub IsTakingOn : List Cell → List Cell → ℕ → ℕ → List ℕ → List ℕ → Type 0
@@ -196,126 +174,180 @@ rest_cut (Some xs) (Some ys) before now place after held more begun was number f
     let after_here : after ≡ place_after place (1 + length (begun ++ part)) = omega (arith, after_is, all) in
     rw (bytes, count, after_here) (no_cell before n place _ (1 ∷ (begun ++ part)) [] (cell_begun place (begun ++ part) (omega (arith, all))))
 
+-- what the filling of a block keeps: so many bytes are filled, of which so many are taken, as cells
+pub record IsCellBlock (old now : Option (List ℕ)) (before xs : List Cell) (place count wanted filled taken : ℕ) (buf : List ℕ) (failures failures_now : ℕ) : Type 0 where
+  pub few : length xs ≤ length before + taken
+  pub least : length before ≤ length xs
+  pub some : 0 < taken → length before < length xs
+  pub order : taken ≤ filled
+  pub within : filled ≤ wanted
+  pub begun : taken < filled → IsBegun (held_in taken filled buf)
+  pub long : length buf ≡ 64
+  pub known : is_some old ≡ true → (is_some now ≡ true) × (cells_at before (count - length before) (input_at place old)
+      ≡ cells_at xs (count - length xs) (input_held (place_after place taken) (held_in taken filled buf) now))
+  pub beginning : ConsumesBeginning old now
+  pub failures_are : failures_now ≡ failures
+
+-- all that is wanted of a block fits the cells that are left
+abbrev pub IsWanted : List Cell → ℕ → ℕ → Type 0
+IsWanted before count wanted = (0 < wanted) × (wanted ≤ count - length before) × (wanted ≤ 64)
+
+pub block_on : (old now next : Option (List ℕ)) (before xs ys : List Cell) (place count wanted filled taken more over after : ℕ) (was buf : List ℕ) (f g h : ℕ)
+    → IsCellBlock old now before xs place count wanted filled taken was f g → IsWanted before count wanted → FillsOn now next filled wanted more was buf
+    → AreCellsTaken over xs ys (place_after place taken) (held_in taken (filled + more) buf) → ConsumesBeginning now next → h ≡ g → after ≡ (filled + more) - over
+    → IsCellBlock old next before ys place count wanted (filled + more) after buf f h
+block_on old now next before xs ys place count wanted filled taken more over after was buf f g h inv fit fills took some same after_is = record {
+  few = omega (arith, t.grown, t.few, long, took.over_is, inv.few, inv.order, after_is);
+  least = omega (arith, inv.least, t.grown);
+  some = λ lt. elim (cases_lt (length took.left) (length slice)) [
+    | inl less ↦ omega (arith, t.some less, t.grown, inv.least)
+    | inr all ↦ omega (arith, inv.some (omega (arith, all, long, took.over_is, after_is, lt, inv.order)), t.grown)
+  ];
+  order = omega (arith, after_is);
+  within = fills.few;
+  begun = λ lt. subst IsBegun left_is (took.begun (omega (arith, lt, after_is)));
+  long = fills.long ∙ inv.long;
+  known = known old now next fills.consumed inv.known;
+  beginning = consumes_then _ _ _ inv.beginning some;
+  failures_are = same ∙ inv.failures_are;
+}
+  where
+    slice : List ℕ
+    slice = held_in taken (filled + more) buf
+    t : IsTakingCells xs ys (place_after place taken) took.at slice took.left
+    t = took.taking
+    room : filled + more ≤ length buf
+    room = omega (arith, fills.few, fills.room)
+    long : length slice ≡ (filled + more) - taken
+    long = held_long taken (filled + more) buf room
+    left_is : took.left ≡ held_in after (filled + more) buf
+    left_is = held_left taken (filled + more) over after buf took.left room (omega (arith, inv.order)) (omega (arith, t.few, long, took.over_is)) after_is took.suffix
+    at_is : took.at ≡ place_after place after
+    at_is = omega (arith, t.at_is, t.few, long, took.over_is, inv.order, after_is)
+
+    known : (a b c : Option (List ℕ)) → Consumes b c (take more (drop filled buf))
+        → (is_some a ≡ true → (is_some b ≡ true) × (cells_at before (count - length before) (input_at place a)
+            ≡ cells_at xs (count - length xs) (input_held (place_after place taken) (held_in taken filled was) b)))
+        → is_some a ≡ true → (is_some c ≡ true) × (cells_at before (count - length before) (input_at place a)
+            ≡ cells_at ys (count - length ys) (input_held (place_after place after) (held_in after (filled + more) buf) c))
+    known a None c consumed so_far e = absurd (none_known (so_far e).0)
+      where
+        none_known : is_some {T = List ℕ} None ≡ true → ⊥
+        none_known h = cc
+    known a (Some nb) None consumed so_far e = absurd consumed
+    known a (Some nb) (Some yb) consumed so_far e =
+      let m = count - length ys in
+      let bytes : held_in taken filled was ++ nb ≡ slice ++ yb =
+        ap (λ (l : List ℕ). held_in taken filled was ++ l) consumed ∙ sym (append_assoc (held_in taken filled was) (take more (drop filled buf)) yb)
+        ∙ ap (λ (l : List ℕ). l ++ yb) (sym (held_on now next taken filled wanted more was buf fills inv.order)) in
+      let count_is : count - length xs ≡ t.taken + m = omega (arith, t.grown, t.few, long, inv.few, inv.order, fills.few, fit.0, fit.1) in
+      let there : cells_at ys m (input_of took.at took.left yb) ≡ cells_at ys m (input_of (place_after place after) (held_in after (filled + more) buf) yb) =
+        ap (λ (p : ℕ). cells_at ys m (input_of p took.left yb)) at_is ∙ ap (λ (l : List ℕ). cells_at ys m (input_of (place_after place after) l yb)) left_is in
+      (refl, (so_far e).1 ∙ rw (bytes, count_is) (t.reads m yb) ∙ there)
+
 -- a block of whole cells
-pub block_of_cells : (old new : Option (List ℕ)) (before now : List Cell) (place count wanted read after : ℕ) (buf : List ℕ)
-    → AreCellsTaken 0 before now place (take read buf) → FillsFront old new wanted read buf → wanted ≤ read → 0 < wanted → wanted ≤ count - length before
-    → after ≡ place_after place read → ReadsCells (Ok after) old new before now place count
-block_of_cells old new before now place count wanted read after buf taken fills whole some few after_is =
-    (omega (arith, t.grown, t.some, long, left_long, some, whole), omega (arith, t.grown, t.few, long, fills.few, few), known old new fills.consumed)
+pub block_done : (old now : Option (List ℕ)) (before xs : List Cell) (place count wanted filled taken after : ℕ) (buf : List ℕ) (f g : ℕ)
+    → IsCellBlock old now before xs place count wanted filled taken buf f g → IsWanted before count wanted → wanted ≤ filled → taken ≡ filled
+    → after ≡ place_after place taken → ReadsCells (Ok after) old now before xs place count
+block_done old now before xs place count wanted filled taken after buf f g inv fit full all after_is =
+    let none : held_in taken filled buf ≡ [] = held_none taken filled buf (omega (arith, inv.within, inv.long, fit.2)) (omega (arith, all)) in
+    (
+      inv.some (omega (arith, all, full, fit.0)),
+      omega (arith, inv.few, all, inv.within, fit.0, fit.1),
+      λ known. let was = inv.known known in (was.0, was.1 ∙ rw (none, after_is) refl),
+    )
+
+-- the input ends within the block
+pub block_end : (old now next : Option (List ℕ)) (before xs : List Cell) (place count wanted filled taken more after : ℕ) (was buf : List ℕ) (f g : ℕ)
+    → IsCellBlock old now before xs place count wanted filled taken was f g → IsWanted before count wanted → FillsOn now next filled wanted more was buf → more ≡ 0
+    → filled < wanted → after ≡ place_after place (filled + more) → ReadsCells (Err (fault.Form after)) old next before xs place count
+block_end old now next before xs place count wanted filled taken more after was buf f g inv fit fills none short after_is e =
+    (inv.known e).1 ∙ ends now next fills.consumed (fills.at_end none) (inv.known e).0
   where
-    t : IsTakingCells before now place taken.at (take read buf) taken.left
-    t = taken.taking
-    long : length (take read buf) ≡ read
-    long = front_long read buf (omega (arith, fills.few, fills.room))
-    left_long : length taken.left ≡ 0
-    left_long = sym taken.over_is
+    held : List ℕ
+    held = held_in taken filled was
+    long : length held ≡ filled - taken
+    long = held_long taken filled was (omega (arith, inv.long, inv.within, fit.2))
 
-    known : (a b : Option (List ℕ)) → Consumes a b (take read buf) → is_some a ≡ true
-        → (is_some b ≡ true) × (cells_at before (count - length before) (input_at place a) ≡ cells_at now (count - length now) (input_at after b))
-    known None b consumed e = absurd cc
-    known (Some xs) None consumed e = absurd consumed
-    known (Some xs) (Some ys) consumed e =
-        let none : taken.left ≡ [] = none_left taken.left left_long in
-        let count_is : count - length before ≡ t.taken + (count - length now) = omega (arith, t.grown, t.few, long, fills.few, few) in
-        let at_is : after ≡ taken.at = omega (arith, t.at_is, long, left_long, after_is) in
-        (refl, rw (consumed, count_is, at_is) (t.reads (count - length now) ys ∙ ap (λ (l : List ℕ). cells_at now (count - length now) (input_of taken.at l ys)) none))
+    ends : (b c : Option (List ℕ)) → Consumes b c (take more (drop filled buf)) → IsAtEnd c → is_some b ≡ true
+        → cells_at xs (count - length xs) (input_held (place_after place taken) held b) ≡ Err after
+    ends None c consumed end known = absurd cc
+    ends (Some nb) None consumed end known = absurd consumed
+    ends (Some nb) (Some yb) consumed end known =
+        let m = count - (length xs + 1) in
+        let count_is : count - length xs ≡ suc m = omega (arith, inv.few, inv.order, short, fit.0, fit.1) in
+        let empty : take more (drop filled buf) ≡ [] = none_left (take more (drop filled buf)) (omega (arith, length-take more (drop filled buf), none)) in
+        let nothing : nb ≡ [] = consumed ∙ ap (λ (l : List ℕ). l ++ yb) empty ∙ end in
+        let there : place_after (place_after place taken) (length held) ≡ after = omega (arith, long, inv.order, none, after_is) in
+        rw (count_is, nothing) (cells_cut xs m (place_after place taken) held (λ lt. inv.begun (omega (arith, long, lt))) ∙ ap (λ (p : ℕ). Err p) there)
 
--- a block, and the rest of its last cell
-pub block_and_rest : (old mid new : Option (List ℕ)) (before between now : List Cell) (place count wanted read over at after : ℕ) (buf number : List ℕ)
-    → AreCellsTaken over before between place (take read buf) → FillsFront old mid wanted read buf → 0 < over → wanted ≤ count - length before
-    → at ≡ place_after place (read - over) → 1 ∷ number ≡ drop (read - over) (take read buf) → ReadsRest (Ok after) mid new number between now at
-    → ReadsCells (Ok after) old new before now place count
-block_and_rest old mid new before between now place count wanted read over at after buf number taken fills some few at_is number_is rest =
-    (omega (arith, t.grown, rest.0), omega (arith, t.grown, rest.0, t.few, long, fills.few, few, taken.over_is, some), known old mid new fills.consumed rest.1)
+-- a cell of the block is refused
+pub block_refused : (e : DecodeFault) (old now next : Option (List ℕ)) (before xs ys : List Cell) (place count wanted filled taken more : ℕ) (was buf : List ℕ) (f g : ℕ)
+    → IsCellBlock old now before xs place count wanted filled taken was f g → IsWanted before count wanted → FillsOn now next filled wanted more was buf
+    → TakesCells (Err e) xs ys (place_after place taken) (held_in taken (filled + more) buf) → ReadsCells (Err e) old next before ys place count
+block_refused fault.Read old now next before xs ys place count wanted filled taken more was buf f g inv fit fills breaks = absurd breaks
+block_refused (fault.OutOfMemory error) old now next before xs ys place count wanted filled taken more was buf f g inv fit fills breaks = λ known. tt
+block_refused (fault.Form broken) old now next before xs ys place count wanted filled taken more was buf f g inv fit fills breaks =
+    λ e. (inv.known e).1 ∙ refused now next fills.consumed (inv.known e).0
   where
-    t : IsTakingCells before between place taken.at (take read buf) taken.left
-    t = taken.taking
-    long : length (take read buf) ≡ read
-    long = front_long read buf (omega (arith, fills.few, fills.room))
+    slice : List ℕ
+    slice = held_in taken (filled + more) buf
+    long : length slice ≡ (filled + more) - taken
+    long = held_long taken (filled + more) buf (omega (arith, fills.few, fills.room))
 
-    known : (a b c : Option (List ℕ)) → Consumes a b (take read buf)
-        → (is_some b ≡ true → (is_some c ≡ true) × ((n : ℕ) → cells_at between (1 + n) (input_begun at number b) ≡ cells_at now n (input_at after c)))
-        → is_some a ≡ true → (is_some c ≡ true) × (cells_at before (count - length before) (input_at place a) ≡ cells_at now (count - length now) (input_at after c))
-    known None b c consumed r e = absurd cc
-    known (Some xs) None c consumed r e = absurd consumed
-    known (Some xs) (Some ys) c consumed r e =
-        let is = r refl in
-        let left_is : taken.left ≡ 1 ∷ number = taken.suffix ∙ ap (λ (n : ℕ). drop (n - over) (take read buf)) long ∙ sym number_is in
-        let count_is : count - length before ≡ t.taken + (1 + (count - length now)) = omega (arith, t.grown, rest.0, t.few, long, fills.few, few, taken.over_is, some) in
-        let here : taken.at ≡ at = omega (arith, t.at_is, long, taken.over_is, at_is) in
-        (is.0, rw (consumed, count_is) (t.reads (1 + (count - length now)) ys
-          ∙ rw (left_is, here) refl ∙ is.1 (count - length now)))
+    refused : (b c : Option (List ℕ)) → Consumes b c (take more (drop filled buf)) → is_some b ≡ true
+        → cells_at xs (count - length xs) (input_held (place_after place taken) (held_in taken filled was) b) ≡ Err broken
+    refused None c consumed known = absurd cc
+    refused (Some nb) None consumed known = absurd consumed
+    refused (Some nb) (Some yb) consumed known =
+        let bytes : held_in taken filled was ++ nb ≡ slice ++ yb =
+          ap (λ (l : List ℕ). held_in taken filled was ++ l) consumed ∙ sym (append_assoc (held_in taken filled was) (take more (drop filled buf)) yb)
+          ∙ ap (λ (l : List ℕ). l ++ yb) (sym (held_on now next taken filled wanted more was buf fills inv.order)) in
+        rw bytes (breaks (count - length xs) yb (omega (arith, long, inv.few, inv.order, fills.few, fit.0, fit.1)))
 
--- a block at the input's end
-pub block_cut : (old new : Option (List ℕ)) (before now : List Cell) (place count wanted read over after : ℕ) (buf : List ℕ)
-    → AreCellsTaken over before now place (take read buf) → FillsFront old new wanted read buf → read < wanted → wanted ≤ count - length before
-    → after ≡ place_after place read → ReadsCells (Err (fault.Form after)) old new before now place count
-block_cut None new before now place count wanted read over after buf taken fills short few after_is known = absurd cc
-block_cut (Some xs) None before now place count wanted read over after buf taken fills short few after_is known = absurd fills.consumed
-block_cut (Some xs) (Some ys) before now place count wanted read over after buf taken fills short few after_is known =
-    let t = taken.taking in
-    let long = front_long read buf (omega (arith, fills.few, fills.room)) in
-    let end : ys ≡ [] = fills.at_end short in
-    let m = (count - length before) - (t.taken + 1) in
-    let count_is : count - length before ≡ t.taken + suc m = omega (arith, t.few, long, short, few) in
-    let at_is : after ≡ place_after taken.at (length taken.left) = omega (arith, t.at_is, t.few, long, after_is) in
-    rw (fills.consumed, end, count_is, at_is) (t.reads (suc m) [] ∙ cells_cut now m taken.at taken.left (λ lt. taken.begun (omega (arith, taken.over_is, lt))))
-
--- what is refused in a block
-pub block_refused : (e : DecodeFault) (old new : Option (List ℕ)) (before now : List Cell) (place count wanted read : ℕ) (buf : List ℕ)
-    → TakesCells (Err e) before now place (take read buf) → FillsFront old new wanted read buf → wanted ≤ count - length before
-    → ReadsCells (Err e) old new before now place count
-block_refused fault.Read old new before now place count wanted read buf breaks fills few = absurd breaks
-block_refused (fault.OutOfMemory error) old new before now place count wanted read buf breaks fills few = λ known. tt
-block_refused (fault.Form broken) None new before now place count wanted read buf breaks fills few = λ known. absurd cc
-block_refused (fault.Form broken) (Some xs) None before now place count wanted read buf breaks fills few = absurd fills.consumed
-block_refused (fault.Form broken) (Some xs) (Some ys) before now place count wanted read buf breaks fills few =
-    let long = front_long read buf (omega (arith, fills.few, fills.room)) in
-    λ known. rw fills.consumed (breaks (count - length before) ys (omega (arith, long, fills.few)))
-
--- what is refused in the rest of the last cell
-pub rest_refused : (e : DecodeFault) (old mid new : Option (List ℕ)) (before between now : List Cell) (place count wanted read over at : ℕ) (buf number : List ℕ)
-    → AreCellsTaken over before between place (take read buf) → FillsFront old mid wanted read buf → 0 < over → wanted ≤ count - length before
-    → at ≡ place_after place (read - over) → 1 ∷ number ≡ drop (read - over) (take read buf) → ReadsRest (Err e) mid new number between now at
-    → ReadsCells (Err e) old new before now place count
-rest_refused e None mid new before between now place count wanted read over at buf number taken fills some few at_is number_is rest = λ known. absurd cc
-rest_refused e (Some xs) None new before between now place count wanted read over at buf number taken fills some few at_is number_is rest = absurd fills.consumed
-rest_refused e (Some xs) (Some ys) new before between now place count wanted read over at buf number taken fills some few at_is number_is rest = λ known.
-    let t = taken.taking in
-    let long = front_long read buf (omega (arith, fills.few, fills.room)) in
-    let m = (count - length before) - (t.taken + 1) in
-    let left_is : taken.left ≡ 1 ∷ number = taken.suffix ∙ ap (λ (n : ℕ). drop (n - over) (take read buf)) long ∙ sym number_is in
-    let count_is : count - length before ≡ t.taken + (1 + m) = omega (arith, t.few, long, fills.few, few, taken.over_is, some) in
-    let here : taken.at ≡ at = omega (arith, t.at_is, long, taken.over_is, at_is) in
-    let so_far : cells_at before (count - length before) (input_at place (Some xs)) ≡ cells_at between (1 + m) (input_begun at number (Some ys)) =
-      subst (λ (n : ℕ). cells_at before n (input_at place (Some xs)) ≡ cells_at between (1 + m) (input_begun at number (Some ys))) (sym count_is)
-      (rw fills.consumed (t.reads (1 + m) ys ∙ rw (left_is, here) refl)) in
-    subst (λ (r : Answer (List Cell)). Fails e r) (sym so_far) (rest refl m)
-
--- what is read of the last cell after its tag
-pub number_begun : (before between : List Cell) (place read over : ℕ) (buf number : List ℕ) → AreCellsTaken over before between place (take read buf)
-    → read ≤ length buf → 0 < over → number ≡ take (read - ((read - over) + 1)) (drop ((read - over) + 1) buf) → 1 ∷ number ≡ drop (read - over) (take read buf)
-number_begun before between place read over buf number taken le some number_is =
-    let long = front_long read buf le in
-    let start = read - over in
-    let m = read - (start + 1) in
-    let b = taken.begun some in
-    let left_is : taken.left ≡ drop start (take read buf) = taken.suffix ∙ ap (λ (n : ℕ). drop (n - over) (take read buf)) long in
-    let whole : (start + 1) + m ≡ read = omega (arith, taken.taking.few, long, taken.over_is, some) in
-    let rest : b.number ≡ number =
-      ap (drop 1) (sym b.left_is ∙ left_is) ∙ drop-drop 1 start (take read buf) ∙ ap (λ (n : ℕ). drop (start + 1) (take n buf)) (sym whole)
-      ∙ drop-take (start + 1) m buf ∙ sym number_is in
-    ap (λ (l : List ℕ). 1 ∷ l) (sym rest) ∙ sym b.left_is ∙ left_is
+-- of a cell that was begun less than four bytes of its number are held
+pub rest_short : (old now : Option (List ℕ)) (before xs : List Cell) (place count wanted filled taken : ℕ) (buf : List ℕ) (f g : ℕ)
+    → IsCellBlock old now before xs place count wanted filled taken buf f g → wanted ≤ 64 → taken < filled
+    → length (take (filled - (taken + 1)) (drop (taken + 1) buf)) ≤ 4
+rest_short old now before xs place count wanted filled taken buf f g inv few some =
+    let b = inv.begun some in
+    omega (arith, ap length b.left_is, b.short, held_long taken filled buf (omega (arith, inv.long, inv.within)), length-take (filled - (taken + 1)) (drop (taken + 1) buf))
 
 -- a block, and what reading the rest of its last cell comes to
-pub rest_of_block : (r : Result ℕ DecodeFault) (old mid new : Option (List ℕ)) (before between now : List Cell) (place count wanted read over at : ℕ) (buf number : List ℕ)
-    → AreCellsTaken over before between place (take read buf) → FillsFront old mid wanted read buf → 0 < over → wanted ≤ count - length before
-    → at ≡ place_after place (read - over) → 1 ∷ number ≡ drop (read - over) (take read buf) → ReadsRest r mid new number between now at
-    → ReadsCells r old new before now place count
-rest_of_block (Ok after) old mid new before between now place count wanted read over at buf number =
-    block_and_rest old mid new before between now place count wanted read over at after buf number
-rest_of_block (Err e) old mid new before between now place count wanted read over at buf number =
-    rest_refused e old mid new before between now place count wanted read over at buf number
+pub block_rest : (r : Result ℕ DecodeFault) (old now next : Option (List ℕ)) (before xs ys : List Cell) (place count wanted filled taken at : ℕ) (buf number : List ℕ) (f g : ℕ)
+    → IsCellBlock old now before xs place count wanted filled taken buf f g → IsWanted before count wanted → taken < filled → at ≡ place_after place taken
+    → number ≡ take (filled - (taken + 1)) (drop (taken + 1) buf) → ReadsRest r now next number xs ys at → ReadsCells r old next before ys place count
+block_rest r old now next before xs ys place count wanted filled taken at buf number f g inv fit some at_is number_is rest = from r rest
+  where
+    b : IsBegun (held_in taken filled buf)
+    b = inv.begun some
+    begun_is : b.number ≡ number
+    begun_is =
+        ap (drop 1) (sym b.left_is) ∙ drop-drop 1 taken (take filled buf) ∙ sym (held_slice (taken + 1) filled buf (omega (arith, some))) ∙ sym number_is
+    held_is : held_in taken filled buf ≡ 1 ∷ number
+    held_is = b.left_is ∙ ap (λ (l : List ℕ). 1 ∷ l) begun_is
+    so_far : is_some old ≡ true → (is_some now ≡ true) × (cells_at before (count - length before) (input_at place old)
+        ≡ cells_at xs (count - length xs) (input_begun at number now))
+    so_far e =
+        let was = inv.known e in
+        (was.0, was.1 ∙ rw (held_is, at_is) refl)
+
+    from : (r : Result ℕ DecodeFault) → ReadsRest r now next number xs ys at → ReadsCells r old next before ys place count
+    from (Ok after) rest = (
+      omega (arith, rest.0, inv.least),
+      omega (arith, rest.0, inv.few, some, inv.within, fit.0, fit.1),
+      λ e.
+        let was = so_far e in
+        let is = rest.1 was.0 in
+        let count_is : count - length xs ≡ 1 + (count - length ys) = omega (arith, rest.0, inv.few, some, inv.within, fit.0, fit.1) in
+        (is.0, was.1 ∙ rw count_is refl ∙ is.1 (count - length ys)),
+    )
+    from (Err e) rest = λ known.
+        let was = so_far known in
+        let m = count - (length xs + 1) in
+        let count_is : count - length xs ≡ 1 + m = omega (arith, inv.few, some, inv.within, fit.0, fit.1) in
+        let here : cells_at before (count - length before) (input_at place old) ≡ cells_at xs (1 + m) (input_begun at number now) = was.1 ∙ rw count_is refl in
+        subst (λ (x : Answer (List Cell)). Fails e x) (sym here) (rest was.0 m)
 
 -- what a loop over blocks keeps
 pub record IsReadingCells (old now : Option (List ℕ)) (total : Answer (List Cell)) (xs : List Cell) (count place failures failures_now : ℕ) : Type 0 where
@@ -333,12 +365,6 @@ cells_on old now next total xs ys count place after f g h inv reads some same = 
   beginning = consumes_then _ _ _ inv.beginning some;
   failures_are = same ∙ inv.failures_are;
 }
-
-pub cells_fail : (old now next : Option (List ℕ)) (total : Answer (List Cell)) (xs ys : List Cell) (count place f g : ℕ) (e : DecodeFault)
-    → IsReadingCells old now total xs count place f g → ReadsCells (Err e) now next xs ys place count → is_some old ≡ true → Fails e total
-cells_fail old now next total xs ys count place f g e inv reads known =
-    let was = inv.known known in
-    subst (λ (r : Answer (List Cell)). Fails e r) was.1 (reads was.0)
 
 pub cells_all : (old now : Option (List ℕ)) (total : Answer (List Cell)) (xs : List Cell) (count place f g : ℕ)
     → IsReadingCells old now total xs count place f g → count ≤ length xs → is_some old ≡ true → (is_some now ≡ true) × (total ≡ Ok (xs, input_at place now))

@@ -19,11 +19,13 @@ pub record IsTaking (old now : List (ℕ × ℕ)) (place at : ℕ) (bytes left :
   pub at_is : at ≡ place_after place (6 * taken)
   pub reads : (n : ℕ) (rest : List ℕ) → list_at function_at old (taken + n) (input_of place bytes rest) ≡ list_at function_at now n (input_of at left rest)
 
--- all functions that are whole were taken
-pub record AreTaken (old new : List (ℕ × ℕ)) (place : ℕ) (bytes : List ℕ) : Type 0 where
+-- all functions that are whole were taken; so many bytes are left
+pub record AreTaken (over : ℕ) (old new : List (ℕ × ℕ)) (place : ℕ) (bytes : List ℕ) : Type 0 where
   pub at : ℕ
   pub left : List ℕ
-  pub short : length left < 6
+  pub over_is : over ≡ length left
+  pub short : over < 6
+  pub suffix : left ≡ drop (length bytes - over) bytes
   pub taking : IsTaking old new place at bytes left
 
 -- a function in the bytes breaks the rule, and this is its place
@@ -31,18 +33,24 @@ abbrev pub BreaksAt : List (ℕ × ℕ) → ℕ → List ℕ → ℕ → Type 0
 BreaksAt old place bytes broken = (n : ℕ) (rest : List ℕ) → length bytes ≤ 6 * n → list_at function_at old n (input_of place bytes rest) ≡ Err broken
 
 -- what comes of taking the functions of these bytes; want of memory says nothing, and no read fails
-abbrev pub Takes : {T : Type 0} → Result T DecodeFault → List (ℕ × ℕ) → List (ℕ × ℕ) → ℕ → List ℕ → Type 0
-Takes (Ok done) old new place bytes = AreTaken old new place bytes
+abbrev pub Takes : Result ℕ DecodeFault → List (ℕ × ℕ) → List (ℕ × ℕ) → ℕ → List ℕ → Type 0
+Takes (Ok over) old new place bytes = AreTaken over old new place bytes
 Takes (Err (fault.Form broken)) old new place bytes = BreaksAt old place bytes broken
 Takes (Err fault.Read) old new place bytes = ⊥
 Takes (Err (fault.OutOfMemory error)) old new place bytes = Unit {0}
 
--- So many of the wanted bytes were read into the front of the buffer, all of them but at the input's end.
-pub record FillsFront (old new : Option (List ℕ)) (wanted read : ℕ) (buf : List ℕ) : Type 0 where
-  pub few : read ≤ wanted
+-- So many more of the wanted bytes were read into the buffer, after those that it holds; none at the input's end.
+pub record FillsOn (old new : Option (List ℕ)) (held wanted more : ℕ) (before buf : List ℕ) : Type 0 where
+  pub long : length buf ≡ length before
+  pub few : held + more ≤ wanted
   pub room : wanted ≤ length buf
-  pub consumed : Consumes old new (take read buf)
-  pub at_end : read < wanted → IsAtEnd new
+  pub held_is : take held buf ≡ take held before
+  pub consumed : Consumes old new (take more (drop held buf))
+  pub at_end : more ≡ 0 → IsAtEnd new
+
+-- the input of which these bytes are held already
+abbrev pub input_held : ℕ → List ℕ → Option (List ℕ) → Input
+input_held place held known = input_of place held (unwrap_or known [])
 
 -- So many functions of a list were read after those before them; the rest of the list is read from there on.
 abbrev pub ReadsBlock : Result ℕ DecodeFault → Option (List ℕ) → Option (List ℕ) → List (ℕ × ℕ) → List (ℕ × ℕ) → ℕ → ℕ → Type 0

@@ -5,7 +5,7 @@ ghost use Rattle.tt_abs.specs.Entries.{Rises};
 ghost use Rattle.tt_stream.specs.Reads.{ConsumesBeginning};
 ghost use Rattle.tt_stream.specs.Streams.{CountsFailure};
 ghost use Rattle.tt_cert_file.specs.Answers.{CountsRead, Gives, input_at};
-ghost use Rattle.tt_cert_file.specs.Blocks.{FillsFront, FillsRest, ReadsBlock, ReadsCells, ReadsRest, Takes, TakesCells};
+ghost use Rattle.tt_cert_file.specs.Blocks.{FillsOn, FillsRest, ReadsBlock, ReadsCells, ReadsRest, Takes, TakesCells};
 ghost use Rattle.tt_cert_file.specs.Readers.{list_at};
 ghost use Rattle.tt_cert_file.specs.Reading.{cell_at, function_at, functions_at, stack_at, storage_at, stored_at};
 ghost use Rattle.tt_cert_file.specs.Rules.{is_above, last_of};
@@ -23,18 +23,20 @@ const FUNCTION: usize = 6;
 /// How many functions, or bytes of cells, are read at a time. Of both a state may list hundreds, which are most of a certificate's bytes.
 const BLOCK: usize = 64;
 
-/// Reads so many bytes into the front of the buffer, or all that are left, and answers how many.
-fn read_front<S: Source>(
+/// Reads some more of the wanted bytes into the buffer, of which so many are held already, in one call.
+fn read_more<S: Source>(
     source: &mut S,
     buf: &mut [u8],
+    held: usize,
     wanted: usize,
 ) -> Result<usize, ReadFailed>
-    requires { wanted ≤ length buf.old }
-    ensures front { IfOk result (λ n. FillsFront (S.remaining source.old) (S.remaining source.new) wanted n buf.new) }
+    requires some { held < wanted }
+    requires room { wanted ≤ length buf.old }
+    ensures fills { IfOk result (λ n. FillsOn (S.remaining source.old) (S.remaining source.new) held wanted n buf.old buf.new) }
     ensures beginning { ConsumesBeginning (S.remaining source.old) (S.remaining source.new) }
     ensures failures { CountsFailure result (S.failures source.old) (S.failures source.new) }
 {
-    read_full(source, &mut buf[..wanted])
+    source.read(&mut buf[held..wanted])
 }
 
 /// Reads until the buffer is full, of which so many bytes are held already, and answers how many were read.
@@ -99,7 +101,8 @@ fn read_rest_of_cell<S: Source>(
 }
 
 /// Reads some cells at once, of so many in all, after those before them, and answers the place after them. Each cell has a byte at least:
-/// so as many bytes are read as cells are left, and then those of the last one that are missing.
+/// so as many bytes are read as cells are left, and then those of the last one that are missing. No call of the source is made once a tag is
+/// read that breaks a rule.
 fn read_cell_block<S: Source>(
     source: &mut S,
     place: u64,
@@ -113,17 +116,23 @@ fn read_cell_block<S: Source>(
 {
     let mut bytes = [0u8; BLOCK];
     let wanted = (count - cells.len()).min(BLOCK);
-    let read = read_front(source, &mut bytes, wanted)?;
-    let over = take_cells(cells, place, &bytes[..read])?;
-    if read < wanted {
-        return Err(DecodeFault::Form(place.saturating_add(read as u64)));
+    let mut filled = 0;
+    let mut taken = 0;
+    'fill: while filled < wanted {
+        let more = read_more(source, &mut bytes, filled, wanted)?;
+        filled += more;
+        let at = place.saturating_add(taken as u64);
+        if more == 0 {
+            return Err(DecodeFault::Form(place.saturating_add(filled as u64)));
+        }
+        let over = take_cells(cells, at, &bytes[taken..filled])?;
+        taken = filled - over;
     }
-    let start = read - over;
-    let after = place.saturating_add(start as u64);
-    if over == 0 {
+    let after = place.saturating_add(taken as u64);
+    if taken == filled {
         return Ok(after);
     }
-    read_rest_of_cell(source, after, &bytes[start + 1..read], cells)
+    read_rest_of_cell(source, after, &bytes[taken + 1..filled], cells)
 }
 
 /// Reads so many cells.
@@ -172,12 +181,12 @@ fn is_next(functions: &[(u16, u32)], function: (u16, u32)) -> bool
     }
 }
 
-/// Takes the functions that are whole in these bytes, after those before them.
+/// Takes the functions that are whole in these bytes, after those before them, and answers how many bytes are left of one more.
 fn take_functions(
     functions: &mut Vec<(u16, u32)>,
     place: u64,
     bytes: &[u8],
-) -> Result<(), DecodeFault>
+) -> Result<usize, DecodeFault>
     ensures takes { Takes result functions.old.items functions.new.items place bytes.now }
     ensures rises { Rises functions.old.items → OnOk result (Rises functions.new.items) }
 {
@@ -193,10 +202,11 @@ fn take_functions(
         at = at.saturating_add(FUNCTION as u64);
         left = rest;
     }
-    Ok(())
+    Ok(left.len())
 }
 
-/// Reads so many functions at once, after those before them, and answers the place after them.
+/// Reads so many functions at once, after those before them, and answers the place after them. No call of the source is made once a function
+/// is read that breaks a rule.
 fn read_function_block<S: Source>(
     source: &mut S,
     place: u64,
@@ -211,13 +221,19 @@ fn read_function_block<S: Source>(
 {
     let mut bytes = [0u8; FUNCTION * BLOCK];
     let wanted = FUNCTION * count;
-    let read = read_front(source, &mut bytes, wanted)?;
-    take_functions(functions, place, &bytes[..read])?;
-    let after = place.saturating_add(read as u64);
-    if read < wanted {
-        return Err(DecodeFault::Form(after));
+    let mut filled = 0;
+    let mut taken = 0;
+    'fill: while filled < wanted {
+        let more = read_more(source, &mut bytes, filled, wanted)?;
+        filled += more;
+        let at = place.saturating_add(taken as u64);
+        if more == 0 {
+            return Err(DecodeFault::Form(place.saturating_add(filled as u64)));
+        }
+        let over = take_functions(functions, at, &bytes[taken..filled])?;
+        taken = filled - over;
     }
-    Ok(after)
+    Ok(place.saturating_add(taken as u64))
 }
 
 /// Reads so many functions.

@@ -1,6 +1,6 @@
 use Rattle.std.proofs.Common.{arith, sym, subst, ◌∙◌}
 use Rattle.tt_abs.specs.Entries.{Rises}
-use Rattle.tt_cert_file.proofs.Blocks.{taking_breaks, taking_more}
+use Rattle.tt_cert_file.proofs.Blocks.{suffix_on, taking_breaks, taking_more}
 use Rattle.tt_cert_file.proofs.Rises.{Rises-push}
 use Rattle.tt_cert_file.proofs.lists.take_functions.Goals as goal
 
@@ -18,4 +18,5 @@ functions-preserved c =
       taking_more _ _ _ _ _ _ _ _ _ c.in-Some.unit.now c.pair_of-function.result c.functions.invariant.0 (omega (arith, cut.2)) cut.0 cut.1 c.pair_of-function.ensures above
       c.in_ok-push.ensures.items c.saturating_add-at.ensures,
       λ rises. subst Rises (sym c.in_ok-push.ensures.items) (Rises-push _ _ (c.functions.invariant.1 rises) above),
+      suffix_on _ _ _ 6 c.functions.invariant.2 cut.1 (omega (arith, cut.2)),
     )

@@ -1,4 +1,4 @@
-use Rattle.std.proofs.Common.{length}
+use Rattle.std.proofs.Common.{◌≡◌, ◌-◌, length, drop}
 use Rattle.tt_abs.specs.Entries.{Rises}
 use Rattle.tt_cert_file.specs.Blocks.{IsTaking}
 use Rattle.tt_cert_file.proofs.lists.take_functions.Given as goal
@@ -6,6 +6,7 @@ use Rattle.tt_cert_file.proofs.lists.take_functions.Given as goal
 abbrev pub invariant-functions : goal.invariant-functions
 invariant-functions l =
     IsTaking l.fn.functions.items l.functions.items l.fn.place l.at l.fn.bytes l.left × (Rises l.fn.functions.items → Rises l.functions.items)
+    × (l.left ≡ drop (length l.fn.bytes - length l.left) l.fn.bytes)
 
 abbrev pub decreases-functions : goal.decreases-functions
 decreases-functions l = length l.left
