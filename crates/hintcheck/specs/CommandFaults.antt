@@ -72,7 +72,7 @@ IsFaultOfReading other = ⊥
 
 -- why there is none on a font file, or its certificate isn't written
 abbrev pub IsFaultOfCertifying : CommandFault → Type 0
-IsFaultOfCertifying (fault.Font numbered) = Unit {0}
+IsFaultOfCertifying (fault.Font numbered) = IsFaultOfSomeFont numbered.0
 IsFaultOfCertifying fault.File = Unit {0}
 IsFaultOfCertifying other = IsFaultOfReading other
 
@@ -82,7 +82,7 @@ IsFaultOfFinding font certificate told = ((font ≡ certificate) × (told ≡ fa
 
 -- why there is none on a font file by its certificate
 abbrev pub IsFaultOfChecking : CommandFault → Type 0
-IsFaultOfChecking (fault.Font numbered) = Unit {0}
+IsFaultOfChecking (fault.Font numbered) = IsFaultOfSomeFont numbered.0
 IsFaultOfChecking (fault.Form place) = Unit {0}
 IsFaultOfChecking other = IsFaultOfReading other
 
