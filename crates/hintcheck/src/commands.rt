@@ -1,10 +1,11 @@
 //! What the words of a command line ask for, done: a verdict or a fault in lines for the user, and
 //! the exit status.
 
-ghost use Rattle.std.specs.Prelude.{◌≡◌, ◌≢◌, ◌+◌, ◌≤◌, ◌<◌, ◌⊎◌, ℕ, IfErr, IfOk, List, OnOk, [], map, option_map, string_bytes, true, unwrap_or};
+ghost use Rattle.std.specs.Prelude.{◌≡◌, ◌≢◌, ◌+◌, ◌≤◌, ◌<◌, ◌⊎◌, ℕ, IfErr, IfOk, IfSome, List, Ok, OnOk, [], map, option_map, string_bytes, true, unwrap_or};
 ghost use Rattle.std.specs.Io.KnownBytes.{Appends};
 ghost use Rattle.tt_stream.specs.Streams.{CountsPrintFailure};
 ghost use Rattle.hintcheck_words.specs.Requests.{asked, is_taken};
+ghost use Rattle.hintcheck.specs.Certificates.{IsChecked};
 ghost use Rattle.hintcheck.specs.Commands.{HasAll, IsForVerdict, IsNoWriteFault, ReadsToEnd, TellsFailedRead, TellsFailure, status_of};
 ghost use Rattle.hintcheck.specs.CommandFaults.{HasNoFault, IsFaultOfCertifying, IsFaultOfChecking, IsFaultOfFileListing, IsFaultOfFinding, IsFaultOfFontFile, IsFaultOfGlyph, IsFaultOfPrinting, IsFaultOfReading, IsFaultOfRequest, IsFaultOfSource, IsFaultOfTask, IsFaultOfWords, MeansNoFault, ReadNoFault, SpellNoFault, TellsFault};
 ghost use Rattle.hintcheck.specs.FontLooks.{IsFontInRange};
@@ -171,6 +172,7 @@ fn verdict_by_file<L: Ledger, F: Read + Drop>(
     requires range { IsFontInRange font.now }
     requires blank { (blank.name ≡ L.name) × (blank.parts ≡ L.parts) × (0 < blank.parts) }
     ensures safe { IfOk result (λ verdict. verdict.refused ≡ [] → IsSafeFont font.now) }
+    ensures checked { IfOk result (λ verdict. IfSome (F.remaining file) (λ bytes. IsChecked font.now bytes (Ok verdict.refused))) }
     ensures fault { IfErr result IsNoWriteFault }
     ensures faults { IfErr result IsFaultOfChecking }
 {
