@@ -1,7 +1,7 @@
 //! What the words of a command line ask for, done: a verdict or a fault in lines for the user, and
 //! the exit status.
 
-ghost use Rattle.std.specs.Prelude.{◌≡◌, ◌≢◌, ◌+◌, ◌≤◌, ◌<◌, ◌⊎◌, ℕ, IfErr, IfOk, IfSome, List, Ok, OnOk, [], map, option_map, string_bytes, true, unwrap_or};
+ghost use Rattle.std.specs.Prelude.{◌≡◌, ◌≢◌, ◌+◌, ◌≤◌, ◌<◌, ◌⊎◌, ℕ, IfErr, IfOk, IfSome, IsTrue, List, Ok, OnOk, [], map, option_map, string_bytes, true, unwrap_or};
 ghost use Rattle.std.specs.Io.KnownBytes.{Appends};
 ghost use Rattle.tt_stream.specs.Streams.{CountsPrintFailure};
 ghost use Rattle.hintcheck_words.specs.Requests.{asked, is_taken};
@@ -29,6 +29,7 @@ use std::alloc::{AllocError, Global};
 use std::fs;
 use std::io::{BufReader, Read, Write};
 use std::marker::Brand;
+use std::os::unix::fs::MetadataExt;
 use std::rt::Files;
 use std::sync::ledger::{Blank, Ledger};
 use tt_font::Font;
@@ -219,8 +220,40 @@ fn verdict_to_file<L: Ledger, F: Write + Drop>(
     Ok(find_programs(alloc, font, &mut sink)?)
 }
 
+/// The numbers by which a system tells its files apart: that of the file on its device, and the device's.
+#[derive(Clone, Copy, PartialEq, Eq)]
+struct FileNumbers {
+    file: u64,
+    device: u64,
+}
+
+/// The numbers of the file with this name, where there is one and the runtime tells them: one that doesn't has 0 for each file.
+fn file_numbers<R: Files>(rt: &R, name: &str) -> Option<FileNumbers>
+    ensures { IfSome result (λ numbers. numbers.file ≢ 0) }
+{
+    let told = fs::metadata(rt, name).ok()?;
+    let numbers = FileNumbers {
+        file: told.ino(),
+        device: told.dev(),
+    };
+    (numbers.file != 0).then_some(numbers)
+}
+
+/// Do the names stand for one file, as far as that can be told? One name does, and so do two whose files have the same numbers.
+fn is_one_file<R: Files>(rt: &R, one: &str, other: &str) -> bool
+    ensures { one.now ≡ other.now → IsTrue result }
+{
+    if one == other {
+        return true;
+    }
+    match (file_numbers(rt, one), file_numbers(rt, other)) {
+        (Some(one), Some(other)) => one == other,
+        _ => false,
+    }
+}
+
 /// The verdict on the font file with the first name, whose certificate is written to the file with the second, which is made or emptied where the
-/// first is a font.
+/// first is a font, and a file of its own as far as that can be told.
 fn find_verdict<R: Files + AllocGlobal>(
     rt: &R,
     font: &str,
@@ -232,7 +265,7 @@ fn find_verdict<R: Files + AllocGlobal>(
     ensures faults { IfErr result (IsFaultOfFinding font.now certificate.now) }
     ensures none { OnOk result (font.now ≢ certificate.now) }
 {
-    if font == certificate {
+    if is_one_file(rt, font, certificate) {
         return Err(CommandFault::CertificateWord);
     }
     let bytes = file_bytes(rt, font)?;

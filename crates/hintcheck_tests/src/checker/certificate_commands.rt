@@ -95,3 +95,34 @@ fn commands_on_files(rt: HostRuntime) -> Result<(), Fail> {
     fs::remove_file(&rt, font.as_str())?;
     Ok(())
 }
+
+#[test]
+fn one_file_by_two_names(rt: HostRuntime) -> Result<(), Fail> {
+    let (font, link) = (path_of(&rt, "twice.ttf")?, path_of(&rt, "link.ttf")?);
+    let bytes = bytes_of(rt.alloc(), &FONT).expect(&rt, "bytes");
+    fs::write(&rt, font.as_str(), &bytes)?;
+    fs::hard_link(&rt, font.as_str(), link.as_str())?;
+    // The font's path again, by way of the root's own entry for itself.
+    let dotted = format!(in rt.alloc(); "/.{}", font.as_str())?;
+    for other in [link.as_str(), dotted.as_str()] {
+        let find = ["hintcheck", "find", font.as_str(), other];
+        assert!(rt;
+            answers(&rt, &find, 2, "", "fault: words: CERT\n"),
+            "the font's own file, as {other}"
+        );
+        assert!(rt;
+            fs::read(&rt, font.as_str())?.as_slice() == bytes.as_slice(),
+            "the font as it was"
+        );
+    }
+    fs::remove_file(&rt, link.as_str())?;
+    fs::copy(&rt, font.as_str(), link.as_str())?;
+    let find = ["hintcheck", "find", font.as_str(), link.as_str()];
+    assert!(rt;
+        answers(&rt, &find, 0, ACCEPTED, ""),
+        "a copy is another file"
+    );
+    fs::remove_file(&rt, link.as_str())?;
+    fs::remove_file(&rt, font.as_str())?;
+    Ok(())
+}
