@@ -1,7 +1,7 @@
 //! What the words of a command line ask for, done: a verdict or a fault in lines for the user, and
 //! the exit status.
 
-ghost use Rattle.std.specs.Prelude.{◌≡◌, ◌≢◌, ◌+◌, ◌≤◌, ◌<◌, ◌⊎◌, ℕ, IfErr, IfOk, IfSome, IsTrue, List, Ok, OnOk, [], map, option_map, string_bytes, true, unwrap_or};
+ghost use Rattle.std.specs.Prelude.{◌≡◌, ◌≢◌, ◌↔◌, ◌+◌, ◌≤◌, ◌<◌, ◌⊎◌, ℕ, IfErr, IfOk, IfSome, IsTrue, List, None, Ok, OnOk, [], map, option_map, string_bytes, true, unwrap_or};
 ghost use Rattle.std.specs.Io.KnownBytes.{Appends};
 ghost use Rattle.tt_stream.specs.Streams.{CountsPrintFailure};
 ghost use Rattle.hintcheck_words.specs.Requests.{asked, is_taken};
@@ -239,14 +239,11 @@ fn file_numbers<R: Files>(rt: &R, name: &str) -> Option<FileNumbers>
     (numbers.file != 0).then_some(numbers)
 }
 
-/// Do the names stand for one file, as far as that can be told? One name does, and so do two whose files have the same numbers.
-fn is_one_file<R: Files>(rt: &R, one: &str, other: &str) -> bool
-    ensures { one.now ≡ other.now → IsTrue result }
+/// Are these the numbers of one file? Where they aren't told, that isn't known.
+fn is_same_file(one: Option<FileNumbers>, other: Option<FileNumbers>) -> bool
+    ensures { IsTrue result ↔ (one ≢ None × one ≡ other) }
 {
-    if one == other {
-        return true;
-    }
-    match (file_numbers(rt, one), file_numbers(rt, other)) {
+    match (one, other) {
         (Some(one), Some(other)) => one == other,
         _ => false,
     }
@@ -265,7 +262,7 @@ fn find_verdict<R: Files + AllocGlobal>(
     ensures faults { IfErr result (IsFaultOfFinding font.now certificate.now) }
     ensures none { OnOk result (font.now ≢ certificate.now) }
 {
-    if is_one_file(rt, font, certificate) {
+    if font == certificate || is_same_file(file_numbers(rt, font), file_numbers(rt, certificate)) {
         return Err(CommandFault::CertificateWord);
     }
     let bytes = file_bytes(rt, font)?;
