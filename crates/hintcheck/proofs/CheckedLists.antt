@@ -9,7 +9,7 @@ use Rattle.tt_cert_file.specs.declared.fault.DecodeFault.{DecodeFault}
 use Rattle.tt_cert_file.specs.declared.fault.DecodeFault.TheVariants as decode
 use Rattle.tt_cert_file.specs.declared.name.Name.{Name}
 use Rattle.tt_font.specs.Reading.{GlyphData}
-use Rattle.hintcheck.specs.CertificateFaults.{CountsCheck, fault_of_decoding}
+use Rattle.hintcheck.specs.CertificateFaults.{CountsCheck, IsNoFontFault, fault_of_decoding}
 use Rattle.hintcheck.specs.FontLooks.{subject_in}
 use Rattle.hintcheck.specs.Looks.{IsListed, told_at}
 use Rattle.hintcheck.specs.Programs.{HasGoodFamily}
@@ -53,3 +53,9 @@ pub counts_decoding : (e : DecodeFault) (first old new : ℕ) → old ≡ first 
 counts_decoding decode.Read first old new same h = h ∙ ap (λ n. n + 1) same
 counts_decoding (decode.OutOfMemory error) first old new same h = h ∙ same
 counts_decoding (decode.Form place) first old new same h = h ∙ same
+
+-- a certificate that can't be read is no fault of the font's
+pub decoding_is_no_font : (e : DecodeFault) → IsNoFontFault (fault_of_decoding e)
+decoding_is_no_font decode.Read = tt
+decoding_is_no_font (decode.OutOfMemory error) = tt
+decoding_is_no_font (decode.Form place) = tt

@@ -1,5 +1,7 @@
 -- Why a font isn't checked by a certificate, and what that says of failed reads.
-use Rattle.std.specs.Prelude.{◌≡◌, ◌≢◌, ◌+◌, ℕ, List, [], Option, Result, Ok, Err}
+use Rattle.std.specs.Prelude.{◌≡◌, ◌≢◌, ◌+◌, ℕ, List, [], Option, Some, None, alloc_error, Result, Ok, Err}
+use Rattle.tt_font.specs.Conditions.{Condition}
+use Rattle.tt_font.specs.declared.fault.FontFault.TheVariants.{OutOfMemory}
 use Rattle.tt_cert_file.specs.declared.fault.EncodeFault.{EncodeFault}
 use Rattle.tt_cert_file.specs.declared.fault.EncodeFault.TheVariants as encode
 use Rattle.tt_cert_file.specs.declared.fault.DecodeFault.{DecodeFault}
@@ -24,6 +26,22 @@ CountsCheck (Err (fault.Font font)) old new = new ≡ old
 CountsCheck (Err (fault.Form place)) old new = new ≡ old
 CountsCheck (Err (fault.OutOfMemory error)) old new = new ≡ old
 
+-- The check of a font tests the condition on its bytes: a fault of the font's is the one that stands, unless memory ran out, and any other answer says
+-- that none does.
+abbrev pub TestsInCheck : {T : Type 0} → Condition → Result T CheckFontFault → Type 0
+TestsInCheck condition (Ok done) = condition ≡ None
+TestsInCheck condition (Err (fault.Font font)) = font ≢ OutOfMemory alloc_error → condition ≡ Some font
+TestsInCheck condition (Err (fault.Form place)) = condition ≡ None
+TestsInCheck condition (Err fault.Read) = condition ≡ None
+TestsInCheck condition (Err (fault.OutOfMemory error)) = condition ≡ None
+
+-- the fault isn't the font's
+abbrev pub IsNoFontFault : CheckFontFault → Type 0
+IsNoFontFault (fault.Font font) = ⊥
+IsNoFontFault (fault.Form place) = Unit {0}
+IsNoFontFault fault.Read = Unit {0}
+IsNoFontFault (fault.OutOfMemory error) = Unit {0}
+
 -- the fault of a certificate that can't be written
 abbrev pub fault_of_encoding : EncodeFault → FindFontFault
 fault_of_encoding encode.Write = find.Write
@@ -35,6 +53,19 @@ CountsFind (Ok done) old new = new ≡ old
 CountsFind (Err find.Write) old new = new ≡ old + 1
 CountsFind (Err (find.Font font)) old new = new ≡ old
 CountsFind (Err (find.OutOfMemory error)) old new = new ≡ old
+
+-- so does the search for its certificate
+abbrev pub TestsInFind : {T : Type 0} → Condition → Result T FindFontFault → Type 0
+TestsInFind condition (Ok done) = condition ≡ None
+TestsInFind condition (Err (find.Font font)) = font ≢ OutOfMemory alloc_error → condition ≡ Some font
+TestsInFind condition (Err find.Write) = condition ≡ None
+TestsInFind condition (Err (find.OutOfMemory error)) = condition ≡ None
+
+-- the fault isn't the font's
+abbrev pub IsNoFaultOfFont : FindFontFault → Type 0
+IsNoFaultOfFont (find.Font font) = ⊥
+IsNoFaultOfFont find.Write = Unit {0}
+IsNoFaultOfFont (find.OutOfMemory error) = Unit {0}
 
 -- where the verdict names a refused program, nothing was written
 abbrev pub WritesNothing : Option (List ℕ) → Option (List ℕ) → Judgement → Type 0

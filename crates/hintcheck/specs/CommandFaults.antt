@@ -72,17 +72,18 @@ IsFaultOfReading other = ⊥
 
 -- why there is none on a font file, or its certificate isn't written
 abbrev pub IsFaultOfCertifying : CommandFault → Type 0
-IsFaultOfCertifying (fault.Font numbered) = Unit {0}
+IsFaultOfCertifying (fault.Font numbered) = IsFaultOfSomeFont numbered.0
 IsFaultOfCertifying fault.File = Unit {0}
 IsFaultOfCertifying other = IsFaultOfReading other
 
--- the same for a font file and a certificate's file with these names, which are to be two
+-- The same for a font file and a certificate's file with these names. One name stands for one file; two names may, and which do, no contract of the
+-- runtime says.
 abbrev pub IsFaultOfFinding : List ℕ → List ℕ → CommandFault → Type 0
-IsFaultOfFinding font certificate told = ((font ≡ certificate) × (told ≡ fault.CertificateWord)) ⊎ (font ≢ certificate × IsFaultOfCertifying told)
+IsFaultOfFinding font certificate told = (told ≡ fault.CertificateWord) ⊎ (font ≢ certificate × IsFaultOfCertifying told)
 
 -- why there is none on a font file by its certificate
 abbrev pub IsFaultOfChecking : CommandFault → Type 0
-IsFaultOfChecking (fault.Font numbered) = Unit {0}
+IsFaultOfChecking (fault.Font numbered) = IsFaultOfSomeFont numbered.0
 IsFaultOfChecking (fault.Form place) = Unit {0}
 IsFaultOfChecking other = IsFaultOfReading other
 

@@ -8,9 +8,10 @@ ghost use Rattle.tt_cert.specs.Checks.{IsWantOfMemory, Names};
 ghost use Rattle.tt_cert.specs.Contents.{family_of};
 ghost use Rattle.tt_cert.specs.Fillings.{HasGoodFilling};
 ghost use Rattle.tt_cert_file.specs.Answers.{input_at};
+ghost use Rattle.tt_font.specs.FileFaults.{font_fault};
 ghost use Rattle.tt_font.specs.GlyphParts.{glyph_data};
 ghost use Rattle.tt_font.specs.Reading.{FontData, Reads};
-ghost use Rattle.hintcheck.specs.CertificateFaults.{CountsCheck, IsNoForm, IsNoReadFault};
+ghost use Rattle.hintcheck.specs.CertificateFaults.{CountsCheck, IsNoFontFault, IsNoForm, IsNoReadFault, TestsInCheck};
 ghost use Rattle.hintcheck.specs.Certificates.{AreSectionsChecked, Finding, HasNoSection, IsChecked, IsGoodListing, IsListingBrokenFirst, IsSectionOf, Passes, PassesToEnd};
 ghost use Rattle.hintcheck.specs.CheckedFonts.{AnswersFinding, AreCheckedFrom, AreGoodGlyphs, Finds, HasGoodFamilies, IsGoodAtEnd, IsRefusedBy, IsTold, Leads, all_refused, bytes_in};
 ghost use Rattle.hintcheck.specs.FontLooks.{ComesToEnd, IsFontInRange, IsOfSubject, subject_in};
@@ -103,6 +104,7 @@ fn read_start<S: Source>(font: &Font<'_>, source: &mut S) -> Result<Progress, Ch
         (λ p. IsTold (S.remaining source.new) × Leads (AreSectionsChecked font.now p.form (input_at p.place (S.remaining source.new))) (IsChecked font.now (bytes_in (S.remaining source.old))))
         (λ place. IsChecked font.now (bytes_in (S.remaining source.old)) (Err place)) }
     ensures failures { CountsCheck result (S.failures source.old) (S.failures source.new) }
+    ensures font { IfErr result IsNoFontFault }
 {
     let (form, sections) = read_header(source)?;
     if sections != u32::from(font.glyph_count()) + 2 {
@@ -133,6 +135,7 @@ fn next_section<S: Source>(
         (HasNoSection progress.old.form (input_at progress.old.place (S.remaining source.old)) name) }
     ensures form { progress.new.form ≡ progress.old.form }
     ensures failures { CountsCheck result (S.failures source.old) (S.failures source.new) }
+    ensures font { IfErr result IsNoFontFault }
 {
     let start = progress.place;
     let (named, certificate, after) = decode(alloc, source, start, progress.form)?;
@@ -272,6 +275,7 @@ fn check_glyph_programs<S: Source>(
         → AreCheckedFrom progress.old.form common.now font.now.glyphs 0 (input_at progress.old.place (S.remaining source.old)) (all_refused refused.items finding)))
         (λ place. AreCheckedFrom progress.old.form common.now font.now.glyphs 0 (input_at progress.old.place (S.remaining source.old)) (Err place)) }
     ensures failures { CountsCheck result (S.failures source.old) (S.failures source.new) }
+    ensures font { IfErr result IsNoFontFault }
 {
     let mut refused = Vec::new(alloc);
     for id in 0..font.glyph_count() {
@@ -295,6 +299,7 @@ fn refused_alone(
     ensures some { IfOk result (λ refused. refused.items ≡ [] → ⊥) }
     ensures form { IfErr result IsNoForm }
     ensures failures { IfErr result IsNoReadFault }
+    ensures font { IfErr result IsNoFontFault }
 {
     let mut refused = Vec::new(alloc);
     list_refused(&mut refused, name, fault)?;
@@ -312,6 +317,7 @@ fn check_programs<S: Source>(
     ensures exact { IsTold (S.remaining source.old) → Finds result (λ refused. IsChecked font.now (bytes_in (S.remaining source.old)) (Ok refused.items))
         (λ place. IsChecked font.now (bytes_in (S.remaining source.old)) (Err place)) }
     ensures failures { CountsCheck result (S.failures source.old) (S.failures source.new) }
+    ensures font { IfErr result IsNoFontFault }
 {
     let mut progress = read_start(font, source)?;
     let certificate = next_section(alloc, source, &mut progress, Name::Font)?;
@@ -344,6 +350,7 @@ pub(crate) fn check_read_font<S: Source>(
     ensures exact { IsTold (S.remaining source.old) → Finds result (AnswersFinding font.now (bytes_in (S.remaining source.old)))
         (λ place. IsChecked font.now (bytes_in (S.remaining source.old)) (Err place)) }
     ensures failures { CountsCheck result (S.failures source.old) (S.failures source.new) }
+    ensures font { IfErr result IsNoFontFault }
 {
     let refused = check_programs(alloc, font, source)?;
     Ok(Verdict::new(u32::from(font.glyph_count()) + 2, refused))
@@ -371,6 +378,8 @@ pub fn check_font<S: Source>(
     ensures accepts { IsTold (S.remaining source.old) → (d : FontData) → Reads font.now d
         → IsChecked d (bytes_in (S.remaining source.old)) (Ok []) → Finds result (λ v. v.refused ≡ []) (λ _. ⊥) }
     ensures failures { CountsCheck result (S.failures source.old) (S.failures source.new) }
+    // A fault of the font is the first one of its bytes, unless memory ran out; any other answer says that they have none.
+    ensures faults { TestsInCheck (font_fault font.now) result }
 {
     let read = read_font(alloc, font)?;
     check_read_font(alloc, &read, source)

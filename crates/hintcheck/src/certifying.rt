@@ -1,14 +1,15 @@
 //! The certificate of a font: found, and written where no program is refused.
 
-ghost use Rattle.std.specs.Prelude.{◌≡◌, ℕ, ◌<◌, ◌^◌, [], IfOk, OnOk, length};
+ghost use Rattle.std.specs.Prelude.{◌≡◌, ℕ, ◌<◌, ◌^◌, [], IfErr, IfOk, OnOk, length};
 ghost use Rattle.tt_abs.specs.Entries.{Rises};
 ghost use Rattle.tt_abs.specs.Settings.{setting_of};
 ghost use Rattle.tt_abs.specs.StateFlow.{FunctionsFit};
 ghost use Rattle.tt_code.specs.Fonts.{font_setting};
+ghost use Rattle.tt_font.specs.FileFaults.{font_fault};
 ghost use Rattle.tt_font.specs.GlyphParts.{glyph_data};
 ghost use Rattle.tt_font.specs.Reading.{FontData, Reads};
 ghost use Rattle.tt_cert_file.specs.declared.form.Form.{Form};
-ghost use Rattle.hintcheck.specs.CertificateFaults.{CountsFind, WritesNothing};
+ghost use Rattle.hintcheck.specs.CertificateFaults.{CountsFind, IsNoFaultOfFont, TestsInFind, WritesNothing};
 ghost use Rattle.hintcheck.specs.CertificateTexts.{AreGlyphTexts, IsEndedText, IsGlyphText, IsPassingCertificate, IsReadableListing, WritesText};
 ghost use Rattle.hintcheck.specs.FontLooks.{ComesToEnd, IsFontInRange, IsKnownAtEnd, IsOfSubject, font_in, subject_in};
 ghost use Rattle.hintcheck.specs.FontPrograms.{IsSafeFont, IsVerdict, cvt_subject, font_subject};
@@ -91,6 +92,7 @@ fn write_ended<W: Sink>(
     ensures written { (x : Subject) → IsLookedAt x setting.now → x.name ≡ name → IfOk result (λ functions. WritesText (W.contents sink.old) (W.contents sink.new)
         (λ text. IsEndedText IsReadableListing Form.Four x setting.now.main.now text functions.items)) }
     ensures failures { CountsFind result (W.failures sink.old) (W.failures sink.new) }
+    ensures font { IfErr result IsNoFaultOfFont }
 {
     let Ok(certificate) = certified(alloc, setting) else {
         return Err(FindFontFault::OutOfMemory(AllocError));
@@ -114,6 +116,7 @@ fn write_font_program<'a, W: Sink>(
     ensures written { IfOk result (λ fpgm. WritesText (W.contents sink.old) (W.contents sink.new)
         (λ text. IsEndedText IsReadableListing Form.Four (font_subject font.now) fpgm.program text fpgm.functions.items)) }
     ensures failures { CountsFind result (W.failures sink.old) (W.failures sink.new) }
+    ensures font { IfErr result IsNoFaultOfFont }
 {
     let Ok(program) = cut(alloc, font.fpgm()) else {
         return Err(FindFontFault::OutOfMemory(AllocError));
@@ -136,6 +139,7 @@ fn write_cvt_program<'a, W: Sink>(
     ensures written { IfOk result (λ prep. WritesText (W.contents sink.old) (W.contents sink.new)
         (λ text. IsEndedText IsReadableListing Form.Four (cvt_subject font.now fpgm.now.program fpgm.now.functions.items) prep.program text prep.functions.items)) }
     ensures failures { CountsFind result (W.failures sink.old) (W.failures sink.new) }
+    ensures font { IfErr result IsNoFaultOfFont }
 {
     let Ok(program) = cut(alloc, font.prep()) else {
         return Err(FindFontFault::OutOfMemory(AllocError));
@@ -159,6 +163,7 @@ fn write_glyph_program<W: Sink>(
     ensures written { (id : ℕ) → name ≡ Name.Glyph id → OnOk result (WritesText (W.contents sink.old) (W.contents sink.new)
         (IsGlyphText IsReadableListing Form.Four (subject_in common.now id (glyph_data glyph.now)))) }
     ensures failures { CountsFind result (W.failures sink.old) (W.failures sink.new) }
+    ensures font { IfErr result IsNoFaultOfFont }
 {
     let Ok(program) = cut(alloc, glyph.program) else {
         return Err(FindFontFault::OutOfMemory(AllocError));
@@ -187,6 +192,7 @@ fn write_glyph_programs<W: Sink>(
     ensures written { OnOk result (WritesText (W.contents sink.old) (W.contents sink.new)
         (AreGlyphTexts IsReadableListing Form.Four (font_in common.now) common.now.functions.now 0 font.now.glyphs)) }
     ensures failures { CountsFind result (W.failures sink.old) (W.failures sink.new) }
+    ensures font { IfErr result IsNoFaultOfFont }
 {
     for id in 0..font.glyph_count() {
         let glyph = font.glyph(id).unwrap();
@@ -204,6 +210,7 @@ fn write_certificate<W: Sink>(
     requires { IsFontInRange font.now }
     ensures written { OnOk result (WritesText (W.contents sink.old) (W.contents sink.new) (IsPassingCertificate font.now)) }
     ensures failures { CountsFind result (W.failures sink.old) (W.failures sink.new) }
+    ensures font { IfErr result IsNoFaultOfFont }
 {
     write_header(u32::from(font.glyph_count()) + 2, sink)?;
     let fpgm = write_font_program(alloc, font, sink)?;
@@ -226,6 +233,7 @@ pub(crate) fn find_programs<W: Sink>(
     ensures written { IfOk result (λ v. v.refused ≡ [] → WritesText (W.contents sink.old) (W.contents sink.new) (IsPassingCertificate font.now)) }
     ensures unwritten { IfOk result (λ v. WritesNothing (W.contents sink.old) (W.contents sink.new) v) }
     ensures failures { CountsFind result (W.failures sink.old) (W.failures sink.new) }
+    ensures font { IfErr result IsNoFaultOfFont }
 {
     let refused = refused_programs(alloc, font)?;
     if refused.is_empty() {
@@ -251,6 +259,8 @@ pub fn find_font<W: Sink>(
         → (d : FontData) × Reads font.now d × WritesText (W.contents sink.old) (W.contents sink.new) (IsPassingCertificate d)) }
     ensures unwritten { IfOk result (λ v. WritesNothing (W.contents sink.old) (W.contents sink.new) v) }
     ensures failures { CountsFind result (W.failures sink.old) (W.failures sink.new) }
+    // A fault of the font is the first one of its bytes, unless memory ran out; any other answer says that they have none.
+    ensures faults { TestsInFind (font_fault font.now) result }
 {
     let read = read_font(alloc, font)?;
     find_programs(alloc, &read, sink)

@@ -1,10 +1,11 @@
 //! What the words of a command line ask for, done: a verdict or a fault in lines for the user, and
 //! the exit status.
 
-ghost use Rattle.std.specs.Prelude.{◌≡◌, ◌≢◌, ◌+◌, ◌≤◌, ◌<◌, ◌⊎◌, ℕ, IfErr, IfOk, List, OnOk, [], map, option_map, string_bytes, true, unwrap_or};
+ghost use Rattle.std.specs.Prelude.{◌≡◌, ◌≢◌, ◌↔◌, ◌+◌, ◌≤◌, ◌<◌, ◌⊎◌, ℕ, IfErr, IfOk, IfSome, IsTrue, List, None, Ok, OnOk, [], map, option_map, string_bytes, true, unwrap_or};
 ghost use Rattle.std.specs.Io.KnownBytes.{Appends};
 ghost use Rattle.tt_stream.specs.Streams.{CountsPrintFailure};
 ghost use Rattle.hintcheck_words.specs.Requests.{asked, is_taken};
+ghost use Rattle.hintcheck.specs.Certificates.{IsChecked};
 ghost use Rattle.hintcheck.specs.Commands.{HasAll, IsForVerdict, IsNoWriteFault, ReadsToEnd, TellsFailedRead, TellsFailure, status_of};
 ghost use Rattle.hintcheck.specs.CommandFaults.{HasNoFault, IsFaultOfCertifying, IsFaultOfChecking, IsFaultOfFileListing, IsFaultOfFinding, IsFaultOfFontFile, IsFaultOfGlyph, IsFaultOfPrinting, IsFaultOfReading, IsFaultOfRequest, IsFaultOfSource, IsFaultOfTask, IsFaultOfWords, MeansNoFault, ReadNoFault, SpellNoFault, TellsFault};
 ghost use Rattle.hintcheck.specs.FontLooks.{IsFontInRange};
@@ -28,6 +29,7 @@ use std::alloc::{AllocError, Global};
 use std::fs;
 use std::io::{BufReader, Read, Write};
 use std::marker::Brand;
+use std::os::unix::fs::MetadataExt;
 use std::rt::Files;
 use std::sync::ledger::{Blank, Ledger};
 use tt_font::Font;
@@ -171,6 +173,7 @@ fn verdict_by_file<L: Ledger, F: Read + Drop>(
     requires range { IsFontInRange font.now }
     requires blank { (blank.name ≡ L.name) × (blank.parts ≡ L.parts) × (0 < blank.parts) }
     ensures safe { IfOk result (λ verdict. verdict.refused ≡ [] → IsSafeFont font.now) }
+    ensures checked { IfOk result (λ verdict. IfSome (F.remaining file) (λ bytes. IsChecked font.now bytes (Ok verdict.refused))) }
     ensures fault { IfErr result IsNoWriteFault }
     ensures faults { IfErr result IsFaultOfChecking }
 {
@@ -217,8 +220,37 @@ fn verdict_to_file<L: Ledger, F: Write + Drop>(
     Ok(find_programs(alloc, font, &mut sink)?)
 }
 
+/// The numbers by which a system tells its files apart: that of the file on its device, and the device's.
+#[derive(Clone, Copy, PartialEq, Eq)]
+struct FileNumbers {
+    file: u64,
+    device: u64,
+}
+
+/// The numbers of the file with this name, where there is one and the runtime tells them: one that doesn't has 0 for each file.
+fn file_numbers<R: Files>(rt: &R, name: &str) -> Option<FileNumbers>
+    ensures { IfSome result (λ numbers. numbers.file ≢ 0) }
+{
+    let told = fs::metadata(rt, name).ok()?;
+    let numbers = FileNumbers {
+        file: told.ino(),
+        device: told.dev(),
+    };
+    (numbers.file != 0).then_some(numbers)
+}
+
+/// Are these the numbers of one file? Where they aren't told, that isn't known.
+fn is_same_file(one: Option<FileNumbers>, other: Option<FileNumbers>) -> bool
+    ensures { IsTrue result ↔ (one ≢ None × one ≡ other) }
+{
+    match (one, other) {
+        (Some(one), Some(other)) => one == other,
+        _ => false,
+    }
+}
+
 /// The verdict on the font file with the first name, whose certificate is written to the file with the second, which is made or emptied where the
-/// first is a font.
+/// first is a font, and a file of its own as far as that can be told.
 fn find_verdict<R: Files + AllocGlobal>(
     rt: &R,
     font: &str,
@@ -230,7 +262,7 @@ fn find_verdict<R: Files + AllocGlobal>(
     ensures faults { IfErr result (IsFaultOfFinding font.now certificate.now) }
     ensures none { OnOk result (font.now ≢ certificate.now) }
 {
-    if font == certificate {
+    if font == certificate || is_same_file(file_numbers(rt, font), file_numbers(rt, certificate)) {
         return Err(CommandFault::CertificateWord);
     }
     let bytes = file_bytes(rt, font)?;

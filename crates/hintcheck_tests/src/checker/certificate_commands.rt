@@ -95,3 +95,38 @@ fn commands_on_files(rt: HostRuntime) -> Result<(), Fail> {
     fs::remove_file(&rt, font.as_str())?;
     Ok(())
 }
+
+/// Does `find` tell that this is a name of the font's own file, and leave the font as it is?
+fn is_kept(rt: &HostRuntime, font: &str, name: &str, bytes: &[u8]) -> Result<bool, Fail> {
+    let find = ["hintcheck", "find", font, name];
+    let told = answers(rt, &find, 2, "", "fault: words: CERT\n");
+    Ok(told && fs::read(rt, font)?.as_slice() == bytes)
+}
+
+#[test]
+fn one_file_by_two_names(rt: HostRuntime) -> Result<(), Fail> {
+    let (font, link) = (path_of(&rt, "twice.ttf")?, path_of(&rt, "link.ttf")?);
+    let bytes = bytes_of(rt.alloc(), &FONT).expect(&rt, "bytes");
+    fs::write(&rt, font.as_str(), &bytes)?;
+    fs::hard_link(&rt, font.as_str(), link.as_str())?;
+    assert!(rt;
+        is_kept(&rt, font.as_str(), link.as_str(), &bytes)?,
+        "another link to the file"
+    );
+    // The font's path again, by way of the root's own entry for itself.
+    let dotted = format!(in rt.alloc(); "/.{}", font.as_str())?;
+    assert!(rt;
+        is_kept(&rt, font.as_str(), &dotted, &bytes)?,
+        "another path to the file"
+    );
+    fs::remove_file(&rt, link.as_str())?;
+    fs::copy(&rt, font.as_str(), link.as_str())?;
+    let find = ["hintcheck", "find", font.as_str(), link.as_str()];
+    assert!(rt;
+        answers(&rt, &find, 0, ACCEPTED, ""),
+        "a copy is another file"
+    );
+    fs::remove_file(&rt, link.as_str())?;
+    fs::remove_file(&rt, font.as_str())?;
+    Ok(())
+}

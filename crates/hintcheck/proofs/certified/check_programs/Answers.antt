@@ -11,7 +11,7 @@ use Rattle.tt_cert_file.specs.declared.name.Name.TheVariants as name
 use Rattle.hintcheck.specs.Certificates.{HasNoSection, IsSectionOf, PassesToEnd, no_cvt_section, no_font_section}
 use Rattle.hintcheck.specs.CheckedFonts.{AreCheckedFrom, IsRefusedBy}
 use Rattle.hintcheck.specs.declared.fonts.Common.{Common}
-use Rattle.hintcheck.proofs.CheckedLists.{counts_decoding, counts_from}
+use Rattle.hintcheck.proofs.CheckedLists.{counts_decoding, counts_from, decoding_is_no_font}
 use Rattle.hintcheck.proofs.CheckedPrograms.{cvt_ends_check, end_fault, ended, followed_by_more, font_ends_check, glyphs_after_both}
 use Rattle.hintcheck.proofs.CheckedSections.{LeadsBack, finds_alone, finds_fault}
 use Rattle.hintcheck.proofs.certified.check_programs.Goals as goal
@@ -28,6 +28,11 @@ returns-in_err-read_end-clause-failures g c =
     let sections = c.in_ok-certificate-2.ensures.failures ∙ c.in_ok-certificate.ensures.failures ∙ c.in_ok-progress.ensures.failures in
     let before = c.in_ok-refused.ensures.failures ∙ sections in
     rw (p.1, p.2) (counts_decoding c.in_err-read_end.field-0.0 _ _ _ before c.in_err-read_end.ensures.failures)
+
+pub returns-in_err-read_end-clause-font : goal.returns-in_err-read_end-clause-font
+returns-in_err-read_end-clause-font g c =
+    let p = err_from_is_err_and c.from_residual-in_err-read_end.result c.from_residual-in_err-read_end.ensures.1 in
+    rw (p.1, p.2) (decoding_is_no_font c.in_err-read_end.field-0.0)
 
 pub returns-clause-good : goal.returns-clause-good
 returns-clause-good g c = λ none.
