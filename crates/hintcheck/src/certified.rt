@@ -11,6 +11,7 @@ ghost use Rattle.tt_cert_file.specs.Answers.{input_at};
 ghost use Rattle.tt_font.specs.FileFaults.{font_fault};
 ghost use Rattle.tt_font.specs.GlyphParts.{glyph_data};
 ghost use Rattle.tt_font.specs.Reading.{FontData, Reads};
+ghost use Rattle.tt_stream.specs.Reads.{ConsumesBeginning};
 ghost use Rattle.hintcheck.specs.CertificateFaults.{CountsCheck, IsNoFontFault, IsNoForm, IsNoReadFault, TestsInCheck};
 ghost use Rattle.hintcheck.specs.Certificates.{AreSectionsChecked, Finding, HasNoSection, IsChecked, IsGoodListing, IsListingBrokenFirst, IsSectionOf, Passes, PassesToEnd};
 ghost use Rattle.hintcheck.specs.CheckedFonts.{AnswersFinding, AreCheckedFrom, AreGoodGlyphs, Finds, HasGoodFamilies, IsGoodAtEnd, IsRefusedBy, IsTold, Leads, all_refused, bytes_in};
@@ -103,6 +104,7 @@ fn read_start<S: Source>(font: &Font<'_>, source: &mut S) -> Result<Progress, Ch
     ensures sections { IsTold (S.remaining source.old) → Finds result
         (λ p. IsTold (S.remaining source.new) × Leads (AreSectionsChecked font.now p.form (input_at p.place (S.remaining source.new))) (IsChecked font.now (bytes_in (S.remaining source.old))))
         (λ place. IsChecked font.now (bytes_in (S.remaining source.old)) (Err place)) }
+    ensures beginning { ConsumesBeginning (S.remaining source.old) (S.remaining source.new) }
     ensures failures { CountsCheck result (S.failures source.old) (S.failures source.new) }
     ensures font { IfErr result IsNoFontFault }
 {
@@ -134,6 +136,7 @@ fn next_section<S: Source>(
         (λ c. IsTold (S.remaining source.new) × IsSectionOf progress.old.form (input_at progress.old.place (S.remaining source.old)) name c (input_at progress.new.place (S.remaining source.new)))
         (HasNoSection progress.old.form (input_at progress.old.place (S.remaining source.old)) name) }
     ensures form { progress.new.form ≡ progress.old.form }
+    ensures beginning { ConsumesBeginning (S.remaining source.old) (S.remaining source.new) }
     ensures failures { CountsCheck result (S.failures source.old) (S.failures source.new) }
     ensures font { IfErr result IsNoFontFault }
 {
@@ -274,6 +277,7 @@ fn check_glyph_programs<S: Source>(
         → AreCheckedFrom progress.old.form common.now font.now.glyphs (length font.now.glyphs) (input_at progress.new.place (S.remaining source.new)) finding
         → AreCheckedFrom progress.old.form common.now font.now.glyphs 0 (input_at progress.old.place (S.remaining source.old)) (all_refused refused.items finding)))
         (λ place. AreCheckedFrom progress.old.form common.now font.now.glyphs 0 (input_at progress.old.place (S.remaining source.old)) (Err place)) }
+    ensures beginning { ConsumesBeginning (S.remaining source.old) (S.remaining source.new) }
     ensures failures { CountsCheck result (S.failures source.old) (S.failures source.new) }
     ensures font { IfErr result IsNoFontFault }
 {
@@ -316,6 +320,7 @@ fn check_programs<S: Source>(
     ensures good { IfOk result (λ refused. refused.items ≡ [] → HasGoodFamilies font.now) }
     ensures exact { IsTold (S.remaining source.old) → Finds result (λ refused. IsChecked font.now (bytes_in (S.remaining source.old)) (Ok refused.items))
         (λ place. IsChecked font.now (bytes_in (S.remaining source.old)) (Err place)) }
+    ensures beginning { ConsumesBeginning (S.remaining source.old) (S.remaining source.new) }
     ensures failures { CountsCheck result (S.failures source.old) (S.failures source.new) }
     ensures font { IfErr result IsNoFontFault }
 {
@@ -349,6 +354,7 @@ pub(crate) fn check_read_font<S: Source>(
     ensures safe { IfOk result (λ v. v.refused ≡ [] → IsSafeFont font.now) }
     ensures exact { IsTold (S.remaining source.old) → Finds result (AnswersFinding font.now (bytes_in (S.remaining source.old)))
         (λ place. IsChecked font.now (bytes_in (S.remaining source.old)) (Err place)) }
+    ensures beginning { ConsumesBeginning (S.remaining source.old) (S.remaining source.new) }
     ensures failures { CountsCheck result (S.failures source.old) (S.failures source.new) }
     ensures font { IfErr result IsNoFontFault }
 {
@@ -368,6 +374,8 @@ pub fn check_font<S: Source>(
     font: &[u8],
     source: &mut S,
 ) -> Result<Verdict, CheckFontFault>
+    // Whatever comes of it, a beginning of the certificate was read.
+    ensures beginning { ConsumesBeginning (S.remaining source.old) (S.remaining source.new) }
     // Where no program is refused, no run of any of them reaches a fault.
     ensures safe { IfOk result (λ v. (d : FontData) × Reads font.now d × (v.refused ≡ [] → IsSafeFont d)) }
     // What the check comes to, where the source tells its bytes: the refused programs, or the place at which the bytes are no certificate.

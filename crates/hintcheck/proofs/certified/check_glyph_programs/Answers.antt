@@ -1,5 +1,6 @@
 use Rattle.std.specs.Option.{option_map}
-use Rattle.std.proofs.Common.{◌≡◌, ℕ, ◌+◌, ◌<◌, List, sym, ◌∙◌, ap, subst, arith, length}
+use Rattle.std.proofs.KnownBytes.{Consumes-nil}
+use Rattle.std.proofs.Common.{◌≡◌, ℕ, ◌+◌, ◌<◌, List, [], refl, sym, ◌∙◌, ap, subst, arith, length}
 use Rattle.std.proofs.lemmas.Result.{err_from_is_err_and}
 use Rattle.tt_code.specs.Cut.{Instruction}
 use Rattle.tt_cert_file.specs.Answers.{input_at}
@@ -7,7 +8,8 @@ use Rattle.tt_cert_file.specs.declared.form.Form.{Form}
 use Rattle.hintcheck.specs.Certificates.{HasNoSection, IsSectionOf, Passes}
 use Rattle.hintcheck.specs.CheckedFonts.{IsRefusedBy}
 use Rattle.hintcheck.specs.FontLooks.{subject_in}
-use Rattle.hintcheck.proofs.CheckedSections.{LeadsBack, finds_fault, no_section_next, passed_next, refused_next, slice_there}
+use Rattle.tt_stream.proofs.Beginnings.{consumes_beginning, consumes_then}
+use Rattle.hintcheck.proofs.CheckedSections.{LeadsBack, finds_fault, no_section_next, nothing_before, passed_next, refused_next, slice_there}
 use Rattle.std.proofs.lemmas.Option.{slice_get_within}
 use Rattle.tt_font.specs.GlyphParts.{glyph_data}
 use Rattle.tt_font.specs.Reading.{GlyphData}
@@ -33,6 +35,7 @@ loop-id-preserved g c =
     let glyph : GlyphData = glyph_data c.unwrap-glyph.result in
     let at = sym c.glyph.ensures ∙ ap (option_map glyph_data) c.unwrap-glyph.ensures in
     let failures = c.in_ok-certificate.ensures.failures ∙ c.loop-id.invariant.1 in
+    let beginning = consumes_then _ _ _ c.loop-id.invariant.4 c.next_section.ensures.beginning in
     let before = c.loop-id.invariant.2 in
     let after = c.in_ok-certificate.ensures.form ∙ before in
     let form = c.args.progress.now.form in
@@ -56,6 +59,7 @@ loop-id-preserved g c =
                   section.0,
                   subst L (sym same) (passed_next form common glyphs first c.loop-id.refused.items c.loop-id.id glyph here there family passes.0 back.1 at (subst N before section.1) passes.1),
                 ),
+            beginning,
           )
       | in-Err+in_ok-list_refused-in-Err w ↦
           let I : List Refused → Type 0 = λ rs. IsListed (name.Glyph c.loop-id.id) w.in-Err.fault c.loop-id.refused.items rs in
@@ -72,6 +76,7 @@ loop-id-preserved g c =
                   refused_next form common glyphs first c.loop-id.refused.items c.match-check_glyph_program.refused.items c.loop-id.id glyph here there family w.in-Err.fault back.1 at
                       (subst N before section.1) is listed,
                 ),
+            beginning,
           )
     ]
 
@@ -106,3 +111,20 @@ returns-clause-checked g c = λ told.
     let here = input_at c.loop-id.progress.place (g.S.Source.remaining c.loop-id.source) in
     let L : ℕ → Type 0 = λ k. LeadsBack c.args.progress.now.form c.args.common.now glyphs first c.loop-id.refused.items k here in
     (back.0, subst L n back.1)
+
+pub loop-id-init : goal.loop-id-init
+loop-id-init g c =
+    let first = input_at c.args.progress.now.place (g.S.Source.remaining c.args.source.now) in
+    let L : List Refused → Type 0 = λ rs. LeadsBack c.args.progress.now.form c.args.common.now c.args.font.now.glyphs first rs 0 first in (
+      (λ none id h lt at. absurd (omega arith)),
+      refl,
+      refl,
+      (λ told. (told, subst L (sym c.new-refused.ensures.items) (nothing_before c.args.progress.now.form c.args.common.now c.args.font.now.glyphs first))),
+      consumes_beginning _ _ [] (Consumes-nil (g.S.Source.remaining c.args.source.now)),
+    )
+
+pub returns-in_err-certificate-clause-beginning : goal.returns-in_err-certificate-clause-beginning
+returns-in_err-certificate-clause-beginning g c = consumes_then _ _ _ c.loop-id.invariant.4 c.next_section.ensures.beginning
+
+pub returns-in_err-list_refused-in-Err-clause-beginning : goal.returns-in_err-list_refused-in-Err-clause-beginning
+returns-in_err-list_refused-in-Err-clause-beginning g c = consumes_then _ _ _ c.loop-id.invariant.4 c.next_section.ensures.beginning

@@ -3,6 +3,7 @@ use Rattle.std.proofs.Common.{◌≡◌, ℕ, List, Some, Ok, Err, length, ◌�
 use Rattle.std.proofs.lemmas.Result.{IfOk-weaker, err_from_is_err_and}
 use Rattle.tt_font.specs.Reading.{GlyphData}
 use Rattle.tt_code.specs.Fonts.{Font}
+use Rattle.tt_stream.proofs.Beginnings.{consumes_then}
 use Rattle.hintcheck.specs.FontPrograms.{cvt_subject, font_of, font_subject, glyph_subject}
 use Rattle.hintcheck.specs.Programs.{HasGoodFamily}
 use Rattle.tt_cert_file.specs.Answers.{input_at}
@@ -193,3 +194,24 @@ returns-clause-exact g c = λ told.
     start.1 (Ok rs) (glyphs_after_both d form _ after end first second f.program p.program f.functions.items p.functions.items common (Ok rs) section.1
     (subst P e c.in-Ok.ensures.passed) (subst N e next.1) (subst Q e' c.in-Ok-check_cvt_program.ensures.passed) c.cvt_setting.ensures.programs c.deref.ensures.value
     (ended form common d.glyphs end rs place last (subst L e' glyphs.1) glyphs.0 c.in_ok-read_end.ensures.ended.0))
+
+pub returns-in_err-certificate-clause-beginning : goal.returns-in_err-certificate-clause-beginning
+returns-in_err-certificate-clause-beginning g c = consumes_then _ _ _ c.read_start.ensures.beginning c.next_section.ensures.beginning
+
+pub returns-in-Err-clause-beginning : goal.returns-in-Err-clause-beginning
+returns-in-Err-clause-beginning g c = consumes_then _ _ _ c.read_start.ensures.beginning c.next_section.ensures.beginning
+
+pub returns-in_err-certificate-2-clause-beginning : goal.returns-in_err-certificate-2-clause-beginning
+returns-in_err-certificate-2-clause-beginning g c = consumes_then _ _ _ (consumes_then _ _ _ c.read_start.ensures.beginning c.next_section.ensures.beginning) c.next_section-2.ensures.beginning
+
+pub returns-in-Err-check_cvt_program-clause-beginning : goal.returns-in-Err-check_cvt_program-clause-beginning
+returns-in-Err-check_cvt_program-clause-beginning g c = consumes_then _ _ _ (consumes_then _ _ _ c.read_start.ensures.beginning c.next_section.ensures.beginning) c.next_section-2.ensures.beginning
+
+pub returns-in_err-refused-clause-beginning : goal.returns-in_err-refused-clause-beginning
+returns-in_err-refused-clause-beginning g c = consumes_then _ _ _ (consumes_then _ _ _ (consumes_then _ _ _ c.read_start.ensures.beginning c.next_section.ensures.beginning) c.next_section-2.ensures.beginning) c.check_glyph_programs.ensures.beginning
+
+pub returns-in_err-read_end-clause-beginning : goal.returns-in_err-read_end-clause-beginning
+returns-in_err-read_end-clause-beginning g c = consumes_then _ _ _ (consumes_then _ _ _ (consumes_then _ _ _ (consumes_then _ _ _ c.read_start.ensures.beginning c.next_section.ensures.beginning) c.next_section-2.ensures.beginning) c.check_glyph_programs.ensures.beginning) c.read_end.ensures.beginning
+
+pub returns-clause-beginning : goal.returns-clause-beginning
+returns-clause-beginning g c = consumes_then _ _ _ (consumes_then _ _ _ (consumes_then _ _ _ (consumes_then _ _ _ c.read_start.ensures.beginning c.next_section.ensures.beginning) c.next_section-2.ensures.beginning) c.check_glyph_programs.ensures.beginning) c.read_end.ensures.beginning
