@@ -188,6 +188,20 @@ accepted x is s fs updates found (Ok a) c es ef h one least same (filling, fills
       safe = of_subject (λ t f. IsSafe t f filling) x is s fs es ef (good_is_safe s h.range h.short fs h.rises filling good.good);
     }
 
+-- a family that is found is accepted
+pub accepted_found : (x : Subject) (is : List Instruction) (s : Setting) (fs : List (ℕ × ℕ)) (updates : ℕ) (found : Contents) → IsCutInto x is → x.setting is ≡ s
+    → x.functions ≡ fs → HasFlow s fs → HasLeastFilling s fs updates (family_of found) → IsAccepted x is (family_of found)
+accepted_found x is s fs updates found c es ef h least =
+    record {
+      cut = c;
+      filling = least.filling;
+      fills = of_subject (λ t f. IsFilling t (family_of found) least.filling) x is s fs es ef least.fills;
+      good = of_subject (λ t f. IsGoodFamily t f least.filling) x is s fs es ef least.good;
+      least = of_subject (λ t f. IsLeast t f least.filling) x is s fs es ef least.least;
+      within = of_subject (λ t f. (p : Place) (b : State) → least.filling p ≡ Some b → FitsLimits t b) x is s fs es ef least.within;
+      safe = of_subject (λ t f. IsSafe t f least.filling) x is s fs es ef (good_is_safe s h.range h.short fs h.rises least.filling least.good.good);
+    }
+
 -- a refusal that is told
 pub told : (called : Name) (f : ProgramFault) (spot : Spot) (offset : ℕ) (r : Reason) (Is : AnyRefused → Type 0) → f ≡ fault.Refused spot offset r → Is (told_at called spot offset r)
     → IfRefused called f Is

@@ -23,6 +23,7 @@ use std::alloc::{AllocError, Global};
 use thiserror::Error;
 use tt_abs::Setting;
 use tt_cert_file::{EncodeFault, encode, write_header};
+use tt_find::Finder;
 use tt_font::{Font, FontFault, GlyphPart};
 use tt_stream::Sink;
 
@@ -80,6 +81,7 @@ impl From<EncodeFault> for FindFontFault {
 /// it ends.
 fn write_ended<W: Sink>(
     alloc: Global,
+    finder: &mut Finder,
     name: Name,
     setting: &Setting<'_>,
     sink: &mut W,
@@ -94,7 +96,7 @@ fn write_ended<W: Sink>(
     ensures failures { CountsFind result (W.failures sink.old) (W.failures sink.new) }
     ensures font { IfErr result IsNoFaultOfFont }
 {
-    let Ok(certificate) = certified(alloc, setting) else {
+    let Ok(certificate) = certified(alloc, finder, setting) else {
         return Err(FindFontFault::OutOfMemory(AllocError));
     };
     certificate.is_in_order();
@@ -102,12 +104,14 @@ fn write_ended<W: Sink>(
     // An accepted font program or CVT program has a state at its end.
     let functions = certificate.end_functions(setting.main.len()).unwrap();
     let copy = Vec::from_slice(alloc, functions)?;
+    finder.take_back(certificate);
     Ok(copy)
 }
 
 /// Writes the section of the font program, which was accepted.
 fn write_font_program<'a, W: Sink>(
     alloc: Global,
+    finder: &mut Finder,
     font: &Font<'a>,
     sink: &mut W,
 ) -> Result<Ended<'a>, FindFontFault>
@@ -122,13 +126,14 @@ fn write_font_program<'a, W: Sink>(
         return Err(FindFontFault::OutOfMemory(AllocError));
     };
     let setting = Setting::for_font_program(font.limits(), font.cvt_count(), &program);
-    let functions = write_ended(alloc, Name::Font, &setting, sink)?;
+    let functions = write_ended(alloc, finder, Name::Font, &setting, sink)?;
     Ok(Ended { program, functions })
 }
 
 /// Writes the section of the CVT program, which was accepted, in a font with this font program.
 fn write_cvt_program<'a, W: Sink>(
     alloc: Global,
+    finder: &mut Finder,
     font: &Font<'a>,
     fpgm: &Ended<'_>,
     sink: &mut W,
@@ -145,13 +150,14 @@ fn write_cvt_program<'a, W: Sink>(
         return Err(FindFontFault::OutOfMemory(AllocError));
     };
     let setting = cvt_setting(font, fpgm, &program);
-    let functions = write_ended(alloc, Name::Cvt, &setting, sink)?;
+    let functions = write_ended(alloc, finder, Name::Cvt, &setting, sink)?;
     Ok(Ended { program, functions })
 }
 
 /// Writes the section of a glyph program, which was accepted.
 fn write_glyph_program<W: Sink>(
     alloc: Global,
+    finder: &mut Finder,
     name: Name,
     common: &Common<'_>,
     glyph: &GlyphPart<'_>,
@@ -171,17 +177,19 @@ fn write_glyph_program<W: Sink>(
     let setting = common
         .setting
         .for_glyph_program(glyph.points, glyph.contours, &program, common.functions);
-    let Ok(certificate) = certified(alloc, &setting) else {
+    let Ok(certificate) = certified(alloc, finder, &setting) else {
         return Err(FindFontFault::OutOfMemory(AllocError));
     };
     certificate.is_in_order();
     encode(alloc, name, &certificate, sink)?;
+    finder.take_back(certificate);
     Ok(())
 }
 
 /// Writes the sections of the glyph programs, which were accepted.
 fn write_glyph_programs<W: Sink>(
     alloc: Global,
+    finder: &mut Finder,
     font: &Font<'_>,
     common: &Common<'_>,
     sink: &mut W,
@@ -196,7 +204,7 @@ fn write_glyph_programs<W: Sink>(
 {
     for id in 0..font.glyph_count() {
         let glyph = font.glyph(id).unwrap();
-        write_glyph_program(alloc, Name::Glyph(id), common, &glyph, sink)?;
+        write_glyph_program(alloc, finder, Name::Glyph(id), common, &glyph, sink)?;
     }
     Ok(())
 }
@@ -213,13 +221,14 @@ fn write_certificate<W: Sink>(
     ensures font { IfErr result IsNoFaultOfFont }
 {
     write_header(u32::from(font.glyph_count()) + 2, sink)?;
-    let fpgm = write_font_program(alloc, font, sink)?;
-    let prep = write_cvt_program(alloc, font, &fpgm, sink)?;
+    let mut finder = Finder::new(alloc);
+    let fpgm = write_font_program(alloc, &mut finder, font, sink)?;
+    let prep = write_cvt_program(alloc, &mut finder, font, &fpgm, sink)?;
     let common = Common {
         setting: cvt_setting(font, &fpgm, &prep.program),
         functions: &prep.functions,
     };
-    write_glyph_programs(alloc, font, &common, sink)
+    write_glyph_programs(alloc, &mut finder, font, &common, sink)
 }
 
 /// The verdict on the programs of a font that was read, whose certificate is written where no program is refused.

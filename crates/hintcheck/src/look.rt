@@ -22,7 +22,7 @@ use std::alloc::{AllocError, Global};
 use tt_abs::Setting;
 use tt_cert::{Certificate, ProgramFault, Spot, check, one_good_filling};
 use tt_code::{CodeFault, Program, Reason};
-use tt_find::{Finder, find};
+use tt_find::Finder;
 
 /// The program in which a place stands that is reached from a program of this name.
 fn program_at(name: Name, spot: Spot) -> Name
@@ -142,11 +142,16 @@ pub(crate) fn look(
     checked(alloc, finder, setting, found.certificate)
 }
 
-/// Looks at the program of this setting as `look` does, for a certificate that lists no state that could be left out.
+/// The certificate of the program of this setting, which lists no state that could be left out, found with what the finder remembers of other
+/// programs. That the family has a good filling stands in the finder's contract: it isn't checked here, but by those who read it.
 ///
 /// # Errors
 /// `Refused` where no family is found; `OutOfMemory`.
-pub(crate) fn certified(alloc: Global, setting: &Setting<'_>) -> Result<Certificate, ProgramFault>
+pub(crate) fn certified(
+    alloc: Global,
+    finder: &mut Finder,
+    setting: &Setting<'_>,
+) -> Result<Certificate, ProgramFault>
     requires rises { Rises setting.now.start.now }
     requires fits { FunctionsFit (setting_of setting.now) setting.now.start.now }
     ensures accepted { (x : Subject) → IsLookedAt x setting.now → IfOk result (λ certificate. IsAccepted x setting.now.main.now (family_of certificate)) }
@@ -154,9 +159,7 @@ pub(crate) fn certified(alloc: Global, setting: &Setting<'_>) -> Result<Certific
     ensures calls { IfOk result (λ certificate. AreCallsInTurn certificate.contexts) }
 {
     setting.is_within();
-    one_good_filling();
-    let found = find(alloc, setting)?;
+    let found = finder.find_needed(alloc, setting)?;
     found.certificate.is_in_order();
-    let mut finder = Finder::new(alloc);
-    checked(alloc, &mut finder, setting, found.certificate)
+    Ok(found.certificate)
 }

@@ -187,6 +187,40 @@ impl Finder {
             Err(_) => Err(ProgramFault::OutOfMemory(AllocError)),
         }
     }
+
+    /// The least family as `find` finds it, without the states that a filling adds. Its certificate has the finder's memory for states, which
+    /// `take_back` takes back.
+    ///
+    /// # Errors
+    /// As `find`.
+    pub fn find_needed(
+        &mut self,
+        alloc: Global,
+        setting: &Setting<'_>,
+    ) -> Result<Found, ProgramFault>
+        requires rises { Rises setting.now.start.now }
+        requires fits { FunctionsFit (setting_of setting.now) setting.now.start.now }
+        ensures filling { IfOk result (λ found. HasLeastFilling (setting_of setting.now) setting.now.start.now found.updates (family_of found.certificate)) }
+        ensures contexts { IfOk result (λ found. AreLeastContexts (setting_of setting.now) setting.now.start.now found.certificate.contexts) }
+        ensures needed { IfOk result (λ found. NeedsAll (setting_of setting.now) setting.now.start.now (family_of found.certificate)) }
+        ensures justified { IfErr result (NamesPlace (IsJustified (setting_of setting.now) setting.now.start.now)) }
+        ensures none_good { IfErr result (λ fault. IsWantOfMemory fault ⊎ IsNeverEnding fault ⊎ NoneIsGood (setting_of setting.now) setting.now.start.now) }
+        ensures never_ends { (family : Place → Option AnyState) → LacksEnd (setting_of setting.now) setting.now.start.now family
+            → IfOk result (λ _. ⊥) × IfErr result (λ fault. IsWantOfMemory fault ⊎ IsNeverEnding fault) }
+    {
+        let updates = match fill_whole(alloc, &mut self.table, setting) {
+            Ok(updates) => updates,
+            Err(fault) => return Err(fault),
+        };
+        let builder = mem::replace(&mut self.table.builder, Builder::new(alloc));
+        match builder.finish_without(&self.table.spare) {
+            Ok(certificate) => Ok(Found {
+                certificate,
+                updates,
+            }),
+            Err(_) => Err(ProgramFault::OutOfMemory(AllocError)),
+        }
+    }
 }
 
 /// The least family that is good for the program of this setting, without the states that a filling adds. The smallest point that is new
@@ -208,16 +242,6 @@ pub fn find(alloc: Global, setting: &Setting<'_>) -> Result<Found, ProgramFault>
     ensures never_ends { (family : Place → Option AnyState) → LacksEnd (setting_of setting.now) setting.now.start.now family
         → IfOk result (λ _. ⊥) × IfErr result (λ fault. IsWantOfMemory fault ⊎ IsNeverEnding fault) }
 {
-    let mut table = Table::new(alloc);
-    let updates = match fill_whole(alloc, &mut table, setting) {
-        Ok(updates) => updates,
-        Err(fault) => return Err(fault),
-    };
-    match table.builder.finish_without(&table.spare) {
-        Ok(certificate) => Ok(Found {
-            certificate,
-            updates,
-        }),
-        Err(_) => Err(ProgramFault::OutOfMemory(AllocError)),
-    }
+    let mut finder = Finder::new(alloc);
+    finder.find_needed(alloc, setting)
 }

@@ -1,7 +1,9 @@
+use Rattle.std.proofs.Common.{subst}
 use Rattle.tt_abs.specs.Settings.{setting_of}
-use Rattle.tt_cert.specs.Contents.{family_of}
+use Rattle.tt_cert.specs.Contents.{Contents, family_of}
+use Rattle.tt_cert.specs.Rising.{SameWithout}
 use Rattle.tt_find.proofs.Finished.{contexts_left, found_left, keeps_without, listed_without, lists_without, needed_left, never_both_left, never_ends_from, none_good_from}
-use Rattle.tt_find.proofs.finder.find.Goals as goal
+use Rattle.tt_find.proofs.finder.Finder.find_needed.Goals as goal
 
 pub returns-in-Err-clause-none_good : goal.returns-in-Err-clause-none_good
 returns-in-Err-clause-none_good c =
@@ -19,15 +21,19 @@ returns-in-Ok-finish_without-clause-filling c =
     let table = c.fill_whole.new.table in
     let found = c.in-Ok.ensures.found in
     let family = family_of c.in-Ok-finish_without.certificate in
-    let same = c.in-Ok-finish_without.ensures.same.family in
+    let W : Contents → Type 0 = λ x. SameWithout x c.in-Ok-finish_without.certificate c.fill_whole.new.table.spare.keys in
+    let without = subst W c.replace-builder.ensures.value c.in-Ok-finish_without.ensures.same in
+    let same = without.family in
     found_left s fs laws table found.whole found.none family c.in-Ok.updates (keeps_without s fs laws table found.whole found.none family same)
     (lists_without s fs laws table found.whole found.none family same) found.short found.ends found.count
 
 pub returns-in-Ok-finish_without-clause-contexts : goal.returns-in-Ok-finish_without-clause-contexts
 returns-in-Ok-finish_without-clause-contexts c =
+    let W : Contents → Type 0 = λ x. SameWithout x c.in-Ok-finish_without.certificate c.fill_whole.new.table.spare.keys in
+    let without = subst W c.replace-builder.ensures.value c.in-Ok-finish_without.ensures.same in
     let found = c.in-Ok.ensures.found in
     contexts_left (setting_of c.args.setting.now) c.args.setting.now.start.now c.fill_whole.ensures.laws c.fill_whole.new.table found.whole found.none c.in-Ok-finish_without.certificate.contexts
-    (λ frames. (c.in-Ok-finish_without.ensures.same.contexts frames).1)
+    (λ frames. (without.contexts frames).1)
 
 pub returns-in-Ok-finish_without-clause-needed : goal.returns-in-Ok-finish_without-clause-needed
 returns-in-Ok-finish_without-clause-needed c =
@@ -37,7 +43,9 @@ returns-in-Ok-finish_without-clause-needed c =
     let table = c.fill_whole.new.table in
     let found = c.in-Ok.ensures.found in
     let family = family_of c.in-Ok-finish_without.certificate in
-    let same = c.in-Ok-finish_without.ensures.same.family in
+    let W : Contents → Type 0 = λ x. SameWithout x c.in-Ok-finish_without.certificate c.fill_whole.new.table.spare.keys in
+    let without = subst W c.replace-builder.ensures.value c.in-Ok-finish_without.ensures.same in
+    let same = without.family in
     needed_left s fs laws table found.whole found.none family c.in-Ok.updates (keeps_without s fs laws table found.whole found.none family same)
     (lists_without s fs laws table found.whole found.none family same) found.short found.ends (listed_without s fs laws table found.whole found.none family same)
 
