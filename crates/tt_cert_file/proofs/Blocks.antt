@@ -71,8 +71,8 @@ taking_more old now next place at after bytes left rest unit x taking le unit_is
       long = rw rest_is (omega (arith, taking.long, length-drop 6 left));
       at_is = omega (arith, taking.at_is, after_is);
       reads = λ n tail.
-        let count : (taking.taken + 1) + n ≡ taking.taken + suc n = omega arith in
-        rw (count, pushed, first, rest_is, after_is) (taking.reads (suc n) tail ∙ one_more now n at left tail le over);
+          let count : (taking.taken + 1) + n ≡ taking.taken + suc n = omega arith in
+          rw (count, pushed, first, rest_is, after_is) (taking.reads (suc n) tail ∙ one_more now n at left tail le over);
     }
 
 -- the next one breaks the rule
@@ -149,7 +149,7 @@ pub record IsBlock (old now : Option (List ℕ)) (before xs : List (ℕ × ℕ))
   pub long : length buf ≡ 384
   pub known : is_some old ≡ true → (is_some now ≡ true)
       × ((n : ℕ) → list_at function_at before (count + n) (input_at place old)
-          ≡ list_at function_at xs ((count + n) - done) (input_held (place_after place taken) (held_in taken filled buf) now))
+      ≡ list_at function_at xs ((count + n) - done) (input_held (place_after place taken) (held_in taken filled buf) now))
   pub beginning : ConsumesBeginning old now
   pub failures_are : failures_now ≡ failures
 
@@ -171,37 +171,45 @@ fill_on old now next before xs ys place count filled taken more over after was b
   where
     slice : List ℕ
     slice = held_in taken (filled + more) buf
+
     t : IsTaking xs ys (place_after place taken) took.at slice took.left
     t = took.taking
+
     room : filled + more ≤ length buf
     room = omega (arith, fills.few, fills.room)
+
     long : length slice ≡ (filled + more) - taken
     long = held_long taken (filled + more) buf room
+
     left_is : took.left ≡ held_in after (filled + more) buf
     left_is = held_left taken (filled + more) over after buf took.left room (omega (arith, inv.order)) (omega (arith, t.long, long, took.over_is)) after_is took.suffix
+
     at_is : took.at ≡ place_after place after
     at_is = omega (arith, t.at_is, t.long, long, took.over_is, inv.order, after_is)
 
     known : (a b c : Option (List ℕ)) → Consumes b c (take more (drop filled buf))
         → (is_some a ≡ true → (is_some b ≡ true) × ((n : ℕ) → list_at function_at before (count + n) (input_at place a)
-            ≡ list_at function_at xs ((count + n) - inv.done) (input_held (place_after place taken) (held_in taken filled was) b)))
+        ≡ list_at function_at xs ((count + n) - inv.done) (input_held (place_after place taken) (held_in taken filled was) b)))
         → is_some a ≡ true → (is_some c ≡ true) × ((n : ℕ) → list_at function_at before (count + n) (input_at place a)
-            ≡ list_at function_at ys ((count + n) - (inv.done + t.taken)) (input_held (place_after place after) (held_in after (filled + more) buf) c))
+        ≡ list_at function_at ys ((count + n) - (inv.done + t.taken)) (input_held (place_after place after) (held_in after (filled + more) buf) c))
     known a None c consumed so_far e = absurd (none_known (so_far e).0)
       where
         none_known : is_some {T = List ℕ} None ≡ true → ⊥
         none_known h = cc
     known a (Some nb) None consumed so_far e = absurd consumed
-    known a (Some nb) (Some yb) consumed so_far e = (refl, λ n.
-      let m = (count + n) - (inv.done + t.taken) in
-      let bytes : held_in taken filled was ++ nb ≡ slice ++ yb =
-        ap (λ (l : List ℕ). held_in taken filled was ++ l) consumed ∙ sym (append_assoc (held_in taken filled was) (take more (drop filled buf)) yb)
-        ∙ ap (λ (l : List ℕ). l ++ yb) (sym (held_on now next taken filled (6 * count) more was buf fills inv.order)) in
-      let count_is : (count + n) - inv.done ≡ t.taken + m = omega (arith, t.long, long, inv.all, inv.order, fills.few) in
-      let there : list_at function_at ys m (input_of took.at took.left yb) ≡ list_at function_at ys m (input_of (place_after place after) (held_in after (filled + more) buf) yb) =
-        ap (λ (p : ℕ). list_at function_at ys m (input_of p took.left yb)) at_is
-        ∙ ap (λ (l : List ℕ). list_at function_at ys m (input_of (place_after place after) l yb)) left_is in
-      (so_far e).1 n ∙ rw (bytes, count_is) (t.reads m yb) ∙ there)
+    known a (Some nb) (Some yb) consumed so_far e = (
+      refl,
+      λ n.
+          let m = (count + n) - (inv.done + t.taken) in
+          let bytes : held_in taken filled was ++ nb ≡ slice ++ yb =
+          ap (λ (l : List ℕ). held_in taken filled was ++ l) consumed ∙ sym (append_assoc (held_in taken filled was) (take more (drop filled buf)) yb)
+          ∙ ap (λ (l : List ℕ). l ++ yb) (sym (held_on now next taken filled (6 * count) more was buf fills inv.order)) in
+          let count_is : (count + n) - inv.done ≡ t.taken + m = omega (arith, t.long, long, inv.all, inv.order, fills.few) in
+          let there : list_at function_at ys m (input_of took.at took.left yb) ≡ list_at function_at ys m (input_of (place_after place after) (held_in after (filled + more) buf) yb) =
+          ap (λ (p : ℕ). list_at function_at ys m (input_of p took.left yb)) at_is
+          ∙ ap (λ (l : List ℕ). list_at function_at ys m (input_of (place_after place after) l yb)) left_is in
+          (so_far e).1 n ∙ rw (bytes, count_is) (t.reads m yb) ∙ there,
+    )
 
 -- the block is full
 pub fill_done : (old now : Option (List ℕ)) (before xs : List (ℕ × ℕ)) (place count filled taken after : ℕ) (buf : List ℕ) (f g : ℕ)
@@ -210,10 +218,12 @@ pub fill_done : (old now : Option (List ℕ)) (before xs : List (ℕ × ℕ)) (p
 fill_done old now before xs place count filled taken after buf f g inv full few after_is known =
     let was = inv.known known in
     let none : held_in taken filled buf ≡ [] = held_none taken filled buf (omega (arith, inv.within, inv.long)) (omega (arith, inv.all, inv.short, inv.within, inv.order, full)) in
-    let done_is : inv.done ≡ count = omega (arith, inv.all, inv.short, inv.within, inv.order, full) in
-    (was.0, λ n.
-      let count_is : (count + n) - inv.done ≡ n = omega (arith, done_is) in
-      was.1 n ∙ rw (none, count_is, after_is) refl)
+    let done_is : inv.done ≡ count = omega (arith, inv.all, inv.short, inv.within, inv.order, full) in (
+      was.0,
+      λ n.
+          let count_is : (count + n) - inv.done ≡ n = omega (arith, done_is) in
+          was.1 n ∙ rw (none, count_is, after_is) refl,
+    )
 
 -- the input ends within the block
 pub fill_end : (old now next : Option (List ℕ)) (before xs : List (ℕ × ℕ)) (place count filled taken more after : ℕ) (was buf : List ℕ) (f g : ℕ)
@@ -225,8 +235,10 @@ fill_end old now next before xs place count filled taken more after was buf f g 
     so_far : (is_some now ≡ true) × ((n : ℕ) → list_at function_at before (count + n) (input_at place old)
         ≡ list_at function_at xs ((count + n) - inv.done) (input_held (place_after place taken) (held_in taken filled was) now))
     so_far = inv.known e
+
     held : List ℕ
     held = held_in taken filled was
+
     long : length held ≡ filled - taken
     long = held_long taken filled was (omega (arith, inv.long))
 
@@ -253,6 +265,7 @@ fill_refused (fault.Form broken) old now next before xs ys place count filled ta
   where
     slice : List ℕ
     slice = held_in taken (filled + more) buf
+
     long : length slice ≡ (filled + more) - taken
     long = held_long taken (filled + more) buf (omega (arith, fills.few, fills.room))
 
@@ -262,8 +275,8 @@ fill_refused (fault.Form broken) old now next before xs ys place count filled ta
     refused (Some nb) None consumed known n = absurd consumed
     refused (Some nb) (Some yb) consumed known n =
         let bytes : held_in taken filled was ++ nb ≡ slice ++ yb =
-          ap (λ (l : List ℕ). held_in taken filled was ++ l) consumed ∙ sym (append_assoc (held_in taken filled was) (take more (drop filled buf)) yb)
-          ∙ ap (λ (l : List ℕ). l ++ yb) (sym (held_on now next taken filled (6 * count) more was buf fills inv.order)) in
+        ap (λ (l : List ℕ). held_in taken filled was ++ l) consumed ∙ sym (append_assoc (held_in taken filled was) (take more (drop filled buf)) yb)
+        ∙ ap (λ (l : List ℕ). l ++ yb) (sym (held_on now next taken filled (6 * count) more was buf fills inv.order)) in
         rw bytes (breaks ((count + n) - inv.done) yb (omega (arith, long, inv.all, inv.order, fills.few)))
 
 -- what a loop over blocks keeps
@@ -277,11 +290,11 @@ pub blocks_on : (old now next : Option (List ℕ)) (total : Answer (List (ℕ ×
     → ConsumesBeginning now next → h ≡ g → IsReadingBlocks old next total ys fewer after f h
 blocks_on old now next total xs ys left fewer place after block f g h inv le fewer_is reads some same = record {
   known = λ e.
-    let was = inv.known e in
-    let is = reads was.0 in
-    let count : left ≡ block + fewer = omega (arith, fewer_is) in
-    let so_far : list_at function_at xs (block + fewer) (input_at place now) ≡ total = subst (λ (n : ℕ). list_at function_at xs n (input_at place now) ≡ total) count was.1 in
-    (is.0, sym (is.1 fewer) ∙ so_far);
+      let was = inv.known e in
+      let is = reads was.0 in
+      let count : left ≡ block + fewer = omega (arith, fewer_is) in
+      let so_far : list_at function_at xs (block + fewer) (input_at place now) ≡ total = subst (λ (n : ℕ). list_at function_at xs n (input_at place now) ≡ total) count was.1 in
+      (is.0, sym (is.1 fewer) ∙ so_far);
   beginning = consumes_then _ _ _ inv.beginning some;
   failures_are = same ∙ inv.failures_are;
 }

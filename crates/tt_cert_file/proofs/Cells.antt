@@ -66,8 +66,8 @@ cells_more old now next place at after bytes left rest x width taking long wide 
   some = λ lt. omega arith;
   at_is = omega (arith, taking.at_is, after_is, long, le);
   reads = λ n tail.
-    let count : (taking.taken + 1) + n ≡ taking.taken + suc n = omega arith in
-    rw (count, pushed, after_is) (taking.reads (suc n) tail ∙ next_cell now n at (place_after at width) left rest tail x (one tail));
+      let count : (taking.taken + 1) + n ≡ taking.taken + suc n = omega arith in
+      rw (count, pushed, after_is) (taking.reads (suc n) tail ∙ next_cell now n at (place_after at width) left rest tail x (one tail));
 }
 
 -- what is taken, and that the bytes that are left are the last ones
@@ -79,8 +79,7 @@ pub cells_unknown : (old now next : List Cell) (place at after : ℕ) (bytes lef
 cells_unknown old now next place at after bytes left rest taking left_is pushed after_is =
     let long : length left ≡ 1 + length rest = omega (arith, ap length left_is) in
     let one : (tail : List ℕ) → cell_at (input_of at left tail) ≡ Ok (Unknown, input_of (place_after at 1) rest tail) =
-      λ tail. subst (λ (l : List ℕ). cell_at (input_of at l tail) ≡ Ok (Unknown, input_of (place_after at 1) rest tail)) (sym left_is) (cell_unknown at rest tail) in
-    (
+    λ tail. subst (λ (l : List ℕ). cell_at (input_of at l tail) ≡ Ok (Unknown, input_of (place_after at 1) rest tail)) (sym left_is) (cell_unknown at rest tail) in (
       cells_more old now next place at after bytes left rest Unknown 1 taking.0 long (omega arith) one pushed after_is (suffix_fits bytes left taking.1),
       suffix_on bytes left rest 1 taking.1 (ap (drop 1) (sym left_is)) long,
     )
@@ -93,9 +92,8 @@ cells_known old now next place at after bytes left rest number over x taking lef
     let x_here : number_of (take 4 rest) ≡ x = sym (x_is ∙ ap number_of number_is) in
     let F : List ℕ → Cell → List ℕ → List ℕ → Type 0 = λ l y o tail. cell_at (input_of at l tail) ≡ Ok (y, input_of (place_after at 5) o tail) in
     let one : (tail : List ℕ) → F left x over tail =
-      λ tail. subst (λ (l : List ℕ). F l x over tail) (sym left_is) (subst (λ (y : Cell). F (1 ∷ rest) y over tail) x_here
-        (subst (λ (o : List ℕ). F (1 ∷ rest) (number_of (take 4 rest)) o tail) (sym over_is) (cell_known at rest tail four))) in
-    (
+    λ tail. subst (λ (l : List ℕ). F l x over tail) (sym left_is) (subst (λ (y : Cell). F (1 ∷ rest) y over tail) x_here
+    (subst (λ (o : List ℕ). F (1 ∷ rest) (number_of (take 4 rest)) o tail) (sym over_is) (cell_known at rest tail four))) in (
       cells_more old now next place at after bytes left over x 5 taking.0 long (omega arith) one pushed after_is (suffix_fits bytes left taking.1),
       suffix_on bytes left over 5 taking.1 (over_is ∙ ap (drop 5) (sym left_is)) long,
     )
@@ -117,7 +115,7 @@ cells_cut now m at (x ∷ xs) begun =
     let b = begun (omega arith) in
     let p : place_after at (1 + length b.number) ≡ place_after at (length (1 ∷ b.number)) = omega arith in
     let here : cells_at now (suc m) (input_of at (1 ∷ b.number) []) ≡ Err (place_after at (length (1 ∷ b.number))) =
-      no_cell now m at _ (1 ∷ b.number) [] (cell_begun at b.number b.short ∙ ap (λ (q : ℕ). Err q) p) in
+    no_cell now m at _ (1 ∷ b.number) [] (cell_begun at b.number b.short ∙ ap (λ (q : ℕ). Err q) p) in
     subst (λ (l : List ℕ). cells_at now (suc m) (input_of at l []) ≡ Err (place_after at (length l))) (sym b.left_is) here
 
 -- a copy at the front of a buffer
@@ -147,15 +145,18 @@ rest_whole old new before now place after held more begun was number x fills lon
         → (is_some b ≡ true) × ((n : ℕ) → cells_at before (1 + n) (input_begun place begun a) ≡ cells_at now n (input_at after b))
     known None b consumed e = absurd cc
     known (Some xs) None consumed e = absurd consumed
-    known (Some xs) (Some ys) consumed e = (refl, λ n.
-        let count : 1 + n ≡ suc n = omega arith in
-        let bytes : begun ++ xs ≡ number ++ ys =
+    known (Some xs) (Some ys) consumed e = (
+      refl,
+      λ n.
+          let count : 1 + n ≡ suc n = omega arith in
+          let bytes : begun ++ xs ≡ number ++ ys =
           ap (λ (l : List ℕ). begun ++ l) consumed ∙ sym (append_assoc begun (take more (drop held number)) ys) ∙ ap (λ (l : List ℕ). l ++ ys) (sym parts) in
-        let four : take 4 number ≡ number = take_all 4 number (omega (arith, long)) in
-        let none : drop 4 number ≡ [] = none_left (drop 4 number) (omega (arith, length-drop 4 number, long)) in
-        let after_here : after ≡ place_after place 5 = omega (arith, after_is, whole, fills.few, long) in
-        rw (bytes, count, pushed, x_is, after_here) (next_cell before n place (place_after place 5) (1 ∷ number) [] ys (number_of number)
-          (cell_known place number ys (omega (arith, long)) ∙ rw (four, none) refl)))
+          let four : take 4 number ≡ number = take_all 4 number (omega (arith, long)) in
+          let none : drop 4 number ≡ [] = none_left (drop 4 number) (omega (arith, length-drop 4 number, long)) in
+          let after_here : after ≡ place_after place 5 = omega (arith, after_is, whole, fills.few, long) in
+          rw (bytes, count, pushed, x_is, after_here) (next_cell before n place (place_after place 5) (1 ∷ number) [] ys (number_of number)
+          (cell_known place number ys (omega (arith, long)) ∙ rw (four, none) refl)),
+    )
 
 -- a known cell that was begun is cut short
 pub rest_cut : (old new : Option (List ℕ)) (before now : List Cell) (place after held more : ℕ) (begun was number : List ℕ)
@@ -168,7 +169,7 @@ rest_cut (Some xs) (Some ys) before now place after held more begun was number f
     let part = take more (drop held number) in
     let part_long : length part ≡ more = omega (arith, length-take more (drop held number), length-drop held number, fills.few) in
     let bytes : begun ++ xs ≡ (begun ++ part) ++ [] =
-      ap (λ (l : List ℕ). begun ++ l) (fills.consumed ∙ ap (λ (l : List ℕ). part ++ l) end) ∙ sym (append_assoc begun part []) in
+    ap (λ (l : List ℕ). begun ++ l) (fills.consumed ∙ ap (λ (l : List ℕ). part ++ l) end) ∙ sym (append_assoc begun part []) in
     let count : 1 + n ≡ suc n = omega arith in
     let all : length (begun ++ part) ≡ held + more = omega (arith, length-append begun part, part_long, begun_long) in
     let after_here : after ≡ place_after place (1 + length (begun ++ part)) = omega (arith, after_is, all) in
@@ -214,44 +215,48 @@ block_on old now next before xs ys place count wanted filled taken more over aft
   where
     slice : List ℕ
     slice = held_in taken (filled + more) buf
+
     t : IsTakingCells xs ys (place_after place taken) took.at slice took.left
     t = took.taking
+
     room : filled + more ≤ length buf
     room = omega (arith, fills.few, fills.room)
+
     long : length slice ≡ (filled + more) - taken
     long = held_long taken (filled + more) buf room
+
     left_is : took.left ≡ held_in after (filled + more) buf
     left_is = held_left taken (filled + more) over after buf took.left room (omega (arith, inv.order)) (omega (arith, t.few, long, took.over_is)) after_is took.suffix
+
     at_is : took.at ≡ place_after place after
     at_is = omega (arith, t.at_is, t.few, long, took.over_is, inv.order, after_is)
 
     known : (a b c : Option (List ℕ)) → Consumes b c (take more (drop filled buf))
         → (is_some a ≡ true → (is_some b ≡ true) × (cells_at before (count - length before) (input_at place a)
-            ≡ cells_at xs (count - length xs) (input_held (place_after place taken) (held_in taken filled was) b)))
+        ≡ cells_at xs (count - length xs) (input_held (place_after place taken) (held_in taken filled was) b)))
         → is_some a ≡ true → (is_some c ≡ true) × (cells_at before (count - length before) (input_at place a)
-            ≡ cells_at ys (count - length ys) (input_held (place_after place after) (held_in after (filled + more) buf) c))
+        ≡ cells_at ys (count - length ys) (input_held (place_after place after) (held_in after (filled + more) buf) c))
     known a None c consumed so_far e = absurd (none_known (so_far e).0)
       where
         none_known : is_some {T = List ℕ} None ≡ true → ⊥
         none_known h = cc
     known a (Some nb) None consumed so_far e = absurd consumed
     known a (Some nb) (Some yb) consumed so_far e =
-      let m = count - length ys in
-      let bytes : held_in taken filled was ++ nb ≡ slice ++ yb =
+        let m = count - length ys in
+        let bytes : held_in taken filled was ++ nb ≡ slice ++ yb =
         ap (λ (l : List ℕ). held_in taken filled was ++ l) consumed ∙ sym (append_assoc (held_in taken filled was) (take more (drop filled buf)) yb)
         ∙ ap (λ (l : List ℕ). l ++ yb) (sym (held_on now next taken filled wanted more was buf fills inv.order)) in
-      let count_is : count - length xs ≡ t.taken + m = omega (arith, t.grown, t.few, long, inv.few, inv.order, fills.few, fit.0, fit.1) in
-      let there : cells_at ys m (input_of took.at took.left yb) ≡ cells_at ys m (input_of (place_after place after) (held_in after (filled + more) buf) yb) =
+        let count_is : count - length xs ≡ t.taken + m = omega (arith, t.grown, t.few, long, inv.few, inv.order, fills.few, fit.0, fit.1) in
+        let there : cells_at ys m (input_of took.at took.left yb) ≡ cells_at ys m (input_of (place_after place after) (held_in after (filled + more) buf) yb) =
         ap (λ (p : ℕ). cells_at ys m (input_of p took.left yb)) at_is ∙ ap (λ (l : List ℕ). cells_at ys m (input_of (place_after place after) l yb)) left_is in
-      (refl, (so_far e).1 ∙ rw (bytes, count_is) (t.reads m yb) ∙ there)
+        (refl, (so_far e).1 ∙ rw (bytes, count_is) (t.reads m yb) ∙ there)
 
 -- a block of whole cells
 pub block_done : (old now : Option (List ℕ)) (before xs : List Cell) (place count wanted filled taken after : ℕ) (buf : List ℕ) (f g : ℕ)
     → IsCellBlock old now before xs place count wanted filled taken buf f g → IsWanted before count wanted → wanted ≤ filled → taken ≡ filled
     → after ≡ place_after place taken → ReadsCells (Ok after) old now before xs place count
 block_done old now before xs place count wanted filled taken after buf f g inv fit full all after_is =
-    let none : held_in taken filled buf ≡ [] = held_none taken filled buf (omega (arith, inv.within, inv.long, fit.2)) (omega (arith, all)) in
-    (
+    let none : held_in taken filled buf ≡ [] = held_none taken filled buf (omega (arith, inv.within, inv.long, fit.2)) (omega (arith, all)) in (
       inv.some (omega (arith, all, full, fit.0)),
       omega (arith, inv.few, all, inv.within, fit.0, fit.1),
       λ known. let was = inv.known known in (was.0, was.1 ∙ rw (none, after_is) refl),
@@ -266,6 +271,7 @@ block_end old now next before xs place count wanted filled taken more after was 
   where
     held : List ℕ
     held = held_in taken filled was
+
     long : length held ≡ filled - taken
     long = held_long taken filled was (omega (arith, inv.long, inv.within, fit.2))
 
@@ -292,6 +298,7 @@ block_refused (fault.Form broken) old now next before xs ys place count wanted f
   where
     slice : List ℕ
     slice = held_in taken (filled + more) buf
+
     long : length slice ≡ (filled + more) - taken
     long = held_long taken (filled + more) buf (omega (arith, fills.few, fills.room))
 
@@ -301,8 +308,8 @@ block_refused (fault.Form broken) old now next before xs ys place count wanted f
     refused (Some nb) None consumed known = absurd consumed
     refused (Some nb) (Some yb) consumed known =
         let bytes : held_in taken filled was ++ nb ≡ slice ++ yb =
-          ap (λ (l : List ℕ). held_in taken filled was ++ l) consumed ∙ sym (append_assoc (held_in taken filled was) (take more (drop filled buf)) yb)
-          ∙ ap (λ (l : List ℕ). l ++ yb) (sym (held_on now next taken filled wanted more was buf fills inv.order)) in
+        ap (λ (l : List ℕ). held_in taken filled was ++ l) consumed ∙ sym (append_assoc (held_in taken filled was) (take more (drop filled buf)) yb)
+        ∙ ap (λ (l : List ℕ). l ++ yb) (sym (held_on now next taken filled wanted more was buf fills inv.order)) in
         rw bytes (breaks (count - length xs) yb (omega (arith, long, inv.few, inv.order, fills.few, fit.0, fit.1)))
 
 -- of a cell that was begun less than four bytes of its number are held
@@ -321,11 +328,14 @@ block_rest r old now next before xs ys place count wanted filled taken at buf nu
   where
     b : IsBegun (held_in taken filled buf)
     b = inv.begun some
+
     begun_is : b.number ≡ number
     begun_is =
         ap (drop 1) (sym b.left_is) ∙ drop-drop 1 taken (take filled buf) ∙ sym (held_slice (taken + 1) filled buf (omega (arith, some))) ∙ sym number_is
+
     held_is : held_in taken filled buf ≡ 1 ∷ number
     held_is = b.left_is ∙ ap (λ (l : List ℕ). 1 ∷ l) begun_is
+
     so_far : is_some old ≡ true → (is_some now ≡ true) × (cells_at before (count - length before) (input_at place old)
         ≡ cells_at xs (count - length xs) (input_begun at number now))
     so_far e =
@@ -337,10 +347,10 @@ block_rest r old now next before xs ys place count wanted filled taken at buf nu
       omega (arith, rest.0, inv.least),
       omega (arith, rest.0, inv.few, some, inv.within, fit.0, fit.1),
       λ e.
-        let was = so_far e in
-        let is = rest.1 was.0 in
-        let count_is : count - length xs ≡ 1 + (count - length ys) = omega (arith, rest.0, inv.few, some, inv.within, fit.0, fit.1) in
-        (is.0, was.1 ∙ rw count_is refl ∙ is.1 (count - length ys)),
+          let was = so_far e in
+          let is = rest.1 was.0 in
+          let count_is : count - length xs ≡ 1 + (count - length ys) = omega (arith, rest.0, inv.few, some, inv.within, fit.0, fit.1) in
+          (is.0, was.1 ∙ rw count_is refl ∙ is.1 (count - length ys)),
     )
     from (Err e) rest = λ known.
         let was = so_far known in

@@ -20,7 +20,7 @@ returns-in_err-over-clause-reads g c =
     let xs = c.fill.functions.items in
     let ys = c.take_functions.new.functions.items in
     rw (p.1, p.2) (fill_refused e _ _ _ _ xs ys _ _ _ _ _ _ c.read_more.new.buf _ _ c.fill.invariant.0 c.in_ok-more.ensures.fills
-      (at_held (λ (place : ℕ) (bytes : List ℕ). Takes (Err e) xs ys place bytes) _ _ _ _ _ (omega (arith, c.fill.invariant.0.order)) c.saturating_add-at.ensures c.in_err-over.ensures.takes))
+    (at_held (λ (place : ℕ) (bytes : List ℕ). Takes (Err e) xs ys place bytes) _ _ _ _ _ (omega (arith, c.fill.invariant.0.order)) c.saturating_add-at.ensures c.in_err-over.ensures.takes))
 
 pub returns-in_err-over-clause-beginning : goal.returns-in_err-over-clause-beginning
 returns-in_err-over-clause-beginning g c = consumes_then _ _ _ c.fill.invariant.0.beginning c.read_more.ensures.beginning
@@ -28,10 +28,9 @@ returns-in_err-over-clause-beginning g c = consumes_then _ _ _ c.fill.invariant.
 pub fill-preserved : goal.fill-preserved
 fill-preserved g c =
     let xs = c.fill.functions.items in
-    let ys = c.take_functions.new.functions.items in
-    (
+    let ys = c.take_functions.new.functions.items in (
       fill_on _ _ _ _ xs ys _ _ _ _ _ _ _ _ c.read_more.new.buf _ _ _ c.fill.invariant.0 c.in_ok-more.ensures.fills
-      (at_held (AreTaken c.in_ok-over.over xs ys) _ _ _ _ _ (omega (arith, c.fill.invariant.0.order)) c.saturating_add-at.ensures c.in_ok-over.ensures.takes)
-      c.read_more.ensures.beginning c.in_ok-more.ensures.failures refl,
+          (at_held (AreTaken c.in_ok-over.over xs ys) _ _ _ _ _ (omega (arith, c.fill.invariant.0.order)) c.saturating_add-at.ensures c.in_ok-over.ensures.takes)
+          c.read_more.ensures.beginning c.in_ok-more.ensures.failures refl,
       λ rises. c.in_ok-over.ensures.rises (c.fill.invariant.1 rises),
     )

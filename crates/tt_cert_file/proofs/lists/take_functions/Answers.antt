@@ -13,10 +13,9 @@ returns-then-not-is_next-clause-takes c =
 pub functions-preserved : goal.functions-preserved
 functions-preserved c =
     let cut = c.in-Some.ensures.cases in
-    let above = rw c.deref.ensures.value at (sym c.is_next.ensures ∙ c.if-not-is_next.false) in
-    (
+    let above = rw c.deref.ensures.value at (sym c.is_next.ensures ∙ c.if-not-is_next.false) in (
       taking_more _ _ _ _ _ _ _ _ _ c.in-Some.unit.now c.pair_of-function.result c.functions.invariant.0 (omega (arith, cut.2)) cut.0 cut.1 c.pair_of-function.ensures above
-      c.in_ok-push.ensures.items c.saturating_add-at.ensures,
+          c.in_ok-push.ensures.items c.saturating_add-at.ensures,
       λ rises. subst Rises (sym c.in_ok-push.ensures.items) (Rises-push _ _ (c.functions.invariant.1 rises) above),
       suffix_on _ _ _ 6 c.functions.invariant.2 cut.1 (omega (arith, cut.2)),
     )
