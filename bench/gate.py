@@ -22,13 +22,18 @@ TOP = pathlib.Path(__file__).resolve().parent.parent
 TICKS = os.sysconf("SC_CLK_TCK")
 
 
-def name_of(process):
-    """The crate and the kind of work of a process of the prover, or None for any other process."""
+def name_of(process, room, number):
+    """The crate and the kind of work of a process of the prover, or None for any other process: one of the gate of this number stands in the
+    room, or in a folder for an edit that has the number in its name."""
+    folder = os.readlink(process / "cwd")
+    is_edit = folder.startswith(f"{tempfile.gettempdir()}/rt-edit-{number}-")
+    if not is_edit and not folder.startswith(room):
+        return None
     words = (process / "cmdline").read_bytes().decode(errors="replace").split("\0")
     if "--crate-name" not in words:
         return None
     crate = words[words.index("--crate-name") + 1]
-    if os.readlink(process / "cwd").startswith(tempfile.gettempdir() + "/rt-edit-"):
+    if is_edit:
         return crate, "edits"
     return crate, "tests" if "--test" in words else "proof"
 
@@ -38,11 +43,11 @@ def seconds_of(process):
     return (int(fields[11]) + int(fields[12])) / TICKS
 
 
-def look(seen):
+def look(seen, room, number):
     """Notes what each process of the prover has taken so far."""
     for process in pathlib.Path("/proc").glob("[0-9]*"):
         try:
-            name = name_of(process)
+            name = name_of(process, room, number)
             if name:
                 seen[process.name, name] = seconds_of(process)
         except OSError:
@@ -58,7 +63,7 @@ def main():
         begun = time.time()
         gate = subprocess.Popen(["rt", "ci", "--anew"], cwd=f"{room}/clone", stdout=log, stderr=subprocess.STDOUT)
         while gate.poll() is None:
-            look(seen)
+            look(seen, room, gate.pid)
             time.sleep(1)
     used = resource.getrusage(resource.RUSAGE_CHILDREN)
     table = collections.defaultdict(lambda: collections.defaultdict(float))
