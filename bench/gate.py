@@ -3,7 +3,7 @@
 tests and its edits.
 
 Usage: bench/gate.py [PROCESSORS]
-Nothing is taken from earlier runs. With a number, only so many of the machine's processors are used: where a proof may take several, it shares
+Nothing is taken from earlier runs (a kit whose `rt ci` keeps its work is told so). With a number, only so many of the machine's processors are used: where a proof may take several, it shares
 its work out among copies of the prover, each of which reads the libraries anew, so that more processors take more of their time together.
 What `rt ci` prints goes to gate.log in the current folder. The figures are user and system time of the prover's processes, read once a
 second while they run, in minutes; the whole is that of all processes. Nothing else should run beside it.
@@ -54,6 +54,12 @@ def look(seen, room, number):
             pass  # The process has ended.
 
 
+def gate_command():
+    """`rt ci`, from nothing: some kits keep what earlier runs proved, and these have the word for it in their help."""
+    told = subprocess.run(["rt", "help"], capture_output=True, text=True).stdout
+    return ["rt", "ci", "--anew"] if "--anew" in told else ["rt", "ci"]
+
+
 def main():
     if sys.argv[1:]:
         os.sched_setaffinity(0, sorted(os.sched_getaffinity(0))[: int(sys.argv[1])])
@@ -61,7 +67,7 @@ def main():
     with tempfile.TemporaryDirectory(prefix="gate-") as room, open("gate.log", "wb") as log:
         subprocess.run(["git", "clone", "-q", TOP, f"{room}/clone"], check=True)
         begun = time.time()
-        gate = subprocess.Popen(["rt", "ci", "--anew"], cwd=f"{room}/clone", stdout=log, stderr=subprocess.STDOUT)
+        gate = subprocess.Popen(gate_command(), cwd=f"{room}/clone", stdout=log, stderr=subprocess.STDOUT)
         while gate.poll() is None:
             look(seen, room, gate.pid)
             time.sleep(1)

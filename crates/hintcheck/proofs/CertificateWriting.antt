@@ -23,8 +23,7 @@ use Rattle.hintcheck.specs.FontPrograms.{cvt_subject, font_of, font_subject}
 use Rattle.hintcheck.specs.Looks.{IsAccepted, IsLookedAt}
 use Rattle.hintcheck.specs.Programs.{Subject}
 use Rattle.hintcheck.specs.declared.fonts.Common.{Common}
-use Rattle.hintcheck.proofs.CheckedSections.{dropped}
-use Rattle.hintcheck.proofs.CheckedPrograms.{all_dropped}
+use Rattle.hintcheck.proofs.CheckedSections.{all_dropped, dropped}
 use Rattle.hintcheck.proofs.CheckedTexts.{is_passing}
 use Rattle.hintcheck.proofs.LookLemmas.{of_subject}
 

@@ -8,12 +8,14 @@ pub mod FontLists
 pub mod EmptyPrograms
 pub mod NameLemmas
 pub mod ListingLemmas
-pub mod CheckedLists
 pub mod CheckRefusals
 pub mod CheckedSections
-pub mod CheckedPrograms
 pub mod CertificateWriting
 pub mod FaultLemmas
 pub mod OneFinding
 pub mod OneFont
 pub mod CheckedTexts
+pub mod UpgradeChecks
+pub mod UpgradeSteps
+pub mod SessionSteps
+pub mod SessionRuns

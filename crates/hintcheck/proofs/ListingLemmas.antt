@@ -1,5 +1,5 @@
 -- The lines of a program's instructions, one after the other.
-use Rattle.std.specs.Prelude.{◌/◌, ◌%◌}
+use Rattle.std.specs.Prelude.{◌/◌, ◌%◌, codes}
 use Rattle.std.specs.Fmt.{digit_glyph}
 use Rattle.std.specs.Io.KnownBytes.{Appends}
 use Rattle.std.specs.List.{AllByRecursion}
@@ -8,9 +8,16 @@ use Rattle.std.proofs.KnownBytes.{Appends-nil, Appends-trans}
 use Rattle.std.proofs.lemmas.List.{append-nil, flat_map_more, take_more}
 use Rattle.tt_code.specs.Cut.{Instruction, IsInstruction, instruction_at, size}
 use Rattle.tt_code.specs.Grammar.{StandsAt}
+use Rattle.tt_code.specs.declared.reason.Reason.{Reason}
+use Rattle.tt_abs.specs.StateFlow.{Place}
+use Rattle.tt_cert_file.specs.declared.name.Name.{Name}
 use Rattle.tt_code.proofs.CutLemmas.{found_is, size-append, some_bytes}
 use Rattle.tt_code.proofs.StructureLaws.{found_iff_stands}
-use Rattle.hintcheck.specs.Listing.{IsListedBefore, hex_digits, line_of, lines_of}
+use Rattle.hintcheck.specs.Listing.{CannotBeListed, IsListedBefore, IsUnlistedAt, TellsUnlisted, hex_digits, line_of, lines_of, no_cut, no_structure, refused_in}
+use Rattle.hintcheck.specs.Programs.{IsCause, IsRefusal, Subject}
+use Rattle.hintcheck.specs.Programs as cause
+use Rattle.hintcheck.specs.Texts.{refused_text}
+use Rattle.hintcheck.specs.declared.report.Refused.{Refused as AnyRefused}
 
 -- a byte's digits
 
@@ -71,3 +78,19 @@ all_listed is offset old new listed none = go listed.after listed.whole
     go : (after : List Instruction) → is ≡ listed.before ++ after → Appends old new (lines_of 0 is)
     go [] whole = subst (λ x. Appends old new (lines_of 0 x)) (sym (whole ∙ append-nil listed.before)) listed.written
     go (j ∷ after) whole = absurd (none j (record { before = listed.before; after = after; whole = whole; offset = listed.reached }))
+
+-- why a program that is refused isn't listed
+
+pub why_unlisted : (x : Subject) (at : Place) (r : Reason) → IsCause x at r → CannotBeListed x.bytes → IsUnlistedAt x.bytes at.1 r
+why_unlisted x _ _ (cause.no_cut offset h) none = no_cut offset h
+why_unlisted x _ _ (cause.no_structure is offset cut fault) none = no_structure is offset cut fault
+why_unlisted x _ _ (cause.no_family is p r cut justified) none = absurd (none is cut.is_cut cut.structured)
+
+pub tells_unlisted : (x : Subject) (called : Name) (r : AnyRefused) (old new : Option (List ℕ)) → IsRefusal x r → CannotBeListed x.bytes
+    → Appends old new (refused_text (refused_in called r.place.offset r.reason) ++ codes "\n") → TellsUnlisted called x.bytes old new
+tells_unlisted x called r old new refusal none written = record {
+  offset = r.place.offset;
+  reason = r.reason;
+  why = subst (λ k. IsUnlistedAt x.bytes k r.reason) (sym refusal.offset) (why_unlisted x refusal.at r.reason refusal.cause none);
+  written = written;
+}

@@ -20,13 +20,13 @@ use Rattle.hintcheck.proofs.LookLemmas.{known_cut}
 
 -- answers
 
-abbrev reads : {A : Type 0} → A × Input → Answer A
+abbrev pub reads : {A : Type 0} → A × Input → Answer A
 reads x = Ok x
 
-one_answer : {A : Type 0} (x y : A × Input) → reads x ≡ reads y → x ≡ y
+pub one_answer : {A : Type 0} (x y : A × Input) → reads x ≡ reads y → x ≡ y
 one_answer x y e = cc
 
-no_answer : {A : Type 0} (x : A × Input) (place : ℕ) → ◌≡◌ {A = Answer A} (Ok x) (Err place) → ⊥
+pub no_answer : {A : Type 0} (x : A × Input) (place : ℕ) → ◌≡◌ {A = Answer A} (Ok x) (Err place) → ⊥
 no_answer x place e = absurd cc
 
 -- sections
@@ -61,17 +61,17 @@ one_end form x family is is' functions functions' p q =
 
 -- glyph programs
 
-abbrev none : Finding
+abbrev pub none : Finding
 none = Ok []
 
-some_refused : (r : Refused) (finding : Finding) → refused_before r finding ≡ none → ⊥
+pub some_refused : (r : Refused) (finding : Finding) → refused_before r finding ≡ none → ⊥
 some_refused r (Ok rs) e = absurd cc
 some_refused r (Err place) e = absurd cc
 
-fails_not : (place : ℕ) → ◌≡◌ {A = Finding} (Err place) none → ⊥
+pub fails_not : (place : ℕ) → ◌≡◌ {A = Finding} (Err place) none → ⊥
 fails_not place e = absurd cc
 
-one_refuses : (r : Refused) → ◌≡◌ {A = Finding} (Ok (r ∷ [])) none → ⊥
+pub one_refuses : (r : Refused) → ◌≡◌ {A = Finding} (Ok (r ∷ [])) none → ⊥
 one_refuses r e = absurd cc
 
 one_checked : (form : Form) (font : Font) (functions : List (ℕ × ℕ)) (id : ℕ) (gs : List GlyphData) (i : Input) (f g : Finding) → AreChecked form font functions id gs i f

@@ -12,6 +12,13 @@ use Rattle.hintcheck.specs.declared.certifying.FindFontFault.{FindFontFault}
 use Rattle.hintcheck.specs.declared.certifying.FindFontFault.TheVariants as find
 use Rattle.hintcheck.specs.Verdicts.{Judgement}
 
+-- What holds of what is read, or of the place that a fault of form names; a failed read and want of memory say nothing.
+abbrev pub Decodes : {T : Type 0} → Result T DecodeFault → (T → Type 0) → (ℕ → Type 0) → Type 0
+Decodes (Ok x) Is At = Is x
+Decodes (Err (decode.Form place)) Is At = At place
+Decodes (Err decode.Read) Is At = Unit {0}
+Decodes (Err (decode.OutOfMemory error)) Is At = Unit {0}
+
 -- the fault of a certificate that can't be read
 abbrev pub fault_of_decoding : DecodeFault → CheckFontFault
 fault_of_decoding (decode.Form place) = fault.Form place
@@ -70,17 +77,3 @@ IsNoFaultOfFont (find.OutOfMemory error) = Unit {0}
 -- where the verdict names a refused program, nothing was written
 abbrev pub WritesNothing : Option (List ℕ) → Option (List ℕ) → Judgement → Type 0
 WritesNothing old new judgement = judgement.refused ≢ [] → new ≡ old
-
--- the fault is no failed read
-abbrev pub IsNoReadFault : CheckFontFault → Type 0
-IsNoReadFault fault.Read = ⊥
-IsNoReadFault (fault.Font font) = Unit {0}
-IsNoReadFault (fault.Form place) = Unit {0}
-IsNoReadFault (fault.OutOfMemory error) = Unit {0}
-
--- nor is it one of form
-abbrev pub IsNoForm : CheckFontFault → Type 0
-IsNoForm (fault.Form place) = ⊥
-IsNoForm fault.Read = Unit {0}
-IsNoForm (fault.Font font) = Unit {0}
-IsNoForm (fault.OutOfMemory error) = Unit {0}

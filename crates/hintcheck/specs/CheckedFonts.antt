@@ -1,5 +1,5 @@
 -- What a check of a font by its certificate finds of the font's programs.
-use Rattle.std.specs.Prelude.{◌≡◌, true, ℕ, List, ◌++◌, drop, Option, Some, is_some, unwrap_or, [], Result, Ok, Err, slice_get}
+use Rattle.std.specs.Prelude.{◌≡◌, true, ℕ, List, ◌++◌, Option, Some, is_some, unwrap_or, [], Result, Ok, Err, slice_get}
 use Rattle.tt_code.specs.Cut.{Instruction, size}
 use Rattle.tt_abs.specs.declared.state.State.{State}
 use Rattle.tt_abs.specs.Entries.{Rises}
@@ -8,8 +8,7 @@ use Rattle.tt_cert.specs.GoodFamilies.{IsGoodFamily}
 use Rattle.tt_font.specs.Reading.{FontData, GlyphData}
 use Rattle.hintcheck.specs.FontPrograms.{cvt_subject, font_of, font_subject, glyph_subject, judgement_on}
 use Rattle.hintcheck.specs.Programs.{HasGoodFamily, IsCutInto, Subject}
-use Rattle.hintcheck.specs.FontLooks.{font_in, subject_in}
-use Rattle.hintcheck.specs.Certificates.{AreChecked, Finding, IsCheckRefusal, IsChecked}
+use Rattle.hintcheck.specs.Certificates.{Finding, IsCheckRefusal, IsChecked}
 use Rattle.hintcheck.specs.Looks.{IfRefused}
 use Rattle.hintcheck.specs.Verdicts.{Judgement}
 use Rattle.hintcheck.specs.declared.certified.CheckFontFault.{CheckFontFault}
@@ -18,8 +17,6 @@ use Rattle.hintcheck.specs.declared.report.Refused.{Refused}
 use Rattle.tt_cert.specs.Contents.{Contents}
 use Rattle.tt_cert.specs.declared.fault.ProgramFault.{ProgramFault}
 use Rattle.tt_cert_file.specs.declared.form.Form.{Form}
-use Rattle.tt_cert_file.specs.Readers.{Input}
-use Rattle.hintcheck.specs.declared.fonts.Common.{Common}
 
 -- The program has these instructions, a family of abstract states is good for it, and these functions are known where it ends.
 pub record EndsGood (x : Subject) (instructions : List Instruction) (functions : List (ℕ × ℕ)) : Type 0 where
@@ -46,10 +43,6 @@ pub record HasGoodFamilies (d : FontData) : Type 0 where
   pub cvt : EndsGood (cvt_subject d font_program functions) cvt_program known
   pub glyphs : (id : ℕ) (g : GlyphData) → slice_get d.glyphs id ≡ Some g → HasGoodFamily (glyph_subject (font_of d font_program cvt_program) known id g)
 
--- so has each of these glyphs
-abbrev pub AreGoodGlyphs : Common → List GlyphData → Type 0
-AreGoodGlyphs c glyphs = (id : ℕ) (g : GlyphData) → slice_get glyphs id ≡ Some g → HasGoodFamily (subject_in c id g)
-
 -- a source tells its bytes
 abbrev pub IsTold : Option (List ℕ) → Type 0
 IsTold known = is_some known ≡ true
@@ -66,18 +59,10 @@ Finds (Err fault.Read) Is At = Unit {0}
 Finds (Err (fault.Font font)) Is At = Unit {0}
 Finds (Err (fault.OutOfMemory error)) Is At = Unit {0}
 
--- whatever the first comes to, the second comes to
-abbrev pub Leads : (Finding → Type 0) → (Finding → Type 0) → Type 0
-Leads Before After = (finding : Finding) → Before finding → After finding
-
 -- refused programs, and then the others
 abbrev pub all_refused : List Refused → Finding → Finding
 all_refused rs (Ok others) = Ok (rs ++ others)
 all_refused rs (Err place) = Err place
-
--- the glyph programs of a font from a number on, by the sections at an input
-abbrev pub AreCheckedFrom : Form → Common → List GlyphData → ℕ → Input → Finding → Type 0
-AreCheckedFrom form c glyphs id i = AreChecked form (font_in c) c.functions.now id (drop id glyphs) i
 
 -- the fault refuses the program as the check of its section does; want of memory says nothing
 abbrev pub IsRefusedBy : Form → Subject → Contents → ProgramFault → Type 0

@@ -5,7 +5,7 @@ use Rattle.tt_font.specs.FileFaults.{font_fault}
 use Rattle.tt_font.specs.declared.fault.FontFault.{FontFault}
 use Rattle.tt_font.specs.declared.fault.FontFault.TheVariants.{OutOfMemory}
 use Rattle.hintcheck_words.specs.HexWords.{IsHexWord, Spells}
-use Rattle.hintcheck_words.specs.Requests.{Request, bare, check, find, is_taken, list, meaning, verdict}
+use Rattle.hintcheck_words.specs.Requests.{Request, bare, check, find, is_taken, list, meaning, upgrade, verdict}
 use Rattle.hintcheck.specs.Commands.{ReadsToEnd, status_of}
 use Rattle.hintcheck.specs.Judging.{IsMemory}
 use Rattle.hintcheck.specs.Listing.{HoldNoSuchProgram}
@@ -87,6 +87,16 @@ IsFaultOfChecking (fault.Font numbered) = IsFaultOfSomeFont numbered.0
 IsFaultOfChecking (fault.Form place) = Unit {0}
 IsFaultOfChecking other = IsFaultOfReading other
 
+-- why a certificate file isn't upgraded
+abbrev pub IsFaultOfRewriting : CommandFault → Type 0
+IsFaultOfRewriting (fault.Form place) = Unit {0}
+IsFaultOfRewriting fault.File = Unit {0}
+IsFaultOfRewriting other = IsFaultOfReading other
+
+-- The same for an old certificate's file and a new one's with these names, which stand for files as those of a font and its certificate do.
+abbrev pub IsFaultOfUpgrading : List ℕ → List ℕ → CommandFault → Type 0
+IsFaultOfUpgrading old new told = (told ≡ fault.NewWord) ⊎ (old ≢ new × IsFaultOfRewriting told)
+
 -- a text isn't printed
 abbrev pub IsFaultOfPrinting : CommandFault → Type 0
 IsFaultOfPrinting fault.Write = Unit {0}
@@ -115,14 +125,16 @@ IsFaultOfRequest (verdict font) told = IsFaultOfFontFile told
 IsFaultOfRequest (find font certificate) told = IsFaultOfFinding font certificate told
 IsFaultOfRequest (check font certificate) told = IsFaultOfChecking told
 IsFaultOfRequest (list font program) told = IsFaultOfFileListing program told
+IsFaultOfRequest (upgrade old new) told = IsFaultOfUpgrading old new told
 
--- The words of `bare` have no fault; and those of `find` are two different ones.
+-- The words of `bare` have no fault; and those of `find` and of `upgrade` are two different ones.
 abbrev pub HasNoFault : Request → Type 0
 HasNoFault (bare maxp cvt points contours program) = SpellNoFault maxp (unwrap_or program [])
 HasNoFault (verdict font) = Unit {0}
 HasNoFault (find font certificate) = font ≢ certificate
 HasNoFault (check font certificate) = Unit {0}
 HasNoFault (list font program) = Unit {0}
+HasNoFault (upgrade old new) = old ≢ new
 
 -- the request has this fault; or it has none, and its answer isn't printed
 abbrev pub IsFaultOfTask : Request → CommandFault → Type 0

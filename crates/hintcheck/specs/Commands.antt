@@ -7,11 +7,13 @@ use Rattle.hintcheck.specs.declared.certified.CheckFontFault.{CheckFontFault}
 use Rattle.hintcheck.specs.declared.certified.CheckFontFault.TheVariants as check
 use Rattle.hintcheck.specs.declared.certifying.FindFontFault.{FindFontFault}
 use Rattle.hintcheck.specs.declared.certifying.FindFontFault.TheVariants as find
+use Rattle.hintcheck.specs.declared.upgrading.UpgradeFault.{UpgradeFault}
+use Rattle.hintcheck.specs.declared.upgrading.UpgradeFault.TheVariants as upgrading
 use Rattle.tt_stream.specs.declared.text.PrintFailed.{PrintFailed}
 use Rattle.tt_stream.specs.declared.text.PrintFailed.TheVariants as failed
 use Rattle.tt_stream.specs.declared.reads.ReadFault.{ReadFault}
 use Rattle.tt_stream.specs.declared.reads.ReadFault.TheVariants as reading
-use Rattle.hintcheck_words.specs.Requests.{Request, bare, check, find, list, verdict}
+use Rattle.hintcheck_words.specs.Requests.{Request, bare, check, find, list, upgrade, verdict}
 use Rattle.hintcheck_words.specs.declared.hex_words.WordFault.{WordFault}
 use Rattle.hintcheck_words.specs.declared.hex_words.WordFault.TheVariants as words
 use Rattle.tt_font.specs.declared.fault.FontFault.{FontFault}
@@ -55,6 +57,13 @@ fault_of_find (find.Font font) = fault.Font (record { 0 = font })
 fault_of_find find.Write = fault.File
 fault_of_find (find.OutOfMemory error) = fault.OutOfMemory
 
+-- the fault of a certificate that isn't upgraded
+abbrev pub fault_of_upgrade : UpgradeFault → CommandFault
+fault_of_upgrade (upgrading.Form place) = fault.Form place
+fault_of_upgrade upgrading.Read = fault.Read
+fault_of_upgrade upgrading.Write = fault.File
+fault_of_upgrade (upgrading.OutOfMemory error) = fault.OutOfMemory
+
 -- the fault of a word of hexadecimal digits, which is `bad` where it spells no bytes
 abbrev pub fault_of_word : WordFault → CommandFault → CommandFault
 fault_of_word words.BadWord bad = bad
@@ -80,10 +89,11 @@ ReadsToEnd old new bytes = Consumes old new bytes × IsAtEnd new
 abbrev pub HasAll : Option (List ℕ) → List ℕ → Type 0
 HasAll left bytes = IfSome left (λ known. bytes ≡ known)
 
--- a verdict is asked for, and no listing
+-- a verdict is asked for, and no listing or upgrade
 abbrev pub IsForVerdict : Request → Type 0
 IsForVerdict (bare maxp cvt points contours program) = Unit {0}
 IsForVerdict (verdict font) = Unit {0}
 IsForVerdict (find font certificate) = Unit {0}
 IsForVerdict (check font certificate) = Unit {0}
 IsForVerdict (list font program) = ⊥
+IsForVerdict (upgrade old new) = ⊥

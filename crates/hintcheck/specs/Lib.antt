@@ -13,3 +13,7 @@ pub mod CheckedFonts
 pub mod CertificateFaults
 pub mod Certificates
 pub mod CertificateTexts
+pub mod Upgrades
+pub mod UpgradeFaults
+pub mod Sessions
+pub mod SessionStages

@@ -3,13 +3,17 @@ use Rattle.std.specs.Prelude.{◌≡◌, ◌≢◌, ℕ, ◌+◌, ◌/◌, ◌%�
 use Rattle.std.specs.Fmt.{decimal, digit_glyph}
 use Rattle.std.specs.Io.KnownBytes.{Appends}
 use Rattle.std.specs.List.{flat_map}
-use Rattle.tt_code.specs.Cut.{Instruction, IsCut, code_of, size}
-use Rattle.tt_code.specs.Grammar.{IsStructured}
+use Rattle.tt_code.specs.Cut.{CannotBeCut, Instruction, IsCut, code_of, size}
+use Rattle.tt_code.specs.Grammar.{IsFault, IsStructured}
+use Rattle.tt_code.specs.declared.reason.Reason.{Reason}
+use Rattle.tt_code.specs.declared.reason.Reason.TheVariants.{CannotCut, Structure}
 use Rattle.tt_code.specs.Table.{name_of}
 use Rattle.tt_font.specs.Reading.{FontData, Reads}
 use Rattle.tt_cert_file.specs.Names.{text_of}
 use Rattle.tt_cert_file.specs.declared.name.Name.{Name}
 use Rattle.tt_cert_file.specs.declared.name.Name.TheVariants as name
+use Rattle.hintcheck.specs.Texts.{refused_text}
+use Rattle.hintcheck.specs.declared.report.Refused.{Refused}
 
 -- the text has no plus sign in front, and no zero there but as its only digit
 pub record IsPlain (text : List ℕ) : Type 0 where
@@ -45,6 +49,32 @@ pub record HoldUnlistedProgram (bytes word : List ℕ) : Type 0 where
   pub program : List ℕ
   pub named : Names word font program
   pub unlisted : CannotBeListed program
+
+-- why a program isn't listed, and at which of its offsets: it can't be cut, or its structure is at fault
+pub data IsUnlistedAt (program : List ℕ) : ℕ → Reason → Type 0 where
+  no_cut : (offset : ℕ) → CannotBeCut program offset → IsUnlistedAt program offset CannotCut
+  no_structure : (is : List Instruction) (offset : ℕ) → IsCut program is → IsFault is offset → IsUnlistedAt program offset Structure
+
+-- a program by this name, refused at this offset of its own
+abbrev pub refused_in : Name → ℕ → Reason → Refused
+refused_in called offset reason = record { program = called; place = record { program = called; offset = offset }; reason = reason }
+
+-- Why the program by this name isn't listed was told in one line, where the written bytes are known.
+pub record TellsUnlisted (called : Name) (program : List ℕ) (old new : Option (List ℕ)) : Type 0 where
+  pub offset : ℕ
+  pub reason : Reason
+  pub why : IsUnlistedAt program offset reason
+  pub written : Appends old new (refused_text (refused_in called offset reason) ++ codes "\n")
+
+-- The bytes hold a font, and the word is the name of a program of it of which one line tells why it isn't listed.
+pub record HoldToldProgram (bytes word : List ℕ) (old new : Option (List ℕ)) : Type 0 where
+  pub font : FontData
+  pub reads : Reads bytes font
+  pub name : Name
+  pub text : word ≡ text_of name
+  pub program : List ℕ
+  pub there : program_in font name ≡ Some program
+  pub told : TellsUnlisted name program old new
 
 -- The bytes hold a font, and the word is the name of none of its programs.
 pub record HoldNoSuchProgram (bytes word : List ℕ) : Type 0 where

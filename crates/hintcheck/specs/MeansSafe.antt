@@ -2,7 +2,7 @@
 use Rattle.std.specs.Prelude.{◌≡◌, ◌≢◌, ◌≤◌, ℕ, List, [], Some, true, unwrap_or}
 use Rattle.tt_font.specs.Reading.{FontData, GlyphData, Reads}
 use Rattle.hintcheck_words.specs.HexWords.{Spells}
-use Rattle.hintcheck_words.specs.Requests.{Request, bare, check, find, is_taken, list, meaning, verdict}
+use Rattle.hintcheck_words.specs.Requests.{Request, bare, check, find, is_taken, list, meaning, upgrade, verdict}
 use Rattle.hintcheck.specs.CommandFaults.{MeansNoFault, TellsFault}
 use Rattle.hintcheck.specs.FontPrograms.{IsSafeFont, IsSafeGlyph, IsVerdict, font_of, glyph_subject, one_glyph_font}
 use Rattle.hintcheck.specs.Listing.{HoldUnlistedProgram}
@@ -33,13 +33,14 @@ pub record HoldSafeFont (bytes : List ℕ) : Type 0 where
   pub safe : IsSafeFont font
 
 -- What is asked for is safe: the glyph program of `bare`, no digits being no bytes. For `verdict`, `find` and `check`, some bytes hold a safe
--- font: no contract of the runtime tells which bytes a file has, so that these can't be named here. A listing says nothing of safety.
+-- font: no contract of the runtime tells which bytes a file has, so that these can't be named here. A listing and an upgrade say nothing of safety.
 abbrev pub IsSafeRequest : Request → Type 0
 IsSafeRequest (bare maxp cvt points contours program) = SpellSafeGlyph maxp cvt points contours (unwrap_or program [])
 IsSafeRequest (verdict font) = (bytes : List ℕ) × HoldSafeFont bytes
 IsSafeRequest (find font certificate) = (bytes : List ℕ) × HoldSafeFont bytes
 IsSafeRequest (check font certificate) = (bytes : List ℕ) × HoldSafeFont bytes
 IsSafeRequest (list font program) = Unit {0}
+IsSafeRequest (upgrade old new) = Unit {0}
 
 -- The words ask for something, which is safe.
 pub record MeansSafe (words : List (List ℕ)) : Type 0 where
@@ -71,13 +72,14 @@ pub record HoldFont (bytes : List ℕ) : Type 0 where
   pub reads : Reads bytes font
 
 -- What is asked for is refused, as it is safe above; of `check` it says no more than that some bytes hold a font. For `list`, some bytes hold a font whose program of this name can't be cut or isn't
--- structured.
+-- structured. An upgrade is never refused.
 abbrev pub IsRefusedRequest : Request → Type 0
 IsRefusedRequest (bare maxp cvt points contours program) = SpellRefusedGlyph maxp cvt points contours (unwrap_or program [])
 IsRefusedRequest (verdict font) = (bytes : List ℕ) × HoldRefusedFont bytes
 IsRefusedRequest (find font certificate) = (bytes : List ℕ) × HoldRefusedFont bytes
 IsRefusedRequest (check font certificate) = (bytes : List ℕ) × HoldFont bytes
 IsRefusedRequest (list font program) = (bytes : List ℕ) × HoldUnlistedProgram bytes program
+IsRefusedRequest (upgrade old new) = ⊥
 
 -- The words ask for something, which is refused.
 pub record MeansRefused (words : List (List ℕ)) : Type 0 where

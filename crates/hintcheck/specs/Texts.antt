@@ -1,4 +1,4 @@
--- What is printed of a verdict.
+-- What is printed of a verdict, and of an upgrade.
 use Rattle.std.specs.Prelude.{ℕ, codes, List, [], ◌∷◌, ◌++◌, length}
 use Rattle.std.specs.Fmt.{decimal}
 use Rattle.std.specs.List.{flat_map}
@@ -37,3 +37,7 @@ end_line programs (r ∷ rs) = refused_line (length (r ∷ rs)) programs r.progr
 -- the lines of a verdict
 abbrev pub verdict_text : Judgement → List ℕ
 verdict_text j = refused_lines j.refused ++ end_line j.programs j.refused
+
+-- the line of a certificate file that was upgraded, which has so many sections
+abbrev pub upgraded_line : ℕ → List ℕ
+upgraded_line count = codes "upgraded: " ++ (decimal count ++ codes " sections\n")

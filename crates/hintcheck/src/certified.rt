@@ -1,6 +1,6 @@
 //! The check of a font by its certificate: each program by the family that its section lists.
 
-ghost use Rattle.std.specs.Prelude.{◌≡◌, ◌↔◌, ℕ, ◌<◌, ◌^◌, List, [], IsTrue, IfErr, IfOk, Ok, Err, OnOk, length};
+ghost use Rattle.std.specs.Prelude.{◌≡◌, ℕ, ◌<◌, ◌^◌, List, [], IfErr, IfOk, Ok, Err, OnOk, length};
 ghost use Rattle.tt_code.specs.Cut.{Instruction};
 ghost use Rattle.tt_abs.specs.Entries.{Rises};
 ghost use Rattle.tt_abs.specs.Settings.{setting_of};
@@ -12,30 +12,28 @@ ghost use Rattle.tt_font.specs.FileFaults.{font_fault};
 ghost use Rattle.tt_font.specs.GlyphParts.{glyph_data};
 ghost use Rattle.tt_font.specs.Reading.{FontData, Reads};
 ghost use Rattle.tt_stream.specs.Reads.{ConsumesBeginning};
-ghost use Rattle.hintcheck.specs.CertificateFaults.{CountsCheck, IsNoFontFault, IsNoForm, IsNoReadFault, TestsInCheck};
-ghost use Rattle.hintcheck.specs.Certificates.{AreSectionsChecked, Finding, HasNoSection, IsChecked, IsGoodListing, IsListingBrokenFirst, IsSectionOf, Passes, PassesToEnd};
-ghost use Rattle.hintcheck.specs.CheckedFonts.{AnswersFinding, AreCheckedFrom, AreGoodGlyphs, Finds, HasGoodFamilies, IsGoodAtEnd, IsRefusedBy, IsTold, Leads, all_refused, bytes_in};
+ghost use Rattle.hintcheck.specs.CertificateFaults.{CountsCheck, IsNoFontFault, TestsInCheck};
+ghost use Rattle.hintcheck.specs.Certificates.{IsChecked, IsGoodListing, IsListingBrokenFirst, Passes, PassesToEnd};
+ghost use Rattle.hintcheck.specs.CheckedFonts.{AnswersFinding, Finds, HasGoodFamilies, IsGoodAtEnd, IsRefusedBy, IsTold, bytes_in};
 ghost use Rattle.hintcheck.specs.FontLooks.{ComesToEnd, IsFontInRange, IsOfSubject, subject_in};
 ghost use Rattle.hintcheck.specs.FontPrograms.{IsSafeFont, cvt_subject, font_subject};
-ghost use Rattle.hintcheck.specs.Looks.{IsListed, IsLookedAt};
+ghost use Rattle.hintcheck.specs.Looks.{IsLookedAt};
 ghost use Rattle.hintcheck.specs.Programs.{HasGoodFamily, Subject};
+ghost use Rattle.hintcheck.specs.SessionStages.{HasHeader, ListsOutcome};
+ghost use Rattle.hintcheck.specs.Sessions.{IsHeaderFault};
 
 use crate::fonts::{Common, Ended, cvt_setting, read_font};
-use crate::look::{cut, list_refused};
-use crate::report::{Name, Refused, Verdict};
+use crate::look::cut;
+use crate::report::{Refused, Verdict};
+use crate::sections::{HEADER, Progress, SECTIONS};
+use crate::session::{Outcome, Session};
 use std::alloc::{AllocError, Global};
 use thiserror::Error;
 use tt_abs::Setting;
 use tt_cert::{Certificate, ProgramFault, check, check_full};
-use tt_cert_file::{DecodeFault, Form, decode, read_end, read_header};
+use tt_cert_file::{DecodeFault, Form, read_header};
 use tt_font::{Font, FontFault, GlyphPart};
 use tt_stream::Source;
-
-/// How many bytes the header of a certificate file has.
-const HEADER: u64 = 10;
-
-/// Where the header has the number of sections.
-const SECTIONS: u64 = 6;
 
 /// Why a font isn't checked by its certificate.
 #[derive(Debug, Drop, Error)]
@@ -92,18 +90,13 @@ impl From<DecodeFault> for CheckFontFault {
     }
 }
 
-/// How far the certificate was read: its form, and the place of the next section.
-#[derive(Clone, Copy)]
-struct Progress {
-    form: Form,
-    place: u64,
-}
-
 /// Reads the header of the font's certificate, which has a section for each program.
-fn read_start<S: Source>(font: &Font<'_>, source: &mut S) -> Result<Progress, CheckFontFault>
-    ensures sections { IsTold (S.remaining source.old) → Finds result
-        (λ p. IsTold (S.remaining source.new) × Leads (AreSectionsChecked font.now p.form (input_at p.place (S.remaining source.new))) (IsChecked font.now (bytes_in (S.remaining source.old))))
-        (λ place. IsChecked font.now (bytes_in (S.remaining source.old)) (Err place)) }
+pub(crate) fn read_start<S: Source>(
+    font: &Font<'_>,
+    source: &mut S,
+) -> Result<Progress, CheckFontFault>
+    ensures header { IsTold (S.remaining source.old) → Finds result (λ p. IsTold (S.remaining source.new) × (p.place ≡ 10)
+        × HasHeader font.now p.form (S.remaining source.old) (S.remaining source.new)) (IsHeaderFault font.now (S.remaining source.old)) }
     ensures beginning { ConsumesBeginning (S.remaining source.old) (S.remaining source.new) }
     ensures failures { CountsCheck result (S.failures source.old) (S.failures source.new) }
     ensures font { IfErr result IsNoFontFault }
@@ -116,38 +109,6 @@ fn read_start<S: Source>(font: &Font<'_>, source: &mut S) -> Result<Progress, Ch
         form,
         place: HEADER,
     })
-}
-
-/// Are the two names the same?
-fn is_same(one: Name, other: Name) -> bool
-    ensures { IsTrue result ↔ (one ≡ other) }
-{
-    one == other
-}
-
-/// Reads the section of the program with this name, and goes on to the next one.
-fn next_section<S: Source>(
-    alloc: Global,
-    source: &mut S,
-    progress: &mut Progress,
-    name: Name,
-) -> Result<Certificate, CheckFontFault>
-    ensures section { IsTold (S.remaining source.old) → Finds result
-        (λ c. IsTold (S.remaining source.new) × IsSectionOf progress.old.form (input_at progress.old.place (S.remaining source.old)) name c (input_at progress.new.place (S.remaining source.new)))
-        (HasNoSection progress.old.form (input_at progress.old.place (S.remaining source.old)) name) }
-    ensures form { progress.new.form ≡ progress.old.form }
-    ensures beginning { ConsumesBeginning (S.remaining source.old) (S.remaining source.new) }
-    ensures failures { CountsCheck result (S.failures source.old) (S.failures source.new) }
-    ensures font { IfErr result IsNoFontFault }
-{
-    let start = progress.place;
-    let (named, certificate, after) = decode(alloc, source, start, progress.form)?;
-    if !is_same(named, name) {
-        return Err(CheckFontFault::Form(start));
-    }
-    certificate.is_in_order();
-    progress.place = after;
-    Ok(certificate)
 }
 
 /// Checks a program by its section of this form: a family that lists each state is checked as a whole.
@@ -197,7 +158,7 @@ fn certified_functions(
 ///
 /// # Errors
 /// `Refused`; `OutOfMemory`.
-fn check_font_program<'a>(
+pub(crate) fn check_font_program<'a>(
     alloc: Global,
     font: &Font<'a>,
     certificate: &Certificate,
@@ -218,7 +179,7 @@ fn check_font_program<'a>(
 ///
 /// # Errors
 /// `Refused`; `OutOfMemory`.
-fn check_cvt_program<'a>(
+pub(crate) fn check_cvt_program<'a>(
     alloc: Global,
     font: &Font<'a>,
     fpgm: &Ended<'_>,
@@ -241,7 +202,7 @@ fn check_cvt_program<'a>(
 ///
 /// # Errors
 /// `Refused`; `OutOfMemory`.
-fn check_glyph_program(
+pub(crate) fn check_glyph_program(
     alloc: Global,
     common: &Common<'_>,
     glyph: &GlyphPart<'_>,
@@ -261,53 +222,14 @@ fn check_glyph_program(
     check_section(alloc, &setting, certificate, form)
 }
 
-/// Checks each glyph program by its section: the refused ones, by rising numbers of their glyphs.
-fn check_glyph_programs<S: Source>(
-    alloc: Global,
-    font: &Font<'_>,
-    common: &Common<'_>,
-    source: &mut S,
-    progress: &mut Progress,
-) -> Result<Vec<Refused>, CheckFontFault>
-    requires range { IsFontInRange font.now }
-    requires rises { Rises common.now.functions.now }
-    ensures good { IfOk result (λ refused. refused.items ≡ [] → AreGoodGlyphs common.now font.now.glyphs) }
-    ensures checked { IsTold (S.remaining source.old) → Finds result
-        (λ refused. IsTold (S.remaining source.new) × ((finding : Finding)
-        → AreCheckedFrom progress.old.form common.now font.now.glyphs (length font.now.glyphs) (input_at progress.new.place (S.remaining source.new)) finding
-        → AreCheckedFrom progress.old.form common.now font.now.glyphs 0 (input_at progress.old.place (S.remaining source.old)) (all_refused refused.items finding)))
-        (λ place. AreCheckedFrom progress.old.form common.now font.now.glyphs 0 (input_at progress.old.place (S.remaining source.old)) (Err place)) }
-    ensures beginning { ConsumesBeginning (S.remaining source.old) (S.remaining source.new) }
-    ensures failures { CountsCheck result (S.failures source.old) (S.failures source.new) }
-    ensures font { IfErr result IsNoFontFault }
+/// Puts the outcome's program into the list of the refused ones, if it is refused.
+fn list_outcome(refused: &mut Vec<Refused>, outcome: Outcome) -> Result<(), AllocError>
+    ensures { OnOk result (ListsOutcome refused.old.items outcome.refused refused.new.items) }
 {
-    let mut refused = Vec::new(alloc);
-    for id in 0..font.glyph_count() {
-        let certificate = next_section(alloc, source, progress, Name::Glyph(id))?;
-        let glyph = font.glyph(id).unwrap();
-        match check_glyph_program(alloc, common, &glyph, &certificate, progress.form) {
-            Ok(()) => {}
-            Err(fault) => list_refused(&mut refused, Name::Glyph(id), fault)?,
-        }
+    if let Some(one) = outcome.refused {
+        refused.push(one)?;
     }
-    Ok(refused)
-}
-
-/// The only refused program: a refused font program or CVT program ends the check.
-fn refused_alone(
-    alloc: Global,
-    name: Name,
-    fault: ProgramFault,
-) -> Result<Vec<Refused>, CheckFontFault>
-    ensures one { IfOk result (λ refused. IsListed name fault [] refused.items) }
-    ensures some { IfOk result (λ refused. refused.items ≡ [] → ⊥) }
-    ensures form { IfErr result IsNoForm }
-    ensures failures { IfErr result IsNoReadFault }
-    ensures font { IfErr result IsNoFontFault }
-{
-    let mut refused = Vec::new(alloc);
-    list_refused(&mut refused, name, fault)?;
-    Ok(refused)
+    Ok(())
 }
 
 /// Checks the programs of a font, one after the other, by the sections that the source still has: the refused ones, in their order.
@@ -324,23 +246,11 @@ fn check_programs<S: Source>(
     ensures failures { CountsCheck result (S.failures source.old) (S.failures source.new) }
     ensures font { IfErr result IsNoFontFault }
 {
-    let mut progress = read_start(font, source)?;
-    let certificate = next_section(alloc, source, &mut progress, Name::Font)?;
-    let fpgm = match check_font_program(alloc, font, &certificate, progress.form) {
-        Ok(fpgm) => fpgm,
-        Err(fault) => return refused_alone(alloc, Name::Font, fault),
-    };
-    let certificate = next_section(alloc, source, &mut progress, Name::Cvt)?;
-    let prep = match check_cvt_program(alloc, font, &fpgm, &certificate, progress.form) {
-        Ok(prep) => prep,
-        Err(fault) => return refused_alone(alloc, Name::Cvt, fault),
-    };
-    let common = Common {
-        setting: cvt_setting(font, &fpgm, &prep.program),
-        functions: &prep.functions,
-    };
-    let refused = check_glyph_programs(alloc, font, &common, source, &mut progress)?;
-    read_end(source, progress.place)?;
+    let mut session = Session::new(font);
+    let mut refused = Vec::new(alloc);
+    while let Some(outcome) = session.check_next(alloc, source)? {
+        list_outcome(&mut refused, outcome)?;
+    }
     Ok(refused)
 }
 

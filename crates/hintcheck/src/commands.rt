@@ -7,12 +7,13 @@ ghost use Rattle.tt_stream.specs.Streams.{CountsPrintFailure};
 ghost use Rattle.hintcheck_words.specs.Requests.{asked, is_taken};
 ghost use Rattle.hintcheck.specs.Certificates.{IsChecked};
 ghost use Rattle.hintcheck.specs.Commands.{HasAll, IsForVerdict, IsNoWriteFault, ReadsToEnd, TellsFailedRead, TellsFailure, status_of};
-ghost use Rattle.hintcheck.specs.CommandFaults.{HasNoFault, IsFaultOfCertifying, IsFaultOfChecking, IsFaultOfFileListing, IsFaultOfFinding, IsFaultOfFontFile, IsFaultOfGlyph, IsFaultOfPrinting, IsFaultOfReading, IsFaultOfRequest, IsFaultOfSource, IsFaultOfTask, IsFaultOfWords, MeansNoFault, ReadNoFault, SpellNoFault, TellsFault};
+ghost use Rattle.hintcheck.specs.CommandFaults.{HasNoFault, IsFaultOfCertifying, IsFaultOfChecking, IsFaultOfFileListing, IsFaultOfFinding, IsFaultOfFontFile, IsFaultOfGlyph, IsFaultOfPrinting, IsFaultOfReading, IsFaultOfRequest, IsFaultOfRewriting, IsFaultOfSource, IsFaultOfTask, IsFaultOfUpgrading, IsFaultOfWords, MeansNoFault, ReadNoFault, SpellNoFault, TellsFault};
 ghost use Rattle.hintcheck.specs.FontLooks.{IsFontInRange};
 ghost use Rattle.hintcheck.specs.FontPrograms.{IsSafeFont, IsVerdict};
 ghost use Rattle.hintcheck.specs.Listing.{HoldUnlistedProgram};
 ghost use Rattle.hintcheck.specs.MeansSafe.{HoldFont, HoldRefusedFont, HoldSafeFont, IsRefusedRequest, IsSafeRequest, IsVerdictOn, MeansRefused, MeansSafe, SpellRefusedGlyph, SpellSafeGlyph};
-ghost use Rattle.hintcheck.specs.Texts.{end_line, verdict_text};
+ghost use Rattle.hintcheck.specs.Texts.{end_line, upgraded_line, verdict_text};
+ghost use Rattle.hintcheck.specs.Upgrades.{UpgradesTo};
 
 pub mod faults;
 
@@ -23,23 +24,27 @@ use crate::fonts::read_font;
 use crate::judge::bare;
 use crate::listing::list_program;
 use crate::report::{Name, Verdict};
+use crate::upgrading::upgrade;
 use faults::CommandFault;
 use hintcheck_words::{Task, TaskFault, read_words, word_bytes};
 use std::alloc::{AllocError, Global};
 use std::fs;
-use std::io::{BufReader, Read, Write};
+use std::io::{BufWriter, Read, Write};
 use std::marker::Brand;
 use std::os::unix::fs::MetadataExt;
 use std::rt::Files;
 use std::sync::ledger::{Blank, Ledger};
 use tt_font::Font;
-use tt_stream::{Counted, PrintFailed, Sink, Source, read_all};
+use tt_stream::{Buffered, Counted, PrintFailed, Sink, Source, read_all};
 
-/// The exit status where every program is accepted, or help was asked for.
+/// The exit status where every program is accepted, a certificate is upgraded, or help was asked for.
 const ACCEPTED: u8 = 0;
 
 /// The exit status where a program is refused.
 const REFUSED: u8 = 1;
+
+/// So many bytes of a certificate are written at a time: those of many sections, since most are short.
+const ROOM: usize = 65_536;
 
 /// Prints the verdict: a line for each refused program, and a last line.
 fn print_verdict<O: Sink>(out: &mut O, verdict: &Verdict) -> Result<(), PrintFailed>
@@ -177,7 +182,9 @@ fn verdict_by_file<L: Ledger, F: Read + Drop>(
     ensures fault { IfErr result IsNoWriteFault }
     ensures faults { IfErr result IsFaultOfChecking }
 {
-    let mut source = Counted::<F, L>::new(file, blank);
+    let Ok(mut source) = Buffered::new(alloc, Counted::<F, L>::new(file, blank)) else {
+        return Err(CommandFault::OutOfMemory);
+    };
     Ok(check_read_font(alloc, font, &mut source)?)
 }
 
@@ -197,10 +204,18 @@ fn check_verdict<R: Files + AllocGlobal>(
     let Ok(file) = fs::open(rt, certificate) else {
         return Err(CommandFault::Read);
     };
-    let Ok(file) = BufReader::new(rt.alloc(), file) else {
-        return Err(CommandFault::OutOfMemory);
-    };
     verdict_by_file::<Brand, _>(rt.alloc(), &font, file, Blank::new(1))
+}
+
+/// Writes what the writer still holds to its file.
+fn write_rest<F: Write + Drop>(writer: BufWriter<F>) -> Result<(), CommandFault>
+    ensures { IfErr result (λ fault. fault ≡ CommandFault.File) }
+{
+    let mut writer = writer;
+    match writer.flush() {
+        Ok(()) => Ok(()),
+        Err(_) => Err(CommandFault::File),
+    }
 }
 
 /// The verdict on a font, whose certificate is written to the file.
@@ -216,8 +231,13 @@ fn verdict_to_file<L: Ledger, F: Write + Drop>(
     ensures fault { IfErr result IsNoWriteFault }
     ensures faults { IfErr result IsFaultOfCertifying }
 {
-    let mut sink = Counted::<F, L>::new(file, blank);
-    Ok(find_programs(alloc, font, &mut sink)?)
+    let Ok(file) = BufWriter::with_capacity(alloc, ROOM, file) else {
+        return Err(CommandFault::OutOfMemory);
+    };
+    let mut sink = Counted::<BufWriter<F>, L>::new(file, blank);
+    let verdict = find_programs(alloc, font, &mut sink)?;
+    write_rest(sink.into_inner())?;
+    Ok(verdict)
 }
 
 /// The numbers by which a system tells its files apart: that of the file on its device, and the device's.
@@ -292,6 +312,69 @@ fn list_of_file<R: Files + AllocGlobal, O: Sink>(
     list_program(rt.alloc(), &bytes, word, out)
 }
 
+/// Upgrades the certificate that is left in the old file to the new one: how many sections it has.
+fn upgrade_file<L: Ledger, M: Ledger, F: Read + Drop, G: Write + Drop>(
+    alloc: Global,
+    old: F,
+    new: G,
+    reads: Blank,
+    writes: Blank,
+) -> Result<u32, CommandFault>
+    requires reads { (reads.name ≡ L.name) × (reads.parts ≡ L.parts) × (0 < reads.parts) }
+    requires writes { (writes.name ≡ M.name) × (writes.parts ≡ M.parts) × (0 < writes.parts) }
+    ensures exact { IfOk result (λ count. IfSome (F.remaining old) (λ bytes. UpgradesTo bytes (Ok count))) }
+    ensures fault { IfErr result IsNoWriteFault }
+    ensures faults { IfErr result IsFaultOfRewriting }
+{
+    let Ok(mut source) = Buffered::new(alloc, Counted::<F, L>::new(old, reads)) else {
+        return Err(CommandFault::OutOfMemory);
+    };
+    let Ok(new) = BufWriter::with_capacity(alloc, ROOM, new) else {
+        return Err(CommandFault::OutOfMemory);
+    };
+    let mut sink = Counted::<BufWriter<G>, M>::new(new, writes);
+    let count = upgrade(alloc, &mut source, &mut sink)?;
+    write_rest(sink.into_inner())?;
+    Ok(count)
+}
+
+/// Upgrades the certificate in the file with the first name to the file with the second, which is made or emptied once the first is open, and is a
+/// file of its own as far as that can be told.
+fn upgrade_named<R: Files + AllocGlobal>(rt: &R, old: &str, new: &str) -> Result<u32, CommandFault>
+    ensures fault { IfErr result IsNoWriteFault }
+    ensures faults { IfErr result (IsFaultOfUpgrading old.now new.now) }
+    ensures none { OnOk result (old.now ≢ new.now) }
+{
+    if old == new || is_same_file(file_numbers(rt, old), file_numbers(rt, new)) {
+        return Err(CommandFault::NewWord);
+    }
+    let Ok(old) = fs::open(rt, old) else {
+        return Err(CommandFault::Read);
+    };
+    let Ok(new) = fs::create(rt, new) else {
+        return Err(CommandFault::File);
+    };
+    upgrade_file::<Brand, Brand, _, _>(rt.alloc(), old, new, Blank::new(1), Blank::new(1))
+}
+
+/// Upgrades the certificate in the file with the first name to the file with the second, and tells how many sections it has.
+fn tell_upgrade<R: Files + AllocGlobal, O: Sink>(
+    rt: &R,
+    old: &str,
+    new: &str,
+    out: &mut O,
+) -> Result<u8, CommandFault>
+    ensures status { IfOk result (λ status. status ≡ 0) }
+    ensures written { OnOk result ((count : ℕ) × Appends (O.contents out.old) (O.contents out.new) (upgraded_line count)) }
+    ensures failures { TellsFailure result (O.failures out.old) (O.failures out.new) }
+    ensures faults { IfErr result (λ told. IsFaultOfUpgrading old.now new.now told ⊎ (old.now ≢ new.now × IsFaultOfPrinting told)) }
+    ensures none { OnOk result (old.now ≢ new.now) }
+{
+    let count = upgrade_named(rt, old, new)?;
+    writeln!(out, "upgraded: {count} sections")?;
+    Ok(ACCEPTED)
+}
+
 /// The word, empty where it is left out.
 fn word_or_empty(word: &Option<String>) -> &str
     ensures { result.now ≡ unwrap_or (option_map (λ s. string_bytes s) word.now) [] }
@@ -329,7 +412,7 @@ fn verdict_on<R: Files + AllocGlobal>(rt: &R, task: &Task) -> Result<Verdict, Co
         Task::Verdict { font } => file_verdict(rt, font),
         Task::Find { font, certificate } => find_verdict(rt, font, certificate),
         Task::Check { font, certificate } => check_verdict(rt, font, certificate),
-        Task::List { .. } => unreachable!(),
+        Task::List { .. } | Task::Upgrade { .. } => unreachable!(),
     }
 }
 
@@ -365,17 +448,18 @@ fn do_task<R: Files + AllocGlobal, O: Sink>(
 {
     match task {
         Task::List { font, program } => list_of_file(rt, font, program, out),
+        Task::Upgrade { old, new } => tell_upgrade(rt, old, new, out),
         task => tell_verdict(out, verdict_on(rt, task)?),
     }
 }
 
-/// Does what the words of a command line ask for and prints the answer to `out`, and answers the exit status: 0 accepted or listed, 1
-/// refused. It is `command` but that the fault is the caller's to tell.
+/// Does what the words of a command line ask for and prints the answer to `out`, and answers the exit status: 0 accepted, listed or
+/// upgraded, 1 refused. It is `command` but that the fault is the caller's to tell.
 ///
 /// # Errors
 /// `Write` exactly where a write to `out` failed; `Usage` for words that the command line doesn't take; `MaxpWord` and `ProgramWord` for a
 /// word that spells no bytes; `ProgramWord` for one that names no program of the font too; `CertificateWord` where a font's file is to be its
-/// certificate's; `Font` for the first fault of the font or of `bare`'s `maxp`; `Form`, `Read`, `File` and `OutOfMemory`.
+/// certificate's; `NewWord` where an old certificate's file is to be the new one's; `Font` for the first fault of the font or of `bare`'s `maxp`; `Form`, `Read`, `File` and `OutOfMemory`.
 pub fn try_command<R: Files + AllocGlobal, O: Sink>(
     rt: &R,
     words: &[&str],
@@ -403,8 +487,8 @@ pub fn try_command<R: Files + AllocGlobal, O: Sink>(
 }
 
 /// Does what the words of a command line ask for, prints the answer to `out` or a fault to `err`,
-/// and answers the exit status: 0 accepted or listed, 1 refused, 2 words, input or output that can't be read
-/// or written, 3 out of memory. The first word is the program's own name. Printing takes no memory.
+/// and answers the exit status: 0 accepted, listed or upgraded, 1 refused, 2 words, input or output that can't
+/// be read or written, 3 out of memory. The first word is the program's own name. Printing takes no memory.
 pub fn command<R: Files + AllocGlobal, O: Sink, E: Sink>(
     rt: &R,
     words: &[&str],

@@ -202,7 +202,7 @@ pub(crate) fn refused_programs(alloc: Global, font: &Font<'_>) -> Result<Vec<Ref
 ///
 /// # Errors
 /// The faults of `Font::read`.
-pub(crate) fn read_font<'a>(alloc: Global, bytes: &'a [u8]) -> Result<Font<'a>, FontFault>
+pub fn read_font<'a>(alloc: Global, bytes: &'a [u8]) -> Result<Font<'a>, FontFault>
     ensures reads { IfOk result (λ font. Reads bytes.entry.now font) }
     ensures range { IfOk result (λ font. IsFontInRange font) }
     ensures faults { TestsWithMemory (font_fault bytes.entry.now) result }

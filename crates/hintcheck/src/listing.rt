@@ -8,7 +8,7 @@ ghost use Rattle.tt_code.specs.Cut.{IsInstruction};
 ghost use Rattle.tt_stream.specs.Streams.{CountsPrintFailure};
 ghost use Rattle.hintcheck.specs.CommandFaults.{IsFaultOfLines, IsFaultOfListing};
 ghost use Rattle.hintcheck.specs.Commands.{TellsFailure};
-ghost use Rattle.hintcheck.specs.Listing.{CannotBeListed, HoldListedProgram, HoldNoSuchProgram, HoldUnlistedProgram, IsListed, IsOf16Bits, IsPlain, Names, last_line, line_of, lines_of, program_in, shown_name};
+ghost use Rattle.hintcheck.specs.Listing.{CannotBeListed, HoldListedProgram, HoldNoSuchProgram, HoldToldProgram, HoldUnlistedProgram, IsListed, IsOf16Bits, IsPlain, Names, TellsUnlisted, last_line, line_of, lines_of, program_in, refused_in, shown_name};
 ghost use Rattle.tt_cert_file.specs.Names.{text_of};
 
 use crate::commands::faults::CommandFault;
@@ -83,6 +83,8 @@ struct Named<'a> {
 fn named_program<'a>(font: &Font<'a>, word: &str) -> Option<Named<'a>>
     requires { length font.now.glyphs < 2 ^ 16 }
     ensures there { IfSome result (λ named. Names word.now font.now named.bytes.now) }
+    ensures text { IfSome result (λ named. word.now ≡ text_of named.name) }
+    ensures program { IfSome result (λ named. program_in font.now named.name ≡ Some named.bytes.now) }
     ensures none { IfNone result ((program : List ℕ) → Names word.now font.now program → ⊥) }
 {
     let name = read_name(word)?;
@@ -157,7 +159,9 @@ fn print_program<O: Sink>(out: &mut O, program: &Program<'_>) -> Result<(), Prin
 }
 
 /// The program of this name, refused at this offset of its own.
-fn refused_at(program: Name, offset: u32, reason: Reason) -> Refused {
+fn refused_at(program: Name, offset: u32, reason: Reason) -> Refused
+    ensures { result ≡ refused_in program offset reason }
+{
     Refused {
         program,
         place: Place { program, offset },
@@ -171,6 +175,7 @@ fn list_named<O: Sink>(alloc: Global, named: Named<'_>, out: &mut O) -> Result<u
     ensures status { IfOk result (λ status. status ≤ 1) }
     ensures listed { IfOk result (λ status. status ≡ 0 → IsListed named.entry.bytes.now (O.contents out.old) (O.contents out.new)) }
     ensures unlisted { IfOk result (λ status. status ≡ 1 → CannotBeListed named.entry.bytes.now) }
+    ensures told { IfOk result (λ status. status ≡ 1 → TellsUnlisted named.entry.name named.entry.bytes.now (O.contents out.old) (O.contents out.new)) }
     ensures named { result ≢ Err CommandFault.ProgramWord }
     ensures failures { TellsFailure result (O.failures out.old) (O.failures out.new) }
     ensures faults { IfErr result IsFaultOfLines }
@@ -204,6 +209,7 @@ pub fn list_program<O: Sink>(
     ensures status { IfOk result (λ status. status ≤ 1) }
     ensures listed { IfOk result (λ status. status ≡ 0 → HoldListedProgram font.now word.now (O.contents out.old) (O.contents out.new)) }
     ensures unlisted { IfOk result (λ status. status ≡ 1 → HoldUnlistedProgram font.now word.now) }
+    ensures told { IfOk result (λ status. status ≡ 1 → HoldToldProgram font.now word.now (O.contents out.old) (O.contents out.new)) }
     ensures unnamed { result ≡ Err CommandFault.ProgramWord → HoldNoSuchProgram font.now word.now }
     ensures failures { TellsFailure result (O.failures out.old) (O.failures out.new) }
     ensures faults { IfErr result (IsFaultOfListing font.now word.now) }

@@ -15,7 +15,7 @@ ghost use Rattle.tt_cert_file.specs.declared.form.Form.{Form};
 ghost use Rattle.tt_find.specs.Found.{NeedsAll};
 ghost use Rattle.hintcheck.specs.CheckedFonts.{IsRefusedBy};
 ghost use Rattle.hintcheck.specs.Programs.{HasGoodFamily, IsCutInto, IsRefusal, Subject, program_at as program_at_spot};
-ghost use Rattle.hintcheck.specs.Looks.{IfRefused, IsAccepted, IsListed, IsLookedAt};
+ghost use Rattle.hintcheck.specs.Looks.{IfRefused, IsAccepted, IsListed, IsLookedAt, told_at};
 
 use crate::report::{Name, Place, Refused};
 use std::alloc::{AllocError, Global};
@@ -32,6 +32,20 @@ fn program_at(name: Name, spot: Spot) -> Name
         Spot::Main => name,
         Spot::Font => Name::Font,
         Spot::Prep => Name::Cvt,
+    }
+}
+
+/// What is told of the program of this name that is refused at an offset.
+pub(crate) fn told(name: Name, spot: Spot, offset: u32, reason: Reason) -> Refused
+    ensures { result ≡ told_at name spot offset reason }
+{
+    Refused {
+        program: name,
+        place: Place {
+            program: program_at(name, spot),
+            offset,
+        },
+        reason,
     }
 }
 
@@ -52,14 +66,7 @@ pub(crate) fn list_refused(
             offset,
             reason,
         } => {
-            refused.push(Refused {
-                program: name,
-                place: Place {
-                    program: program_at(name, spot),
-                    offset,
-                },
-                reason,
-            })?;
+            refused.push(told(name, spot, offset, reason))?;
             Ok(())
         }
         ProgramFault::OutOfMemory(error) => Err(error),

@@ -10,4 +10,7 @@ mod glyph_programs;
 mod lines;
 mod listing;
 mod outputs;
+mod sessions;
 mod stored_certificates;
+mod upgrade_commands;
+mod upgrades;

@@ -4,6 +4,7 @@
 --     hintcheck find FONT CERT
 --     hintcheck check FONT CERT
 --     hintcheck list FONT PROGRAM
+--     hintcheck upgrade OLD NEW
 use Rattle.std.specs.Prelude.{codes, fold, List, [], ◌∷◌, true, pos, Some}
 use Rattle.clap.specs.Words.{App, Rule, Text, new_app, new_rule, with_rule, with_subcommand}
 use Rattle.clap.specs.declared.builder.value_parser.ValueParser.TheVariants as parser
@@ -39,6 +40,9 @@ check = of_texts (codes "check") (codes "FONT" ∷ codes "CERT" ∷ [])
 abbrev pub list : App
 list = of_texts (codes "list") (codes "FONT" ∷ codes "PROGRAM" ∷ [])
 
+abbrev pub upgrade : App
+upgrade = of_texts (codes "upgrade") (codes "OLD" ∷ codes "NEW" ∷ [])
+
 -- the program, which is told a subcommand always
 abbrev pub program : App
 program = record (new_app (codes "hintcheck")) {
@@ -46,4 +50,4 @@ program = record (new_app (codes "hintcheck")) {
 }
 
 unfoldable pub hintcheck : App
-hintcheck = fold (λ a s. with_subcommand a s.top) program (bare ∷ verdict ∷ find ∷ check ∷ list ∷ [])
+hintcheck = fold (λ a s. with_subcommand a s.top) program (bare ∷ verdict ∷ find ∷ check ∷ list ∷ upgrade ∷ [])

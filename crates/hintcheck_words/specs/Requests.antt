@@ -17,6 +17,7 @@ pub data Request : Type 0 where
   find : Text → Text → Request
   check : Text → Text → Request
   list : Text → Text → Request
+  upgrade : Text → Text → Request
 
 -- the first text that an argument got, the number that it spells, and the text of one that may be left out
 abbrev pub text_in : List Row → Text → Text
@@ -44,7 +45,8 @@ requests = (codes "bare", bare_request)
     ∷ (codes "verdict", λ rows. verdict (text_in rows (codes "FONT")))
     ∷ (codes "find", λ rows. find (text_in rows (codes "FONT")) (text_in rows (codes "CERT")))
     ∷ (codes "check", λ rows. check (text_in rows (codes "FONT")) (text_in rows (codes "CERT")))
-    ∷ (codes "list", λ rows. list (text_in rows (codes "FONT")) (text_in rows (codes "PROGRAM"))) ∷ []
+    ∷ (codes "list", λ rows. list (text_in rows (codes "FONT")) (text_in rows (codes "PROGRAM")))
+    ∷ (codes "upgrade", λ rows. upgrade (text_in rows (codes "OLD")) (text_in rows (codes "NEW"))) ∷ []
 
 -- what a subcommand asks for
 unfoldable pub request_of : Text × List Row → Option Request
@@ -88,6 +90,7 @@ asked (task.Verdict font) = verdict (string_bytes font)
 asked (task.Find font certificate) = find (string_bytes font) (string_bytes certificate)
 asked (task.Check font certificate) = check (string_bytes font) (string_bytes certificate)
 asked (task.List font program) = list (string_bytes font) (string_bytes program)
+asked (task.Upgrade old new) = upgrade (string_bytes old) (string_bytes new)
 
 -- memory ran out
 unfoldable pub IsWantOfMemory : TaskFault → Type 0

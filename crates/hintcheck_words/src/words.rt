@@ -43,6 +43,12 @@ pub enum Task {
         /// Which program it is.
         program: String,
     },
+    /// Writes the certificate in the file with this name, of any form, to another file in the newest form.
+    Upgrade {
+        old: String,
+        /// The name of the new certificate's file.
+        new: String,
+    },
 }
 
 /// Why words ask for nothing.
@@ -104,6 +110,9 @@ const CHECK: (&str, &str) = ("check", "Checks a font file by its certificate");
 /// The subcommand `list`, with its help.
 const LIST: (&str, &str) = ("list", "Lists the instructions of one program");
 
+/// The subcommand `upgrade`, with its help.
+const UPGRADE: (&str, &str) = ("upgrade", "Writes a certificate file in the newest form");
+
 /// The argument that names a font file, with its help.
 const FONT: (&str, &str) = ("FONT", "The name of the font file");
 
@@ -112,6 +121,12 @@ const CERTIFICATE: (&str, &str) = ("CERT", "The name of the certificate's file")
 
 /// The argument that names a program of a font, with its help.
 const PROGRAM: (&str, &str) = ("PROGRAM", "The program: f, p, or g and a number");
+
+/// The argument that names an old certificate's file, with its help.
+const OLD: (&str, &str) = ("OLD", "The name of the old certificate's file");
+
+/// The argument that names a new certificate's file, with its help.
+const NEW: (&str, &str) = ("NEW", "The name of the new certificate's file");
 
 /// A subcommand whose arguments are texts that must be given.
 fn texts_command<'a>(
@@ -140,7 +155,8 @@ fn command_line<'a>(alloc: Global) -> Result<Command<'a>, AllocError>
         .subcommand(texts_command(alloc, VERDICT, &[FONT])?)?
         .subcommand(texts_command(alloc, FIND, &[FONT, CERTIFICATE])?)?
         .subcommand(texts_command(alloc, CHECK, &[FONT, CERTIFICATE])?)?
-        .subcommand(texts_command(alloc, LIST, &[FONT, PROGRAM])?)
+        .subcommand(texts_command(alloc, LIST, &[FONT, PROGRAM])?)?
+        .subcommand(texts_command(alloc, UPGRADE, &[OLD, NEW])?)
 }
 
 /// The text that the words give the argument, empty where they give none.
@@ -205,6 +221,10 @@ fn task_of(alloc: Global, name: &str, values: &ArgMatches<'_>) -> Result<Task, A
         "list" => Ok(Task::List {
             font: text(alloc, values, "FONT")?,
             program: text(alloc, values, "PROGRAM")?,
+        }),
+        "upgrade" => Ok(Task::Upgrade {
+            old: text(alloc, values, "OLD")?,
+            new: text(alloc, values, "NEW")?,
         }),
         _ => unreachable!(),
     }

@@ -1,5 +1,5 @@
 -- Functions that are read many at a time.
-use Rattle.std.proofs.Common.{◌≡◌, ℕ, suc, ◌+◌, ◌-◌, ◌*◌, ◌<◌, ◌≤◌, true, false, ltb, List, [], ◌∷◌, ◌++◌, length, take, drop, Option, Some, None, is_some, Ok, Err, refl, sym, ap, subst, ◌∙◌, arith, append-nil, append_assoc}
+use Rattle.std.proofs.Common.{◌≡◌, ℕ, suc, ◌+◌, ◌-◌, ◌*◌, ◌^◌, ◌<◌, ◌≤◌, true, false, ltb, List, [], ◌∷◌, ◌++◌, length, take, drop, Option, Some, None, is_some, Ok, Err, refl, sym, ap, subst, ◌∙◌, arith, append-nil, append_assoc}
 use Rattle.std.proofs.lemmas.Bool.{le-ltb, lt-ltb}
 use Rattle.std.proofs.lemmas.List.{take-append-le, drop-append-le, drop-drop, drop-take, length-append, length-drop, length-take}
 use Rattle.std.proofs.Math.Seq.{take-add}
@@ -73,7 +73,25 @@ taking_more old now next place at after bytes left rest unit x taking le unit_is
       reads = λ n tail.
           let count : (taking.taken + 1) + n ≡ taking.taken + suc n = omega arith in
           rw (count, pushed, first, rest_is, after_is) (taking.reads (suc n) tail ∙ one_more now n at left tail le over);
+      anywhere = λ p n tail lt.
+          let count : (taking.taken + 1) + n ≡ taking.taken + suc n = omega arith in
+          let there : place_after (place_after p (6 * taking.taken)) 6 ≡ place_after p (6 * (taking.taken + 1)) = omega arith in
+          rw (count, pushed, first, rest_is) (taking.anywhere p (suc n) tail lt ∙ one_more now n (place_after p (6 * taking.taken)) left tail le over
+          ∙ ap (λ (q : ℕ). list_at function_at (now ++ front left ∷ []) n (input_of q (drop 6 left) tail)) there);
     }
+
+-- none was taken
+pub taking_none : (old : List (ℕ × ℕ)) (place : ℕ) (bytes : List ℕ) → place < 2 ^ 64 → IsTaking old old place place bytes bytes
+taking_none old place bytes lt = record {
+  taken = 0;
+  long = omega arith;
+  at_is = omega arith;
+  reads = λ n rest. ap (λ (k : ℕ). list_at function_at old k (input_of place bytes rest)) {y = n} (omega arith);
+  anywhere = λ p n rest within.
+      let count : 0 + n ≡ n = omega arith in
+      let there : p ≡ place_after p (6 * 0) = omega arith in
+      ap (λ (k : ℕ). list_at function_at old k (input_of p bytes rest)) count ∙ ap (λ (q : ℕ). list_at function_at old n (input_of q bytes rest)) there;
+}
 
 -- the next one breaks the rule
 pub taking_breaks : (old now : List (ℕ × ℕ)) (place at : ℕ) (bytes left unit : List ℕ) (x : ℕ × ℕ) → IsTaking old now place at bytes left

@@ -108,6 +108,15 @@ cells_broken old now place at tag bytes left rest taking left_is zero one n tail
     let here : cells_at now (suc m) (input_of at left tail) ≡ Err at = rw left_is (no_cell now m at at (tag ∷ rest) tail (cell_broken at tag rest tail zero one)) in
     rw count (taking.reads (suc m) tail ∙ here)
 
+-- the next byte is no tag, and more cells are wanted
+pub cells_broken_in : (old now : List Cell) (place at tag count : ℕ) (bytes left rest : List ℕ) → IsTakingCells old now place at bytes left → left ≡ tag ∷ rest
+    → eqb tag 0 ≡ false → eqb tag 1 ≡ false → length now < count → (tail : List ℕ) → cells_at old (count - length old) (input_of place bytes tail) ≡ Err at
+cells_broken_in old now place at tag count bytes left rest taking left_is zero one lt tail =
+    let m = count - (length now + 1) in
+    let all : count - length old ≡ taking.taken + suc m = omega (arith, taking.grown) in
+    let here : cells_at now (suc m) (input_of at left tail) ≡ Err at = rw left_is (no_cell now m at at (tag ∷ rest) tail (cell_broken at tag rest tail zero one)) in
+    rw all (taking.reads (suc m) tail ∙ here)
+
 -- what is left begins a cell, or is nothing, and nothing follows
 cells_cut : (now : List Cell) (m at : ℕ) (left : List ℕ) → (0 < length left → IsBegun left) → cells_at now (suc m) (input_of at left []) ≡ Err (place_after at (length left))
 cells_cut now m at [] begun = no_cell now m at (place_after at 0) [] [] (cell_none at)

@@ -13,3 +13,4 @@ pub mod Building
 pub mod Listed
 pub mod Pushed
 pub mod Fitting
+pub mod Ahead

@@ -1,10 +1,11 @@
 -- Functions and cells that are read many at a time. Only the representation of reading: nothing above needs it.
-use Rattle.std.specs.Prelude.{◌≡◌, ℕ, ◌+◌, ◌-◌, ◌*◌, ◌<◌, ◌≤◌, true, List, [], ◌∷◌, ◌++◌, length, take, drop, Option, is_some, unwrap_or, Result, Ok, Err}
+use Rattle.std.specs.Prelude.{◌≡◌, ℕ, ◌+◌, ◌-◌, ◌*◌, ◌^◌, ◌<◌, ◌≤◌, true, List, [], ◌∷◌, ◌++◌, length, take, drop, Option, is_some, unwrap_or, Result, Ok, Err}
 use Rattle.std.specs.Io.KnownBytes.{Consumes, IsAtEnd}
 use Rattle.tt_cert_file.specs.declared.fault.DecodeFault.{DecodeFault}
 use Rattle.tt_cert_file.specs.declared.fault.DecodeFault.TheVariants as fault
 use Rattle.tt_cert_file.specs.Answers.{Fails, input_at}
 use Rattle.tt_abs.specs.declared.cells.Cell.{Cell}
+use Rattle.tt_abs.specs.Entries.{Rises}
 use Rattle.tt_cert_file.specs.Readers.{Answer, Input, list_at, place_after}
 use Rattle.tt_cert_file.specs.Reading.{cell_at, function_at}
 
@@ -18,6 +19,8 @@ pub record IsTaking (old now : List (ℕ × ℕ)) (place at : ℕ) (bytes left :
   pub long : length bytes ≡ 6 * taken + length left
   pub at_is : at ≡ place_after place (6 * taken)
   pub reads : (n : ℕ) (rest : List ℕ) → list_at function_at old (taken + n) (input_of place bytes rest) ≡ list_at function_at now n (input_of at left rest)
+  pub anywhere : (p n : ℕ) (rest : List ℕ) → p < 2 ^ 64 → list_at function_at old (taken + n) (input_of p bytes rest)
+      ≡ list_at function_at now n (input_of (place_after p (6 * taken)) left rest)
 
 -- all functions that are whole were taken; so many bytes are left
 pub record AreTaken (over : ℕ) (old new : List (ℕ × ℕ)) (place : ℕ) (bytes : List ℕ) : Type 0 where
@@ -118,3 +121,37 @@ abbrev pub ReadsCells : Result ℕ DecodeFault → Option (List ℕ) → Option 
 ReadsCells (Ok after) old new before now place count = (length before < length now) × (length now ≤ count) × (is_some old ≡ true → (is_some new ≡ true)
     × (cells_at before (count - length before) (input_at place old) ≡ cells_at now (count - length now) (input_at after new)))
 ReadsCells (Err e) old new before now place count = is_some old ≡ true → Fails e (cells_at before (count - length before) (input_at place old))
+
+-- Some cells were taken from the front of the bytes, at most as many as make so many in all; so many bytes were used.
+pub record AreSomeCellsTaken (used : ℕ) (old new : List Cell) (place : ℕ) (bytes : List ℕ) (count : ℕ) : Type 0 where
+  pub at : ℕ
+  pub left : List ℕ
+  pub used_is : used ≡ length bytes - length left
+  pub suffix : left ≡ drop (length bytes - length left) bytes
+  pub few : length new ≤ count
+  pub taking : IsTakingCells old new place at bytes left
+
+-- what comes of taking some of these bytes' cells; want of memory says nothing, and no read fails
+abbrev pub TakesSomeCells : Result ℕ DecodeFault → List Cell → List Cell → ℕ → List ℕ → ℕ → Type 0
+TakesSomeCells (Ok used) old new place bytes count = AreSomeCellsTaken used old new place bytes count
+TakesSomeCells (Err (fault.Form broken)) old new place bytes count =
+    (rest : List ℕ) → cells_at old (count - length old) (input_of place bytes rest) ≡ Err broken
+TakesSomeCells (Err fault.Read) old new place bytes count = ⊥
+TakesSomeCells (Err (fault.OutOfMemory error)) old new place bytes count = Unit {0}
+
+-- More cells of so many in all were read after those before them, perhaps none; the rest of the list is read from there on.
+abbrev pub ReadsMoreCells : Result ℕ DecodeFault → Option (List ℕ) → Option (List ℕ) → List Cell → List Cell → ℕ → ℕ → Type 0
+ReadsMoreCells (Ok after) old new before now place count = (length before ≤ length now) × (length now ≤ count) × (is_some old ≡ true → (is_some new ≡ true)
+    × (cells_at before (count - length before) (input_at place old) ≡ cells_at now (count - length now) (input_at after new)))
+ReadsMoreCells (Err e) old new before now place count = is_some old ≡ true → Fails e (cells_at before (count - length before) (input_at place old))
+
+-- these bytes are read as these functions, wherever they stand
+pub record AreSpelled (text : List ℕ) (functions : List (ℕ × ℕ)) : Type 0 where
+  pub count : ℕ
+  pub long : length text ≡ 6 * count
+  pub reads : (p n : ℕ) (rest : List ℕ) → p < 2 ^ 64 → list_at function_at [] (count + n) (input_of p text rest)
+      ≡ list_at function_at functions n (input_of (place_after p (6 * count)) [] rest)
+
+-- functions rise, and where there is a text, it is theirs
+abbrev pub AreKept : List ℕ → List (ℕ × ℕ) → Type 0
+AreKept text functions = Rises functions × (0 < length text → AreSpelled text functions)

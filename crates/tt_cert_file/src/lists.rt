@@ -1,18 +1,18 @@
 //! Lists of a section, each read after the number of its values.
 
-ghost use Rattle.std.specs.Prelude.{◌≡◌, ◌<◌, ◌≤◌, [], true, length, IfOk, OnOk};
+ghost use Rattle.std.specs.Prelude.{◌≡◌, ◌*◌, ◌<◌, ◌≤◌, [], true, length, take, IfOk, OnOk};
 ghost use Rattle.tt_abs.specs.Entries.{Rises};
 ghost use Rattle.tt_stream.specs.Reads.{ConsumesBeginning};
 ghost use Rattle.tt_stream.specs.Streams.{CountsFailure};
 ghost use Rattle.tt_cert_file.specs.Answers.{CountsRead, Gives, input_at};
-ghost use Rattle.tt_cert_file.specs.Blocks.{FillsOn, FillsRest, ReadsBlock, ReadsCells, ReadsRest, Takes, TakesCells};
+ghost use Rattle.tt_cert_file.specs.Blocks.{AreKept, FillsOn, FillsRest, ReadsBlock, ReadsCells, ReadsMoreCells, ReadsRest, Takes, TakesCells, TakesSomeCells};
 ghost use Rattle.tt_cert_file.specs.Readers.{list_at};
 ghost use Rattle.tt_cert_file.specs.Reading.{cell_at, function_at, functions_at, stack_at, storage_at, stored_at};
 ghost use Rattle.tt_cert_file.specs.Rules.{is_above, last_of};
 
 use crate::fault::DecodeFault;
 use crate::form::Form;
-use crate::units::{pair_of, read_pair, read_word};
+use crate::units::{pair_of, read_cell, read_pair, read_word};
 use std::alloc::Global;
 use tt_abs::Cell;
 use tt_stream::{ReadFailed, Source, read_full};
@@ -76,6 +76,60 @@ fn take_cells(cells: &mut Vec<Cell>, place: u64, bytes: &[u8]) -> Result<usize, 
     Ok(0)
 }
 
+/// Takes cells from the front of these bytes, after those before them, as far as they are whole, and until there are so many in all. Answers how
+/// many bytes they have.
+fn take_some_cells(
+    cells: &mut Vec<Cell>,
+    place: u64,
+    bytes: &[u8],
+    count: usize,
+) -> Result<usize, DecodeFault>
+    requires { length cells.old.items ≤ count }
+    ensures { TakesSomeCells result cells.old.items cells.new.items place bytes.now count }
+{
+    let mut left = bytes;
+    let mut at = place;
+    'cells: while cells.len() < count {
+        let Some((tag, rest)) = left.split_first() else {
+            return Ok(bytes.len() - left.len());
+        };
+        match *tag {
+            0 => {
+                cells.push(Cell::Unknown)?;
+                at = at.saturating_add(1);
+                left = rest;
+            }
+            1 => {
+                let Some((number, after)) = rest.split_first_chunk::<4>() else {
+                    return Ok(bytes.len() - left.len());
+                };
+                cells.push(Cell::Known(i32::from_be_bytes(*number)))?;
+                at = at.saturating_add(5);
+                left = after;
+            }
+            _ => return Err(DecodeFault::Form(at)),
+        }
+    }
+    Ok(bytes.len() - left.len())
+}
+
+/// Takes cells that are read ahead, of so many in all, after those before them, and answers the place after them.
+fn take_ahead_cells<S: Source>(
+    source: &mut S,
+    place: u64,
+    count: usize,
+    cells: &mut Vec<Cell>,
+) -> Result<u64, DecodeFault>
+    requires { length cells.old.items ≤ count }
+    ensures reads { ReadsMoreCells result (S.remaining source.old) (S.remaining source.new) cells.old.items cells.new.items place count }
+    ensures beginning { ConsumesBeginning (S.remaining source.old) (S.remaining source.new) }
+    ensures failures { CountsRead result (S.failures source.old) (S.failures source.new) }
+{
+    let used = take_some_cells(cells, place, source.ahead(), count)?;
+    source.skip(used);
+    Ok(place.saturating_add(used as u64))
+}
+
 /// Reads the rest of a known cell, of whose number these bytes were read, and answers the place after it.
 fn read_rest_of_cell<S: Source>(
     source: &mut S,
@@ -100,10 +154,27 @@ fn read_rest_of_cell<S: Source>(
     Ok(after)
 }
 
+/// Reads one more cell after those before it, and answers the place after it.
+fn read_one_cell<S: Source>(
+    source: &mut S,
+    place: u64,
+    count: usize,
+    cells: &mut Vec<Cell>,
+) -> Result<u64, DecodeFault>
+    requires { length cells.old.items < count }
+    ensures reads { ReadsCells result (S.remaining source.old) (S.remaining source.new) cells.old.items cells.new.items place count }
+    ensures beginning { ConsumesBeginning (S.remaining source.old) (S.remaining source.new) }
+    ensures failures { CountsRead result (S.failures source.old) (S.failures source.new) }
+{
+    let (cell, after) = read_cell(source, place)?;
+    cells.push(cell)?;
+    Ok(after)
+}
+
 /// Reads some cells at once, of so many in all, after those before them, and answers the place after them. Each cell has a byte at least:
 /// so as many bytes are read as cells are left, and then those of the last one that are missing. No call of the source is made once a tag is
 /// read that breaks a rule.
-fn read_cell_block<S: Source>(
+fn fetch_cell_block<S: Source>(
     source: &mut S,
     place: u64,
     count: usize,
@@ -135,19 +206,40 @@ fn read_cell_block<S: Source>(
     read_rest_of_cell(source, after, &bytes[taken + 1..filled], cells)
 }
 
-/// Reads so many cells.
+/// Reads some cells, of so many in all, after those before them, and answers the place after them: where bytes are read ahead, one and those
+/// that are read ahead after it, and else some at once.
+fn read_cell_block<S: Source>(
+    source: &mut S,
+    place: u64,
+    count: usize,
+    cells: &mut Vec<Cell>,
+) -> Result<u64, DecodeFault>
+    requires { length cells.old.items < count }
+    ensures reads { ReadsCells result (S.remaining source.old) (S.remaining source.new) cells.old.items cells.new.items place count }
+    ensures beginning { ConsumesBeginning (S.remaining source.old) (S.remaining source.new) }
+    ensures failures { CountsRead result (S.failures source.old) (S.failures source.new) }
+{
+    if source.ahead().is_empty() {
+        return fetch_cell_block(source, place, count, cells);
+    }
+    let at = read_one_cell(source, place, count, cells)?;
+    take_ahead_cells(source, at, count, cells)
+}
+
+/// Reads so many cells, in the memory of others.
 fn read_cells<S: Source>(
-    alloc: Global,
     source: &mut S,
     place: u64,
     count: u16,
+    others: Vec<Cell>,
 ) -> Result<(Vec<Cell>, u64), DecodeFault>
     ensures reads { Gives (λ v. v.items) (S.remaining source.old) (S.remaining source.new) result (list_at (λ _. cell_at) [] count (input_at place (S.remaining source.old))) }
     ensures few { IfOk result (λ r. length r.0.items ≤ count) }
     ensures beginning { ConsumesBeginning (S.remaining source.old) (S.remaining source.new) }
     ensures failures { CountsRead result (S.failures source.old) (S.failures source.new) }
 {
-    let mut cells = Vec::new(alloc);
+    let mut cells = others;
+    cells.clear();
     let mut at = place;
     'blocks: while cells.len() < usize::from(count) {
         at = read_cell_block(source, at, usize::from(count), &mut cells)?;
@@ -155,12 +247,12 @@ fn read_cells<S: Source>(
     Ok((cells, at))
 }
 
-/// Reads a stack's cells, from the bottom up.
+/// Reads a stack's cells, from the bottom up, in the memory of others.
 #[tactic(auto, unfolding(crate::specs::Reading::stack_at))]
 pub(crate) fn read_stack<S: Source>(
-    alloc: Global,
     source: &mut S,
     place: u64,
+    others: Vec<Cell>,
 ) -> Result<(Vec<Cell>, u64), DecodeFault>
     ensures reads { Gives (λ v. v.items) (S.remaining source.old) (S.remaining source.new) result (stack_at (input_at place (S.remaining source.old))) }
     ensures few { IfOk result (λ r. length r.0.items ≤ 65535) }
@@ -168,7 +260,7 @@ pub(crate) fn read_stack<S: Source>(
     ensures failures { CountsRead result (S.failures source.old) (S.failures source.new) }
 {
     let (count, at) = read_word(source, place)?;
-    read_cells(alloc, source, at, count)
+    read_cells(source, at, count, others)
 }
 
 /// May the function come after these?
@@ -205,9 +297,29 @@ fn take_functions(
     Ok(left.len())
 }
 
+/// Takes so many functions that are read ahead, after those before them, and answers the place after them.
+fn take_function_block<S: Source>(
+    source: &mut S,
+    place: u64,
+    count: usize,
+    functions: &mut Vec<(u16, u32)>,
+) -> Result<u64, DecodeFault>
+    requires few { count ≤ 64 }
+    requires there { 6 * count ≤ length (S.read_ahead source.old) }
+    ensures reads { ReadsBlock result (S.remaining source.old) (S.remaining source.new) functions.old.items functions.new.items place count }
+    ensures rises { Rises functions.old.items → OnOk result (Rises functions.new.items) }
+    ensures beginning { ConsumesBeginning (S.remaining source.old) (S.remaining source.new) }
+    ensures failures { CountsRead result (S.failures source.old) (S.failures source.new) }
+{
+    let width = FUNCTION * count;
+    let _over = take_functions(functions, place, &source.ahead()[..width])?;
+    source.skip(width);
+    Ok(place.saturating_add(width as u64))
+}
+
 /// Reads so many functions at once, after those before them, and answers the place after them. No call of the source is made once a function
 /// is read that breaks a rule.
-fn read_function_block<S: Source>(
+fn fetch_function_block<S: Source>(
     source: &mut S,
     place: u64,
     count: usize,
@@ -236,19 +348,39 @@ fn read_function_block<S: Source>(
     Ok(place.saturating_add(taken as u64))
 }
 
-/// Reads so many functions.
+/// Reads so many functions, after those before them, and answers the place after them.
+fn read_function_block<S: Source>(
+    source: &mut S,
+    place: u64,
+    count: usize,
+    functions: &mut Vec<(u16, u32)>,
+) -> Result<u64, DecodeFault>
+    requires { count ≤ 64 }
+    ensures reads { ReadsBlock result (S.remaining source.old) (S.remaining source.new) functions.old.items functions.new.items place count }
+    ensures rises { Rises functions.old.items → OnOk result (Rises functions.new.items) }
+    ensures beginning { ConsumesBeginning (S.remaining source.old) (S.remaining source.new) }
+    ensures failures { CountsRead result (S.failures source.old) (S.failures source.new) }
+{
+    if FUNCTION * count <= source.ahead().len() {
+        return take_function_block(source, place, count, functions);
+    }
+    fetch_function_block(source, place, count, functions)
+}
+
+/// Reads so many functions, in the memory of others.
 fn read_function_list<S: Source>(
-    alloc: Global,
     source: &mut S,
     place: u64,
     count: u16,
+    others: Vec<(u16, u32)>,
 ) -> Result<(Vec<(u16, u32)>, u64), DecodeFault>
     ensures reads { Gives (λ v. v.items) (S.remaining source.old) (S.remaining source.new) result (list_at function_at [] count (input_at place (S.remaining source.old))) }
     ensures rises { IfOk result (λ r. Rises r.0.items) }
     ensures beginning { ConsumesBeginning (S.remaining source.old) (S.remaining source.new) }
     ensures failures { CountsRead result (S.failures source.old) (S.failures source.new) }
 {
-    let mut functions = Vec::new(alloc);
+    let mut functions = others;
+    functions.clear();
     let mut at = place;
     let mut left = usize::from(count);
     'blocks: while left > 0 {
@@ -259,20 +391,105 @@ fn read_function_list<S: Source>(
     Ok((functions, at))
 }
 
-/// Reads the functions that are known, with their bodies.
-#[tactic(auto, unfolding(crate::specs::Reading::functions_at))]
-pub(crate) fn read_functions<S: Source>(
-    alloc: Global,
+/// Functions that were read, and their text where it was kept. Most lists are the same as the one of the state before.
+#[derive(Drop)]
+pub(crate) struct Functions {
+    pub(crate) list: Vec<(u16, u32)>,
+    pub(crate) text: Vec<u8>,
+}
+
+impl Functions {
+    pub(crate) fn new(alloc: Global) -> Self
+        ensures { AreKept result.text.items result.list.items }
+    {
+        Functions {
+            list: Vec::new(alloc),
+            text: Vec::new(alloc),
+        }
+    }
+}
+
+/// Is this text, of so many bytes, the next that is read ahead?
+fn is_ahead<S: Source>(source: &S, text: &[u8], width: usize) -> bool
+    ensures some { result ≡ true → 0 < width }
+    ensures long { result ≡ true → length text.now ≡ width }
+    ensures there { result ≡ true → width ≤ length (S.read_ahead source.now) }
+    ensures same { result ≡ true → take width (S.read_ahead source.now) ≡ text.now }
+{
+    let ahead = source.ahead();
+    if width == 0 || text.len() != width || ahead.len() < width {
+        return false;
+    }
+    let front = &ahead[..width];
+    front == text
+}
+
+/// Takes so many functions that are read ahead, in the memory of others, and keeps their text.
+fn take_listed<S: Source>(
     source: &mut S,
     place: u64,
-) -> Result<(Vec<(u16, u32)>, u64), DecodeFault>
-    ensures reads { Gives (λ v. v.items) (S.remaining source.old) (S.remaining source.new) result (functions_at (input_at place (S.remaining source.old))) }
-    ensures rises { IfOk result (λ r. Rises r.0.items) }
+    count: u16,
+    others: Functions,
+) -> Result<(Functions, u64), DecodeFault>
+    requires { 6 * count ≤ length (S.read_ahead source.old) }
+    ensures reads { Gives (λ f. f.list.items) (S.remaining source.old) (S.remaining source.new) result (list_at function_at [] count (input_at place (S.remaining source.old))) }
+    ensures kept { IfOk result (λ r. AreKept r.0.text.items r.0.list.items) }
+    ensures beginning { ConsumesBeginning (S.remaining source.old) (S.remaining source.new) }
+    ensures failures { CountsRead result (S.failures source.old) (S.failures source.new) }
+{
+    let Functions { mut list, mut text } = others;
+    list.clear();
+    text.clear();
+    let width = FUNCTION * usize::from(count);
+    let bytes = &source.ahead()[..width];
+    let _over = take_functions(&mut list, place, bytes)?;
+    text.extend_from_slice(bytes)?;
+    source.skip(width);
+    Ok((Functions { list, text }, place.saturating_add(width as u64)))
+}
+
+/// Reads so many functions, which are mostly the others once more, and else in their memory.
+fn read_listed<S: Source>(
+    source: &mut S,
+    place: u64,
+    count: u16,
+    others: Functions,
+) -> Result<(Functions, u64), DecodeFault>
+    requires { AreKept others.text.items others.list.items }
+    ensures reads { Gives (λ f. f.list.items) (S.remaining source.old) (S.remaining source.new) result (list_at function_at [] count (input_at place (S.remaining source.old))) }
+    ensures kept { IfOk result (λ r. AreKept r.0.text.items r.0.list.items) }
+    ensures beginning { ConsumesBeginning (S.remaining source.old) (S.remaining source.new) }
+    ensures failures { CountsRead result (S.failures source.old) (S.failures source.new) }
+{
+    let width = FUNCTION * usize::from(count);
+    if is_ahead(source, &others.text, width) {
+        source.skip(width);
+        return Ok((others, place.saturating_add(width as u64)));
+    }
+    if width <= source.ahead().len() {
+        return take_listed(source, place, count, others);
+    }
+    let Functions { list, mut text } = others;
+    text.clear();
+    let (list, after) = read_function_list(source, place, count, list)?;
+    Ok((Functions { list, text }, after))
+}
+
+/// Reads the functions that are known, with their bodies, which are mostly the others once more, and else in their memory.
+#[tactic(auto, unfolding(crate::specs::Reading::functions_at))]
+pub(crate) fn read_functions<S: Source>(
+    source: &mut S,
+    place: u64,
+    others: Functions,
+) -> Result<(Functions, u64), DecodeFault>
+    requires { AreKept others.text.items others.list.items }
+    ensures reads { Gives (λ f. f.list.items) (S.remaining source.old) (S.remaining source.new) result (functions_at (input_at place (S.remaining source.old))) }
+    ensures kept { IfOk result (λ r. AreKept r.0.text.items r.0.list.items) }
     ensures beginning { ConsumesBeginning (S.remaining source.old) (S.remaining source.new) }
     ensures failures { CountsRead result (S.failures source.old) (S.failures source.new) }
 {
     let (count, at) = read_word(source, place)?;
-    read_function_list(alloc, source, at, count)
+    read_listed(source, at, count, others)
 }
 
 /// Reads a storage cell with its number, after those before it.
@@ -296,19 +513,20 @@ fn read_stored<S: Source>(
     Ok(((index, number.cast_signed()), after))
 }
 
-/// Reads so many storage cells.
+/// Reads so many storage cells, in the memory of others.
 fn read_storage_list<S: Source>(
-    alloc: Global,
     source: &mut S,
     place: u64,
     count: u16,
+    others: Vec<(u16, i32)>,
 ) -> Result<(Vec<(u16, i32)>, u64), DecodeFault>
     ensures reads { Gives (λ v. v.items) (S.remaining source.old) (S.remaining source.new) result (list_at stored_at [] count (input_at place (S.remaining source.old))) }
     ensures rises { IfOk result (λ r. Rises r.0.items) }
     ensures beginning { ConsumesBeginning (S.remaining source.old) (S.remaining source.new) }
     ensures failures { CountsRead result (S.failures source.old) (S.failures source.new) }
 {
-    let mut cells = Vec::new(alloc);
+    let mut cells = others;
+    cells.clear();
     let mut at = place;
     'cells: for _ in 0..count {
         let (cell, after) = read_stored(source, at, &cells)?;
@@ -318,13 +536,13 @@ fn read_storage_list<S: Source>(
     Ok((cells, at))
 }
 
-/// Reads the storage cells that are known, with their numbers, where the form lists them.
+/// Reads the storage cells that are known, with their numbers, where the form lists them, in the memory of others.
 #[tactic(auto, unfolding(crate::specs::Reading::storage_at))]
 pub(crate) fn read_storage<S: Source>(
-    alloc: Global,
     source: &mut S,
     place: u64,
     form: Form,
+    others: Vec<(u16, i32)>,
 ) -> Result<(Vec<(u16, i32)>, u64), DecodeFault>
     ensures reads { Gives (λ v. v.items) (S.remaining source.old) (S.remaining source.new) result (storage_at form (input_at place (S.remaining source.old))) }
     ensures rises { IfOk result (λ r. Rises r.0.items) }
@@ -332,10 +550,14 @@ pub(crate) fn read_storage<S: Source>(
     ensures failures { CountsRead result (S.failures source.old) (S.failures source.new) }
 {
     match form {
-        Form::One | Form::Two => Ok((Vec::new(alloc), place)),
+        Form::One | Form::Two => {
+            let mut cells = others;
+            cells.clear();
+            Ok((cells, place))
+        }
         Form::Three | Form::Four => {
             let (count, at) = read_word(source, place)?;
-            read_storage_list(alloc, source, at, count)
+            read_storage_list(source, at, count, others)
         }
     }
 }

@@ -5,13 +5,14 @@ ghost use Rattle.tt_abs.specs.Entries.{Rises};
 ghost use Rattle.tt_abs.specs.States.{state_order};
 ghost use Rattle.tt_stream.specs.Reads.{ConsumesBeginning};
 ghost use Rattle.tt_cert_file.specs.Answers.{CountsRead, Gives, input_at};
+ghost use Rattle.tt_cert_file.specs.Blocks.{AreKept};
 ghost use Rattle.tt_cert_file.specs.Readers.{list_at};
 ghost use Rattle.tt_cert_file.specs.Reading.{entry_after, entry_at, place_at, state_at, state_from, states_at};
 ghost use Rattle.tt_cert_file.specs.Rules.{is_next_place as is_next_place_after, last_place};
 
 use crate::fault::DecodeFault;
 use crate::form::Form;
-use crate::lists::{read_functions, read_stack, read_storage};
+use crate::lists::{Functions, read_functions, read_stack, read_storage};
 use crate::units::{read_graphics, read_long, read_pair};
 use std::alloc::{AllocError, Global};
 use tt_abs::{Cell, State, ZoneCell};
@@ -81,6 +82,26 @@ fn state_of(
     Ok(state)
 }
 
+/// The lists of a state that was read, in whose memory those of the next one are read.
+#[derive(Drop)]
+struct Lists {
+    stack: Vec<Cell>,
+    functions: Functions,
+    storage: Vec<(u16, i32)>,
+}
+
+impl Lists {
+    fn new(alloc: Global) -> Self
+        ensures { AreKept result.functions.text.items result.functions.list.items }
+    {
+        Lists {
+            stack: Vec::new(alloc),
+            functions: Functions::new(alloc),
+            storage: Vec::new(alloc),
+        }
+    }
+}
+
 /// Reads a state, without its place.
 #[tactic(auto, unfolding(crate::specs::Reading::state_at))]
 fn read_state<S: Source>(
@@ -88,18 +109,26 @@ fn read_state<S: Source>(
     source: &mut S,
     place: u64,
     form: Form,
-) -> Result<(State, u64), DecodeFault>
-    ensures reads { Gives (λ x. x) (S.remaining source.old) (S.remaining source.new) result (state_at form (input_at place (S.remaining source.old))) }
-    ensures in_range { IfOk result (λ r. state_order.InRange r.0) }
+    others: Lists,
+) -> Result<((State, Lists), u64), DecodeFault>
+    requires { AreKept others.functions.text.items others.functions.list.items }
+    ensures reads { Gives (λ x. x.0) (S.remaining source.old) (S.remaining source.new) result (state_at form (input_at place (S.remaining source.old))) }
+    ensures in_range { IfOk result (λ r. state_order.InRange r.0.0) }
+    ensures kept { IfOk result (λ r. AreKept r.0.1.functions.text.items r.0.1.functions.list.items) }
     ensures beginning { ConsumesBeginning (S.remaining source.old) (S.remaining source.new) }
     ensures failures { CountsRead result (S.failures source.old) (S.failures source.new) }
 {
-    let (stack, at) = read_stack(alloc, source, place)?;
+    let (stack, at) = read_stack(source, place, others.stack)?;
     let (graphics, at) = read_graphics(source, at)?;
-    let (functions, at) = read_functions(alloc, source, at)?;
-    let (storage, at) = read_storage(alloc, source, at, form)?;
-    let state = state_of(alloc, &stack, &graphics, &functions, &storage)?;
-    Ok((state, at))
+    let (functions, at) = read_functions(source, at, others.functions)?;
+    let (storage, at) = read_storage(source, at, form, others.storage)?;
+    let state = state_of(alloc, &stack, &graphics, &functions.list, &storage)?;
+    let lists = Lists {
+        stack,
+        functions,
+        storage,
+    };
+    Ok(((state, lists), at))
 }
 
 /// May a state stand at this place, in one of so many contexts, after the last one's?
@@ -142,16 +171,19 @@ fn read_entry<S: Source>(
     form: Form,
     contexts: u32,
     last: Option<(u32, u32)>,
-) -> Result<(((u32, u32), State), u64), DecodeFault>
-    ensures reads { Gives (λ x. x) (S.remaining source.old) (S.remaining source.new) result (entry_after form contexts last (input_at place (S.remaining source.old))) }
+    others: Lists,
+) -> Result<(((u32, u32), State, Lists), u64), DecodeFault>
+    requires { AreKept others.functions.text.items others.functions.list.items }
+    ensures reads { Gives (λ x. (x.0, x.1)) (S.remaining source.old) (S.remaining source.new) result (entry_after form contexts last (input_at place (S.remaining source.old))) }
     ensures follows { IfOk result (λ r. is_next_place_after contexts last r.0.0 ≡ true) }
     ensures in_range { IfOk result (λ r. state_order.InRange r.0.1) }
+    ensures kept { IfOk result (λ r. AreKept r.0.2.functions.text.items r.0.2.functions.list.items) }
     ensures beginning { ConsumesBeginning (S.remaining source.old) (S.remaining source.new) }
     ensures failures { CountsRead result (S.failures source.old) (S.failures source.new) }
 {
     let (point, at) = read_place(source, place, contexts, last)?;
-    let (state, at) = read_state(alloc, source, at, form)?;
-    Ok(((point, state), at))
+    let ((state, lists), at) = read_state(alloc, source, at, form, others)?;
+    Ok(((point, state, lists), at))
 }
 
 /// Puts a state at a point of the builder that comes after all that have states.
@@ -189,9 +221,13 @@ fn read_state_list<S: Source>(
     let mut builder = builder;
     let contexts = builder.contexts();
     let mut last = None;
+    let mut lists = Lists::new(alloc);
     let mut at = place;
     'states: for _ in 0..count {
-        let ((point, state), after) = read_entry(alloc, source, at, form, contexts, last)?;
+        let ((point, state, read), after) = read_entry(
+            alloc, source, at, form, contexts, last, lists,
+        )?;
+        lists = read;
         add_state(&mut builder, point, &state)?;
         last = Some(point);
         at = after;

@@ -12,8 +12,10 @@ use tt_abs::{Cell, ZoneCell};
 use tt_code::Graphics;
 use tt_stream::{Source, read_full};
 
-/// Reads a unit of N bytes at a place, and answers it with the place after it.
-fn read_unit<S: Source, const N: usize>(
+/// Reads a unit of N bytes that aren't all read ahead.
+#[cold]
+#[inline(never)]
+fn fetch_unit<S: Source, const N: usize>(
     source: &mut S,
     place: u64,
 ) -> Result<([u8; N], u64), DecodeFault>
@@ -29,6 +31,25 @@ fn read_unit<S: Source, const N: usize>(
         return Err(DecodeFault::Form(after));
     }
     Ok((bytes, after))
+}
+
+/// Reads a unit of N bytes at a place, and answers it with the place after it.
+#[inline]
+fn read_unit<S: Source, const N: usize>(
+    source: &mut S,
+    place: u64,
+) -> Result<([u8; N], u64), DecodeFault>
+    ensures reads { Gives (λ x. x) (S.remaining source.old) (S.remaining source.new) result (unit N (input_at place (S.remaining source.old))) }
+    ensures beginning { ConsumesBeginning (S.remaining source.old) (S.remaining source.new) }
+    ensures failures { CountsRead result (S.failures source.old) (S.failures source.new) }
+    ensures memory { IfErr result (λ fault. ¬ IsWantOfMemory fault) }
+{
+    let Some(front) = source.ahead().first_chunk::<N>() else {
+        return fetch_unit(source, place);
+    };
+    let bytes = *front;
+    source.skip(N);
+    Ok((bytes, place.saturating_add(N as u64)))
 }
 
 /// Reads a number of 16 bits.

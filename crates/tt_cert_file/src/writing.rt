@@ -25,6 +25,9 @@ use tt_code::Frame;
 use tt_code::kinds::{Pointer, Reference};
 use tt_stream::{Sink, write_all};
 
+/// For so many bytes of a section there is room from the start: most sections have fewer.
+const ROOM: usize = 16_384;
+
 /// The kind of a program, and its glyph.
 fn push_name(out: &mut Vec<u8>, name: Name) -> Result<(), AllocError>
     ensures written { OnOk result (out.new.items ≡ out.old.items ++ name_text name) }
@@ -57,8 +60,9 @@ fn push_pair(out: &mut Vec<u8>, pair: (u16, u32)) -> Result<(), AllocError>
     ensures written { OnOk result (out.new.items ≡ out.old.items ++ pair_text pair) }
     ensures fits { OnOk result ((pair.0 < 2 ^ 16) × (pair.1 < 2 ^ 32)) }
 {
-    push_word(out, pair.0)?;
-    push_long(out, pair.1)
+    let [w1, w0] = pair.0.to_be_bytes();
+    let [l3, l2, l1, l0] = pair.1.to_be_bytes();
+    out.extend_from_slice(&[w1, w0, l3, l2, l1, l0])
 }
 
 fn push_cell(out: &mut Vec<u8>, cell: Cell) -> Result<(), AllocError>
@@ -224,7 +228,7 @@ fn section_bytes(
     ensures fits { OnOk result (AreCallsInTurn certificate.now.contexts
         → Fits Form.Four (section_of name certificate.now)) }
 {
-    let mut out = Vec::new(alloc);
+    let mut out = Vec::with_capacity(alloc, ROOM)?;
     push_name(&mut out, name)?;
     push_contexts(&mut out, certificate)?;
     push_states(&mut out, certificate)?;

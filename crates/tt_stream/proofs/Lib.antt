@@ -3,3 +3,4 @@ pub mod Windows
 pub mod Printed
 pub mod Beginnings
 pub mod Filled
+pub mod Ahead

@@ -1,6 +1,8 @@
 -- What reading to the end, or a buffer full, does to known bytes, and to a count of failed reads.
-use Rattle.std.specs.Prelude.{◌≡◌, ◌+◌, ◌<◌, ℕ, List, Option, Result, Ok, Err, length, take}
+use Rattle.std.specs.Prelude.{◌≡◌, ◌+◌, ◌<◌, ℕ, List, [], Option, Result, Ok, Err, MatchResult, length, take}
 use Rattle.std.specs.Io.KnownBytes.{Consumes, IsAtEnd}
+use Rattle.tt_stream.specs.declared.ReadFailed.{ReadFailed}
+use Rattle.tt_stream.specs.Streams.{CountsFailure}
 use Rattle.tt_stream.specs.declared.reads.ReadFault.{ReadFault}
 use Rattle.tt_stream.specs.declared.reads.ReadFault.TheVariants as fault
 
@@ -18,3 +20,14 @@ CountsReadFault (Err (fault.OutOfMemory error)) old new = new ≡ old
 -- the bytes at the front of the buffer were read, as many as it takes, or all that were left
 abbrev pub Fills : Option (List ℕ) → Option (List ℕ) → ℕ → List ℕ → Type 0
 Fills old new count buf = Consumes old new (take count buf) × (count < length buf → IsAtEnd new)
+
+-- a source, and the bytes that were read from it and not yet taken
+pub record ReadAhead (S : Type 0) : Type 0 where
+  pub source : S
+  pub ahead : List ℕ
+
+-- one call of the source gave these bytes, none only at its end
+pub record Refills (r : Result (Unit {0}) ReadFailed) (old new : Option (List ℕ)) (failures failures_now : ℕ) (ahead : List ℕ) : Type 0 where
+  pub bytes : Consumes old new ahead
+  pub at_end : MatchResult r (λ _. ahead ≡ [] → IsAtEnd new) (λ _. ahead ≡ [])
+  pub count : CountsFailure r failures failures_now

@@ -1,14 +1,16 @@
 //! Readers and writers whose failed calls are counted. Contracts alone see the count.
 #![tactic(auto)]
 
-ghost use Rattle.std.specs.Prelude.{◌≡◌, ℕ, ◌+◌, ◌<◌, ◌≤◌, List, Option, length, IfOk, OnErr, OnOk};
-ghost use Rattle.std.specs.Io.{ReadsAtMost, WritesAtMost};
-ghost use Rattle.std.specs.Io.KnownBytes.{ReadConsumes, WriteAppends, Appends};
+ghost use Rattle.std.specs.Prelude.{◌≡◌, ℕ, ◌+◌, ◌<◌, ◌≤◌, List, [], Option, drop, length, take, IfOk, IfSome, OnErr, OnOk};
+ghost use Rattle.std.specs.Io.{ReadsAtMost, StartsWith, WritesAtMost};
+ghost use Rattle.std.specs.Io.KnownBytes.{Consumes, ReadConsumes, WriteAppends, Appends};
 ghost use Rattle.tt_stream.specs.Streams.{AppendsBeginning, AppendsBeginningOfText, AppendsText, CountsFailure, CountsPrintFailure, Tally};
 
+mod buffered;
 mod reads;
 mod text;
 
+pub use buffered::Buffered;
 pub use reads::{ReadFault, read_all, read_full};
 use std::fmt::Display;
 use std::io::{Read, Write};
@@ -35,12 +37,27 @@ pub trait Source {
     /// How many calls have failed.
     ghost failures: { Self → ℕ };
 
+    /// The bytes that are read ahead: of what is left, those that are given without a call that can fail.
+    ghost read_ahead: { Self → List ℕ };
+
     /// Reads some bytes into the front of `buf` and answers how many: 0 only at the end, or where
     /// `buf` has no room.
     fn read(&mut self, buf: &mut [u8]) -> Result<usize, ReadFailed>
         ensures bound { ReadsAtMost result buf.new }
         ensures bytes { ReadConsumes (remaining self.old) (remaining self.new) result buf.new }
         ensures failures { CountsFailure result (failures self.old) (failures self.new) };
+
+    /// The bytes that are read ahead, with which what is left begins.
+    fn ahead(&self) -> &[u8]
+        ensures value { result.now ≡ read_ahead self.now }
+        ensures front { IfSome (remaining self.now) (λ bytes. StartsWith bytes result.now) };
+
+    /// Takes so many of the bytes that are read ahead.
+    fn skip(&mut self, count: usize)
+        requires { count ≤ length (read_ahead self.old) }
+        ensures bytes { Consumes (remaining self.old) (remaining self.new) (take count (read_ahead self.old)) }
+        ensures ahead { read_ahead self.new ≡ drop count (read_ahead self.old) }
+        ensures failures { failures self.new ≡ failures self.old };
 }
 
 /// What bytes are written to.
@@ -122,6 +139,8 @@ impl<R: Read, L: Ledger> Source for Counted<R, L> {
 
     ghost failures = { λ c. c.failures };
 
+    ghost read_ahead = { λ _. [] };
+
     fn read(&mut self, buf: &mut [u8]) -> Result<usize, ReadFailed> {
         match self.inner.read(buf) {
             Ok(count) => Ok(count),
@@ -131,6 +150,12 @@ impl<R: Read, L: Ledger> Source for Counted<R, L> {
             }
         }
     }
+
+    fn ahead(&self) -> &[u8] {
+        &[]
+    }
+
+    fn skip(&mut self, count: usize) {}
 }
 
 impl<W: Write, L: Ledger> Sink for Counted<W, L> {

@@ -5,6 +5,7 @@ ghost use Rattle.hintcheck.specs.Commands.{IsNoWriteFault, fault_of_word, status
 
 use crate::certified::CheckFontFault;
 use crate::certifying::FindFontFault;
+use crate::upgrading::UpgradeFault;
 use hintcheck_words::{TaskFault, WordFault};
 use std::alloc::AllocError;
 use std::fmt;
@@ -44,9 +45,12 @@ pub enum CommandFault {
     /// The font's file is to be its certificate's.
     #[error("words: CERT")]
     CertificateWord,
+    /// The old certificate's file is to be the new one's.
+    #[error("words: NEW")]
+    NewWord,
     #[error("{0}")]
     Font(Numbered),
-    /// The bytes are no certificate for the font, at this place.
+    /// The bytes are no certificate for the font, or for any font, at this place.
     #[error("43 certificate form at byte {0}")]
     Form(u64),
     #[error("9 out of memory")]
@@ -126,6 +130,21 @@ impl From<FindFontFault> for CommandFault {
             FindFontFault::Font(font) => CommandFault::Font(Numbered(font)),
             FindFontFault::Write => CommandFault::File,
             FindFontFault::OutOfMemory(AllocError) => CommandFault::OutOfMemory,
+        }
+    }
+}
+
+impl From<UpgradeFault> for CommandFault {
+    ghost use Rattle.hintcheck.specs.Commands.{fault_of_upgrade};
+
+    ghost from_gives = { λ upgrade fault. fault ≡ fault_of_upgrade upgrade };
+
+    fn from(fault: UpgradeFault) -> CommandFault {
+        match fault {
+            UpgradeFault::Form(place) => CommandFault::Form(place),
+            UpgradeFault::Read => CommandFault::Read,
+            UpgradeFault::Write => CommandFault::File,
+            UpgradeFault::OutOfMemory(AllocError) => CommandFault::OutOfMemory,
         }
     }
 }

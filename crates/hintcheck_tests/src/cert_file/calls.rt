@@ -92,7 +92,7 @@ pub(crate) enum Told {
     OutOfMemory,
 }
 
-fn told_by_decode_fault(fault: DecodeFault) -> Told {
+pub(crate) fn told_by_decode_fault(fault: DecodeFault) -> Told {
     match fault {
         DecodeFault::Form(place) => Told::Form(place),
         DecodeFault::Read => Told::Read,

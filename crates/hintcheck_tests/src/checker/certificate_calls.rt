@@ -1,8 +1,10 @@
-//! What a check by a certificate and the search for one answer, on bytes in memory.
+//! What a check by a certificate, the search for one and an upgrade answer, on bytes in memory.
 
 ghost use Rattle.std.specs.Prelude.{◌≡◌, ◌<◌};
 
-use hintcheck::{CheckFontFault, FindFontFault, Verdict, check_font, find_font};
+use hintcheck::{
+    CheckFontFault, FindFontFault, UpgradeFault, Verdict, check_font, find_font, upgrade,
+};
 use hintcheck_words::word_bytes;
 use std::alloc::Global;
 use std::io;
@@ -128,4 +130,42 @@ pub(crate) fn found(alloc: Global, font: &[u8], room: usize) -> (Told, Vec<u8>) 
         room,
     };
     find_on::<Brand>(alloc, font, taker, Blank::new(1))
+}
+
+fn upgrade_on<L: Ledger, M: Ledger>(
+    alloc: Global,
+    given: Given<'_>,
+    taker: Taker,
+    reads: Blank,
+    writes: Blank,
+) -> (Result<u32, Told>, Vec<u8>)
+    requires reads { (reads.name ≡ L.name) × (reads.parts ≡ L.parts) × (0 < reads.parts) }
+    requires writes { (writes.name ≡ M.name) × (writes.parts ≡ M.parts) × (0 < writes.parts) }
+{
+    let mut source = Counted::<Given, L>::new(given, reads);
+    let mut sink = Counted::<Taker, M>::new(taker, writes);
+    let told = match upgrade(alloc, &mut source, &mut sink) {
+        Ok(sections) => Ok(sections),
+        Err(UpgradeFault::Form(place)) => Err(Told::Form(place)),
+        Err(UpgradeFault::Read) => Err(Told::Read),
+        Err(UpgradeFault::Write) => Err(Told::Write),
+        Err(UpgradeFault::OutOfMemory(_)) => Err(Told::OutOfMemory),
+    };
+    (told, sink.into_inner().bytes)
+}
+
+/// How many sections an upgrade of these bytes tells, after which a read fails where it is to, and what is written, where there is room for so
+/// many bytes.
+pub(crate) fn upgraded(
+    alloc: Global,
+    bytes: &[u8],
+    fails: bool,
+    room: usize,
+) -> (Result<u32, Told>, Vec<u8>) {
+    let given = Given { bytes, fails };
+    let taker = Taker {
+        bytes: Vec::new(alloc),
+        room,
+    };
+    upgrade_on::<Brand, Brand>(alloc, given, taker, Blank::new(1), Blank::new(1))
 }

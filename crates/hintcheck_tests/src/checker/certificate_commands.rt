@@ -8,7 +8,7 @@ use std::test::Fail;
 use std::{env, fs, process};
 
 /// The path of a file with this ending, which no other process takes.
-fn path_of(rt: &HostRuntime, ending: &str) -> Result<PathBuf, Fail> {
+pub(crate) fn path_of(rt: &HostRuntime, ending: &str) -> Result<PathBuf, Fail> {
     let process = process::id(rt.process());
     let name = format!(in rt.alloc(); "hintcheck-certificate-{process}.{ending}")?;
     Ok(env::temp_dir(rt)?.join(rt.alloc(), name)?)

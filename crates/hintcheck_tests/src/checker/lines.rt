@@ -109,6 +109,31 @@ fn refuses_single_glyphs_of_fonts(rt: HostRuntime) {
     }
 }
 
+/// A font program with an empty function, and glyphs that call it so often that there are 4,097 contexts, and 65,535: as many as there may be.
+const MANY_CONTEXTS: [Case<'static>; 2] = [
+    (
+        "B0002C2D",
+        "",
+        &["B81000B0002A"],
+        0,
+        "accepted: 3 programs\n",
+    ),
+    (
+        "B0002C2D",
+        "",
+        &["B97FFF7FFF60B0002A"],
+        0,
+        "accepted: 3 programs\n",
+    ),
+];
+
+#[test]
+fn accepts_many_contexts(rt: HostRuntime) {
+    for case in &MANY_CONTEXTS {
+        assert!(rt; is_printed(&rt, case), "{case:?}");
+    }
+}
+
 const PROGRAMS: [Case<'static>; 5] = [
     ("", "", &["18", "18", "18"], 0, "accepted: 5 programs\n"),
     (

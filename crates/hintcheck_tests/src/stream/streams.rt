@@ -8,7 +8,9 @@ use std::marker::Brand;
 use std::sync::ledger::{Blank, Ledger};
 use std::test::Fail;
 use std::{fmt, io};
-use tt_stream::{Counted, PrintFailed, ReadFailed, Sink, Source, WriteFailed, read_all, write_all};
+use tt_stream::{
+    Buffered, Counted, PrintFailed, ReadFailed, Sink, Source, WriteFailed, read_all, write_all,
+};
 
 /// A text of some letters, written one at a time.
 #[derive(Drop)]
@@ -145,6 +147,81 @@ fn reads_all(rt: HostRuntime) -> Result<(), Fail> {
         fails: true,
     };
     assert!(rt; read_steps::<Brand>(rt.alloc(), steps, Blank::new(1)).is_none());
+    Ok(())
+}
+
+/// All bytes of the steps, read ahead.
+fn read_steps_ahead<L: Ledger>(alloc: Global, steps: Steps<'_>, blank: Blank) -> Option<Vec<u8>>
+    requires name { blank.name ≡ L.name }
+    requires parts { blank.parts ≡ L.parts }
+    requires some { 0 < blank.parts }
+{
+    let counted = Counted::<Steps<'_>, L>::new(steps, blank);
+    let mut source = Buffered::new(alloc, counted).ok()?;
+    read_all(alloc, &mut source).ok()
+}
+
+#[test]
+fn reads_all_ahead(rt: HostRuntime) -> Result<(), Fail> {
+    let bytes = b"ab".repeat(rt.alloc(), 40_000)?;
+    for step in [1, 65_535, 65_536, 100_000] {
+        for fails in [false, true] {
+            let steps = Steps {
+                bytes: &bytes,
+                step,
+                fails,
+            };
+            let all = read_steps_ahead::<Brand>(rt.alloc(), steps, Blank::new(1));
+            match all {
+                Some(all) => assert!(rt; !fails && all.as_slice() == bytes.as_slice(), "by {step}"),
+                None => assert!(rt; fails, "by {step}"),
+            }
+        }
+    }
+    Ok(())
+}
+
+/// What is ahead once a byte of the steps was read, and the next byte after so many that are ahead.
+fn look_ahead<L: Ledger>(
+    alloc: Global,
+    steps: Steps<'_>,
+    skipped: usize,
+    blank: Blank,
+) -> Option<(Vec<u8>, u8)>
+    requires name { blank.name ≡ L.name }
+    requires parts { blank.parts ≡ L.parts }
+    requires some { 0 < blank.parts }
+{
+    let counted = Counted::<Steps<'_>, L>::new(steps, blank);
+    let mut source = Buffered::new(alloc, counted).ok()?;
+    let mut byte = [0u8; 1];
+    source.read(&mut byte).ok()?;
+    let mut ahead = Vec::new(alloc);
+    ahead.extend_from_slice(source.ahead()).ok()?;
+    if source.ahead().len() < skipped {
+        return None;
+    }
+    source.skip(skipped);
+    source.read(&mut byte).ok()?;
+    let [next] = byte;
+    Some((ahead, next))
+}
+
+#[test]
+fn skips_what_is_ahead(rt: HostRuntime) -> Result<(), Fail> {
+    // Where all that is ahead is skipped, the next byte is that of the next call.
+    for (skipped, next) in [(0, b'b'), (2, b'd'), (3, b'e')] {
+        let steps = Steps {
+            bytes: b"abcdefgh",
+            step: 4,
+            fails: false,
+        };
+        let (ahead, byte) = look_ahead::<Brand>(rt.alloc(), steps, skipped, Blank::new(1)).ok_or(
+            "a byte",
+        )?;
+        assert_eq!(rt; ahead.as_slice(), b"bcd".as_slice());
+        assert_eq!(rt; byte, next, "after {skipped}");
+    }
     Ok(())
 }
 

@@ -48,6 +48,7 @@ fn texts(task: &Task) -> (&str, &str, &str) {
         Task::Find { font, certificate } => ("find", font.as_str(), certificate.as_str()),
         Task::Check { font, certificate } => ("check", font.as_str(), certificate.as_str()),
         Task::List { font, program } => ("list", font.as_str(), program.as_str()),
+        Task::Upgrade { old, new } => ("upgrade", old.as_str(), new.as_str()),
     }
 }
 
@@ -60,7 +61,7 @@ fn asks<'a>(alloc: Global, words: &'a [&'a str], want: (&str, &str, &str)) -> bo
 }
 
 /// Words that the command line takes, and the texts of the task.
-const TAKEN: [(&[&str], (&str, &str, &str)); 6] = [
+const TAKEN: [(&[&str], (&str, &str, &str)); 7] = [
     (&["hintcheck", "verdict", "a.ttf"], ("verdict", "a.ttf", "")),
     (
         &["hintcheck", "find", "a.ttf", "b.cert"],
@@ -76,6 +77,10 @@ const TAKEN: [(&[&str], (&str, &str, &str)); 6] = [
         ("list", "a.ttf", "g12"),
     ),
     (&["hintcheck", "list", "f", "--", "-f"], ("list", "f", "-f")),
+    (
+        &["hintcheck", "upgrade", "a.cert", "b.cert"],
+        ("upgrade", "a.cert", "b.cert"),
+    ),
 ];
 
 #[test]
@@ -95,7 +100,7 @@ fn refusal<'a>(alloc: Global, words: &'a [&'a str]) -> Option<ErrorKind> {
 }
 
 /// Words that are none of the command line, and the kind of the error.
-const REFUSED: [(&[&str], ErrorKind); 13] = [
+const REFUSED: [(&[&str], ErrorKind); 15] = [
     (
         &["hintcheck", "bare", "00", "1", "2"],
         ErrorKind::MissingRequiredArgument,
@@ -135,6 +140,14 @@ const REFUSED: [(&[&str], ErrorKind); 13] = [
     ),
     (
         &["hintcheck", "list", "a", "-f"],
+        ErrorKind::UnknownArgument,
+    ),
+    (
+        &["hintcheck", "upgrade", "a"],
+        ErrorKind::MissingRequiredArgument,
+    ),
+    (
+        &["hintcheck", "upgrade", "a", "b", "c"],
         ErrorKind::UnknownArgument,
     ),
     (&["hintcheck", "bear"], ErrorKind::InvalidSubcommand),

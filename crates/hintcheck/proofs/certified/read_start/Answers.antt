@@ -1,25 +1,18 @@
 use Rattle.std.proofs.Common.{sym, ◌∙◌, ap, ◌+◌}
 use Rattle.std.proofs.lemmas.Result.{err_from_is_err_and}
-use Rattle.hintcheck.proofs.CheckedPrograms.{header_read, no_header_read, other_header}
+use Rattle.hintcheck.proofs.SessionSteps.{header_fault, other_number_read}
 use Rattle.hintcheck.proofs.certified.read_start.Goals as goal
 
-pub returns-in_err-form-clause-sections : goal.returns-in_err-form-clause-sections
-returns-in_err-form-clause-sections g c = λ told.
+pub returns-in_err-form-clause-header : goal.returns-in_err-form-clause-header
+returns-in_err-form-clause-header g c = λ told.
     let p = err_from_is_err_and c.from_residual.result c.from_residual.ensures.1 in
     let old = g.S.Source.remaining c.args.source.now in
     let new = g.S.Source.remaining c.read_header.new.source in
-    rw (p.1, p.2) (no_header_read _ c.args.font.now old new c.in_err-form.field-0.0 c.in_err-form.ensures.exact told)
+    rw (p.1, p.2) (header_fault _ c.args.font.now old new c.in_err-form.field-0.0 c.in_err-form.ensures.exact told)
 
-pub returns-then-sections-from-clause-sections : goal.returns-then-sections-from-clause-sections
-returns-then-sections-from-clause-sections g c = λ told.
+pub returns-then-sections-from-clause-header : goal.returns-then-sections-from-clause-header
+returns-then-sections-from-clause-header g c = λ told.
     let old = g.S.Source.remaining c.args.source.now in
     let new = g.S.Source.remaining c.read_header.new.source in
-    other_header c.args.font.now old new c.in_ok-form.form c.in_ok-form.sections c.in_ok-form.ensures.exact
+    other_number_read c.args.font.now old new c.in_ok-form.form c.in_ok-form.sections c.in_ok-form.ensures.exact
     (λ e. c.if-sections-from.true (e ∙ ap (λ n. n + 2) (sym (c.from.ensures ∙ c.glyph_count.ensures)))) told
-
-pub returns-clause-sections : goal.returns-clause-sections
-returns-clause-sections g c = λ told.
-    let old = g.S.Source.remaining c.args.source.now in
-    let new = g.S.Source.remaining c.read_header.new.source in
-    header_read c.args.font.now old new c.in_ok-form.form c.in_ok-form.sections c.in_ok-form.ensures.exact
-    (c.if-sections-from.false ∙ ap (λ n. n + 2) (c.from.ensures ∙ c.glyph_count.ensures)) told

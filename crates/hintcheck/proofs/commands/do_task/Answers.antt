@@ -1,6 +1,6 @@
 -- proofs/commands/do_task/Answers.antt
-use Rattle.std.proofs.Common.{◌≡◌, String, Global, inl, refl}
-use Rattle.std.proofs.lemmas.Result.{IfErr-weaker, IfOk-weaker}
+use Rattle.std.proofs.Common.{◌≡◌, String, Global, arith, inl, refl}
+use Rattle.std.proofs.lemmas.Result.{IfErr-weaker, IfOk-weaker, on_ok_weaker}
 use Rattle.hintcheck_words.specs.Requests.{asked}
 use Rattle.hintcheck_words.specs.declared.words.Task.{Task}
 use Rattle.hintcheck_words.specs.declared.words.Task.TheVariants as task
@@ -8,16 +8,17 @@ use Rattle.hintcheck.specs.Commands.{IsForVerdict}
 use Rattle.hintcheck.proofs.FaultLemmas.{nothing_said}
 use Rattle.hintcheck.proofs.commands.do_task.Goals as goal
 
-for_verdict : (t : Task) → ((font program : String Global) → t ≡ task.List font program → ⊥) → IsForVerdict (asked t)
+for_verdict : (t : Task) → ((font program : String Global) → t ≡ task.List font program → ⊥) → ((old new : String Global) → t ≡ task.Upgrade old new → ⊥) → IsForVerdict (asked t)
 unfolding asked
-for_verdict (task.Bare maxp cvt points contours program) other = tt
-for_verdict (task.Verdict font) other = tt
-for_verdict (task.Find font certificate) other = tt
-for_verdict (task.Check font certificate) other = tt
-for_verdict (task.List font program) other = absurd (other font program refl)
+for_verdict (task.Bare maxp cvt points contours program) other another = tt
+for_verdict (task.Verdict font) other another = tt
+for_verdict (task.Find font certificate) other another = tt
+for_verdict (task.Check font certificate) other another = tt
+for_verdict (task.List font program) other another = absurd (other font program refl)
+for_verdict (task.Upgrade old new) other another = absurd (another old new refl)
 
 pub verdict_on-requires : goal.verdict_on-requires
-verdict_on-requires g c = for_verdict c.args.task.now c.in_default.not-List
+verdict_on-requires g c = for_verdict c.args.task.now c.in_default.not-List c.in_default.not-Upgrade
 
 pub returns-in-List-clause-safe : goal.returns-in-List-clause-safe
 unfolding asked
@@ -43,3 +44,20 @@ returns-in-List-clause-faults g c = IfErr-weaker c.list_of_file.result _ _ (λ t
 pub returns-in-List-clause-none : goal.returns-in-List-clause-none
 unfolding asked
 returns-in-List-clause-none g c = rw c.in-List.is (nothing_said c.list_of_file.result)
+
+pub returns-in-Upgrade-clause-safe : goal.returns-in-Upgrade-clause-safe
+unfolding asked
+returns-in-Upgrade-clause-safe g c = IfOk-weaker c.tell_upgrade.result _ _ (λ status is zero. rw c.in-Upgrade.is tt) c.tell_upgrade.ensures.status
+
+pub returns-in-Upgrade-clause-refused : goal.returns-in-Upgrade-clause-refused
+returns-in-Upgrade-clause-refused g c = IfOk-weaker c.tell_upgrade.result _ _ (λ status is one. absurd (omega arith)) c.tell_upgrade.ensures.status
+
+pub returns-in-Upgrade-clause-faults : goal.returns-in-Upgrade-clause-faults
+unfolding asked
+returns-in-Upgrade-clause-faults g c =
+    IfErr-weaker c.tell_upgrade.result _ _ (λ told is. rw c.in-Upgrade.is (rw (← c.deref-in-Upgrade.ensures, ← c.deref-in-Upgrade-2.ensures) is)) c.tell_upgrade.ensures.faults
+
+pub returns-in-Upgrade-clause-none : goal.returns-in-Upgrade-clause-none
+unfolding asked
+returns-in-Upgrade-clause-none g c =
+    on_ok_weaker c.tell_upgrade.result (λ none. rw c.in-Upgrade.is (rw (← c.deref-in-Upgrade.ensures, ← c.deref-in-Upgrade-2.ensures) none)) c.tell_upgrade.ensures.none

@@ -1,3 +1,4 @@
+use Rattle.std.proofs.Common.{inl, inr}
 use Rattle.std.proofs.lemmas.Result.{IfErr-weaker, IfOk-weaker, on_ok_weaker}
 use Rattle.hintcheck_words.specs.Requests.{asked}
 use Rattle.hintcheck.proofs.FaultLemmas.{nothing_said}
@@ -37,7 +38,10 @@ returns-in-Check-clause-refused g c = IfOk-weaker c.check_verdict.result _ _ (λ
 
 pub unreachable-requires : goal.unreachable-requires
 unfolding asked
-unreachable-requires g c = rw c.in-List.is at c.requires
+unreachable-requires g c = elim c.in-List.is [
+  | inl list ↦ rw list.2 at c.requires
+  | inr upgrade ↦ rw upgrade.2 at c.requires
+]
 
 pub returns-in-Bare-clause-faults : goal.returns-in-Bare-clause-faults
 unfolding asked

@@ -17,4 +17,5 @@ returns c =
     let with_verdict = subcommand_added _ _ _ _ _ c.in_ok-subcommand-2.ensures with_bare c.in_ok-texts_command.ensures refl in
     let with_find = subcommand_added _ _ _ _ _ c.in_ok-subcommand-3.ensures with_verdict c.in_ok-texts_command-2.ensures refl in
     let with_check = subcommand_added _ _ _ _ _ c.in_ok-subcommand-4.ensures with_find c.in_ok-texts_command-3.ensures refl in
-    IfOk-weaker c.subcommand-5.result _ _ (λ r h. subcommand_added _ _ _ _ _ h with_check c.in_ok-texts_command-4.ensures refl) c.subcommand-5.ensures
+    let with_list = subcommand_added _ _ _ _ _ c.in_ok-subcommand-5.ensures with_check c.in_ok-texts_command-4.ensures refl in
+    IfOk-weaker c.subcommand-6.result _ _ (λ r h. subcommand_added _ _ _ _ _ h with_list c.in_ok-texts_command-5.ensures refl) c.subcommand-6.ensures

@@ -27,9 +27,13 @@ pub returns-in_ok-text-in-list-2 : goal.returns-in_ok-text-in-list-2
 unfolding request_of requests asked
 returns-in_ok-text-in-list-2 c = rw (c.in-list.is, c.in_ok-text-in-list.ensures, c.in_ok-text-in-list-2.ensures) refl
 
+pub returns-in_ok-text-in-upgrade-2 : goal.returns-in_ok-text-in-upgrade-2
+unfolding request_of requests asked
+returns-in_ok-text-in-upgrade-2 c = rw (c.in-upgrade.is, c.in_ok-text-in-upgrade.ensures, c.in_ok-text-in-upgrade-2.ensures) refl
+
 pub unreachable-requires : goal.unreachable-requires
 unfolding request_of requests
 unreachable-requires c =
     let d = c.in_default in
-    let none = rw (differs _ _ d.not-bare, differs _ _ d.not-verdict, differs _ _ d.not-find, differs _ _ d.not-check, differs _ _ d.not-list) at c.requires.known in
+    let none = rw (differs _ _ d.not-bare, differs _ _ d.not-verdict, differs _ _ d.not-find, differs _ _ d.not-check, differs _ _ d.not-list, differs _ _ d.not-upgrade) at c.requires.known in
     cc

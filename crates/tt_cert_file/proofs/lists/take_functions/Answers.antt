@@ -1,6 +1,6 @@
-use Rattle.std.proofs.Common.{arith, sym, subst, ◌∙◌}
+use Rattle.std.proofs.Common.{◌≡◌, ℕ, ◌-◌, arith, ap, drop, length, sym, subst, ◌∙◌}
 use Rattle.tt_abs.specs.Entries.{Rises}
-use Rattle.tt_cert_file.proofs.Blocks.{suffix_on, taking_breaks, taking_more}
+use Rattle.tt_cert_file.proofs.Blocks.{suffix_on, taking_breaks, taking_more, taking_none}
 use Rattle.tt_cert_file.proofs.Rises.{Rises-push}
 use Rattle.tt_cert_file.proofs.lists.take_functions.Goals as goal
 
@@ -18,4 +18,13 @@ functions-preserved c =
           c.in_ok-push.ensures.items c.saturating_add-at.ensures,
       λ rises. subst Rises (sym c.in_ok-push.ensures.items) (Rises-push _ _ (c.functions.invariant.1 rises) above),
       suffix_on _ _ _ 6 c.functions.invariant.2 cut.1 (omega (arith, cut.2)),
+    )
+
+pub functions-init : goal.functions-init
+functions-init c =
+    let bytes = c.args.bytes.now in
+    let none : 0 ≡ length bytes - length bytes = omega arith in (
+      rw c.reserve.ensures.items (taking_none c.args.functions.now.items c.args.place bytes c.ranges.place.fits),
+      λ rises. rw c.reserve.ensures.items rises,
+      ap (λ (k : ℕ). drop k bytes) none,
     )

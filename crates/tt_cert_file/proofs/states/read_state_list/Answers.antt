@@ -41,6 +41,7 @@ states-preserved g c =
           c.in_ok-add_state.ensures.added,
       c.in_ok-add_state.ensures.contexts ∙ c.states.invariant.1,
       sym (ap last_place c.in_ok-add_state.ensures.added ∙ ap (option_map (λ (e : Entry). e.0)) (last_pushed c.states.builder.states entry)),
+      c.in_ok-point.ensures.kept,
     )
 
 pub returns-clause-reads : goal.returns-clause-reads

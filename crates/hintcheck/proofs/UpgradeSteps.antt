@@ -1,0 +1,266 @@
+-- Sections that are read and written again, one after the other.
+use Rattle.std.proofs.Common.{◌≡◌, ◌≢◌, ℕ, suc, ◌+◌, ◌≤◌, ◌<◌, List, [], ◌∷◌, ◌++◌, length, take, take_all, Option, Some, None, Ok, Err, refl, sym, ap, subst, ◌∙◌, arith, append-nil, add-zero, zero-add}
+use Rattle.std.specs.Io.KnownBytes.{Appends, IsAtEnd}
+use Rattle.std.proofs.KnownBytes.{Appends-nil, Appends-trans}
+use Rattle.std.proofs.lemmas.List.{length-append}
+use Rattle.std.proofs.lemmas.List.Concat.{flat_map-append}
+use Rattle.tt_stream.specs.Streams.{AppendsBeginning}
+use Rattle.tt_cert.specs.Contents.{Contents}
+use Rattle.tt_cert_file.specs.Answers.{GivesHeader, IsMore, input_at}
+use Rattle.tt_cert_file.specs.Readers.{Input}
+use Rattle.tt_cert_file.specs.Reading.{header_at}
+use Rattle.tt_cert_file.specs.Sections.{Section, section_of}
+use Rattle.tt_cert_file.specs.Text.{header_text, section_text}
+use Rattle.tt_cert_file.specs.declared.fault.DecodeFault.{DecodeFault}
+use Rattle.tt_cert_file.specs.declared.fault.DecodeFault.TheVariants as decode
+use Rattle.tt_cert_file.specs.declared.form.Form.{Form}
+use Rattle.tt_cert_file.specs.declared.form.Form.TheVariants.{Four}
+use Rattle.tt_cert_file.specs.declared.name.Name.{Name}
+use Rattle.hintcheck.specs.CertificateFaults.{Decodes}
+use Rattle.hintcheck.specs.Certificates.{HasNoSection, IsSectionOf}
+use Rattle.hintcheck.specs.CertificateTexts.{WritesText}
+use Rattle.hintcheck.specs.CheckedFonts.{IsTold, bytes_in}
+use Rattle.hintcheck.specs.UpgradeFaults.{ComesTo, CountsReads, CountsWrites, fault_of_old}
+use Rattle.hintcheck.specs.Upgrades.{AreBegun, AreCertificate, AreRead, AreUpgraded, BeginWith, IsNumberOfPrograms, IsUpgradeBegunOf, IsUpgradeOf, LackSection, UpgradesTo, WritesBeginning, begun, followed, name_at, no_font, no_header, no_section, none, nothing, one_more, section_texts, upgraded}
+use Rattle.hintcheck.specs.declared.upgrading.UpgradeFault.{UpgradeFault}
+use Rattle.hintcheck.specs.declared.upgrading.UpgradeFault.TheVariants as upgrade
+
+-- the end of the bytes
+
+nothing_left : (known : Option (List ℕ)) (place : ℕ) → IsTold known → IsAtEnd known → (input_at place known).bytes ≡ []
+nothing_left None place told at = absurd cc
+nothing_left (Some xs) place told at = at
+
+something_left : (known : Option (List ℕ)) (place : ℕ) → IsTold known → IsMore known → (input_at place known).bytes ≢ []
+something_left None place told more = absurd cc
+something_left (Some []) place told more = absurd (omega arith)
+something_left (Some (x ∷ xs)) place told more = λ e. absurd cc
+
+-- a section after those before it
+
+read_on : (form : Form) (n : ℕ) (i j k : Input) (xs ys : List Section) → AreRead form n i xs j → AreRead form (n + length xs) j ys k → AreRead form n i (xs ++ ys) k
+read_on form n i j k xs ys (none m l) rest =
+    let A : ℕ → Type 0 = λ a. AreRead form a l ys k in
+    subst A (add-zero m) rest
+read_on form n i j k xs ys (one_more m l after end s others next more) rest =
+    let number : m + suc (length others) ≡ m + 1 + length others = omega arith in
+    let A : ℕ → Type 0 = λ a. AreRead form a end ys k in
+    one_more m l after k s (others ++ ys) next (read_on form (m + 1) after end k others ys more (subst A number rest))
+
+pub none_upgraded : (form : Form) (i : Input) (w : Option (List ℕ)) → AreUpgraded form 0 0 i i w w
+none_upgraded form i w = record { sections = []; are_read = none 0 i; all = refl; written = Appends-nil w }
+
+pub one_upgraded : (form : Form) (number : ℕ) (i after : Input) (called : Name) (family : Contents) (old new : Option (List ℕ)) → IsSectionOf form i called family after → called ≡ name_at number
+    → Appends old new (section_text Four (section_of called family)) → AreUpgraded form number 1 i after old new
+one_upgraded form number i after called family old new section same appends =
+    let s : Section = section_of called family in
+    record {
+      sections = s ∷ [];
+      are_read = one_more number i after after s [] (record { is_read = section.is_read; in_turn = same }) (none (number + 1) after);
+      all = refl;
+      written = subst (Appends old new) (sym (append-nil (section_text Four s))) appends;
+    }
+
+pub one_begun : (form : Form) (number : ℕ) (i after : Input) (called : Name) (family : Contents) (old new : Option (List ℕ)) → IsSectionOf form i called family after → called ≡ name_at number
+    → AppendsBeginning old new (section_text Four (section_of called family)) → AreBegun form number 1 i old new
+one_begun form number i after called family old new section same appends =
+    let s : Section = section_of called family in
+    record {
+      sections = s ∷ [];
+      at = after;
+      are_read = one_more number i after after s [] (record { is_read = section.is_read; in_turn = same }) (none (number + 1) after);
+      few = omega arith;
+      written = subst (AppendsBeginning old new) (sym (append-nil (section_text Four s))) appends;
+    }
+
+begins_nothing : (w : Option (List ℕ)) → AppendsBeginning w w []
+begins_nothing w = record { count = 0; appended = Appends-nil w }
+
+pub none_begun : (form : Form) (number count : ℕ) (i : Input) (w : Option (List ℕ)) → AreBegun form number count i w w
+none_begun form number count i w = record { sections = []; at = i; are_read = none number i; few = omega arith; written = begins_nothing w }
+
+pub upgraded_on : (form : Form) (k : ℕ) (first here there : Input) (a b c : Option (List ℕ)) → AreUpgraded form 0 k first here a b → AreUpgraded form k 1 here there b c
+    → AreUpgraded form 0 (k + 1) first there a c
+upgraded_on form k first here there a b c before next =
+    let number : k ≡ 0 + length before.sections = omega (arith, before.all) in
+    let A : ℕ → Type 0 = λ m. AreRead form m here next.sections there in
+    record {
+      sections = before.sections ++ next.sections;
+      are_read = read_on form 0 first here there before.sections next.sections before.are_read (subst A number next.are_read);
+      all = long before.sections next.sections before.all next.all;
+      written = subst (Appends a c) (sym (flat_map-append (section_text Four) before.sections next.sections))
+          (Appends-trans a b c (section_texts before.sections) (section_texts next.sections) before.written next.written);
+    }
+  where
+    long : (xs ys : List Section) → length xs ≡ k → length ys ≡ 1 → length (xs ++ ys) ≡ k + 1
+    long xs ys e f = omega (arith, length-append xs ys)
+
+-- a beginning after a whole text
+begins_on : (a b c : Option (List ℕ)) (x y : List ℕ) → Appends a b x → AppendsBeginning b c y → AppendsBeginning a c (x ++ y)
+begins_on a b c x y whole part = record {
+  count = length x + part.count;
+  appended = subst (Appends a c) (sym (take-append_more x y part.count)) (Appends-trans a b c x (take part.count y) whole part.appended);
+}
+  where
+    take-append_more : (xs ys : List ℕ) (n : ℕ) → take (length xs + n) (xs ++ ys) ≡ xs ++ take n ys
+    take-append_more [] ys n = ap (λ (k : ℕ). take k ys) (zero-add n)
+    take-append_more (z ∷ zs) ys n =
+        let number : suc (length zs) + n ≡ suc (length zs + n) = omega arith in
+        ap (λ (k : ℕ). take k (z ∷ (zs ++ ys))) number ∙ ap (λ (l : List ℕ). z ∷ l) (take-append_more zs ys n)
+
+pub begun_on : (form : Form) (k count : ℕ) (first here : Input) (a b c : Option (List ℕ)) → AreUpgraded form 0 k first here a b → AreBegun form k 1 here b c → k < count
+    → AreBegun form 0 count first a c
+begun_on form k count first here a b c before next lt =
+    let number : k ≡ 0 + length before.sections = omega (arith, before.all) in
+    let A : ℕ → Type 0 = λ m. AreRead form m here next.sections next.at in
+    let all = before.all in
+    let few = next.few in
+    record {
+      sections = before.sections ++ next.sections;
+      at = next.at;
+      are_read = read_on form 0 first here next.at before.sections next.sections before.are_read (subst A number next.are_read);
+      few = omega (arith, length-append before.sections next.sections);
+      written = subst (AppendsBeginning a c) (sym (flat_map-append (section_text Four) before.sections next.sections))
+          (begins_on a b c (section_texts before.sections) (section_texts next.sections) before.written next.written);
+    }
+
+pub lack_next : (form : Form) (k count : ℕ) (first here : Input) (a b : Option (List ℕ)) (place : ℕ) → AreUpgraded form 0 k first here a b → k < count → HasNoSection form here (name_at k) place
+    → LackSection form 0 count first place
+lack_next form k count first here a b place before lt absent =
+    let all = before.all in
+    let number : k ≡ 0 + length before.sections = omega arith in
+    let H : ℕ → Type 0 = λ m. HasNoSection form here (name_at m) place in
+    record { sections = before.sections; at = here; are_read = before.are_read; few = omega arith; absent = subst H number absent }
+
+-- faults
+
+pub comes_old : {T U : Type 0} (Is : T → Type 0) (Is' : U → Type 0) (At At' : ℕ → Type 0) (e : DecodeFault) → Decodes {T = T} (Err e) Is At → ((place : ℕ) → At place → At' place)
+    → ComesTo {T = U} (Err (fault_of_old e)) Is' At'
+comes_old Is Is' At At' (decode.Form place) h f = f place h
+comes_old Is Is' At At' decode.Read h f = tt
+comes_old Is Is' At At' (decode.OutOfMemory error) h f = tt
+
+pub comes_on : {T U : Type 0} (Is : T → Type 0) (Is' : U → Type 0) (At At' : ℕ → Type 0) (e : UpgradeFault) → ComesTo {T = T} (Err e) Is At → ((place : ℕ) → At place → At' place)
+    → ComesTo {T = U} (Err e) Is' At'
+comes_on Is Is' At At' (upgrade.Form place) h f = f place h
+comes_on Is Is' At At' upgrade.Read h f = tt
+comes_on Is Is' At At' upgrade.Write h f = tt
+comes_on Is Is' At At' (upgrade.OutOfMemory error) h f = tt
+
+-- failures are counted from before the call too, where nothing failed till then
+
+pub reads_on : (e : UpgradeFault) (first old new : ℕ) → old ≡ first → CountsReads {T = Unit {0}} (Err e) old new → CountsReads {T = Unit {0}} (Err e) first new
+reads_on e first old new same h = let C : ℕ → Type 0 = λ n. CountsReads {T = Unit {0}} (Err e) n new in subst C same h
+
+pub writes_on : (e : UpgradeFault) (first old new : ℕ) → old ≡ first → CountsWrites {T = Unit {0}} (Err e) old new → CountsWrites {T = Unit {0}} (Err e) first new
+writes_on e first old new same h = let C : ℕ → Type 0 = λ n. CountsWrites {T = Unit {0}} (Err e) n new in subst C same h
+
+-- the header
+
+pub programs_are : (count : ℕ) → 2 ≤ count → count ≤ 65537 → IsNumberOfPrograms count
+programs_are count some few = record { some = some; few = few }
+
+pub too_few : (count : ℕ) → count < 2 → IsNumberOfPrograms count → ⊥
+too_few count lt is = let some = is.some in omega arith
+
+pub too_many : (count : ℕ) → 65537 < count → IsNumberOfPrograms count → ⊥
+too_many count lt is = let few = is.few in omega arith
+
+begin_with : (old new : Option (List ℕ)) (form : Form) (count : ℕ) (sections : List Section) (at : Input) → GivesHeader old new (Ok (form, count)) (header_at (input_at 0 old))
+    → IsNumberOfPrograms count → AreRead form 0 (input_at 10 new) sections at → length sections ≤ count → IsTold old → BeginWith (bytes_in old) form count sections at
+begin_with old new form count sections at gives programs read few told =
+    let (place, header) = (gives told).1 in
+    record { after = input_at place new; header = header; programs = programs; are_read = read; few = few }
+
+pub header_fails : {T : Type 0} (Is : T → Type 0) (old new : Option (List ℕ)) (e : DecodeFault) → GivesHeader old new (Err e) (header_at (input_at 0 old)) → IsTold old
+    → ComesTo {T = T} (Err (fault_of_old e)) Is (λ place. UpgradesTo (bytes_in old) (Err place))
+header_fails Is old new (decode.Form p) gives told = no_header p (gives told)
+header_fails Is old new decode.Read gives told = tt
+header_fails Is old new (decode.OutOfMemory e) gives told = tt
+
+pub of_no_font : (old new : Option (List ℕ)) (form : Form) (count : ℕ) → GivesHeader old new (Ok (form, count)) (header_at (input_at 0 old)) → (IsNumberOfPrograms count → ⊥) → IsTold old
+    → UpgradesTo (bytes_in old) (Err 6)
+of_no_font old new form count gives other told =
+    let (place, header) = (gives told).1 in
+    no_font form count (input_at place new) header other
+
+-- the sections
+
+pub section_lacks : (old new : Option (List ℕ)) (form : Form) (count place : ℕ) → GivesHeader old new (Ok (form, count)) (header_at (input_at 0 old)) → IsNumberOfPrograms count → IsTold old
+    → LackSection form 0 count (input_at 10 new) place → UpgradesTo (bytes_in old) (Err place)
+section_lacks old new form count place gives programs told lacks =
+    let few = lacks.few in
+    let number : 0 + length lacks.sections ≡ length lacks.sections = zero-add (length lacks.sections) in
+    let H : ℕ → Type 0 = λ m. HasNoSection form lacks.at (name_at m) place in
+    no_section form count lacks.sections lacks.at place (begin_with old new form count lacks.sections lacks.at gives programs lacks.are_read (omega arith) told) few (subst H number lacks.absent)
+
+-- the end
+
+module _ (old new last : Option (List ℕ)) (form : Form) (count place : ℕ) (a b : Option (List ℕ)) (gives : GivesHeader old new (Ok (form, count)) (header_at (input_at 0 old)))
+    (programs : IsNumberOfPrograms count) (told : IsTold old) (all : AreUpgraded form 0 count (input_at 10 new) (input_at place last) a b) where
+  whole_begin : BeginWith (bytes_in old) form (length all.sections) all.sections (input_at place last)
+  whole_begin =
+      let B : ℕ → Type 0 = λ n. BeginWith (bytes_in old) form n all.sections (input_at place last) in
+      let long = all.all in
+      subst B (sym all.all) (begin_with old new form count all.sections (input_at place last) gives programs all.are_read (omega arith) told)
+
+  whole : IsTold last → IsAtEnd last → AreCertificate (bytes_in old) all.sections
+  whole told_last ended = record { form = form; end = input_at place last; begin = whole_begin; ended = nothing_left last place told_last ended }
+
+  pub all_upgraded : IsTold last → IsAtEnd last → UpgradesTo (bytes_in old) (Ok count)
+  all_upgraded told_last ended =
+      let U : ℕ → Type 0 = λ n. UpgradesTo (bytes_in old) (Ok n) in
+      subst U all.all (upgraded all.sections (whole told_last ended))
+
+  pub more_follows : IsTold last → IsMore last → UpgradesTo (bytes_in old) (Err place)
+  more_follows told_last more = followed form all.sections (input_at place last) whole_begin (something_left last place told_last more)
+
+  pub all_written : (w : Option (List ℕ)) → Appends w a (header_text Four count) → IsTold last → IsAtEnd last → WritesText w b (IsUpgradeOf (bytes_in old))
+  all_written w header told_last ended = (
+    header_text Four count ++ section_texts all.sections,
+    record {
+      sections = all.sections;
+      old = whole told_last ended;
+      text_is = ap (λ (n : ℕ). header_text Four n ++ section_texts all.sections) (sym all.all);
+    },
+    Appends-trans w a b (header_text Four count) (section_texts all.sections) header all.written,
+  )
+
+pub followed_by_more : {T : Type 0} (Is : T → Type 0) (e : DecodeFault) (At : ℕ → Type 0) (at : ℕ) (known : Option (List ℕ))
+    → ((p : ℕ) → e ≡ decode.Form p → (p ≡ at) × IsMore known) → (IsMore known → At at) → ComesTo {T = T} (Err (fault_of_old e)) Is At
+followed_by_more Is (decode.Form p) At at known named holds = let both = named p refl in subst At (sym both.0) (holds both.1)
+followed_by_more Is decode.Read At at known named holds = tt
+followed_by_more Is (decode.OutOfMemory error) At at known named holds = tt
+
+-- what is written where it ends early
+
+pub nothing_written : (bytes : List ℕ) (w : Option (List ℕ)) → WritesBeginning w w (IsUpgradeBegunOf bytes)
+nothing_written bytes w = ([], nothing, begins_nothing w)
+
+module _ (old new : Option (List ℕ)) (form : Form) (count : ℕ) (gives : GivesHeader old new (Ok (form, count)) (header_at (input_at 0 old))) (programs : IsNumberOfPrograms count) (told : IsTold old) where
+  pub header_begun : (a b : Option (List ℕ)) → AppendsBeginning a b (header_text Four count) → WritesBeginning a b (IsUpgradeBegunOf (bytes_in old))
+  header_begun a b part = (
+    header_text Four count ++ [],
+    begun form count [] (input_at 10 new) (begin_with old new form count [] (input_at 10 new) gives programs (none 0 (input_at 10 new)) (omega arith) told),
+    subst (AppendsBeginning a b) (sym (append-nil (header_text Four count))) part,
+  )
+
+  pub sections_begun : (w a b : Option (List ℕ)) → Appends w a (header_text Four count) → AreBegun form 0 count (input_at 10 new) a b → WritesBeginning w b (IsUpgradeBegunOf (bytes_in old))
+  sections_begun w a b header part = (
+    header_text Four count ++ section_texts part.sections,
+    begun form count part.sections part.at (begin_with old new form count part.sections part.at gives programs part.are_read part.few told),
+    begins_on w a b (header_text Four count) (section_texts part.sections) header part.written,
+  )
+
+-- all of a text is a beginning of it
+pub all_begun : (form : Form) (count : ℕ) (from at : Input) (a b : Option (List ℕ)) → AreUpgraded form 0 count from at a b → AreBegun form 0 count from a b
+all_begun form count from at a b all =
+    let long = all.all in
+    let text : List ℕ = section_texts all.sections in
+    record {
+      sections = all.sections;
+      at = at;
+      are_read = all.are_read;
+      few = omega arith;
+      written = record { count = length text; appended = subst (Appends a b) (sym (take_all (length text) text (omega arith))) all.written };
+    }

@@ -1,0 +1,61 @@
+//! The sections of a certificate, read one after the other.
+
+ghost use Rattle.std.specs.Prelude.{◌≡◌, ◌↔◌, IsTrue};
+ghost use Rattle.tt_cert_file.specs.Answers.{CountsRead, input_at};
+ghost use Rattle.tt_stream.specs.Reads.{ConsumesBeginning};
+ghost use Rattle.hintcheck.specs.CertificateFaults.{Decodes};
+ghost use Rattle.hintcheck.specs.Certificates.{HasNoSection, IsSectionOf};
+ghost use Rattle.hintcheck.specs.CheckedFonts.{IsTold};
+
+use crate::report::Name;
+use std::alloc::Global;
+use tt_cert::Certificate;
+use tt_cert_file::{DecodeFault, Form, decode};
+use tt_stream::Source;
+
+/// How many bytes the header of a certificate file has.
+pub(crate) const HEADER: u64 = 10;
+
+/// Where the header has the number of sections.
+pub(crate) const SECTIONS: u64 = 6;
+
+/// How far the certificate was read: its form, and the place of the next section.
+#[derive(Clone, Copy)]
+pub(crate) struct Progress {
+    pub(crate) form: Form,
+    pub(crate) place: u64,
+}
+
+/// Are the two names the same?
+fn is_same(one: Name, other: Name) -> bool
+    ensures { IsTrue result ↔ (one ≡ other) }
+{
+    one == other
+}
+
+/// Reads the section of the program with this name, and goes on to the next one.
+///
+/// # Errors
+/// `Form`, also where the section is another program's; `Read` exactly where a read failed; `OutOfMemory`.
+pub(crate) fn next_section<S: Source>(
+    alloc: Global,
+    source: &mut S,
+    progress: &mut Progress,
+    name: Name,
+) -> Result<Certificate, DecodeFault>
+    ensures section { IsTold (S.remaining source.old) → Decodes result
+        (λ c. IsTold (S.remaining source.new) × IsSectionOf progress.old.form (input_at progress.old.place (S.remaining source.old)) name c (input_at progress.new.place (S.remaining source.new)))
+        (HasNoSection progress.old.form (input_at progress.old.place (S.remaining source.old)) name) }
+    ensures form { progress.new.form ≡ progress.old.form }
+    ensures beginning { ConsumesBeginning (S.remaining source.old) (S.remaining source.new) }
+    ensures failures { CountsRead result (S.failures source.old) (S.failures source.new) }
+{
+    let start = progress.place;
+    let (named, certificate, after) = decode(alloc, source, start, progress.form)?;
+    if !is_same(named, name) {
+        return Err(DecodeFault::Form(start));
+    }
+    certificate.is_in_order();
+    progress.place = after;
+    Ok(certificate)
+}

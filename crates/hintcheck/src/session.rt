@@ -1,0 +1,434 @@
+//! The programs of a font, one a call, each checked by its section of a certificate: a session holds one certificate at a time.
+
+ghost use Rattle.std.specs.Prelude.{◌≡◌, ◌+◌, ◌<◌, ◌↔◌, IfErr, IfOk, IsTrue, None, Ok, Err, Option, Some, length};
+ghost use Rattle.tt_abs.specs.Entries.{Rises};
+ghost use Rattle.tt_cert_file.specs.Answers.{input_at};
+ghost use Rattle.tt_stream.specs.Reads.{ConsumesBeginning};
+ghost use Rattle.hintcheck.specs.CertificateFaults.{CountsCheck, IsNoFontFault};
+ghost use Rattle.hintcheck.specs.CheckedFonts.{Finds, IsTold};
+ghost use Rattle.hintcheck.specs.FontLooks.{IsFontInRange};
+ghost use Rattle.hintcheck.specs.Sessions.{AnswersAt, AnswersNext, IsFaultAt, IsForChecking, IsNextFault, IsSoundAnswer, ReadsOn, Stage, accepted_as, after_font, at_glyph, at_start, new_standing, over, standing_at};
+ghost use Rattle.hintcheck.specs.SessionStages.{KeepsGood, TellsRefusal, fault_of, read_of, stage_of};
+ghost use Rattle.hintcheck.specs.declared.certified.CheckFontFault.{CheckFontFault as AnyFault};
+
+use crate::certified::{
+    CheckFontFault, check_cvt_program, check_font_program, check_glyph_program, read_start,
+};
+use crate::fonts::{Common, Ended, cvt_setting};
+use crate::look::told;
+use crate::report::{Name, Refused};
+use crate::sections::{Progress, next_section};
+use std::alloc::{AllocError, Global};
+use std::marker::Model;
+use std::mem;
+use tt_cert::ProgramFault;
+use tt_cert_file::read_end;
+use tt_font::Font;
+use tt_stream::Source;
+
+/// What comes of one program of a font: none, where it is accepted, or why it is refused.
+#[derive(Clone, Copy, Debug, PartialEq, Eq)]
+pub struct Outcome {
+    pub program: Name,
+    pub refused: Option<Refused>,
+}
+
+/// The fault that a session met.
+#[derive(Clone, Copy)]
+enum Met {
+    Form(u64),
+    Read,
+    OutOfMemory,
+}
+
+impl Met {
+    /// The fault of a call, which isn't the font's.
+    fn of(fault: &CheckFontFault) -> Self
+        requires { IsNoFontFault fault.now }
+        ensures { fault_of result ≡ fault.now }
+    {
+        match fault {
+            CheckFontFault::Form(place) => Met::Form(*place),
+            CheckFontFault::Read => Met::Read,
+            CheckFontFault::OutOfMemory(_) | CheckFontFault::Font(_) => Met::OutOfMemory,
+        }
+    }
+
+    /// The fault as each call answers it.
+    fn told(self) -> CheckFontFault
+        ensures { result ≡ fault_of self }
+    {
+        match self {
+            Met::Form(place) => CheckFontFault::Form(place),
+            Met::Read => CheckFontFault::Read,
+            Met::OutOfMemory => CheckFontFault::OutOfMemory(AllocError),
+        }
+    }
+}
+
+/// What a session keeps of the accepted programs, and so which program is next.
+#[derive(Drop)]
+enum Kept<'a> {
+    /// None was looked at.
+    Start,
+    /// The font program.
+    AfterFont(Ended<'a>),
+    /// The font program, the CVT program, and the number of the next glyph.
+    Glyphs(Ended<'a>, Ended<'a>, u16),
+    /// No program is left.
+    Over,
+}
+
+impl Kept<'_> {
+    /// Is no program left?
+    fn is_over(&self) -> bool
+        ensures { IsTrue result ↔ (stage_of self.now ≡ over) }
+    {
+        match self {
+            Kept::Over => true,
+            Kept::Start | Kept::AfterFont(_) | Kept::Glyphs(_, _, _) => false,
+        }
+    }
+}
+
+/// The answer of a call, and what the session keeps then.
+#[derive(Drop)]
+struct Step<'a> {
+    answer: Option<Outcome>,
+    kept: Kept<'a>,
+}
+
+/// The outcome of an accepted program.
+fn accepted(program: Name) -> Outcome
+    ensures { result ≡ accepted_as program }
+{
+    Outcome {
+        program,
+        refused: None,
+    }
+}
+
+/// The outcome of a program that the fault refuses.
+///
+/// # Errors
+/// `OutOfMemory` where the fault is want of memory, which refuses nothing.
+fn refused(program: Name, fault: ProgramFault) -> Result<Outcome, CheckFontFault>
+    ensures { TellsRefusal program fault result }
+{
+    match fault {
+        ProgramFault::Refused {
+            spot,
+            offset,
+            reason,
+        } => Ok(Outcome {
+            program,
+            refused: Some(told(program, spot, offset, reason)),
+        }),
+        ProgramFault::OutOfMemory(error) => Err(CheckFontFault::OutOfMemory(error)),
+    }
+}
+
+/// The font program's outcome, by the next section.
+fn check_first<'a, S: Source>(
+    alloc: Global,
+    font: &Font<'a>,
+    source: &mut S,
+    progress: &mut Progress,
+) -> Result<Step<'a>, CheckFontFault>
+    requires { IsFontInRange font.now }
+    ensures sound { IfOk result (λ step. IsSoundAnswer font.now at_start step.answer (stage_of step.kept)) }
+    ensures exact { IsTold (S.remaining source.old) → Finds result
+        (λ step. IsTold (S.remaining source.new) × AnswersAt font.now progress.old.form at_start (input_at progress.old.place (S.remaining source.old))
+        step.answer (stage_of step.kept) (input_at progress.new.place (S.remaining source.new)))
+        (IsFaultAt font.now progress.old.form (input_at progress.old.place (S.remaining source.old)) at_start) }
+    ensures form { progress.new.form ≡ progress.old.form }
+    ensures beginning { ConsumesBeginning (S.remaining source.old) (S.remaining source.new) }
+    ensures failures { CountsCheck result (S.failures source.old) (S.failures source.new) }
+    ensures font { IfErr result IsNoFontFault }
+{
+    let certificate = next_section(alloc, source, progress, Name::Font)?;
+    match check_font_program(alloc, font, &certificate, progress.form) {
+        Ok(fpgm) => Ok(Step {
+            answer: Some(accepted(Name::Font)),
+            kept: Kept::AfterFont(fpgm),
+        }),
+        Err(fault) => match refused(Name::Font, fault) {
+            Ok(outcome) => Ok(Step {
+                answer: Some(outcome),
+                kept: Kept::Over,
+            }),
+            Err(fault) => Err(fault),
+        },
+    }
+}
+
+/// The CVT program's outcome, by the next section.
+fn check_second<'a, S: Source>(
+    alloc: Global,
+    font: &Font<'a>,
+    fpgm: Ended<'a>,
+    source: &mut S,
+    progress: &mut Progress,
+) -> Result<Step<'a>, CheckFontFault>
+    requires range { IsFontInRange font.now }
+    requires rises { Rises fpgm.functions.items }
+    ensures sound { IfOk result (λ step. IsSoundAnswer font.now (after_font fpgm.entry.program fpgm.entry.functions.items) step.answer (stage_of step.kept)) }
+    ensures exact { IsTold (S.remaining source.old) → Finds result
+        (λ step. IsTold (S.remaining source.new) × AnswersAt font.now progress.old.form (after_font fpgm.entry.program fpgm.entry.functions.items)
+        (input_at progress.old.place (S.remaining source.old)) step.answer (stage_of step.kept) (input_at progress.new.place (S.remaining source.new)))
+        (IsFaultAt font.now progress.old.form (input_at progress.old.place (S.remaining source.old)) (after_font fpgm.entry.program fpgm.entry.functions.items)) }
+    ensures form { progress.new.form ≡ progress.old.form }
+    ensures beginning { ConsumesBeginning (S.remaining source.old) (S.remaining source.new) }
+    ensures failures { CountsCheck result (S.failures source.old) (S.failures source.new) }
+    ensures font { IfErr result IsNoFontFault }
+{
+    let certificate = next_section(alloc, source, progress, Name::Cvt)?;
+    match check_cvt_program(alloc, font, &fpgm, &certificate, progress.form) {
+        Ok(prep) => Ok(Step {
+            answer: Some(accepted(Name::Cvt)),
+            kept: Kept::Glyphs(fpgm, prep, 0),
+        }),
+        Err(fault) => match refused(Name::Cvt, fault) {
+            Ok(outcome) => Ok(Step {
+                answer: Some(outcome),
+                kept: Kept::Over,
+            }),
+            Err(fault) => Err(fault),
+        },
+    }
+}
+
+/// The outcome of a glyph program, by the next section, in a font with these programs.
+fn check_glyph<S: Source>(
+    alloc: Global,
+    font: &Font<'_>,
+    fpgm: &Ended<'_>,
+    prep: &Ended<'_>,
+    id: u16,
+    source: &mut S,
+    progress: &mut Progress,
+) -> Result<Outcome, CheckFontFault>
+    requires range { IsFontInRange font.now }
+    requires rises { Rises prep.now.functions.items }
+    requires there { id < length font.now.glyphs }
+    ensures sound { IfOk result (λ outcome. IsSoundAnswer font.now (at_glyph fpgm.now.program prep.now.program prep.now.functions.items id) (Some outcome)
+        (at_glyph fpgm.now.program prep.now.program prep.now.functions.items (id + 1))) }
+    ensures exact { IsTold (S.remaining source.old) → Finds result
+        (λ outcome. IsTold (S.remaining source.new) × AnswersAt font.now progress.old.form
+        (at_glyph fpgm.now.program prep.now.program prep.now.functions.items id) (input_at progress.old.place (S.remaining source.old)) (Some outcome)
+        (at_glyph fpgm.now.program prep.now.program prep.now.functions.items (id + 1)) (input_at progress.new.place (S.remaining source.new)))
+        (IsFaultAt font.now progress.old.form (input_at progress.old.place (S.remaining source.old))
+        (at_glyph fpgm.now.program prep.now.program prep.now.functions.items id)) }
+    ensures form { progress.new.form ≡ progress.old.form }
+    ensures beginning { ConsumesBeginning (S.remaining source.old) (S.remaining source.new) }
+    ensures failures { CountsCheck result (S.failures source.old) (S.failures source.new) }
+    ensures font { IfErr result IsNoFontFault }
+{
+    let certificate = next_section(alloc, source, progress, Name::Glyph(id))?;
+    let glyph = font.glyph(id).unwrap();
+    let common = Common {
+        setting: cvt_setting(font, fpgm, &prep.program),
+        functions: &prep.functions,
+    };
+    match check_glyph_program(alloc, &common, &glyph, &certificate, progress.form) {
+        Ok(()) => Ok(accepted(Name::Glyph(id))),
+        Err(fault) => refused(Name::Glyph(id), fault),
+    }
+}
+
+/// The next glyph program's outcome, or that no section follows that of the last one.
+fn check_third<'a, S: Source>(
+    alloc: Global,
+    font: &Font<'a>,
+    fpgm: Ended<'a>,
+    prep: Ended<'a>,
+    id: u16,
+    source: &mut S,
+    progress: &mut Progress,
+) -> Result<Step<'a>, CheckFontFault>
+    requires range { IsFontInRange font.now }
+    requires good { KeepsGood font.now (at_glyph fpgm.program prep.program prep.functions.items id) }
+    ensures sound { IfOk result (λ step. IsSoundAnswer font.now (at_glyph fpgm.entry.program prep.entry.program prep.entry.functions.items id) step.answer (stage_of step.kept)) }
+    ensures exact { IsTold (S.remaining source.old) → Finds result
+        (λ step. IsTold (S.remaining source.new) × AnswersAt font.now progress.old.form (at_glyph fpgm.entry.program prep.entry.program prep.entry.functions.items id)
+        (input_at progress.old.place (S.remaining source.old)) step.answer (stage_of step.kept) (input_at progress.new.place (S.remaining source.new)))
+        (IsFaultAt font.now progress.old.form (input_at progress.old.place (S.remaining source.old)) (at_glyph fpgm.entry.program prep.entry.program prep.entry.functions.items id)) }
+    ensures form { progress.new.form ≡ progress.old.form }
+    ensures beginning { ConsumesBeginning (S.remaining source.old) (S.remaining source.new) }
+    ensures failures { CountsCheck result (S.failures source.old) (S.failures source.new) }
+    ensures font { IfErr result IsNoFontFault }
+{
+    if id == font.glyph_count() {
+        read_end(source, progress.place)?;
+        return Ok(Step {
+            answer: None,
+            kept: Kept::Over,
+        });
+    }
+    let outcome = check_glyph(alloc, font, &fpgm, &prep, id, source, progress)?;
+    Ok(Step {
+        answer: Some(outcome),
+        kept: Kept::Glyphs(fpgm, prep, id + 1),
+    })
+}
+
+/// What a call of a session comes to that keeps this, after the header was read.
+fn check_on<'a, S: Source>(
+    alloc: Global,
+    font: &Font<'a>,
+    kept: Kept<'a>,
+    source: &mut S,
+    progress: &mut Progress,
+) -> Result<Step<'a>, CheckFontFault>
+    requires range { IsFontInRange font.now }
+    requires good { KeepsGood font.now (stage_of kept) }
+    ensures sound { IfOk result (λ step. IsSoundAnswer font.now (stage_of kept.entry) step.answer (stage_of step.kept)) }
+    ensures exact { IsTold (S.remaining source.old) → Finds result
+        (λ step. IsTold (S.remaining source.new) × AnswersAt font.now progress.old.form (stage_of kept.entry)
+        (input_at progress.old.place (S.remaining source.old)) step.answer (stage_of step.kept) (input_at progress.new.place (S.remaining source.new)))
+        (IsFaultAt font.now progress.old.form (input_at progress.old.place (S.remaining source.old)) (stage_of kept.entry)) }
+    ensures form { progress.new.form ≡ progress.old.form }
+    ensures beginning { ConsumesBeginning (S.remaining source.old) (S.remaining source.new) }
+    ensures failures { CountsCheck result (S.failures source.old) (S.failures source.new) }
+    ensures font { IfErr result IsNoFontFault }
+{
+    match kept {
+        Kept::Start => check_first(alloc, font, source, progress),
+        Kept::AfterFont(fpgm) => check_second(alloc, font, fpgm, source, progress),
+        Kept::Glyphs(fpgm, prep, id) => {
+            check_third(alloc, font, fpgm, prep, id, source, progress)
+        }
+        Kept::Over => Ok(Step {
+            answer: None,
+            kept: Kept::Over,
+        }),
+    }
+}
+
+/// How far the certificate was read: so far, or its header, which is read if it wasn't yet.
+fn progress_of<S: Source>(
+    font: &Font<'_>,
+    known: Option<Progress>,
+    source: &mut S,
+) -> Result<Progress, CheckFontFault>
+    ensures exact { (stage : Stage) → IsTold (S.remaining source.old) → Finds result
+        (λ p. IsTold (S.remaining source.new) × ReadsOn (standing_at font.now stage (read_of known)) (S.remaining source.old) p.form (input_at p.place (S.remaining source.new)))
+        (IsNextFault (standing_at font.now stage (read_of known)) (S.remaining source.old)) }
+    ensures beginning { ConsumesBeginning (S.remaining source.old) (S.remaining source.new) }
+    ensures failures { CountsCheck result (S.failures source.old) (S.failures source.new) }
+    ensures font { IfErr result IsNoFontFault }
+{
+    match known {
+        Some(progress) => Ok(progress),
+        None => read_start(font, source),
+    }
+}
+
+/// What a call of a session comes to that keeps this, and was read so far; and what it keeps then.
+fn check_from<'a, S: Source>(
+    alloc: Global,
+    font: &Font<'a>,
+    kept: &mut Kept<'a>,
+    read: &mut Option<Progress>,
+    source: &mut S,
+) -> Result<Option<Outcome>, CheckFontFault>
+    requires range { IsFontInRange font.now }
+    requires good { KeepsGood font.now (stage_of kept.old) }
+    ensures sound { IfOk result (λ answer. IsSoundAnswer font.now (stage_of kept.old) answer (stage_of kept.new)) }
+    ensures good { KeepsGood font.now (stage_of kept.new) }
+    ensures read { IfOk result (λ _. read_of read.new ≡ None → ⊥) }
+    ensures exact { IsTold (S.remaining source.old) → Finds result
+        (λ answer. IsTold (S.remaining source.new) × AnswersNext (standing_at font.now (stage_of kept.old) (read_of read.old)) (S.remaining source.old) answer
+        (standing_at font.now (stage_of kept.new) (read_of read.new)) (S.remaining source.new))
+        (IsNextFault (standing_at font.now (stage_of kept.old) (read_of read.old)) (S.remaining source.old)) }
+    ensures beginning { ConsumesBeginning (S.remaining source.old) (S.remaining source.new) }
+    ensures failures { CountsCheck result (S.failures source.old) (S.failures source.new) }
+    ensures font { IfErr result IsNoFontFault }
+{
+    let mut progress = progress_of(font, *read, source)?;
+    let now = mem::replace(kept, Kept::Over);
+    let step = check_on(alloc, font, now, source, &mut progress)?;
+    let Step { answer, kept: next } = step;
+    *kept = next;
+    *read = Some(progress);
+    Ok(answer)
+}
+
+/// The programs of a font, looked at one by one: the font program, the CVT program, and each glyph program. It keeps which program is next and what
+/// the next ones start with, and no certificate.
+#[derive(Drop)]
+pub struct Session<'a> {
+    font: &'a Font<'a>,
+    kept: Kept<'a>,
+    progress: Option<Progress>,
+    met: Option<Met>,
+}
+
+impl<'a> Model for Session<'a> {
+    ghost use Rattle.hintcheck.specs.Sessions.{Standing};
+    ghost use Rattle.hintcheck.specs.FontLooks.{IsFontInRange};
+    ghost use Rattle.hintcheck.specs.SessionStages.{KeepsGood, fault_in, read_of, stage_of};
+
+    ghost Value = { Standing };
+
+    ghost view = { λ s. record { font = s.font.now; stage = stage_of s.kept; read = read_of s.progress; fault = fault_in s.met } };
+
+    ghost invariant = { λ s. IsFontInRange s.font.now × KeepsGood s.font.now (stage_of s.kept) };
+}
+
+impl<'a> Session<'a> {
+    /// A session over the programs of this font. It takes no memory.
+    pub fn new(font: &'a Font<'a>) -> Self
+        requires { IsFontInRange font.now }
+        ensures { result ≡ new_standing font.now }
+    {
+        Session {
+            font,
+            kept: Kept::Start,
+            progress: None,
+            met: None,
+        }
+    }
+
+    /// Reads the section of the next program, and checks the program by it: its outcome. The first call reads the certificate's header before. After
+    /// the last section, or after a refused font program or CVT program, there is none; the first time after the last section the certificate's end is
+    /// seen, and else nothing is read then. A session that this is called on is used for no other calls.
+    ///
+    /// # Errors
+    /// `Form` where the bytes are no certificate for the font; `Read` exactly where a read failed; `OutOfMemory`. After a fault each call answers it,
+    /// and reads nothing.
+    pub fn check_next<S: Source>(
+        &mut self,
+        alloc: Global,
+        source: &mut S,
+    ) -> Result<Option<Outcome>, CheckFontFault>
+        requires { IsForChecking self.old }
+        // The outcome is the next program's, and an accepted one has a good family.
+        ensures sound { IfOk result (λ answer. IsSoundAnswer self.old.font self.old.stage answer self.new.stage) }
+        // It comes from the program's section, where the source tells its bytes, which is read on from where the call before ended.
+        ensures exact { self.old.fault ≡ None → IsTold (S.remaining source.old) → Finds result
+            (λ answer. IsTold (S.remaining source.new) × AnswersNext self.old (S.remaining source.old) answer self.new (S.remaining source.new))
+            (IsNextFault self.old (S.remaining source.old)) }
+        ensures after_fault { (fault : AnyFault) → self.old.fault ≡ Some fault → (result ≡ Err fault) × (self.new ≡ self.old) × (source.new ≡ source.old) }
+        ensures after_none { self.old.fault ≡ None → self.old.stage ≡ over → (result ≡ Ok None) × (self.new ≡ self.old) × (source.new ≡ source.old) }
+        ensures fault { IfErr result (λ fault. self.new.fault ≡ Some fault) }
+        ensures no_fault { IfOk result (λ _. self.new.fault ≡ None) }
+        ensures font { self.new.font ≡ self.old.font }
+        ensures checking { IsForChecking self.new }
+        ensures beginning { ConsumesBeginning (S.remaining source.old) (S.remaining source.new) }
+        ensures failures { self.old.fault ≡ None → CountsCheck result (S.failures source.old) (S.failures source.new) }
+        ensures no_font_fault { self.old.fault ≡ None → IfErr result IsNoFontFault }
+    {
+        if let Some(met) = self.met {
+            return Err(met.told());
+        }
+        if self.kept.is_over() {
+            return Ok(None);
+        }
+        let answer = check_from(alloc, self.font, &mut self.kept, &mut self.progress, source);
+        if let Err(fault) = &answer {
+            self.met = Some(Met::of(fault));
+        }
+        answer
+    }
+}

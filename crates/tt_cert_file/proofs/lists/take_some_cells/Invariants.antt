@@ -1,0 +1,11 @@
+use Rattle.std.proofs.Common.{◌≡◌, ◌≤◌, ◌-◌, length, drop}
+use Rattle.tt_cert_file.specs.Blocks.{IsTakingCells}
+use Rattle.tt_cert_file.proofs.lists.take_some_cells.Given as goal
+
+abbrev pub invariant-cells : goal.invariant-cells
+invariant-cells l =
+    IsTakingCells l.fn.cells.items l.cells.items l.fn.place l.at l.fn.bytes l.left × (l.left ≡ drop (length l.fn.bytes - length l.left) l.fn.bytes)
+    × (length l.cells.items ≤ l.fn.count)
+
+abbrev pub decreases-cells : goal.decreases-cells
+decreases-cells l = length l.left
