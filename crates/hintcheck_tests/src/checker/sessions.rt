@@ -17,11 +17,13 @@ struct Bytes<'a> {
 }
 
 impl Source for Bytes<'_> {
-    ghost use Rattle.std.specs.Prelude.{Some};
+    ghost use Rattle.std.specs.Prelude.{Some, []};
 
     ghost remaining = { λ bytes. Some bytes.left.now };
 
     ghost failures = { λ _. 0 };
+
+    ghost read_ahead = { λ _. [] };
 
     fn read(&mut self, buf: &mut [u8]) -> Result<usize, ReadFailed> {
         let count = self.left.len().min(buf.len());
@@ -30,6 +32,12 @@ impl Source for Bytes<'_> {
         self.left = rest;
         Ok(count)
     }
+
+    fn ahead(&self) -> &[u8] {
+        &[]
+    }
+
+    fn skip(&mut self, _count: usize) {}
 }
 
 /// The first refused program of a font by its certificate, of which nothing is read after that one's section; none where each is accepted.
