@@ -1,31 +1,29 @@
--- The text of a font's certificate, as it is written section by section.
-use Rattle.std.proofs.Common.{◌≡◌, true, false, ℕ, ◌+◌, ◌^◌, ◌<◌, arith, List, [], ◌++◌, length, drop, Option, Some, None, Bor, sym, ◌∙◌, ap, subst, append_assoc, append-nil}
-use Rattle.std.specs.Prelude.{◌==◌, IfSome, slice_get}
+-- The text of a font's certificate, as it is written section by section while a session finds the programs.
+use Rattle.std.proofs.Common.{◌≡◌, true, false, ℕ, ◌+◌, ◌^◌, ◌<◌, arith, List, [], ◌++◌, length, drop, Option, Some, None, refl, sym, ◌∙◌, ap, subst, append_assoc, append-nil}
+use Rattle.std.specs.Prelude.{◌==◌, slice_get}
 use Rattle.std.specs.Io.KnownBytes.{Appends}
-use Rattle.tt_code.specs.Cut.{Instruction, size}
-use Rattle.tt_code.specs.Fonts.{Font}
-use Rattle.tt_code.specs.Settings.{Setting as MachineSetting}
-use Rattle.tt_abs.specs.declared.setting.Setting.{Setting}
-use Rattle.tt_abs.specs.declared.state.State.{State}
-use Rattle.tt_abs.specs.Settings.{setting_of}
-use Rattle.tt_cert.specs.Contents.{Contents, family_of}
+use Rattle.std.proofs.lemmas.Option.{slice_get_within}
+use Rattle.tt_code.specs.Cut.{Instruction}
+use Rattle.tt_cert.specs.Contents.{Contents}
 use Rattle.tt_cert.specs.Rising.{IsFinished}
 use Rattle.tt_cert_file.specs.declared.form.Form.TheVariants.{Four}
 use Rattle.tt_cert_file.specs.declared.name.Name.{Name}
-use Rattle.tt_cert_file.specs.Rules.{Fits}
+use Rattle.tt_cert_file.specs.Rules.{AreCallsInTurn, Fits}
 use Rattle.tt_cert_file.specs.Sections.{section_of}
 use Rattle.tt_cert_file.specs.Text.{header_text, section_text}
-use Rattle.tt_find.specs.Found.{NeedsAll}
+use Rattle.tt_find.specs.declared.finder.Found.{Found}
 use Rattle.tt_font.specs.Reading.{FontData, GlyphData}
-use Rattle.hintcheck.specs.CertificateTexts.{AreGlyphTexts, IsEndedText, IsGlyphText, IsLeastListing, IsPassingCertificate, IsReadableListing, IsTextOf, WritesText, no_glyphs, one_more}
-use Rattle.hintcheck.specs.FontLooks.{font_in, subject_in}
-use Rattle.hintcheck.specs.FontPrograms.{cvt_subject, font_of, font_subject}
-use Rattle.hintcheck.specs.Looks.{IsAccepted, IsLookedAt}
+use Rattle.hintcheck.specs.CertificateTexts.{AreGlyphTexts, IsCertificate, IsEndedText, IsGlyphText, IsPassingCertificate, IsReadableListing, IsTextOf, WritesText, no_glyphs, one_more}
+use Rattle.hintcheck.specs.FindingSessions.{IsForFinding, IsFoundAnswer, IsFoundFor, IsFoundToEnd, IsOutcomeByFinding, cvt_found, cvt_refused, font_found, font_refused, glyph_found, glyph_refused}
+use Rattle.hintcheck.specs.FontPrograms.{cvt_subject, font_of, font_subject, glyph_subject}
 use Rattle.hintcheck.specs.Programs.{Subject}
-use Rattle.hintcheck.specs.declared.fonts.Common.{Common}
+use Rattle.hintcheck.specs.SessionStages.{AreSectionsFrom, all_there, cvt_next, font_first, glyph_next}
+use Rattle.hintcheck.specs.Sessions.{IsLast, Stage, Standing, after_font, at_glyph, at_start, last_glyph, new_standing, none_is_left, over}
+use Rattle.hintcheck.specs.declared.session.Outcome.{Outcome}
 use Rattle.hintcheck.proofs.CheckedSections.{all_dropped, dropped}
 use Rattle.hintcheck.proofs.CheckedTexts.{is_passing}
-use Rattle.hintcheck.proofs.LookLemmas.{of_subject}
+use Rattle.hintcheck.proofs.LookLemmas.{calls_in_turn}
+use Rattle.hintcheck.proofs.SessionRuns.{calls_left}
 
 -- an empty list is told to be empty
 pub told_empty : {X : Type 0} (xs : List X) (n : ℕ) → length xs ≡ n → xs ≡ [] → false ≡ (n == 0) → ⊥
@@ -44,111 +42,170 @@ appends_both (Some xs) None c x y h k = absurd h
 appends_both (Some xs) (Some ys) None x y h k = absurd k
 appends_both (Some xs) (Some ys) (Some zs) x y h k = k ∙ ap (λ (l : List ℕ). l ++ y) h ∙ append_assoc xs x y
 
--- the section of a program that was found, which keeps the rules by which it is read
+-- they are those of a certificate
 
-listing_of : (x : Subject) (s : Setting) (family : Contents) → IsLookedAt x s → IsAccepted x s.main.now (family_of family)
-    → NeedsAll (setting_of s) s.start.now (family_of family) → IsLeastListing x s.main.now family
-listing_of x s family looked accepted needed =
-    let N : MachineSetting → List (ℕ × ℕ) → Type 0 = λ t fs. NeedsAll t fs (family_of family) in
-    (accepted, of_subject N x s.main.now (setting_of s) s.start.now looked.setting looked.functions needed)
+glyph_texts : (d : FontData) (f p : List Instruction) (known : List (ℕ × ℕ)) (id : ℕ) (text : List ℕ) → AreSectionsFrom d (at_glyph f p known id) text
+    → AreGlyphTexts IsReadableListing Four (font_of d f p) known id (drop id d.glyphs) text
+glyph_texts d f p known id text (all_there f1 p1 known1 id1 last) =
+    let D : ℕ → Type 0 = λ n. drop n d.glyphs ≡ [] in
+    let A : List GlyphData → Type 0 = λ gs. AreGlyphTexts IsReadableListing Four (font_of d f p) known id gs [] in
+    subst A (sym (subst D (sym last) (all_dropped d.glyphs))) (no_glyphs id)
+glyph_texts d f p known id text (glyph_next f1 p1 known1 id1 g one rest there is more) =
+    let A : List GlyphData → Type 0 = λ gs. AreGlyphTexts IsReadableListing Four (font_of d f p) known id gs (one ++ rest) in
+    subst A (sym (dropped d.glyphs id g there)) (one_more id g (drop (id + 1) d.glyphs) one rest is (glyph_texts d f p known (id + 1) rest more))
 
-readable : (x : Subject) (s : Setting) (called : Name) (family : Contents) → x.name ≡ called → IsLeastListing x s.main.now family → Fits Four (section_of called family)
-    → IsReadableListing x s.main.now family
-readable x s called family same least fits = (least, subst (λ (n : Name). Fits Four (section_of n family)) (sym same) fits)
+after_font_program : (d : FontData) (f : List Instruction) (functions : List (ℕ × ℕ)) (font_text text : List ℕ) → IsEndedText IsReadableListing Four (font_subject d) f font_text functions
+    → AreSectionsFrom d (after_font f functions) text → IsCertificate IsReadableListing Four d (header_text Four (length d.glyphs + 2) ++ (font_text ++ text))
+after_font_program d f functions font_text text font (cvt_next f1 p functions1 known cvt_text rest cvt glyphs) = record {
+  font_program = f;
+  functions = functions;
+  font_text = font_text;
+  font = font;
+  cvt_program = p;
+  known = known;
+  cvt_text = cvt_text;
+  cvt = cvt;
+  glyph_texts = rest;
+  glyphs = glyph_texts d f p known 0 rest glyphs;
+  text_is = refl;
+}
 
-text_of : (called name : Name) (family : Contents) → name ≡ called → IsFinished family → IsTextOf Four name family (section_text Four (section_of called family))
-text_of called name family same finished = record { in_order = finished; text_is = ap (λ (n : Name). section_text Four (section_of n family)) (sym same) }
+certificate_of : (d : FontData) (text : List ℕ) → AreSectionsFrom d at_start text → IsCertificate IsReadableListing Four d (header_text Four (length d.glyphs + 2) ++ text)
+certificate_of d text (font_first f functions font_text rest font more) = after_font_program d f functions font_text rest font more
 
-pub glyph_written : (x : Subject) (s : Setting) (called : Name) (family : Contents) (old new : Option (List ℕ)) → IsLookedAt x s → x.name ≡ called
-    → IsAccepted x s.main.now (family_of family) → NeedsAll (setting_of s) s.start.now (family_of family) → IsFinished family → Fits Four (section_of called family)
-    → Appends old new (section_text Four (section_of called family)) → WritesText old new (IsGlyphText IsReadableListing Four x)
-glyph_written x s called family old new looked same accepted needed finished fits appends = (
-  section_text Four (section_of called family),
-  record {
-    instructions = s.main.now;
-    family = family;
-    is_asked = readable x s called family same (listing_of x s family looked accepted needed) fits;
-    text_of = text_of called x.name family same finished;
-  },
-  appends,
-)
+-- the section of a program that is found, which keeps the rules by which it is read
 
-pub ended_written : (x : Subject) (s : Setting) (called : Name) (family : Contents) (old new : Option (List ℕ)) (n : ℕ) (found : Option (Bor (List (ℕ × ℕ)))) (functions : Bor (List (ℕ × ℕ)))
-    (copy : List (ℕ × ℕ)) → IsLookedAt x s → x.name ≡ called → IsAccepted x s.main.now (family_of family) → NeedsAll (setting_of s) s.start.now (family_of family) → IsFinished family
-    → Fits Four (section_of called family) → n ≡ size s.main.now → IfSome found (λ fs. (end : State) × (family_of family ([], n) ≡ Some end) × (fs.now ≡ end.functions)) → found ≡ Some functions → copy ≡ functions.now
-    → Appends old new (section_text Four (section_of called family)) → WritesText old new (λ text. IsEndedText IsReadableListing Four x s.main.now text copy)
-ended_written x s called family old new n found functions copy looked same accepted needed finished fits size_is some e copied appends =
-    let S : Option (Bor (List (ℕ × ℕ))) → Type 0 = λ o. IfSome o (λ fs. (end : State) × (family_of family ([], n) ≡ Some end) × (fs.now ≡ end.functions)) in
-    let (end, at, known) = subst S e some in (
-      section_text Four (section_of called family),
-      record {
-        family = family;
-        is_asked = readable x s called family same (listing_of x s family looked accepted needed) fits;
-        text_of = text_of called x.name family same finished;
-        end = end;
-        at_end = ap (λ (k : ℕ). family_of family ([], k)) (sym size_is) ∙ at;
-        functions_are = sym (copied ∙ known);
-      },
-      appends,
-    )
+-- what is written of a program: its section, of the contexts in order
+pub record IsSectionWritten (called : Name) (family : Contents) : Type 0 where
+  pub finished : IsFinished family
+  pub fits : AreCallsInTurn family.contexts → Fits Four (section_of called family)
 
--- the sections of the glyph programs below a number, which those from it on complete
+readable : (x : Subject) (is : List Instruction) (found : Found) → IsFoundFor x is found → IsSectionWritten x.name found.certificate → IsReadableListing x is found.certificate
+readable x is found is_found written =
+    (is_found.listing, written.fits (calls_in_turn found.certificate written.finished is_found.contexts.calls))
 
-abbrev pub TextsBelow : Common → List GlyphData → ℕ → List ℕ → Type 0
-TextsBelow c glyphs id text = (rest : List ℕ) → AreGlyphTexts IsReadableListing Four (font_in c) c.functions.now id (drop id glyphs) rest
-    → AreGlyphTexts IsReadableListing Four (font_in c) c.functions.now 0 glyphs (text ++ rest)
+text_of : (called : Name) (family : Contents) → IsSectionWritten called family → IsTextOf Four called family (section_text Four (section_of called family))
+text_of called family written = record { in_order = written.finished; text_is = refl }
 
-pub none_written : (c : Common) (glyphs : List GlyphData) (w : Option (List ℕ)) → WritesText w w (TextsBelow c glyphs 0)
-none_written c glyphs w = ([], (λ rest texts. texts), appends_nothing w)
+ended : (x : Subject) (is : List Instruction) (found : Found) (functions : List (ℕ × ℕ)) → IsFoundToEnd x is found functions → IsSectionWritten x.name found.certificate
+    → IsEndedText IsReadableListing Four x is (section_text Four (section_of x.name found.certificate)) functions
+ended x is found functions ends written = record {
+  family = found.certificate;
+  is_asked = readable x is found ends.is_found written;
+  text_of = text_of x.name found.certificate written;
+  end = ends.end;
+  at_end = ends.at_end;
+  functions_are = ends.functions_are;
+}
 
-pub written_next : (c : Common) (glyphs : List GlyphData) (id : ℕ) (g : GlyphData) (first old new : Option (List ℕ)) → WritesText first old (TextsBelow c glyphs id) → slice_get glyphs id ≡ Some g
-    → WritesText old new (IsGlyphText IsReadableListing Four (subject_in c id g)) → WritesText first new (TextsBelow c glyphs (id + 1))
-written_next c glyphs id g first old new before at next =
+section_next : (d : FontData) (s t : Stage) (o : Outcome) (found : Found) (rest : List ℕ) → IsOutcomeByFinding d s o (Some found) t → IsSectionWritten o.program found.certificate
+    → AreSectionsFrom d t rest → AreSectionsFrom d s (section_text Four (section_of o.program found.certificate) ++ rest)
+section_next d s t o found rest (font_found f functions x ends) written more =
+    font_first f functions (section_text Four (section_of (font_subject d).name found.certificate)) rest (ended (font_subject d) f found functions ends written) more
+section_next d s t o found rest (cvt_found f p functions known x ends) written more =
+    let subject = cvt_subject d f functions in
+    cvt_next f p functions known (section_text Four (section_of subject.name found.certificate)) rest (ended subject p found known ends written) more
+section_next d s t o found rest (glyph_found f p known id g is x there is_found) written more =
+    let subject = glyph_subject (font_of d f p) known id g in
+    glyph_next f p known id g (section_text Four (section_of subject.name found.certificate)) rest there (record {
+      instructions = is;
+      family = found.certificate;
+      is_asked = readable subject is found is_found written;
+      text_of = text_of subject.name found.certificate written;
+    }) more
+
+-- the sections of the programs before a stage, which those from it on complete
+
+abbrev pub TextsBefore : FontData → Stage → List ℕ → Type 0
+TextsBefore d s text = (rest : List ℕ) → AreSectionsFrom d s rest → AreSectionsFrom d at_start (text ++ rest)
+
+texts_next : (d : FontData) (s t : Stage) (o : Outcome) (found : Found) (first old new : Option (List ℕ)) → WritesText first old (TextsBefore d s) → IsOutcomeByFinding d s o (Some found) t
+    → IsSectionWritten o.program found.certificate → Appends old new (section_text Four (section_of o.program found.certificate)) → WritesText first new (TextsBefore d t)
+texts_next d s t o found first old new before is written appends =
     let (text, below, appended) = before in
-    let (one, is, appends) = next in
-    let A : List GlyphData → List ℕ → Type 0 = λ gs t. AreGlyphTexts IsReadableListing Four (font_in c) c.functions.now id gs t in
-    let B : List ℕ → Type 0 = λ t. AreGlyphTexts IsReadableListing Four (font_in c) c.functions.now 0 glyphs t in (
+    let one : List ℕ = section_text Four (section_of o.program found.certificate) in
+    let B : List ℕ → Type 0 = λ x. AreSectionsFrom d at_start x in (
       text ++ one,
-      (λ rest texts.
-          subst B (sym (append_assoc text one rest))
-          (below (one ++ rest) (subst (λ gs. A gs (one ++ rest)) (sym (dropped glyphs id g at)) (one_more id g (drop (id + 1) glyphs) one rest is texts)))),
+      (λ rest more. subst B (sym (append_assoc text one rest)) (below (one ++ rest) (section_next d s t o found rest is written more))),
       appends_both first old new text one appended appends,
     )
 
-pub all_written : (c : Common) (glyphs : List GlyphData) (first new : Option (List ℕ)) → WritesText first new (TextsBelow c glyphs (length glyphs))
-    → WritesText first new (AreGlyphTexts IsReadableListing Four (font_in c) c.functions.now 0 glyphs)
-all_written c glyphs first new below =
-    let (text, is, appends) = below in
-    let A : List GlyphData → Type 0 = λ gs. AreGlyphTexts IsReadableListing Four (font_in c) c.functions.now (length glyphs) gs [] in
-    let B : List ℕ → Type 0 = λ t. AreGlyphTexts IsReadableListing Four (font_in c) c.functions.now 0 glyphs t in
-    (text, subst B (append-nil text) (is [] (subst A (sym (all_dropped glyphs)) (no_glyphs (length glyphs)))), appends)
+goes_on : (d : FontData) (s t : Stage) (o : Outcome) (found : Found) → IsOutcomeByFinding d s o (Some found) t → t ≡ over → ⊥
+goes_on d s t o found (font_found f functions x ends) e = cc
+goes_on d s t o found (cvt_found f p functions known x ends) e = cc
+goes_on d s t o found (glyph_found f p known id g is x there is_found) e = cc
 
--- the whole certificate
-pub certificate_written : (d : FontData) (c : Common) (n : ℕ) (f p : List Instruction) (functions known : List (ℕ × ℕ)) (w0 w1 w2 w3 w4 : Option (List ℕ))
-    → Appends w0 w1 (header_text Four n) → n ≡ length d.glyphs + 2 → n < 2 ^ 32 → WritesText w1 w2 (λ text. IsEndedText IsReadableListing Four (font_subject d) f text functions)
-    → WritesText w2 w3 (λ text. IsEndedText IsReadableListing Four (cvt_subject d f functions) p text known)
-    → WritesText w3 w4 (AreGlyphTexts IsReadableListing Four (font_in c) c.functions.now 0 d.glyphs) → font_in c ≡ font_of d f p → c.functions.now ≡ known
-    → WritesText w0 w4 (IsPassingCertificate d)
-certificate_written d c n f p functions known w0 w1 w2 w3 w4 header sections few font cvt glyphs font_is known_is =
-    let (font_text, font_ended, one) = font in
-    let (cvt_text, cvt_ended, two) = cvt in
-    let (glyph_texts, texts, three) = glyphs in
-    let S : Font → Type 0 = λ t. AreGlyphTexts IsReadableListing Four t c.functions.now 0 d.glyphs glyph_texts in
-    let R : List (ℕ × ℕ) → Type 0 = λ fs. AreGlyphTexts IsReadableListing Four (font_of d f p) fs 0 d.glyphs glyph_texts in
-    let rest = appends_both w1 w2 w4 font_text (cvt_text ++ glyph_texts) one (appends_both w2 w3 w4 cvt_text glyph_texts two three) in (
-      header_text Four n ++ (font_text ++ (cvt_text ++ glyph_texts)),
-      is_passing d (header_text Four n ++ (font_text ++ (cvt_text ++ glyph_texts))) (omega arith) (record {
-        font_program = f;
-        functions = functions;
-        font_text = font_text;
-        font = font_ended;
-        cvt_program = p;
-        known = known;
-        cvt_text = cvt_text;
-        cvt = cvt_ended;
-        glyph_texts = glyph_texts;
-        glyphs = subst R known_is (subst S font_is texts);
-        text_is = ap (λ (k : ℕ). header_text Four k ++ (font_text ++ (cvt_text ++ glyph_texts))) sections;
-      }),
-      appends_both w0 w1 w4 (header_text Four n) (font_text ++ (cvt_text ++ glyph_texts)) header rest,
-    )
+fewer_left : (d : FontData) (s t : Stage) (o : Outcome) (found : Option Found) → IsOutcomeByFinding d s o found t → calls_left d t < calls_left d s
+unfolding calls_left
+fewer_left d s t o found (font_found f functions x ends) = omega arith
+fewer_left d s t o found (font_refused r is) = omega arith
+fewer_left d s t o found (cvt_found f p functions known x ends) = omega arith
+fewer_left d s t o found (cvt_refused f functions r is) = omega arith
+fewer_left d s t o found (glyph_found f p known id g is x there is_found) = let lt = slice_get_within d.glyphs id g there in omega arith
+fewer_left d s t o found (glyph_refused f p known id g r there is) = let lt = slice_get_within d.glyphs id g there in omega arith
+
+-- A session has found the programs before its stage, none of which is refused, and their sections are written.
+pub record IsWrittenSoFar (d : FontData) (first : Option (List ℕ)) (s : Standing) (now : Option (List ℕ)) : Type 0 where
+  pub font : s.font ≡ d
+  pub none : s.fault ≡ None
+  pub finding : IsForFinding s
+  pub going : s.stage ≡ over → ⊥
+  pub written : WritesText first now (TextsBefore s.font s.stage)
+
+pub nothing_found : (d : FontData) (w : Option (List ℕ)) (s : Standing) → s ≡ new_standing d → IsWrittenSoFar d w s w
+nothing_found d w s is =
+    let S : Standing → Type 0 = λ t. IsWrittenSoFar d w t w in
+    subst S (sym is) (record {
+      font = refl;
+      none = refl;
+      finding = record { unread = refl; memory = tt };
+      going = λ e. cc;
+      written = ([], (λ rest more. more), appends_nothing w);
+    })
+
+pub found_next : (d : FontData) (first old new : Option (List ℕ)) (s t : Standing) (answer : Option (Outcome × Option Found)) (o : Outcome) (found : Option Found) (x : Found)
+    → answer ≡ Some (o, found) → found ≡ Some x → IsWrittenSoFar d first s old → IsFoundAnswer s.font s.stage answer t.stage → t.font ≡ s.font → t.fault ≡ None → IsForFinding t
+    → IsFinished x.certificate → (AreCallsInTurn x.certificate.contexts → Fits Four (section_of o.program x.certificate))
+    → Appends old new (section_text Four (section_of o.program x.certificate)) → IsWrittenSoFar d first t new
+found_next d first old new s t answer o found x is is_found so_far answers font none finding finished fits appends =
+    let A : Option (Outcome × Option Found) → Type 0 = λ a. IsFoundAnswer s.font s.stage a t.stage in
+    let F : Option Found → Type 0 = λ y. IsOutcomeByFinding s.font s.stage o y t.stage in
+    let outcome : IsOutcomeByFinding s.font s.stage o (Some x) t.stage = subst F is_found (subst A is answers) in
+    let W : FontData → Type 0 = λ y. WritesText first new (TextsBefore y t.stage) in
+    record {
+      font = font ∙ so_far.font;
+      none = none;
+      finding = finding;
+      going = goes_on s.font s.stage t.stage o x outcome;
+      written = subst W (sym font) (texts_next s.font s.stage t.stage o x first old new so_far.written outcome (record { finished = finished; fits = fits }) appends);
+    }
+
+pub fewer_after : (s t : Standing) (answer : Option (Outcome × Option Found)) (o : Outcome) (found : Option Found) → answer ≡ Some (o, found) → t.font ≡ s.font
+    → IsFoundAnswer s.font s.stage answer t.stage → calls_left t.font t.stage < calls_left s.font s.stage
+fewer_after s t answer o found is font answers =
+    let A : Option (Outcome × Option Found) → Type 0 = λ a. IsFoundAnswer s.font s.stage a t.stage in
+    let L : FontData → Type 0 = λ d. calls_left d t.stage < calls_left s.font s.stage in
+    subst L (sym font) (fewer_left s.font s.stage t.stage o found (subst A is answers))
+
+-- all of them, and the whole certificate
+
+last_section : (d : FontData) (s : Stage) → IsLast d s → (s ≡ over → ⊥) → AreSectionsFrom d s []
+last_section d s none_is_left going = absurd (going refl)
+last_section d s (last_glyph f p known id last) going = all_there f p known id last
+
+pub sections_written : (d : FontData) (first now : Option (List ℕ)) (s t : Standing) (answer : Option (Outcome × Option Found)) → answer ≡ None
+    → IsWrittenSoFar d first s now → IsFoundAnswer s.font s.stage answer t.stage → WritesText first now (AreSectionsFrom d at_start)
+sections_written d first now s t answer is so_far answers =
+    let A : Option (Outcome × Option Found) → Type 0 = λ a. IsFoundAnswer s.font s.stage a t.stage in
+    let last = (subst A is answers).0 in
+    let (text, below, appended) = so_far.written in
+    let B : List ℕ → Type 0 = λ x. AreSectionsFrom s.font at_start x in
+    let S : FontData → Type 0 = λ y. AreSectionsFrom y at_start text in
+    (text, subst S so_far.font (subst B (append-nil text) (below [] (last_section s.font s.stage last so_far.going))), appended)
+
+pub certificate_written : (d : FontData) (n : ℕ) (start first now : Option (List ℕ)) → Appends start first (header_text Four n) → n ≡ length d.glyphs + 2 → n < 2 ^ 32
+    → WritesText first now (AreSectionsFrom d at_start) → WritesText start now (IsPassingCertificate d)
+certificate_written d n start first now header sections few (text, all, appended) =
+    let H : ℕ → Type 0 = λ k. Appends start first (header_text Four k) in
+    let whole : List ℕ = header_text Four (length d.glyphs + 2) ++ text in
+    (whole, is_passing d whole (omega arith) (certificate_of d text all), appends_both start first now (header_text Four (length d.glyphs + 2)) text (subst H sections header) appended)

@@ -20,7 +20,7 @@ use Rattle.tt_font.specs.Files.{font_glyph_count, font_glyphs, font_outlines}
 use Rattle.tt_font.specs.Locations.{glyph_bytes, loca_format}
 use Rattle.tt_font.specs.Reading.{FontData, GlyphData, Reads, glyph_at, no_glyph}
 use Rattle.tt_code.specs.declared.limits.Limits.{Limits}
-use Rattle.hintcheck.specs.FontLooks.{AreFewBytes, IsFontInRange}
+use Rattle.hintcheck.specs.FontPrograms.{AreFewBytes, IsFontInRange}
 
 -- lists of bytes
 

@@ -16,6 +16,9 @@ use Rattle.tt_cert.specs.declared.fault.ProgramFault.{ProgramFault}
 use Rattle.tt_cert.specs.declared.fault.ProgramFault.TheVariants.{Refused, OutOfMemory}
 use Rattle.tt_cert.proofs.FillingLaws.{ends_listed}
 use Rattle.tt_font.specs.Reading.{FontData}
+use Rattle.tt_cert.specs.Contents.{family_of}
+use Rattle.tt_find.specs.declared.finder.Found.{Found}
+use Rattle.hintcheck.specs.FindingSessions.{IsFoundFor, IsFoundToEnd}
 use Rattle.hintcheck.specs.FontLooks.{AreAllRefused, ComesToEnd, IsKnownAtEnd}
 use Rattle.hintcheck.specs.FontPrograms.{cvt_refused, cvt_subject, font_refused, font_subject}
 use Rattle.hintcheck.specs.Looks.{IfRefused, IsAccepted, IsListed, IsLookedAt, told_at}
@@ -119,6 +122,21 @@ known_of_accepted x is family n found functions copy a size_is some e copied =
     let S : Option (Bor (List (ℕ × ℕ))) → Type 0 = λ o. IfSome o (λ fs. (end : State) × (family ([], n) ≡ Some end) × (fs.now ≡ end.functions)) in
     let (end, at, same) = subst S e some in
     known_at_end x is family end copy a (ap (λ (k : ℕ). family ([], k)) (sym size_is) ∙ at) (copied ∙ same)
+
+-- so it is with what is found with it
+pub found_to_end : (x : Subject) (is : List Instruction) (found : Found) (n : ℕ) (o : Option (Bor (List (ℕ × ℕ)))) (functions : Bor (List (ℕ × ℕ))) (copy : List (ℕ × ℕ))
+    → IsFoundFor x is found → n ≡ size is → IfSome o (λ fs. (end : State) × (family_of found.certificate ([], n) ≡ Some end) × (fs.now ≡ end.functions)) → o ≡ Some functions
+    → copy ≡ functions.now → IsFoundToEnd x is found copy
+found_to_end x is found n o functions copy is_found size_is some e copied =
+    let family = family_of found.certificate in
+    let S : Option (Bor (List (ℕ × ℕ))) → Type 0 = λ q. IfSome q (λ fs. (end : State) × (family ([], n) ≡ Some end) × (fs.now ≡ end.functions)) in
+    let (end, at, same) = subst S e some in
+    record { is_found = is_found; end = end; at_end = ap (λ (k : ℕ). family ([], k)) (sym size_is) ∙ at; functions_are = sym (copied ∙ same) }
+
+-- what is found knows its functions at the program's end
+pub known_of_found : (x : Subject) (is : List Instruction) (found : Found) (functions : List (ℕ × ℕ)) → IsFoundToEnd x is found functions → IsKnownAtEnd x is functions
+known_of_found x is found functions ends =
+    known_at_end x is (family_of found.certificate) ends.end functions ends.is_found.listing.0 ends.at_end (sym ends.functions_are)
 
 -- the font program is looked at in its setting
 pub font_looked : (d : FontData) (s : Setting) (is : List Instruction) (limits : Limits) (cvt : ℕ) → IsCutInto (font_subject d) is → setting_of s ≡ font_setting (programs_of s)

@@ -14,8 +14,7 @@ use Rattle.tt_abs.specs.StateFlow.{Place}
 use Rattle.tt_abs.proofs.Soundness.{good_is_safe}
 use Rattle.tt_cert.specs.GoodFamilies.{IsGoodFamily}
 use Rattle.tt_font.specs.Reading.{FontData, GlyphData}
-use Rattle.hintcheck.specs.FontPrograms.{AreRefused, IsSafeFont, IsSafeGlyph, IsVerdict, all_looked_at, accepted, refused, cvt_refused, cvt_subject, font_of, font_refused, font_subject, glyph_subject, looked_at_all, one_glyph_font}
-use Rattle.hintcheck.specs.FontLooks.{AreFewBytes, IsFontInRange}
+use Rattle.hintcheck.specs.FontPrograms.{AreFewBytes, AreRefused, IsFontInRange, IsSafeFont, IsSafeGlyph, IsVerdict, accepted, all_looked_at, cvt_refused, cvt_subject, font_of, font_refused, font_subject, glyph_subject, looked_at_all, one_glyph_font, refused}
 use Rattle.hintcheck.specs.CheckedFonts.{EndsGood, HasGoodFamilies}
 use Rattle.hintcheck.specs.Programs.{EndsWith, HasGoodFamily, HasLeastFamily, Subject}
 use Rattle.hintcheck.specs.Verdicts.{Judgement}
@@ -97,7 +96,7 @@ good_of_least font known n id g h = record {
 -- the font
 
 -- the functions at the end of a good family
-good_end : (x : Subject) (is : List Instruction) (functions : List (ℕ × ℕ)) → EndsWith x is functions → EndsGood x is functions
+pub good_end : (x : Subject) (is : List Instruction) (functions : List (ℕ × ℕ)) → EndsWith x is functions → EndsGood x is functions
 good_end x is functions ends = record {
   cut = ends.cut;
   family = ends.family;

@@ -19,3 +19,4 @@ pub mod UpgradeChecks
 pub mod UpgradeSteps
 pub mod SessionSteps
 pub mod SessionRuns
+pub mod FindingSteps

@@ -33,7 +33,9 @@ use Rattle.tt_cert.specs.Spots.{spot_of}
 use Rattle.tt_cert.specs.declared.fault.ProgramFault.{ProgramFault}
 use Rattle.tt_cert.specs.declared.fault.ProgramFault.TheVariants as fault
 use Rattle.tt_cert.specs.declared.spot.Spot.{Spot}
-use Rattle.tt_find.specs.Found.{HasLeastFilling, IsJustified, IsLeast, IsNeverEnding, LacksEnd, NamesPlace, NoneIsGood, too_long, refused, apart, too_many, never_ends}
+use Rattle.tt_find.specs.Found.{AreLeastContexts, HasLeastFilling, IsJustified, IsLeast, IsNeverEnding, LacksEnd, NamesPlace, NeedsAll, NoneIsGood, too_long, refused, apart, too_many, never_ends}
+use Rattle.tt_find.specs.declared.finder.Found.{Found}
+use Rattle.hintcheck.specs.FindingSessions.{IsFoundFor}
 use Rattle.hintcheck.specs.Programs.{HasGoodFamily, HasLeastFamily, IsCause, IsCutInto, IsRefusal, Subject, no_family, program_at}
 use Rattle.hintcheck.specs.Looks.{IfRefused, IsAccepted, IsLookedAt, told_at}
 use Rattle.tt_cert_file.specs.Rules.{AreCallsInTurn}
@@ -166,28 +168,6 @@ glyph_no_good x is points contours k c h p r justified (inr none) g = none_known
 
 -- the answers
 
--- a family that is found and checked: the filling that the check finds good is the least one
-pub accepted : {F : Type 0} (x : Subject) (is : List Instruction) (s : Setting) (fs : List (ℕ × ℕ)) (updates : ℕ) (found : Contents) (r : Result Contents F) → IsCutInto x is → x.setting is ≡ s
-    → x.functions ≡ fs → HasFlow s fs → HasOneGoodFilling → HasLeastFilling s fs updates (family_of found) → IfOk r (λ a. a ≡ found) → IfOk r (λ a. HasGoodFilling s fs (family_of a))
-    → IfOk r (λ a. IsAccepted x is (family_of a))
-accepted x is s fs updates found (Err e) c es ef h one least same good = tt
-accepted x is s fs updates found (Ok a) c es ef h one least same (filling, fills, good) =
-    let L : Contents → Type 0 = λ t. HasLeastFilling s fs updates (family_of t) in
-    let mine = subst L (sym same) least in
-    let alike : (p : Place) → mine.filling p ≡ filling p = one s fs (family_of a) mine.filling filling mine.fills mine.good fills good in
-    let whole : mine.filling ≡ filling = λ i p. alike p i in
-    let Q : (Place → Option State) → Type 0 = λ t. IsLeast s fs t in
-    let R : (Place → Option State) → Type 0 = λ t. (p : Place) (b : State) → t p ≡ Some b → FitsLimits s b in
-    record {
-      cut = c;
-      filling = filling;
-      fills = of_subject (λ t f. IsFilling t (family_of a) filling) x is s fs es ef fills;
-      good = of_subject (λ t f. IsGoodFamily t f filling) x is s fs es ef good;
-      least = of_subject (λ t f. IsLeast t f filling) x is s fs es ef (subst Q whole mine.least);
-      within = of_subject (λ t f. (p : Place) (b : State) → filling p ≡ Some b → FitsLimits t b) x is s fs es ef (subst R whole mine.within);
-      safe = of_subject (λ t f. IsSafe t f filling) x is s fs es ef (good_is_safe s h.range h.short fs h.rises filling good.good);
-    }
-
 -- a family that is found is accepted
 pub accepted_found : (x : Subject) (is : List Instruction) (s : Setting) (fs : List (ℕ × ℕ)) (updates : ℕ) (found : Contents) → IsCutInto x is → x.setting is ≡ s
     → x.functions ≡ fs → HasFlow s fs → HasLeastFilling s fs updates (family_of found) → IsAccepted x is (family_of found)
@@ -201,6 +181,21 @@ accepted_found x is s fs updates found c es ef h least =
       within = of_subject (λ t f. (p : Place) (b : State) → least.filling p ≡ Some b → FitsLimits t b) x is s fs es ef least.within;
       safe = of_subject (λ t f. IsSafe t f least.filling) x is s fs es ef (good_is_safe s h.range h.short fs h.rises least.filling least.good.good);
     }
+
+-- and so it is with all that is found with it
+pub found_for : (x : Subject) (is : List Instruction) (s : Setting) (fs : List (ℕ × ℕ)) (found : Found) → x.setting is ≡ s → x.functions ≡ fs
+    → IsAccepted x is (family_of found.certificate) → HasLeastFilling s fs found.updates (family_of found.certificate) → AreLeastContexts s fs found.certificate.contexts
+    → NeedsAll s fs (family_of found.certificate) → IsFoundFor x is found
+found_for x is s fs found es ef accepted least contexts needed = record {
+  listing = (accepted, of_subject (λ t f. NeedsAll t f (family_of found.certificate)) x is s fs es ef needed);
+  filling = of_subject (λ t f. HasLeastFilling t f found.updates (family_of found.certificate)) x is s fs es ef least;
+  contexts = of_subject (λ t f. AreLeastContexts t f found.certificate.contexts) x is s fs es ef contexts;
+}
+
+-- what passes the check is what was found
+pub still_found : (r : Result Found ProgramFault) (found : Found) (P : Found → Type 0) → IfOk r (λ a. a ≡ found) → P found → IfOk r P
+still_found (Ok a) found P same h = subst P (sym same) h
+still_found (Err e) found P same h = tt
 
 -- a refusal that is told
 pub told : (called : Name) (f : ProgramFault) (spot : Spot) (offset : ℕ) (r : Reason) (Is : AnyRefused → Type 0) → f ≡ fault.Refused spot offset r → Is (told_at called spot offset r)

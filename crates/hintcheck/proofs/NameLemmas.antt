@@ -9,7 +9,7 @@ use Rattle.std.proofs.lemmas.Fmt.{decimal_nonempty}
 use Rattle.std.specs.Result.{OkIff, result_ok}
 use Rattle.std.proofs.lemmas.Option.{slice_get_within}
 use Rattle.tt_font.specs.Reading.{FontData, GlyphData}
-use Rattle.hintcheck.specs.FontLooks.{IsFontInRange}
+use Rattle.hintcheck.specs.FontPrograms.{IsFontInRange}
 use Rattle.hintcheck.specs.Listing.{IsOf16Bits, IsPlain, Names, program_in}
 use Rattle.tt_cert_file.specs.Names.{text_of}
 use Rattle.tt_cert_file.specs.declared.name.Name.{Name}

@@ -1,10 +1,9 @@
 -- How far the look at a font's programs has come. (Representation: no public clause cites it.)
-use Rattle.std.specs.Prelude.{◌≡◌, ℕ, ◌<◌, ◌^◌, List, ◌++◌, Some, drop, length, slice_get}
+use Rattle.std.specs.Prelude.{◌≡◌, ℕ, List, ◌++◌, drop}
 use Rattle.tt_code.specs.Cut.{Instruction}
 use Rattle.tt_code.specs.Fonts.{Font}
 use Rattle.tt_code.specs.Settings.{Kind, FontProgram, CvtProgram, GlyphProgram}
 use Rattle.tt_abs.specs.Entries.{Rises}
-use Rattle.tt_abs.specs.Ranges.{AreBytes}
 use Rattle.tt_abs.specs.Settings.{programs_of}
 use Rattle.tt_abs.specs.StateFlow.{FunctionsFit}
 use Rattle.tt_abs.specs.declared.setting.Setting.{Setting}
@@ -14,18 +13,6 @@ use Rattle.hintcheck.specs.Looks.{IsLookedAt}
 use Rattle.hintcheck.specs.Programs.{EndsWith, Subject}
 use Rattle.hintcheck.specs.declared.fonts.Common.{Common}
 use Rattle.hintcheck.specs.declared.report.Refused.{Refused}
-
--- fewer than 2^31 bytes
-pub record AreFewBytes (xs : List ℕ) : Type 0 where
-  pub bytes : AreBytes xs
-  pub few : length xs < 2 ^ 31
-
--- So is each program of the font; and the greatest depth is a number of 16 bits.
-pub record IsFontInRange (d : FontData) : Type 0 where
-  pub depth : d.limits.stack < 2 ^ 16
-  pub fpgm : AreFewBytes d.fpgm
-  pub prep : AreFewBytes d.prep
-  pub glyphs : (id : ℕ) (g : GlyphData) → slice_get d.glyphs id ≡ Some g → AreFewBytes g.program
 
 -- a program is looked at in this setting
 abbrev pub IsOfSubject : Setting → Type 0

@@ -1,9 +1,10 @@
 -- The programs of a font, what it means that they are safe, and what a verdict says of them.
-use Rattle.std.specs.Prelude.{◌≡◌, ℕ, ◌+◌, ◌≤◌, List, [], ◌∷◌, Some, length, slice_get}
+use Rattle.std.specs.Prelude.{◌≡◌, ℕ, ◌+◌, ◌≤◌, ◌<◌, ◌^◌, List, [], ◌∷◌, Some, length, slice_get}
 use Rattle.tt_code.specs.Cut.{Instruction, IsCut}
 use Rattle.tt_code.specs.Grammar.{IsStructured}
 use Rattle.tt_code.specs.Runs.{NeverFaults}
 use Rattle.tt_code.specs.Fonts.{Font, font_setting, cvt_setting, glyph_setting, StartsFontProgram, StartsCvtProgram, StartsGlyphProgram}
+use Rattle.tt_abs.specs.Ranges.{AreBytes}
 use Rattle.tt_font.specs.Maxp.{limits_of}
 use Rattle.tt_font.specs.Reading.{FontData, GlyphData}
 use Rattle.hintcheck.specs.Programs.{Subject, EndsWith, HasLeastFamily, IsRefusal}
@@ -18,6 +19,18 @@ font_of d f p = record { limits = d.limits; cvt = d.cvt_count; font_program = f;
 -- a font with one glyph alone and without a font program and a CVT program, by the fields of a `maxp` table and the number of control values
 abbrev pub one_glyph_font : List ℕ → ℕ → GlyphData → FontData
 one_glyph_font maxp cvt glyph = record { limits = limits_of maxp; cvt_count = cvt; fpgm = []; prep = []; glyphs = glyph ∷ []; component_reads = 0 }
+
+-- fewer than 2^31 bytes
+pub record AreFewBytes (xs : List ℕ) : Type 0 where
+  pub bytes : AreBytes xs
+  pub few : length xs < 2 ^ 31
+
+-- Each program of the font has fewer than 2^31 bytes, and the greatest depth is a number of 16 bits, as `read_font` gives it.
+pub record IsFontInRange (d : FontData) : Type 0 where
+  pub depth : d.limits.stack < 2 ^ 16
+  pub fpgm : AreFewBytes d.fpgm
+  pub prep : AreFewBytes d.prep
+  pub glyphs : (id : ℕ) (g : GlyphData) → slice_get d.glyphs id ≡ Some g → AreFewBytes g.program
 
 -- The glyph's program is no longer than maxSizeOfInstructions, it can be cut, its instructions are structured, and for every number of
 -- steps and every value that is measured, stored or computed, no run of the hint machine reaches a fault.

@@ -16,4 +16,5 @@ pub mod CertificateTexts
 pub mod Upgrades
 pub mod UpgradeFaults
 pub mod Sessions
+pub mod FindingSessions
 pub mod SessionStages

@@ -15,6 +15,8 @@ use Rattle.tt_cert.specs.declared.spot.Spot.{Spot}
 use Rattle.tt_find.specs.Found.{IsLeast}
 use Rattle.hintcheck.specs.Programs.{IsCutInto, Subject, program_at}
 use Rattle.tt_cert_file.specs.declared.name.Name.{Name}
+use Rattle.hintcheck.specs.declared.look.Search.{Search}
+use Rattle.hintcheck.specs.declared.look.Search.TheVariants as search
 use Rattle.hintcheck.specs.declared.report.Refused.{Refused as AnyRefused}
 
 -- this is the program that is looked at in this setting
@@ -47,3 +49,9 @@ IfRefused called (OutOfMemory e) Is = Unit {0}
 abbrev pub IsListed : Name → ProgramFault → List AnyRefused → List AnyRefused → Type 0
 IsListed called (Refused spot offset r) old new = new ≡ old ++ told_at called spot offset r ∷ []
 IsListed called (OutOfMemory e) old new = ⊥
+
+-- a program is looked at for its certificate
+abbrev pub IsForCertificate : Search → Type 0
+IsForCertificate search.Verdict = ⊥
+IsForCertificate search.Certificate = Unit {0}
+IsForCertificate search.Again = Unit {0}

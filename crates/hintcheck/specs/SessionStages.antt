@@ -1,14 +1,19 @@
 -- What a session keeps of a font's programs. (Representation: no public clause cites it.)
-use Rattle.std.specs.Prelude.{◌≡◌, ℕ, ◌+◌, ◌≤◌, List, [], ◌∷◌, ◌++◌, Option, Some, None, alloc_error, length, Result, Ok, Err}
+use Rattle.std.specs.Prelude.{◌≡◌, ℕ, ◌+◌, ◌≤◌, List, [], ◌∷◌, ◌++◌, Option, Some, None, alloc_error, length, Result, Ok, Err, slice_get}
+use Rattle.std.specs.declared.alloc.AllocError.{AllocError}
+use Rattle.tt_code.specs.Cut.{Instruction}
 use Rattle.tt_cert.specs.declared.fault.ProgramFault.{ProgramFault}
 use Rattle.tt_cert.specs.declared.fault.ProgramFault.TheVariants as program
 use Rattle.tt_cert_file.specs.Answers.{input_at}
 use Rattle.tt_cert_file.specs.Reading.{header_at}
 use Rattle.tt_cert_file.specs.declared.form.Form.{Form}
+use Rattle.tt_cert_file.specs.declared.form.Form.TheVariants.{Four}
 use Rattle.tt_cert_file.specs.declared.name.Name.{Name}
-use Rattle.tt_font.specs.Reading.{FontData}
+use Rattle.tt_font.specs.Reading.{FontData, GlyphData}
+use Rattle.hintcheck.specs.CertificateTexts.{IsEndedText, IsGlyphText, IsReadableListing}
 use Rattle.hintcheck.specs.CheckedFonts.{IsGoodAtEnd}
-use Rattle.hintcheck.specs.FontPrograms.{cvt_subject, font_subject}
+use Rattle.hintcheck.specs.FontLooks.{IsKnownAtEnd}
+use Rattle.hintcheck.specs.FontPrograms.{cvt_subject, font_of, font_subject, glyph_subject}
 use Rattle.hintcheck.specs.Looks.{told_at}
 use Rattle.hintcheck.specs.Sessions.{Stage, after_font, at_glyph, at_start, over, refused_as}
 use Rattle.hintcheck.specs.declared.certified.CheckFontFault.{CheckFontFault}
@@ -51,6 +56,19 @@ KeepsGood d (at_glyph f p known id) =
     ((functions : List (ℕ × ℕ)) × IsGoodAtEnd (font_subject d) f functions × IsGoodAtEnd (cvt_subject d f functions) p known) × (id ≤ length d.glyphs)
 KeepsGood d over = Unit {0}
 
+-- So it is with the least families, where no certificate is read.
+abbrev pub KeepsKnown : FontData → Stage → Type 0
+KeepsKnown d at_start = Unit {0}
+KeepsKnown d (after_font f functions) = IsKnownAtEnd (font_subject d) f functions
+KeepsKnown d (at_glyph f p known id) =
+    ((functions : List (ℕ × ℕ)) × IsKnownAtEnd (font_subject d) f functions × IsKnownAtEnd (cvt_subject d f functions) p known) × (id ≤ length d.glyphs)
+KeepsKnown d over = Unit {0}
+
+-- what a session keeps that has read no certificate
+abbrev pub KeepsFound : Option (Form × ℕ) → FontData → Stage → Type 0
+KeepsFound None d stage = KeepsKnown d stage
+KeepsFound (Some read) d stage = Unit {0}
+
 -- The header was read, of this form and with as many sections as the font has programs.
 abbrev pub HasHeader : FontData → Form → Option (List ℕ) → Option (List ℕ) → Type 0
 HasHeader d form old new = (place : ℕ) × (header_at (input_at 0 old) ≡ Ok ((form, length d.glyphs + 2), input_at place new))
@@ -60,7 +78,23 @@ abbrev pub TellsRefusal : Name → ProgramFault → Result Outcome CheckFontFaul
 TellsRefusal called (program.Refused spot offset r) told = told ≡ Ok (refused_as called (told_at called spot offset r))
 TellsRefusal called (program.OutOfMemory e) told = told ≡ Err (fault.OutOfMemory e)
 
+-- what is told of a program of this name that the fault refuses; where memory ran out, that
+abbrev pub TellsOutcome : Name → ProgramFault → Result Outcome AllocError → Type 0
+TellsOutcome called (program.Refused spot offset r) told = told ≡ Ok (refused_as called (told_at called spot offset r))
+TellsOutcome called (program.OutOfMemory e) told = told ≡ Err e
+
 -- the refused program, if there is one, stands last in the list
 abbrev pub ListsOutcome : List Refused → Option Refused → List Refused → Type 0
 ListsOutcome old None new = new ≡ old
 ListsOutcome old (Some r) new = new ≡ old ++ r ∷ []
+
+-- The sections of the programs from a stage on.
+pub data AreSectionsFrom (d : FontData) : Stage → List ℕ → Type 0 where
+  all_there : (f p : List Instruction) (known : List (ℕ × ℕ)) (id : ℕ) → id ≡ length d.glyphs → AreSectionsFrom d (at_glyph f p known id) []
+  font_first : (f : List Instruction) (functions : List (ℕ × ℕ)) (text rest : List ℕ) → IsEndedText IsReadableListing Four (font_subject d) f text functions
+      → AreSectionsFrom d (after_font f functions) rest → AreSectionsFrom d at_start (text ++ rest)
+  cvt_next : (f p : List Instruction) (functions known : List (ℕ × ℕ)) (text rest : List ℕ) → IsEndedText IsReadableListing Four (cvt_subject d f functions) p text known
+      → AreSectionsFrom d (at_glyph f p known 0) rest → AreSectionsFrom d (after_font f functions) (text ++ rest)
+  glyph_next : (f p : List Instruction) (known : List (ℕ × ℕ)) (id : ℕ) (g : GlyphData) (text rest : List ℕ) → slice_get d.glyphs id ≡ Some g
+      → IsGlyphText IsReadableListing Four (glyph_subject (font_of d f p) known id g) text → AreSectionsFrom d (at_glyph f p known (id + 1)) rest
+      → AreSectionsFrom d (at_glyph f p known id) (text ++ rest)

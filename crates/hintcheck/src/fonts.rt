@@ -1,47 +1,51 @@
 //! The verdict on a font.
 
-ghost use Rattle.std.specs.Prelude.{◌≡◌, ℕ, ◌<◌, ◌^◌, [], IfErr, IfOk, length};
+ghost use Rattle.std.specs.Prelude.{◌≡◌, ℕ, ◌<◌, ◌^◌, List, [], IfErr, IfOk, length};
 ghost use Rattle.tt_abs.specs.Entries.{Rises};
 ghost use Rattle.tt_abs.specs.Settings.{programs_of, setting_of};
 ghost use Rattle.tt_abs.specs.StateFlow.{FunctionsFit};
+ghost use Rattle.tt_code.specs.Cut.{Instruction};
 ghost use Rattle.tt_code.specs.Fonts.{cvt_setting as setting_of_cvt_program, font_setting};
 ghost use Rattle.tt_font.specs.Conditions.{TestsWithMemory};
 ghost use Rattle.tt_font.specs.FileFaults.{font_fault};
 ghost use Rattle.tt_font.specs.GlyphParts.{glyph_data};
 ghost use Rattle.tt_font.specs.Reading.{FontData, Reads};
-ghost use Rattle.hintcheck.specs.FontLooks.{AreAllRefused, ComesToEnd, IsFontInRange, IsKnownAtEnd, IsOfSubject, font_in, subject_in};
-ghost use Rattle.hintcheck.specs.FontPrograms.{AreRefused, IsSafeFont, IsVerdict, cvt_subject, font_of, font_subject};
-ghost use Rattle.hintcheck.specs.Looks.{IfRefused, IsListed, IsLookedAt};
+ghost use Rattle.hintcheck.specs.FindingSessions.{IsFoundFor, IsFoundToEnd};
+ghost use Rattle.hintcheck.specs.FontLooks.{AreAllRefused, ComesToEnd, IsKnownAtEnd, IsOfSubject, font_in, subject_in};
+ghost use Rattle.hintcheck.specs.FontPrograms.{AreRefused, IsFontInRange, IsSafeFont, IsVerdict, cvt_subject, font_of, font_subject};
+ghost use Rattle.hintcheck.specs.Looks.{IfRefused, IsForCertificate, IsListed, IsLookedAt};
 ghost use Rattle.hintcheck.specs.Programs.{HasGoodFamily, HasLeastFamily, IsRefusal, Subject};
 
-use crate::look::{cut, list_refused, look};
+use crate::look::{Search, cut, list_refused, look};
 use crate::report::{Name, Refused, Verdict};
 use std::alloc::{AllocError, Global};
 use tt_abs::Setting;
 use tt_cert::ProgramFault;
 use tt_code::Program;
-use tt_find::Finder;
+use tt_find::{Finder, Found};
 use tt_font::{Font, FontFault, GlyphPart};
 
-/// The functions that are known where the font program or the CVT program of this setting ends, which is looked at in a finder's memory.
-fn end_functions(
+/// Looks at the font program or the CVT program of this setting: what is found for it, and the functions that are known where it ends.
+fn look_to_end(
     alloc: Global,
     finder: &mut Finder,
     setting: &Setting<'_>,
-) -> Result<Vec<(u16, u32)>, ProgramFault>
+    search: Search,
+) -> Result<(Vec<(u16, u32)>, Found), ProgramFault>
     requires subject { IsOfSubject setting.now }
     requires ends { ComesToEnd (setting_of setting.now).kind }
     requires rises { Rises setting.now.start.now }
     requires fits { FunctionsFit (setting_of setting.now) setting.now.start.now }
-    ensures known { (x : Subject) → IsLookedAt x setting.now → IfOk result (λ functions. IsKnownAtEnd x setting.now.main.now functions.items) }
+    ensures known { (x : Subject) → IsLookedAt x setting.now → IfOk result (λ e. IsKnownAtEnd x setting.now.main.now e.0.items) }
+    ensures found { IsForCertificate search → (x : Subject) → IsLookedAt x setting.now
+        → IfOk result (λ e. IsFoundToEnd x setting.now.main.now e.1 e.0.items) }
     ensures refused { (x : Subject) → IsLookedAt x setting.now → IfErr result (λ fault. IfRefused x.name fault (IsRefusal x)) }
 {
-    let certificate = look(alloc, finder, setting)?;
+    let found = look(alloc, finder, setting, search)?;
     // An accepted font program or CVT program has a state at its end.
-    let functions = certificate.end_functions(setting.main.len()).unwrap();
+    let functions = found.certificate.end_functions(setting.main.len()).unwrap();
     let copy = Vec::from_slice(alloc, functions)?;
-    finder.take_back(certificate);
-    Ok(copy)
+    Ok((copy, found))
 }
 
 /// A font program or a CVT program, and the functions that are known where it ends, by rising number.
@@ -51,23 +55,26 @@ pub(crate) struct Ended<'a> {
     pub(crate) functions: Vec<(u16, u32)>,
 }
 
-/// Looks at the font program.
+/// Looks at the font program: what is known where it ends, and what is found for it.
 ///
 /// # Errors
 /// `Refused`; `OutOfMemory`.
-fn look_at_font_program<'a>(
+pub(crate) fn look_at_font_program<'a>(
     alloc: Global,
     finder: &mut Finder,
     font: &Font<'a>,
-) -> Result<Ended<'a>, ProgramFault>
+    search: Search,
+) -> Result<(Ended<'a>, Found), ProgramFault>
     requires { IsFontInRange font.now }
-    ensures known { IfOk result (λ fpgm. IsKnownAtEnd (font_subject font.now) fpgm.program fpgm.functions.items) }
+    ensures known { IfOk result (λ e. IsKnownAtEnd (font_subject font.now) e.0.program e.0.functions.items) }
+    ensures found { IsForCertificate search
+        → IfOk result (λ e. IsFoundToEnd (font_subject font.now) e.0.program e.1 e.0.functions.items) }
     ensures refused { IfErr result (λ fault. IfRefused Name.Font fault (IsRefusal (font_subject font.now))) }
 {
     let program = cut(alloc, font.fpgm())?;
     let setting = Setting::for_font_program(font.limits(), font.cvt_count(), &program);
-    let functions = end_functions(alloc, finder, &setting)?;
-    Ok(Ended { program, functions })
+    let (functions, found) = look_to_end(alloc, finder, &setting, search)?;
+    Ok((Ended { program, functions }, found))
 }
 
 /// The setting of the CVT program, which starts with the functions that are known where the font program ends.
@@ -85,25 +92,28 @@ pub(crate) fn cvt_setting<'a>(
     setting.for_cvt_program(program, &fpgm.functions)
 }
 
-/// Looks at the CVT program, in a font with this font program.
+/// Looks at the CVT program, in a font with this font program: what is known where it ends, and what is found for it.
 ///
 /// # Errors
 /// `Refused`; `OutOfMemory`.
-fn look_at_cvt_program<'a>(
+pub(crate) fn look_at_cvt_program<'a>(
     alloc: Global,
     finder: &mut Finder,
     font: &Font<'a>,
     fpgm: &Ended<'_>,
-) -> Result<Ended<'a>, ProgramFault>
+    search: Search,
+) -> Result<(Ended<'a>, Found), ProgramFault>
     requires range { IsFontInRange font.now }
     requires ended { IsKnownAtEnd (font_subject font.now) fpgm.now.program fpgm.now.functions.items }
-    ensures known { IfOk result (λ prep. IsKnownAtEnd (cvt_subject font.now fpgm.now.program fpgm.now.functions.items) prep.program prep.functions.items) }
+    ensures known { IfOk result (λ e. IsKnownAtEnd (cvt_subject font.now fpgm.now.program fpgm.now.functions.items) e.0.program e.0.functions.items) }
+    ensures found { IsForCertificate search
+        → IfOk result (λ e. IsFoundToEnd (cvt_subject font.now fpgm.now.program fpgm.now.functions.items) e.0.program e.1 e.0.functions.items) }
     ensures refused { IfErr result (λ fault. IfRefused Name.Cvt fault (IsRefusal (cvt_subject font.now fpgm.now.program fpgm.now.functions.items))) }
 {
     let program = cut(alloc, font.prep())?;
     let setting = cvt_setting(font, fpgm, &program);
-    let functions = end_functions(alloc, finder, &setting)?;
-    Ok(Ended { program, functions })
+    let (functions, found) = look_to_end(alloc, finder, &setting, search)?;
+    Ok((Ended { program, functions }, found))
 }
 
 /// What the glyph programs of a font share: the setting of its CVT program, and the functions that are known where that one ends, by
@@ -114,8 +124,35 @@ pub(crate) struct Common<'a> {
     pub(crate) functions: &'a [(u16, u32)],
 }
 
-/// Looks at the program of a glyph, if it has instructions, in a finder's memory, which the finder has again where memory doesn't run
-/// out.
+/// Looks at the program of a glyph: what is found for it.
+///
+/// # Errors
+/// `Refused`; `OutOfMemory`.
+pub(crate) fn look_at_glyph_program(
+    alloc: Global,
+    finder: &mut Finder,
+    common: &Common<'_>,
+    glyph: &GlyphPart<'_>,
+    search: Search,
+) -> Result<Found, ProgramFault>
+    requires few { length glyph.now.program.now < 2 ^ 31 }
+    requires rises { Rises common.now.functions.now }
+    requires fits { FunctionsFit (font_setting (font_in common.now)) common.now.functions.now }
+    ensures least { (id : ℕ) → IfOk result (λ _. HasLeastFamily (subject_in common.now id (glyph_data glyph.now))) }
+    ensures found { IsForCertificate search → (id : ℕ)
+        → IfOk result (λ found. (instructions : List Instruction) × IsFoundFor (subject_in common.now id (glyph_data glyph.now)) instructions found) }
+    ensures refused { (id : ℕ) → IfErr result (λ fault. IfRefused (Name.Glyph id) fault (IsRefusal (subject_in common.now id (glyph_data glyph.now)))) }
+    ensures none_good { (id : ℕ) → IfErr result (λ fault. IfRefused (Name.Glyph id) fault (λ _. HasGoodFamily (subject_in common.now id (glyph_data glyph.now)) → ⊥)) }
+{
+    let program = cut(alloc, glyph.program)?;
+    let setting = common
+        .setting
+        .for_glyph_program(glyph.points, glyph.contours, &program, common.functions);
+    look(alloc, finder, &setting, search)
+}
+
+/// Looks at the program of a glyph for the verdict, if it has instructions, in a finder's memory, which the finder has again where memory
+/// doesn't run out.
 ///
 /// # Errors
 /// `Refused`; `OutOfMemory`.
@@ -136,12 +173,8 @@ pub(crate) fn look_at_glyph(
     if glyph.program.is_empty() {
         return Ok(());
     }
-    let program = cut(alloc, glyph.program)?;
-    let setting = common
-        .setting
-        .for_glyph_program(glyph.points, glyph.contours, &program, common.functions);
-    let certificate = look(alloc, finder, &setting)?;
-    finder.take_back(certificate);
+    let found = look_at_glyph_program(alloc, finder, common, glyph, Search::Verdict)?;
+    finder.take_back(found.certificate);
     Ok(())
 }
 
@@ -183,14 +216,17 @@ pub(crate) fn refused_programs(alloc: Global, font: &Font<'_>) -> Result<Vec<Ref
     ensures { IfOk result (λ refused. AreAllRefused font.now refused.items) }
 {
     let mut finder = Finder::new(alloc);
-    let fpgm = match look_at_font_program(alloc, &mut finder, font) {
-        Ok(fpgm) => fpgm,
+    let search = Search::Verdict;
+    let (fpgm, found) = match look_at_font_program(alloc, &mut finder, font, search) {
+        Ok(looked_at) => looked_at,
         Err(fault) => return refused_alone(alloc, Name::Font, fault),
     };
-    let prep = match look_at_cvt_program(alloc, &mut finder, font, &fpgm) {
-        Ok(prep) => prep,
+    finder.take_back(found.certificate);
+    let (prep, found) = match look_at_cvt_program(alloc, &mut finder, font, &fpgm, search) {
+        Ok(looked_at) => looked_at,
         Err(fault) => return refused_alone(alloc, Name::Cvt, fault),
     };
+    finder.take_back(found.certificate);
     let common = Common {
         setting: cvt_setting(font, &fpgm, &prep.program),
         functions: &prep.functions,

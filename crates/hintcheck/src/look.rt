@@ -1,6 +1,6 @@
 //! The look at one program: it is cut, a family of abstract states is found for it, and the check of that family decides.
 
-ghost use Rattle.std.specs.Prelude.{◌≡◌, ℕ, ◌<◌, ◌^◌, List, IfErr, IfOk, OnOk, length};
+ghost use Rattle.std.specs.Prelude.{◌≡◌, ◌⊎◌, ℕ, ◌<◌, ◌^◌, List, IfErr, IfOk, OnOk, length};
 ghost use Rattle.tt_code.specs.Cut.{Instruction, IsCut};
 ghost use Rattle.tt_code.specs.Grammar.{IsStructured};
 ghost use Rattle.tt_code.specs.Settings.{GlyphProgram};
@@ -10,19 +10,19 @@ ghost use Rattle.tt_abs.specs.StateFlow.{FunctionsFit};
 ghost use Rattle.tt_cert.specs.Checks.{IsWantOfMemory};
 ghost use Rattle.tt_cert.specs.Contents.{Contents, family_of};
 ghost use Rattle.tt_cert.specs.Fillings.{HasGoodFilling};
-ghost use Rattle.tt_cert_file.specs.Rules.{AreCallsInTurn};
 ghost use Rattle.tt_cert_file.specs.declared.form.Form.{Form};
-ghost use Rattle.tt_find.specs.Found.{NeedsAll};
+ghost use Rattle.tt_find.specs.Found.{AreLeastContexts, HasLeastFilling, IsJustified, IsNeverEnding, NamesPlace, NeedsAll, NoneIsGood};
 ghost use Rattle.hintcheck.specs.CheckedFonts.{IsRefusedBy};
+ghost use Rattle.hintcheck.specs.FindingSessions.{IsFoundFor};
 ghost use Rattle.hintcheck.specs.Programs.{HasGoodFamily, IsCutInto, IsRefusal, Subject, program_at as program_at_spot};
-ghost use Rattle.hintcheck.specs.Looks.{IfRefused, IsAccepted, IsListed, IsLookedAt, told_at};
+ghost use Rattle.hintcheck.specs.Looks.{IfRefused, IsAccepted, IsForCertificate, IsListed, IsLookedAt, told_at};
 
 use crate::report::{Name, Place, Refused};
 use std::alloc::{AllocError, Global};
 use tt_abs::Setting;
-use tt_cert::{Certificate, ProgramFault, Spot, check, one_good_filling};
+use tt_cert::{ProgramFault, Spot, check};
 use tt_code::{CodeFault, Program, Reason};
-use tt_find::Finder;
+use tt_find::{Finder, Found};
 
 /// The program in which a place stands that is reached from a program of this name.
 fn program_at(name: Name, spot: Spot) -> Name
@@ -104,30 +104,65 @@ pub(crate) fn cut<'a>(alloc: Global, bytes: &'a [u8]) -> Result<Program<'a>, Pro
     }
 }
 
-/// The certificate, if the check accepts it; where it doesn't, the finder has its memory.
+/// What is found for a program, if the check accepts it; where it doesn't, the finder has its memory.
 fn checked(
     alloc: Global,
     finder: &mut Finder,
     setting: &Setting<'_>,
-    certificate: Certificate,
-) -> Result<Certificate, ProgramFault>
+    found: Found,
+) -> Result<Found, ProgramFault>
     requires { Rises setting.now.start.now }
-    ensures same { IfOk result (λ accepted. accepted ≡ certificate) }
-    ensures filling { IfOk result (λ accepted. HasGoodFilling (setting_of setting.now) setting.now.start.now (family_of accepted)) }
-    ensures exact { HasGoodFilling (setting_of setting.now) setting.now.start.now (family_of certificate) → IfErr result IsWantOfMemory }
+    ensures same { IfOk result (λ accepted. accepted ≡ found) }
+    ensures exact { HasGoodFilling (setting_of setting.now) setting.now.start.now (family_of found.certificate) → IfErr result IsWantOfMemory }
 {
-    match check(alloc, setting, &certificate) {
-        Ok(()) => Ok(certificate),
+    match check(alloc, setting, &found.certificate) {
+        Ok(()) => Ok(found),
         Err(fault) => {
-            finder.take_back(certificate);
+            finder.take_back(found.certificate);
             Err(fault)
         }
     }
 }
 
+/// What a program is looked at for.
+#[derive(Clone, Copy)]
+pub(crate) enum Search {
+    /// For the verdict alone, by a family that is checked.
+    Verdict,
+    /// For its certificate, which lists no state that could be left out, and is checked.
+    Certificate,
+    /// For its certificate, after a verdict that accepts it: nothing is checked again. That the family has a good filling is the finder's promise.
+    Again,
+}
+
+/// The family of abstract states of the program of this setting, with no state that could be left out where it is for a certificate.
+///
+/// # Errors
+/// As `Finder::find`.
+fn find(
+    alloc: Global,
+    finder: &mut Finder,
+    setting: &Setting<'_>,
+    search: Search,
+) -> Result<Found, ProgramFault>
+    requires rises { Rises setting.now.start.now }
+    requires fits { FunctionsFit (setting_of setting.now) setting.now.start.now }
+    ensures filling { IfOk result (λ found. HasLeastFilling (setting_of setting.now) setting.now.start.now found.updates (family_of found.certificate)) }
+    ensures contexts { IfOk result (λ found. AreLeastContexts (setting_of setting.now) setting.now.start.now found.certificate.contexts) }
+    ensures needed { IsForCertificate search
+        → IfOk result (λ found. NeedsAll (setting_of setting.now) setting.now.start.now (family_of found.certificate)) }
+    ensures justified { IfErr result (NamesPlace (IsJustified (setting_of setting.now) setting.now.start.now)) }
+    ensures none_good { IfErr result (λ fault. IsWantOfMemory fault ⊎ IsNeverEnding fault ⊎ NoneIsGood (setting_of setting.now) setting.now.start.now) }
+{
+    match search {
+        Search::Verdict => finder.find(alloc, setting),
+        Search::Certificate | Search::Again => finder.find_needed(alloc, setting),
+    }
+}
+
 /// Looks at the program of this setting, whose family of abstract states is found and then checked. A family that is found passes the
-/// check, which alone accepts. Its certificate has the finder's memory, which `Finder::take_back` gives back; where the program is
-/// refused, the finder keeps it.
+/// check, which alone accepts. What is found has the finder's memory, which `Finder::take_back` gives back; where the program is refused, the
+/// finder keeps it.
 ///
 /// # Errors
 /// `Refused` where no family is found; `OutOfMemory`.
@@ -135,38 +170,20 @@ pub(crate) fn look(
     alloc: Global,
     finder: &mut Finder,
     setting: &Setting<'_>,
-) -> Result<Certificate, ProgramFault>
+    search: Search,
+) -> Result<Found, ProgramFault>
     requires rises { Rises setting.now.start.now }
     requires fits { FunctionsFit (setting_of setting.now) setting.now.start.now }
-    ensures accepted { (x : Subject) → IsLookedAt x setting.now → IfOk result (λ certificate. IsAccepted x setting.now.main.now (family_of certificate)) }
+    ensures accepted { (x : Subject) → IsLookedAt x setting.now → IfOk result (λ found. IsAccepted x setting.now.main.now (family_of found.certificate)) }
+    ensures found { IsForCertificate search → (x : Subject) → IsLookedAt x setting.now → IfOk result (IsFoundFor x setting.now.main.now) }
     ensures refused { (x : Subject) → IsLookedAt x setting.now → IfErr result (λ fault. IfRefused x.name fault (IsRefusal x)) }
     ensures none_good { (x : Subject) (points contours : ℕ) → IsLookedAt x setting.now → (setting_of setting.now).kind ≡ GlyphProgram points contours
         → IfErr result (λ fault. IfRefused x.name fault (λ _. HasGoodFamily x → ⊥)) }
 {
     setting.is_within();
-    one_good_filling();
-    let found = finder.find(alloc, setting)?;
-    checked(alloc, finder, setting, found.certificate)
-}
-
-/// The certificate of the program of this setting, which lists no state that could be left out, found with what the finder remembers of other
-/// programs. That the family has a good filling stands in the finder's contract: it isn't checked here, but by those who read it.
-///
-/// # Errors
-/// `Refused` where no family is found; `OutOfMemory`.
-pub(crate) fn certified(
-    alloc: Global,
-    finder: &mut Finder,
-    setting: &Setting<'_>,
-) -> Result<Certificate, ProgramFault>
-    requires rises { Rises setting.now.start.now }
-    requires fits { FunctionsFit (setting_of setting.now) setting.now.start.now }
-    ensures accepted { (x : Subject) → IsLookedAt x setting.now → IfOk result (λ certificate. IsAccepted x setting.now.main.now (family_of certificate)) }
-    ensures needed { IfOk result (λ certificate. NeedsAll (setting_of setting.now) setting.now.start.now (family_of certificate)) }
-    ensures calls { IfOk result (λ certificate. AreCallsInTurn certificate.contexts) }
-{
-    setting.is_within();
-    let found = finder.find_needed(alloc, setting)?;
-    found.certificate.is_in_order();
-    Ok(found.certificate)
+    let found = find(alloc, finder, setting, search)?;
+    match search {
+        Search::Again => Ok(found),
+        Search::Verdict | Search::Certificate => checked(alloc, finder, setting, found),
+    }
 }

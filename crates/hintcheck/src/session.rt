@@ -1,4 +1,4 @@
-//! The programs of a font, one a call, each checked by its section of a certificate: a session holds one certificate at a time.
+//! The programs of a font, one a call, each checked by its section of a certificate or found anew: a session holds one certificate at a time.
 
 ghost use Rattle.std.specs.Prelude.{◌≡◌, ◌+◌, ◌<◌, ◌↔◌, IfErr, IfOk, IsTrue, None, Ok, Err, Option, Some, length};
 ghost use Rattle.tt_abs.specs.Entries.{Rises};
@@ -6,23 +6,30 @@ ghost use Rattle.tt_cert_file.specs.Answers.{input_at};
 ghost use Rattle.tt_stream.specs.Reads.{ConsumesBeginning};
 ghost use Rattle.hintcheck.specs.CertificateFaults.{CountsCheck, IsNoFontFault};
 ghost use Rattle.hintcheck.specs.CheckedFonts.{Finds, IsTold};
-ghost use Rattle.hintcheck.specs.FontLooks.{IsFontInRange};
+ghost use Rattle.hintcheck.specs.FindingSessions.{IsForFinding, IsFoundAnswer, out_of_memory, out_of_memory_here};
+ghost use Rattle.hintcheck.specs.FontPrograms.{IsFontInRange};
+ghost use Rattle.hintcheck.specs.Looks.{IsForCertificate};
 ghost use Rattle.hintcheck.specs.Sessions.{AnswersAt, AnswersNext, IsFaultAt, IsForChecking, IsNextFault, IsSoundAnswer, ReadsOn, Stage, accepted_as, after_font, at_glyph, at_start, new_standing, over, standing_at};
-ghost use Rattle.hintcheck.specs.SessionStages.{KeepsGood, TellsRefusal, fault_of, read_of, stage_of};
+ghost use Rattle.hintcheck.specs.SessionStages.{KeepsFound, KeepsGood, TellsRefusal, fault_of, read_of, stage_of};
 ghost use Rattle.hintcheck.specs.declared.certified.CheckFontFault.{CheckFontFault as AnyFault};
+
+mod finding;
 
 use crate::certified::{
     CheckFontFault, check_cvt_program, check_font_program, check_glyph_program, read_start,
 };
+use crate::certifying::FindFontFault;
 use crate::fonts::{Common, Ended, cvt_setting};
-use crate::look::told;
+use crate::look::{Search, told};
 use crate::report::{Name, Refused};
 use crate::sections::{Progress, next_section};
+use crate::session::finding::find_from;
 use std::alloc::{AllocError, Global};
 use std::marker::Model;
 use std::mem;
 use tt_cert::ProgramFault;
 use tt_cert_file::read_end;
+use tt_find::{Finder, Found};
 use tt_font::Font;
 use tt_stream::Source;
 
@@ -336,6 +343,7 @@ fn check_from<'a, S: Source>(
     requires good { KeepsGood font.now (stage_of kept.old) }
     ensures sound { IfOk result (λ answer. IsSoundAnswer font.now (stage_of kept.old) answer (stage_of kept.new)) }
     ensures good { KeepsGood font.now (stage_of kept.new) }
+    ensures found { KeepsFound (read_of read.old) font.now (stage_of kept.old) → KeepsFound (read_of read.new) font.now (stage_of kept.new) }
     ensures read { IfOk result (λ _. read_of read.new ≡ None → ⊥) }
     ensures exact { IsTold (S.remaining source.old) → Finds result
         (λ answer. IsTold (S.remaining source.new) × AnswersNext (standing_at font.now (stage_of kept.old) (read_of read.old)) (S.remaining source.old) answer
@@ -366,14 +374,15 @@ pub struct Session<'a> {
 
 impl<'a> Model for Session<'a> {
     ghost use Rattle.hintcheck.specs.Sessions.{Standing};
-    ghost use Rattle.hintcheck.specs.FontLooks.{IsFontInRange};
-    ghost use Rattle.hintcheck.specs.SessionStages.{KeepsGood, fault_in, read_of, stage_of};
+    ghost use Rattle.hintcheck.specs.FontPrograms.{IsFontInRange};
+    ghost use Rattle.hintcheck.specs.SessionStages.{KeepsFound, KeepsGood, fault_in, read_of, stage_of};
 
     ghost Value = { Standing };
 
     ghost view = { λ s. record { font = s.font.now; stage = stage_of s.kept; read = read_of s.progress; fault = fault_in s.met } };
 
-    ghost invariant = { λ s. IsFontInRange s.font.now × KeepsGood s.font.now (stage_of s.kept) };
+    ghost invariant = { λ s. IsFontInRange s.font.now × KeepsGood s.font.now (stage_of s.kept)
+        × KeepsFound (read_of s.progress) s.font.now (stage_of s.kept) };
 }
 
 impl<'a> Session<'a> {
@@ -430,5 +439,62 @@ impl<'a> Session<'a> {
             self.met = Some(Met::of(fault));
         }
         answer
+    }
+
+    /// Looks at the next program for what is asked: its outcome, and what is found for it where it is accepted.
+    ///
+    /// # Errors
+    /// `OutOfMemory`.
+    pub(crate) fn look_next(
+        &mut self,
+        alloc: Global,
+        finder: &mut Finder,
+        search: Search,
+    ) -> Result<Option<(Outcome, Option<Found>)>, FindFontFault>
+        requires finding { IsForFinding self.old }
+        requires search { IsForCertificate search }
+        ensures found { IfOk result (λ answer. IsFoundAnswer self.old.font self.old.stage answer self.new.stage) }
+        ensures after_fault { (fault : AnyFault) → self.old.fault ≡ Some fault → (result ≡ Err out_of_memory) × (self.new ≡ self.old) }
+        ensures after_none { self.old.fault ≡ None → self.old.stage ≡ over → (result ≡ Ok None) × (self.new ≡ self.old) }
+        ensures fault { IfErr result (λ fault. (fault ≡ out_of_memory) × (self.new.fault ≡ Some out_of_memory_here)) }
+        ensures no_fault { IfOk result (λ _. self.new.fault ≡ None) }
+        ensures font { self.new.font ≡ self.old.font }
+        ensures finding { IsForFinding self.new }
+    {
+        if self.met.is_some() {
+            return Err(FindFontFault::OutOfMemory(AllocError));
+        }
+        if self.kept.is_over() {
+            return Ok(None);
+        }
+        let answer = find_from(alloc, finder, self.font, &mut self.kept, search);
+        if answer.is_err() {
+            self.met = Some(Met::OutOfMemory);
+        }
+        Ok(answer?)
+    }
+
+    /// Finds the next program in a finder's memory, and checks it: its outcome, and where it is accepted, what is found for it, whose memory
+    /// `Finder::take_back` gives back. After the last program, or after a refused font program or CVT program, there is none. A session that this is
+    /// called on is used for no other calls.
+    ///
+    /// # Errors
+    /// `OutOfMemory`, which each call answers afterwards.
+    pub fn find_next(
+        &mut self,
+        alloc: Global,
+        finder: &mut Finder,
+    ) -> Result<Option<(Outcome, Option<Found>)>, FindFontFault>
+        requires { IsForFinding self.old }
+        // The outcome is the next program's: what is found for an accepted one is its least family, and a refused one has none.
+        ensures found { IfOk result (λ answer. IsFoundAnswer self.old.font self.old.stage answer self.new.stage) }
+        ensures after_fault { (fault : AnyFault) → self.old.fault ≡ Some fault → (result ≡ Err out_of_memory) × (self.new ≡ self.old) }
+        ensures after_none { self.old.fault ≡ None → self.old.stage ≡ over → (result ≡ Ok None) × (self.new ≡ self.old) }
+        ensures fault { IfErr result (λ fault. (fault ≡ out_of_memory) × (self.new.fault ≡ Some out_of_memory_here)) }
+        ensures no_fault { IfOk result (λ _. self.new.fault ≡ None) }
+        ensures font { self.new.font ≡ self.old.font }
+        ensures finding { IsForFinding self.new }
+    {
+        self.look_next(alloc, finder, Search::Certificate)
     }
 }

@@ -4,6 +4,7 @@ mod certificate_calls;
 mod certificate_commands;
 mod certificates;
 mod commands;
+mod finding_sessions;
 mod font_files;
 mod font_programs;
 mod glyph_programs;

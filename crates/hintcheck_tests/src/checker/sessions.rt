@@ -1,7 +1,7 @@
 //! The programs of a font checked one by one.
 
 ghost use Rattle.std.specs.Prelude.{◌≡◌};
-ghost use Rattle.hintcheck.specs.FontLooks.{IsFontInRange};
+ghost use Rattle.hintcheck.specs.FontPrograms.{IsFontInRange};
 
 use crate::checker::certificate_calls::bytes_of;
 use crate::checker::stored_certificates::{FONT, FORM_1, FORM_2, FORM_3, FORM_4, UNDERFLOWING};

@@ -1,5 +1,6 @@
 use Rattle.std.proofs.Common.{List, sym, subst}
 use Rattle.tt_code.specs.Cut.{Instruction}
+use Rattle.hintcheck.specs.FindingSessions.{IsFoundToEnd}
 use Rattle.hintcheck.specs.FontLooks.{IsKnownAtEnd}
 use Rattle.hintcheck.specs.FontPrograms.{cvt_subject}
 use Rattle.hintcheck.specs.Looks.{IfRefused}
@@ -7,8 +8,8 @@ use Rattle.hintcheck.specs.Programs.{IsRefusal}
 use Rattle.hintcheck.proofs.LookLemmas.{looked_at, passed_on}
 use Rattle.hintcheck.proofs.fonts.look_at_cvt_program.Goals as goal
 
-pub end_functions-requires-clause-subject : goal.end_functions-requires-clause-subject
-end_functions-requires-clause-subject c =
+pub look_to_end-requires-clause-subject : goal.look_to_end-requires-clause-subject
+look_to_end-requires-clause-subject c =
     let x = cvt_subject c.args.font.now c.args.fpgm.now.program c.args.fpgm.now.functions.items in
     let s = c.cvt_setting-setting in
     (x, looked_at x s.result c.in_ok-program.program (c.in_ok-program.ensures.cut x (sym c.prep.ensures)) s.ensures.main s.ensures.setting s.ensures.start)
@@ -27,3 +28,11 @@ returns-clause-known c =
     let K : List Instruction → Type 0 = λ is. IsKnownAtEnd x is c.in_ok-functions.functions.items in
     subst K s.ensures.main
     (c.in_ok-functions.ensures.known x (looked_at x s.result c.in_ok-program.program (c.in_ok-program.ensures.cut x (sym c.prep.ensures)) s.ensures.main s.ensures.setting s.ensures.start))
+
+pub returns-clause-found : goal.returns-clause-found
+returns-clause-found c = λ certificate.
+    let x = cvt_subject c.args.font.now c.args.fpgm.now.program c.args.fpgm.now.functions.items in
+    let s = c.cvt_setting-setting in
+    let K : List Instruction → Type 0 = λ is. IsFoundToEnd x is c.in_ok-functions.found c.in_ok-functions.functions.items in
+    subst K s.ensures.main
+    (c.in_ok-functions.ensures.found certificate x (looked_at x s.result c.in_ok-program.program (c.in_ok-program.ensures.cut x (sym c.prep.ensures)) s.ensures.main s.ensures.setting s.ensures.start))

@@ -1,5 +1,6 @@
 use Rattle.std.proofs.Common.{List, sym, subst}
 use Rattle.tt_code.specs.Cut.{Instruction}
+use Rattle.hintcheck.specs.FindingSessions.{IsFoundToEnd}
 use Rattle.hintcheck.specs.FontLooks.{IsKnownAtEnd}
 use Rattle.hintcheck.specs.FontPrograms.{font_subject}
 use Rattle.hintcheck.specs.Looks.{IfRefused}
@@ -8,8 +9,8 @@ use Rattle.hintcheck.proofs.FontEnds.{font_looked}
 use Rattle.hintcheck.proofs.LookLemmas.{passed_on}
 use Rattle.hintcheck.proofs.fonts.look_at_font_program.Goals as goal
 
-pub end_functions-requires-clause-subject : goal.end_functions-requires-clause-subject
-end_functions-requires-clause-subject c =
+pub look_to_end-requires-clause-subject : goal.look_to_end-requires-clause-subject
+look_to_end-requires-clause-subject c =
     let x = font_subject c.args.font.now in
     let s = c.for_font_program-setting in (
       x,
@@ -32,4 +33,13 @@ returns-clause-known c =
     let K : List Instruction → Type 0 = λ is. IsKnownAtEnd x is c.in_ok-functions.functions.items in
     subst K s.ensures.main
     (c.in_ok-functions.ensures.known x (font_looked c.args.font.now s.result c.in_ok-program.program c.limits.result c.cvt_count.result
+    (c.in_ok-program.ensures.cut x (sym c.fpgm.ensures)) s.ensures.setting s.ensures.programs c.limits.ensures c.cvt_count.ensures s.ensures.main s.ensures.start))
+
+pub returns-clause-found : goal.returns-clause-found
+returns-clause-found c = λ certificate.
+    let x = font_subject c.args.font.now in
+    let s = c.for_font_program-setting in
+    let K : List Instruction → Type 0 = λ is. IsFoundToEnd x is c.in_ok-functions.found c.in_ok-functions.functions.items in
+    subst K s.ensures.main
+    (c.in_ok-functions.ensures.found certificate x (font_looked c.args.font.now s.result c.in_ok-program.program c.limits.result c.cvt_count.result
     (c.in_ok-program.ensures.cut x (sym c.fpgm.ensures)) s.ensures.setting s.ensures.programs c.limits.ensures c.cvt_count.ensures s.ensures.main s.ensures.start))

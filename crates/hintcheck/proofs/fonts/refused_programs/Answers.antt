@@ -14,21 +14,21 @@ pub returns-in-Err-look_at_cvt_program : goal.returns-in-Err-look_at_cvt_program
 returns-in-Err-look_at_cvt_program c =
     let fault = c.in-Err-look_at_cvt_program.fault in
     IfOk-weaker c.refused_alone-in-Err-look_at_cvt_program.result _ _
-    (λ rs listed. cvt_ends_look c.args.font.now c.in-Ok.fpgm.program c.in-Ok.fpgm.functions.items fault rs.items c.in-Ok.ensures.known.ends
+    (λ rs listed. cvt_ends_look c.args.font.now c.in-Ok.looked_at.0.program c.in-Ok.looked_at.0.functions.items fault rs.items c.in-Ok.ensures.known.ends
     c.in-Err-look_at_cvt_program.ensures.refused listed)
     c.refused_alone-in-Err-look_at_cvt_program.ensures
 
 pub refused_glyphs-requires-clause-fits : goal.refused_glyphs-requires-clause-fits
 refused_glyphs-requires-clause-fits c =
-    let F : List (ℕ × ℕ) → Type 0 = λ fs. FunctionsFit (font_setting (font_of c.args.font.now c.in-Ok.fpgm.program c.in-Ok-look_at_cvt_program.prep.program)) fs in
+    let F : List (ℕ × ℕ) → Type 0 = λ fs. FunctionsFit (font_setting (font_of c.args.font.now c.in-Ok.looked_at.0.program c.in-Ok-look_at_cvt_program.looked_at.0.program)) fs in
     let S : Font → Type 0 = λ f. FunctionsFit (font_setting f) c.deref.result.now in
     subst S (sym c.cvt_setting.ensures.programs) (subst F (sym c.deref.ensures.value) c.in-Ok-look_at_cvt_program.ensures.known.fits)
 
 pub returns : goal.returns
 returns c =
     let d = c.args.font.now in
-    let f = c.in-Ok.fpgm in
-    let p = c.in-Ok-look_at_cvt_program.prep in
+    let f = c.in-Ok.looked_at.0 in
+    let p = c.in-Ok-look_at_cvt_program.looked_at.0 in
     let ends = c.in-Ok.ensures.known.ends in
     let cvt_ends = c.in-Ok-look_at_cvt_program.ensures.known.ends in
     IfOk-weaker c.refused_glyphs.result _ _

@@ -1,6 +1,5 @@
 use Rattle.std.proofs.Common.{◌≡◌, ◌+◌, sym, ◌∙◌, subst, length}
-use Rattle.hintcheck.specs.FontLooks.{IsFontInRange}
-use Rattle.hintcheck.specs.FontPrograms.{IsVerdict, judgement_on}
+use Rattle.hintcheck.specs.FontPrograms.{IsFontInRange, IsVerdict, judgement_on}
 use Rattle.hintcheck.specs.Verdicts.{Judgement}
 use Rattle.hintcheck.proofs.FontSafety.{font_is_safe}
 use Rattle.hintcheck.proofs.fonts.verdict.Goals as goal

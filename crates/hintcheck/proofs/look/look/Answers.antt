@@ -1,15 +1,49 @@
 use Rattle.tt_abs.specs.Settings.{setting_of}
-use Rattle.hintcheck.specs.Looks.{IfRefused}
+use Rattle.tt_cert.specs.Contents.{family_of}
+use Rattle.tt_find.specs.declared.finder.Found.{Found}
+use Rattle.hintcheck.specs.FindingSessions.{IsFoundFor}
+use Rattle.hintcheck.specs.Looks.{IfRefused, IsAccepted}
 use Rattle.hintcheck.specs.Programs.{HasGoodFamily, IsRefusal}
-use Rattle.hintcheck.proofs.LookLemmas.{HasFlow, accepted, found_refusal, glyph_without_good, passed_on}
+use Rattle.hintcheck.proofs.LookLemmas.{HasFlow, accepted_found, found_for, found_refusal, glyph_without_good, passed_on, still_found}
 use Rattle.hintcheck.proofs.look.look.Goals as goal
 
-pub returns-clause-accepted : goal.returns-clause-accepted
-returns-clause-accepted c = λ x looked.
-    let h : HasFlow (setting_of c.args.setting.now) c.args.setting.now.start.now =
-    record { range = c.is_within.ensures.range; short = c.is_within.ensures.short; rises = c.requires.rises; fits = c.requires.fits } in
-    accepted x c.args.setting.now.main.now (setting_of c.args.setting.now) c.args.setting.now.start.now c.in_ok-found.found.updates c.in_ok-found.found.certificate c.checked.result
-    looked.cut looked.setting looked.functions h c.one_good_filling.ensures c.in_ok-found.ensures.filling c.checked.ensures.same c.checked.ensures.filling
+pub returns-in-Again-clause-accepted : goal.returns-in-Again-clause-accepted
+returns-in-Again-clause-accepted c = λ x looked.
+    let s = setting_of c.args.setting.now in
+    let fs = c.args.setting.now.start.now in
+    let h : HasFlow s fs = record { range = c.is_within.ensures.range; short = c.is_within.ensures.short; rises = c.requires.rises; fits = c.requires.fits } in
+    accepted_found x c.args.setting.now.main.now s fs c.in_ok-found.found.updates c.in_ok-found.found.certificate looked.cut looked.setting looked.functions h
+    c.in_ok-found.ensures.filling
+
+pub returns-in-Again-clause-found : goal.returns-in-Again-clause-found
+returns-in-Again-clause-found c = λ certificate x looked.
+    let s = setting_of c.args.setting.now in
+    let fs = c.args.setting.now.start.now in
+    let h : HasFlow s fs = record { range = c.is_within.ensures.range; short = c.is_within.ensures.short; rises = c.requires.rises; fits = c.requires.fits } in
+    let accepted = accepted_found x c.args.setting.now.main.now s fs c.in_ok-found.found.updates c.in_ok-found.found.certificate looked.cut looked.setting looked.functions h
+    c.in_ok-found.ensures.filling in
+    found_for x c.args.setting.now.main.now s fs c.in_ok-found.found looked.setting looked.functions accepted c.in_ok-found.ensures.filling c.in_ok-found.ensures.contexts
+    (c.in_ok-found.ensures.needed certificate)
+
+pub returns-in-Verdict-clause-accepted : goal.returns-in-Verdict-clause-accepted
+returns-in-Verdict-clause-accepted c = λ x looked.
+    let s = setting_of c.args.setting.now in
+    let fs = c.args.setting.now.start.now in
+    let h : HasFlow s fs = record { range = c.is_within.ensures.range; short = c.is_within.ensures.short; rises = c.requires.rises; fits = c.requires.fits } in
+    let accepted = accepted_found x c.args.setting.now.main.now s fs c.in_ok-found.found.updates c.in_ok-found.found.certificate looked.cut looked.setting looked.functions h
+    c.in_ok-found.ensures.filling in
+    still_found c.checked.result c.in_ok-found.found (λ found. IsAccepted x c.args.setting.now.main.now (family_of found.certificate)) c.checked.ensures.same accepted
+
+pub returns-in-Verdict-clause-found : goal.returns-in-Verdict-clause-found
+returns-in-Verdict-clause-found c = λ certificate x looked.
+    let s = setting_of c.args.setting.now in
+    let fs = c.args.setting.now.start.now in
+    let h : HasFlow s fs = record { range = c.is_within.ensures.range; short = c.is_within.ensures.short; rises = c.requires.rises; fits = c.requires.fits } in
+    let accepted = accepted_found x c.args.setting.now.main.now s fs c.in_ok-found.found.updates c.in_ok-found.found.certificate looked.cut looked.setting looked.functions h
+    c.in_ok-found.ensures.filling in
+    let found = found_for x c.args.setting.now.main.now s fs c.in_ok-found.found looked.setting looked.functions accepted c.in_ok-found.ensures.filling c.in_ok-found.ensures.contexts
+    (c.in_ok-found.ensures.needed certificate) in
+    still_found c.checked.result c.in_ok-found.found (IsFoundFor x c.args.setting.now.main.now) c.checked.ensures.same found
 
 pub returns-in_err-found-clause-refused : goal.returns-in_err-found-clause-refused
 returns-in_err-found-clause-refused c = λ x looked.

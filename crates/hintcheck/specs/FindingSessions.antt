@@ -1,0 +1,73 @@
+-- What a session finds for the programs of a font, one by one.
+use Rattle.std.specs.Prelude.{◌≡◌, ℕ, ◌+◌, List, [], Option, Some, None, alloc_error, slice_get}
+use Rattle.tt_code.specs.Cut.{Instruction, size}
+use Rattle.tt_abs.specs.declared.state.State.{State}
+use Rattle.tt_cert.specs.Contents.{family_of}
+use Rattle.tt_cert_file.specs.declared.name.Name.TheVariants as name
+use Rattle.tt_find.specs.Found.{AreLeastContexts, HasLeastFilling}
+use Rattle.tt_find.specs.declared.finder.Found.{Found}
+use Rattle.tt_font.specs.Reading.{FontData, GlyphData}
+use Rattle.hintcheck.specs.CertificateTexts.{IsLeastListing}
+use Rattle.hintcheck.specs.FontPrograms.{cvt_subject, font_of, font_subject, glyph_subject}
+use Rattle.hintcheck.specs.Programs.{IsRefusal, Subject}
+use Rattle.hintcheck.specs.Sessions.{IsLast, Stage, Standing, accepted_as, after_font, at_glyph, at_start, over, refused_as}
+use Rattle.hintcheck.specs.declared.certified.CheckFontFault.{CheckFontFault}
+use Rattle.hintcheck.specs.declared.certified.CheckFontFault.TheVariants as fault
+use Rattle.hintcheck.specs.declared.certifying.FindFontFault.{FindFontFault}
+use Rattle.hintcheck.specs.declared.certifying.FindFontFault.TheVariants as find
+use Rattle.hintcheck.specs.declared.report.Refused.{Refused}
+use Rattle.hintcheck.specs.declared.session.Outcome.{Outcome}
+
+-- What is found for a program with these instructions: its least family, which lists no state that could be left out, with the contexts that it comes
+-- to, and as many updates as `find` counts.
+pub record IsFoundFor (x : Subject) (instructions : List Instruction) (found : Found) : Type 0 where
+  pub listing : IsLeastListing x instructions found.certificate
+  pub filling : HasLeastFilling (x.setting instructions) x.functions found.updates (family_of found.certificate)
+  pub contexts : AreLeastContexts (x.setting instructions) x.functions found.certificate.contexts
+
+-- and these functions are known where the program ends
+pub record IsFoundToEnd (x : Subject) (instructions : List Instruction) (found : Found) (functions : List (ℕ × ℕ)) : Type 0 where
+  pub is_found : IsFoundFor x instructions found
+  pub end : State
+  pub at_end : family_of found.certificate ([], size instructions) ≡ Some end
+  pub functions_are : end.functions ≡ functions
+
+-- The outcome of the next program, with what is found for it, and which one is next afterwards. The functions that are known at the end of an accepted
+-- font program or CVT program are kept by all calls after it, up to those at the end of the CVT program. A refused font program or CVT program is the
+-- last one.
+pub data IsOutcomeByFinding (d : FontData) : Stage → Outcome → Option Found → Stage → Type 0 where
+  font_found : (f : List Instruction) (functions : List (ℕ × ℕ)) (found : Found) → IsFoundToEnd (font_subject d) f found functions
+      → IsOutcomeByFinding d at_start (accepted_as name.Font) (Some found) (after_font f functions)
+  font_refused : (r : Refused) → IsRefusal (font_subject d) r → IsOutcomeByFinding d at_start (refused_as name.Font r) None over
+  cvt_found : (f p : List Instruction) (functions known : List (ℕ × ℕ)) (found : Found) → IsFoundToEnd (cvt_subject d f functions) p found known
+      → IsOutcomeByFinding d (after_font f functions) (accepted_as name.Cvt) (Some found) (at_glyph f p known 0)
+  cvt_refused : (f : List Instruction) (functions : List (ℕ × ℕ)) (r : Refused) → IsRefusal (cvt_subject d f functions) r
+      → IsOutcomeByFinding d (after_font f functions) (refused_as name.Cvt r) None over
+  glyph_found : (f p : List Instruction) (known : List (ℕ × ℕ)) (id : ℕ) (g : GlyphData) (instructions : List Instruction) (found : Found)
+      → slice_get d.glyphs id ≡ Some g → IsFoundFor (glyph_subject (font_of d f p) known id g) instructions found
+      → IsOutcomeByFinding d (at_glyph f p known id) (accepted_as (name.Glyph id)) (Some found) (at_glyph f p known (id + 1))
+  glyph_refused : (f p : List Instruction) (known : List (ℕ × ℕ)) (id : ℕ) (g : GlyphData) (r : Refused)
+      → slice_get d.glyphs id ≡ Some g → IsRefusal (glyph_subject (font_of d f p) known id g) r
+      → IsOutcomeByFinding d (at_glyph f p known id) (refused_as (name.Glyph id) r) None (at_glyph f p known (id + 1))
+
+-- so is it with an answer, which is none where no program is left
+abbrev pub IsFoundAnswer : FontData → Stage → Option (Outcome × Option Found) → Stage → Type 0
+IsFoundAnswer d stage (Some (o, found)) stage' = IsOutcomeByFinding d stage o found stage'
+IsFoundAnswer d stage None stage' = IsLast d stage × (stage' ≡ over)
+
+-- memory ran out, as a session tells it that finds, and as it keeps it
+abbrev pub out_of_memory : FindFontFault
+out_of_memory = find.OutOfMemory alloc_error
+
+abbrev pub out_of_memory_here : CheckFontFault
+out_of_memory_here = fault.OutOfMemory alloc_error
+
+-- the only fault of a session that finds is that memory ran out
+abbrev pub IsMemoryAlone : Option CheckFontFault → Type 0
+IsMemoryAlone None = Unit {0}
+IsMemoryAlone (Some met) = met ≡ out_of_memory_here
+
+-- a session that was used for no other calls than those that find: no certificate was read
+pub record IsForFinding (s : Standing) : Type 0 where
+  pub unread : s.read ≡ None
+  pub memory : IsMemoryAlone s.fault
