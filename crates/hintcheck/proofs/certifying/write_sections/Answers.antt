@@ -2,25 +2,25 @@ use Rattle.std.proofs.Common.{refl, ◌∙◌}
 use Rattle.hintcheck.proofs.CertificateWriting.{fewer_after, found_next, nothing_found, sections_written}
 use Rattle.hintcheck.proofs.certifying.write_sections.Goals as goal
 
-pub loop-session-init : goal.loop-session-init
-loop-session-init g c = (refl, nothing_found c.args.font.now (g.W.Sink.contents c.args.sink.now) c.new-session.result c.new-session.ensures)
+pub loop-finder-init : goal.loop-finder-init
+loop-finder-init g c = (refl, nothing_found c.args.font.now (g.W.Sink.contents c.args.sink.now) c.new-session.result c.new-session.ensures)
 
-pub loop-session-smaller : goal.loop-session-smaller
-loop-session-smaller g c =
+pub loop-finder-smaller : goal.loop-finder-smaller
+loop-finder-smaller g c =
     let e = c.in_ok-look_next.ensures in
-    fewer_after c.loop-session.session c.look_next.new.self c.in_ok-look_next.field-0 c.in-Some.outcome c.in-Some.found c.in-Some.is e.font e.found
+    fewer_after c.loop-finder.session c.look_next.new.self c.in_ok-look_next.field-0 c.in-Some.outcome c.in-Some.found c.in-Some.is e.font e.found
 
-pub loop-session-preserved : goal.loop-session-preserved
-loop-session-preserved g c =
+pub loop-finder-preserved : goal.loop-finder-preserved
+loop-finder-preserved g c =
     let e = c.in_ok-look_next.ensures in
-    let so_far = c.loop-session.invariant.1 in (
-      c.in_ok-encode.ensures.failures ∙ c.loop-session.invariant.0,
-      found_next c.args.font.now (g.W.Sink.contents c.args.sink.now) (g.W.Sink.contents c.loop-session.sink) (g.W.Sink.contents c.encode.new.sink) c.loop-session.session c.look_next.new.self
+    let so_far = c.loop-finder.invariant.1 in (
+      c.in_ok-encode.ensures.failures ∙ c.loop-finder.invariant.0,
+      found_next c.args.font.now (g.W.Sink.contents c.args.sink.now) (g.W.Sink.contents c.loop-finder.sink) (g.W.Sink.contents c.encode.new.sink) c.loop-finder.session c.look_next.new.self
           c.in_ok-look_next.field-0 c.in-Some.outcome c.in-Some.found c.in-Some-found.found c.in-Some.is c.in-Some-found.is so_far e.found e.font e.no_fault e.finding
           c.is_in_order.ensures c.in_ok-encode.ensures.fits c.in_ok-encode.ensures.written,
     )
 
 pub returns-clause-written : goal.returns-clause-written
 returns-clause-written g c =
-    sections_written c.args.font.now (g.W.Sink.contents c.args.sink.now) (g.W.Sink.contents c.loop-session.sink) c.loop-session.session c.look_next.new.self
-    c.in_ok-look_next.field-0 c.in_default.is c.loop-session.invariant.1 c.in_ok-look_next.ensures.found
+    sections_written c.args.font.now (g.W.Sink.contents c.args.sink.now) (g.W.Sink.contents c.loop-finder.sink) c.loop-finder.session c.look_next.new.self
+    c.in_ok-look_next.field-0 c.in_default.is c.loop-finder.invariant.1 c.in_ok-look_next.ensures.found

@@ -9,7 +9,7 @@ pub returns-then-is_over-clause-found : goal.returns-then-is_over-clause-found
 returns-then-is_over-clause-found c =
     over_is_last c.args.self.now.font c.args.self.now.stage (sym (ap (λ (s : Standing). s.stage) c.self.view_is) ∙ c.is_over.ensures.0 c.if-is_over.true)
 
-pub find_from-requires-clause-known : goal.find_from-requires-clause-known
-find_from-requires-clause-known c =
+pub find_from-answer-requires-clause-known : goal.find_from-answer-requires-clause-known
+find_from-answer-requires-clause-known c =
     kept_unread c.self.inside.font.now (read_of c.self.inside.progress) (stage_of c.self.inside.kept) (ap (λ (s : Standing). s.read) c.self.view_is ∙ c.requires.finding.unread)
-    c.self.invariant.1.1
+    c.self.invariant.2

@@ -30,9 +30,9 @@ returns-in-Ok c =
     third_found c.args.font.now c.args.fpgm.now.program c.args.prep.now.program c.args.prep.now.functions.items _ c.deref.result.now c.cvt_setting.ensures.programs
     c.deref.ensures.value c.args.id glyph at found.0 c.in-Ok.found c.accepted.result c.accepted.ensures found.1
 
-pub returns-in-Err : goal.returns-in-Err
-returns-in-Err c =
+pub returns-in_ok-refused-in-Err : goal.returns-in_ok-refused-in-Err
+returns-in_ok-refused-in-Err c =
     let glyph : GlyphData = glyph_data c.unwrap-glyph.result in
     let at = sym c.glyph.ensures ∙ ap (option_map glyph_data) c.unwrap-glyph.ensures in
     third_refused c.args.font.now c.args.fpgm.now.program c.args.prep.now.program c.args.prep.now.functions.items _ c.deref.result.now c.cvt_setting.ensures.programs
-    c.deref.ensures.value c.args.id glyph at c.in-Err.fault c.in_ok-refused.field-0 c.in_ok-refused.ensures (c.in-Err.ensures.refused c.args.id)
+    c.deref.ensures.value c.args.id glyph at c.in-Err.fault c.in_ok-refused-in-Err.field-0 c.in_ok-refused-in-Err.ensures (c.in-Err.ensures.refused c.args.id)

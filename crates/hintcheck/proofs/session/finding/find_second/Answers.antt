@@ -6,6 +6,6 @@ returns-in-Ok c =
     second_found c.args.font.now c.args.fpgm.program c.in-Ok.prep.program c.args.fpgm.functions.items c.in-Ok.prep.functions.items c.in-Ok.found c.accepted.result c.accepted.ensures
     (c.in-Ok.ensures.found c.requires.search)
 
-pub returns-in-Err : goal.returns-in-Err
-returns-in-Err c =
-    second_refused c.args.font.now c.args.fpgm.program c.args.fpgm.functions.items c.in-Err.fault c.in_ok-refused.field-0 c.in_ok-refused.ensures c.in-Err.ensures.refused
+pub returns : goal.returns
+returns c =
+    second_refused c.args.font.now c.args.fpgm.program c.args.fpgm.functions.items c.in-Err.fault c.in_ok-refused-in-Err.field-0 c.in_ok-refused-in-Err.ensures c.in-Err.ensures.refused
