@@ -125,7 +125,7 @@ refused_so_far rs rs' (Some r) finding same = one_more rs r finding ∙ ap (λ (
 -- good families
 
 -- so many calls answer at most
-pub calls_left : FontData → Stage → ℕ
+unfoldable pub calls_left : FontData → Stage → ℕ
 calls_left d at_start = length d.glyphs + 3
 calls_left d (after_font f functions) = length d.glyphs + 2
 calls_left d (at_glyph f p known id) = length d.glyphs + 1 - id

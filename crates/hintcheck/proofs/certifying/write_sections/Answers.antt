@@ -7,20 +7,20 @@ loop-finder-init g c = (refl, nothing_found c.args.font.now (g.W.Sink.contents c
 
 pub loop-finder-smaller : goal.loop-finder-smaller
 loop-finder-smaller g c =
-    let e = c.in_ok-look_next.ensures in
-    fewer_after c.loop-finder.session c.look_next.new.self c.in_ok-look_next.field-0 c.in-Some.outcome c.in-Some.found c.in-Some.is e.font e.found
+    let e = c.in_ok-outcome.ensures in
+    fewer_after c.loop-finder.session c.look_next.new.self c.in_ok-outcome.field-0 c.in-Some.outcome c.in-Some.found c.in-Some.is e.font e.found
 
 pub loop-finder-preserved : goal.loop-finder-preserved
 loop-finder-preserved g c =
-    let e = c.in_ok-look_next.ensures in
+    let e = c.in_ok-outcome.ensures in
     let so_far = c.loop-finder.invariant.1 in (
       c.in_ok-encode.ensures.failures ∙ c.loop-finder.invariant.0,
       found_next c.args.font.now (g.W.Sink.contents c.args.sink.now) (g.W.Sink.contents c.loop-finder.sink) (g.W.Sink.contents c.encode.new.sink) c.loop-finder.session c.look_next.new.self
-          c.in_ok-look_next.field-0 c.in-Some.outcome c.in-Some.found c.in-Some-found.found c.in-Some.is c.in-Some-found.is so_far e.found e.font e.no_fault e.finding
+          c.in_ok-outcome.field-0 c.in-Some.outcome c.in-Some.found c.in-Some-found.found c.in-Some.is c.in-Some-found.is so_far e.found e.font e.no_fault e.finding
           c.is_in_order.ensures c.in_ok-encode.ensures.fits c.in_ok-encode.ensures.written,
     )
 
 pub returns-clause-written : goal.returns-clause-written
 returns-clause-written g c =
     sections_written c.args.font.now (g.W.Sink.contents c.args.sink.now) (g.W.Sink.contents c.loop-finder.sink) c.loop-finder.session c.look_next.new.self
-    c.in_ok-look_next.field-0 c.in_default.is c.loop-finder.invariant.1 c.in_ok-look_next.ensures.found
+    c.in_ok-outcome.field-0 c.in_default.is c.loop-finder.invariant.1 c.in_ok-outcome.ensures.found
