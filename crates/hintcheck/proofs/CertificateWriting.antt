@@ -13,17 +13,19 @@ use Rattle.tt_cert_file.specs.Sections.{section_of}
 use Rattle.tt_cert_file.specs.Text.{header_text, section_text}
 use Rattle.tt_find.specs.declared.finder.Found.{Found}
 use Rattle.tt_font.specs.Reading.{FontData, GlyphData}
-use Rattle.hintcheck.specs.CertificateTexts.{AreGlyphTexts, IsCertificate, IsEndedText, IsGlyphText, IsPassingCertificate, IsReadableListing, IsTextOf, WritesText, no_glyphs, one_more}
-use Rattle.hintcheck.specs.FindingSessions.{IsForFinding, IsFoundAnswer, IsFoundFor, IsFoundToEnd, IsOutcomeByFinding, cvt_found, cvt_refused, font_found, font_refused, glyph_found, glyph_refused}
+use Rattle.tt_stream.specs.Streams.{AppendsBeginning}
+use Rattle.hintcheck.specs.CertificateTexts.{AreGlyphTexts, IsCertificate, IsEndedText, IsGlyphText, IsPassingCertificate, IsReadableListing, IsTextOf, WritesBeginning, WritesText, no_glyphs, one_more}
+use Rattle.hintcheck.specs.FindingSessions.{AreFirstSections, IsCertificateBegun, IsForFinding, IsFoundAnswer, IsFoundFor, IsFoundToEnd, IsOutcomeByFinding, cvt_found, cvt_refused, font_found, font_refused, glyph_found, glyph_refused, none_yet, one_program_more}
 use Rattle.hintcheck.specs.FontPrograms.{cvt_subject, font_of, font_subject, glyph_subject}
 use Rattle.hintcheck.specs.Programs.{Subject}
-use Rattle.hintcheck.specs.SessionStages.{AreSectionsFrom, all_there, cvt_next, font_first, glyph_next}
+use Rattle.hintcheck.specs.SessionStages.{AreSectionsFrom, AreSomeSections, all_there, cvt_next, font_first, glyph_next}
 use Rattle.hintcheck.specs.Sessions.{IsLast, Stage, Standing, after_font, at_glyph, at_start, last_glyph, new_standing, none_is_left, over}
 use Rattle.hintcheck.specs.declared.session.Outcome.{Outcome}
 use Rattle.hintcheck.proofs.CheckedSections.{all_dropped, dropped}
 use Rattle.hintcheck.proofs.CheckedTexts.{is_passing}
 use Rattle.hintcheck.proofs.LookLemmas.{calls_in_turn}
 use Rattle.hintcheck.proofs.SessionRuns.{calls_left}
+use Rattle.hintcheck.proofs.TextBeginnings.{begins_any, begins_on, begins_whole}
 
 -- an empty list is told to be empty
 pub told_empty : {X : Type 0} (xs : List X) (n : ℕ) → length xs ≡ n → xs ≡ [] → false ≡ (n == 0) → ⊥
@@ -130,6 +132,12 @@ texts_next d s t o found first old new before is written appends =
       appends_both first old new text one appended appends,
     )
 
+first_next : (d : FontData) (s t : Stage) (o : Outcome) (found : Found) (first old new : Option (List ℕ)) → WritesText first old (AreFirstSections d s)
+    → IsOutcomeByFinding d s o (Some found) t → Appends old new (section_text Four (section_of o.program found.certificate)) → WritesText first new (AreFirstSections d t)
+first_next d s t o found first old new (text, are, appended) is appends =
+    let one : List ℕ = section_text Four (section_of o.program found.certificate) in
+    (text ++ one, one_program_more s t o found text are is, appends_both first old new text one appended appends)
+
 goes_on : (d : FontData) (s t : Stage) (o : Outcome) (found : Found) → IsOutcomeByFinding d s o (Some found) t → t ≡ over → ⊥
 goes_on d s t o found (font_found f functions x ends) e = cc
 goes_on d s t o found (cvt_found f p functions known x ends) e = cc
@@ -151,6 +159,7 @@ pub record IsWrittenSoFar (d : FontData) (first : Option (List ℕ)) (s : Standi
   pub finding : IsForFinding s
   pub going : s.stage ≡ over → ⊥
   pub written : WritesText first now (TextsBefore s.font s.stage)
+  pub first_ones : WritesText first now (AreFirstSections s.font s.stage)
 
 pub nothing_found : (d : FontData) (w : Option (List ℕ)) (s : Standing) → s ≡ new_standing d → IsWrittenSoFar d w s w
 nothing_found d w s is =
@@ -161,6 +170,7 @@ nothing_found d w s is =
       finding = record { unread = refl; memory = tt };
       going = λ e. cc;
       written = ([], (λ rest more. more), appends_nothing w);
+      first_ones = ([], none_yet, appends_nothing w);
     })
 
 pub found_next : (d : FontData) (first old new : Option (List ℕ)) (s t : Standing) (answer : Option (Outcome × Option Found)) (o : Outcome) (found : Option Found) (x : Found)
@@ -172,12 +182,14 @@ found_next d first old new s t answer o found x is is_found so_far answers font 
     let F : Option Found → Type 0 = λ y. IsOutcomeByFinding s.font s.stage o y t.stage in
     let outcome : IsOutcomeByFinding s.font s.stage o (Some x) t.stage = subst F is_found (subst A is answers) in
     let W : FontData → Type 0 = λ y. WritesText first new (TextsBefore y t.stage) in
+    let F1 : FontData → Type 0 = λ y. WritesText first new (AreFirstSections y t.stage) in
     record {
       font = font ∙ so_far.font;
       none = none;
       finding = finding;
       going = goes_on s.font s.stage t.stage o x outcome;
       written = subst W (sym font) (texts_next s.font s.stage t.stage o x first old new so_far.written outcome (record { finished = finished; fits = fits }) appends);
+      first_ones = subst F1 (sym font) (first_next s.font s.stage t.stage o x first old new so_far.first_ones outcome appends);
     }
 
 pub fewer_after : (s t : Standing) (answer : Option (Outcome × Option Found)) (o : Outcome) (found : Option Found) → answer ≡ Some (o, found) → t.font ≡ s.font
@@ -186,6 +198,42 @@ fewer_after s t answer o found is font answers =
     let A : Option (Outcome × Option Found) → Type 0 = λ a. IsFoundAnswer s.font s.stage a t.stage in
     let L : FontData → Type 0 = λ d. calls_left d t.stage < calls_left s.font s.stage in
     subst L (sym font) (fewer_left s.font s.stage t.stage o found (subst A is answers))
+
+-- what is written where it goes no further: the sections so far, and perhaps a beginning of the next one
+
+pub stopped : (d : FontData) (first now : Option (List ℕ)) (s : Standing) → IsWrittenSoFar d first s now → WritesBeginning first now (AreSomeSections d)
+stopped d first now s so_far =
+    let (text, are, appended) = so_far.first_ones in
+    let S : FontData → Type 0 = λ y. AreSomeSections y text in
+    (text, subst S so_far.font (s.stage, are), begins_whole first now text appended)
+
+pub stopped_within : (d : FontData) (first old new : Option (List ℕ)) (s t : Standing) (answer : Option (Outcome × Option Found)) (o : Outcome) (found : Option Found) (x : Found)
+    → answer ≡ Some (o, found) → found ≡ Some x → IsWrittenSoFar d first s old → IsFoundAnswer s.font s.stage answer t.stage
+    → AppendsBeginning old new (section_text Four (section_of o.program x.certificate)) → WritesBeginning first new (AreSomeSections d)
+stopped_within d first old new s t answer o found x is is_found so_far answers part =
+    let (text, are, appended) = so_far.first_ones in
+    let A : Option (Outcome × Option Found) → Type 0 = λ a. IsFoundAnswer s.font s.stage a t.stage in
+    let F : Option Found → Type 0 = λ y. IsOutcomeByFinding s.font s.stage o y t.stage in
+    let outcome : IsOutcomeByFinding s.font s.stage o (Some x) t.stage = subst F is_found (subst A is answers) in
+    let one : List ℕ = section_text Four (section_of o.program x.certificate) in
+    let S : FontData → Type 0 = λ y. AreSomeSections y (text ++ one) in
+    (text ++ one, subst S so_far.font (t.stage, one_program_more s.stage t.stage o x text are outcome), begins_on first old new text one appended part)
+
+pub header_begun : (d : FontData) (n : ℕ) (old new : Option (List ℕ)) → n ≡ length d.glyphs + 2 → AppendsBeginning old new (header_text Four n) → WritesBeginning old new (IsCertificateBegun d)
+header_begun d n old new sections part =
+    let H : ℕ → Type 0 = λ k. AppendsBeginning old new (header_text Four k) in
+    let header : List ℕ = header_text Four (length d.glyphs + 2) in
+    (header, record { stage = at_start; sections = []; first = none_yet; text_is = sym (append-nil header) }, subst H sections part)
+
+pub sections_begun : (d : FontData) (n : ℕ) (start first now : Option (List ℕ)) → n ≡ length d.glyphs + 2 → Appends start first (header_text Four n) → WritesBeginning first now (AreSomeSections d)
+    → WritesBeginning start now (IsCertificateBegun d)
+sections_begun d n start first now sections header (text, (stage, are), part) =
+    let H : ℕ → Type 0 = λ k. Appends start first (header_text Four k) in
+    let whole : List ℕ = header_text Four (length d.glyphs + 2) in
+    (whole ++ text, record { stage = stage; sections = text; first = are; text_is = refl }, begins_on start first now whole text (subst H sections header) part)
+
+pub nothing_begun : (d : FontData) (w : Option (List ℕ)) → WritesBeginning w w (IsCertificateBegun d)
+nothing_begun d w = header_begun d (length d.glyphs + 2) w w refl (begins_any w (header_text Four (length d.glyphs + 2)))
 
 -- all of them, and the whole certificate
 

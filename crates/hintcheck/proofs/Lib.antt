@@ -16,6 +16,7 @@ pub mod OneFinding
 pub mod OneFont
 pub mod CheckedTexts
 pub mod UpgradeChecks
+pub mod TextBeginnings
 pub mod UpgradeSteps
 pub mod SessionSteps
 pub mod SessionRuns

@@ -18,12 +18,13 @@ use Rattle.tt_cert_file.specs.declared.form.Form.TheVariants.{Four}
 use Rattle.tt_cert_file.specs.declared.name.Name.{Name}
 use Rattle.hintcheck.specs.CertificateFaults.{Decodes}
 use Rattle.hintcheck.specs.Certificates.{HasNoSection, IsSectionOf}
-use Rattle.hintcheck.specs.CertificateTexts.{WritesText}
+use Rattle.hintcheck.specs.CertificateTexts.{WritesBeginning, WritesText}
 use Rattle.hintcheck.specs.CheckedFonts.{IsTold, bytes_in}
 use Rattle.hintcheck.specs.UpgradeFaults.{ComesTo, CountsReads, CountsWrites, fault_of_old}
-use Rattle.hintcheck.specs.Upgrades.{AreBegun, AreCertificate, AreRead, AreUpgraded, BeginWith, IsNumberOfPrograms, IsUpgradeBegunOf, IsUpgradeOf, LackSection, UpgradesTo, WritesBeginning, begun, followed, name_at, no_font, no_header, no_section, none, nothing, one_more, section_texts, upgraded}
+use Rattle.hintcheck.specs.Upgrades.{AreBegun, AreCertificate, AreRead, AreUpgraded, BeginWith, IsNumberOfPrograms, IsUpgradeBegunOf, IsUpgradeOf, LackSection, UpgradesTo, begun, followed, name_at, no_font, no_header, no_section, none, nothing, one_more, section_texts, upgraded}
 use Rattle.hintcheck.specs.declared.upgrading.UpgradeFault.{UpgradeFault}
 use Rattle.hintcheck.specs.declared.upgrading.UpgradeFault.TheVariants as upgrade
+use Rattle.hintcheck.proofs.TextBeginnings.{begins_nothing, begins_on}
 
 -- the end of the bytes
 
@@ -73,9 +74,6 @@ one_begun form number i after called family old new section same appends =
       written = subst (AppendsBeginning old new) (sym (append-nil (section_text Four s))) appends;
     }
 
-begins_nothing : (w : Option (List ℕ)) → AppendsBeginning w w []
-begins_nothing w = record { count = 0; appended = Appends-nil w }
-
 pub none_begun : (form : Form) (number count : ℕ) (i : Input) (w : Option (List ℕ)) → AreBegun form number count i w w
 none_begun form number count i w = record { sections = []; at = i; are_read = none number i; few = omega arith; written = begins_nothing w }
 
@@ -94,19 +92,6 @@ upgraded_on form k first here there a b c before next =
   where
     long : (xs ys : List Section) → length xs ≡ k → length ys ≡ 1 → length (xs ++ ys) ≡ k + 1
     long xs ys e f = omega (arith, length-append xs ys)
-
--- a beginning after a whole text
-begins_on : (a b c : Option (List ℕ)) (x y : List ℕ) → Appends a b x → AppendsBeginning b c y → AppendsBeginning a c (x ++ y)
-begins_on a b c x y whole part = record {
-  count = length x + part.count;
-  appended = subst (Appends a c) (sym (take-append_more x y part.count)) (Appends-trans a b c x (take part.count y) whole part.appended);
-}
-  where
-    take-append_more : (xs ys : List ℕ) (n : ℕ) → take (length xs + n) (xs ++ ys) ≡ xs ++ take n ys
-    take-append_more [] ys n = ap (λ (k : ℕ). take k ys) (zero-add n)
-    take-append_more (z ∷ zs) ys n =
-        let number : suc (length zs) + n ≡ suc (length zs + n) = omega arith in
-        ap (λ (k : ℕ). take k (z ∷ (zs ++ ys))) number ∙ ap (λ (l : List ℕ). z ∷ l) (take-append_more zs ys n)
 
 pub begun_on : (form : Form) (k count : ℕ) (first here : Input) (a b c : Option (List ℕ)) → AreUpgraded form 0 k first here a b → AreBegun form k 1 here b c → k < count
     → AreBegun form 0 count first a c

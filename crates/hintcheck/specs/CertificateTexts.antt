@@ -14,6 +14,7 @@ use Rattle.tt_cert_file.specs.Sections.{section_of}
 use Rattle.tt_cert_file.specs.Text.{header_text, section_text}
 use Rattle.tt_find.specs.Found.{NeedsAll}
 use Rattle.tt_font.specs.Reading.{FontData, GlyphData}
+use Rattle.tt_stream.specs.Streams.{AppendsBeginning}
 use Rattle.hintcheck.specs.Certificates.{IsChecked}
 use Rattle.hintcheck.specs.FontPrograms.{cvt_subject, font_of, font_subject, glyph_subject}
 use Rattle.hintcheck.specs.Looks.{IsAccepted}
@@ -84,3 +85,7 @@ IsReadableListing x instructions family = IsLeastListing x instructions family �
 -- such a text is appended
 abbrev pub WritesText : Option (List ℕ) → Option (List ℕ) → (List ℕ → Type 0) → Type 0
 WritesText old new Is = (text : List ℕ) × Is text × Appends old new text
+
+-- a beginning of such a text is appended
+abbrev pub WritesBeginning : Option (List ℕ) → Option (List ℕ) → (List ℕ → Type 0) → Type 0
+WritesBeginning old new Is = (text : List ℕ) × Is text × AppendsBeginning old new text

@@ -1,13 +1,16 @@
 -- What a session finds for the programs of a font, one by one.
-use Rattle.std.specs.Prelude.{◌≡◌, ℕ, ◌+◌, List, [], Option, Some, None, alloc_error, slice_get}
+use Rattle.std.specs.Prelude.{◌≡◌, ◌⊎◌, ℕ, ◌+◌, List, [], ◌++◌, Option, Some, None, alloc_error, length, slice_get}
 use Rattle.tt_code.specs.Cut.{Instruction, size}
 use Rattle.tt_abs.specs.declared.state.State.{State}
 use Rattle.tt_cert.specs.Contents.{family_of}
+use Rattle.tt_cert_file.specs.declared.form.Form.TheVariants.{Four}
 use Rattle.tt_cert_file.specs.declared.name.Name.TheVariants as name
+use Rattle.tt_cert_file.specs.Sections.{section_of}
+use Rattle.tt_cert_file.specs.Text.{header_text, section_text}
 use Rattle.tt_find.specs.Found.{AreLeastContexts, HasLeastFilling}
 use Rattle.tt_find.specs.declared.finder.Found.{Found}
-use Rattle.tt_font.specs.Reading.{FontData, GlyphData}
-use Rattle.hintcheck.specs.CertificateTexts.{IsLeastListing}
+use Rattle.tt_font.specs.Reading.{FontData, GlyphData, Reads}
+use Rattle.hintcheck.specs.CertificateTexts.{IsLeastListing, WritesBeginning}
 use Rattle.hintcheck.specs.FontPrograms.{cvt_subject, font_of, font_subject, glyph_subject}
 use Rattle.hintcheck.specs.Programs.{IsRefusal, Subject}
 use Rattle.hintcheck.specs.Sessions.{IsLast, Stage, Standing, accepted_as, after_font, at_glyph, at_start, over, refused_as}
@@ -71,3 +74,20 @@ IsMemoryAlone (Some met) = met ≡ out_of_memory_here
 pub record IsForFinding (s : Standing) : Type 0 where
   pub unread : s.read ≡ None
   pub memory : IsMemoryAlone s.fault
+
+-- The sections of the programs that are accepted one after the other, from the font program up to a stage.
+pub data AreFirstSections (d : FontData) : Stage → List ℕ → Type 0 where
+  none_yet : AreFirstSections d at_start []
+  one_program_more : (s t : Stage) (o : Outcome) (found : Found) (text : List ℕ) → AreFirstSections d s text → IsOutcomeByFinding d s o (Some found) t
+      → AreFirstSections d t (text ++ section_text Four (section_of o.program found.certificate))
+
+-- The text is as much of a font's certificate as was made: the header, and the sections of the first programs.
+pub record IsCertificateBegun (d : FontData) (text : List ℕ) : Type 0 where
+  pub stage : Stage
+  pub sections : List ℕ
+  pub first : AreFirstSections d stage sections
+  pub text_is : text ≡ header_text Four (length d.glyphs + 2) ++ sections
+
+-- nothing is appended, or a beginning of such a text of the font in these bytes
+abbrev pub BeginsCertificate : List ℕ → Option (List ℕ) → Option (List ℕ) → Type 0
+BeginsCertificate bytes old new = (new ≡ old) ⊎ ((d : FontData) × Reads bytes d × WritesBeginning old new (IsCertificateBegun d))

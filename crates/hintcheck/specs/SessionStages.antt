@@ -12,6 +12,7 @@ use Rattle.tt_cert_file.specs.declared.name.Name.{Name}
 use Rattle.tt_font.specs.Reading.{FontData, GlyphData}
 use Rattle.hintcheck.specs.CertificateTexts.{IsEndedText, IsGlyphText, IsReadableListing}
 use Rattle.hintcheck.specs.CheckedFonts.{IsGoodAtEnd}
+use Rattle.hintcheck.specs.FindingSessions.{AreFirstSections}
 use Rattle.hintcheck.specs.FontLooks.{IsKnownAtEnd}
 use Rattle.hintcheck.specs.FontPrograms.{cvt_subject, font_of, font_subject, glyph_subject}
 use Rattle.hintcheck.specs.Looks.{told_at}
@@ -98,3 +99,7 @@ pub data AreSectionsFrom (d : FontData) : Stage → List ℕ → Type 0 where
   glyph_next : (f p : List Instruction) (known : List (ℕ × ℕ)) (id : ℕ) (g : GlyphData) (text rest : List ℕ) → slice_get d.glyphs id ≡ Some g
       → IsGlyphText IsReadableListing Four (glyph_subject (font_of d f p) known id g) text → AreSectionsFrom d (at_glyph f p known (id + 1)) rest
       → AreSectionsFrom d (at_glyph f p known id) (text ++ rest)
+
+-- those of some programs, from the font program on
+abbrev pub AreSomeSections : FontData → List ℕ → Type 0
+AreSomeSections d text = (stage : Stage) × AreFirstSections d stage text

@@ -79,10 +79,6 @@ pub data IsUpgradeBegunOf (bytes : List ℕ) : List ℕ → Type 0 where
   begun : (form : Form) (count : ℕ) (sections : List Section) (at : Input) → BeginWith bytes form count sections at
       → IsUpgradeBegunOf bytes (header_text Four count ++ section_texts sections)
 
--- a beginning of such a text is appended
-abbrev pub WritesBeginning : Option (List ℕ) → Option (List ℕ) → (List ℕ → Type 0) → Type 0
-WritesBeginning old new Is = (text : List ℕ) × Is text × AppendsBeginning old new text
-
 -- So many sections were read from that of a number on, and their texts written in form 4. (Representation: no public clause cites it.)
 pub record AreUpgraded (form : Form) (number count : ℕ) (from at : Input) (old new : Option (List ℕ)) : Type 0 where
   pub sections : List Section

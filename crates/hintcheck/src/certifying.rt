@@ -1,12 +1,13 @@
 //! The certificate of a font: found, and written where no program is refused.
 
-ghost use Rattle.std.specs.Prelude.{◌≡◌, [], IfErr, IfOk, OnOk};
+ghost use Rattle.std.specs.Prelude.{◌≡◌, [], IfErr, IfOk, OnErr, OnOk};
 ghost use Rattle.tt_font.specs.FileFaults.{font_fault};
 ghost use Rattle.tt_font.specs.Reading.{FontData, Reads};
 ghost use Rattle.hintcheck.specs.CertificateFaults.{CountsFind, IsNoFaultOfFont, TestsInFind, WritesNothing};
-ghost use Rattle.hintcheck.specs.CertificateTexts.{IsPassingCertificate, WritesText};
+ghost use Rattle.hintcheck.specs.CertificateTexts.{IsPassingCertificate, WritesBeginning, WritesText};
+ghost use Rattle.hintcheck.specs.FindingSessions.{BeginsCertificate, IsCertificateBegun};
 ghost use Rattle.hintcheck.specs.FontPrograms.{IsFontInRange, IsSafeFont, IsVerdict};
-ghost use Rattle.hintcheck.specs.SessionStages.{AreSectionsFrom};
+ghost use Rattle.hintcheck.specs.SessionStages.{AreSectionsFrom, AreSomeSections};
 ghost use Rattle.hintcheck.specs.Sessions.{at_start};
 
 use crate::fonts::{read_font, refused_programs};
@@ -78,6 +79,7 @@ fn write_sections<W: Sink>(
 ) -> Result<(), FindFontFault>
     requires { IsFontInRange font.now }
     ensures written { OnOk result (WritesText (W.contents sink.old) (W.contents sink.new) (AreSectionsFrom font.now at_start)) }
+    ensures begun { OnErr result (WritesBeginning (W.contents sink.old) (W.contents sink.new) (AreSomeSections font.now)) }
     ensures failures { CountsFind result (W.failures sink.old) (W.failures sink.new) }
     ensures font { IfErr result IsNoFaultOfFont }
 {
@@ -103,6 +105,7 @@ fn write_certificate<W: Sink>(
 ) -> Result<(), FindFontFault>
     requires { IsFontInRange font.now }
     ensures written { OnOk result (WritesText (W.contents sink.old) (W.contents sink.new) (IsPassingCertificate font.now)) }
+    ensures begun { OnErr result (WritesBeginning (W.contents sink.old) (W.contents sink.new) (IsCertificateBegun font.now)) }
     ensures failures { CountsFind result (W.failures sink.old) (W.failures sink.new) }
     ensures font { IfErr result IsNoFaultOfFont }
 {
@@ -119,6 +122,7 @@ pub(crate) fn find_programs<W: Sink>(
     requires { IsFontInRange font.now }
     ensures exact { IfOk result (λ v. IsVerdict font.now v) }
     ensures written { IfOk result (λ v. v.refused ≡ [] → WritesText (W.contents sink.old) (W.contents sink.new) (IsPassingCertificate font.now)) }
+    ensures begun { OnErr result (WritesBeginning (W.contents sink.old) (W.contents sink.new) (IsCertificateBegun font.now)) }
     ensures unwritten { IfOk result (λ v. WritesNothing (W.contents sink.old) (W.contents sink.new) v) }
     ensures failures { CountsFind result (W.failures sink.old) (W.failures sink.new) }
     ensures font { IfErr result IsNoFaultOfFont }
@@ -146,6 +150,8 @@ pub fn find_font<W: Sink>(
     ensures written { IfOk result (λ v. v.refused ≡ []
         → (d : FontData) × Reads font.now d × WritesText (W.contents sink.old) (W.contents sink.new) (IsPassingCertificate d)) }
     ensures unwritten { IfOk result (λ v. WritesNothing (W.contents sink.old) (W.contents sink.new) v) }
+    // After a fault a beginning of the certificate was written: of the header and of the sections that were made.
+    ensures begun { OnErr result (BeginsCertificate font.now (W.contents sink.old) (W.contents sink.new)) }
     ensures failures { CountsFind result (W.failures sink.old) (W.failures sink.new) }
     // A fault of the font is the first one of its bytes, unless memory ran out; any other answer says that they have none.
     ensures faults { TestsInFind (font_fault font.now) result }

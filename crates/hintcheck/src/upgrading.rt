@@ -5,9 +5,9 @@ ghost use Rattle.tt_cert_file.specs.Answers.{AreBytes, input_at};
 ghost use Rattle.tt_font.specs.Reading.{FontData};
 ghost use Rattle.tt_stream.specs.Reads.{ConsumesBeginning};
 ghost use Rattle.hintcheck.specs.Certificates.{HasNoSection, IsChecked};
-ghost use Rattle.hintcheck.specs.CertificateTexts.{WritesText};
+ghost use Rattle.hintcheck.specs.CertificateTexts.{WritesBeginning, WritesText};
 ghost use Rattle.hintcheck.specs.CheckedFonts.{IsTold, bytes_in};
-ghost use Rattle.hintcheck.specs.Upgrades.{AreBegun, AreUpgraded, IsUpgradeBegunOf, IsUpgradeOf, LackSection, UpgradesTo, WritesBeginning, name_at};
+ghost use Rattle.hintcheck.specs.Upgrades.{AreBegun, AreUpgraded, IsUpgradeBegunOf, IsUpgradeOf, LackSection, UpgradesTo, name_at};
 ghost use Rattle.hintcheck.specs.UpgradeFaults.{ComesTo, CountsReads, CountsWrites};
 
 use crate::report::Name;

@@ -1,5 +1,6 @@
 use Rattle.std.proofs.Common.{refl, ◌∙◌}
-use Rattle.hintcheck.proofs.CertificateWriting.{fewer_after, found_next, nothing_found, sections_written}
+use Rattle.std.proofs.lemmas.Result.{err_from_is_err_and}
+use Rattle.hintcheck.proofs.CertificateWriting.{fewer_after, found_next, nothing_found, sections_written, stopped, stopped_within}
 use Rattle.hintcheck.proofs.certifying.write_sections.Goals as goal
 
 pub loop-finder-init : goal.loop-finder-init
@@ -24,3 +25,19 @@ pub returns-clause-written : goal.returns-clause-written
 returns-clause-written g c =
     sections_written c.args.font.now (g.W.Sink.contents c.args.sink.now) (g.W.Sink.contents c.loop-finder.sink) c.loop-finder.session c.look_next.new.self
     c.in_ok-outcome.field-0 c.in_default.is c.loop-finder.invariant.1 c.in_ok-outcome.ensures.found
+
+pub returns-in_err-outcome-clause-begun : goal.returns-in_err-outcome-clause-begun
+returns-in_err-outcome-clause-begun g c =
+    let p = err_from_is_err_and c.from_residual.result c.from_residual.ensures.1 in
+    rw p.1 (stopped c.args.font.now (g.W.Sink.contents c.args.sink.now) (g.W.Sink.contents c.loop-finder.sink) c.loop-finder.session c.loop-finder.invariant.1)
+
+pub returns-in_default-found-clause-begun : goal.returns-in_default-found-clause-begun
+returns-in_default-found-clause-begun g c = stopped c.args.font.now (g.W.Sink.contents c.args.sink.now) (g.W.Sink.contents c.loop-finder.sink) c.loop-finder.session c.loop-finder.invariant.1
+
+pub returns-in_err-encode-clause-begun : goal.returns-in_err-encode-clause-begun
+returns-in_err-encode-clause-begun g c =
+    let p = err_from_is_err_and c.from_residual-in_err-encode.result c.from_residual-in_err-encode.ensures.1 in
+    rw p.1
+    (stopped_within c.args.font.now (g.W.Sink.contents c.args.sink.now) (g.W.Sink.contents c.loop-finder.sink) (g.W.Sink.contents c.encode.new.sink) c.loop-finder.session c.look_next.new.self
+    c.in_ok-outcome.field-0 c.in-Some.outcome c.in-Some.found c.in-Some-found.found c.in-Some.is c.in-Some-found.is c.loop-finder.invariant.1 c.in_ok-outcome.ensures.found
+    c.in_err-encode.ensures.beginning)
