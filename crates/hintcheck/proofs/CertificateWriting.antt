@@ -1,6 +1,6 @@
 -- The text of a font's certificate, as it is written section by section while a session finds the programs.
 use Rattle.std.proofs.Common.{◌≡◌, true, false, ℕ, ◌+◌, ◌^◌, ◌<◌, arith, List, [], ◌++◌, length, drop, Option, Some, None, refl, sym, ◌∙◌, ap, subst, append_assoc, append-nil}
-use Rattle.std.specs.Prelude.{◌==◌, slice_get}
+use Rattle.std.specs.Prelude.{◌==◌}
 use Rattle.std.specs.Io.KnownBytes.{Appends}
 use Rattle.std.proofs.lemmas.Option.{slice_get_within}
 use Rattle.tt_code.specs.Cut.{Instruction}
@@ -13,7 +13,7 @@ use Rattle.tt_cert_file.specs.Sections.{section_of}
 use Rattle.tt_cert_file.specs.Text.{header_text, section_text}
 use Rattle.tt_find.specs.declared.finder.Found.{Found}
 use Rattle.tt_font.specs.Reading.{FontData, GlyphData}
-use Rattle.hintcheck.specs.CertificateTexts.{AreGlyphTexts, IsCertificate, IsEndedText, IsGlyphText, IsPassingCertificate, IsReadableListing, IsTextOf, WritesText, no_glyphs, one_more}
+use Rattle.hintcheck.specs.CertificateTexts.{AreGlyphTexts, IsCertificate, IsEndedText, IsPassingCertificate, IsReadableListing, IsTextOf, WritesText, no_glyphs, one_more}
 use Rattle.hintcheck.specs.FindingSessions.{IsForFinding, IsFoundAnswer, IsFoundFor, IsFoundToEnd, IsOutcomeByFinding, cvt_found, cvt_refused, font_found, font_refused, glyph_found, glyph_refused}
 use Rattle.hintcheck.specs.FontPrograms.{cvt_subject, font_of, font_subject, glyph_subject}
 use Rattle.hintcheck.specs.Programs.{Subject}
