@@ -27,7 +27,7 @@ use Rattle.tt_cert.specs.Checks.{IsWantOfMemory}
 use Rattle.tt_cert.specs.Contents.{Contents, HasContext, family_of, frames_at}
 use Rattle.tt_cert.specs.Puts.{number_at}
 use Rattle.tt_cert.specs.Rising.{IsFinished}
-use Rattle.tt_cert.specs.Fillings.{HasGoodFilling, HasOneGoodFilling, IsFilling}
+use Rattle.tt_cert.specs.Fillings.{IsFilling}
 use Rattle.tt_cert.specs.GoodFamilies.{EndsWell, IsGoodFamily}
 use Rattle.tt_cert.specs.Spots.{spot_of}
 use Rattle.tt_cert.specs.declared.fault.ProgramFault.{ProgramFault}

@@ -1,5 +1,5 @@
 -- How far the look at a font's programs has come. (Representation: no public clause cites it.)
-use Rattle.std.specs.Prelude.{◌≡◌, ℕ, List, ◌++◌, drop}
+use Rattle.std.specs.Prelude.{ℕ, List, ◌++◌, drop}
 use Rattle.tt_code.specs.Cut.{Instruction}
 use Rattle.tt_code.specs.Fonts.{Font}
 use Rattle.tt_code.specs.Settings.{Kind, FontProgram, CvtProgram, GlyphProgram}

@@ -1,6 +1,5 @@
 use Rattle.tt_abs.specs.Settings.{setting_of}
 use Rattle.tt_cert.specs.Contents.{family_of}
-use Rattle.tt_find.specs.declared.finder.Found.{Found}
 use Rattle.hintcheck.specs.FindingSessions.{IsFoundFor}
 use Rattle.hintcheck.specs.Looks.{IfRefused, IsAccepted}
 use Rattle.hintcheck.specs.Programs.{HasGoodFamily, IsRefusal}
