@@ -2,7 +2,7 @@
 
 mod ahead;
 mod bytes;
-mod calls;
+pub(crate) mod calls;
 mod decoding;
 mod encoding;
 mod failing;
