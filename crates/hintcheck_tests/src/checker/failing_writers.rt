@@ -68,7 +68,10 @@ fn searches_and_upgrades(rt: HostRuntime) -> Result<(), Fail> {
     assert_eq!(rt; first_wrong_search(rt.alloc(), &pops, &form_4), None);
     assert_eq!(rt; first_wrong_search(rt.alloc(), &points, &of_points), None);
     assert_eq!(rt; first_wrong_upgrade(rt.alloc(), &form_2, &form_4), None);
-    assert_eq!(rt; first_wrong_upgrade(rt.alloc(), &of_points, &of_points), None);
+    assert_eq!(rt;
+        first_wrong_upgrade(rt.alloc(), &of_points, &of_points),
+        None
+    );
     // For a refused font no call is made.
     let underflows = bytes_of(rt.alloc(), &UNDERFLOWING).expect(&rt, "call-underflows");
     let (told, taken) = found_by(rt.alloc(), &underflows, taker(rt.alloc(), 0, false));
@@ -107,7 +110,9 @@ fn sections_written(alloc: Global, bytes: &[u8]) -> Option<usize> {
             step: ALL,
             calls: ALL,
         };
-        let (Some(section), Written::Section { after, left: _ }) = decoded(alloc, steps, 0, Form::Four) else {
+        let (section, told) = decoded(alloc, steps, 0, Form::Four);
+        let section = section?;
+        let Written::Section { after, left: _ } = told else {
             return None;
         };
         let length = usize::try_from(after).ok()?;

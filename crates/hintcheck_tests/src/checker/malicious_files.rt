@@ -25,9 +25,7 @@ fn is_answer(told: Told) -> bool {
 fn is_answered(alloc: Global, font: &[u8], certificate: &[u8]) -> bool {
     let verdict = judged(alloc, font);
     let check = checked(alloc, font, certificate, false);
-    is_answer(verdict)
-        && is_answer(check)
-        && (check != Told::Accepted || verdict == Told::Accepted)
+    is_answer(verdict) && is_answer(check) && (check != Told::Accepted || verdict == Told::Accepted)
 }
 
 #[test]
@@ -143,7 +141,10 @@ fn certificates(rt: HostRuntime) -> Result<(), Fail> {
     fs::write(&rt, font.as_str(), &file)?;
     for length in 0..bytes.len() {
         let line = format!(in rt.alloc(); "fault: 43 certificate form at byte {length}\n")?;
-        assert!(rt; is_printed(&rt, paths, &bytes[..length], 2, "", &line)?, "{line}");
+        assert!(rt;
+            is_printed(&rt, paths, &bytes[..length], 2, "", &line)?,
+            "{line}"
+        );
     }
     // 4,294,967,295 states are announced, and none is there.
     let announced = bytes_of(rt.alloc(), &["4843525400010000000300", "00000000FFFFFFFF"]).expect(

@@ -301,7 +301,10 @@ fn told_in(alloc: Global, call: Call, setting: &Setting<'_>, example: &Example<'
 
 fn told_of_program(alloc: Global, call: Call, example: &Example<'_>) -> Told {
     let (points, contours) = example.programs.size;
-    let (main, font) = match (cut(alloc, example.programs.glyph), cut(alloc, example.programs.font)) {
+    let (main, font) = match (
+        cut(alloc, example.programs.glyph),
+        cut(alloc, example.programs.font),
+    ) {
         (Ok(main), Ok(font)) => (main, font),
         (Err(told), _) => return told,
         (Ok(_), Err(told)) => return told,
@@ -459,7 +462,12 @@ pub(crate) fn told_of(alloc: Global, call: Call, example: &Example<'_>) -> Told 
         Call::Decode => told_of_decoding(alloc, example),
         Call::Encode => told_of_encoding(alloc, example),
         Call::Verdict => told_of_acceptance(judged(alloc, example.font)),
-        Call::CheckFont => told_of_acceptance(checked(alloc, example.font, example.certificate, false)),
+        Call::CheckFont => told_of_acceptance(checked(
+            alloc,
+            example.font,
+            example.certificate,
+            false,
+        )),
         Call::FindFont => told_of_finding(alloc, example),
         Call::Upgrade => told_of_upgrade(alloc, example),
         Call::Bare => told_of_bare(alloc, example),

@@ -72,7 +72,8 @@ fn last_section(alloc: Global, certificate: &[u8]) -> Result<usize, Fail> {
     let mut place = 10;
     for _ in 0..ALL {
         let steps = steps_of(certificate.get(place..).ok_or("a section")?, false);
-        let (_, Told::Section { after, left }) = decoded(alloc, steps, 0, Form::Four) else {
+        let (_section, told) = decoded(alloc, steps, 0, Form::Four);
+        let Told::Section { after, left } = told else {
             break;
         };
         if left == 0 {

@@ -42,7 +42,10 @@ fn assert_refused(rt: &impl Abort, alloc: Global, example: &Example<'_>) {
     let mut answers = [Told::Wrong; CALLS.len()];
     for (place, call) in CALLS.iter().enumerate() {
         let told = told_of(alloc, *call, example);
-        assert!(rt; matches!(told, Told::Answer(_)), "{call:?} with ample memory");
+        assert!(rt;
+            matches!(told, Told::Answer(_)),
+            "{call:?} with ample memory"
+        );
         answers[place] = told;
     }
     let Some(mut hoard) = Hoard::new(alloc) else {
