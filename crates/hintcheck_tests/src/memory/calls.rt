@@ -168,7 +168,7 @@ fn is_filled(builder: &Builder) -> bool {
         if builder.context(number) != Some(context) {
             return false;
         }
-        number += 1;
+        number = number.wrapping_add(1);
     }
     for (context, offset, stack) in ROWS {
         match builder.state(context, offset) {
