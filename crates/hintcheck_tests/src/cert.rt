@@ -4,4 +4,4 @@ mod builders;
 mod certificates;
 mod checking;
 mod fillings;
-mod fixtures;
+pub(crate) mod fixtures;

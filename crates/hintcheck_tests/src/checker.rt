@@ -1,16 +1,20 @@
 //! Tests of the verdicts, and of what the command prints of them.
 
-mod certificate_calls;
-mod certificate_commands;
+pub(crate) mod certificate_calls;
+pub(crate) mod certificate_commands;
 mod certificates;
 mod commands;
+mod failing_readers;
+mod failing_writers;
 mod finding_sessions;
+pub(crate) mod font_files;
 mod font_files;
 mod font_programs;
 mod glyph_programs;
 mod lines;
 mod listing;
-mod outputs;
+mod malicious_files;
+pub(crate) mod outputs;
 mod sessions;
 mod stored_certificates;
 mod upgrade_commands;

@@ -1,6 +1,6 @@
 //! Tests of `tt_font`: small font files, whole and with faults.
 
 mod faults;
-mod files;
-mod glyphs;
+pub(crate) mod files;
+pub(crate) mod glyphs;
 mod tables;

@@ -16,7 +16,7 @@ use tt_stream::Counted;
 /// So many bytes or calls that there are never as many.
 pub(crate) const ALL: usize = 1_000_000;
 
-/// Gives no more than `step` bytes a call, and fails after so many calls.
+/// Gives no more than `step` bytes a call. The call after so many others fails, and it alone: who asks again gets more.
 #[derive(Drop)]
 pub(crate) struct Steps<'a> {
     pub(crate) bytes: &'a [u8],
@@ -27,6 +27,7 @@ pub(crate) struct Steps<'a> {
 impl io::Read for Steps<'_> {
     fn read(&mut self, buf: &mut [u8]) -> io::Result<usize> {
         if self.calls == 0 {
+            self.calls = ALL;
             return Err(io::Error::from(ErrorKind::UnexpectedEof));
         }
         self.calls -= 1;
@@ -38,12 +39,13 @@ impl io::Read for Steps<'_> {
     }
 }
 
-/// Takes no more than `step` bytes a call, and fails after so many calls.
+/// Takes no more than `step` bytes a call. The call after so many others fails, or takes nothing, and it alone: who asks again gets rid of more.
 #[derive(Drop)]
 pub(crate) struct Taker {
     pub(crate) bytes: Vec<u8>,
     pub(crate) step: usize,
     pub(crate) calls: usize,
+    pub(crate) takes_nothing: bool,
 }
 
 impl Taker {
@@ -53,6 +55,7 @@ impl Taker {
             bytes: Vec::new(alloc),
             step,
             calls,
+            takes_nothing: false,
         }
     }
 }
@@ -60,6 +63,10 @@ impl Taker {
 impl Write for Taker {
     fn write(&mut self, buf: &[u8]) -> io::Result<usize> {
         if self.calls == 0 {
+            self.calls = ALL;
+            if self.takes_nothing {
+                return Ok(0);
+            }
             return Err(io::Error::from(ErrorKind::StorageFull));
         }
         self.calls -= 1;
@@ -227,6 +234,14 @@ fn file_over<L: Ledger>(alloc: Global, steps: Steps<'_>, blank: Blank) -> Result
     Ok(place)
 }
 
+/// What reading a file tells.
+pub(crate) fn told_of_file_by(alloc: Global, steps: Steps<'_>) -> Told {
+    match file_over::<Brand>(alloc, steps, Blank::new(1)) {
+        Ok(after) => Told::Section { after, left: 0 },
+        Err(fault) => told_by_decode_fault(fault),
+    }
+}
+
 /// What reading a file in steps of 5 bytes tells.
 pub(crate) fn told_of_file(alloc: Global, bytes: &[u8]) -> Told {
     let steps = Steps {
@@ -234,10 +249,7 @@ pub(crate) fn told_of_file(alloc: Global, bytes: &[u8]) -> Told {
         step: 5,
         calls: ALL,
     };
-    match file_over::<Brand>(alloc, steps, Blank::new(1)) {
-        Ok(after) => Told::Section { after, left: 0 },
-        Err(fault) => told_by_decode_fault(fault),
-    }
+    told_of_file_by(alloc, steps)
 }
 
 fn encode_over<L: Ledger>(

@@ -2,13 +2,12 @@
 
 ghost use Rattle.std.specs.Prelude.{◌≡◌, ◌<◌};
 
+use crate::cert_file::calls::{ALL, Steps, Taker};
 use hintcheck::{
-    CheckFontFault, FindFontFault, UpgradeFault, Verdict, check_font, find_font, upgrade,
+    CheckFontFault, FindFontFault, UpgradeFault, Verdict, check_font, find_font, upgrade, verdict,
 };
 use hintcheck_words::word_bytes;
 use std::alloc::Global;
-use std::io;
-use std::io::{ErrorKind, Write};
 use std::marker::Brand;
 use std::sync::ledger::{Blank, Ledger};
 use tt_stream::Counted;
@@ -24,56 +23,14 @@ pub(crate) fn bytes_of(alloc: Global, parts: &[&str]) -> Option<Vec<u8>> {
     Some(bytes)
 }
 
-/// Gives so many bytes, and then fails where it is to.
-#[derive(Drop)]
-struct Given<'a> {
-    bytes: &'a [u8],
-    fails: bool,
-}
-
-impl io::Read for Given<'_> {
-    fn read(&mut self, buf: &mut [u8]) -> io::Result<usize> {
-        if self.bytes.is_empty() && self.fails {
-            return Err(io::Error::from(ErrorKind::UnexpectedEof));
-        }
-        let count = self.bytes.len().min(buf.len());
-        let (front, rest) = self.bytes.split_at(count);
-        buf[..count].copy_from_slice(front);
-        self.bytes = rest;
-        Ok(count)
-    }
-}
-
-/// Takes so many bytes, and then fails.
-#[derive(Drop)]
-struct Taker {
-    bytes: Vec<u8>,
-    room: usize,
-}
-
-impl Write for Taker {
-    fn write(&mut self, buf: &[u8]) -> io::Result<usize> {
-        let room = self.room.saturating_sub(self.bytes.len());
-        if room == 0 {
-            return Err(io::Error::from(ErrorKind::StorageFull));
-        }
-        let count = room.min(buf.len());
-        self.bytes.extend_from_slice(&buf[..count])?;
-        Ok(count)
-    }
-
-    fn flush(&mut self) -> io::Result<()> {
-        Ok(())
-    }
-}
-
 /// What a check answers.
 #[derive(Clone, Copy, Debug, PartialEq, Eq)]
 pub(crate) enum Told {
     Accepted,
     /// So many programs are refused; the offset and the number of the first.
     Refused(usize, u32, u8),
-    Font,
+    /// The font's own fault has this number.
+    Font(u8),
     Form(u64),
     Read,
     Write,
@@ -92,22 +49,58 @@ fn told_of_verdict(verdict: &Verdict) -> Told {
     }
 }
 
-fn check_on<L: Ledger>(alloc: Global, font: &[u8], given: Given<'_>, blank: Blank) -> Told
+/// What the verdict on a font's bytes is.
+pub(crate) fn judged(alloc: Global, font: &[u8]) -> Told {
+    match verdict(alloc, font) {
+        Ok(verdict) => told_of_verdict(&verdict),
+        Err(fault) => Told::Font(fault.number()),
+    }
+}
+
+/// What the fault of a check says.
+pub(crate) fn told_of_check_fault(fault: &CheckFontFault) -> Told {
+    match fault {
+        CheckFontFault::Font(font) => Told::Font(font.number()),
+        CheckFontFault::Form(place) => Told::Form(*place),
+        CheckFontFault::Read => Told::Read,
+        CheckFontFault::OutOfMemory(_) => Told::OutOfMemory,
+    }
+}
+
+fn check_on<L: Ledger>(alloc: Global, font: &[u8], steps: Steps<'_>, blank: Blank) -> Told
     requires { (blank.name ≡ L.name) × (blank.parts ≡ L.parts) × (0 < blank.parts) }
 {
-    let mut source = Counted::<Given, L>::new(given, blank);
+    let mut source = Counted::<Steps<'_>, L>::new(steps, blank);
     match check_font(alloc, font, &mut source) {
         Ok(verdict) => told_of_verdict(&verdict),
-        Err(CheckFontFault::Font(_)) => Told::Font,
-        Err(CheckFontFault::Form(place)) => Told::Form(place),
-        Err(CheckFontFault::Read) => Told::Read,
-        Err(CheckFontFault::OutOfMemory(_)) => Told::OutOfMemory,
+        Err(fault) => told_of_check_fault(&fault),
+    }
+}
+
+/// What the check of a font answers by what this reader gives.
+pub(crate) fn checked_by(alloc: Global, font: &[u8], steps: Steps<'_>) -> Told {
+    check_on::<Brand>(alloc, font, steps, Blank::new(1))
+}
+
+/// These bytes, after which a read fails where it is to.
+pub(crate) fn steps_of(bytes: &[u8], fails: bool) -> Steps<'_> {
+    if fails {
+        return Steps {
+            bytes,
+            step: 1,
+            calls: bytes.len(),
+        };
+    }
+    Steps {
+        bytes,
+        step: ALL,
+        calls: ALL,
     }
 }
 
 /// What the check of a font answers by these bytes, after which a read fails where it is to.
 pub(crate) fn checked(alloc: Global, font: &[u8], bytes: &[u8], fails: bool) -> Told {
-    check_on::<Brand>(alloc, font, Given { bytes, fails }, Blank::new(1))
+    checked_by(alloc, font, steps_of(bytes, fails))
 }
 
 fn find_on<L: Ledger>(alloc: Global, font: &[u8], taker: Taker, blank: Blank) -> (Told, Vec<u8>)
@@ -116,25 +109,26 @@ fn find_on<L: Ledger>(alloc: Global, font: &[u8], taker: Taker, blank: Blank) ->
     let mut sink = Counted::<Taker, L>::new(taker, blank);
     let told = match find_font(alloc, font, &mut sink) {
         Ok(verdict) => told_of_verdict(&verdict),
-        Err(FindFontFault::Font(_)) => Told::Font,
+        Err(FindFontFault::Font(fault)) => Told::Font(fault.number()),
         Err(FindFontFault::Write) => Told::Write,
         Err(FindFontFault::OutOfMemory(_)) => Told::OutOfMemory,
     };
     (told, sink.into_inner().bytes)
 }
 
+/// What the search for a font's certificate answers, and what this writer took.
+pub(crate) fn found_by(alloc: Global, font: &[u8], taker: Taker) -> (Told, Vec<u8>) {
+    find_on::<Brand>(alloc, font, taker, Blank::new(1))
+}
+
 /// What the search for a font's certificate answers, and what is written, where there is room for so many bytes.
 pub(crate) fn found(alloc: Global, font: &[u8], room: usize) -> (Told, Vec<u8>) {
-    let taker = Taker {
-        bytes: Vec::new(alloc),
-        room,
-    };
-    find_on::<Brand>(alloc, font, taker, Blank::new(1))
+    found_by(alloc, font, Taker::new(alloc, 1, room))
 }
 
 fn upgrade_on<L: Ledger, M: Ledger>(
     alloc: Global,
-    given: Given<'_>,
+    steps: Steps<'_>,
     taker: Taker,
     reads: Blank,
     writes: Blank,
@@ -142,7 +136,7 @@ fn upgrade_on<L: Ledger, M: Ledger>(
     requires reads { (reads.name ≡ L.name) × (reads.parts ≡ L.parts) × (0 < reads.parts) }
     requires writes { (writes.name ≡ M.name) × (writes.parts ≡ M.parts) × (0 < writes.parts) }
 {
-    let mut source = Counted::<Given, L>::new(given, reads);
+    let mut source = Counted::<Steps<'_>, L>::new(steps, reads);
     let mut sink = Counted::<Taker, M>::new(taker, writes);
     let told = match upgrade(alloc, &mut source, &mut sink) {
         Ok(sections) => Ok(sections),
@@ -154,6 +148,15 @@ fn upgrade_on<L: Ledger, M: Ledger>(
     (told, sink.into_inner().bytes)
 }
 
+/// How many sections an upgrade tells of what this reader gives, and what this writer took.
+pub(crate) fn upgraded_by(
+    alloc: Global,
+    steps: Steps<'_>,
+    taker: Taker,
+) -> (Result<u32, Told>, Vec<u8>) {
+    upgrade_on::<Brand, Brand>(alloc, steps, taker, Blank::new(1), Blank::new(1))
+}
+
 /// How many sections an upgrade of these bytes tells, after which a read fails where it is to, and what is written, where there is room for so
 /// many bytes.
 pub(crate) fn upgraded(
@@ -162,10 +165,5 @@ pub(crate) fn upgraded(
     fails: bool,
     room: usize,
 ) -> (Result<u32, Told>, Vec<u8>) {
-    let given = Given { bytes, fails };
-    let taker = Taker {
-        bytes: Vec::new(alloc),
-        room,
-    };
-    upgrade_on::<Brand, Brand>(alloc, given, taker, Blank::new(1), Blank::new(1))
+    upgraded_by(alloc, steps_of(bytes, fails), Taker::new(alloc, 1, room))
 }

@@ -92,7 +92,7 @@ fn certificate_cut_short(rt: HostRuntime) {
 }
 
 /// The bytes with another one at a place.
-fn with_byte(bytes: &[u8], place: usize, byte: u8, alloc: Global) -> Option<Vec<u8>> {
+pub(crate) fn with_byte(bytes: &[u8], place: usize, byte: u8, alloc: Global) -> Option<Vec<u8>> {
     let mut changed = Vec::from_slice(alloc, bytes).ok()?;
     *changed.get_mut(place)? = byte;
     Some(changed)

@@ -39,7 +39,7 @@ fn reads_glyphs(rt: HostRuntime) -> Result<(), Fail> {
 }
 
 /// A font of a glyph of 4 points and a composite glyph with these components.
-fn font_with(alloc: Global, components: &[u8]) -> Result<Vec<u8>, Fail> {
+pub(crate) fn font_with(alloc: Global, components: &[u8]) -> Result<Vec<u8>, Fail> {
     let glyph = square(alloc, &[])?;
     let composite = made(alloc, components)?;
     font_of(alloc, &[], &[], &[glyph.as_slice(), composite.as_slice()])
@@ -77,10 +77,10 @@ fn sums_components(rt: HostRuntime) -> Result<(), Fail> {
 }
 
 /// A composite glyph of the first glyph of a font.
-const OF_FIRST: [u8; 16] = [0xFF, 0xFF, 0, 0, 0, 0, 0, 0, 0, 0, 0, 0, 0, 0, 0, 0];
+pub(crate) const OF_FIRST: [u8; 16] = [0xFF, 0xFF, 0, 0, 0, 0, 0, 0, 0, 0, 0, 0, 0, 0, 0, 0];
 
 /// A composite glyph of the second glyph of a font.
-const OF_SECOND: [u8; 16] = [0xFF, 0xFF, 0, 0, 0, 0, 0, 0, 0, 0, 0, 0, 0, 1, 0, 0];
+pub(crate) const OF_SECOND: [u8; 16] = [0xFF, 0xFF, 0, 0, 0, 0, 0, 0, 0, 0, 0, 0, 0, 1, 0, 0];
 
 /// Glyphs in a circle, and which of them is refused.
 const CIRCLES: [(&[&[u8]], u16); 3] = [
@@ -102,7 +102,7 @@ fn refuses_circles(rt: HostRuntime) -> Result<(), Fail> {
 }
 
 /// A font of a glyph of 4 points and one that has it so many times as a component.
-fn font_of_many(alloc: Global, times: u16) -> Result<Vec<u8>, Fail> {
+pub(crate) fn font_of_many(alloc: Global, times: u16) -> Result<Vec<u8>, Fail> {
     let glyph = square(alloc, &[])?;
     let many = many_times(alloc, 0, times)?;
     font_of(alloc, &[], &[], &[glyph.as_slice(), many.as_slice()])
@@ -128,7 +128,7 @@ fn bounds_points(rt: HostRuntime) -> Result<(), Fail> {
 }
 
 /// A font of an empty glyph, and so many glyphs that are each made of the one before a thousand times.
-fn tower(alloc: Global, height: u16) -> Result<Vec<u8>, Fail> {
+pub(crate) fn tower(alloc: Global, height: u16) -> Result<Vec<u8>, Fail> {
     let mut glyphs = Glyphs::new(alloc)?;
     glyphs.push(&[0; 10])?;
     for id in 0..height {

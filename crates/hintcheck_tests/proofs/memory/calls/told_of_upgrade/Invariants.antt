@@ -1,4 +1,4 @@
-use Rattle.hintcheck_tests.proofs.checker.certificate_calls.upgraded.Given as goal
+use Rattle.hintcheck_tests.proofs.memory.calls.told_of_upgrade.Given as goal
 
 abbrev pub ghosts-upgrade_on-L-Ledger : goal.ghosts-upgrade_on-L-Ledger
 ghosts-upgrade_on-L-Ledger a = record { name = a.reads.name; parts = a.reads.parts }
