@@ -12,6 +12,7 @@ pub mod CheckRefusals
 pub mod CheckedSections
 pub mod CertificateWriting
 pub mod FaultLemmas
+pub mod PrintedLemmas
 pub mod OneFinding
 pub mod OneFont
 pub mod CheckedTexts

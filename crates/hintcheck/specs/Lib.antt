@@ -8,6 +8,7 @@ pub mod Judging
 pub mod Listing
 pub mod Commands
 pub mod MeansSafe
+pub mod Printed
 pub mod CommandFaults
 pub mod CheckedFonts
 pub mod CertificateFaults

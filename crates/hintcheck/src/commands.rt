@@ -11,7 +11,8 @@ ghost use Rattle.hintcheck.specs.CommandFaults.{HasNoFault, IsFaultOfCertifying,
 ghost use Rattle.hintcheck.specs.FontPrograms.{IsFontInRange, IsSafeFont, IsVerdict};
 ghost use Rattle.hintcheck.specs.Listing.{HoldUnlistedProgram};
 ghost use Rattle.hintcheck.specs.MeansSafe.{HoldFont, HoldRefusedFont, HoldSafeFont, IsRefusedRequest, IsSafeRequest, IsVerdictOn, MeansRefused, MeansSafe, SpellRefusedGlyph, SpellSafeGlyph};
-ghost use Rattle.hintcheck.specs.Texts.{end_line, upgraded_line, verdict_text};
+ghost use Rattle.hintcheck.specs.Printed.{MeansPrinted, Prints, PrintsListing, PrintsUpgrade};
+ghost use Rattle.hintcheck.specs.Texts.{end_line, verdict_text};
 ghost use Rattle.hintcheck.specs.Upgrades.{UpgradesTo};
 
 pub mod faults;
@@ -304,6 +305,8 @@ fn list_of_file<R: Files + AllocGlobal, O: Sink>(
 ) -> Result<u8, CommandFault>
     ensures status { IfOk result (λ status. status ≤ 1) }
     ensures refused { IfOk result (λ status. status ≡ 1 → (bytes : List ℕ) × HoldUnlistedProgram bytes word.now) }
+    ensures printed { IfOk result
+        (λ status. PrintsListing word.now status (O.contents out.old) (O.contents out.new)) }
     ensures failures { TellsFailure result (O.failures out.old) (O.failures out.new) }
     ensures faults { IfErr result (IsFaultOfFileListing word.now) }
 {
@@ -364,7 +367,7 @@ fn tell_upgrade<R: Files + AllocGlobal, O: Sink>(
     out: &mut O,
 ) -> Result<u8, CommandFault>
     ensures status { IfOk result (λ status. status ≡ 0) }
-    ensures written { OnOk result ((count : ℕ) × Appends (O.contents out.old) (O.contents out.new) (upgraded_line count)) }
+    ensures written { OnOk result (PrintsUpgrade (O.contents out.old) (O.contents out.new)) }
     ensures failures { TellsFailure result (O.failures out.old) (O.failures out.new) }
     ensures faults { IfErr result (λ told. IsFaultOfUpgrading old.now new.now told ⊎ (old.now ≢ new.now × IsFaultOfPrinting told)) }
     ensures none { OnOk result (old.now ≢ new.now) }
@@ -441,6 +444,8 @@ fn do_task<R: Files + AllocGlobal, O: Sink>(
     ensures status { IfOk result (λ status. status ≤ 1) }
     ensures safe { IfOk result (λ status. status ≡ 0 → IsSafeRequest (asked task.now)) }
     ensures refused { IfOk result (λ status. status ≡ 1 → IsRefusedRequest (asked task.now)) }
+    ensures printed { IfOk result
+        (λ status. Prints (asked task.now) status (O.contents out.old) (O.contents out.new)) }
     ensures failures { TellsFailure result (O.failures out.old) (O.failures out.new) }
     ensures faults { IfErr result (IsFaultOfTask (asked task.now)) }
     ensures none { OnOk result (HasNoFault (asked task.now)) }
@@ -467,6 +472,9 @@ pub fn try_command<R: Files + AllocGlobal, O: Sink>(
     ensures status { IfOk result (λ status. status ≤ 1) }
     ensures safe { IfOk result (λ status. status ≡ 0 → is_taken (map (λ w. w.now) words.entry.now) ≡ true → MeansSafe (map (λ w. w.now) words.entry.now)) }
     ensures refused { IfOk result (λ status. status ≡ 1 → MeansRefused (map (λ w. w.now) words.entry.now)) }
+    // What is printed is the answer: a verdict, the lines of a program, or how many sections were upgraded.
+    ensures printed { IfOk result (λ status. is_taken (map (λ w. w.now) words.entry.now) ≡ true
+        → MeansPrinted (map (λ w. w.now) words.entry.now) status (O.contents out.old) (O.contents out.new)) }
     ensures failures { TellsFailure result (O.failures out.old) (O.failures out.new) }
     // A fault is one of the words, of what they name or of printing, and there is none where the status is answered.
     ensures faults { IfErr result (IsFaultOfWords (map (λ w. w.now) words.entry.now)) }
@@ -499,6 +507,9 @@ pub fn command<R: Files + AllocGlobal, O: Sink, E: Sink>(
     ensures safe { result ≡ 0 → is_taken (map (λ w. w.now) words.entry.now) ≡ true → MeansSafe (map (λ w. w.now) words.entry.now) }
     // Where the status is 1, the words ask for something, which is refused.
     ensures refused { result ≡ 1 → MeansRefused (map (λ w. w.now) words.entry.now) }
+    // Where it is 0 or 1, and the command line takes the words, what is printed is the answer.
+    ensures printed { result ≤ 1 → is_taken (map (λ w. w.now) words.entry.now) ≡ true
+        → MeansPrinted (map (λ w. w.now) words.entry.now) result (O.contents out.old) (O.contents out.new) }
     // Where the status is 2 or 3, a fault of the words gives it; else they have none where the command line takes them.
     ensures told { 2 ≤ result → TellsFault (map (λ w. w.now) words.entry.now) result }
     ensures none { result ≤ 1 → is_taken (map (λ w. w.now) words.entry.now) ≡ true → MeansNoFault (map (λ w. w.now) words.entry.now) }

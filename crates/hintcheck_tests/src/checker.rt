@@ -8,7 +8,6 @@ mod failing_readers;
 mod failing_writers;
 mod finding_sessions;
 pub(crate) mod font_files;
-mod font_files;
 mod font_programs;
 mod glyph_programs;
 mod lines;

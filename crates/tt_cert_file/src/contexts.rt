@@ -1,13 +1,13 @@
 //! Contexts of a section: read one after the other, each by the rules, and made those of a builder.
 
-ghost use Rattle.std.specs.Prelude.{◌≡◌, ◌<◌, ◌≤◌, ℕ, [], true, length, IfOk};
+ghost use Rattle.std.specs.Prelude.{◌≡◌, ◌<◌, ◌≤◌, ℕ, [], true, length, IfErr, IfOk};
 ghost use Rattle.std.specs.Option.{option_copied};
 ghost use Rattle.tt_cert.specs.Built.{key_of as key_of_context};
 ghost use Rattle.tt_cert.specs.Contents.{IsFamily, frames_at};
 ghost use Rattle.tt_cert.specs.Rising.{IsFinished};
 ghost use Rattle.tt_cert.specs.Contexts.{frames_of};
 ghost use Rattle.tt_stream.specs.Reads.{ConsumesBeginning};
-ghost use Rattle.tt_cert_file.specs.Answers.{CountsRead, Gives, input_at};
+ghost use Rattle.tt_cert_file.specs.Answers.{CountsRead, Gives, IsWantOfMemory, input_at};
 ghost use Rattle.tt_cert_file.specs.Forms.{most_contexts};
 ghost use Rattle.tt_cert_file.specs.Readers.{list_at};
 ghost use Rattle.tt_cert_file.specs.Reading.{context_at, context_count_at, contexts_at};
@@ -89,6 +89,7 @@ fn read_context<S: Source>(
     ensures follows { IfOk result (λ r. may_follow_after before.now r.0 ≡ true) }
     ensures beginning { ConsumesBeginning (S.remaining source.old) (S.remaining source.new) }
     ensures failures { CountsRead result (S.failures source.old) (S.failures source.new) }
+    ensures memory { IfErr result (λ fault. ¬ IsWantOfMemory fault) }
 {
     let (parent, at) = read_word(source, place)?;
     let (call, at) = read_long(source, at)?;
@@ -114,6 +115,7 @@ fn read_count<S: Source>(source: &mut S, place: u64, form: Form) -> Result<(u16,
     ensures few { IfOk result (λ r. r.0 ≤ most_contexts form) }
     ensures beginning { ConsumesBeginning (S.remaining source.old) (S.remaining source.new) }
     ensures failures { CountsRead result (S.failures source.old) (S.failures source.new) }
+    ensures memory { IfErr result (λ fault. ¬ IsWantOfMemory fault) }
 {
     let (count, at) = read_word(source, place)?;
     if count > form.most_contexts() {

@@ -1,10 +1,10 @@
 //! Lists of a section, each read after the number of its values.
 
-ghost use Rattle.std.specs.Prelude.{◌≡◌, ◌*◌, ◌<◌, ◌≤◌, [], true, length, take, IfOk, OnOk};
+ghost use Rattle.std.specs.Prelude.{◌≡◌, ◌*◌, ◌<◌, ◌≤◌, [], true, length, take, IfErr, IfOk, OnOk};
 ghost use Rattle.tt_abs.specs.Entries.{Rises};
 ghost use Rattle.tt_stream.specs.Reads.{ConsumesBeginning};
 ghost use Rattle.tt_stream.specs.Streams.{CountsFailure};
-ghost use Rattle.tt_cert_file.specs.Answers.{CountsRead, Gives, input_at};
+ghost use Rattle.tt_cert_file.specs.Answers.{CountsRead, Gives, IsWantOfMemory, input_at};
 ghost use Rattle.tt_cert_file.specs.Blocks.{AreKept, FillsOn, FillsRest, ReadsBlock, ReadsCells, ReadsMoreCells, ReadsRest, Takes, TakesCells, TakesSomeCells};
 ghost use Rattle.tt_cert_file.specs.Readers.{list_at};
 ghost use Rattle.tt_cert_file.specs.Reading.{cell_at, function_at, functions_at, stack_at, storage_at, stored_at};
@@ -503,6 +503,7 @@ fn read_stored<S: Source>(
     ensures above { IfOk result (λ r. is_above (last_of before.now) r.0 ≡ true) }
     ensures beginning { ConsumesBeginning (S.remaining source.old) (S.remaining source.new) }
     ensures failures { CountsRead result (S.failures source.old) (S.failures source.new) }
+    ensures memory { IfErr result (λ fault. ¬ IsWantOfMemory fault) }
 {
     let ((index, number), after) = read_pair(source, place)?;
     if let Some(last) = before.last()

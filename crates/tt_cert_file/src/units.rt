@@ -95,6 +95,7 @@ pub(crate) fn read_pair<S: Source>(
     ensures reads { Gives (λ x. x) (S.remaining source.old) (S.remaining source.new) result (pair_at (input_at place (S.remaining source.old))) }
     ensures beginning { ConsumesBeginning (S.remaining source.old) (S.remaining source.new) }
     ensures failures { CountsRead result (S.failures source.old) (S.failures source.new) }
+    ensures memory { IfErr result (λ fault. ¬ IsWantOfMemory fault) }
 {
     let (unit, after) = read_unit::<S, 6>(source, place)?;
     Ok((pair_of(unit), after))
@@ -106,6 +107,7 @@ pub(crate) fn read_name<S: Source>(source: &mut S, place: u64) -> Result<(Name, 
     ensures reads { Gives (λ x. x) (S.remaining source.old) (S.remaining source.new) result (name_at (input_at place (S.remaining source.old))) }
     ensures beginning { ConsumesBeginning (S.remaining source.old) (S.remaining source.new) }
     ensures failures { CountsRead result (S.failures source.old) (S.failures source.new) }
+    ensures memory { IfErr result (λ fault. ¬ IsWantOfMemory fault) }
 {
     let (unit, after) = read_unit::<S, 3>(source, place)?;
     let [kind, high, low] = unit;
@@ -124,6 +126,7 @@ pub(crate) fn read_cell<S: Source>(source: &mut S, place: u64) -> Result<(Cell, 
     ensures reads { Gives (λ x. x) (S.remaining source.old) (S.remaining source.new) result (cell_at (input_at place (S.remaining source.old))) }
     ensures beginning { ConsumesBeginning (S.remaining source.old) (S.remaining source.new) }
     ensures failures { CountsRead result (S.failures source.old) (S.failures source.new) }
+    ensures memory { IfErr result (λ fault. ¬ IsWantOfMemory fault) }
 {
     let (unit, after) = read_unit::<S, 1>(source, place)?;
     let [tag] = unit;
@@ -143,6 +146,7 @@ fn read_zone<S: Source>(source: &mut S, place: u64) -> Result<(ZoneCell, u64), D
     ensures reads { Gives (λ x. x) (S.remaining source.old) (S.remaining source.new) result (zone_at (input_at place (S.remaining source.old))) }
     ensures beginning { ConsumesBeginning (S.remaining source.old) (S.remaining source.new) }
     ensures failures { CountsRead result (S.failures source.old) (S.failures source.new) }
+    ensures memory { IfErr result (λ fault. ¬ IsWantOfMemory fault) }
 {
     let (unit, after) = read_unit::<S, 1>(source, place)?;
     let [byte] = unit;
@@ -163,6 +167,7 @@ pub(crate) fn read_graphics<S: Source>(
     ensures reads { Gives (λ x. x) (S.remaining source.old) (S.remaining source.new) result (graphics_at (input_at place (S.remaining source.old))) }
     ensures beginning { ConsumesBeginning (S.remaining source.old) (S.remaining source.new) }
     ensures failures { CountsRead result (S.failures source.old) (S.failures source.new) }
+    ensures memory { IfErr result (λ fault. ¬ IsWantOfMemory fault) }
 {
     let (rp0, at) = read_cell(source, place)?;
     let (rp1, at) = read_cell(source, at)?;

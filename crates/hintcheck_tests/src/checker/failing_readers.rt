@@ -1,7 +1,7 @@
 //! Readers that give one byte a call, of which one fails: all that was told by then stands, and no further call is made.
 
 ghost use Rattle.std.specs.Prelude.{◌≡◌, ◌<◌};
-ghost use Rattle.hintcheck.specs.FontLooks.{IsFontInRange};
+ghost use Rattle.hintcheck.specs.FontPrograms.{IsFontInRange};
 
 use crate::cert_file::calls::{ALL, Steps, Taker, Told as Read, told_of_file_by};
 use crate::checker::certificate_calls::{

@@ -6,6 +6,7 @@ use Rattle.hintcheck_words.specs.declared.words.Task.{Task}
 use Rattle.hintcheck_words.specs.declared.words.Task.TheVariants as task
 use Rattle.hintcheck.specs.Commands.{IsForVerdict}
 use Rattle.hintcheck.proofs.FaultLemmas.{nothing_said}
+use Rattle.hintcheck.proofs.PrintedLemmas.{prints_for_verdict, prints_upgrade, prints_verdict}
 use Rattle.hintcheck.proofs.commands.do_task.Goals as goal
 
 for_verdict : (t : Task) → ((font program : String Global) → t ≡ task.List font program → ⊥) → ((old new : String Global) → t ≡ task.Upgrade old new → ⊥) → IsForVerdict (asked t)
@@ -61,3 +62,26 @@ pub returns-in-Upgrade-clause-none : goal.returns-in-Upgrade-clause-none
 unfolding asked
 returns-in-Upgrade-clause-none g c =
     on_ok_weaker c.tell_upgrade.result (λ none. rw c.in-Upgrade.is (rw (← c.deref-in-Upgrade.ensures, ← c.deref-in-Upgrade-2.ensures) none)) c.tell_upgrade.ensures.none
+
+pub returns-in-List-clause-printed : goal.returns-in-List-clause-printed
+unfolding asked
+returns-in-List-clause-printed g c =
+    IfOk-weaker c.list_of_file.result _ _ (λ status printed. rw c.in-List.is (rw (← c.deref-in-List.ensures) printed)) c.list_of_file.ensures.printed
+
+pub returns-in-Upgrade-clause-printed : goal.returns-in-Upgrade-clause-printed
+unfolding asked
+returns-in-Upgrade-clause-printed g c =
+    let contents = g.O.Sink.contents in
+    IfOk-weaker c.tell_upgrade.result _ _ (λ status printed. rw c.in-Upgrade.is printed)
+    (prints_upgrade c.tell_upgrade.result (contents c.args.out.now) (contents c.tell_upgrade.new.out) c.tell_upgrade.ensures.written)
+
+pub returns-in_ok-verdict_on-in_default-clause-printed : goal.returns-in_ok-verdict_on-in_default-clause-printed
+returns-in_ok-verdict_on-in_default-clause-printed g c =
+    let contents = g.O.Sink.contents in
+    let old = contents c.args.out.now in
+    let new = contents c.tell_verdict.new.out in
+    let task = c.args.task.now in
+    let asks = for_verdict task c.in_default.not-List c.in_default.not-Upgrade in
+    let told = c.tell_verdict.ensures in
+    IfOk-weaker c.tell_verdict.result _ _ (λ status printed. prints_for_verdict (asked task) status old new asks printed)
+    (prints_verdict c.tell_verdict.result c.in_ok-verdict_on-in_default.field-0 old new told.accepted told.refused told.written)

@@ -34,3 +34,11 @@ returns-in_ok-write-in-Err-Words-clause-none g c = λ taken. absurd (rw c.in-Err
 
 pub returns-in-Err-OutOfMemory-clause-faults : goal.returns-in-Err-OutOfMemory-clause-faults
 returns-in-Err-OutOfMemory-clause-faults g c = no_memory
+
+pub returns-in_ok-write-in-Err-Words-clause-printed : goal.returns-in_ok-write-in-Err-Words-clause-printed
+unfolding IsWantOfMemory
+returns-in_ok-write-in-Err-Words-clause-printed g c = λ taken. absurd (rw c.in-Err-Words.field-0-is at (c.in-Err-Words.ensures.refused taken))
+
+pub returns-in-Ok-clause-printed : goal.returns-in-Ok-clause-printed
+returns-in-Ok-clause-printed g c =
+    IfOk-weaker c.do_task.result _ _ (λ status printed taken. record { request = asked c.in-Ok.task; meant = c.in-Ok.ensures.asked; printed = printed }) c.do_task.ensures.printed

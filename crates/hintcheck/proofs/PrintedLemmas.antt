@@ -1,0 +1,36 @@
+-- What is printed by parts of a command is what is printed for the request.
+use Rattle.std.proofs.Common.{◌≡◌, ◌≢◌, ℕ, List, [], Option, IfOk, OnOk, Result, Ok, Err}
+use Rattle.std.specs.Io.KnownBytes.{Appends}
+use Rattle.hintcheck_words.specs.Requests.{Request, bare, check, find, list, upgrade, verdict}
+use Rattle.hintcheck.specs.Commands.{IsForVerdict}
+use Rattle.hintcheck.specs.Listing.{HoldListedProgram, HoldToldProgram}
+use Rattle.hintcheck.specs.Printed.{Prints, PrintsListing, PrintsUpgrade, PrintsVerdict}
+use Rattle.hintcheck.specs.Texts.{verdict_text}
+use Rattle.hintcheck.specs.Verdicts.{Judgement}
+use Rattle.hintcheck.specs.declared.commands.faults.CommandFault.{CommandFault}
+
+-- a verdict's lines, by what is said of the status and of the lines
+pub prints_verdict : (r : Result ℕ CommandFault) (v : Judgement) (old new : Option (List ℕ)) → IfOk r (λ status. status ≡ 0 → v.refused ≡ [])
+    → IfOk r (λ status. status ≡ 1 → v.refused ≢ []) → OnOk r (Appends old new (verdict_text v)) → IfOk r (λ status. PrintsVerdict status old new)
+prints_verdict (Ok status) v old new accepted refused written = record { judgement = v; accepted = accepted; refused = refused; written = written }
+prints_verdict (Err e) v old new accepted refused written = tt
+
+-- a listing, by what is said of the bytes
+pub prints_listing : (r : Result ℕ CommandFault) (bytes word : List ℕ) (old new : Option (List ℕ)) → IfOk r (λ status. status ≡ 0 → HoldListedProgram bytes word old new)
+    → IfOk r (λ status. status ≡ 1 → HoldToldProgram bytes word old new) → IfOk r (λ status. PrintsListing word status old new)
+prints_listing (Ok status) bytes word old new listed told = record { bytes = bytes; listed = listed; told = told }
+prints_listing (Err e) bytes word old new listed told = tt
+
+-- where a verdict is asked for, its lines are the answer
+pub prints_for_verdict : (q : Request) (status : ℕ) (old new : Option (List ℕ)) → IsForVerdict q → PrintsVerdict status old new → Prints q status old new
+prints_for_verdict (bare maxp cvt points contours program) status old new for_verdict printed = printed
+prints_for_verdict (verdict font) status old new for_verdict printed = printed
+prints_for_verdict (find font certificate) status old new for_verdict printed = printed
+prints_for_verdict (check font certificate) status old new for_verdict printed = printed
+prints_for_verdict (list font program) status old new for_verdict printed = absurd for_verdict
+prints_for_verdict (upgrade before after) status old new for_verdict printed = absurd for_verdict
+
+-- an upgrade has one line, whatever its status
+pub prints_upgrade : (r : Result ℕ CommandFault) (old new : Option (List ℕ)) → OnOk r (PrintsUpgrade old new) → IfOk r (λ status. PrintsUpgrade old new)
+prints_upgrade (Ok status) old new printed = printed
+prints_upgrade (Err e) old new printed = tt
