@@ -1,18 +1,18 @@
 //! The stack of cells.
 
-ghost use Rattle.std.specs.Prelude.{◌≡◌, ℕ, ◌↔◌, ◌<◌, ◌≢◌, ◌+◌, ◌-◌, ◌^◌, ◌++◌, [], ◌∷◌, length, drop, take, remove, reverse, slice_get, map, pos, IsTrue, IfSome, OnOk, OnErr, IfOk};
+ghost use Rattle.std.specs.Prelude.{◌≡◌, ℕ, ◌↔◌, ◌<◌, ◌≢◌, ◌+◌, ◌-◌, ◌^◌, ◌++◌, [], ◌∷◌, length, drop, take, remove, reverse, slice_get, map, pos, ◌≤◌, IsTrue, IfSome, OnOk, OnErr, IfOk};
 ghost use Rattle.smallvec.specs.SmallVec.{HasRoomFor};
 ghost use Rattle.tt_code.specs.Computing.{word_number, words};
 ghost use Rattle.tt_abs.specs.Transfers.{cells_on};
 ghost use Rattle.tt_abs.specs.declared.cells.Cell.TheVariants.{Known};
 ghost use Rattle.tt_abs.specs.Orders.{IsLeastAbove};
 ghost use Rattle.tt_abs.specs.Codes.{kept_cells};
-ghost use Rattle.tt_abs.specs.Stacks.{IsLeastCell, StackBelow, cell_at, first, stack_order};
+ghost use Rattle.tt_abs.specs.Stacks.{IsLeastCell, StackBelow, StackInRange, cell_at, first, stack_order};
 
 use crate::cells::Cell;
 use crate::codes::{
-    Codes, INLINE_CELLS, append_bytes, append_cells, are_below, are_equal, cell_of, code_of,
-    join_codes, joined,
+    Codes, INLINE_CELLS, append_bytes, append_cells, append_codes, are_below, are_equal, cell_of,
+    code_of, join_codes, joined,
 };
 use crate::order::{AbsFault, Order};
 use smallvec::SmallVec;
@@ -146,6 +146,33 @@ impl Stack {
             }
             None => push_wide(&mut self.wide, &mut self.codes, cell),
         }
+    }
+
+    /// Puts cells on top, one after the other, up to the first that has no code, and answers how many they are.
+    fn push_coded(&mut self, cells: &[Cell]) -> Result<usize, AllocError>
+        ensures count { IfOk result (λ n. n ≤ length cells.now) }
+        ensures pushed { IfOk result (λ n. self.new ≡ cells_on (take n cells.now) self.old) }
+        ensures in_range { OnOk result (StackInRange self.old → StackInRange self.new) }
+    {
+        make_room(&mut self.codes, self.wide.len(), cells.len())?;
+        Ok(append_codes(&mut self.codes, cells))
+    }
+
+    /// Puts cells on top, one after the other.
+    ///
+    /// # Errors
+    /// If memory runs out, or there would be more than 2^31 - 1 cells.
+    pub fn push_cells(&mut self, cells: &[Cell]) -> Result<(), AllocError>
+        ensures pushed { OnOk result (self.new ≡ cells_on cells.now self.old) }
+        ensures in_range { OnOk result (StackInRange self.old → StackInRange self.new) }
+    {
+        let coded = self.push_coded(cells)?;
+        let rest = &cells[coded..];
+        for i in 0..rest.len() {
+            let cell = rest[i];
+            self.push(cell)?;
+        }
+        Ok(())
     }
 
     /// Puts bytes on top, one after the other.

@@ -32,10 +32,11 @@ const DEFAULT: Graphics<Cell, ZoneCell> = Graphics {
 };
 
 impl State {
-    ghost use Rattle.std.specs.Prelude.{◌≡◌, ◌<◌, ◌∷◌, ◌↔◌, length, reverse, slice_get, IsTrue, IfOk, OnOk, OnErr};
+    ghost use Rattle.std.specs.Prelude.{◌≡◌, ◌<◌, ◌≤◌, ◌+◌, ◌∷◌, ◌↔◌, length, reverse, slice_get, IsTrue, IfOk, OnOk, OnErr};
     ghost use Rattle.tt_code.specs.States.{pointer, reference, with_pointer, with_reference};
     ghost use Rattle.tt_abs.specs.Entries.{Rises, storage_of, with_cell, with_entry};
     ghost use Rattle.tt_abs.specs.States.{start_of, state_order};
+    ghost use Rattle.tt_abs.specs.Transfers.{cells_on};
 
     /// The state in which a program starts: an empty stack, the default graphics state, and these functions, by rising
     /// numbers, each with its body. Of the storage area nothing is known.
@@ -92,6 +93,13 @@ impl State {
             && is_same_graphics(&self.graphics, &other.graphics)
             && self.functions.is_same(&other.functions)
             && self.storage.is_same(&other.storage)
+    }
+
+    /// Whether the same functions are known in the other state, with the same bodies. Takes no memory.
+    pub fn has_same_functions(&self, other: &State) -> bool
+        ensures { IsTrue result ↔ (self.now.functions ≡ other.now.functions) }
+    {
+        self.functions.is_same(&other.functions)
     }
 
     /// How many cells the stack has.
@@ -182,6 +190,20 @@ impl State {
         ensures in_range { state_order.InRange self.old → state_order.InRange self.new }
     {
         self.stack.push(cell)
+    }
+
+    /// Puts cells on the stack, one after the other, which has at most 65,535 then.
+    ///
+    /// # Errors
+    /// If memory runs out.
+    pub fn push_cells(&mut self, cells: &[Cell]) -> Result<(), AllocError>
+        requires { length self.old.stack + length cells.now ≤ 65535 }
+        ensures pushed { OnOk result
+            (self.new ≡ record self.old { stack = cells_on cells.now self.old.stack }) }
+        ensures in_range { OnOk result
+            (state_order.InRange self.old → state_order.InRange self.new) }
+    {
+        self.stack.push_cells(cells)
     }
 
     /// Sets what is known of a reference point.
