@@ -4,7 +4,7 @@ use Rattle.std.proofs.Common.{◌≡◌, ◌≢◌, ℕ, zero, suc, ◌+◌, ◌
 use Rattle.std.specs.List.{refill}
 use Rattle.std.proofs.Math.Seq.{take-append-add}
 use Rattle.std.proofs.lemmas.Bool.{cases_lt}
-use Rattle.std.proofs.lemmas.List.{append-nil, drop-map, get_or-append_right, get_or-map, get_or-set_other, get_or-set_same, length-map, length-reverse, length-set, map-append, map-set, reverse-append, reverse-reverse, set-append_right, take-append-le, take-map, take_all}
+use Rattle.std.proofs.lemmas.List.{append-nil, drop-map, drop_more, length-drop, get_or-append_right, get_or-map, get_or-set_other, get_or-set_same, length-map, length-reverse, length-set, map-append, map-set, reverse-append, reverse-reverse, set-append_right, take-append-le, take-map, take_all}
 use Rattle.std.proofs.lemmas.List.Edits.{remove-append_left, remove-append_right}
 use Rattle.tt_abs.specs.declared.cells.Cell.{Cell}
 use Rattle.tt_abs.specs.declared.cells.Cell.TheVariants.{Unknown}
@@ -149,6 +149,20 @@ pub on_in_parts : (n : ℕ) (cells stack : List Cell) → cells_on (drop n cells
 on_in_parts zero cells stack = refl
 on_in_parts (suc n) [] stack = refl
 on_in_parts (suc n) (c ∷ cells) stack = on_in_parts n cells (c ∷ stack)
+
+-- the others, as a slice has them
+pub rest_on : (n : ℕ) (cells old new : List Cell) → new ≡ cells_on (take n cells) old → cells_on (take (length cells - n) (drop n cells)) new ≡ cells_on cells old
+rest_on n cells old new e =
+    let long = length-drop n cells in
+    ap (λ (l : List Cell). cells_on l new) (take_all (length cells - n) (drop n cells) (omega (arith, long)))
+    ∙ ap (λ (l : List Cell). cells_on (drop n cells) l) e
+    ∙ on_in_parts n cells old
+
+-- the next one
+pub one_on : (rest : List Cell) (i : ℕ) (d : Cell) (now new : List Cell) → i < length rest → new ≡ get_or rest i d ∷ now
+    → cells_on (drop (i + 1) rest) new ≡ cells_on (drop i rest) now
+one_on rest i d now new lt e =
+    ap (λ (l : List Cell). cells_on (drop (i + 1) rest) l) e ∙ sym (ap (λ (l : List Cell). cells_on l now) (drop_more rest i d lt))
 
 -- cells in range on others
 pub one_in_range : (c : Cell) (stack : List Cell) → CellInRange c → StackInRange stack → StackInRange (c ∷ stack)

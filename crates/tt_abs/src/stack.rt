@@ -5,6 +5,7 @@ ghost use Rattle.smallvec.specs.SmallVec.{HasRoomFor};
 ghost use Rattle.tt_code.specs.Computing.{word_number, words};
 ghost use Rattle.tt_abs.specs.Transfers.{cells_on};
 ghost use Rattle.tt_abs.specs.declared.cells.Cell.TheVariants.{Known};
+ghost use Rattle.tt_abs.specs.CellOrders.{CellInRange};
 ghost use Rattle.tt_abs.specs.Orders.{IsLeastAbove};
 ghost use Rattle.tt_abs.specs.Codes.{kept_cells};
 ghost use Rattle.tt_abs.specs.Stacks.{IsLeastCell, StackBelow, StackInRange, cell_at, first, stack_order};
@@ -96,6 +97,12 @@ fn word_of(high: u8, low: u8) -> i32
     if high < 128 { number } else { number - 65536 }
 }
 
+/// Says that a cell's number is one of the machine, as it always is.
+fn is_in_range(cell: Cell)
+    ensures { CellInRange cell }
+{
+}
+
 /// Whether the cells are the same.
 fn cells_equal(mine: &[Cell], theirs: &[Cell]) -> bool
     requires { length mine.now ≡ length theirs.now }
@@ -170,6 +177,7 @@ impl Stack {
         let rest = &cells[coded..];
         for i in 0..rest.len() {
             let cell = rest[i];
+            is_in_range(cell);
             self.push(cell)?;
         }
         Ok(())
