@@ -166,7 +166,7 @@ fn push_storage(out: &mut Vec<u8>, cells: &[(u16, i32)]) -> Result<(), AllocErro
 
 /// Are the functions that are known in a state those of the state before?
 fn has_same(before: Option<&State>, state: &State) -> bool
-    ensures { result ≡ true → IsSomeAnd before (λ s. s.now.functions ≡ state.now.functions) }
+    ensures { result ≡ true → IsSomeAnd before.entry (λ s. s.now.functions ≡ state.now.functions) }
 {
     match before {
         Some(before) => before.has_same_functions(state),
