@@ -1,6 +1,6 @@
 //! The stack of cells.
 
-ghost use Rattle.std.specs.Prelude.{◌≡◌, ℕ, ◌↔◌, ◌<◌, ◌≢◌, ◌+◌, ◌-◌, ◌^◌, ◌++◌, [], ◌∷◌, length, drop, take, remove, reverse, slice_get, map, pos, ◌≤◌, IsTrue, IfSome, OnOk, OnErr, IfOk};
+ghost use Rattle.std.specs.Prelude.{◌≡◌, ℕ, None, ◌↔◌, ◌<◌, ◌≢◌, ◌+◌, ◌-◌, ◌^◌, ◌++◌, [], ◌∷◌, length, drop, take, remove, reverse, slice_get, map, pos, ◌≤◌, IsTrue, IfSome, OnOk, OnErr, IfOk};
 ghost use Rattle.smallvec.specs.SmallVec.{HasRoomFor};
 ghost use Rattle.tt_code.specs.Computing.{word_number, words};
 ghost use Rattle.tt_abs.specs.Transfers.{cells_on};
@@ -46,6 +46,44 @@ impl Model for Stack {
     ghost view = { λ s. reverse (kept_cells s.wide.items s.codes.items) };
 
     ghost invariant = { λ s. length s.wide.items + length s.codes.items < 2 ^ 31 };
+}
+
+/// The cells of a stack that are still to come, from the bottom up.
+#[derive(Drop)]
+pub struct StackCells<'a> {
+    /// Those of the wide cells that are still to come.
+    wide: &'a [Cell],
+    /// The codes of the cells above those that are still to come.
+    codes: &'a [u16],
+}
+
+impl<'a> Model for StackCells<'a> {
+    ghost use Rattle.std.specs.Prelude.{List};
+    ghost use Rattle.tt_abs.specs.declared.cells.Cell.{Cell};
+    ghost use Rattle.tt_abs.specs.Codes.{kept_cells};
+
+    ghost Value = { List Cell };
+
+    ghost view = { λ s. kept_cells s.wide.now s.codes.now };
+}
+
+impl<'a> StackCells<'a> {
+    /// Takes the first of the cells that are still to come: `None` exactly where none is, from then on always.
+    pub fn take_first(&mut self) -> Option<Cell>
+        ensures none { result ≡ None → self.old ≡ [] }
+        ensures done { result ≡ None → self.new ≡ [] }
+        ensures some { IfSome result (λ cell. self.old ≡ cell ∷ self.new) }
+    {
+        if let [first, rest @ ..] = self.wide {
+            self.wide = rest;
+            return Some(*first);
+        }
+        let [first, rest @ ..] = self.codes else {
+            return None;
+        };
+        self.codes = rest;
+        Some(cell_of(*first))
+    }
 }
 
 /// Makes room for the codes of so many more cells, above the wide ones.
@@ -100,8 +138,7 @@ fn word_of(high: u8, low: u8) -> i32
 /// Says that a cell's number is one of the machine, as it always is.
 fn is_in_range(cell: Cell)
     ensures { CellInRange cell }
-{
-}
+{}
 
 /// Whether the cells are the same.
 fn cells_equal(mine: &[Cell], theirs: &[Cell]) -> bool
@@ -222,6 +259,16 @@ impl Stack {
         } else {
             let codes = self.codes.as_slice();
             cell_of(codes[place - wide.len()])
+        }
+    }
+
+    /// The cells, from the bottom up.
+    pub fn cells(&self) -> StackCells<'_>
+        ensures { result ≡ reverse self.now }
+    {
+        StackCells {
+            wide: self.wide.as_slice(),
+            codes: self.codes.as_slice(),
         }
     }
 

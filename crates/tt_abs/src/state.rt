@@ -4,7 +4,7 @@ use crate::cells::{Cell, ZoneCell};
 use crate::entries::Entries;
 use crate::graphics::{is_same_graphics, joined_graphics};
 use crate::order::{AbsFault, Order};
-use crate::stack::Stack;
+use crate::stack::{Stack, StackCells};
 use std::alloc::{AllocError, Global};
 use tt_code::Graphics;
 use tt_code::kinds::{Pointer, Reference};
@@ -114,6 +114,13 @@ impl State {
         ensures { result ≡ slice_get (reverse self.now.stack) place }
     {
         self.stack.above(place)
+    }
+
+    /// The cells of the stack, from the bottom up.
+    pub fn stack_cells(&self) -> StackCells<'_>
+        ensures { result ≡ reverse self.now.stack }
+    {
+        self.stack.cells()
     }
 
     /// What is known of a reference point.

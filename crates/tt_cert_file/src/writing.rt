@@ -109,8 +109,8 @@ fn push_stack(out: &mut Vec<u8>, state: &State) -> Result<(), AllocError>
     ensures few { OnOk result (length state.now.stack < 2 ^ 16) }
 {
     push_count(out, state.depth())?;
-    for place in 0..state.depth() {
-        let cell = state.cell(place).unwrap();
+    let mut cells = state.stack_cells();
+    while let Some(cell) = cells.take_first() {
         push_cell(out, cell)?;
     }
     Ok(())
