@@ -136,6 +136,7 @@ fn push_functions(out: &mut Vec<u8>, functions: &[(u16, u32)]) -> Result<(), All
     ensures numbers { OnOk result (AllByRecursion (λ e. (e.0 < 2 ^ 16) × (e.1 < 2 ^ 32)) functions.now) }
 {
     push_count(out, functions.len())?;
+    out.reserve(6 * functions.len())?;
     for function in functions {
         push_pair(out, *function)?;
     }
