@@ -1,16 +1,17 @@
 -- Cells of which those on top are kept as codes, the bottom first.
 use Rattle.std.specs.Prelude.{reverse, remove}
-use Rattle.std.proofs.Common.{◌≡◌, ◌≢◌, ℕ, suc, ◌+◌, ◌-◌, ◌<◌, ◌≤◌, List, [], ◌∷◌, ◌++◌, get_or, refl, sym, ◌∙◌, ap, subst, arith, inl, inr, length, take, drop, set, length-append, append_assoc}
+use Rattle.std.proofs.Common.{◌≡◌, ◌≢◌, ℕ, zero, suc, ◌+◌, ◌-◌, ◌<◌, ◌≤◌, List, [], ◌∷◌, ◌++◌, get_or, refl, sym, ◌∙◌, ap, subst, arith, inl, inr, length, take, drop, set, length-append, append_assoc}
 use Rattle.std.specs.List.{refill}
 use Rattle.std.proofs.Math.Seq.{take-append-add}
 use Rattle.std.proofs.lemmas.Bool.{cases_lt}
-use Rattle.std.proofs.lemmas.List.{append-nil, drop-map, get_or-append_right, get_or-map, get_or-set_other, get_or-set_same, length-map, length-reverse, length-set, map-append, map-set, reverse-append, reverse-reverse, set-append_right, take-append-le, take-map, take_all}
+use Rattle.std.proofs.lemmas.List.{append-nil, drop-map, drop_more, length-drop, get_or-append_right, get_or-map, get_or-set_other, get_or-set_same, length-map, length-reverse, length-set, map-append, map-set, reverse-append, reverse-reverse, set-append_right, take-append-le, take-map, take_all}
 use Rattle.std.proofs.lemmas.List.Edits.{remove-append_left, remove-append_right}
 use Rattle.tt_abs.specs.declared.cells.Cell.{Cell}
 use Rattle.tt_abs.specs.declared.cells.Cell.TheVariants.{Unknown}
 use Rattle.tt_abs.specs.Codes.{cell_of_code, cells_of, kept_cells}
 use Rattle.tt_abs.specs.Transfers.{cells_on}
-use Rattle.tt_abs.specs.Stacks.{cell_at, IsLeastCell}
+use Rattle.tt_abs.specs.CellOrders.{CellInRange}
+use Rattle.tt_abs.specs.Stacks.{cell_at, IsLeastCell, StackInRange}
 use Rattle.tt_abs.proofs.Reversed.{cut_is, removed_is}
 use Rattle.tt_abs.proofs.StackOrders.{refilled}
 
@@ -130,7 +131,7 @@ written_back codes slice n m place code e f =
     ∙ ap (λ x. set codes (place - x) code) f
 
 -- cells behind others lie on them, in the other direction
-cells_on_reversed : (cs ds : List Cell) → reverse (cs ++ ds) ≡ cells_on ds (reverse cs)
+pub cells_on_reversed : (cs ds : List Cell) → reverse (cs ++ ds) ≡ cells_on ds (reverse cs)
 cells_on_reversed cs [] = ap reverse (append-nil cs)
 cells_on_reversed cs (d ∷ ds) =
     ap reverse (sym (append_assoc cs (d ∷ []) ds)) ∙ cells_on_reversed (cs ++ d ∷ []) ds ∙ ap (cells_on ds) (reverse-append cs (d ∷ []))
@@ -142,3 +143,35 @@ pushed_codes wide old new stack ds e f =
     ∙ ap reverse (sym (append_assoc wide (cells_of old) ds))
     ∙ cells_on_reversed (kept_cells wide old) ds
     ∙ ap (cells_on ds) e
+
+-- some cells, and then the others
+pub on_in_parts : (n : ℕ) (cells stack : List Cell) → cells_on (drop n cells) (cells_on (take n cells) stack) ≡ cells_on cells stack
+on_in_parts zero cells stack = refl
+on_in_parts (suc n) [] stack = refl
+on_in_parts (suc n) (c ∷ cells) stack = on_in_parts n cells (c ∷ stack)
+
+-- the others, as a slice has them
+pub rest_on : (n : ℕ) (cells old new : List Cell) → new ≡ cells_on (take n cells) old → cells_on (take (length cells - n) (drop n cells)) new ≡ cells_on cells old
+rest_on n cells old new e =
+    let long = length-drop n cells in
+    ap (λ (l : List Cell). cells_on l new) (take_all (length cells - n) (drop n cells) (omega (arith, long)))
+    ∙ ap (λ (l : List Cell). cells_on (drop n cells) l) e
+    ∙ on_in_parts n cells old
+
+-- the next one
+pub one_on : (rest : List Cell) (i : ℕ) (d : Cell) (now new : List Cell) → i < length rest → new ≡ get_or rest i d ∷ now
+    → cells_on (drop (i + 1) rest) new ≡ cells_on (drop i rest) now
+one_on rest i d now new lt e =
+    ap (λ (l : List Cell). cells_on (drop (i + 1) rest) l) e ∙ sym (ap (λ (l : List Cell). cells_on l now) (drop_more rest i d lt))
+
+-- cells in range on others
+pub one_in_range : (c : Cell) (stack : List Cell) → CellInRange c → StackInRange stack → StackInRange (c ∷ stack)
+one_in_range c stack h below zero = h
+one_in_range c stack h below (suc k) = below k
+
+pub taken_in_range : (n : ℕ) (cells stack : List Cell) → ((k : ℕ) → k < n → CellInRange (cell_at cells k)) → StackInRange stack
+    → StackInRange (cells_on (take n cells) stack)
+taken_in_range zero cells stack h below = below
+taken_in_range (suc n) [] stack h below = below
+taken_in_range (suc n) (c ∷ cells) stack h below =
+    taken_in_range n cells (c ∷ stack) (λ k lt. h (suc k) (omega arith)) (one_in_range c stack (h zero (omega arith)) below)

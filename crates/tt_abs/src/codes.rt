@@ -1,11 +1,11 @@
 //! How the stack keeps most of its cells: in numbers of 16 bits, so that cells are compared many at a time.
 
-ghost use Rattle.std.specs.Prelude.{◌≡◌, ◌≢◌, ℕ, ◌^◌, ◌<◌, ◌≤◌, ◌↔◌, ◌+◌, ◌++◌, [], ◌∷◌, IsTrue, MatchOption, length, slice_index, map, pos, vec_len, vec_capacity};
+ghost use Rattle.std.specs.Prelude.{◌≡◌, ◌≢◌, ℕ, ◌^◌, ◌<◌, ◌≤◌, ◌↔◌, ◌+◌, ◌++◌, [], ◌∷◌, IsTrue, MatchOption, take, length, slice_index, map, pos, vec_len, vec_capacity};
 ghost use Rattle.smallvec.specs.SmallVec.{HasRoomFor, small_vec_len};
 ghost use Rattle.tt_abs.specs.declared.cells.Cell.TheVariants.{Known};
-ghost use Rattle.tt_abs.specs.CellOrders.{CellBelow};
+ghost use Rattle.tt_abs.specs.CellOrders.{CellBelow, CellInRange};
 ghost use Rattle.tt_abs.specs.Codes.{cell_of_code, cells_of};
-ghost use Rattle.tt_abs.specs.Stacks.{IsLeastCell, StackBelow};
+ghost use Rattle.tt_abs.specs.Stacks.{IsLeastCell, StackBelow, cell_at};
 
 use crate::cells::Cell;
 use smallvec::SmallVec;
@@ -121,6 +121,35 @@ pub fn append_bytes(codes: &mut Codes, bytes: &[u8])
     for byte in bytes {
         append(codes, *byte);
     }
+}
+
+/// Appends a code, for which there is room.
+fn append_code(codes: &mut Codes, code: u16)
+    requires { HasRoomFor codes.old 1 }
+    ensures cells { cells_of codes.new.items ≡ cells_of codes.old.items ++ cell_of_code code ∷ [] }
+    ensures len { small_vec_len codes.new ≡ small_vec_len codes.old + 1 }
+    ensures capacity { codes.new.capacity ≡ codes.old.capacity }
+{
+    codes.push_reserved(code);
+}
+
+/// Appends the codes of cells, for which there is room, up to the first cell that has none, and answers
+/// how many they are.
+pub fn append_codes(codes: &mut Codes, cells: &[Cell]) -> usize
+    requires { HasRoomFor codes.old (length cells.now) }
+    ensures count { result ≤ length cells.now }
+    ensures cells { cells_of codes.new.items ≡ cells_of codes.old.items ++ take result cells.now }
+    ensures len { small_vec_len codes.new ≡ small_vec_len codes.old + result }
+    ensures in_range { (k : ℕ) → k < result → CellInRange (cell_at cells.now k) }
+{
+    for i in 0..cells.len() {
+        let cell = cells[i];
+        let Some(code) = code_of(cell) else {
+            return i;
+        };
+        append_code(codes, code);
+    }
+    cells.len()
 }
 
 /// Appends the codes' cells, for which there is room.

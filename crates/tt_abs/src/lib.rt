@@ -30,7 +30,7 @@ pub use moves::{Move, Moves};
 pub use order::{AbsFault, Order};
 pub use refusal::Refusal;
 pub use setting::{Kind, Point, Setting};
-pub use stack::Stack;
+pub use stack::{Stack, StackCells};
 pub use state::State;
 pub use stepping::{Stepped, step, step_at};
 pub use transferring::{Successors, transfer};

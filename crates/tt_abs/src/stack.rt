@@ -1,18 +1,19 @@
 //! The stack of cells.
 
-ghost use Rattle.std.specs.Prelude.{◌≡◌, ℕ, ◌↔◌, ◌<◌, ◌≢◌, ◌+◌, ◌-◌, ◌^◌, ◌++◌, [], ◌∷◌, length, drop, take, remove, reverse, slice_get, map, pos, IsTrue, IfSome, OnOk, OnErr, IfOk};
+ghost use Rattle.std.specs.Prelude.{◌≡◌, ℕ, None, ◌↔◌, ◌<◌, ◌≢◌, ◌+◌, ◌-◌, ◌^◌, ◌++◌, [], ◌∷◌, length, drop, take, remove, reverse, slice_get, map, pos, ◌≤◌, IsTrue, IfSome, OnOk, OnErr, IfOk};
 ghost use Rattle.smallvec.specs.SmallVec.{HasRoomFor};
 ghost use Rattle.tt_code.specs.Computing.{word_number, words};
 ghost use Rattle.tt_abs.specs.Transfers.{cells_on};
 ghost use Rattle.tt_abs.specs.declared.cells.Cell.TheVariants.{Known};
+ghost use Rattle.tt_abs.specs.CellOrders.{CellInRange};
 ghost use Rattle.tt_abs.specs.Orders.{IsLeastAbove};
 ghost use Rattle.tt_abs.specs.Codes.{kept_cells};
-ghost use Rattle.tt_abs.specs.Stacks.{IsLeastCell, StackBelow, cell_at, first, stack_order};
+ghost use Rattle.tt_abs.specs.Stacks.{IsLeastCell, StackBelow, StackInRange, cell_at, first, stack_order};
 
 use crate::cells::Cell;
 use crate::codes::{
-    Codes, INLINE_CELLS, append_bytes, append_cells, are_below, are_equal, cell_of, code_of,
-    join_codes, joined,
+    Codes, INLINE_CELLS, append_bytes, append_cells, append_codes, are_below, are_equal, cell_of,
+    code_of, join_codes, joined,
 };
 use crate::order::{AbsFault, Order};
 use smallvec::SmallVec;
@@ -45,6 +46,44 @@ impl Model for Stack {
     ghost view = { λ s. reverse (kept_cells s.wide.items s.codes.items) };
 
     ghost invariant = { λ s. length s.wide.items + length s.codes.items < 2 ^ 31 };
+}
+
+/// The cells of a stack that are still to come, from the bottom up.
+#[derive(Drop)]
+pub struct StackCells<'a> {
+    /// Those of the wide cells that are still to come.
+    wide: &'a [Cell],
+    /// The codes of the cells above those that are still to come.
+    codes: &'a [u16],
+}
+
+impl<'a> Model for StackCells<'a> {
+    ghost use Rattle.std.specs.Prelude.{List};
+    ghost use Rattle.tt_abs.specs.declared.cells.Cell.{Cell};
+    ghost use Rattle.tt_abs.specs.Codes.{kept_cells};
+
+    ghost Value = { List Cell };
+
+    ghost view = { λ s. kept_cells s.wide.now s.codes.now };
+}
+
+impl<'a> StackCells<'a> {
+    /// Takes the first of the cells that are still to come: `None` exactly where none is, from then on always.
+    pub fn take_first(&mut self) -> Option<Cell>
+        ensures none { result ≡ None → self.old ≡ [] }
+        ensures done { result ≡ None → self.new ≡ [] }
+        ensures some { IfSome result (λ cell. self.old ≡ cell ∷ self.new) }
+    {
+        if let [first, rest @ ..] = self.wide {
+            self.wide = rest;
+            return Some(*first);
+        }
+        let [first, rest @ ..] = self.codes else {
+            return None;
+        };
+        self.codes = rest;
+        Some(cell_of(*first))
+    }
 }
 
 /// Makes room for the codes of so many more cells, above the wide ones.
@@ -95,6 +134,11 @@ fn word_of(high: u8, low: u8) -> i32
     let number = 256 * i32::from(high) + i32::from(low);
     if high < 128 { number } else { number - 65536 }
 }
+
+/// Says that a cell's number is one of the machine, as it always is.
+fn is_in_range(cell: Cell)
+    ensures { CellInRange cell }
+{}
 
 /// Whether the cells are the same.
 fn cells_equal(mine: &[Cell], theirs: &[Cell]) -> bool
@@ -148,6 +192,34 @@ impl Stack {
         }
     }
 
+    /// Puts cells on top, one after the other, up to the first that has no code, and answers how many they are.
+    fn push_coded(&mut self, cells: &[Cell]) -> Result<usize, AllocError>
+        ensures count { IfOk result (λ n. n ≤ length cells.now) }
+        ensures pushed { IfOk result (λ n. self.new ≡ cells_on (take n cells.now) self.old) }
+        ensures in_range { OnOk result (StackInRange self.old → StackInRange self.new) }
+    {
+        make_room(&mut self.codes, self.wide.len(), cells.len())?;
+        Ok(append_codes(&mut self.codes, cells))
+    }
+
+    /// Puts cells on top, one after the other.
+    ///
+    /// # Errors
+    /// If memory runs out, or there would be more than 2^31 - 1 cells.
+    pub fn push_cells(&mut self, cells: &[Cell]) -> Result<(), AllocError>
+        ensures pushed { OnOk result (self.new ≡ cells_on cells.now self.old) }
+        ensures in_range { OnOk result (StackInRange self.old → StackInRange self.new) }
+    {
+        let coded = self.push_coded(cells)?;
+        let rest = &cells[coded..];
+        for i in 0..rest.len() {
+            let cell = rest[i];
+            is_in_range(cell);
+            self.push(cell)?;
+        }
+        Ok(())
+    }
+
     /// Puts bytes on top, one after the other.
     ///
     /// # Errors
@@ -187,6 +259,16 @@ impl Stack {
         } else {
             let codes = self.codes.as_slice();
             cell_of(codes[place - wide.len()])
+        }
+    }
+
+    /// The cells, from the bottom up.
+    pub fn cells(&self) -> StackCells<'_>
+        ensures { result ≡ reverse self.now }
+    {
+        StackCells {
+            wide: self.wide.as_slice(),
+            codes: self.codes.as_slice(),
         }
     }
 

@@ -4,7 +4,7 @@ use crate::cells::{Cell, ZoneCell};
 use crate::entries::Entries;
 use crate::graphics::{is_same_graphics, joined_graphics};
 use crate::order::{AbsFault, Order};
-use crate::stack::Stack;
+use crate::stack::{Stack, StackCells};
 use std::alloc::{AllocError, Global};
 use tt_code::Graphics;
 use tt_code::kinds::{Pointer, Reference};
@@ -32,10 +32,11 @@ const DEFAULT: Graphics<Cell, ZoneCell> = Graphics {
 };
 
 impl State {
-    ghost use Rattle.std.specs.Prelude.{◌≡◌, ◌<◌, ◌∷◌, ◌↔◌, length, reverse, slice_get, IsTrue, IfOk, OnOk, OnErr};
+    ghost use Rattle.std.specs.Prelude.{◌≡◌, ◌<◌, ◌≤◌, ◌+◌, ◌∷◌, ◌↔◌, length, reverse, slice_get, IsTrue, IfOk, OnOk, OnErr};
     ghost use Rattle.tt_code.specs.States.{pointer, reference, with_pointer, with_reference};
     ghost use Rattle.tt_abs.specs.Entries.{Rises, storage_of, with_cell, with_entry};
     ghost use Rattle.tt_abs.specs.States.{start_of, state_order};
+    ghost use Rattle.tt_abs.specs.Transfers.{cells_on};
 
     /// The state in which a program starts: an empty stack, the default graphics state, and these functions, by rising
     /// numbers, each with its body. Of the storage area nothing is known.
@@ -94,6 +95,13 @@ impl State {
             && self.storage.is_same(&other.storage)
     }
 
+    /// Whether the same functions are known in the other state, with the same bodies. Takes no memory.
+    pub fn has_same_functions(&self, other: &State) -> bool
+        ensures { IsTrue result ↔ (self.now.functions ≡ other.now.functions) }
+    {
+        self.functions.is_same(&other.functions)
+    }
+
     /// How many cells the stack has.
     pub fn depth(&self) -> usize
         ensures { result ≡ length self.now.stack }
@@ -106,6 +114,13 @@ impl State {
         ensures { result ≡ slice_get (reverse self.now.stack) place }
     {
         self.stack.above(place)
+    }
+
+    /// The cells of the stack, from the bottom up.
+    pub fn stack_cells(&self) -> StackCells<'_>
+        ensures { result ≡ reverse self.now.stack }
+    {
+        self.stack.cells()
     }
 
     /// What is known of a reference point.
@@ -182,6 +197,20 @@ impl State {
         ensures in_range { state_order.InRange self.old → state_order.InRange self.new }
     {
         self.stack.push(cell)
+    }
+
+    /// Puts cells on the stack, one after the other, which has at most 65,535 then.
+    ///
+    /// # Errors
+    /// If memory runs out.
+    pub fn push_cells(&mut self, cells: &[Cell]) -> Result<(), AllocError>
+        requires { length self.old.stack + length cells.now ≤ 65535 }
+        ensures pushed { OnOk result
+            (self.new ≡ record self.old { stack = cells_on cells.now self.old.stack }) }
+        ensures in_range { OnOk result
+            (state_order.InRange self.old → state_order.InRange self.new) }
+    {
+        self.stack.push_cells(cells)
     }
 
     /// Sets what is known of a reference point.

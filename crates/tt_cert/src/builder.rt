@@ -128,6 +128,13 @@ impl Builder {
         self.contexts();
     }
 
+    /// Says that the states rise by context and offset, as they always do.
+    pub fn states_rise(&self)
+        ensures { IsStrictlySortedBy place_cmp (keys_of self.now.states) }
+    {
+        self.states.rise();
+    }
+
     /// How many contexts there are, the empty one counted.
     pub fn contexts(&self) -> u32
         ensures value { result ≡ length self.now.contexts }

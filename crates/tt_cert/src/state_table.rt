@@ -91,6 +91,13 @@ impl StateTable {
         }
     }
 
+    /// Says that the states rise by context and offset, as they always do.
+    pub(crate) fn rise(&self)
+        ensures { IsStrictlySortedBy place_cmp (keys_of self.now) }
+    {
+        self.places.len();
+    }
+
     /// The states with their contexts and offsets, by rising context, and by rising offset within one.
     pub(crate) fn iter(&self) -> States<'_>
         ensures rest { result ≡ self.now }

@@ -9,28 +9,16 @@ use Rattle.tt_abs.specs.Entries.{Rises, with_cell, with_entry}
 use Rattle.tt_abs.specs.declared.cells.Cell.{Cell}
 use Rattle.tt_abs.specs.declared.cells.Cell.TheVariants.{Known}
 use Rattle.tt_abs.specs.declared.state.State.{State}
+use Rattle.tt_abs.specs.Transfers.{cells_on}
+use Rattle.tt_abs.proofs.CodedCells.{cells_on_reversed}
 
--- the state with another stack, and with other storage cells
-abbrev pub with_stack : State → List Cell → State
-with_stack s cells = record s { stack = cells }
+-- cells that are pushed on none
+pub on_none : (cells : List Cell) → cells_on cells [] ≡ reverse cells
+on_none cells = sym (cells_on_reversed [] cells)
 
+-- the state with other storage cells
 abbrev pub with_storage : State → List (ℕ × ℤ) → State
 with_storage s cells = record s { storage = cells }
-
-pub none_pushed : (s : State) → s.stack ≡ [] → s ≡ with_stack s []
-none_pushed s empty = ap (with_stack s) empty
-
-pub pushed : (old now new : State) (cells : List Cell) (k : ℕ) (d : Cell) → k < length cells → now ≡ with_stack old (reverse (take k cells))
-    → new ≡ with_stack now (slice_index_or cells k d ∷ now.stack) → new ≡ with_stack old (reverse (take (k + 1) cells))
-pushed old now new cells k d lt before one =
-    let x : Cell = slice_index_or cells k d in
-    let more : x ∷ reverse (take k cells) ≡ reverse (take (k + 1) cells) = sym (reverse-append (take k cells) (x ∷ [])) ∙ ap (λ (l : List Cell). reverse l) (sym (take_more cells k d lt)) in
-    one ∙ ap (λ (s : State). with_stack s (x ∷ s.stack)) before ∙ ap (with_stack old) more
-
-pub depth_is : (old now : State) (cells : List Cell) (k : ℕ) → k < length cells → now ≡ with_stack old (reverse (take k cells)) → length now.stack ≡ k
-depth_is old now cells k lt before =
-    let taken : length (take k cells) ≡ k = length-take-le k cells (omega arith) in
-    ap (λ (s : State). length s.stack) before ∙ length-reverse (take k cells) ∙ taken
 
 pub none_stored : (s : State) → s.storage ≡ [] → s ≡ with_storage s []
 none_stored s empty = ap (with_storage s) empty

@@ -1,8 +1,9 @@
 -- Texts of values that are put behind one another.
-use Rattle.std.proofs.Common.{◌≡◌, ℕ, ℤ, ◌+◌, ◌^◌, ◌<◌, ◌≤◌, List, [], ◌∷◌, ◌++◌, length, take, Some, sym, ap, subst, ◌∙◌, append_assoc, append-nil, take_all}
-use Rattle.std.specs.Prelude.{FitsSigned, slice_get, slice_index_or}
+use Rattle.std.proofs.Common.{◌≡◌, ℕ, ℤ, ◌+◌, ◌^◌, ◌<◌, ◌≤◌, List, [], ◌∷◌, ◌++◌, length, take, Option, None, Some, Ok, Err, sym, ap, subst, ◌∙◌, append_assoc, append-nil, take_all}
+use Rattle.std.specs.Prelude.{FitsSigned, IfSome, IsSomeAnd, OnOk, Result, slice_get, slice_index_or}
 use Rattle.std.specs.Int.{w32}
 use Rattle.std.specs.List.{AllByRecursion, flat_map}
+use Rattle.tt_cert_file.specs.Rules.{IsTextOf}
 use Rattle.std.proofs.lemmas.Grind.{flat_map-append}
 use Rattle.std.proofs.lemmas.List.{take_more}
 use Rattle.std.proofs.lemmas.Option.{slice_get-get_or, slice_get_within}
@@ -58,3 +59,13 @@ all_next {A} P xs k x at all one = subst (λ (l : List A). AllByRecursion P l) (
 
 pub all_taken : {A : Type 0} (P : A → Type 0) (xs : List A) (k : ℕ) → length xs ≤ k → AllByRecursion P (take k xs) → AllByRecursion P xs
 all_taken {A} P xs k le all = subst (λ (l : List A). AllByRecursion P l) (take_all k xs le) all
+
+-- the text of functions that another one has too
+pub known_text : {X : Type 0} (before : Option X) (f : X → List (ℕ × ℕ)) (text : List ℕ) (functions : List (ℕ × ℕ)) → IfSome before (λ s. IsTextOf text (f s))
+    → IsSomeAnd before (λ s. f s ≡ functions) → IsTextOf text functions
+known_text None f text functions kept same = absurd same
+known_text (Some s) f text functions kept same = subst (λ (l : List (ℕ × ℕ)). IsTextOf text l) same kept
+
+pub on_any : {T E : Type 0} (r : Result T E) (P : Type 0) → P → OnOk r P
+on_any (Ok x) P h = h
+on_any (Err e) P h = tt

@@ -1,7 +1,7 @@
 -- The rules that a section keeps.
 use Rattle.std.specs.Prelude.{◌≡◌, ◌==◌, ℕ, ℤ, ◌+◌, ◌-◌, ◌^◌, ◌<◌, ◌≤◌, ◌&&◌, FitsSigned, nat_lt, nat_le, not, Bool, true, Option, Some, List, [], ◌∷◌, ◌++◌, length, reverse, slice_get, option_map}
 use Rattle.std.specs.Int.{w32}
-use Rattle.std.specs.List.{list_any}
+use Rattle.std.specs.List.{AllByRecursion, list_any}
 use Rattle.std.specs.Option.{option_map_or}
 use Rattle.std.specs.Ordering.{is_lt}
 use Rattle.tt_code.specs.declared.machine.Frame.{Frame}
@@ -20,6 +20,7 @@ use Rattle.tt_cert_file.specs.declared.name.Name.{Name}
 use Rattle.tt_cert_file.specs.declared.name.Name.TheVariants as name
 use Rattle.tt_cert_file.specs.Forms.{most_contexts}
 use Rattle.tt_cert_file.specs.Sections.{Context, Entry, Section}
+use Rattle.tt_cert_file.specs.Text.{counted, pair_text}
 
 -- the last value of a list
 abbrev pub last_of : {A : Type 0} → List A → Option A
@@ -144,6 +145,12 @@ AreCallsInTurn contexts = (number : ℕ) → number < length contexts → Frames
 -- the numbers of the last call have their bits (Representation: no public clause cites it.)
 abbrev pub CallFits : Context → Type 0
 CallFits c = (c.1.call < 2 ^ 32) × (c.1.body < 2 ^ 32)
+
+-- the text of functions after their number, which fit (Representation: no public clause cites it.)
+pub record IsTextOf (text : List ℕ) (functions : List (ℕ × ℕ)) : Type 0 where
+  pub text_is : text ≡ counted pair_text functions
+  pub few : length functions < 2 ^ 16
+  pub numbers : AllByRecursion (λ e. (e.0 < 2 ^ 16) × (e.1 < 2 ^ 32)) functions
 
 -- a state in one of so many contexts, at an offset of 32 bits, whose lists fit (Representation: no public clause cites it.)
 abbrev pub HasRoom : ℕ → Entry → Type 0

@@ -1,6 +1,6 @@
 //! States of a section: each is made of its parts, and put into a builder.
 
-ghost use Rattle.std.specs.Prelude.{◌≡◌, ◌≤◌, [], ◌∷◌, ◌++◌, true, length, reverse, IfErr, IfOk, OnOk};
+ghost use Rattle.std.specs.Prelude.{◌≡◌, ◌≤◌, [], ◌∷◌, ◌++◌, true, length, IfErr, IfOk, OnOk};
 ghost use Rattle.tt_abs.specs.Entries.{Rises};
 ghost use Rattle.tt_abs.specs.States.{state_order};
 ghost use Rattle.tt_stream.specs.Reads.{ConsumesBeginning};
@@ -20,19 +20,6 @@ use tt_cert::{Builder, JoinFault};
 use tt_code::Graphics;
 use tt_code::kinds::{Pointer, Reference};
 use tt_stream::Source;
-
-/// Puts cells on a stack, from the bottom up.
-fn push_cells(state: &mut State, cells: &[Cell]) -> Result<(), AllocError>
-    requires empty { state.old.stack ≡ [] }
-    requires few { length cells.now ≤ 65535 }
-    ensures pushed { OnOk result (state.new ≡ record state.old { stack = reverse cells.now }) }
-    ensures in_range { state_order.InRange state.old → state_order.InRange state.new }
-{
-    for cell in cells {
-        state.push(*cell)?;
-    }
-    Ok(())
-}
 
 /// Sets what is known of the graphics state.
 fn set_graphics(state: &mut State, graphics: &Graphics<Cell, ZoneCell>)
@@ -62,6 +49,7 @@ fn store_cells(state: &mut State, cells: &[(u16, i32)]) -> Result<(), AllocError
 }
 
 /// The state that has these parts: the stack from the bottom up, and lists by rising numbers.
+#[tactic(auto, using(crate::proofs::Building::on_none))]
 fn state_of(
     alloc: Global,
     stack: &[Cell],
@@ -76,7 +64,7 @@ fn state_of(
     ensures in_range { IfOk result (λ state. state_order.InRange state) }
 {
     let mut state = State::start(alloc, functions)?;
-    push_cells(&mut state, stack)?;
+    state.push_cells(stack)?;
     set_graphics(&mut state, graphics);
     store_cells(&mut state, storage)?;
     Ok(state)
@@ -194,9 +182,10 @@ fn add_state(builder: &mut Builder, point: (u32, u32), state: &State) -> Result<
     ensures added { OnOk result (builder.new.states ≡ builder.old.states ++ (point, state.now) ∷ []) }
     ensures contexts { builder.new.contexts ≡ builder.old.contexts }
 {
-    builder.states();
+    builder.is_family();
+    builder.states_rise();
     let joined = builder.join_state(point.0, point.1, state);
-    builder.states();
+    builder.states_rise();
     match joined {
         Ok(_) => Ok(()),
         // No state stands at the point.

@@ -1,6 +1,6 @@
 //! Sections written to a sink, in form 4.
 
-ghost use Rattle.std.specs.Prelude.{◌≡◌, ◌++◌, ◌<◌, ◌^◌, FitsSigned, length, reverse, IfOk, OnErr, OnOk};
+ghost use Rattle.std.specs.Prelude.{◌≡◌, ◌++◌, ◌<◌, ◌^◌, FitsSigned, length, reverse, true, IfOk, IfSome, IsSomeAnd, OnErr, OnOk};
 ghost use Rattle.std.specs.Int.{w32};
 ghost use Rattle.std.specs.Io.KnownBytes.{Appends};
 ghost use Rattle.std.specs.List.{AllByRecursion, flat_map};
@@ -11,7 +11,7 @@ ghost use Rattle.tt_cert.specs.Places.{place_cmp};
 ghost use Rattle.tt_cert.specs.Rising.{IsFinished};
 ghost use Rattle.tt_stream.specs.Streams.{AppendsBeginning};
 ghost use Rattle.tt_cert_file.specs.Answers.{CountsWrite};
-ghost use Rattle.tt_cert_file.specs.Rules.{AreCallsInTurn, CallFits, Fits, HasRoom, NameFits, StateFits};
+ghost use Rattle.tt_cert_file.specs.Rules.{AreCallsInTurn, CallFits, Fits, HasRoom, IsTextOf, NameFits, StateFits};
 ghost use Rattle.tt_cert_file.specs.Sections.{contexts_in, section_of};
 ghost use Rattle.tt_cert_file.specs.Text.{cell_text, context_text, counted, graphics_text, long, name_text, pair_text, section_text, state_text, stored_text, word, zone_text};
 
@@ -109,8 +109,8 @@ fn push_stack(out: &mut Vec<u8>, state: &State) -> Result<(), AllocError>
     ensures few { OnOk result (length state.now.stack < 2 ^ 16) }
 {
     push_count(out, state.depth())?;
-    for place in 0..state.depth() {
-        let cell = state.cell(place).unwrap();
+    let mut cells = state.stack_cells();
+    while let Some(cell) = cells.take_first() {
         push_cell(out, cell)?;
     }
     Ok(())
@@ -136,6 +136,7 @@ fn push_functions(out: &mut Vec<u8>, functions: &[(u16, u32)]) -> Result<(), All
     ensures numbers { OnOk result (AllByRecursion (λ e. (e.0 < 2 ^ 16) × (e.1 < 2 ^ 32)) functions.now) }
 {
     push_count(out, functions.len())?;
+    out.reserve(6 * functions.len())?;
     for function in functions {
         push_pair(out, *function)?;
     }
@@ -164,8 +165,46 @@ fn push_storage(out: &mut Vec<u8>, cells: &[(u16, i32)]) -> Result<(), AllocErro
     Ok(())
 }
 
-/// A state with its context and offset.
-fn push_state(out: &mut Vec<u8>, point: (u16, u32), state: &State) -> Result<(), AllocError>
+/// Are the functions that are known in a state those of the state before?
+fn has_same(before: Option<&State>, state: &State) -> bool
+    ensures { result ≡ true → IsSomeAnd before.entry (λ s. s.now.functions ≡ state.now.functions) }
+{
+    match before {
+        Some(before) => before.has_same_functions(state),
+        None => false,
+    }
+}
+
+/// The functions of a state after their number: by their text where the state before has the same ones, as most have, and else that is
+/// made anew.
+fn push_known(
+    out: &mut Vec<u8>,
+    before: Option<&State>,
+    state: &State,
+    text: &mut Vec<u8>,
+) -> Result<(), AllocError>
+    requires { IfSome before (λ s. IsTextOf text.old.items s.now.functions) }
+    ensures written { OnOk result (out.new.items ≡ out.old.items ++ counted pair_text state.now.functions) }
+    ensures kept { OnOk result (IsTextOf text.new.items state.now.functions) }
+{
+    if has_same(before, state) {
+        return out.extend_from_slice(text.as_slice());
+    }
+    text.clear();
+    push_functions(text, state.functions())?;
+    out.extend_from_slice(text.as_slice())
+}
+
+/// A state with its context and offset, after another one, of whose functions there is the text.
+fn push_state(
+    out: &mut Vec<u8>,
+    point: (u16, u32),
+    before: Option<&State>,
+    state: &State,
+    text: &mut Vec<u8>,
+) -> Result<(), AllocError>
+    requires { IfSome before (λ s. IsTextOf text.old.items s.now.functions) }
+    ensures kept { OnOk result (IsTextOf text.new.items state.now.functions) }
     ensures written { OnOk result (out.new.items ≡ out.old.items ++ state_text Form.Four (point, state.now)) }
     ensures offset { OnOk result (point.1 < 2 ^ 32) }
     ensures fits { OnOk result (state_order.InRange state.now → StateFits Form.Four state.now) }
@@ -173,7 +212,7 @@ fn push_state(out: &mut Vec<u8>, point: (u16, u32), state: &State) -> Result<(),
     push_pair(out, point)?;
     push_stack(out, state)?;
     push_graphics(out, state)?;
-    push_functions(out, state.functions())?;
+    push_known(out, before, state, text)?;
     push_storage(out, state.stored())
 }
 
@@ -212,8 +251,11 @@ fn push_states(out: &mut Vec<u8>, certificate: &Certificate) -> Result<(), Alloc
 {
     push_long(out, certificate.points())?;
     let mut states = certificate.states();
+    let mut before = None;
+    let mut text = Vec::new(*out.allocator());
     while let Some((context, offset, state)) = states.take_first() {
-        push_state(out, (context as u16, offset), state)?;
+        push_state(out, (context as u16, offset), before, state, &mut text)?;
+        before = Some(state);
     }
     Ok(())
 }

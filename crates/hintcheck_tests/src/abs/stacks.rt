@@ -10,6 +10,8 @@ use tt_abs::{Cell, Stack};
 enum Change<'a> {
     /// These cells are pushed, one after the other.
     Push(&'a [Cell]),
+    /// These cells are pushed at once.
+    PushCells(&'a [Cell]),
     PushBytes(&'a [u8]),
     PushWords(&'a [u8]),
     /// The cell under so many others is taken out.
@@ -34,6 +36,7 @@ fn push_all(stack: &mut Stack, cells: &[Cell]) -> Result<(), AllocError> {
 fn make_change(stack: &mut Stack, change: Change<'_>) -> Result<(), AllocError> {
     match change {
         Change::Push(cells) => return push_all(stack, cells),
+        Change::PushCells(cells) => return stack.push_cells(cells),
         Change::PushBytes(bytes) => return stack.push_bytes(bytes),
         Change::PushWords(bytes) => return stack.push_words(bytes),
         Change::Remove(place) if place < stack.len() => stack.remove(place),
@@ -143,7 +146,7 @@ const GREAT: [Cell; 8] = [
     Unknown,
 ];
 
-const GREAT_STEPS: [Step<'static>; 9] = [
+const GREAT_STEPS: [Step<'static>; 11] = [
     (Change::PushBytes(&[0, 255]), &[Known(0), Known(255)]),
     (
         Change::PushWords(&[0x7f, 0xff, 0x80, 0x00, 0xff, 0xff]),
@@ -195,6 +198,22 @@ const GREAT_STEPS: [Step<'static>; 9] = [
     ),
     (Change::Cut(3), &[Known(0), Known(255)]),
     (Change::Clear, &[]),
+    (Change::PushCells(&GREAT), &GREAT),
+    (
+        Change::PushCells(&[Unknown, Known(3)]),
+        &[
+            Known(0),
+            Known(255),
+            Known(32_767),
+            Known(-32_768),
+            Known(-1),
+            Known(70_000),
+            Known(2),
+            Unknown,
+            Unknown,
+            Known(3),
+        ],
+    ),
 ];
 
 #[test]

@@ -1,5 +1,6 @@
 //! Abstract states: what their calls say, copies, and which states are the same.
 
+ghost use Rattle.std.specs.Prelude.{◌≤◌, length};
 ghost use Rattle.tt_abs.specs.States.{state_order};
 
 use crate::abs::samples::{
@@ -172,6 +173,36 @@ fn copies_over_a_longer_one(rt: HostRuntime) {
     let copy = copied_over(rt.alloc(), &OVER_A_LONGER_ONE).expect(&rt, "a copy");
     assert!(rt; copy.rp(Reference::Rp1) == Known(4));
     assert!(rt; copy.stored() == [(3, -1)].as_slice());
+}
+
+/// The state at a start without functions, with these cells on its stack; nothing for want of memory.
+fn with_cells(alloc: Global, cells: &[Cell]) -> Option<State>
+    requires { length cells.now ≤ 65535 }
+{
+    let mut state = State::start(alloc, &[]).ok()?;
+    state.push_cells(cells).ok()?;
+    Some(state)
+}
+
+#[test]
+fn cells_pushed_at_once(rt: HostRuntime) {
+    let state = with_cells(rt.alloc(), &WIDE).expect(&rt, "a state");
+    assert!(rt; has_stack(&state, &WIDE));
+}
+
+/// Whether two states have the same functions after these changes; nothing for want of memory.
+fn same_functions(alloc: Global, one: &[Change<'_>], other: &[Change<'_>]) -> Option<bool> {
+    let one = state_after(alloc, one).ok()?;
+    let other = state_after(alloc, other).ok()?;
+    Some(one.has_same_functions(&other))
+}
+
+#[test]
+fn functions_of_two_states(rt: HostRuntime) {
+    let same = same_functions(rt.alloc(), &WITH_A_FUNCTION, &[Change::Define(1, 10)]);
+    assert!(rt; same == Some(true));
+    let other = same_functions(rt.alloc(), &WITH_A_FUNCTION, &[Change::Define(1, 20)]);
+    assert!(rt; other == Some(false));
 }
 
 /// The changes that make a state of two elements with a function.

@@ -3,11 +3,11 @@ use Rattle.tt_cert_file.proofs.states.add_state.Goals as goal
 
 pub join_state-joined-requires : goal.join_state-joined-requires
 join_state-joined-requires c = record {
-  there = (place_free c.args.builder.now c.args.point c.states.ensures.family c.states.ensures.rises c.requires.there).0;
+  there = (place_free c.args.builder.now c.args.point c.is_family.ensures c.states_rise.ensures c.requires.there).0;
   theirs = c.requires.in_range;
 }
 
 pub returns-in-Ok-clause-added : goal.returns-in-Ok-clause-added
 returns-in-Ok-clause-added c =
-    state_added c.args.builder.now c.join_state-joined.new.self c.args.point c.args.state.now _ c.join_state-joined.ensures.contexts c.states.ensures.family
-    c.join_state-joined.ensures.family c.states.ensures.rises c.states-2.ensures.rises c.requires.there c.in-Ok.ensures.put
+    state_added c.args.builder.now c.join_state-joined.new.self c.args.point c.args.state.now _ c.join_state-joined.ensures.contexts c.is_family.ensures
+    c.join_state-joined.ensures.family c.states_rise.ensures c.states_rise-2.ensures c.requires.there c.in-Ok.ensures.put
