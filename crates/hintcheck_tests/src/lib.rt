@@ -16,8 +16,6 @@ mod find;
 #[cfg(test)]
 mod font;
 #[cfg(test)]
-mod memory;
-#[cfg(test)]
 mod stream;
 #[cfg(test)]
 mod words;
