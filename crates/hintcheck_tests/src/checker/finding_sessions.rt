@@ -75,7 +75,11 @@ const NAMES: [Name; 3] = [Name::Font, Name::Cvt, Name::Glyph(0)];
 #[test]
 fn written_one_by_one(rt: HostRuntime) {
     let (outcomes, bytes) = written(rt.alloc(), &FONT).expect(&rt, "font");
-    assert_eq!(rt; outcomes.len(), 3, "none is left then, however often that is asked");
+    assert_eq!(rt;
+        outcomes.len(),
+        3,
+        "none is left then, however often that is asked"
+    );
     for (outcome, name) in outcomes.iter().zip(NAMES) {
         assert_eq!(rt; outcome.program, name);
         assert!(rt; outcome.refused.is_none());
