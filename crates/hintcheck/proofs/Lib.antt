@@ -22,3 +22,4 @@ pub mod UpgradeSteps
 pub mod SessionSteps
 pub mod SessionRuns
 pub mod FindingSteps
+pub mod SecondLooks

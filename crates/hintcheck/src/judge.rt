@@ -9,11 +9,11 @@ ghost use Rattle.tt_font.specs.Conditions.{maxp_fault};
 ghost use Rattle.tt_font.specs.GlyphParts.{glyph_data};
 
 use crate::fonts::{Common, look_at_glyph};
-use crate::look::list_refused;
+use crate::look::{Search, list_refused};
 use crate::report::{Name, Refused, Verdict};
 use std::alloc::{AllocError, Global};
 use tt_abs::Setting;
-use tt_code::{Limits, Program};
+use tt_code::{CodeFault, Limits, Program};
 use tt_find::Finder;
 use tt_font::{FontFault, GlyphPart, read_maxp};
 
@@ -23,8 +23,9 @@ fn empty_program(alloc: Global) -> Result<Program<'static>, AllocError>
 {
     match Program::cut(alloc, &[]) {
         Ok(program) => Ok(program),
+        Err(CodeFault::OutOfMemory(error)) => Err(error),
         // No instruction passes the end of an empty program, and its structure is right.
-        Err(_) => Err(AllocError),
+        Err(CodeFault::CannotCut(_) | CodeFault::Structure(_)) => unreachable!(),
     }
 }
 
@@ -46,7 +47,7 @@ fn refused_programs(
     };
     let mut finder = Finder::new(alloc);
     let mut refused = Vec::new(alloc);
-    match look_at_glyph(alloc, &mut finder, &common, glyph) {
+    match look_at_glyph(alloc, &mut finder, &common, glyph, Search::Verdict) {
         Ok(()) => {}
         Err(fault) => list_refused(&mut refused, Name::Glyph(0), fault)?,
     }

@@ -4,7 +4,7 @@ use Rattle.hintcheck.proofs.CertificateWriting.{fewer_after, found_next, nothing
 use Rattle.hintcheck.proofs.certifying.write_sections.Goals as goal
 
 pub loop-finder-init : goal.loop-finder-init
-loop-finder-init g c = (refl, nothing_found c.args.font.now (g.W.Sink.contents c.args.sink.now) c.new-session.result c.new-session.ensures)
+loop-finder-init g c = (refl, nothing_found c.args.font.now (g.W.Sink.contents c.args.sink.now) c.new-session.result c.requires.accepted c.new-session.ensures)
 
 pub loop-finder-smaller : goal.loop-finder-smaller
 loop-finder-smaller g c =
