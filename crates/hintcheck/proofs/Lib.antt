@@ -23,3 +23,4 @@ pub mod SessionSteps
 pub mod SessionRuns
 pub mod FindingSteps
 pub mod SecondLooks
+pub mod FailedReads
