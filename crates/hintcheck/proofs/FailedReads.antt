@@ -2,7 +2,7 @@
 use Rattle.std.proofs.Common.{◌≡◌, ℕ, ◌+◌, Bool, cond, true, false, List, [], ◌∷◌, ◌++◌, length, Option, Some, None, is_some, Result, Ok, Err, refl, sym, ◌∙◌, ap, subst, arith, append_assoc}
 use Rattle.std.specs.Prelude.{IfErr, slice_get}
 use Rattle.std.specs.Int.{w16, w32, from_be_bytes}
-use Rattle.std.specs.Io.KnownBytes.{Consumes}
+use Rattle.std.specs.Io.KnownBytes.{Consumes, Keeps}
 use Rattle.std.proofs.KnownBytes.{Consumes-nil, Consumes-trans}
 use Rattle.std.proofs.lemmas.List.{length-append}
 use Rattle.tt_code.specs.Cut.{Instruction}
@@ -25,9 +25,9 @@ use Rattle.tt_font.specs.Reading.{FontData, GlyphData}
 use Rattle.hintcheck.specs.CertificateFaults.{fault_of_decoding}
 use Rattle.hintcheck.specs.Certificates.{HasNoSection, IsSectionOf, not_read}
 use Rattle.hintcheck.specs.CheckedFonts.{IsTold}
-use Rattle.hintcheck.specs.FailedReads.{EndsInCall, EndsInSection, HasRead, after_all, in_section, in_sections}
+use Rattle.hintcheck.specs.FailedReads.{EndsInCall, EndsInSection, HasRead, IsCutHeader, after_all, in_section, in_sections}
 use Rattle.hintcheck.specs.SessionStages.{TellsRefusal}
-use Rattle.hintcheck.specs.Sessions.{AnswersNext, IsFaultAt, IsOutcomeBySection, ReadsOn, Stage, Standing, after_font, at_glyph, at_header, cvt_fails, cvt_passes, font_fails, font_passes, glyph_fails, glyph_passes, where_it_was}
+use Rattle.hintcheck.specs.Sessions.{AnswersNext, IsFaultAt, IsLast, IsOutcomeBySection, ReadsOn, Stage, Standing, after_font, at_glyph, at_header, cvt_fails, cvt_passes, font_fails, font_passes, glyph_fails, glyph_passes, where_it_was}
 use Rattle.hintcheck.specs.declared.certified.CheckFontFault.{CheckFontFault}
 use Rattle.hintcheck.specs.declared.certified.CheckFontFault.TheVariants as check
 use Rattle.hintcheck.specs.declared.session.Outcome.{Outcome}
@@ -232,12 +232,29 @@ section_cut_short d form stage called place old new decode.Read no_section stops
     (s.front, s.consumed, in_section (no_section (input_at place (Some s.front)) at (not_read at s.refused)))
 
 -- in a header
-pub header_cut_short : (d : FontData) (Is : List ℕ → Type 0) (old new : Option (List ℕ)) (e : DecodeFault)
-    → ((front : List ℕ) → header_at (input_at 0 (Some front)) ≡ Err (place_after 0 (length front)) → Is front) → StopsAtEnd 0 old new header_at e
-    → HasRead old new Is (fault_of_decoding e)
-header_cut_short d Is old new (decode.Form at) so stops = tt
-header_cut_short d Is old new (decode.OutOfMemory error) so stops = tt
-header_cut_short d Is old new decode.Read so stops = λ told. let s = stops told in (s.front, s.consumed, so s.front s.refused)
+pub header_cut_short : (old new : Option (List ℕ)) (e : DecodeFault) → StopsAtEnd 0 old new header_at e → HasRead old new IsCutHeader (fault_of_decoding e)
+header_cut_short old new (decode.Form at) stops = tt
+header_cut_short old new (decode.OutOfMemory error) stops = tt
+header_cut_short old new decode.Read stops = λ told. let s = stops told in (s.front, s.consumed, s.refused)
+
+-- nothing was read after all sections
+pub end_not_read : (d : FontData) (form : Form) (stage : Stage) (place : ℕ) (old new : Option (List ℕ)) (e : DecodeFault) → IsLast d stage → (e ≡ decode.Read → Keeps old new)
+    → HasRead old new (λ front. EndsInSection d form stage (input_at place (Some front))) (fault_of_decoding e)
+end_not_read d form stage place old new (decode.Form at) last kept = tt
+end_not_read d form stage place old new (decode.OutOfMemory error) last kept = tt
+end_not_read d form stage place old new decode.Read last kept = λ told. ([], consumes_none old new (kept refl), after_all last refl)
+  where
+    consumes_none : (a b : Option (List ℕ)) → Keeps a b → Consumes a b []
+    consumes_none None b k = tt
+    consumes_none (Some xs) None k = absurd k
+    consumes_none (Some xs) (Some ys) k = k
+
+-- what was read has this too
+pub has_read_weaker : (old new : Option (List ℕ)) (Is Also : List ℕ → Type 0) (e : CheckFontFault) → ((front : List ℕ) → Is front → Also front) → HasRead old new Is e → HasRead old new Also e
+has_read_weaker old new Is Also (check.Form place) so has = tt
+has_read_weaker old new Is Also (check.Font font) so has = tt
+has_read_weaker old new Is Also (check.OutOfMemory error) so has = tt
+has_read_weaker old new Is Also check.Read so has = λ told. let (front, consumed, is) = has told in (front, consumed, so front is)
 
 -- after the header
 pub cut_short_after : (s : Standing) (form : Form) (place : ℕ) (old mid new : Option (List ℕ)) (e : CheckFontFault) → (IsTold old → IsTold mid × ReadsOn s old form (input_at place mid))

@@ -23,6 +23,10 @@ HasRead old new Is (fault.OutOfMemory error) = Unit {0}
 abbrev pub end_of : Input → ℕ
 end_of i = place_after i.place (length i.bytes)
 
+-- the bytes end too early for a header: at their end, and nowhere before, they have none
+abbrev pub IsCutHeader : List ℕ → Type 0
+IsCutHeader front = header_at (input_at 0 (Some front)) ≡ Err (place_after 0 (length front))
+
 -- The input ends too early for the program that is next: at its end, and nowhere before, it has no section; or all sections were read.
 pub data EndsInSection (d : FontData) (form : Form) (stage : Stage) (i : Input) : Type 0 where
   in_section : IsFaultAt d form i stage (end_of i) → EndsInSection d form stage i
@@ -30,7 +34,7 @@ pub data EndsInSection (d : FontData) (form : Form) (stage : Stage) (i : Input) 
 
 -- The bytes end too early for a call of a session: in the header, or in what the call reads after it.
 pub data EndsInCall (s : Standing) (front : List ℕ) : Type 0 where
-  in_header : s.read ≡ None → header_at (input_at 0 (Some front)) ≡ Err (place_after 0 (length front)) → EndsInCall s front
+  in_header : s.read ≡ None → IsCutHeader front → EndsInCall s front
   in_sections : (form : Form) (from : Input) → ReadsOn s (Some front) form from → EndsInSection s.font form s.stage from → EndsInCall s front
 
 -- a finding that names no place before the end of so many bytes
