@@ -188,9 +188,11 @@ fn add_state(builder: &mut Builder, point: (u32, u32), state: &State) -> Result<
     builder.states_rise();
     match joined {
         Ok(_) => Ok(()),
-        Err(JoinFault::OutOfMemory) => Err(AllocError),
-        // No state is at the point.
-        Err(JoinFault::DepthMismatch) => unreachable!(),
+        Err(fault) => match fault {
+            JoinFault::OutOfMemory => Err(AllocError),
+            // No state is at the point.
+            JoinFault::DepthMismatch => unreachable!(),
+        },
     }
 }
 
