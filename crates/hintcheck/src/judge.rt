@@ -4,6 +4,7 @@ ghost use Rattle.std.specs.Prelude.{◌≡◌, ◌≤◌, ◌<◌, ◌^◌, ◌�
 ghost use Rattle.hintcheck.specs.FontPrograms.{IsSafeGlyph, font_of, glyph_subject, one_glyph_font};
 ghost use Rattle.hintcheck.specs.Judging.{IsJudged, IsMemory, font_around};
 ghost use Rattle.hintcheck.specs.Programs.{HasGoodFamily, IsRefusal};
+ghost use Rattle.tt_code.specs.Faults.{IsMemory as IsMemoryAlone};
 ghost use Rattle.tt_font.specs.Reading.{GlyphData};
 ghost use Rattle.tt_font.specs.Conditions.{maxp_fault};
 ghost use Rattle.tt_font.specs.GlyphParts.{glyph_data};
@@ -17,15 +18,25 @@ use tt_code::{CodeFault, Limits, Program};
 use tt_find::Finder;
 use tt_font::{FontFault, GlyphPart, read_maxp};
 
+/// The error of a fault that is none of the program's.
+fn memory_error(fault: CodeFault) -> AllocError
+    requires { IsMemoryAlone fault }
+{
+    match fault {
+        CodeFault::OutOfMemory(error) => error,
+        CodeFault::CannotCut(_) => unreachable!(),
+        CodeFault::Structure(_) => unreachable!(),
+    }
+}
+
 /// The program without instructions.
 fn empty_program(alloc: Global) -> Result<Program<'static>, AllocError>
     ensures { IfOk result (λ program. program ≡ []) }
 {
     match Program::cut(alloc, &[]) {
         Ok(program) => Ok(program),
-        Err(CodeFault::OutOfMemory(error)) => Err(error),
         // No instruction passes the end of an empty program, and its structure is right.
-        Err(CodeFault::CannotCut(_) | CodeFault::Structure(_)) => unreachable!(),
+        Err(fault) => Err(memory_error(fault)),
     }
 }
 
