@@ -15,21 +15,22 @@ use Rattle.tt_cert_file.specs.declared.fault.DecodeFault.TheVariants as decode
 use Rattle.tt_cert_file.specs.declared.form.Form.{Form}
 use Rattle.tt_cert_file.specs.declared.name.Name.{Name}
 use Rattle.tt_cert_file.specs.Forms.{form_of}
-use Rattle.tt_cert_file.specs.Readers.{Answer, Input, and_then, given, place_after, unit}
-use Rattle.tt_cert_file.specs.Reading.{form_at, header_at, header_from, is_magic, long_at, magic_at, section_at, word_at}
+use Rattle.tt_cert_file.specs.Readers.{Answer, Input, and_then, given, list_at, place_after, unit}
+use Rattle.tt_cert_file.specs.Reading.{contexts_at, entry_at, fields_at, form_at, header_at, header_from, is_magic, long_at, magic_at, name_at, section_at, section_from, states_at, word_at}
 use Rattle.tt_cert_file.specs.Sections.{section_of}
 use Rattle.tt_cert_file.proofs.Codecs.{bind_ok, here, ok_is, unit_takes}
-use Rattle.tt_cert_file.proofs.Steady.{step}
-use Rattle.tt_cert_file.proofs.SteadyUnits.{header_steady, section_steady}
+use Rattle.tt_cert_file.proofs.Steady.{IsSteady, and_then_steady, list_steady, made_of_steady, step, step_steady}
+use Rattle.tt_cert_file.proofs.SteadyUnits.{contexts_steady, entry_steady, form_steady, long_steady, magic_steady, name_steady}
 use Rattle.tt_font.specs.Reading.{FontData, GlyphData}
 use Rattle.hintcheck.specs.CertificateFaults.{fault_of_decoding}
 use Rattle.hintcheck.specs.Certificates.{HasNoSection, IsSectionOf, not_read}
 use Rattle.hintcheck.specs.CheckedFonts.{IsTold}
-use Rattle.hintcheck.specs.FailedReads.{EndsInCall, EndsInSection, HasRead, IsCutHeader, after_all, in_section, in_sections}
-use Rattle.hintcheck.specs.SessionStages.{TellsRefusal}
-use Rattle.hintcheck.specs.Sessions.{AnswersNext, IsFaultAt, IsLast, IsOutcomeBySection, ReadsOn, Stage, Standing, after_font, at_glyph, at_header, cvt_fails, cvt_passes, font_fails, font_passes, glyph_fails, glyph_passes, where_it_was}
+use Rattle.hintcheck.specs.FailedReads.{EndsInCall, EndsInSection, HasRead, IsCutHeader, after_all, in_header, in_section, in_sections}
+use Rattle.hintcheck.specs.SessionStages.{TellsRefusal, read_of}
+use Rattle.hintcheck.specs.Sessions.{AnswersNext, IsFaultAt, IsLast, IsOutcomeBySection, ReadsOn, Stage, Standing, after_font, at_glyph, at_header, cvt_fails, cvt_passes, font_fails, font_passes, glyph_fails, glyph_passes, standing_at, where_it_was}
 use Rattle.hintcheck.specs.declared.certified.CheckFontFault.{CheckFontFault}
 use Rattle.hintcheck.specs.declared.certified.CheckFontFault.TheVariants as check
+use Rattle.hintcheck.specs.declared.sections.Progress.{Progress}
 use Rattle.hintcheck.specs.declared.session.Outcome.{Outcome}
 
 -- a header has ten bytes
@@ -92,12 +93,32 @@ header_advances =
     (both_advance magic_at (λ _. and_then form_at (λ _. long_at)) 4 6 magic_advances (λ _. both_advance form_at (λ _. long_at) 2 4 form_advances (λ _. long_advances)))
     (λ _ x. done_advances (header_from x))
 
-header_is_ten : (bytes : List ℕ) (x : Form × ℕ) (j : Input) → header_at (here 0 bytes) ≡ Ok (x, j) → j.place ≡ 10
+pub header_is_ten : (bytes : List ℕ) (x : Form × ℕ) (j : Input) → header_at (here 0 bytes) ≡ Ok (x, j) → j.place ≡ 10
 header_is_ten bytes x j e = omega (arith, header_advances.by (here 0 bytes) x j e 0)
+
+-- a section and a header
+
+states_steady : (form : Form) (contexts : ℕ) → IsSteady (states_at form contexts)
+unfolding states_at
+states_steady form contexts =
+    step_steady long_at (λ _ n. list_at (entry_at form contexts) [] n) long_steady (λ _ n. list_steady (entry_at form contexts) (entry_steady form contexts) n [])
+
+pub section_steady : (form : Form) → IsSteady (section_at form)
+unfolding section_at
+section_steady form =
+    made_of_steady section_from (fields_at form)
+    (and_then_steady name_at _ name_steady
+    (λ _. and_then_steady (contexts_at form) (λ contexts. states_at form (length contexts + 1)) (contexts_steady form) (λ contexts. states_steady form (length contexts + 1))))
+
+pub header_steady : IsSteady header_at
+unfolding header_at
+header_steady =
+    made_of_steady header_from (and_then magic_at (λ _. and_then form_at (λ _. long_at)))
+    (and_then_steady magic_at _ magic_steady (λ _. and_then_steady form_at _ form_steady (λ _. long_steady)))
 
 -- known bytes
 
-known_front : (old new : Option (List ℕ)) (front : List ℕ) (at there : ℕ) → IsTold old → IsTold new → (input_at at old).bytes ≡ front ++ (input_at there new).bytes → Consumes old new front
+pub known_front : (old new : Option (List ℕ)) (front : List ℕ) (at there : ℕ) → IsTold old → IsTold new → (input_at at old).bytes ≡ front ++ (input_at there new).bytes → Consumes old new front
 known_front None new front at there told told' parts = tt
 known_front (Some xs) None front at there told told' parts = absurd cc
 known_front (Some xs) (Some ys) front at there told told' parts = parts
@@ -247,7 +268,7 @@ end_not_read d form stage place old new decode.Read last kept = λ told. ([], co
     consumes_none : (a b : Option (List ℕ)) → Keeps a b → Consumes a b []
     consumes_none None b k = tt
     consumes_none (Some xs) None k = absurd k
-    consumes_none (Some xs) (Some ys) k = k
+    consumes_none (Some xs) (Some ys) k = sym k
 
 -- what was read has this too
 pub has_read_weaker : (old new : Option (List ℕ)) (Is Also : List ℕ → Type 0) (e : CheckFontFault) → ((front : List ℕ) → Is front → Also front) → HasRead old new Is e → HasRead old new Also e
@@ -276,3 +297,11 @@ pub tells_no_read : (called : Name) (fault : ProgramFault) (r : Result Outcome C
     → IfErr r (HasRead old new Is)
 tells_no_read called (program.Refused spot offset reason) r old new Is told = rw told tt
 tells_no_read called (program.OutOfMemory e) r old new Is told = rw told tt
+
+-- a header that isn't read is what is next
+pub header_cut_short_in : {T : Type 0} (d : FontData) (stage : Stage) (known : Option Progress) → known ≡ None → (r : Result T CheckFontFault) (old new : Option (List ℕ))
+    → IfErr r (HasRead old new IsCutHeader) → IfErr r (HasRead old new (EndsInCall (standing_at d stage (read_of known))))
+header_cut_short_in d stage known none (Ok x) old new has = tt
+header_cut_short_in d stage known none (Err e) old new has =
+    let unread : read_of known ≡ None = ap read_of none in
+    has_read_weaker old new IsCutHeader (EndsInCall (standing_at d stage (read_of known))) e (λ front cut. in_header unread cut) has

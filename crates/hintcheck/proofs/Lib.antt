@@ -24,3 +24,4 @@ pub mod SessionRuns
 pub mod FindingSteps
 pub mod SecondLooks
 pub mod FailedReads
+pub mod UpgradeReads

@@ -9,15 +9,29 @@ use Rattle.tt_font.specs.Reading.{FontData, Reads}
 use Rattle.hintcheck.specs.Certificates.{Finding, IsChecked}
 use Rattle.hintcheck.specs.CheckedFonts.{IsTold}
 use Rattle.hintcheck.specs.Sessions.{IsFaultAt, IsLast, ReadsOn, Stage, Standing}
+use Rattle.hintcheck.specs.Upgrades.{UpgradesTo}
 use Rattle.hintcheck.specs.declared.certified.CheckFontFault.{CheckFontFault}
 use Rattle.hintcheck.specs.declared.certified.CheckFontFault.TheVariants as fault
+use Rattle.hintcheck.specs.declared.upgrading.UpgradeFault.{UpgradeFault}
+use Rattle.hintcheck.specs.declared.upgrading.UpgradeFault.TheVariants as upgrade
 
--- What holds of the bytes that were read, where a read failed of a source that tells its bytes.
+-- what holds of the bytes that were read, of a source that tells its bytes
+abbrev pub OfRead : Option (List ℕ) → Option (List ℕ) → (List ℕ → Type 0) → Type 0
+OfRead old new Is = IsTold old → (front : List ℕ) × Consumes old new front × Is front
+
+-- so it is where a read failed, in the check of a font by a certificate
 abbrev pub HasRead : Option (List ℕ) → Option (List ℕ) → (List ℕ → Type 0) → CheckFontFault → Type 0
-HasRead old new Is fault.Read = IsTold old → (front : List ℕ) × Consumes old new front × Is front
+HasRead old new Is fault.Read = OfRead old new Is
 HasRead old new Is (fault.Form place) = Unit {0}
 HasRead old new Is (fault.Font font) = Unit {0}
 HasRead old new Is (fault.OutOfMemory error) = Unit {0}
+
+-- and in an upgrade
+abbrev pub HasReadOld : Option (List ℕ) → Option (List ℕ) → (List ℕ → Type 0) → UpgradeFault → Type 0
+HasReadOld old new Is upgrade.Read = OfRead old new Is
+HasReadOld old new Is upgrade.Write = Unit {0}
+HasReadOld old new Is (upgrade.Form place) = Unit {0}
+HasReadOld old new Is (upgrade.OutOfMemory error) = Unit {0}
 
 -- where the bytes end
 abbrev pub end_of : Input → ℕ
@@ -37,9 +51,9 @@ pub data EndsInCall (s : Standing) (front : List ℕ) : Type 0 where
   in_header : s.read ≡ None → IsCutHeader front → EndsInCall s front
   in_sections : (form : Form) (from : Input) → ReadsOn s (Some front) form from → EndsInSection s.font form s.stage from → EndsInCall s front
 
--- a finding that names no place before the end of so many bytes
-abbrev pub IsAtEndOnly : ℕ → Finding → Type 0
-IsAtEndOnly n (Ok refused) = Unit {0}
+-- it names no place before the end of so many bytes
+abbrev pub IsAtEndOnly : {T : Type 0} → ℕ → Result T ℕ → Type 0
+IsAtEndOnly n (Ok x) = Unit {0}
 IsAtEndOnly n (Err place) = place ≡ place_after 0 n
 
 -- The bytes, as a whole certificate of the font, are at fault nowhere but at their end.
@@ -51,3 +65,9 @@ pub record IsUnbroken (d : FontData) (front : List ℕ) : Type 0 where
 -- so is it with the font in these bytes
 abbrev pub IsUnbrokenFor : List ℕ → List ℕ → Type 0
 IsUnbrokenFor font front = (d : FontData) × Reads font d × IsUnbroken d front
+
+-- The bytes, as a whole certificate of some font, are at fault nowhere but at their end.
+pub record IsUnbrokenOld (front : List ℕ) : Type 0 where
+  pub answer : Result ℕ ℕ
+  pub comes : UpgradesTo front answer
+  pub at_end : IsAtEndOnly (length front) answer

@@ -6,6 +6,7 @@ ghost use Rattle.tt_cert_file.specs.Answers.{input_at};
 ghost use Rattle.tt_stream.specs.Reads.{ConsumesBeginning};
 ghost use Rattle.hintcheck.specs.CertificateFaults.{CountsCheck, IsNoFontFault};
 ghost use Rattle.hintcheck.specs.CheckedFonts.{Finds, IsTold};
+ghost use Rattle.hintcheck.specs.FailedReads.{EndsInCall, EndsInSection, HasRead};
 ghost use Rattle.hintcheck.specs.FindingSessions.{IsForFinding, IsFoundAnswer, out_of_memory, out_of_memory_here};
 ghost use Rattle.hintcheck.specs.FontPrograms.{IsFontInRange};
 ghost use Rattle.hintcheck.specs.Looks.{IsForCertificate};
