@@ -4,7 +4,7 @@ ghost use Rattle.std.specs.Prelude.{◌≡◌, ◌*◌, ◌<◌, ◌≤◌, [], 
 ghost use Rattle.tt_abs.specs.Entries.{Rises};
 ghost use Rattle.tt_stream.specs.Reads.{ConsumesBeginning};
 ghost use Rattle.tt_stream.specs.Streams.{CountsFailure};
-ghost use Rattle.tt_cert_file.specs.Answers.{CountsRead, Gives, IsWantOfMemory, input_at};
+ghost use Rattle.tt_cert_file.specs.Answers.{CountsRead, Gives, IsWantOfMemory, input_at, StopsAtEnd};
 ghost use Rattle.tt_cert_file.specs.Blocks.{AreKept, FillsOn, FillsRest, ReadsBlock, ReadsCells, ReadsMoreCells, ReadsRest, Takes, TakesCells, TakesSomeCells};
 ghost use Rattle.tt_cert_file.specs.Readers.{list_at};
 ghost use Rattle.tt_cert_file.specs.Reading.{cell_at, function_at, functions_at, stack_at, storage_at, stored_at};
@@ -236,6 +236,7 @@ fn read_cells<S: Source>(
     ensures reads { Gives (λ v. v.items) (S.remaining source.old) (S.remaining source.new) result (list_at (λ _. cell_at) [] count (input_at place (S.remaining source.old))) }
     ensures few { IfOk result (λ r. length r.0.items ≤ count) }
     ensures beginning { ConsumesBeginning (S.remaining source.old) (S.remaining source.new) }
+    ensures stopped { IfErr result (StopsAtEnd place (S.remaining source.old) (S.remaining source.new) (list_at (λ _. cell_at) [] count)) }
     ensures failures { CountsRead result (S.failures source.old) (S.failures source.new) }
 {
     let mut cells = others;
@@ -257,6 +258,7 @@ pub(crate) fn read_stack<S: Source>(
     ensures reads { Gives (λ v. v.items) (S.remaining source.old) (S.remaining source.new) result (stack_at (input_at place (S.remaining source.old))) }
     ensures few { IfOk result (λ r. length r.0.items ≤ 65535) }
     ensures beginning { ConsumesBeginning (S.remaining source.old) (S.remaining source.new) }
+    ensures stopped { IfErr result (StopsAtEnd place (S.remaining source.old) (S.remaining source.new) stack_at) }
     ensures failures { CountsRead result (S.failures source.old) (S.failures source.new) }
 {
     let (count, at) = read_word(source, place)?;
@@ -377,6 +379,7 @@ fn read_function_list<S: Source>(
     ensures reads { Gives (λ v. v.items) (S.remaining source.old) (S.remaining source.new) result (list_at function_at [] count (input_at place (S.remaining source.old))) }
     ensures rises { IfOk result (λ r. Rises r.0.items) }
     ensures beginning { ConsumesBeginning (S.remaining source.old) (S.remaining source.new) }
+    ensures stopped { IfErr result (StopsAtEnd place (S.remaining source.old) (S.remaining source.new) (list_at function_at [] count)) }
     ensures failures { CountsRead result (S.failures source.old) (S.failures source.new) }
 {
     let mut functions = others;
@@ -435,6 +438,7 @@ fn take_listed<S: Source>(
     ensures reads { Gives (λ f. f.list.items) (S.remaining source.old) (S.remaining source.new) result (list_at function_at [] count (input_at place (S.remaining source.old))) }
     ensures kept { IfOk result (λ r. AreKept r.0.text.items r.0.list.items) }
     ensures beginning { ConsumesBeginning (S.remaining source.old) (S.remaining source.new) }
+    ensures stopped { IfErr result (StopsAtEnd place (S.remaining source.old) (S.remaining source.new) (list_at function_at [] count)) }
     ensures failures { CountsRead result (S.failures source.old) (S.failures source.new) }
 {
     let Functions { mut list, mut text } = others;
@@ -459,6 +463,7 @@ fn read_listed<S: Source>(
     ensures reads { Gives (λ f. f.list.items) (S.remaining source.old) (S.remaining source.new) result (list_at function_at [] count (input_at place (S.remaining source.old))) }
     ensures kept { IfOk result (λ r. AreKept r.0.text.items r.0.list.items) }
     ensures beginning { ConsumesBeginning (S.remaining source.old) (S.remaining source.new) }
+    ensures stopped { IfErr result (StopsAtEnd place (S.remaining source.old) (S.remaining source.new) (list_at function_at [] count)) }
     ensures failures { CountsRead result (S.failures source.old) (S.failures source.new) }
 {
     let width = FUNCTION * usize::from(count);
@@ -486,6 +491,7 @@ pub(crate) fn read_functions<S: Source>(
     ensures reads { Gives (λ f. f.list.items) (S.remaining source.old) (S.remaining source.new) result (functions_at (input_at place (S.remaining source.old))) }
     ensures kept { IfOk result (λ r. AreKept r.0.text.items r.0.list.items) }
     ensures beginning { ConsumesBeginning (S.remaining source.old) (S.remaining source.new) }
+    ensures stopped { IfErr result (StopsAtEnd place (S.remaining source.old) (S.remaining source.new) functions_at) }
     ensures failures { CountsRead result (S.failures source.old) (S.failures source.new) }
 {
     let (count, at) = read_word(source, place)?;
@@ -502,6 +508,7 @@ fn read_stored<S: Source>(
     ensures reads { Gives (λ x. x) (S.remaining source.old) (S.remaining source.new) result (stored_at before.now (input_at place (S.remaining source.old))) }
     ensures above { IfOk result (λ r. is_above (last_of before.now) r.0 ≡ true) }
     ensures beginning { ConsumesBeginning (S.remaining source.old) (S.remaining source.new) }
+    ensures stopped { IfErr result (StopsAtEnd place (S.remaining source.old) (S.remaining source.new) (stored_at before.now)) }
     ensures failures { CountsRead result (S.failures source.old) (S.failures source.new) }
     ensures memory { IfErr result (λ fault. ¬ IsWantOfMemory fault) }
 {
@@ -524,6 +531,7 @@ fn read_storage_list<S: Source>(
     ensures reads { Gives (λ v. v.items) (S.remaining source.old) (S.remaining source.new) result (list_at stored_at [] count (input_at place (S.remaining source.old))) }
     ensures rises { IfOk result (λ r. Rises r.0.items) }
     ensures beginning { ConsumesBeginning (S.remaining source.old) (S.remaining source.new) }
+    ensures stopped { IfErr result (StopsAtEnd place (S.remaining source.old) (S.remaining source.new) (list_at stored_at [] count)) }
     ensures failures { CountsRead result (S.failures source.old) (S.failures source.new) }
 {
     let mut cells = others;
@@ -548,6 +556,7 @@ pub(crate) fn read_storage<S: Source>(
     ensures reads { Gives (λ v. v.items) (S.remaining source.old) (S.remaining source.new) result (storage_at form (input_at place (S.remaining source.old))) }
     ensures rises { IfOk result (λ r. Rises r.0.items) }
     ensures beginning { ConsumesBeginning (S.remaining source.old) (S.remaining source.new) }
+    ensures stopped { IfErr result (StopsAtEnd place (S.remaining source.old) (S.remaining source.new) (storage_at form)) }
     ensures failures { CountsRead result (S.failures source.old) (S.failures source.new) }
 {
     match form {

@@ -1,0 +1,120 @@
+-- What was read before a failed read, step by step.
+use Rattle.std.proofs.Common.{◌≡◌, ℕ, ◌+◌, Bool, true, cond, List, [], ◌∷◌, ◌++◌, length, Option, Some, None, is_some, Ok, Err, refl, sym, ap, ◌∙◌, arith, append_assoc}
+use Rattle.std.proofs.lemmas.List.{length-append}
+use Rattle.std.specs.Io.KnownBytes.{Consumes}
+use Rattle.std.proofs.KnownBytes.{Consumes-nil, Consumes-trans}
+use Rattle.tt_cert_file.specs.declared.fault.DecodeFault.{DecodeFault}
+use Rattle.tt_cert_file.specs.declared.fault.DecodeFault.TheVariants as fault
+use Rattle.tt_cert_file.specs.Answers.{IsCutShort, StopsAtEnd, input_at}
+use Rattle.tt_cert_file.specs.Readers.{Answer, Input, and_then, list_at, made_of, place_after, ruled}
+use Rattle.tt_cert_file.proofs.Codecs.{here}
+use Rattle.tt_cert_file.proofs.Steady.{IsSteady, TakesOnly, step}
+
+-- some beginning was read, and whatever follows it, what is left is read from there on
+pub record HasRead {Y : Type 0} (place at : ℕ) (old now : Option (List ℕ)) (whole left : Input → Answer Y) : Type 0 where
+  pub front : List ℕ
+  pub consumed : Consumes old now front
+  pub further : (n : ℕ) → place_after at n ≡ place_after place (length front + n)
+  pub again : (rest : List ℕ) → whole (here place (front ++ rest)) ≡ left (here at rest)
+
+-- the same of a source that tells its bytes
+pub record Reached {Y : Type 0} (place at : ℕ) (old now : Option (List ℕ)) (whole left : Input → Answer Y) : Type 0 where
+  pub told : is_some now ≡ true
+  pub read : HasRead place at old now whole left
+
+pub reached_none : {Y : Type 0} (place : ℕ) (old : Option (List ℕ)) (whole : Input → Answer Y) → is_some old ≡ true → Reached place place old old whole whole
+reached_none place old whole told = record {
+  told = told;
+  read = record { front = []; consumed = Consumes-nil old; further = λ n. omega arith; again = λ rest. refl };
+}
+
+pub reached_then : {Y : Type 0} (place mid at : ℕ) (old now next : Option (List ℕ)) (whole more left : Input → Answer Y)
+    → Reached place mid old now whole more → Reached mid at now next more left → Reached place at old next whole left
+reached_then place mid at old now next whole more left one two =
+    let a = one.read in
+    let b = two.read in
+    record {
+      told = two.told;
+      read = record {
+        front = a.front ++ b.front;
+        consumed = Consumes-trans old now next a.front b.front a.consumed b.consumed;
+        further = λ n.
+            let long : length a.front + (length b.front + n) ≡ length (a.front ++ b.front) + n = omega (arith, length-append a.front b.front) in
+            b.further n ∙ a.further (length b.front + n) ∙ ap (place_after place) long;
+        again = λ rest. ap (λ (l : List ℕ). whole (here place l)) (append_assoc a.front b.front rest) ∙ a.again (b.front ++ rest) ∙ b.again rest;
+      };
+    }
+
+consumed_front : (old now : Option (List ℕ)) (place at : ℕ) (front : List ℕ) → is_some old ≡ true → is_some now ≡ true
+    → (input_at place old).bytes ≡ front ++ (input_at at now).bytes → Consumes old now front
+consumed_front None now place at front known told parts = tt
+consumed_front (Some xs) None place at front known told parts = absurd cc
+consumed_front (Some xs) (Some ys) place at front known told parts = parts
+
+-- a value was read
+pub reached_step : {A B : Type 0} (first : Input → Answer A) (next : ℕ → A → Input → Answer B) (place at : ℕ) (old now : Option (List ℕ)) (x : A) → IsSteady first
+    → is_some old ≡ true → (is_some now ≡ true) × (first (input_at place old) ≡ Ok (x, input_at at now)) → Reached place at old now (step first next) (next place x)
+reached_step first next place at old now x steady known was =
+    let t = steady.takes (input_at place old) x (input_at at now) was.1 in
+    record {
+      told = was.0;
+      read = record {
+        front = t.front;
+        consumed = consumed_front old now place at t.front known was.0 t.parts;
+        further = t.further;
+        again = λ rest. rw (t.again rest) refl;
+      };
+    }
+
+-- a read failed after that
+pub stops_there : {Y : Type 0} (place at : ℕ) (old now next : Option (List ℕ)) (whole left : Input → Answer Y) (e : DecodeFault)
+    → (is_some old ≡ true → Reached place at old now whole left) → StopsAtEnd at now next left e → StopsAtEnd place old next whole e
+stops_there place at old now next whole left (fault.Form p) reached stops = tt
+stops_there place at old now next whole left (fault.OutOfMemory error) reached stops = tt
+stops_there place at old now next whole left fault.Read reached stops = λ known.
+    let r = reached known in
+    let a = r.read in
+    let s = stops r.told in
+    let there : place_after at (length s.front) ≡ place_after place (length (a.front ++ s.front)) =
+    a.further (length s.front) ∙ ap (place_after place) (sym (length-append a.front s.front)) in
+    record {
+      front = a.front ++ s.front;
+      consumed = Consumes-trans old now next a.front s.front a.consumed s.consumed;
+      refused = a.again s.front ∙ s.refused ∙ ap (λ (p : ℕ). Err p) there;
+    }
+
+-- a read failed in the first step
+pub stops_in : {A B : Type 0} (first : Input → Answer A) (next : ℕ → A → Input → Answer B) (place : ℕ) (old new : Option (List ℕ)) (e : DecodeFault)
+    → StopsAtEnd place old new first e → StopsAtEnd place old new (step first next) e
+stops_in first next place old new (fault.Form p) stops = tt
+stops_in first next place old new (fault.OutOfMemory error) stops = tt
+stops_in first next place old new fault.Read stops = λ known.
+    let s = stops known in
+    record { front = s.front; consumed = s.consumed; refused = rw s.refused refl }
+
+-- a read failed in a step after the first
+pub stops_after : {A B : Type 0} (first : Input → Answer A) (next : ℕ → A → Input → Answer B) (place at : ℕ) (old now new : Option (List ℕ)) (x : A) (e : DecodeFault) → IsSteady first
+    → (is_some old ≡ true → (is_some now ≡ true) × (first (input_at place old) ≡ Ok (x, input_at at now)))
+    → StopsAtEnd at now new (next place x) e → StopsAtEnd place old new (step first next) e
+stops_after first next place at old now new x e steady was stops =
+    stops_there place at old now new (step first next) (next place x) e (λ known. reached_step first next place at old now x steady known (was known)) stops
+
+-- a read failed in the first of two values
+pub stops_first : {A B : Type 0} (first : Input → Answer A) (second : A → Input → Answer B) (place : ℕ) (old new : Option (List ℕ)) (e : DecodeFault)
+    → StopsAtEnd place old new first e → StopsAtEnd place old new (and_then first second) e
+stops_first {A} {B} first second place old new e stops = stops_in first (λ _ x. step (second x) (λ _ y j. Ok ((x, y), j))) place old new e stops
+
+-- a read failed in the second of two values
+pub stops_second : {A B : Type 0} (first : Input → Answer A) (second : A → Input → Answer B) (place at : ℕ) (old now new : Option (List ℕ)) (x : A) (e : DecodeFault) → IsSteady first
+    → (is_some old ≡ true → (is_some now ≡ true) × (first (input_at place old) ≡ Ok (x, input_at at now)))
+    → StopsAtEnd at now new (second x) e → StopsAtEnd place old new (and_then first second) e
+stops_second {A} {B} first second place at old now new x e steady was stops =
+    stops_after first (λ _ x. step (second x) (λ _ y j. Ok ((x, y), j))) place at old now new x e steady was (stops_in (second x) (λ _ y j. Ok ((x, y), j)) at now new e stops)
+
+pub stops_made : {A B : Type 0} (make : A → B) (read : Input → Answer A) (place : ℕ) (old new : Option (List ℕ)) (e : DecodeFault)
+    → StopsAtEnd place old new read e → StopsAtEnd place old new (made_of make read) e
+stops_made make read place old new e stops = stops_in read (λ _ x j. Ok (make x, j)) place old new e stops
+
+pub stops_ruled : {A : Type 0} (rule : A → Bool) (read : Input → Answer A) (place : ℕ) (old new : Option (List ℕ)) (e : DecodeFault)
+    → StopsAtEnd place old new read e → StopsAtEnd place old new (ruled rule read) e
+stops_ruled rule read place old new e stops = stops_in read (λ p x j. cond (rule x) (Ok (x, j)) (Err p)) place old new e stops
