@@ -1,16 +1,20 @@
 -- The readers of a section and of a header look at no byte past what they take.
-use Rattle.std.proofs.Common.{ℕ, ℤ, nat_le, Bool, true, false, cond, eqb, List, [], length, ◌+◌, drop, take, slice_index, Option, Ok, Err}
+use Rattle.std.proofs.Common.{ℕ, ℤ, nat_le, Bool, true, false, cond, eqb, List, [], length, ◌+◌, drop, take, slice_index, Option, Ok, Err, ◌≡◌, sym, subst}
 use Rattle.std.specs.Int.{w16, w32, from_be_bytes, cast_signed}
 use Rattle.tt_abs.specs.declared.cells.Cell.{Cell}
 use Rattle.tt_abs.specs.declared.cells.Cell.TheVariants.{Known, Unknown}
+use Rattle.tt_abs.specs.declared.cells.ZoneCell.{ZoneCell}
 use Rattle.tt_cert_file.specs.declared.form.Form.{Form}
 use Rattle.tt_cert_file.specs.declared.form.Form.TheVariants.{One, Two, Three, Four}
+use Rattle.tt_cert_file.specs.declared.fault.DecodeFault.{DecodeFault}
+use Rattle.tt_cert_file.specs.Answers.{StopsAtEnd}
 use Rattle.tt_cert_file.specs.Forms.{form_of, most_contexts}
 use Rattle.tt_cert_file.specs.Readers.{Answer, Input, and_then, given, list_at, made_of, unit}
 use Rattle.tt_cert_file.specs.Reading.{cell_at, context_at, context_count_at, context_from, contexts_at, counted_at, entry_after, entry_at, form_at, function_at, functions_at, graphics_at, graphics_from, is_magic, long_at, magic_at, name_at, name_of, numbers_at, pair_at, pair_from, parts_at, place_at, registers_at, stack_at, state_at, state_from, states_at, storage_at, stored_at, with_sign, word_at, zone_at, zone_of}
 use Rattle.tt_cert_file.specs.Rules.{is_above, is_next_place, last_of, last_place, may_follow}
 use Rattle.tt_cert_file.specs.Sections.{Context, Entry}
 use Rattle.tt_cert_file.proofs.Steady.{IsSteady, and_then_steady, done_steady, given_steady, list_steady, made_of_steady, refused_steady, ruled_steady, step, step_steady, unit_steady}
+use Rattle.tt_cert_file.proofs.Stops.{stops_in}
 
 pub word_steady : IsSteady word_at
 unfolding word_at
@@ -50,6 +54,13 @@ pub cell_steady : IsSteady cell_at
 unfolding cell_at
 cell_steady = step_steady (unit 1) after_tag (unit_steady 1) (λ p tag. tag_steady (eqb (slice_index tag 0) 0) (eqb (slice_index tag 0) 1) p)
 
+-- a read failed in the number of a known cell
+pub stops_in_number : (place at : ℕ) (old new : Option (List ℕ)) (tag : List ℕ) (e : DecodeFault) → slice_index tag 0 ≡ 1
+    → StopsAtEnd at old new (unit 4) e → StopsAtEnd at old new (after_tag place tag) e
+stops_in_number place at old new tag e is stops =
+    let F : ℕ → Type 0 = λ t. StopsAtEnd at old new (λ j. cond (eqb t 0) (Ok (Unknown, j)) (cond (eqb t 1) (number_at j) (Err place))) e in
+    subst F (sym is) (stops_in (unit 4) (λ _ u j. Ok (Known (cast_signed w32 (from_be_bytes w32 u)), j)) at old new e stops)
+
 pub zone_steady : IsSteady zone_at
 unfolding zone_at
 zone_steady = step_steady (unit 1) (λ p u j. given p (zone_of (slice_index u 0)) j) (unit_steady 1) (λ p u. given_steady p (zone_of (slice_index u 0)))
@@ -79,6 +90,22 @@ place_steady contexts last = ruled_steady (is_next_place contexts last) pair_at 
 pub stack_steady : IsSteady stack_at
 unfolding stack_at
 stack_steady = counted_steady (λ _. cell_at) (λ _. cell_steady)
+
+-- the graphics state after its first registers
+abbrev pub after_two_zones : Input → Answer (ZoneCell × Cell)
+after_two_zones = and_then zone_at (λ _. cell_at)
+
+abbrev pub after_zone : Input → Answer (ZoneCell × (ZoneCell × Cell))
+after_zone = and_then zone_at (λ _. after_two_zones)
+
+abbrev pub after_three_cells : Input → Answer (ZoneCell × (ZoneCell × (ZoneCell × Cell)))
+after_three_cells = and_then zone_at (λ _. after_zone)
+
+abbrev pub after_two_cells : Input → Answer (Cell × (ZoneCell × (ZoneCell × (ZoneCell × Cell))))
+after_two_cells = and_then cell_at (λ _. after_three_cells)
+
+abbrev pub after_cell : Input → Answer (Cell × (Cell × (ZoneCell × (ZoneCell × (ZoneCell × Cell)))))
+after_cell = and_then cell_at (λ _. after_two_cells)
 
 pub graphics_steady : IsSteady graphics_at
 unfolding graphics_at
