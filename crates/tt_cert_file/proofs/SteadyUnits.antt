@@ -1,6 +1,7 @@
 -- The readers of a section and of a header look at no byte past what they take.
-use Rattle.std.proofs.Common.{ℕ, ℤ, nat_le, Bool, true, false, cond, eqb, List, [], length, ◌+◌, drop, take, slice_index, Option, Ok, Err, ◌≡◌, sym, subst}
+use Rattle.std.proofs.Common.{ℕ, ℤ, nat_le, Bool, true, false, cond, eqb, List, [], length, ◌+◌, drop, take, slice_index, Option, Ok, Err, ◌≡◌, sym, ap, subst, ◌∙◌}
 use Rattle.std.specs.Int.{w16, w32, from_be_bytes, cast_signed}
+use Rattle.tt_abs.specs.Cells.{Cells}
 use Rattle.tt_abs.specs.declared.cells.Cell.{Cell}
 use Rattle.tt_abs.specs.declared.cells.Cell.TheVariants.{Known, Unknown}
 use Rattle.tt_abs.specs.declared.cells.ZoneCell.{ZoneCell}
@@ -68,6 +69,16 @@ zone_steady = step_steady (unit 1) (λ p u j. given p (zone_of (slice_index u 0)
 pub counted_steady : {A : Type 0} (one : List A → Input → Answer A) → ((before : List A) → IsSteady (one before)) → IsSteady (counted_at one)
 counted_steady one each = step_steady word_at (λ _ n. list_at one [] n) word_steady (λ _ n. list_steady one each n [])
 
+-- the last numbers of a context
+abbrev pub two_longs : Input → Answer (ℕ × ℕ)
+two_longs = and_then long_at (λ _. long_at)
+
+abbrev pub three_longs : Input → Answer (ℕ × (ℕ × ℕ))
+three_longs = and_then long_at (λ _. two_longs)
+
+abbrev pub after_parent : Input → Answer (ℕ × (ℕ × (ℕ × ℕ)))
+after_parent = and_then long_at (λ _. three_longs)
+
 numbers_steady : IsSteady numbers_at
 numbers_steady =
     and_then_steady word_at _ word_steady (λ _. and_then_steady long_at _ long_steady (λ _. and_then_steady long_at _ long_steady (λ _. and_then_steady long_at _ long_steady (λ _. long_steady))))
@@ -133,6 +144,13 @@ storage_steady Two = done_steady []
 storage_steady Three = counted_steady stored_at stored_steady
 storage_steady Four = counted_steady stored_at stored_steady
 
+-- the parts of a state after its first ones
+abbrev pub after_graphics : Form → Input → Answer (List (ℕ × ℕ) × List (ℕ × ℤ))
+after_graphics form = and_then functions_at (λ _. storage_at form)
+
+abbrev pub after_stack : Form → Input → Answer (Cells × (List (ℕ × ℕ) × List (ℕ × ℤ)))
+after_stack form = and_then graphics_at (λ _. after_graphics form)
+
 pub state_steady : (form : Form) → IsSteady (state_at form)
 unfolding state_at
 state_steady form =
@@ -151,3 +169,8 @@ magic_steady = ruled_steady is_magic long_at long_steady
 pub form_steady : IsSteady form_at
 unfolding form_at
 form_steady = step_steady word_at (λ p n j. given p (form_of n) j) word_steady (λ p n. given_steady p (form_of n))
+
+-- a state after its place, as one after those before it
+pub entry_same : (form : Form) (n m : ℕ) (last : Option (ℕ × ℕ)) (before : List Entry) → n ≡ m → last ≡ last_place before → entry_after form n last ≡ entry_at form m before
+unfolding entry_at
+entry_same form n m last before e f = ap (λ (k : ℕ). entry_after form k last) e ∙ ap (entry_after form m) f

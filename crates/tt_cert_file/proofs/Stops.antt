@@ -1,5 +1,6 @@
 -- What was read before a failed read, step by step.
-use Rattle.std.proofs.Common.{◌≡◌, ℕ, ◌+◌, Bool, true, cond, List, [], ◌∷◌, ◌++◌, length, Option, Some, None, is_some, Ok, Err, refl, sym, ap, ◌∙◌, arith, append_assoc}
+use Rattle.std.proofs.Common.{◌≡◌, ℕ, suc, ◌+◌, Bool, true, cond, List, [], ◌∷◌, ◌++◌, length, Option, Some, None, is_some, Result, Ok, Err, refl, sym, ap, ◌∙◌, arith, append_assoc}
+use Rattle.std.specs.Prelude.{IfErr}
 use Rattle.std.proofs.lemmas.List.{length-append}
 use Rattle.std.specs.Io.KnownBytes.{Consumes}
 use Rattle.std.proofs.KnownBytes.{Consumes-nil, Consumes-trans}
@@ -44,6 +45,12 @@ reached_then place mid at old now next whole more left one two =
         again = λ rest. ap (λ (l : List ℕ). whole (here place l)) (append_assoc a.front b.front rest) ∙ a.again (b.front ++ rest) ∙ b.again rest;
       };
     }
+
+pub reached_known : {Y : Type 0} (place at : ℕ) (old now : Option (List ℕ)) (whole left : Input → Answer Y) → Reached place at old now whole left → is_some old ≡ true
+    → whole (input_at place old) ≡ left (input_at at now)
+reached_known place at None now whole left reached known = absurd cc
+reached_known place at (Some xs) None whole left reached known = absurd reached.read.consumed
+reached_known place at (Some xs) (Some ys) whole left reached known = ap (λ (l : List ℕ). whole (here place l)) reached.read.consumed ∙ reached.read.again ys
 
 consumed_front : (old now : Option (List ℕ)) (place at : ℕ) (front : List ℕ) → is_some old ≡ true → is_some now ≡ true
     → (input_at place old).bytes ≡ front ++ (input_at at now).bytes → Consumes old now front
@@ -99,6 +106,13 @@ pub stops_after : {A B : Type 0} (first : Input → Answer A) (next : ℕ → A 
 stops_after first next place at old now new x e steady was stops =
     stops_there place at old now new (step first next) (next place x) e (λ known. reached_step first next place at old now x steady known (was known)) stops
 
+-- the same of what a last call answers
+pub stops_last : {X A B : Type 0} (r : Result X DecodeFault) (first : Input → Answer A) (next : ℕ → A → Input → Answer B) (place at : ℕ) (old now new : Option (List ℕ)) (x : A) → IsSteady first
+    → (is_some old ≡ true → (is_some now ≡ true) × (first (input_at place old) ≡ Ok (x, input_at at now)))
+    → IfErr r (StopsAtEnd at now new (next place x)) → IfErr r (StopsAtEnd place old new (step first next))
+stops_last (Ok y) first next place at old now new x steady was stops = tt
+stops_last (Err e) first next place at old now new x steady was stops = stops_after first next place at old now new x e steady was stops
+
 -- a read failed in the first of two values
 pub stops_first : {A B : Type 0} (first : Input → Answer A) (second : A → Input → Answer B) (place : ℕ) (old new : Option (List ℕ)) (e : DecodeFault)
     → StopsAtEnd place old new first e → StopsAtEnd place old new (and_then first second) e
@@ -118,3 +132,21 @@ stops_made make read place old new e stops = stops_in read (λ _ x j. Ok (make x
 pub stops_ruled : {A : Type 0} (rule : A → Bool) (read : Input → Answer A) (place : ℕ) (old new : Option (List ℕ)) (e : DecodeFault)
     → StopsAtEnd place old new read e → StopsAtEnd place old new (ruled rule read) e
 stops_ruled rule read place old new e stops = stops_in read (λ p x j. cond (rule x) (Ok (x, j)) (Err p)) place old new e stops
+
+-- one more value of a list was read
+pub reached_more : {A : Type 0} (one : List A → Input → Answer A) (xs ys : List A) (n m place at : ℕ) (old now : Option (List ℕ)) (x : A) → IsSteady (one xs) → is_some old ≡ true
+    → (is_some now ≡ true) × (one xs (input_at place old) ≡ Ok (x, input_at at now)) → n ≡ suc m → ys ≡ xs ++ x ∷ [] → Reached place at old now (list_at one xs n) (list_at one ys m)
+unfolding list_at
+reached_more {A = A} one xs ys n m place at old now x steady known was n_is pushed =
+    let next : ℕ → A → Input → Answer (List A) = λ _ y. list_at one (xs ++ y ∷ []) m in
+    let r : Reached place at old now (step (one xs) next) (list_at one (xs ++ x ∷ []) m) = reached_step (one xs) next place at old now x steady known was in
+    rw (n_is, pushed) r
+
+-- a read failed in the next value of a list
+pub stops_next : {A : Type 0} (one : List A → Input → Answer A) (xs : List A) (n m place : ℕ) (old new : Option (List ℕ)) (e : DecodeFault) → n ≡ suc m
+    → StopsAtEnd place old new (one xs) e → StopsAtEnd place old new (list_at one xs n) e
+unfolding list_at
+stops_next {A = A} one xs n m place old new e n_is stops =
+    let next : ℕ → A → Input → Answer (List A) = λ _ y. list_at one (xs ++ y ∷ []) m in
+    let s : StopsAtEnd place old new (step (one xs) next) e = stops_in (one xs) next place old new e stops in
+    rw n_is s
