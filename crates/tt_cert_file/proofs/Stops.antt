@@ -1,5 +1,5 @@
 -- What was read before a failed read, step by step.
-use Rattle.std.proofs.Common.{◌≡◌, ℕ, suc, ◌+◌, Bool, true, cond, List, [], ◌∷◌, ◌++◌, length, Option, Some, None, is_some, Result, Ok, Err, refl, sym, ap, ◌∙◌, arith, append_assoc}
+use Rattle.std.proofs.Common.{◌≡◌, ℕ, zero, suc, ◌+◌, ◌-◌, ◌≤◌, Bool, true, cond, List, [], ◌∷◌, ◌++◌, length, Option, Some, None, is_some, Result, Ok, Err, refl, sym, ap, ◌∙◌, arith, append_assoc}
 use Rattle.std.specs.Prelude.{IfErr}
 use Rattle.std.proofs.lemmas.List.{length-append}
 use Rattle.std.specs.Io.KnownBytes.{Consumes}
@@ -7,9 +7,9 @@ use Rattle.std.proofs.KnownBytes.{Consumes-nil, Consumes-trans}
 use Rattle.tt_cert_file.specs.declared.fault.DecodeFault.{DecodeFault}
 use Rattle.tt_cert_file.specs.declared.fault.DecodeFault.TheVariants as fault
 use Rattle.tt_cert_file.specs.Answers.{IsCutShort, StopsAtEnd, input_at}
-use Rattle.tt_cert_file.specs.Readers.{Answer, Input, and_then, list_at, made_of, place_after, ruled}
+use Rattle.tt_cert_file.specs.Readers.{Answer, Input, and_then, list_at, made_of, place_after, ruled, ◌>>=◌}
 use Rattle.tt_cert_file.proofs.Codecs.{here}
-use Rattle.tt_cert_file.proofs.Steady.{IsSteady, TakesOnly, step}
+use Rattle.tt_cert_file.proofs.Steady.{IsSteady, TakesOnly, list_steady, step}
 
 -- some beginning was read, and whatever follows it, what is left is read from there on
 pub record HasRead {Y : Type 0} (place at : ℕ) (old now : Option (List ℕ)) (whole left : Input → Answer Y) : Type 0 where
@@ -150,3 +150,53 @@ stops_next {A = A} one xs n m place old new e n_is stops =
     let next : ℕ → A → Input → Answer (List A) = λ _ y. list_at one (xs ++ y ∷ []) m in
     let s : StopsAtEnd place old new (step (one xs) next) e = stops_in (one xs) next place old new e stops in
     rw n_is s
+
+bind_split : {A B C : Type 0} (r : Answer A) (f : A × Input → Answer C) (g : A × Input → Answer B) (h : B × Input → Answer C) → ((x : A × Input) → f x ≡ (g x >>= h))
+    → (r >>= f) ≡ ((r >>= g) >>= h)
+bind_split (Ok x) f g h same = same x
+bind_split (Err p) f g h same = refl
+
+-- a list is read as its first part, and then the rest
+pub list_split : {A : Type 0} (one : List A → Input → Answer A) (a b : ℕ) (xs : List A) (i : Input) → list_at one xs (a + b) i ≡ step (list_at one xs a) (λ _ ys. list_at one ys b) i
+unfolding list_at
+list_split {A = A} one zero b xs i = let e : 0 + b ≡ b = omega arith in rw e refl
+list_split {A = A} one (suc a) b xs i =
+    let e : suc a + b ≡ suc (a + b) = omega arith in
+    rw e (bind_split (one xs i) (λ x. list_at one (xs ++ x.0 ∷ []) (a + b) x.1) (λ x. list_at one (xs ++ x.0 ∷ []) a x.1) (λ y. list_at one y.0 b y.1)
+    (λ x. list_split one a b (xs ++ x.0 ∷ []) x.1))
+
+first_part : {A : Type 0} (one : List A → Input → Answer A) (xs : List A) (n a : ℕ) → a ≤ n → (i : Input) → step (list_at one xs a) (λ _ ys. list_at one ys (n - a)) i ≡ list_at one xs n i
+first_part one xs n a le i =
+    let all : a + (n - a) ≡ n = omega arith in
+    sym (list_split one a (n - a) xs i) ∙ ap (λ (k : ℕ). list_at one xs k i) all
+
+stops_same : {Y : Type 0} (place : ℕ) (old new : Option (List ℕ)) (whole other : Input → Answer Y) (e : DecodeFault) → ((i : Input) → whole i ≡ other i)
+    → StopsAtEnd place old new whole e → StopsAtEnd place old new other e
+stops_same place old new whole other (fault.Form p) same stops = tt
+stops_same place old new whole other (fault.OutOfMemory error) same stops = tt
+stops_same place old new whole other fault.Read same stops = λ known.
+    let s = stops known in
+    record { front = s.front; consumed = s.consumed; refused = sym (same (input_at place (Some s.front))) ∙ s.refused }
+
+-- a read failed in the first part of a list
+pub stops_part : {A : Type 0} (one : List A → Input → Answer A) (xs : List A) (n a place : ℕ) (old new : Option (List ℕ)) (e : DecodeFault) → a ≤ n
+    → StopsAtEnd place old new (list_at one xs a) e → StopsAtEnd place old new (list_at one xs n) e
+stops_part one xs n a place old new e le stops =
+    stops_same place old new (step (list_at one xs a) (λ _ ys. list_at one ys (n - a))) (list_at one xs n) e (first_part one xs n a le)
+    (stops_in (list_at one xs a) (λ _ ys. list_at one ys (n - a)) place old new e stops)
+
+-- the first part of a list was read
+pub reached_part : {A : Type 0} (one : List A → Input → Answer A) (xs ys : List A) (n a place at : ℕ) (old now : Option (List ℕ)) → ((before : List A) → IsSteady (one before)) → a ≤ n
+    → is_some old ≡ true → (is_some now ≡ true) × (list_at one xs a (input_at place old) ≡ Ok (ys, input_at at now)) → Reached place at old now (list_at one xs n) (list_at one ys (n - a))
+reached_part one xs ys n a place at old now each le known was =
+    let r = reached_step (list_at one xs a) (λ _ zs. list_at one zs (n - a)) place at old now ys (list_steady one each a xs) known was in
+    let h = r.read in
+    record {
+      told = r.told;
+      read = record {
+        front = h.front;
+        consumed = h.consumed;
+        further = h.further;
+        again = λ rest. sym (first_part one xs n a le (here place (h.front ++ rest))) ∙ h.again rest;
+      };
+    }

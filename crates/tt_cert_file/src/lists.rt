@@ -1,6 +1,7 @@
 //! Lists of a section, each read after the number of its values.
 
-ghost use Rattle.std.specs.Prelude.{◌≡◌, ◌*◌, ◌<◌, ◌≤◌, [], true, length, take, IfErr, IfOk, OnOk};
+ghost use Rattle.std.specs.Prelude.{◌≡◌, ◌*◌, ◌<◌, ◌≤◌, [], true, length, take, IfErr, IfOk, OnErr, OnOk};
+ghost use Rattle.std.specs.Io.KnownBytes.{Keeps};
 ghost use Rattle.tt_abs.specs.Entries.{Rises};
 ghost use Rattle.tt_stream.specs.Reads.{ConsumesBeginning};
 ghost use Rattle.tt_stream.specs.Streams.{CountsFailure};
@@ -34,6 +35,7 @@ fn read_more<S: Source>(
     requires room { wanted ≤ length buf.old }
     ensures fills { IfOk result (λ n. FillsOn (S.remaining source.old) (S.remaining source.new) held wanted n buf.old buf.new) }
     ensures beginning { ConsumesBeginning (S.remaining source.old) (S.remaining source.new) }
+    ensures kept { OnErr result (Keeps (S.remaining source.old) (S.remaining source.new)) }
     ensures failures { CountsFailure result (S.failures source.old) (S.failures source.new) }
 {
     source.read(&mut buf[held..wanted])
@@ -311,6 +313,7 @@ fn take_function_block<S: Source>(
     ensures reads { ReadsBlock result (S.remaining source.old) (S.remaining source.new) functions.old.items functions.new.items place count }
     ensures rises { Rises functions.old.items → OnOk result (Rises functions.new.items) }
     ensures beginning { ConsumesBeginning (S.remaining source.old) (S.remaining source.new) }
+    ensures stopped { IfErr result (StopsAtEnd place (S.remaining source.old) (S.remaining source.new) (list_at function_at functions.old.items count)) }
     ensures failures { CountsRead result (S.failures source.old) (S.failures source.new) }
 {
     let width = FUNCTION * count;
@@ -331,6 +334,7 @@ fn fetch_function_block<S: Source>(
     ensures reads { ReadsBlock result (S.remaining source.old) (S.remaining source.new) functions.old.items functions.new.items place count }
     ensures rises { Rises functions.old.items → OnOk result (Rises functions.new.items) }
     ensures beginning { ConsumesBeginning (S.remaining source.old) (S.remaining source.new) }
+    ensures stopped { IfErr result (StopsAtEnd place (S.remaining source.old) (S.remaining source.new) (list_at function_at functions.old.items count)) }
     ensures failures { CountsRead result (S.failures source.old) (S.failures source.new) }
 {
     let mut bytes = [0u8; FUNCTION * BLOCK];
@@ -361,6 +365,7 @@ fn read_function_block<S: Source>(
     ensures reads { ReadsBlock result (S.remaining source.old) (S.remaining source.new) functions.old.items functions.new.items place count }
     ensures rises { Rises functions.old.items → OnOk result (Rises functions.new.items) }
     ensures beginning { ConsumesBeginning (S.remaining source.old) (S.remaining source.new) }
+    ensures stopped { IfErr result (StopsAtEnd place (S.remaining source.old) (S.remaining source.new) (list_at function_at functions.old.items count)) }
     ensures failures { CountsRead result (S.failures source.old) (S.failures source.new) }
 {
     if FUNCTION * count <= source.ahead().len() {
