@@ -1,5 +1,5 @@
 -- The readers of a section and of a header look at no byte past what they take.
-use Rattle.std.proofs.Common.{ℕ, ℤ, nat_le, Bool, true, false, cond, eqb, List, [], length, ◌+◌, drop, take, slice_index, Option, Ok, Err, ◌≡◌, sym, ap, subst, ◌∙◌}
+use Rattle.std.proofs.Common.{ℕ, ℤ, nat_le, Bool, true, false, cond, eqb, List, [], length, ◌+◌, drop, take, slice_index, Option, Ok, Err, ◌≡◌, sym, ap, subst, ◌∙◌, refl, inl, inr, ◌⊎◌}
 use Rattle.std.specs.Int.{w16, w32, from_be_bytes, cast_signed}
 use Rattle.tt_abs.specs.Cells.{Cells}
 use Rattle.tt_abs.specs.declared.cells.Cell.{Cell}
@@ -174,3 +174,9 @@ form_steady = step_steady word_at (λ p n j. given p (form_of n) j) word_steady 
 pub entry_same : (form : Form) (n m : ℕ) (last : Option (ℕ × ℕ)) (before : List Entry) → n ≡ m → last ≡ last_place before → entry_after form n last ≡ entry_at form m before
 unfolding entry_at
 entry_same form n m last before e f = ap (λ (k : ℕ). entry_after form k last) e ∙ ap (entry_after form m) f
+
+-- the forms that list storage cells
+pub storage_listed : (form : Form) → (form ≡ Three) ⊎ (form ≡ Four) → storage_at form ≡ counted_at stored_at
+unfolding storage_at
+storage_listed form (inl three) = rw three refl
+storage_listed form (inr four) = rw four refl

@@ -85,6 +85,12 @@ IsFormFault (fault.Form place) = Unit {0}
 IsFormFault fault.Read = ⊥
 IsFormFault (fault.OutOfMemory error) = ⊥
 
+-- a read failed
+abbrev pub IsReadFault : DecodeFault → Type 0
+IsReadFault (fault.Form place) = ⊥
+IsReadFault fault.Read = Unit {0}
+IsReadFault (fault.OutOfMemory error) = ⊥
+
 -- memory ran out
 abbrev pub IsWantOfMemory : DecodeFault → Type 0
 IsWantOfMemory (fault.Form place) = ⊥

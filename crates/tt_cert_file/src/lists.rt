@@ -1,12 +1,12 @@
 //! Lists of a section, each read after the number of its values.
 
-ghost use Rattle.std.specs.Prelude.{◌≡◌, ◌*◌, ◌<◌, ◌≤◌, [], true, length, take, IfErr, IfOk, OnErr, OnOk};
+ghost use Rattle.std.specs.Prelude.{◌≡◌, ◌-◌, ◌*◌, ◌<◌, ◌≤◌, [], true, length, take, IfErr, IfOk, OnErr, OnOk};
 ghost use Rattle.std.specs.Io.KnownBytes.{Keeps};
 ghost use Rattle.tt_abs.specs.Entries.{Rises};
-ghost use Rattle.tt_stream.specs.Reads.{ConsumesBeginning};
+ghost use Rattle.tt_stream.specs.Reads.{ConsumesBeginning, ConsumesFewer};
 ghost use Rattle.tt_stream.specs.Streams.{CountsFailure};
-ghost use Rattle.tt_cert_file.specs.Answers.{CountsRead, Gives, IsWantOfMemory, input_at, StopsAtEnd};
-ghost use Rattle.tt_cert_file.specs.Blocks.{AreKept, FillsOn, FillsRest, ReadsBlock, ReadsCells, ReadsMoreCells, ReadsRest, Takes, TakesCells, TakesSomeCells};
+ghost use Rattle.tt_cert_file.specs.Answers.{CountsRead, Gives, IsReadFault, IsWantOfMemory, input_at, StopsAtEnd};
+ghost use Rattle.tt_cert_file.specs.Blocks.{AreKept, FillsOn, FillsRest, ReadsBlock, ReadsCells, ReadsMoreCells, ReadsRest, Takes, TakesCells, TakesSomeCells, cells_at};
 ghost use Rattle.tt_cert_file.specs.Readers.{list_at};
 ghost use Rattle.tt_cert_file.specs.Reading.{cell_at, function_at, functions_at, stack_at, storage_at, stored_at};
 ghost use Rattle.tt_cert_file.specs.Rules.{is_above, last_of};
@@ -46,6 +46,7 @@ fn read_rest<S: Source>(source: &mut S, buf: &mut [u8], held: usize) -> Result<u
     requires { held ≤ length buf.old }
     ensures rest { IfOk result (λ n. FillsRest (S.remaining source.old) (S.remaining source.new) held n buf.old buf.new) }
     ensures beginning { ConsumesBeginning (S.remaining source.old) (S.remaining source.new) }
+    ensures few { OnErr result (ConsumesFewer (length buf.old - held) (S.remaining source.old) (S.remaining source.new)) }
     ensures failures { CountsFailure result (S.failures source.old) (S.failures source.new) }
 {
     read_full(source, &mut buf[held..])
@@ -125,6 +126,7 @@ fn take_ahead_cells<S: Source>(
     requires { length cells.old.items ≤ count }
     ensures reads { ReadsMoreCells result (S.remaining source.old) (S.remaining source.new) cells.old.items cells.new.items place count }
     ensures beginning { ConsumesBeginning (S.remaining source.old) (S.remaining source.new) }
+    ensures no_read { IfErr result (λ fault. ¬ IsReadFault fault) }
     ensures failures { CountsRead result (S.failures source.old) (S.failures source.new) }
 {
     let used = take_some_cells(cells, place, source.ahead(), count)?;
@@ -142,6 +144,7 @@ fn read_rest_of_cell<S: Source>(
     requires { length begun.now ≤ 4 }
     ensures reads { ReadsRest result (S.remaining source.old) (S.remaining source.new) begun.now cells.old.items cells.new.items place }
     ensures beginning { ConsumesBeginning (S.remaining source.old) (S.remaining source.new) }
+    ensures few { IfErr result (λ fault. IsReadFault fault → ConsumesFewer (4 - length begun.now) (S.remaining source.old) (S.remaining source.new)) }
     ensures failures { CountsRead result (S.failures source.old) (S.failures source.new) }
 {
     let held = begun.len();
@@ -166,6 +169,7 @@ fn read_one_cell<S: Source>(
     requires { length cells.old.items < count }
     ensures reads { ReadsCells result (S.remaining source.old) (S.remaining source.new) cells.old.items cells.new.items place count }
     ensures beginning { ConsumesBeginning (S.remaining source.old) (S.remaining source.new) }
+    ensures stopped { IfErr result (StopsAtEnd place (S.remaining source.old) (S.remaining source.new) (cells_at cells.old.items (count - length cells.old.items))) }
     ensures failures { CountsRead result (S.failures source.old) (S.failures source.new) }
 {
     let (cell, after) = read_cell(source, place)?;
@@ -185,6 +189,7 @@ fn fetch_cell_block<S: Source>(
     requires { length cells.old.items < count }
     ensures reads { ReadsCells result (S.remaining source.old) (S.remaining source.new) cells.old.items cells.new.items place count }
     ensures beginning { ConsumesBeginning (S.remaining source.old) (S.remaining source.new) }
+    ensures stopped { IfErr result (StopsAtEnd place (S.remaining source.old) (S.remaining source.new) (cells_at cells.old.items (count - length cells.old.items))) }
     ensures failures { CountsRead result (S.failures source.old) (S.failures source.new) }
 {
     let mut bytes = [0u8; BLOCK];
@@ -219,6 +224,7 @@ fn read_cell_block<S: Source>(
     requires { length cells.old.items < count }
     ensures reads { ReadsCells result (S.remaining source.old) (S.remaining source.new) cells.old.items cells.new.items place count }
     ensures beginning { ConsumesBeginning (S.remaining source.old) (S.remaining source.new) }
+    ensures stopped { IfErr result (StopsAtEnd place (S.remaining source.old) (S.remaining source.new) (cells_at cells.old.items (count - length cells.old.items))) }
     ensures failures { CountsRead result (S.failures source.old) (S.failures source.new) }
 {
     if source.ahead().is_empty() {
