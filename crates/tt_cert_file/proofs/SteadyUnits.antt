@@ -180,3 +180,7 @@ pub storage_listed : (form : Form) → (form ≡ Three) ⊎ (form ≡ Four) → 
 unfolding storage_at
 storage_listed form (inl three) = rw three refl
 storage_listed form (inr four) = rw four refl
+
+-- a section after its name
+abbrev pub after_name : Form → Input → Answer (List Context × List Entry)
+after_name form = and_then (contexts_at form) (λ contexts. states_at form (length contexts + 1))
