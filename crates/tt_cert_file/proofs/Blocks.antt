@@ -4,7 +4,7 @@ use Rattle.std.proofs.lemmas.Bool.{le-ltb, lt-ltb}
 use Rattle.std.proofs.lemmas.List.{take-append-le, drop-append-le, drop-drop, drop-take, length-append, length-drop, length-take}
 use Rattle.std.proofs.Math.Seq.{take-add}
 use Rattle.std.specs.Io.KnownBytes.{Consumes, IsAtEnd, Keeps}
-use Rattle.std.proofs.KnownBytes.{Consumes-kept, Consumes-nil, Consumes-trans}
+use Rattle.std.proofs.KnownBytes.{Consumes-kept, Consumes-trans}
 use Rattle.tt_stream.specs.Reads.{ConsumesBeginning}
 use Rattle.tt_stream.proofs.Beginnings.{consumes_then}
 use Rattle.tt_cert_file.specs.declared.fault.DecodeFault.{DecodeFault}
@@ -16,7 +16,7 @@ use Rattle.tt_cert_file.specs.Reading.{function_at, pair_at, pair_from}
 use Rattle.tt_cert_file.specs.Rules.{is_above, last_of}
 use Rattle.tt_cert_file.proofs.Codecs.{here}
 use Rattle.tt_cert_file.proofs.SteadyUnits.{function_steady}
-use Rattle.tt_cert_file.proofs.Stops.{Reached, reached_known, reached_none, reached_part, reached_then, stops_part, stops_there}
+use Rattle.tt_cert_file.proofs.Stops.{Reached, reached_known, reached_part, reached_then, stops_part, stops_there}
 
 pub unit_whole : (n place : ℕ) (bytes rest : List ℕ) → n ≤ length bytes
     → unit n (input_of place bytes rest) ≡ Ok (take n bytes, input_of (place_after place n) (drop n bytes) rest)
@@ -183,23 +183,6 @@ block_known (Some a) None before xs place count filled taken buf f g inv known =
 block_known (Some a) (Some b) before xs place count filled taken buf f g inv known =
     (refl, λ n. ap (λ (l : List ℕ). list_at function_at before (count + n) (here place l)) inv.consumed ∙ inv.reads n b)
 
-pub fill_none : (old : Option (List ℕ)) (before : List (ℕ × ℕ)) (place count : ℕ) (buf : List ℕ) (f : ℕ) → place < 2 ^ 64 → length buf ≡ 384 → IsBlock old old before before place count 0 0 buf f f
-fill_none old before place count buf f lt long = record {
-  done = 0;
-  all = omega arith;
-  short = omega arith;
-  order = omega arith;
-  within = omega arith;
-  long = long;
-  consumed = Consumes-nil old;
-  reads = λ n rest.
-      let none : (count + n) - 0 ≡ count + n = omega arith in
-      let there : place_after place 0 ≡ place = omega arith in
-      rw (none, there) refl;
-  beginning = record { bytes = []; consumed = Consumes-nil old };
-  failures_are = refl;
-}
-
 pub fill_on : (old now next : Option (List ℕ)) (before xs ys : List (ℕ × ℕ)) (place count filled taken more over after : ℕ) (was buf : List ℕ) (f g h : ℕ)
     → IsBlock old now before xs place count filled taken was f g → FillsOn now next filled (6 * count) more was buf
     → AreTaken over xs ys (place_after place taken) (held_in taken (filled + more) buf) → ConsumesBeginning now next → h ≡ g → after ≡ (filled + more) - over
@@ -305,8 +288,8 @@ fill_refused fault.Read old now next before xs ys place count filled taken more 
 fill_refused (fault.OutOfMemory error) old now next before xs ys place count filled taken more was buf f g inv fills breaks = λ known n. tt
 fill_refused (fault.Form broken) old now next before xs ys place count filled taken more was buf f g inv fills breaks =
     λ e n.
-        let so_far = block_known old now before xs place count filled taken was f g inv e in
-        so_far.1 n ∙ refused now next fills.consumed so_far.0 n
+    let so_far = block_known old now before xs place count filled taken was f g inv e in
+    so_far.1 n ∙ refused now next fills.consumed so_far.0 n
   where
     slice : List ℕ
     slice = held_in taken (filled + more) buf
@@ -356,13 +339,6 @@ pub record IsReadingBlocks (old now : Option (List ℕ)) (start count : ℕ) (xs
   pub reached : is_some old ≡ true → Reached start place old now (list_at function_at [] count) (list_at function_at xs left)
   pub beginning : ConsumesBeginning old now
   pub failures_are : failures_now ≡ failures
-
-pub blocks_none : (old : Option (List ℕ)) (start count : ℕ) (xs : List (ℕ × ℕ)) (left f : ℕ) → xs ≡ [] → left ≡ count → IsReadingBlocks old old start count xs left start f f
-blocks_none old start count xs left f none all = record {
-  reached = λ known. rw (none, all) (reached_none start old (list_at function_at [] count) known);
-  beginning = record { bytes = []; consumed = Consumes-nil old };
-  failures_are = refl;
-}
 
 none_of : (xs : List (ℕ × ℕ)) (i : Input) → list_at function_at xs 0 i ≡ Ok (xs, i)
 unfolding list_at

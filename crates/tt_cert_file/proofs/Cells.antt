@@ -1,5 +1,5 @@
 -- Cells that are read many at a time.
-use Rattle.std.proofs.Common.{◌≡◌, ℕ, suc, ◌+◌, ◌-◌, ◌<◌, ◌≤◌, true, false, eqb, List, [], ◌∷◌, ◌++◌, length, take, drop, Option, Some, None, is_some, Result, Ok, Err, inl, inr, refl, sym, ap, subst, ◌∙◌, arith, append_assoc, append-nil, ◌^◌}
+use Rattle.std.proofs.Common.{◌≡◌, ℕ, suc, ◌+◌, ◌-◌, ◌<◌, ◌≤◌, true, false, eqb, List, [], ◌∷◌, ◌++◌, length, take, drop, Option, Some, None, is_some, Result, Ok, Err, inl, inr, refl, sym, ap, subst, ◌∙◌, arith, append_assoc, append-nil}
 use Rattle.std.proofs.lemmas.Bool.{cases_lt}
 use Rattle.std.proofs.lemmas.List.{length-append, length-drop, length-take, drop-drop, take-append-le, take-append-drop, take_all}
 use Rattle.std.specs.Int.{w32, from_be_bytes, cast_signed}
@@ -19,7 +19,7 @@ use Rattle.tt_cert_file.specs.Readers.{Answer, Input, list_at, place_after}
 use Rattle.tt_cert_file.specs.Reading.{cell_at}
 use Rattle.tt_cert_file.proofs.Codecs.{here}
 use Rattle.tt_cert_file.proofs.SteadyUnits.{cell_steady}
-use Rattle.tt_cert_file.proofs.Stops.{Reached, reached_known, reached_none, reached_part, reached_then, stops_there}
+use Rattle.tt_cert_file.proofs.Stops.{Reached, reached_known, reached_part, reached_then, stops_there}
 use Rattle.tt_cert_file.proofs.Blocks.{held_in, held_left, held_long, held_none, held_on, held_slice, none_left, suffix_fits, suffix_on, unit_short, unit_whole}
 
 -- the number of a known cell
@@ -227,25 +227,6 @@ block_so_far old now before xs place count wanted filled taken buf f g inv fit k
     let all : count - length before ≡ (length xs - length before) + (count - length xs) = omega (arith, inv.few, inv.least, inv.order, inv.within, fit.0, fit.1) in
     (was.0, ap (λ (k : ℕ). cells_at before k (input_at place old)) all ∙ was.1 (count - length xs))
 
-pub block_none : (old : Option (List ℕ)) (before : List Cell) (place count wanted : ℕ) (buf : List ℕ) (f : ℕ) → place < 2 ^ 64 → length buf ≡ 64
-    → IsCellBlock old old before before place count wanted 0 0 buf f f
-block_none old before place count wanted buf f lt long = record {
-  few = omega arith;
-  least = omega arith;
-  some = λ some. absurd (omega arith);
-  order = omega arith;
-  within = omega arith;
-  begun = λ some. absurd (omega arith);
-  long = long;
-  consumed = Consumes-nil old;
-  reads = λ n rest.
-      let none : (length before - length before) + n ≡ n = omega arith in
-      let there : place_after place 0 ≡ place = omega arith in
-      rw (none, there) refl;
-  beginning = record { bytes = []; consumed = Consumes-nil old };
-  failures_are = refl;
-}
-
 pub block_on : (old now next : Option (List ℕ)) (before xs ys : List Cell) (place count wanted filled taken more over after : ℕ) (was buf : List ℕ) (f g h : ℕ)
     → IsCellBlock old now before xs place count wanted filled taken was f g → IsWanted before count wanted → FillsOn now next filled wanted more was buf
     → AreCellsTaken over xs ys (place_after place taken) (held_in taken (filled + more) buf) → ConsumesBeginning now next → h ≡ g → after ≡ (filled + more) - over
@@ -350,8 +331,8 @@ block_refused fault.Read old now next before xs ys place count wanted filled tak
 block_refused (fault.OutOfMemory error) old now next before xs ys place count wanted filled taken more was buf f g inv fit fills breaks = λ known. tt
 block_refused (fault.Form broken) old now next before xs ys place count wanted filled taken more was buf f g inv fit fills breaks =
     λ e.
-        let so_far = block_so_far old now before xs place count wanted filled taken was f g inv fit e in
-        so_far.1 ∙ refused now next fills.consumed so_far.0
+    let so_far = block_so_far old now before xs place count wanted filled taken was f g inv fit e in
+    so_far.1 ∙ refused now next fills.consumed so_far.0
   where
     slice : List ℕ
     slice = held_in taken (filled + more) buf
@@ -494,14 +475,6 @@ pub record IsReadingCells (old now : Option (List ℕ)) (start : ℕ) (xs : List
   pub beginning : ConsumesBeginning old now
   pub failures_are : failures_now ≡ failures
 
-pub cells_none : (old : Option (List ℕ)) (start : ℕ) (xs : List Cell) (count f : ℕ) → xs ≡ [] → IsReadingCells old old start xs count start f f
-cells_none old start xs count f none = record {
-  reached = λ known. let n : count - 0 ≡ count = omega arith in rw (none, n) (reached_none start old (cells_at [] count) known);
-  few = omega (arith, ap length none);
-  beginning = record { bytes = []; consumed = Consumes-nil old };
-  failures_are = refl;
-}
-
 none_of : (xs : List Cell) (i : Input) → cells_at xs 0 i ≡ Ok (xs, i)
 unfolding list_at
 none_of xs i = refl
@@ -543,6 +516,8 @@ pub cells_all : (old now : Option (List ℕ)) (start : ℕ) (xs : List Cell) (co
     → (is_some now ≡ true) × (cells_at [] count (input_at start old) ≡ Ok (xs, input_at place now))
 cells_all old now start xs count place f g inv le known =
     let r = inv.reached known in
-    let none : count - length xs ≡ 0 = omega arith in
-    (r.told, reached_known start place old now (cells_at [] count) (cells_at xs (count - length xs)) r known
-    ∙ ap (λ (n : ℕ). cells_at xs n (input_at place now)) none ∙ none_of xs (input_at place now))
+    let none : count - length xs ≡ 0 = omega arith in (
+      r.told,
+      reached_known start place old now (cells_at [] count) (cells_at xs (count - length xs)) r known
+          ∙ ap (λ (n : ℕ). cells_at xs n (input_at place now)) none ∙ none_of xs (input_at place now),
+    )

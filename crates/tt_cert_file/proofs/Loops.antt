@@ -1,6 +1,5 @@
 -- Reading values one after the other, as a loop does.
-use Rattle.std.proofs.Common.{◌≡◌, ℕ, suc, ◌-◌, ◌+◌, ◌≤◌, ◌<◌, true, List, [], ◌∷◌, ◌++◌, Option, is_some, Ok, Err, refl, sym, ◌∙◌, arith}
-use Rattle.std.proofs.KnownBytes.{Consumes-nil}
+use Rattle.std.proofs.Common.{◌≡◌, ℕ, suc, ◌-◌, ◌+◌, ◌≤◌, ◌<◌, true, List, [], ◌∷◌, ◌++◌, Option, is_some, Ok, Err, refl, ◌∙◌, arith}
 use Rattle.tt_stream.specs.Reads.{ConsumesBeginning}
 use Rattle.tt_stream.proofs.Beginnings.{consumes_then}
 use Rattle.tt_cert_file.specs.declared.fault.DecodeFault.{DecodeFault}
@@ -8,7 +7,7 @@ use Rattle.tt_cert_file.specs.declared.fault.DecodeFault.TheVariants as fault
 use Rattle.tt_cert_file.specs.Answers.{Fails, Gives, StopsAtEnd, input_at}
 use Rattle.tt_cert_file.specs.Readers.{Answer, Input, list_at}
 use Rattle.tt_cert_file.proofs.Steady.{IsSteady}
-use Rattle.tt_cert_file.proofs.Stops.{Reached, reached_known, reached_more, reached_none, reached_then, stops_next, stops_there}
+use Rattle.tt_cert_file.proofs.Stops.{Reached, reached_known, reached_more, reached_then, stops_next, stops_there}
 
 stops : {A : Type 0} (one : List A → Input → Answer A) (xs : List A) (count k : ℕ) (i : Input) (e : ℕ) → k < count → one xs i ≡ Err e → list_at one xs (count - k) i ≡ Err e
 unfolding list_at
@@ -23,13 +22,6 @@ pub record IsReading {A : Type 0} (one : List A → Input → Answer A) (old now
   pub reached : is_some old ≡ true → Reached start place old now (list_at one [] count) (list_at one xs (count - k))
   pub beginning : ConsumesBeginning old now
   pub failures_are : failures_now ≡ failures
-
-pub reads_none : {A : Type 0} (one : List A → Input → Answer A) (old : Option (List ℕ)) (start : ℕ) (xs : List A) (count f : ℕ) → xs ≡ [] → IsReading one old old start xs count 0 start f f
-reads_none one old start xs count f none = record {
-  reached = λ known. let n : count - 0 ≡ count = omega arith in rw (none, n) (reached_none start old (list_at one [] count) known);
-  beginning = record { bytes = []; consumed = Consumes-nil old };
-  failures_are = refl;
-}
 
 pub reads_on : {A : Type 0} (one : List A → Input → Answer A) (old now next : Option (List ℕ)) (start : ℕ) (xs ys : List A) (count k place after f g h : ℕ) (x : A) → IsSteady (one xs)
     → IsReading one old now start xs count k place f g → k < count

@@ -1,5 +1,5 @@
 -- Readers that look at no byte past what they take.
-use Rattle.std.proofs.Common.{◌≡◌, ℕ, zero, suc, ◌+◌, Bool, true, false, cond, List, [], ◌∷◌, ◌++◌, length, Option, Some, None, Result, Ok, Err, refl, sym, ap, subst, ◌∙◌, append_assoc, arith}
+use Rattle.std.proofs.Common.{◌≡◌, ℕ, zero, suc, ◌+◌, Bool, true, false, cond, List, [], ◌∷◌, ◌++◌, length, Option, Some, None, Ok, Err, refl, sym, ap, subst, ◌∙◌, append_assoc, arith}
 use Rattle.std.proofs.lemmas.List.{length-append}
 use Rattle.tt_cert_file.specs.Readers.{Answer, Input, and_then, given, list_at, made_of, place_after, ruled, unit, ◌>>=◌}
 use Rattle.tt_cert_file.proofs.Codecs.{bind_ok, here, ok_is, unit_again, unit_takes}

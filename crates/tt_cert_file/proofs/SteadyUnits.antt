@@ -1,5 +1,5 @@
 -- The readers of a section and of a header look at no byte past what they take.
-use Rattle.std.proofs.Common.{ℕ, ℤ, nat_le, Bool, true, false, cond, eqb, List, [], length, ◌+◌, drop, take, slice_index, Option, Ok, Err, ◌≡◌, sym, ap, subst, ◌∙◌, refl, inl, inr, ◌⊎◌}
+use Rattle.std.proofs.Common.{ℕ, ℤ, nat_le, Bool, true, false, cond, eqb, List, [], length, ◌+◌, drop, slice_index, Option, Ok, Err, ◌≡◌, sym, ap, subst, ◌∙◌, refl, inl, inr, ◌⊎◌}
 use Rattle.std.specs.Int.{w16, w32, from_be_bytes, cast_signed}
 use Rattle.tt_abs.specs.Cells.{Cells}
 use Rattle.tt_abs.specs.declared.cells.Cell.{Cell}

@@ -6,10 +6,10 @@ use Rattle.std.specs.Io.KnownBytes.{Consumes}
 use Rattle.std.proofs.KnownBytes.{Consumes-nil, Consumes-trans}
 use Rattle.tt_cert_file.specs.declared.fault.DecodeFault.{DecodeFault}
 use Rattle.tt_cert_file.specs.declared.fault.DecodeFault.TheVariants as fault
-use Rattle.tt_cert_file.specs.Answers.{IsCutShort, IsReadFault, StopsAtEnd, input_at}
+use Rattle.tt_cert_file.specs.Answers.{StopsAtEnd, input_at}
 use Rattle.tt_cert_file.specs.Readers.{Answer, Input, and_then, list_at, made_of, place_after, ruled, ◌>>=◌}
 use Rattle.tt_cert_file.proofs.Codecs.{here}
-use Rattle.tt_cert_file.proofs.Steady.{IsSteady, TakesOnly, list_steady, step}
+use Rattle.tt_cert_file.proofs.Steady.{IsSteady, list_steady, step}
 
 -- some beginning was read, and whatever follows it, what is left is read from there on
 pub record HasRead {Y : Type 0} (place at : ℕ) (old now : Option (List ℕ)) (whole left : Input → Answer Y) : Type 0 where
@@ -200,9 +200,3 @@ reached_part one xs ys n a place at old now each le known was =
         again = λ rest. sym (first_part one xs n a le (here place (h.front ++ rest))) ∙ h.again rest;
       };
     }
-
--- no read failed
-pub stops_never : {Y : Type 0} (place : ℕ) (old new : Option (List ℕ)) (read : Input → Answer Y) (e : DecodeFault) → ¬ IsReadFault e → StopsAtEnd place old new read e
-stops_never place old new read (fault.Form p) never = tt
-stops_never place old new read (fault.OutOfMemory error) never = tt
-stops_never place old new read fault.Read never = absurd (never tt)

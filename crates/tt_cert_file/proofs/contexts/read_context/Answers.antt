@@ -1,6 +1,6 @@
 use Rattle.std.proofs.lemmas.Result.{err_from_is_err_and}
 use Rattle.tt_stream.proofs.Beginnings.{consumes_then}
-use Rattle.tt_cert_file.specs.Readers.{and_then, made_of}
+use Rattle.tt_cert_file.specs.Readers.{made_of}
 use Rattle.tt_cert_file.specs.Reading.{context_at, context_from, long_at, numbers_at, word_at}
 use Rattle.tt_cert_file.specs.Rules.{may_follow}
 use Rattle.tt_cert_file.proofs.Stops.{stops_first, stops_made, stops_ruled, stops_second}

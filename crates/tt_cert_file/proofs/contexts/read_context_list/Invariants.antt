@@ -1,6 +1,4 @@
-use Rattle.std.proofs.Common.{◌≤◌, [], length}
-use Rattle.tt_cert_file.specs.Answers.{input_at}
-use Rattle.tt_cert_file.specs.Readers.{list_at}
+use Rattle.std.proofs.Common.{◌≤◌, length}
 use Rattle.tt_cert_file.specs.Reading.{context_at}
 use Rattle.tt_cert_file.specs.Rules.{AreContexts}
 use Rattle.tt_cert_file.proofs.Loops.{IsReading}

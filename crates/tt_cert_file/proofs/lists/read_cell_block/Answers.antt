@@ -1,6 +1,5 @@
 use Rattle.tt_stream.proofs.Beginnings.{consumes_then}
 use Rattle.tt_cert_file.proofs.Ahead.{cells_then}
-use Rattle.tt_cert_file.proofs.Stops.{stops_never}
 use Rattle.tt_cert_file.proofs.lists.read_cell_block.Goals as goal
 
 pub returns-clause-beginning : goal.returns-clause-beginning

@@ -1,6 +1,4 @@
-use Rattle.std.proofs.Common.{[], ◌-◌, length}
-use Rattle.tt_cert_file.specs.Answers.{input_at}
-use Rattle.tt_cert_file.specs.Blocks.{cells_at}
+use Rattle.std.proofs.Common.{◌-◌, length}
 use Rattle.tt_cert_file.proofs.Cells.{IsReadingCells}
 use Rattle.tt_cert_file.proofs.lists.read_cells.Given as goal
 

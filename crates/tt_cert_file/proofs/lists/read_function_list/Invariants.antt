@@ -1,7 +1,3 @@
-use Rattle.std.proofs.Common.{[]}
-use Rattle.tt_cert_file.specs.Answers.{input_at}
-use Rattle.tt_cert_file.specs.Readers.{list_at}
-use Rattle.tt_cert_file.specs.Reading.{function_at}
 use Rattle.tt_abs.specs.Entries.{Rises}
 use Rattle.tt_cert_file.proofs.Blocks.{IsReadingBlocks}
 use Rattle.tt_cert_file.proofs.lists.read_function_list.Given as goal

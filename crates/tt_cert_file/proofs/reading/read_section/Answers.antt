@@ -7,7 +7,6 @@ use Rattle.tt_cert_file.specs.Readers.{Answer}
 use Rattle.tt_cert_file.specs.Sections.{Section, contexts_in, section_of}
 use Rattle.tt_cert_file.proofs.Listed.{length_built, listed_back, section_fails, section_steps}
 use Rattle.tt_stream.proofs.Beginnings.{consumes_then}
-use Rattle.tt_cert_file.specs.Readers.{and_then}
 use Rattle.tt_cert_file.specs.Reading.{contexts_at, fields_at, name_at, section_at, section_from, states_at}
 use Rattle.tt_cert_file.proofs.Stops.{stops_first, stops_made, stops_second}
 use Rattle.tt_cert_file.proofs.SteadyUnits.{after_name, contexts_steady, name_steady}

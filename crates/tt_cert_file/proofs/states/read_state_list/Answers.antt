@@ -1,11 +1,10 @@
-use Rattle.std.proofs.Common.{◌≡◌, ℕ, List, Option, length, sym, ap, subst, ◌∙◌}
+use Rattle.std.proofs.Common.{length, sym, ap, subst, ◌∙◌}
 use Rattle.std.specs.Prelude.{option_map}
 use Rattle.std.proofs.lemmas.Result.{err_from_is_err_and}
 use Rattle.tt_stream.proofs.Beginnings.{consumes_then}
-use Rattle.tt_cert_file.specs.declared.form.Form.{Form}
 use Rattle.tt_cert_file.specs.Answers.{Fails, StopsAtEnd, input_at}
 use Rattle.tt_cert_file.specs.Readers.{Answer, Input}
-use Rattle.tt_cert_file.specs.Reading.{entry_after, entry_at}
+use Rattle.tt_cert_file.specs.Reading.{entry_at}
 use Rattle.tt_cert_file.specs.Rules.{last_place}
 use Rattle.tt_cert_file.specs.Sections.{Entry}
 use Rattle.tt_cert_file.proofs.Loops.{reads_all, reads_fail, reads_on, reads_stop}

@@ -1,7 +1,5 @@
-use Rattle.std.proofs.Common.{◌≡◌, [], length}
-use Rattle.tt_cert_file.specs.Answers.{input_at}
+use Rattle.std.proofs.Common.{◌≡◌, length}
 use Rattle.tt_cert_file.specs.Blocks.{AreKept}
-use Rattle.tt_cert_file.specs.Readers.{list_at}
 use Rattle.tt_cert_file.specs.Reading.{entry_at}
 use Rattle.tt_cert_file.specs.Rules.{last_place}
 use Rattle.tt_cert_file.proofs.Loops.{IsReading}

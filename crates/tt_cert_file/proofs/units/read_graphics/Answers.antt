@@ -1,7 +1,6 @@
 use Rattle.std.proofs.lemmas.Result.{err_from_is_err_and}
 use Rattle.tt_stream.proofs.Beginnings.{consumes_then}
-use Rattle.tt_cert_file.specs.Readers.{and_then}
-use Rattle.tt_cert_file.specs.Reading.{Registers, cell_at, graphics_at, graphics_from, registers_at, zone_at}
+use Rattle.tt_cert_file.specs.Reading.{cell_at, graphics_at, graphics_from, registers_at, zone_at}
 use Rattle.tt_cert_file.proofs.Stops.{stops_first, stops_made, stops_second}
 use Rattle.tt_cert_file.proofs.SteadyUnits.{after_cell, after_three_cells, after_two_cells, after_two_zones, after_zone, cell_steady, zone_steady}
 use Rattle.tt_cert_file.proofs.units.read_graphics.Goals as goal
