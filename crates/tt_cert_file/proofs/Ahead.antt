@@ -1,5 +1,5 @@
 -- Functions and cells that are read from bytes that are read ahead.
-use Rattle.std.proofs.Common.{◌≡◌, ℕ, suc, ◌+◌, ◌-◌, ◌*◌, ◌^◌, ◌<◌, ◌≤◌, true, List, [], ◌∷◌, ◌++◌, length, take, drop, Option, Some, None, is_some, Ok, Err, refl, sym, ap, subst, ◌∙◌, arith, append_assoc, take-append-drop}
+use Rattle.std.proofs.Common.{◌≡◌, ℕ, suc, ◌+◌, ◌-◌, ◌*◌, ◌^◌, ◌<◌, ◌≤◌, true, List, [], ◌∷◌, ◌++◌, length, take, drop, Option, Some, None, is_some, Result, Ok, Err, refl, sym, ap, subst, ◌∙◌, arith, append_assoc, take-append-drop}
 use Rattle.std.specs.Prelude.{IfSome}
 use Rattle.std.specs.Io.{StartsWith}
 use Rattle.std.specs.Io.KnownBytes.{Consumes}
@@ -9,7 +9,7 @@ use Rattle.tt_cert_file.specs.declared.fault.DecodeFault.{DecodeFault}
 use Rattle.tt_cert_file.specs.declared.fault.DecodeFault.TheVariants as fault
 use Rattle.tt_cert_file.specs.Answers.{Fails, Gives, input_at}
 use Rattle.tt_cert_file.specs.Blocks.{AreSomeCellsTaken, AreSpelled, AreTaken, IsTaking, ReadsBlock, ReadsCells, ReadsMoreCells, Takes, TakesSomeCells, cells_at, input_of}
-use Rattle.tt_cert_file.specs.Readers.{list_at, place_after}
+use Rattle.tt_cert_file.specs.Readers.{Answer, list_at, place_after}
 use Rattle.tt_cert_file.specs.Reading.{cell_at, function_at}
 use Rattle.tt_cert_file.proofs.Blocks.{none_left}
 use Rattle.tt_cert_file.proofs.Codecs.{here}
@@ -58,15 +58,17 @@ pub one_cell : (old new : Option (List ℕ)) (before now : List Cell) (place aft
     → Gives (λ y. y) old new (Ok (x, after)) (cell_at (input_at place old)) → now ≡ before ++ x ∷ [] → ReadsCells (Ok after) old new before now place count
 unfolding list_at
 one_cell old new before now place after count x lt gives pushed =
-    let long : length now ≡ length before + 1 = omega (arith, ap length pushed, length-append before (x ∷ [])) in
-    let m = count - length now in
-    let left : count - length before ≡ suc m = omega (arith, long) in (
+    let long : length now ≡ length before + 1 = omega (arith, ap length pushed, length-append before (x ∷ [])) in (
       omega (arith, long),
       omega (arith, long),
       λ e.
-          let was = gives e in
-          let step : cells_at before (suc m) (input_at place old) ≡ cells_at (before ++ x ∷ []) m (input_at after new) = rw was.1 refl in
-          (was.0, ap (λ (k : ℕ). cells_at before k (input_at place old)) left ∙ step ∙ ap (λ (l : List Cell). cells_at l m (input_at after new)) (sym pushed)),
+          let was = gives e in (
+            was.0,
+            λ n.
+                let count_is : (length now - length before) + n ≡ suc n = omega (arith, long) in
+                let step : cells_at before (suc n) (input_at place old) ≡ cells_at (before ++ x ∷ []) n (input_at after new) = rw was.1 refl in
+                ap (λ (k : ℕ). cells_at before k (input_at place old)) count_is ∙ step ∙ ap (λ (l : List Cell). cells_at l n (input_at after new)) (sym pushed),
+          ),
     )
 
 -- the next cell isn't read
@@ -108,11 +110,8 @@ pub ahead_cells_taken : (old new : Option (List ℕ)) (ahead : List ℕ) (before
 ahead_cells_taken old new ahead before now place after count used starts took consumed after_is =
     (omega (arith, took.taking.grown), took.few, known old new starts consumed)
   where
-    n : ℕ
-    n = count - length now
-
     known : (a b : Option (List ℕ)) → IfSome a (λ bytes. StartsWith bytes ahead) → Consumes a b (take used ahead)
-        → is_some a ≡ true → (is_some b ≡ true) × (cells_at before (count - length before) (input_at place a) ≡ cells_at now n (input_at after b))
+        → is_some a ≡ true → (is_some b ≡ true) × ((n : ℕ) → cells_at before ((length now - length before) + n) (input_at place a) ≡ cells_at now n (input_at after b))
     known None b starts consumed e = absurd cc
     known (Some xs) None starts consumed e = absurd consumed
     known (Some xs) (Some ys) starts consumed e =
@@ -121,12 +120,35 @@ ahead_cells_taken old new ahead before now place after count used starts took co
         let le : used ≤ length ahead = omega (arith, took.used_is) in
         let left_is : took.left ≡ drop used ahead = took.suffix ∙ ap (λ (k : ℕ). drop k ahead) (sym took.used_is) in
         let ys_is : ys ≡ took.left ++ tail = left_after xs ys ahead took.left used le left_is starts consumed in
-        let all : count - length before ≡ t.taken + n = omega (arith, t.grown, took.few) in
         let at_is : took.at ≡ after = omega (arith, t.at_is, took.used_is, after_is) in (
           refl,
-          ap (λ (k : ℕ). cells_at before k (here place xs)) all ∙ ap (λ (l : List ℕ). cells_at before (t.taken + n) (here place l)) (ahead_first xs ahead starts)
+          λ n.
+              let all : (length now - length before) + n ≡ t.taken + n = omega (arith, t.grown) in
+              ap (λ (k : ℕ). cells_at before k (here place xs)) all ∙ ap (λ (l : List ℕ). cells_at before (t.taken + n) (here place l)) (ahead_first xs ahead starts)
               ∙ t.reads n tail ∙ ap (λ (p : ℕ). cells_at now n (here p (took.left ++ tail))) at_is ∙ ap (λ (l : List ℕ). cells_at now n (here after l)) (sym ys_is),
         )
+
+-- cells that are read ahead after others
+pub cells_then : (r : Result ℕ DecodeFault) (old mid new : Option (List ℕ)) (before now next : List Cell) (place at count : ℕ) → ReadsCells (Ok at) old mid before now place count
+    → ReadsMoreCells r mid new now next at count → ReadsCells r old new before next place count
+cells_then (Ok after) old mid new before now next place at count one more = (
+  omega (arith, one.0, more.0),
+  more.1,
+  λ e.
+      let was = one.2 e in
+      let is = more.2 was.0 in (
+        is.0,
+        λ n.
+            let all : (length next - length before) + n ≡ (length now - length before) + ((length next - length now) + n) = omega (arith, one.0, more.0) in
+            ap (λ (k : ℕ). cells_at before k (input_at place old)) all ∙ was.1 ((length next - length now) + n) ∙ is.1 n,
+      ),
+)
+cells_then (Err e) old mid new before now next place at count one more = λ known.
+    let was = one.2 known in
+    let all : (length now - length before) + (count - length now) ≡ count - length before = omega (arith, one.0, one.1) in
+    let same : cells_at now (count - length now) (input_at at mid) ≡ cells_at before (count - length before) (input_at place old) =
+    sym (was.1 (count - length now)) ∙ ap (λ (k : ℕ). cells_at before k (input_at place old)) all in
+    subst (λ (x : Answer (List Cell)). Fails e x) same (more was.0)
 
 -- a list of functions is whole
 pub listed_all : (old new : Option (List ℕ)) (now : List (ℕ × ℕ)) (place after count : ℕ) → ReadsBlock (Ok after) old new [] now place count

@@ -3,16 +3,20 @@ use Rattle.std.proofs.Common.{◌≡◌, ℕ, suc, ◌+◌, ◌-◌, ◌*◌, �
 use Rattle.std.proofs.lemmas.Bool.{le-ltb, lt-ltb}
 use Rattle.std.proofs.lemmas.List.{take-append-le, drop-append-le, drop-drop, drop-take, length-append, length-drop, length-take}
 use Rattle.std.proofs.Math.Seq.{take-add}
-use Rattle.std.specs.Io.KnownBytes.{Consumes, IsAtEnd}
+use Rattle.std.specs.Io.KnownBytes.{Consumes, IsAtEnd, Keeps}
+use Rattle.std.proofs.KnownBytes.{Consumes-kept, Consumes-trans}
 use Rattle.tt_stream.specs.Reads.{ConsumesBeginning}
 use Rattle.tt_stream.proofs.Beginnings.{consumes_then}
 use Rattle.tt_cert_file.specs.declared.fault.DecodeFault.{DecodeFault}
 use Rattle.tt_cert_file.specs.declared.fault.DecodeFault.TheVariants as fault
-use Rattle.tt_cert_file.specs.Answers.{Fails, input_at}
+use Rattle.tt_cert_file.specs.Answers.{Fails, StopsAtEnd, input_at}
 use Rattle.tt_cert_file.specs.Blocks.{AreTaken, BreaksAt, FillsOn, IsTaking, ReadsBlock, Takes, input_held, input_of}
-use Rattle.tt_cert_file.specs.Readers.{Answer, list_at, place_after, unit}
+use Rattle.tt_cert_file.specs.Readers.{Answer, Input, list_at, place_after, unit}
 use Rattle.tt_cert_file.specs.Reading.{function_at, pair_at, pair_from}
 use Rattle.tt_cert_file.specs.Rules.{is_above, last_of}
+use Rattle.tt_cert_file.proofs.Codecs.{here}
+use Rattle.tt_cert_file.proofs.SteadyUnits.{function_steady}
+use Rattle.tt_cert_file.proofs.Stops.{Reached, reached_known, reached_part, reached_then, stops_part, stops_there}
 
 pub unit_whole : (n place : ℕ) (bytes rest : List ℕ) → n ≤ length bytes
     → unit n (input_of place bytes rest) ≡ Ok (take n bytes, input_of (place_after place n) (drop n bytes) rest)
@@ -165,11 +169,19 @@ pub record IsBlock (old now : Option (List ℕ)) (before xs : List (ℕ × ℕ))
   pub order : taken ≤ filled
   pub within : filled ≤ 6 * count
   pub long : length buf ≡ 384
-  pub known : is_some old ≡ true → (is_some now ≡ true)
-      × ((n : ℕ) → list_at function_at before (count + n) (input_at place old)
-      ≡ list_at function_at xs ((count + n) - done) (input_held (place_after place taken) (held_in taken filled buf) now))
+  pub consumed : Consumes old now (take filled buf)
+  pub reads : (n : ℕ) (rest : List ℕ) → list_at function_at before (count + n) (here place (take filled buf ++ rest))
+      ≡ list_at function_at xs ((count + n) - done) (input_of (place_after place taken) (held_in taken filled buf) rest)
   pub beginning : ConsumesBeginning old now
   pub failures_are : failures_now ≡ failures
+
+block_known : (old now : Option (List ℕ)) (before xs : List (ℕ × ℕ)) (place count filled taken : ℕ) (buf : List ℕ) (f g : ℕ) (inv : IsBlock old now before xs place count filled taken buf f g)
+    → is_some old ≡ true → (is_some now ≡ true) × ((n : ℕ) → list_at function_at before (count + n) (input_at place old)
+    ≡ list_at function_at xs ((count + n) - inv.done) (input_held (place_after place taken) (held_in taken filled buf) now))
+block_known None now before xs place count filled taken buf f g inv known = absurd cc
+block_known (Some a) None before xs place count filled taken buf f g inv known = absurd inv.consumed
+block_known (Some a) (Some b) before xs place count filled taken buf f g inv known =
+    (refl, λ n. ap (λ (l : List ℕ). list_at function_at before (count + n) (here place l)) inv.consumed ∙ inv.reads n b)
 
 pub fill_on : (old now next : Option (List ℕ)) (before xs ys : List (ℕ × ℕ)) (place count filled taken more over after : ℕ) (was buf : List ℕ) (f g h : ℕ)
     → IsBlock old now before xs place count filled taken was f g → FillsOn now next filled (6 * count) more was buf
@@ -182,7 +194,8 @@ fill_on old now next before xs ys place count filled taken more over after was b
   order = omega (arith, after_is);
   within = omega (arith, fills.few);
   long = fills.long ∙ inv.long;
-  known = known old now next fills.consumed inv.known;
+  consumed = subst (Consumes old next) (sym filled_is) (Consumes-trans old now next (take filled was) chunk inv.consumed fills.consumed);
+  reads = reads;
   beginning = consumes_then _ _ _ inv.beginning some;
   failures_are = same ∙ inv.failures_are;
 }
@@ -205,36 +218,31 @@ fill_on old now next before xs ys place count filled taken more over after was b
     at_is : took.at ≡ place_after place after
     at_is = omega (arith, t.at_is, t.long, long, took.over_is, inv.order, after_is)
 
-    known : (a b c : Option (List ℕ)) → Consumes b c (take more (drop filled buf))
-        → (is_some a ≡ true → (is_some b ≡ true) × ((n : ℕ) → list_at function_at before (count + n) (input_at place a)
-        ≡ list_at function_at xs ((count + n) - inv.done) (input_held (place_after place taken) (held_in taken filled was) b)))
-        → is_some a ≡ true → (is_some c ≡ true) × ((n : ℕ) → list_at function_at before (count + n) (input_at place a)
-        ≡ list_at function_at ys ((count + n) - (inv.done + t.taken)) (input_held (place_after place after) (held_in after (filled + more) buf) c))
-    known a None c consumed so_far e = absurd (none_known (so_far e).0)
-      where
-        none_known : is_some {T = List ℕ} None ≡ true → ⊥
-        none_known h = cc
-    known a (Some nb) None consumed so_far e = absurd consumed
-    known a (Some nb) (Some yb) consumed so_far e = (
-      refl,
-      λ n.
-          let m = (count + n) - (inv.done + t.taken) in
-          let bytes : held_in taken filled was ++ nb ≡ slice ++ yb =
-          ap (λ (l : List ℕ). held_in taken filled was ++ l) consumed ∙ sym (append_assoc (held_in taken filled was) (take more (drop filled buf)) yb)
-          ∙ ap (λ (l : List ℕ). l ++ yb) (sym (held_on now next taken filled (6 * count) more was buf fills inv.order)) in
-          let count_is : (count + n) - inv.done ≡ t.taken + m = omega (arith, t.long, long, inv.all, inv.order, fills.few) in
-          let there : list_at function_at ys m (input_of took.at took.left yb) ≡ list_at function_at ys m (input_of (place_after place after) (held_in after (filled + more) buf) yb) =
-          ap (λ (p : ℕ). list_at function_at ys m (input_of p took.left yb)) at_is
-          ∙ ap (λ (l : List ℕ). list_at function_at ys m (input_of (place_after place after) l yb)) left_is in
-          (so_far e).1 n ∙ rw (bytes, count_is) (t.reads m yb) ∙ there,
-    )
+    chunk : List ℕ
+    chunk = take more (drop filled buf)
+
+    filled_is : take (filled + more) buf ≡ take filled was ++ chunk
+    filled_is = take-add filled more buf ∙ ap (λ (l : List ℕ). l ++ chunk) fills.held_is
+
+    reads : (n : ℕ) (rest : List ℕ) → list_at function_at before (count + n) (here place (take (filled + more) buf ++ rest))
+        ≡ list_at function_at ys ((count + n) - (inv.done + t.taken)) (input_of (place_after place after) (held_in after (filled + more) buf) rest)
+    reads n rest =
+        let m = (count + n) - (inv.done + t.taken) in
+        let front : take (filled + more) buf ++ rest ≡ take filled was ++ (chunk ++ rest) = ap (λ (l : List ℕ). l ++ rest) filled_is ∙ append_assoc (take filled was) chunk rest in
+        let bytes : held_in taken filled was ++ (chunk ++ rest) ≡ slice ++ rest =
+        sym (append_assoc (held_in taken filled was) chunk rest) ∙ ap (λ (l : List ℕ). l ++ rest) (sym (held_on now next taken filled (6 * count) more was buf fills inv.order)) in
+        let count_is : (count + n) - inv.done ≡ t.taken + m = omega (arith, t.long, long, inv.all, inv.order, fills.few) in
+        let there : list_at function_at ys m (input_of took.at took.left rest) ≡ list_at function_at ys m (input_of (place_after place after) (held_in after (filled + more) buf) rest) =
+        ap (λ (p : ℕ). list_at function_at ys m (input_of p took.left rest)) at_is
+        ∙ ap (λ (l : List ℕ). list_at function_at ys m (input_of (place_after place after) l rest)) left_is in
+        ap (λ (l : List ℕ). list_at function_at before (count + n) (here place l)) front ∙ inv.reads n (chunk ++ rest) ∙ rw (bytes, count_is) (t.reads m rest) ∙ there
 
 -- the block is full
 pub fill_done : (old now : Option (List ℕ)) (before xs : List (ℕ × ℕ)) (place count filled taken after : ℕ) (buf : List ℕ) (f g : ℕ)
     → IsBlock old now before xs place count filled taken buf f g → 6 * count ≤ filled → 6 * count ≤ 384 → after ≡ place_after place taken
     → ReadsBlock (Ok after) old now before xs place count
 fill_done old now before xs place count filled taken after buf f g inv full few after_is known =
-    let was = inv.known known in
+    let was = block_known old now before xs place count filled taken buf f g inv known in
     let none : held_in taken filled buf ≡ [] = held_none taken filled buf (omega (arith, inv.within, inv.long)) (omega (arith, inv.all, inv.short, inv.within, inv.order, full)) in
     let done_is : inv.done ≡ count = omega (arith, inv.all, inv.short, inv.within, inv.order, full) in (
       was.0,
@@ -252,7 +260,7 @@ fill_end old now next before xs place count filled taken more after was buf f g 
   where
     so_far : (is_some now ≡ true) × ((n : ℕ) → list_at function_at before (count + n) (input_at place old)
         ≡ list_at function_at xs ((count + n) - inv.done) (input_held (place_after place taken) (held_in taken filled was) now))
-    so_far = inv.known e
+    so_far = block_known old now before xs place count filled taken was f g inv e
 
     held : List ℕ
     held = held_in taken filled was
@@ -279,7 +287,9 @@ pub fill_refused : (e : DecodeFault) (old now next : Option (List ℕ)) (before 
 fill_refused fault.Read old now next before xs ys place count filled taken more was buf f g inv fills breaks = absurd breaks
 fill_refused (fault.OutOfMemory error) old now next before xs ys place count filled taken more was buf f g inv fills breaks = λ known n. tt
 fill_refused (fault.Form broken) old now next before xs ys place count filled taken more was buf f g inv fills breaks =
-    λ e n. (inv.known e).1 n ∙ refused now next fills.consumed (inv.known e).0 n
+    λ e n.
+    let so_far = block_known old now before xs place count filled taken was f g inv e in
+    so_far.1 n ∙ refused now next fills.consumed so_far.0 n
   where
     slice : List ℕ
     slice = held_in taken (filled + more) buf
@@ -297,38 +307,83 @@ fill_refused (fault.Form broken) old now next before xs ys place count filled ta
         ∙ ap (λ (l : List ℕ). l ++ yb) (sym (held_on now next taken filled (6 * count) more was buf fills inv.order)) in
         rw bytes (breaks ((count + n) - inv.done) yb (omega (arith, long, inv.all, inv.order, fills.few)))
 
+-- a read failed within the block
+pub fill_stops : (old now next : Option (List ℕ)) (before xs : List (ℕ × ℕ)) (place count filled taken : ℕ) (buf : List ℕ) (f g : ℕ) → IsBlock old now before xs place count filled taken buf f g
+    → filled < 6 * count → 6 * count ≤ 384 → Keeps now next → StopsAtEnd place old next (list_at function_at before count) fault.Read
+fill_stops old now next before xs place count filled taken buf f g inv lt few kept = λ known.
+    let front = take filled buf in
+    let held = held_in taken filled buf in
+    let m = count - (inv.done + 1) in
+    let long : length held ≡ filled - taken = held_long taken filled buf (omega (arith, inv.long)) in
+    let all : count ≡ count + 0 = omega arith in
+    let count_is : (count + 0) - inv.done ≡ suc m = omega (arith, inv.all, inv.order, lt) in
+    let there : place_after (place_after place taken) (length held) ≡ place_after place (length front) = omega (arith, long, inv.order, length-take filled buf, inv.long) in
+    let cut : list_at function_at xs ((count + 0) - inv.done) (input_of (place_after place taken) held []) ≡ Err (place_after (place_after place taken) (length held)) =
+    rw count_is (cut_short xs m (place_after place taken) held (omega (arith, long, inv.short))) in
+    record {
+      front = front;
+      consumed = Consumes-kept old now next front inv.consumed kept;
+      refused = ap (λ (l : List ℕ). list_at function_at before count (here place l)) (sym (append-nil front)) ∙ ap (λ (k : ℕ). list_at function_at before k (here place (front ++ []))) all
+          ∙ inv.reads 0 [] ∙ cut ∙ ap (λ (p : ℕ). Err p) there;
+    }
+
+-- no read fails where functions are taken
+pub takes_stops : {Y : Type 0} (e : DecodeFault) (xs ys : List (ℕ × ℕ)) (at : ℕ) (bytes : List ℕ) (place : ℕ) (old new : Option (List ℕ)) (read : Input → Answer Y) → Takes (Err e) xs ys at bytes
+    → StopsAtEnd place old new read e
+takes_stops fault.Read xs ys at bytes place old new read takes = absurd takes
+takes_stops (fault.Form p) xs ys at bytes place old new read takes = tt
+takes_stops (fault.OutOfMemory error) xs ys at bytes place old new read takes = tt
+
 -- what a loop over blocks keeps
-pub record IsReadingBlocks (old now : Option (List ℕ)) (total : Answer (List (ℕ × ℕ))) (xs : List (ℕ × ℕ)) (left place failures failures_now : ℕ) : Type 0 where
-  pub known : is_some old ≡ true → (is_some now ≡ true) × (list_at function_at xs left (input_at place now) ≡ total)
+pub record IsReadingBlocks (old now : Option (List ℕ)) (start count : ℕ) (xs : List (ℕ × ℕ)) (left place failures failures_now : ℕ) : Type 0 where
+  pub reached : is_some old ≡ true → Reached start place old now (list_at function_at [] count) (list_at function_at xs left)
   pub beginning : ConsumesBeginning old now
   pub failures_are : failures_now ≡ failures
 
-pub blocks_on : (old now next : Option (List ℕ)) (total : Answer (List (ℕ × ℕ))) (xs ys : List (ℕ × ℕ)) (left fewer place after block f g h : ℕ)
-    → IsReadingBlocks old now total xs left place f g → block ≤ left → fewer ≡ left - block → ReadsBlock (Ok after) now next xs ys place block
-    → ConsumesBeginning now next → h ≡ g → IsReadingBlocks old next total ys fewer after f h
-blocks_on old now next total xs ys left fewer place after block f g h inv le fewer_is reads some same = record {
-  known = λ e.
-      let was = inv.known e in
-      let is = reads was.0 in
-      let count : left ≡ block + fewer = omega (arith, fewer_is) in
-      let so_far : list_at function_at xs (block + fewer) (input_at place now) ≡ total = subst (λ (n : ℕ). list_at function_at xs n (input_at place now) ≡ total) count was.1 in
-      (is.0, sym (is.1 fewer) ∙ so_far);
+none_of : (xs : List (ℕ × ℕ)) (i : Input) → list_at function_at xs 0 i ≡ Ok (xs, i)
+unfolding list_at
+none_of xs i = refl
+
+pub blocks_on : (old now next : Option (List ℕ)) (start count : ℕ) (xs ys : List (ℕ × ℕ)) (left fewer place after block f g h : ℕ)
+    → IsReadingBlocks old now start count xs left place f g → block ≤ left → fewer ≡ left - block → ReadsBlock (Ok after) now next xs ys place block
+    → ConsumesBeginning now next → h ≡ g → IsReadingBlocks old next start count ys fewer after f h
+blocks_on old now next start count xs ys left fewer place after block f g h inv le fewer_is reads some same = record {
+  reached = λ known.
+      let r = inv.reached known in
+      let is = reads r.told in
+      let all : block ≡ block + 0 = omega arith in
+      let whole : list_at function_at xs block (input_at place now) ≡ Ok (ys, input_at after next) =
+      ap (λ (n : ℕ). list_at function_at xs n (input_at place now)) all ∙ is.1 0 ∙ none_of ys (input_at after next) in
+      reached_then start place after old now next (list_at function_at [] count) (list_at function_at xs left) (list_at function_at ys fewer) r
+      (rw fewer_is (reached_part function_at xs ys left block place after now next function_steady le r.told (is.0, whole)));
   beginning = consumes_then _ _ _ inv.beginning some;
   failures_are = same ∙ inv.failures_are;
 }
 
-pub blocks_fail : (old now next : Option (List ℕ)) (total : Answer (List (ℕ × ℕ))) (xs ys : List (ℕ × ℕ)) (left place block f g : ℕ) (e : DecodeFault)
-    → IsReadingBlocks old now total xs left place f g → block ≤ left → ReadsBlock (Err e) now next xs ys place block → is_some old ≡ true → Fails e total
-blocks_fail old now next total xs ys left place block f g e inv le reads known =
-    let was = inv.known known in
-    let count : left ≡ block + (left - block) = omega arith in
-    let so_far : list_at function_at xs (block + (left - block)) (input_at place now) ≡ total = subst (λ (n : ℕ). list_at function_at xs n (input_at place now) ≡ total) count was.1 in
-    subst (λ (r : Answer (List (ℕ × ℕ))). Fails e r) so_far (reads was.0 (left - block))
+pub blocks_fail : (old now next : Option (List ℕ)) (start count : ℕ) (xs ys : List (ℕ × ℕ)) (left place block f g : ℕ) (e : DecodeFault)
+    → IsReadingBlocks old now start count xs left place f g → block ≤ left → ReadsBlock (Err e) now next xs ys place block
+    → is_some old ≡ true → Fails e (list_at function_at [] count (input_at start old))
+blocks_fail old now next start count xs ys left place block f g e inv le reads known =
+    let r = inv.reached known in
+    let all : block + (left - block) ≡ left = omega arith in
+    let so_far : list_at function_at xs (block + (left - block)) (input_at place now) ≡ list_at function_at [] count (input_at start old) =
+    ap (λ (n : ℕ). list_at function_at xs n (input_at place now)) all
+    ∙ sym (reached_known start place old now (list_at function_at [] count) (list_at function_at xs left) r known) in
+    subst (λ (r : Answer (List (ℕ × ℕ))). Fails e r) so_far (reads r.told (left - block))
 
-pub blocks_all : (old now : Option (List ℕ)) (total : Answer (List (ℕ × ℕ))) (xs : List (ℕ × ℕ)) (left place f g : ℕ)
-    → IsReadingBlocks old now total xs left place f g → left ≡ 0 → is_some old ≡ true → (is_some now ≡ true) × (total ≡ Ok (xs, input_at place now))
+-- a read failed in the next block
+pub blocks_stop : (old now next : Option (List ℕ)) (start count : ℕ) (xs : List (ℕ × ℕ)) (left place block f g : ℕ) (e : DecodeFault)
+    → IsReadingBlocks old now start count xs left place f g → block ≤ left → StopsAtEnd place now next (list_at function_at xs block) e
+    → StopsAtEnd start old next (list_at function_at [] count) e
+blocks_stop old now next start count xs left place block f g e inv le stops =
+    stops_there start place old now next (list_at function_at [] count) (list_at function_at xs left) e inv.reached
+    (stops_part function_at xs left block place now next e le stops)
+
+pub blocks_all : (old now : Option (List ℕ)) (start count : ℕ) (xs : List (ℕ × ℕ)) (left place f g : ℕ)
+    → IsReadingBlocks old now start count xs left place f g → left ≡ 0 → is_some old ≡ true
+    → (is_some now ≡ true) × (list_at function_at [] count (input_at start old) ≡ Ok (xs, input_at place now))
 unfolding list_at
-blocks_all old now total xs left place f g inv none known =
-    let was = inv.known known in
+blocks_all old now start count xs left place f g inv none known =
+    let r = inv.reached known in
     let here : list_at function_at xs left (input_at place now) ≡ Ok (xs, input_at place now) = rw none refl in
-    (was.0, sym was.1 ∙ here)
+    (r.told, reached_known start place old now (list_at function_at [] count) (list_at function_at xs left) r known ∙ here)

@@ -1,19 +1,25 @@
 -- Cells that are read many at a time.
-use Rattle.std.proofs.Common.{◌≡◌, ℕ, suc, ◌+◌, ◌-◌, ◌<◌, ◌≤◌, true, false, eqb, List, [], ◌∷◌, ◌++◌, length, take, drop, Option, Some, None, is_some, Result, Ok, Err, inl, inr, refl, sym, ap, subst, ◌∙◌, arith, append_assoc}
+use Rattle.std.proofs.Common.{◌≡◌, ℕ, suc, ◌+◌, ◌-◌, ◌<◌, ◌≤◌, true, false, eqb, List, [], ◌∷◌, ◌++◌, length, take, drop, Option, Some, None, is_some, Result, Ok, Err, inl, inr, refl, sym, ap, subst, ◌∙◌, arith, append_assoc, append-nil}
 use Rattle.std.proofs.lemmas.Bool.{cases_lt}
 use Rattle.std.proofs.lemmas.List.{length-append, length-drop, length-take, drop-drop, take-append-le, take-append-drop, take_all}
 use Rattle.std.specs.Int.{w32, from_be_bytes, cast_signed}
-use Rattle.std.specs.Io.KnownBytes.{Consumes, IsAtEnd}
+use Rattle.std.proofs.Math.Seq.{take-add}
+use Rattle.std.specs.Prelude.{IfErr}
+use Rattle.std.specs.Io.KnownBytes.{Consumes, IsAtEnd, Keeps}
+use Rattle.std.proofs.KnownBytes.{Consumes-kept, Consumes-nil, Consumes-trans}
 use Rattle.tt_abs.specs.declared.cells.Cell.{Cell}
 use Rattle.tt_abs.specs.declared.cells.Cell.TheVariants.{Known, Unknown}
-use Rattle.tt_stream.specs.Reads.{ConsumesBeginning}
+use Rattle.tt_stream.specs.Reads.{ConsumesBeginning, ConsumesFewer}
 use Rattle.tt_stream.proofs.Beginnings.{consumes_then}
 use Rattle.tt_cert_file.specs.declared.fault.DecodeFault.{DecodeFault}
 use Rattle.tt_cert_file.specs.declared.fault.DecodeFault.TheVariants as fault
-use Rattle.tt_cert_file.specs.Answers.{Fails, input_at}
+use Rattle.tt_cert_file.specs.Answers.{Fails, IsReadFault, StopsAtEnd, input_at}
 use Rattle.tt_cert_file.specs.Blocks.{AreCellsTaken, FillsOn, FillsRest, IsBegun, IsTakingCells, ReadsCells, ReadsRest, TakesCells, cells_at, input_begun, input_held, input_of}
-use Rattle.tt_cert_file.specs.Readers.{Answer, list_at, place_after}
+use Rattle.tt_cert_file.specs.Readers.{Answer, Input, list_at, place_after}
 use Rattle.tt_cert_file.specs.Reading.{cell_at}
+use Rattle.tt_cert_file.proofs.Codecs.{here}
+use Rattle.tt_cert_file.proofs.SteadyUnits.{cell_steady}
+use Rattle.tt_cert_file.proofs.Stops.{Reached, reached_known, reached_part, reached_then, stops_there}
 use Rattle.tt_cert_file.proofs.Blocks.{held_in, held_left, held_long, held_none, held_on, held_slice, none_left, suffix_fits, suffix_on, unit_short, unit_whole}
 
 -- the number of a known cell
@@ -193,14 +199,33 @@ pub record IsCellBlock (old now : Option (List ℕ)) (before xs : List Cell) (pl
   pub within : filled ≤ wanted
   pub begun : taken < filled → IsBegun (held_in taken filled buf)
   pub long : length buf ≡ 64
-  pub known : is_some old ≡ true → (is_some now ≡ true) × (cells_at before (count - length before) (input_at place old)
-      ≡ cells_at xs (count - length xs) (input_held (place_after place taken) (held_in taken filled buf) now))
+  pub consumed : Consumes old now (take filled buf)
+  pub reads : (n : ℕ) (rest : List ℕ) → cells_at before ((length xs - length before) + n) (here place (take filled buf ++ rest))
+      ≡ cells_at xs n (input_of (place_after place taken) (held_in taken filled buf) rest)
   pub beginning : ConsumesBeginning old now
   pub failures_are : failures_now ≡ failures
 
 -- all that is wanted of a block fits the cells that are left
 abbrev pub IsWanted : List Cell → ℕ → ℕ → Type 0
 IsWanted before count wanted = (0 < wanted) × (wanted ≤ count - length before) × (wanted ≤ 64)
+
+-- the same of a source that tells its bytes
+block_known : (old now : Option (List ℕ)) (before xs : List Cell) (place count wanted filled taken : ℕ) (buf : List ℕ) (f g : ℕ)
+    → IsCellBlock old now before xs place count wanted filled taken buf f g → is_some old ≡ true → (is_some now ≡ true) × ((n : ℕ)
+    → cells_at before ((length xs - length before) + n) (input_at place old) ≡ cells_at xs n (input_held (place_after place taken) (held_in taken filled buf) now))
+block_known None now before xs place count wanted filled taken buf f g inv known = absurd cc
+block_known (Some a) None before xs place count wanted filled taken buf f g inv known = absurd inv.consumed
+block_known (Some a) (Some b) before xs place count wanted filled taken buf f g inv known =
+    (refl, λ n. ap (λ (l : List ℕ). cells_at before ((length xs - length before) + n) (here place l)) inv.consumed ∙ inv.reads n b)
+
+-- the same of as many cells as there are in all
+block_so_far : (old now : Option (List ℕ)) (before xs : List Cell) (place count wanted filled taken : ℕ) (buf : List ℕ) (f g : ℕ)
+    → IsCellBlock old now before xs place count wanted filled taken buf f g → IsWanted before count wanted → is_some old ≡ true → (is_some now ≡ true)
+    × (cells_at before (count - length before) (input_at place old) ≡ cells_at xs (count - length xs) (input_held (place_after place taken) (held_in taken filled buf) now))
+block_so_far old now before xs place count wanted filled taken buf f g inv fit known =
+    let was = block_known old now before xs place count wanted filled taken buf f g inv known in
+    let all : count - length before ≡ (length xs - length before) + (count - length xs) = omega (arith, inv.few, inv.least, inv.order, inv.within, fit.0, fit.1) in
+    (was.0, ap (λ (k : ℕ). cells_at before k (input_at place old)) all ∙ was.1 (count - length xs))
 
 pub block_on : (old now next : Option (List ℕ)) (before xs ys : List Cell) (place count wanted filled taken more over after : ℕ) (was buf : List ℕ) (f g h : ℕ)
     → IsCellBlock old now before xs place count wanted filled taken was f g → IsWanted before count wanted → FillsOn now next filled wanted more was buf
@@ -217,7 +242,8 @@ block_on old now next before xs ys place count wanted filled taken more over aft
   within = fills.few;
   begun = λ lt. subst IsBegun left_is (took.begun (omega (arith, lt, after_is)));
   long = fills.long ∙ inv.long;
-  known = known old now next fills.consumed inv.known;
+  consumed = subst (Consumes old next) (sym filled_is) (Consumes-trans old now next (take filled was) chunk inv.consumed fills.consumed);
+  reads = reads;
   beginning = consumes_then _ _ _ inv.beginning some;
   failures_are = same ∙ inv.failures_are;
 }
@@ -240,25 +266,23 @@ block_on old now next before xs ys place count wanted filled taken more over aft
     at_is : took.at ≡ place_after place after
     at_is = omega (arith, t.at_is, t.few, long, took.over_is, inv.order, after_is)
 
-    known : (a b c : Option (List ℕ)) → Consumes b c (take more (drop filled buf))
-        → (is_some a ≡ true → (is_some b ≡ true) × (cells_at before (count - length before) (input_at place a)
-        ≡ cells_at xs (count - length xs) (input_held (place_after place taken) (held_in taken filled was) b)))
-        → is_some a ≡ true → (is_some c ≡ true) × (cells_at before (count - length before) (input_at place a)
-        ≡ cells_at ys (count - length ys) (input_held (place_after place after) (held_in after (filled + more) buf) c))
-    known a None c consumed so_far e = absurd (none_known (so_far e).0)
-      where
-        none_known : is_some {T = List ℕ} None ≡ true → ⊥
-        none_known h = cc
-    known a (Some nb) None consumed so_far e = absurd consumed
-    known a (Some nb) (Some yb) consumed so_far e =
-        let m = count - length ys in
-        let bytes : held_in taken filled was ++ nb ≡ slice ++ yb =
-        ap (λ (l : List ℕ). held_in taken filled was ++ l) consumed ∙ sym (append_assoc (held_in taken filled was) (take more (drop filled buf)) yb)
-        ∙ ap (λ (l : List ℕ). l ++ yb) (sym (held_on now next taken filled wanted more was buf fills inv.order)) in
-        let count_is : count - length xs ≡ t.taken + m = omega (arith, t.grown, t.few, long, inv.few, inv.order, fills.few, fit.0, fit.1) in
-        let there : cells_at ys m (input_of took.at took.left yb) ≡ cells_at ys m (input_of (place_after place after) (held_in after (filled + more) buf) yb) =
-        ap (λ (p : ℕ). cells_at ys m (input_of p took.left yb)) at_is ∙ ap (λ (l : List ℕ). cells_at ys m (input_of (place_after place after) l yb)) left_is in
-        (refl, (so_far e).1 ∙ rw (bytes, count_is) (t.reads m yb) ∙ there)
+    chunk : List ℕ
+    chunk = take more (drop filled buf)
+
+    filled_is : take (filled + more) buf ≡ take filled was ++ chunk
+    filled_is = take-add filled more buf ∙ ap (λ (l : List ℕ). l ++ chunk) fills.held_is
+
+    reads : (n : ℕ) (rest : List ℕ) → cells_at before ((length ys - length before) + n) (here place (take (filled + more) buf ++ rest))
+        ≡ cells_at ys n (input_of (place_after place after) (held_in after (filled + more) buf) rest)
+    reads n rest =
+        let front : take (filled + more) buf ++ rest ≡ take filled was ++ (chunk ++ rest) = ap (λ (l : List ℕ). l ++ rest) filled_is ∙ append_assoc (take filled was) chunk rest in
+        let bytes : held_in taken filled was ++ (chunk ++ rest) ≡ slice ++ rest =
+        sym (append_assoc (held_in taken filled was) chunk rest) ∙ ap (λ (l : List ℕ). l ++ rest) (sym (held_on now next taken filled wanted more was buf fills inv.order)) in
+        let count_is : (length ys - length before) + n ≡ (length xs - length before) + (t.taken + n) = omega (arith, t.grown, inv.least) in
+        let there : cells_at ys n (input_of took.at took.left rest) ≡ cells_at ys n (input_of (place_after place after) (held_in after (filled + more) buf) rest) =
+        ap (λ (p : ℕ). cells_at ys n (input_of p took.left rest)) at_is ∙ ap (λ (l : List ℕ). cells_at ys n (input_of (place_after place after) l rest)) left_is in
+        ap (λ (l : List ℕ). cells_at before ((length ys - length before) + n) (here place l)) front
+        ∙ ap (λ (k : ℕ). cells_at before k (here place (take filled was ++ (chunk ++ rest)))) count_is ∙ inv.reads (t.taken + n) (chunk ++ rest) ∙ rw bytes (t.reads n rest) ∙ there
 
 -- a block of whole cells
 pub block_done : (old now : Option (List ℕ)) (before xs : List Cell) (place count wanted filled taken after : ℕ) (buf : List ℕ) (f g : ℕ)
@@ -268,7 +292,9 @@ block_done old now before xs place count wanted filled taken after buf f g inv f
     let none : held_in taken filled buf ≡ [] = held_none taken filled buf (omega (arith, inv.within, inv.long, fit.2)) (omega (arith, all)) in (
       inv.some (omega (arith, all, full, fit.0)),
       omega (arith, inv.few, all, inv.within, fit.0, fit.1),
-      λ known. let was = inv.known known in (was.0, was.1 ∙ rw (none, after_is) refl),
+      λ known.
+          let was = block_known old now before xs place count wanted filled taken buf f g inv known in
+          (was.0, λ n. was.1 n ∙ rw (none, after_is) refl),
     )
 
 -- the input ends within the block
@@ -276,7 +302,8 @@ pub block_end : (old now next : Option (List ℕ)) (before xs : List Cell) (plac
     → IsCellBlock old now before xs place count wanted filled taken was f g → IsWanted before count wanted → FillsOn now next filled wanted more was buf → more ≡ 0
     → filled < wanted → after ≡ place_after place (filled + more) → ReadsCells (Err (fault.Form after)) old next before xs place count
 block_end old now next before xs place count wanted filled taken more after was buf f g inv fit fills none short after_is e =
-    (inv.known e).1 ∙ ends now next fills.consumed (fills.at_end none) (inv.known e).0
+    let so_far = block_so_far old now before xs place count wanted filled taken was f g inv fit e in
+    so_far.1 ∙ ends now next fills.consumed (fills.at_end none) so_far.0
   where
     held : List ℕ
     held = held_in taken filled was
@@ -303,7 +330,9 @@ pub block_refused : (e : DecodeFault) (old now next : Option (List ℕ)) (before
 block_refused fault.Read old now next before xs ys place count wanted filled taken more was buf f g inv fit fills breaks = absurd breaks
 block_refused (fault.OutOfMemory error) old now next before xs ys place count wanted filled taken more was buf f g inv fit fills breaks = λ known. tt
 block_refused (fault.Form broken) old now next before xs ys place count wanted filled taken more was buf f g inv fit fills breaks =
-    λ e. (inv.known e).1 ∙ refused now next fills.consumed (inv.known e).0
+    λ e.
+    let so_far = block_so_far old now before xs place count wanted filled taken was f g inv fit e in
+    so_far.1 ∙ refused now next fills.consumed so_far.0
   where
     slice : List ℕ
     slice = held_in taken (filled + more) buf
@@ -329,27 +358,28 @@ rest_short old now before xs place count wanted filled taken buf f g inv few som
     let b = inv.begun some in
     omega (arith, ap length b.left_is, b.short, held_long taken filled buf (omega (arith, inv.long, inv.within)), length-take (filled - (taken + 1)) (drop (taken + 1) buf))
 
+-- the bytes that are held are a known cell's tag and those of its number
+held_begun : (taken filled : ℕ) (buf number : List ℕ) → IsBegun (held_in taken filled buf) → taken < filled → number ≡ take (filled - (taken + 1)) (drop (taken + 1) buf)
+    → held_in taken filled buf ≡ 1 ∷ number
+held_begun taken filled buf number b some number_is =
+    let begun_is : b.number ≡ number =
+    ap (drop 1) (sym b.left_is) ∙ drop-drop 1 taken (take filled buf) ∙ sym (held_slice (taken + 1) filled buf (omega (arith, some))) ∙ sym number_is in
+    b.left_is ∙ ap (λ (l : List ℕ). 1 ∷ l) begun_is
+
 -- a block, and what reading the rest of its last cell comes to
 pub block_rest : (r : Result ℕ DecodeFault) (old now next : Option (List ℕ)) (before xs ys : List Cell) (place count wanted filled taken at : ℕ) (buf number : List ℕ) (f g : ℕ)
     → IsCellBlock old now before xs place count wanted filled taken buf f g → IsWanted before count wanted → taken < filled → at ≡ place_after place taken
     → number ≡ take (filled - (taken + 1)) (drop (taken + 1) buf) → ReadsRest r now next number xs ys at → ReadsCells r old next before ys place count
 block_rest r old now next before xs ys place count wanted filled taken at buf number f g inv fit some at_is number_is rest = from r rest
   where
-    b : IsBegun (held_in taken filled buf)
-    b = inv.begun some
-
-    begun_is : b.number ≡ number
-    begun_is =
-        ap (drop 1) (sym b.left_is) ∙ drop-drop 1 taken (take filled buf) ∙ sym (held_slice (taken + 1) filled buf (omega (arith, some))) ∙ sym number_is
-
     held_is : held_in taken filled buf ≡ 1 ∷ number
-    held_is = b.left_is ∙ ap (λ (l : List ℕ). 1 ∷ l) begun_is
+    held_is = held_begun taken filled buf number (inv.begun some) some number_is
 
-    so_far : is_some old ≡ true → (is_some now ≡ true) × (cells_at before (count - length before) (input_at place old)
-        ≡ cells_at xs (count - length xs) (input_begun at number now))
+    so_far : is_some old ≡ true → (is_some now ≡ true) × ((n : ℕ) → cells_at before ((length xs - length before) + n) (input_at place old)
+        ≡ cells_at xs n (input_begun at number now))
     so_far e =
-        let was = inv.known e in
-        (was.0, was.1 ∙ rw (held_is, at_is) refl)
+        let was = block_known old now before xs place count wanted filled taken buf f g inv e in
+        (was.0, λ n. was.1 n ∙ rw (held_is, at_is) refl)
 
     from : (r : Result ℕ DecodeFault) → ReadsRest r now next number xs ys at → ReadsCells r old next before ys place count
     from (Ok after) rest = (
@@ -357,39 +387,137 @@ block_rest r old now next before xs ys place count wanted filled taken at buf nu
       omega (arith, rest.0, inv.few, some, inv.within, fit.0, fit.1),
       λ e.
           let was = so_far e in
-          let is = rest.1 was.0 in
-          let count_is : count - length xs ≡ 1 + (count - length ys) = omega (arith, rest.0, inv.few, some, inv.within, fit.0, fit.1) in
-          (is.0, was.1 ∙ rw count_is refl ∙ is.1 (count - length ys)),
+          let is = rest.1 was.0 in (
+            is.0,
+            λ n.
+                let count_is : (length ys - length before) + n ≡ (length xs - length before) + (1 + n) = omega (arith, rest.0, inv.least) in
+                ap (λ (k : ℕ). cells_at before k (input_at place old)) count_is ∙ was.1 (1 + n) ∙ is.1 n,
+          ),
     )
     from (Err e) rest = λ known.
         let was = so_far known in
         let m = count - (length xs + 1) in
-        let count_is : count - length xs ≡ 1 + m = omega (arith, inv.few, some, inv.within, fit.0, fit.1) in
-        let here : cells_at before (count - length before) (input_at place old) ≡ cells_at xs (1 + m) (input_begun at number now) = was.1 ∙ rw count_is refl in
+        let count_is : count - length before ≡ (length xs - length before) + (1 + m) = omega (arith, inv.few, inv.least, some, inv.within, fit.0, fit.1) in
+        let here : cells_at before (count - length before) (input_at place old) ≡ cells_at xs (1 + m) (input_begun at number now) =
+        ap (λ (k : ℕ). cells_at before k (input_at place old)) count_is ∙ was.1 (1 + m) in
         subst (λ (x : Answer (List Cell)). Fails e x) (sym here) (rest was.0 m)
 
+-- a read failed within the block, when these bytes of one more cell were held
+block_cut : (old now next : Option (List ℕ)) (before xs : List Cell) (place count wanted filled taken : ℕ) (buf over : List ℕ) (f g : ℕ)
+    → IsCellBlock old now before xs place count wanted filled taken buf f g → IsWanted before count wanted → length xs < count → Consumes now next over
+    → (0 < length (held_in taken filled buf ++ over) → IsBegun (held_in taken filled buf ++ over)) → StopsAtEnd place old next (cells_at before (count - length before)) fault.Read
+block_cut old now next before xs place count wanted filled taken buf over f g inv fit lt consumed begun = λ known.
+    let n = count - length xs in
+    let m = count - (length xs + 1) in
+    let front = take filled buf ++ over in
+    let held = held_in taken filled buf ++ over in
+    let p = place_after place taken in
+    let all : count - length before ≡ (length xs - length before) + n = omega (arith, inv.least, lt) in
+    let n_is : n ≡ suc m = omega (arith, lt) in
+    let long = held_long taken filled buf (omega (arith, inv.within, inv.long, fit.2)) in
+    let there : place_after p (length held) ≡ place_after place (length front) =
+    omega (arith, long, length-append (held_in taken filled buf) over, length-append (take filled buf) over, length-take filled buf, inv.order, inv.within, inv.long, fit.2) in
+    let cut : cells_at xs n (here p held) ≡ Err (place_after p (length held)) =
+    ap (λ (k : ℕ). cells_at xs k (here p held)) n_is ∙ ap (λ (l : List ℕ). cells_at xs (suc m) (here p l)) (sym (append-nil held)) ∙ cells_cut xs m p held begun in
+    record {
+      front = front;
+      consumed = Consumes-trans old now next (take filled buf) over inv.consumed consumed;
+      refused = ap (λ (k : ℕ). cells_at before k (here place front)) all ∙ inv.reads n over ∙ cut ∙ ap (λ (q : ℕ). Err q) there;
+    }
+
+-- a read of more of the block failed
+pub block_stops : (old now next : Option (List ℕ)) (before xs : List Cell) (place count wanted filled taken : ℕ) (buf : List ℕ) (f g : ℕ)
+    → IsCellBlock old now before xs place count wanted filled taken buf f g → IsWanted before count wanted → filled < wanted → Keeps now next
+    → StopsAtEnd place old next (cells_at before (count - length before)) fault.Read
+block_stops old now next before xs place count wanted filled taken buf f g inv fit short kept =
+    let held = held_in taken filled buf in
+    let long = held_long taken filled buf (omega (arith, inv.within, inv.long, fit.2)) in
+    block_cut old now next before xs place count wanted filled taken buf [] f g inv fit (omega (arith, inv.few, inv.order, short, fit.0, fit.1)) (Consumes-kept now now next [] (Consumes-nil now) kept)
+    (rw (append-nil held) (λ some. inv.begun (omega (arith, long, some))))
+
+-- a read of the rest of a cell failed
+pub rest_stops : (e : DecodeFault) (old now next : Option (List ℕ)) (before xs : List Cell) (place count wanted filled taken : ℕ) (buf number : List ℕ) (f g : ℕ)
+    → IsCellBlock old now before xs place count wanted filled taken buf f g → IsWanted before count wanted → taken < filled
+    → number ≡ take (filled - (taken + 1)) (drop (taken + 1) buf) → (IsReadFault e → ConsumesFewer (4 - length number) now next)
+    → StopsAtEnd place old next (cells_at before (count - length before)) e
+rest_stops (fault.Form p) old now next before xs place count wanted filled taken buf number f g inv fit some number_is fewer = tt
+rest_stops (fault.OutOfMemory error) old now next before xs place count wanted filled taken buf number f g inv fit some number_is fewer = tt
+rest_stops fault.Read old now next before xs place count wanted filled taken buf number f g inv fit some number_is fewer =
+    let part = fewer tt in
+    let held_is = held_begun taken filled buf number (inv.begun some) some number_is in
+    block_cut old now next before xs place count wanted filled taken buf part.bytes f g inv fit (omega (arith, inv.few, some, inv.within, fit.0, fit.1)) part.consumed
+    (λ more. record {
+      number = number ++ part.bytes;
+      left_is = ap (λ (l : List ℕ). l ++ part.bytes) held_is;
+      short = omega (arith, part.few, length-append number part.bytes);
+    })
+
+-- the same of what reading the rest of a cell answers
+pub rest_stopped : (r : Result ℕ DecodeFault) (old now next : Option (List ℕ)) (before xs : List Cell) (place count wanted filled taken : ℕ) (buf number : List ℕ) (f g : ℕ)
+    → IsCellBlock old now before xs place count wanted filled taken buf f g → IsWanted before count wanted → taken < filled
+    → number ≡ take (filled - (taken + 1)) (drop (taken + 1) buf) → IfErr r (λ e. IsReadFault e → ConsumesFewer (4 - length number) now next)
+    → IfErr r (StopsAtEnd place old next (cells_at before (count - length before)))
+rest_stopped (Ok after) old now next before xs place count wanted filled taken buf number f g inv fit some number_is fewer = tt
+rest_stopped (Err e) old now next before xs place count wanted filled taken buf number f g inv fit some number_is fewer =
+    rest_stops e old now next before xs place count wanted filled taken buf number f g inv fit some number_is fewer
+
+-- no read fails where cells are taken
+pub cells_stops : {Y : Type 0} (e : DecodeFault) (xs ys : List Cell) (at : ℕ) (bytes : List ℕ) (place : ℕ) (old new : Option (List ℕ)) (read : Input → Answer Y) → TakesCells (Err e) xs ys at bytes
+    → StopsAtEnd place old new read e
+cells_stops fault.Read xs ys at bytes place old new read takes = absurd takes
+cells_stops (fault.Form p) xs ys at bytes place old new read takes = tt
+cells_stops (fault.OutOfMemory error) xs ys at bytes place old new read takes = tt
+
 -- what a loop over blocks keeps
-pub record IsReadingCells (old now : Option (List ℕ)) (total : Answer (List Cell)) (xs : List Cell) (count place failures failures_now : ℕ) : Type 0 where
-  pub known : is_some old ≡ true → (is_some now ≡ true) × (cells_at xs (count - length xs) (input_at place now) ≡ total)
+pub record IsReadingCells (old now : Option (List ℕ)) (start : ℕ) (xs : List Cell) (count place failures failures_now : ℕ) : Type 0 where
+  pub reached : is_some old ≡ true → Reached start place old now (cells_at [] count) (cells_at xs (count - length xs))
   pub few : length xs ≤ count
   pub beginning : ConsumesBeginning old now
   pub failures_are : failures_now ≡ failures
 
-pub cells_on : (old now next : Option (List ℕ)) (total : Answer (List Cell)) (xs ys : List Cell) (count place after f g h : ℕ)
-    → IsReadingCells old now total xs count place f g → ReadsCells (Ok after) now next xs ys place count
-    → ConsumesBeginning now next → h ≡ g → IsReadingCells old next total ys count after f h
-cells_on old now next total xs ys count place after f g h inv reads some same = record {
-  known = λ e. let was = inv.known e in let is = reads.2 was.0 in (is.0, sym is.1 ∙ was.1);
+none_of : (xs : List Cell) (i : Input) → cells_at xs 0 i ≡ Ok (xs, i)
+unfolding list_at
+none_of xs i = refl
+
+pub cells_on : (old now next : Option (List ℕ)) (start : ℕ) (xs ys : List Cell) (count place after f g h : ℕ)
+    → IsReadingCells old now start xs count place f g → ReadsCells (Ok after) now next xs ys place count
+    → ConsumesBeginning now next → h ≡ g → IsReadingCells old next start ys count after f h
+cells_on old now next start xs ys count place after f g h inv reads some same = record {
+  reached = λ known.
+      let r = inv.reached known in
+      let is = reads.2 r.told in
+      let more = length ys - length xs in
+      let whole : cells_at xs more (input_at place now) ≡ Ok (ys, input_at after next) =
+      ap (λ (n : ℕ). cells_at xs n (input_at place now)) {y = more + 0} (omega arith) ∙ is.1 0 ∙ none_of ys (input_at after next) in
+      let left_is : (count - length xs) - more ≡ count - length ys = omega (arith, reads.0, reads.1) in
+      let part : Reached place after now next (cells_at xs (count - length xs)) (cells_at ys ((count - length xs) - more)) =
+      reached_part (λ _. cell_at) xs ys (count - length xs) more place after now next (λ _. cell_steady) (omega (arith, reads.0, reads.1)) r.told (is.0, whole) in
+      reached_then start place after old now next (cells_at [] count) (cells_at xs (count - length xs)) (cells_at ys (count - length ys)) r
+      (subst (λ (n : ℕ). Reached place after now next (cells_at xs (count - length xs)) (cells_at ys n)) left_is part);
   few = reads.1;
   beginning = consumes_then _ _ _ inv.beginning some;
   failures_are = same ∙ inv.failures_are;
 }
 
-pub cells_all : (old now : Option (List ℕ)) (total : Answer (List Cell)) (xs : List Cell) (count place f g : ℕ)
-    → IsReadingCells old now total xs count place f g → count ≤ length xs → is_some old ≡ true → (is_some now ≡ true) × (total ≡ Ok (xs, input_at place now))
-unfolding list_at
-cells_all old now total xs count place f g inv le known =
-    let was = inv.known known in
-    let none : count - length xs ≡ 0 = omega arith in
-    let here : cells_at xs (count - length xs) (input_at place now) ≡ Ok (xs, input_at place now) = rw none refl in
-    (was.0, sym was.1 ∙ here)
+pub cells_fail : (e : DecodeFault) (old now next : Option (List ℕ)) (start : ℕ) (xs ys : List Cell) (count place f g : ℕ)
+    → IsReadingCells old now start xs count place f g → ReadsCells (Err e) now next xs ys place count → is_some old ≡ true → Fails e (cells_at [] count (input_at start old))
+cells_fail e old now next start xs ys count place f g inv reads known =
+    let r = inv.reached known in
+    subst (λ (x : Answer (List Cell)). Fails e x) (sym (reached_known start place old now (cells_at [] count) (cells_at xs (count - length xs)) r known)) (reads r.told)
+
+-- a read failed in the next block
+pub cells_stop : (e : DecodeFault) (old now next : Option (List ℕ)) (start : ℕ) (xs : List Cell) (count place f g : ℕ)
+    → IsReadingCells old now start xs count place f g → StopsAtEnd place now next (cells_at xs (count - length xs)) e → StopsAtEnd start old next (cells_at [] count) e
+cells_stop e old now next start xs count place f g inv stops =
+    stops_there start place old now next (cells_at [] count) (cells_at xs (count - length xs)) e inv.reached stops
+
+pub cells_all : (old now : Option (List ℕ)) (start : ℕ) (xs : List Cell) (count place f g : ℕ)
+    → IsReadingCells old now start xs count place f g → count ≤ length xs → is_some old ≡ true
+    → (is_some now ≡ true) × (cells_at [] count (input_at start old) ≡ Ok (xs, input_at place now))
+cells_all old now start xs count place f g inv le known =
+    let r = inv.reached known in
+    let none : count - length xs ≡ 0 = omega arith in (
+      r.told,
+      reached_known start place old now (cells_at [] count) (cells_at xs (count - length xs)) r known
+          ∙ ap (λ (n : ℕ). cells_at xs n (input_at place now)) none ∙ none_of xs (input_at place now),
+    )

@@ -1,5 +1,8 @@
 pub mod Codecs
 pub mod Fields
+pub mod Steady
+pub mod SteadyUnits
+pub mod Stops
 pub mod Spelled
 pub mod Decoded
 pub mod Loops

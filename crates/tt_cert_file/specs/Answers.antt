@@ -1,5 +1,6 @@
 -- What a function that reads from a source, or writes to a sink, answers.
 use Rattle.std.specs.Prelude.{◌≡◌, ℕ, ◌+◌, ◌<◌, true, List, [], ◌++◌, length, get_or, Option, Some, is_some, unwrap_or, IfSome, Result, Ok, Err}
+use Rattle.std.specs.Io.KnownBytes.{Consumes}
 use Rattle.tt_cert_file.specs.declared.fault.DecodeFault.{DecodeFault}
 use Rattle.tt_cert_file.specs.declared.fault.DecodeFault.TheVariants as fault
 use Rattle.tt_cert_file.specs.declared.fault.EncodeFault.{EncodeFault}
@@ -37,6 +38,18 @@ abbrev pub GivesHeader : Option (List ℕ) → Option (List ℕ) → Result (For
 GivesHeader old new (Ok x) read = is_some old ≡ true → (is_some new ≡ true) × ((place : ℕ) × (read ≡ Ok (x, input_at place new)))
 GivesHeader old new (Err e) read = is_some old ≡ true → Fails e read
 
+-- what was read, taken as an input of its own, is refused only where it ends
+pub record IsCutShort {Y : Type 0} (place : ℕ) (old new : Option (List ℕ)) (read : Input → Answer Y) : Type 0 where
+  pub front : List ℕ
+  pub consumed : Consumes old new front
+  pub refused : read (input_at place (Some front)) ≡ Err (place_after place (length front))
+
+-- Where the source tells its bytes, no unit that was read whole breaks a rule before a read failed.
+abbrev pub StopsAtEnd : {Y : Type 0} → ℕ → Option (List ℕ) → Option (List ℕ) → (Input → Answer Y) → DecodeFault → Type 0
+StopsAtEnd place old new read fault.Read = is_some old ≡ true → IsCutShort place old new read
+StopsAtEnd place old new read (fault.Form at) = Unit {0}
+StopsAtEnd place old new read (fault.OutOfMemory error) = Unit {0}
+
 -- the count of failed reads rises by one exactly at a failed read
 abbrev pub CountsRead : {T : Type 0} → Result T DecodeFault → ℕ → ℕ → Type 0
 CountsRead (Ok x) old new = new ≡ old
@@ -71,6 +84,12 @@ abbrev pub IsFormFault : DecodeFault → Type 0
 IsFormFault (fault.Form place) = Unit {0}
 IsFormFault fault.Read = ⊥
 IsFormFault (fault.OutOfMemory error) = ⊥
+
+-- a read failed
+abbrev pub IsReadFault : DecodeFault → Type 0
+IsReadFault (fault.Form place) = ⊥
+IsReadFault fault.Read = Unit {0}
+IsReadFault (fault.OutOfMemory error) = ⊥
 
 -- memory ran out
 abbrev pub IsWantOfMemory : DecodeFault → Type 0

@@ -119,7 +119,7 @@ ReadsRest (Err e) old new number before now place = is_some old ≡ true → (n 
 -- Some cells of so many in all were read after those before them; the rest of the list is read from there on.
 abbrev pub ReadsCells : Result ℕ DecodeFault → Option (List ℕ) → Option (List ℕ) → List Cell → List Cell → ℕ → ℕ → Type 0
 ReadsCells (Ok after) old new before now place count = (length before < length now) × (length now ≤ count) × (is_some old ≡ true → (is_some new ≡ true)
-    × (cells_at before (count - length before) (input_at place old) ≡ cells_at now (count - length now) (input_at after new)))
+    × ((n : ℕ) → cells_at before ((length now - length before) + n) (input_at place old) ≡ cells_at now n (input_at after new)))
 ReadsCells (Err e) old new before now place count = is_some old ≡ true → Fails e (cells_at before (count - length before) (input_at place old))
 
 -- Some cells were taken from the front of the bytes, at most as many as make so many in all; so many bytes were used.
@@ -142,7 +142,7 @@ TakesSomeCells (Err (fault.OutOfMemory error)) old new place bytes count = Unit 
 -- More cells of so many in all were read after those before them, perhaps none; the rest of the list is read from there on.
 abbrev pub ReadsMoreCells : Result ℕ DecodeFault → Option (List ℕ) → Option (List ℕ) → List Cell → List Cell → ℕ → ℕ → Type 0
 ReadsMoreCells (Ok after) old new before now place count = (length before ≤ length now) × (length now ≤ count) × (is_some old ≡ true → (is_some new ≡ true)
-    × (cells_at before (count - length before) (input_at place old) ≡ cells_at now (count - length now) (input_at after new)))
+    × ((n : ℕ) → cells_at before ((length now - length before) + n) (input_at place old) ≡ cells_at now n (input_at after new)))
 ReadsMoreCells (Err e) old new before now place count = is_some old ≡ true → Fails e (cells_at before (count - length before) (input_at place old))
 
 -- these bytes are read as these functions, wherever they stand

@@ -7,7 +7,7 @@ ghost use Rattle.tt_cert.specs.Contents.{IsFamily, frames_at};
 ghost use Rattle.tt_cert.specs.Rising.{IsFinished};
 ghost use Rattle.tt_cert.specs.Contexts.{frames_of};
 ghost use Rattle.tt_stream.specs.Reads.{ConsumesBeginning};
-ghost use Rattle.tt_cert_file.specs.Answers.{CountsRead, Gives, IsWantOfMemory, input_at};
+ghost use Rattle.tt_cert_file.specs.Answers.{CountsRead, Gives, IsWantOfMemory, input_at, StopsAtEnd};
 ghost use Rattle.tt_cert_file.specs.Forms.{most_contexts};
 ghost use Rattle.tt_cert_file.specs.Readers.{list_at};
 ghost use Rattle.tt_cert_file.specs.Reading.{context_at, context_count_at, contexts_at};
@@ -88,6 +88,7 @@ fn read_context<S: Source>(
     ensures reads { Gives (λ x. x) (S.remaining source.old) (S.remaining source.new) result (context_at before.now (input_at place (S.remaining source.old))) }
     ensures follows { IfOk result (λ r. may_follow_after before.now r.0 ≡ true) }
     ensures beginning { ConsumesBeginning (S.remaining source.old) (S.remaining source.new) }
+    ensures stopped { IfErr result (StopsAtEnd place (S.remaining source.old) (S.remaining source.new) (context_at before.now)) }
     ensures failures { CountsRead result (S.failures source.old) (S.failures source.new) }
     ensures memory { IfErr result (λ fault. ¬ IsWantOfMemory fault) }
 {
@@ -114,6 +115,7 @@ fn read_count<S: Source>(source: &mut S, place: u64, form: Form) -> Result<(u16,
     ensures reads { Gives (λ x. x) (S.remaining source.old) (S.remaining source.new) result (context_count_at form (input_at place (S.remaining source.old))) }
     ensures few { IfOk result (λ r. r.0 ≤ most_contexts form) }
     ensures beginning { ConsumesBeginning (S.remaining source.old) (S.remaining source.new) }
+    ensures stopped { IfErr result (StopsAtEnd place (S.remaining source.old) (S.remaining source.new) (context_count_at form)) }
     ensures failures { CountsRead result (S.failures source.old) (S.failures source.new) }
     ensures memory { IfErr result (λ fault. ¬ IsWantOfMemory fault) }
 {
@@ -135,6 +137,7 @@ fn read_context_list<S: Source>(
     ensures few { IfOk result (λ r. length r.0.items ≤ count) }
     ensures contexts { IfOk result (λ r. AreContexts r.0.items) }
     ensures beginning { ConsumesBeginning (S.remaining source.old) (S.remaining source.new) }
+    ensures stopped { IfErr result (StopsAtEnd place (S.remaining source.old) (S.remaining source.new) (list_at context_at [] count)) }
     ensures failures { CountsRead result (S.failures source.old) (S.failures source.new) }
 {
     let mut contexts = Vec::new(alloc);
@@ -159,6 +162,7 @@ pub(crate) fn read_contexts<S: Source>(
     ensures few { IfOk result (λ r. length r.0.items ≤ most_contexts form) }
     ensures contexts { IfOk result (λ r. AreContexts r.0.items) }
     ensures beginning { ConsumesBeginning (S.remaining source.old) (S.remaining source.new) }
+    ensures stopped { IfErr result (StopsAtEnd place (S.remaining source.old) (S.remaining source.new) (contexts_at form)) }
     ensures failures { CountsRead result (S.failures source.old) (S.failures source.new) }
 {
     let (count, at) = read_count(source, place, form)?;

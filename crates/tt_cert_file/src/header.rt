@@ -1,10 +1,10 @@
 //! The header of a certificate file: its form, and how many sections follow.
 
 ghost use Rattle.std.specs.Prelude.{◌≡◌, ℕ, IfErr, OnErr, OnOk};
-ghost use Rattle.std.specs.Io.KnownBytes.{Appends, IsAtEnd};
+ghost use Rattle.std.specs.Io.KnownBytes.{Appends, IsAtEnd, Keeps};
 ghost use Rattle.tt_stream.specs.Reads.{ConsumesBeginning};
 ghost use Rattle.tt_stream.specs.Streams.{AppendsBeginning};
-ghost use Rattle.tt_cert_file.specs.Answers.{CountsRead, CountsWrite, Gives, GivesHeader, IsMore, IsWantOfMemory, input_at};
+ghost use Rattle.tt_cert_file.specs.Answers.{CountsRead, CountsWrite, Gives, GivesHeader, IsMore, IsWantOfMemory, input_at, StopsAtEnd};
 ghost use Rattle.tt_cert_file.specs.Reading.{form_at, header_at, magic_at};
 ghost use Rattle.tt_cert_file.specs.Text.{header_text};
 
@@ -21,6 +21,7 @@ const MAGIC: u32 = 0x4843_5254;
 fn read_magic<S: Source>(source: &mut S, place: u64) -> Result<(u32, u64), DecodeFault>
     ensures reads { Gives (λ x. x) (S.remaining source.old) (S.remaining source.new) result (magic_at (input_at place (S.remaining source.old))) }
     ensures beginning { ConsumesBeginning (S.remaining source.old) (S.remaining source.new) }
+    ensures stopped { IfErr result (StopsAtEnd place (S.remaining source.old) (S.remaining source.new) magic_at) }
     ensures failures { CountsRead result (S.failures source.old) (S.failures source.new) }
     ensures memory { IfErr result (λ fault. ¬ IsWantOfMemory fault) }
 {
@@ -36,6 +37,7 @@ fn read_magic<S: Source>(source: &mut S, place: u64) -> Result<(u32, u64), Decod
 fn read_form<S: Source>(source: &mut S, place: u64) -> Result<(Form, u64), DecodeFault>
     ensures reads { Gives (λ x. x) (S.remaining source.old) (S.remaining source.new) result (form_at (input_at place (S.remaining source.old))) }
     ensures beginning { ConsumesBeginning (S.remaining source.old) (S.remaining source.new) }
+    ensures stopped { IfErr result (StopsAtEnd place (S.remaining source.old) (S.remaining source.new) form_at) }
     ensures failures { CountsRead result (S.failures source.old) (S.failures source.new) }
     ensures memory { IfErr result (λ fault. ¬ IsWantOfMemory fault) }
 {
@@ -51,6 +53,7 @@ fn read_form<S: Source>(source: &mut S, place: u64) -> Result<(Form, u64), Decod
 fn read_header_at<S: Source>(source: &mut S, place: u64) -> Result<((Form, u32), u64), DecodeFault>
     ensures reads { Gives (λ x. x) (S.remaining source.old) (S.remaining source.new) result (header_at (input_at place (S.remaining source.old))) }
     ensures beginning { ConsumesBeginning (S.remaining source.old) (S.remaining source.new) }
+    ensures stopped { IfErr result (StopsAtEnd place (S.remaining source.old) (S.remaining source.new) header_at) }
     ensures failures { CountsRead result (S.failures source.old) (S.failures source.new) }
     ensures memory { IfErr result (λ fault. ¬ IsWantOfMemory fault) }
 {
@@ -68,6 +71,8 @@ fn read_header_at<S: Source>(source: &mut S, place: u64) -> Result<((Form, u32),
 pub fn read_header<S: Source>(source: &mut S) -> Result<(Form, u32), DecodeFault>
     ensures exact { GivesHeader (S.remaining source.old) (S.remaining source.new) result (header_at (input_at 0 (S.remaining source.old))) }
     ensures beginning { ConsumesBeginning (S.remaining source.old) (S.remaining source.new) }
+    // Where a read failed, no field that was read whole breaks a rule.
+    ensures whole_fields { IfErr result (StopsAtEnd 0 (S.remaining source.old) (S.remaining source.new) header_at) }
     ensures failures { CountsRead result (S.failures source.old) (S.failures source.new) }
     ensures memory { IfErr result (λ fault. ¬ IsWantOfMemory fault) }
 {
@@ -82,6 +87,7 @@ pub fn read_header<S: Source>(source: &mut S) -> Result<(Form, u32), DecodeFault
 pub fn read_end<S: Source>(source: &mut S, place: u64) -> Result<(), DecodeFault>
     ensures ended { OnOk result (IsAtEnd (S.remaining source.old) × IsAtEnd (S.remaining source.new)) }
     ensures followed { IfErr result (λ fault. (p : ℕ) → fault ≡ DecodeFault.Form p → (p ≡ place) × IsMore (S.remaining source.old)) }
+    ensures unread { IfErr result (λ fault. fault ≡ DecodeFault.Read → Keeps (S.remaining source.old) (S.remaining source.new)) }
     ensures beginning { ConsumesBeginning (S.remaining source.old) (S.remaining source.new) }
     ensures failures { CountsRead result (S.failures source.old) (S.failures source.new) }
     ensures memory { IfErr result (λ fault. ¬ IsWantOfMemory fault) }

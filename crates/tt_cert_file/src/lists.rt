@@ -1,11 +1,12 @@
 //! Lists of a section, each read after the number of its values.
 
-ghost use Rattle.std.specs.Prelude.{◌≡◌, ◌*◌, ◌<◌, ◌≤◌, [], true, length, take, IfErr, IfOk, OnOk};
+ghost use Rattle.std.specs.Prelude.{◌≡◌, ◌-◌, ◌*◌, ◌<◌, ◌≤◌, [], true, length, take, IfErr, IfOk, OnErr, OnOk};
+ghost use Rattle.std.specs.Io.KnownBytes.{Keeps};
 ghost use Rattle.tt_abs.specs.Entries.{Rises};
-ghost use Rattle.tt_stream.specs.Reads.{ConsumesBeginning};
+ghost use Rattle.tt_stream.specs.Reads.{ConsumesBeginning, ConsumesFewer};
 ghost use Rattle.tt_stream.specs.Streams.{CountsFailure};
-ghost use Rattle.tt_cert_file.specs.Answers.{CountsRead, Gives, IsWantOfMemory, input_at};
-ghost use Rattle.tt_cert_file.specs.Blocks.{AreKept, FillsOn, FillsRest, ReadsBlock, ReadsCells, ReadsMoreCells, ReadsRest, Takes, TakesCells, TakesSomeCells};
+ghost use Rattle.tt_cert_file.specs.Answers.{CountsRead, Gives, IsReadFault, IsWantOfMemory, input_at, StopsAtEnd};
+ghost use Rattle.tt_cert_file.specs.Blocks.{AreKept, FillsOn, FillsRest, ReadsBlock, ReadsCells, ReadsMoreCells, ReadsRest, Takes, TakesCells, TakesSomeCells, cells_at};
 ghost use Rattle.tt_cert_file.specs.Readers.{list_at};
 ghost use Rattle.tt_cert_file.specs.Reading.{cell_at, function_at, functions_at, stack_at, storage_at, stored_at};
 ghost use Rattle.tt_cert_file.specs.Rules.{is_above, last_of};
@@ -34,6 +35,7 @@ fn read_more<S: Source>(
     requires room { wanted ≤ length buf.old }
     ensures fills { IfOk result (λ n. FillsOn (S.remaining source.old) (S.remaining source.new) held wanted n buf.old buf.new) }
     ensures beginning { ConsumesBeginning (S.remaining source.old) (S.remaining source.new) }
+    ensures kept { OnErr result (Keeps (S.remaining source.old) (S.remaining source.new)) }
     ensures failures { CountsFailure result (S.failures source.old) (S.failures source.new) }
 {
     source.read(&mut buf[held..wanted])
@@ -44,6 +46,7 @@ fn read_rest<S: Source>(source: &mut S, buf: &mut [u8], held: usize) -> Result<u
     requires { held ≤ length buf.old }
     ensures rest { IfOk result (λ n. FillsRest (S.remaining source.old) (S.remaining source.new) held n buf.old buf.new) }
     ensures beginning { ConsumesBeginning (S.remaining source.old) (S.remaining source.new) }
+    ensures few { OnErr result (ConsumesFewer (length buf.old - held) (S.remaining source.old) (S.remaining source.new)) }
     ensures failures { CountsFailure result (S.failures source.old) (S.failures source.new) }
 {
     read_full(source, &mut buf[held..])
@@ -123,6 +126,7 @@ fn take_ahead_cells<S: Source>(
     requires { length cells.old.items ≤ count }
     ensures reads { ReadsMoreCells result (S.remaining source.old) (S.remaining source.new) cells.old.items cells.new.items place count }
     ensures beginning { ConsumesBeginning (S.remaining source.old) (S.remaining source.new) }
+    ensures no_read { IfErr result (λ fault. ¬ IsReadFault fault) }
     ensures failures { CountsRead result (S.failures source.old) (S.failures source.new) }
 {
     let used = take_some_cells(cells, place, source.ahead(), count)?;
@@ -140,6 +144,7 @@ fn read_rest_of_cell<S: Source>(
     requires { length begun.now ≤ 4 }
     ensures reads { ReadsRest result (S.remaining source.old) (S.remaining source.new) begun.now cells.old.items cells.new.items place }
     ensures beginning { ConsumesBeginning (S.remaining source.old) (S.remaining source.new) }
+    ensures few { IfErr result (λ fault. IsReadFault fault → ConsumesFewer (4 - length begun.now) (S.remaining source.old) (S.remaining source.new)) }
     ensures failures { CountsRead result (S.failures source.old) (S.failures source.new) }
 {
     let held = begun.len();
@@ -164,6 +169,7 @@ fn read_one_cell<S: Source>(
     requires { length cells.old.items < count }
     ensures reads { ReadsCells result (S.remaining source.old) (S.remaining source.new) cells.old.items cells.new.items place count }
     ensures beginning { ConsumesBeginning (S.remaining source.old) (S.remaining source.new) }
+    ensures stopped { IfErr result (StopsAtEnd place (S.remaining source.old) (S.remaining source.new) (cells_at cells.old.items (count - length cells.old.items))) }
     ensures failures { CountsRead result (S.failures source.old) (S.failures source.new) }
 {
     let (cell, after) = read_cell(source, place)?;
@@ -183,6 +189,7 @@ fn fetch_cell_block<S: Source>(
     requires { length cells.old.items < count }
     ensures reads { ReadsCells result (S.remaining source.old) (S.remaining source.new) cells.old.items cells.new.items place count }
     ensures beginning { ConsumesBeginning (S.remaining source.old) (S.remaining source.new) }
+    ensures stopped { IfErr result (StopsAtEnd place (S.remaining source.old) (S.remaining source.new) (cells_at cells.old.items (count - length cells.old.items))) }
     ensures failures { CountsRead result (S.failures source.old) (S.failures source.new) }
 {
     let mut bytes = [0u8; BLOCK];
@@ -217,6 +224,7 @@ fn read_cell_block<S: Source>(
     requires { length cells.old.items < count }
     ensures reads { ReadsCells result (S.remaining source.old) (S.remaining source.new) cells.old.items cells.new.items place count }
     ensures beginning { ConsumesBeginning (S.remaining source.old) (S.remaining source.new) }
+    ensures stopped { IfErr result (StopsAtEnd place (S.remaining source.old) (S.remaining source.new) (cells_at cells.old.items (count - length cells.old.items))) }
     ensures failures { CountsRead result (S.failures source.old) (S.failures source.new) }
 {
     if source.ahead().is_empty() {
@@ -236,6 +244,7 @@ fn read_cells<S: Source>(
     ensures reads { Gives (λ v. v.items) (S.remaining source.old) (S.remaining source.new) result (list_at (λ _. cell_at) [] count (input_at place (S.remaining source.old))) }
     ensures few { IfOk result (λ r. length r.0.items ≤ count) }
     ensures beginning { ConsumesBeginning (S.remaining source.old) (S.remaining source.new) }
+    ensures stopped { IfErr result (StopsAtEnd place (S.remaining source.old) (S.remaining source.new) (list_at (λ _. cell_at) [] count)) }
     ensures failures { CountsRead result (S.failures source.old) (S.failures source.new) }
 {
     let mut cells = others;
@@ -257,6 +266,7 @@ pub(crate) fn read_stack<S: Source>(
     ensures reads { Gives (λ v. v.items) (S.remaining source.old) (S.remaining source.new) result (stack_at (input_at place (S.remaining source.old))) }
     ensures few { IfOk result (λ r. length r.0.items ≤ 65535) }
     ensures beginning { ConsumesBeginning (S.remaining source.old) (S.remaining source.new) }
+    ensures stopped { IfErr result (StopsAtEnd place (S.remaining source.old) (S.remaining source.new) stack_at) }
     ensures failures { CountsRead result (S.failures source.old) (S.failures source.new) }
 {
     let (count, at) = read_word(source, place)?;
@@ -309,6 +319,7 @@ fn take_function_block<S: Source>(
     ensures reads { ReadsBlock result (S.remaining source.old) (S.remaining source.new) functions.old.items functions.new.items place count }
     ensures rises { Rises functions.old.items → OnOk result (Rises functions.new.items) }
     ensures beginning { ConsumesBeginning (S.remaining source.old) (S.remaining source.new) }
+    ensures stopped { IfErr result (StopsAtEnd place (S.remaining source.old) (S.remaining source.new) (list_at function_at functions.old.items count)) }
     ensures failures { CountsRead result (S.failures source.old) (S.failures source.new) }
 {
     let width = FUNCTION * count;
@@ -329,6 +340,7 @@ fn fetch_function_block<S: Source>(
     ensures reads { ReadsBlock result (S.remaining source.old) (S.remaining source.new) functions.old.items functions.new.items place count }
     ensures rises { Rises functions.old.items → OnOk result (Rises functions.new.items) }
     ensures beginning { ConsumesBeginning (S.remaining source.old) (S.remaining source.new) }
+    ensures stopped { IfErr result (StopsAtEnd place (S.remaining source.old) (S.remaining source.new) (list_at function_at functions.old.items count)) }
     ensures failures { CountsRead result (S.failures source.old) (S.failures source.new) }
 {
     let mut bytes = [0u8; FUNCTION * BLOCK];
@@ -359,6 +371,7 @@ fn read_function_block<S: Source>(
     ensures reads { ReadsBlock result (S.remaining source.old) (S.remaining source.new) functions.old.items functions.new.items place count }
     ensures rises { Rises functions.old.items → OnOk result (Rises functions.new.items) }
     ensures beginning { ConsumesBeginning (S.remaining source.old) (S.remaining source.new) }
+    ensures stopped { IfErr result (StopsAtEnd place (S.remaining source.old) (S.remaining source.new) (list_at function_at functions.old.items count)) }
     ensures failures { CountsRead result (S.failures source.old) (S.failures source.new) }
 {
     if FUNCTION * count <= source.ahead().len() {
@@ -377,6 +390,7 @@ fn read_function_list<S: Source>(
     ensures reads { Gives (λ v. v.items) (S.remaining source.old) (S.remaining source.new) result (list_at function_at [] count (input_at place (S.remaining source.old))) }
     ensures rises { IfOk result (λ r. Rises r.0.items) }
     ensures beginning { ConsumesBeginning (S.remaining source.old) (S.remaining source.new) }
+    ensures stopped { IfErr result (StopsAtEnd place (S.remaining source.old) (S.remaining source.new) (list_at function_at [] count)) }
     ensures failures { CountsRead result (S.failures source.old) (S.failures source.new) }
 {
     let mut functions = others;
@@ -435,6 +449,7 @@ fn take_listed<S: Source>(
     ensures reads { Gives (λ f. f.list.items) (S.remaining source.old) (S.remaining source.new) result (list_at function_at [] count (input_at place (S.remaining source.old))) }
     ensures kept { IfOk result (λ r. AreKept r.0.text.items r.0.list.items) }
     ensures beginning { ConsumesBeginning (S.remaining source.old) (S.remaining source.new) }
+    ensures stopped { IfErr result (StopsAtEnd place (S.remaining source.old) (S.remaining source.new) (list_at function_at [] count)) }
     ensures failures { CountsRead result (S.failures source.old) (S.failures source.new) }
 {
     let Functions { mut list, mut text } = others;
@@ -459,6 +474,7 @@ fn read_listed<S: Source>(
     ensures reads { Gives (λ f. f.list.items) (S.remaining source.old) (S.remaining source.new) result (list_at function_at [] count (input_at place (S.remaining source.old))) }
     ensures kept { IfOk result (λ r. AreKept r.0.text.items r.0.list.items) }
     ensures beginning { ConsumesBeginning (S.remaining source.old) (S.remaining source.new) }
+    ensures stopped { IfErr result (StopsAtEnd place (S.remaining source.old) (S.remaining source.new) (list_at function_at [] count)) }
     ensures failures { CountsRead result (S.failures source.old) (S.failures source.new) }
 {
     let width = FUNCTION * usize::from(count);
@@ -486,6 +502,7 @@ pub(crate) fn read_functions<S: Source>(
     ensures reads { Gives (λ f. f.list.items) (S.remaining source.old) (S.remaining source.new) result (functions_at (input_at place (S.remaining source.old))) }
     ensures kept { IfOk result (λ r. AreKept r.0.text.items r.0.list.items) }
     ensures beginning { ConsumesBeginning (S.remaining source.old) (S.remaining source.new) }
+    ensures stopped { IfErr result (StopsAtEnd place (S.remaining source.old) (S.remaining source.new) functions_at) }
     ensures failures { CountsRead result (S.failures source.old) (S.failures source.new) }
 {
     let (count, at) = read_word(source, place)?;
@@ -502,6 +519,7 @@ fn read_stored<S: Source>(
     ensures reads { Gives (λ x. x) (S.remaining source.old) (S.remaining source.new) result (stored_at before.now (input_at place (S.remaining source.old))) }
     ensures above { IfOk result (λ r. is_above (last_of before.now) r.0 ≡ true) }
     ensures beginning { ConsumesBeginning (S.remaining source.old) (S.remaining source.new) }
+    ensures stopped { IfErr result (StopsAtEnd place (S.remaining source.old) (S.remaining source.new) (stored_at before.now)) }
     ensures failures { CountsRead result (S.failures source.old) (S.failures source.new) }
     ensures memory { IfErr result (λ fault. ¬ IsWantOfMemory fault) }
 {
@@ -524,6 +542,7 @@ fn read_storage_list<S: Source>(
     ensures reads { Gives (λ v. v.items) (S.remaining source.old) (S.remaining source.new) result (list_at stored_at [] count (input_at place (S.remaining source.old))) }
     ensures rises { IfOk result (λ r. Rises r.0.items) }
     ensures beginning { ConsumesBeginning (S.remaining source.old) (S.remaining source.new) }
+    ensures stopped { IfErr result (StopsAtEnd place (S.remaining source.old) (S.remaining source.new) (list_at stored_at [] count)) }
     ensures failures { CountsRead result (S.failures source.old) (S.failures source.new) }
 {
     let mut cells = others;
@@ -548,6 +567,7 @@ pub(crate) fn read_storage<S: Source>(
     ensures reads { Gives (λ v. v.items) (S.remaining source.old) (S.remaining source.new) result (storage_at form (input_at place (S.remaining source.old))) }
     ensures rises { IfOk result (λ r. Rises r.0.items) }
     ensures beginning { ConsumesBeginning (S.remaining source.old) (S.remaining source.new) }
+    ensures stopped { IfErr result (StopsAtEnd place (S.remaining source.old) (S.remaining source.new) (storage_at form)) }
     ensures failures { CountsRead result (S.failures source.old) (S.failures source.new) }
 {
     match form {

@@ -1,8 +1,8 @@
 //! Sections read from a source.
 
-ghost use Rattle.std.specs.Prelude.{◌≡◌, ◌++◌, ℕ, List, Some, IfOk, MatchResult};
+ghost use Rattle.std.specs.Prelude.{◌≡◌, ◌++◌, ℕ, List, Some, IfOk, MatchResult, IfErr};
 ghost use Rattle.tt_stream.specs.Reads.{ConsumesBeginning};
-ghost use Rattle.tt_cert_file.specs.Answers.{AreBytes, CountsRead, Gives, GivesSection, IsFormFault, ReadsSection, input_at};
+ghost use Rattle.tt_cert_file.specs.Answers.{AreBytes, CountsRead, Gives, GivesSection, IsFormFault, ReadsSection, input_at, StopsAtEnd};
 ghost use Rattle.tt_cert_file.specs.Reading.{section_at};
 ghost use Rattle.tt_cert_file.specs.Rules.{Fits};
 ghost use Rattle.tt_cert_file.specs.Sections.{Section, section_of};
@@ -28,6 +28,7 @@ fn read_section<S: Source>(
 ) -> Result<((Name, Certificate), u64), DecodeFault>
     ensures reads { Gives (λ x. section_of x.0 x.1) (S.remaining source.old) (S.remaining source.new) result (section_at form (input_at place (S.remaining source.old))) }
     ensures beginning { ConsumesBeginning (S.remaining source.old) (S.remaining source.new) }
+    ensures stopped { IfErr result (StopsAtEnd place (S.remaining source.old) (S.remaining source.new) (section_at form)) }
     ensures failures { CountsRead result (S.failures source.old) (S.failures source.new) }
 {
     let (name, at) = read_name(source, place)?;
@@ -58,6 +59,8 @@ pub fn decode<S: Source>(
     // Which place a fault names.
     ensures exact { GivesSection (S.remaining source.old) (S.remaining source.new) result (section_at form (input_at start (S.remaining source.old))) }
     ensures beginning { ConsumesBeginning (S.remaining source.old) (S.remaining source.new) }
+    // Where a read failed, no unit that was read whole breaks a rule.
+    ensures whole_units { IfErr result (StopsAtEnd start (S.remaining source.old) (S.remaining source.new) (section_at form)) }
     ensures failures { CountsRead result (S.failures source.old) (S.failures source.new) }
 {
     let ((name, certificate), after) = read_section(alloc, source, start, form)?;

@@ -4,7 +4,7 @@ ghost use Rattle.std.specs.Prelude.{◌≡◌, ◌≤◌, [], ◌∷◌, ◌++�
 ghost use Rattle.tt_abs.specs.Entries.{Rises};
 ghost use Rattle.tt_abs.specs.States.{state_order};
 ghost use Rattle.tt_stream.specs.Reads.{ConsumesBeginning};
-ghost use Rattle.tt_cert_file.specs.Answers.{CountsRead, Gives, IsWantOfMemory, input_at};
+ghost use Rattle.tt_cert_file.specs.Answers.{CountsRead, Gives, IsWantOfMemory, input_at, StopsAtEnd};
 ghost use Rattle.tt_cert_file.specs.Blocks.{AreKept};
 ghost use Rattle.tt_cert_file.specs.Readers.{list_at};
 ghost use Rattle.tt_cert_file.specs.Reading.{entry_after, entry_at, place_at, state_at, state_from, states_at};
@@ -104,6 +104,7 @@ fn read_state<S: Source>(
     ensures in_range { IfOk result (λ r. state_order.InRange r.0.0) }
     ensures kept { IfOk result (λ r. AreKept r.0.1.functions.text.items r.0.1.functions.list.items) }
     ensures beginning { ConsumesBeginning (S.remaining source.old) (S.remaining source.new) }
+    ensures stopped { IfErr result (StopsAtEnd place (S.remaining source.old) (S.remaining source.new) (state_at form)) }
     ensures failures { CountsRead result (S.failures source.old) (S.failures source.new) }
 {
     let (stack, at) = read_stack(source, place, others.stack)?;
@@ -141,6 +142,7 @@ fn read_place<S: Source>(
     ensures reads { Gives (λ x. x) (S.remaining source.old) (S.remaining source.new) result (place_at contexts last (input_at place (S.remaining source.old))) }
     ensures follows { IfOk result (λ r. is_next_place_after contexts last r.0 ≡ true) }
     ensures beginning { ConsumesBeginning (S.remaining source.old) (S.remaining source.new) }
+    ensures stopped { IfErr result (StopsAtEnd place (S.remaining source.old) (S.remaining source.new) (place_at contexts last)) }
     ensures failures { CountsRead result (S.failures source.old) (S.failures source.new) }
     ensures memory { IfErr result (λ fault. ¬ IsWantOfMemory fault) }
 {
@@ -168,6 +170,7 @@ fn read_entry<S: Source>(
     ensures in_range { IfOk result (λ r. state_order.InRange r.0.1) }
     ensures kept { IfOk result (λ r. AreKept r.0.2.functions.text.items r.0.2.functions.list.items) }
     ensures beginning { ConsumesBeginning (S.remaining source.old) (S.remaining source.new) }
+    ensures stopped { IfErr result (StopsAtEnd place (S.remaining source.old) (S.remaining source.new) (entry_after form contexts last)) }
     ensures failures { CountsRead result (S.failures source.old) (S.failures source.new) }
 {
     let (point, at) = read_place(source, place, contexts, last)?;
@@ -209,6 +212,7 @@ fn read_state_list<S: Source>(
     ensures reads { Gives (λ b. b.states) (S.remaining source.old) (S.remaining source.new) result (list_at (entry_at form (length builder.contexts)) [] count (input_at place (S.remaining source.old))) }
     ensures contexts { IfOk result (λ r. r.0.contexts ≡ builder.contexts) }
     ensures beginning { ConsumesBeginning (S.remaining source.old) (S.remaining source.new) }
+    ensures stopped { IfErr result (StopsAtEnd place (S.remaining source.old) (S.remaining source.new) (list_at (entry_at form (length builder.contexts)) [] count)) }
     ensures failures { CountsRead result (S.failures source.old) (S.failures source.new) }
 {
     let mut builder = builder;
@@ -241,6 +245,7 @@ pub(crate) fn read_states<S: Source>(
     ensures reads { Gives (λ b. b.states) (S.remaining source.old) (S.remaining source.new) result (states_at form (length builder.contexts) (input_at place (S.remaining source.old))) }
     ensures contexts { IfOk result (λ r. r.0.contexts ≡ builder.contexts) }
     ensures beginning { ConsumesBeginning (S.remaining source.old) (S.remaining source.new) }
+    ensures stopped { IfErr result (StopsAtEnd place (S.remaining source.old) (S.remaining source.new) (states_at form (length builder.contexts))) }
     ensures failures { CountsRead result (S.failures source.old) (S.failures source.new) }
 {
     let (count, at) = read_long(source, place)?;

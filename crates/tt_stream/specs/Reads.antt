@@ -11,6 +11,12 @@ pub record ConsumesBeginning (old new : Option (List ℕ)) : Type 0 where
   pub bytes : List ℕ
   pub consumed : Consumes old new bytes
 
+-- fewer than so many of the known bytes were read
+pub record ConsumesFewer (count : ℕ) (old new : Option (List ℕ)) : Type 0 where
+  pub bytes : List ℕ
+  pub few : length bytes < count
+  pub consumed : Consumes old new bytes
+
 -- the count rises by one exactly where a read failed
 abbrev pub CountsReadFault : {T : Type 0} → Result T ReadFault → ℕ → ℕ → Type 0
 CountsReadFault (Ok bytes) old new = new ≡ old

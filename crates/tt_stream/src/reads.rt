@@ -1,9 +1,9 @@
 //! Reading to the end, and reading a buffer full.
 
-ghost use Rattle.std.specs.Prelude.{◌≡◌, IfOk, OnErr};
+ghost use Rattle.std.specs.Prelude.{◌≡◌, length, IfOk, OnErr};
 ghost use Rattle.std.specs.Io.{ReadsAtMost};
 ghost use Rattle.std.specs.Io.KnownBytes.{Consumes, IsAtEnd};
-ghost use Rattle.tt_stream.specs.Reads.{ConsumesBeginning, CountsReadFault, Fills};
+ghost use Rattle.tt_stream.specs.Reads.{ConsumesBeginning, ConsumesFewer, CountsReadFault, Fills};
 ghost use Rattle.tt_stream.specs.Streams.{CountsFailure};
 
 use crate::{ReadFailed, Source};
@@ -64,12 +64,13 @@ pub fn read_all<R: Source>(alloc: Global, source: &mut R) -> Result<Vec<u8>, Rea
 /// Reads until the buffer is full or the input ends, and answers how many bytes stand at its front.
 ///
 /// # Errors
-/// If a read fails; then some beginning of what is left was read.
+/// If a read fails; then some beginning of what is left was read, of fewer bytes than the buffer has.
 #[tactic(auto, using(crate::proofs::Beginnings::consumes_beginning))]
 pub fn read_full<R: Source>(source: &mut R, buf: &mut [u8]) -> Result<usize, ReadFailed>
     ensures bound { ReadsAtMost result buf.new }
     ensures bytes { IfOk result (λ n. Fills (R.remaining source.old) (R.remaining source.new) n buf.new) }
     ensures beginning { ConsumesBeginning (R.remaining source.old) (R.remaining source.new) }
+    ensures few { OnErr result (ConsumesFewer (length buf.new) (R.remaining source.old) (R.remaining source.new)) }
     ensures failures { CountsFailure result (R.failures source.old) (R.failures source.new) }
 {
     let mut at = 0;

@@ -1,6 +1,4 @@
-use Rattle.std.proofs.Common.{◌≤◌, [], length}
-use Rattle.tt_cert_file.specs.Answers.{input_at}
-use Rattle.tt_cert_file.specs.Readers.{list_at}
+use Rattle.std.proofs.Common.{◌≤◌, length}
 use Rattle.tt_cert_file.specs.Reading.{context_at}
 use Rattle.tt_cert_file.specs.Rules.{AreContexts}
 use Rattle.tt_cert_file.proofs.Loops.{IsReading}
@@ -9,5 +7,5 @@ use Rattle.tt_cert_file.proofs.contexts.read_context_list.Given as goal
 abbrev pub invariant-contexts : goal.invariant-contexts
 invariant-contexts g l =
     IsReading (context_at) (g.S.Source.remaining l.fn.source) (g.S.Source.remaining l.source)
-    (list_at (context_at) [] l.fn.count (input_at l.fn.place (g.S.Source.remaining l.fn.source))) l.contexts.items l.fn.count l.counter l.at
+    l.fn.place l.contexts.items l.fn.count l.counter l.at
     (g.S.Source.failures l.fn.source) (g.S.Source.failures l.source) × ((length l.contexts.items ≤ l.counter) × AreContexts l.contexts.items)

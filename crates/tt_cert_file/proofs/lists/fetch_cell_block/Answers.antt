@@ -3,7 +3,7 @@ use Rattle.std.proofs.lemmas.Result.{err_from_is_err_and}
 use Rattle.tt_stream.proofs.Beginnings.{consumes_then}
 use Rattle.tt_cert_file.specs.Blocks.{AreCellsTaken, TakesCells}
 use Rattle.tt_cert_file.proofs.Blocks.{at_held}
-use Rattle.tt_cert_file.proofs.Cells.{IsWanted, block_end, block_on, block_refused, block_rest, rest_short}
+use Rattle.tt_cert_file.proofs.Cells.{IsWanted, block_end, block_on, block_refused, block_rest, block_stops, cells_stops, rest_short, rest_stopped}
 use Rattle.tt_cert_file.proofs.lists.fetch_cell_block.Goals as goal
 
 pub returns-in_err-more-clause-beginning : goal.returns-in_err-more-clause-beginning
@@ -53,3 +53,22 @@ returns-clause-reads g c =
 
 pub returns-clause-beginning : goal.returns-clause-beginning
 returns-clause-beginning g c = consumes_then _ _ _ c.fill.invariant.beginning c.read_rest_of_cell.ensures.beginning
+
+pub returns-in_err-more-clause-stopped : goal.returns-in_err-more-clause-stopped
+returns-in_err-more-clause-stopped g c =
+    let fit : IsWanted c.args.cells.now.items c.args.count c.min-wanted.result =
+    (omega (arith, c.min-wanted.ensures, c.len.ensures, c.requires), omega (arith, c.min-wanted.ensures, c.len.ensures), omega (arith, c.min-wanted.ensures)) in
+    let p = err_from_is_err_and c.from_residual.result c.from_residual.ensures.1 in
+    rw (p.1, p.2) (block_stops _ _ _ _ c.fill.cells.items _ _ _ _ _ _ _ _ c.fill.invariant fit c.fill-test.true c.in_err-more.ensures.kept)
+
+pub returns-in_err-over-clause-stopped : goal.returns-in_err-over-clause-stopped
+returns-in_err-over-clause-stopped g c =
+    let p = err_from_is_err_and c.from_residual-in_err-over.result c.from_residual-in_err-over.ensures.1 in
+    rw (p.1, p.2) (cells_stops c.in_err-over.field-0.0 _ _ _ _ _ _ _ _ c.in_err-over.ensures)
+
+pub returns-clause-stopped : goal.returns-clause-stopped
+returns-clause-stopped g c =
+    let fit : IsWanted c.args.cells.now.items c.args.count c.min-wanted.result =
+    (omega (arith, c.min-wanted.ensures, c.len.ensures, c.requires), omega (arith, c.min-wanted.ensures, c.len.ensures), omega (arith, c.min-wanted.ensures)) in
+    rest_stopped c.read_rest_of_cell.result _ _ _ _ c.fill.cells.items _ _ _ _ _ _ _ _ _ c.fill.invariant fit (omega (arith, c.if-taken-filled.false, c.fill.invariant.order))
+    refl c.read_rest_of_cell.ensures.few

@@ -2,7 +2,7 @@ use Rattle.std.proofs.Common.{ℕ, List, Err, arith, refl}
 use Rattle.std.proofs.lemmas.Result.{err_from_is_err_and}
 use Rattle.tt_stream.proofs.Beginnings.{consumes_then}
 use Rattle.tt_cert_file.specs.Blocks.{AreTaken, Takes}
-use Rattle.tt_cert_file.proofs.Blocks.{at_held, fill_end, fill_on, fill_refused}
+use Rattle.tt_cert_file.proofs.Blocks.{at_held, fill_end, fill_on, fill_refused, fill_stops, takes_stops}
 use Rattle.tt_cert_file.proofs.lists.fetch_function_block.Goals as goal
 
 pub returns-in_err-more-clause-beginning : goal.returns-in_err-more-clause-beginning
@@ -34,3 +34,13 @@ fill-preserved g c =
           c.read_more.ensures.beginning c.in_ok-more.ensures.failures refl,
       λ rises. c.in_ok-over.ensures.rises (c.fill.invariant.1 rises),
     )
+
+pub returns-in_err-more-clause-stopped : goal.returns-in_err-more-clause-stopped
+returns-in_err-more-clause-stopped g c =
+    let p = err_from_is_err_and c.from_residual.result c.from_residual.ensures.1 in
+    rw (p.1, p.2) (fill_stops _ _ _ _ c.fill.functions.items _ _ _ _ _ _ _ c.fill.invariant.0 c.fill-test.true (omega (arith, c.requires)) c.in_err-more.ensures.kept)
+
+pub returns-in_err-over-clause-stopped : goal.returns-in_err-over-clause-stopped
+returns-in_err-over-clause-stopped g c =
+    let p = err_from_is_err_and c.from_residual-in_err-over.result c.from_residual-in_err-over.ensures.1 in
+    rw (p.1, p.2) (takes_stops c.in_err-over.field-0.0 _ _ _ _ _ _ _ _ c.in_err-over.ensures.takes)

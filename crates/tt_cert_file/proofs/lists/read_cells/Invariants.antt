@@ -1,12 +1,10 @@
-use Rattle.std.proofs.Common.{[], ◌-◌, length}
-use Rattle.tt_cert_file.specs.Answers.{input_at}
-use Rattle.tt_cert_file.specs.Blocks.{cells_at}
+use Rattle.std.proofs.Common.{◌-◌, length}
 use Rattle.tt_cert_file.proofs.Cells.{IsReadingCells}
 use Rattle.tt_cert_file.proofs.lists.read_cells.Given as goal
 
 abbrev pub invariant-blocks-2 : goal.invariant-blocks-2
 invariant-blocks-2 g l =
-    IsReadingCells (g.S.Source.remaining l.fn.source) (g.S.Source.remaining l.source) (cells_at [] l.fn.count (input_at l.fn.place (g.S.Source.remaining l.fn.source)))
+    IsReadingCells (g.S.Source.remaining l.fn.source) (g.S.Source.remaining l.source) l.fn.place
     l.cells.items l.fn.count l.at (g.S.Source.failures l.fn.source) (g.S.Source.failures l.source)
 
 abbrev pub decreases-blocks-2 : goal.decreases-blocks-2

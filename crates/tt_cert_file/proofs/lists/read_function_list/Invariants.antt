@@ -1,7 +1,3 @@
-use Rattle.std.proofs.Common.{[]}
-use Rattle.tt_cert_file.specs.Answers.{input_at}
-use Rattle.tt_cert_file.specs.Readers.{list_at}
-use Rattle.tt_cert_file.specs.Reading.{function_at}
 use Rattle.tt_abs.specs.Entries.{Rises}
 use Rattle.tt_cert_file.proofs.Blocks.{IsReadingBlocks}
 use Rattle.tt_cert_file.proofs.lists.read_function_list.Given as goal
@@ -9,7 +5,7 @@ use Rattle.tt_cert_file.proofs.lists.read_function_list.Given as goal
 abbrev pub invariant-blocks-2 : goal.invariant-blocks-2
 invariant-blocks-2 g l =
     IsReadingBlocks (g.S.Source.remaining l.fn.source) (g.S.Source.remaining l.source)
-    (list_at function_at [] l.fn.count (input_at l.fn.place (g.S.Source.remaining l.fn.source))) l.functions.items l.left l.at
+    l.fn.place l.fn.count l.functions.items l.left l.at
     (g.S.Source.failures l.fn.source) (g.S.Source.failures l.source) × Rises l.functions.items
 
 abbrev pub decreases-blocks-2 : goal.decreases-blocks-2

@@ -1,6 +1,3 @@
-use Rattle.std.proofs.Common.{[]}
-use Rattle.tt_cert_file.specs.Answers.{input_at}
-use Rattle.tt_cert_file.specs.Readers.{list_at}
 use Rattle.tt_cert_file.specs.Reading.{stored_at}
 use Rattle.tt_abs.specs.Entries.{Rises}
 use Rattle.tt_cert_file.proofs.Loops.{IsReading}
@@ -9,5 +6,5 @@ use Rattle.tt_cert_file.proofs.lists.read_storage_list.Given as goal
 abbrev pub invariant-cells : goal.invariant-cells
 invariant-cells g l =
     IsReading (stored_at) (g.S.Source.remaining l.fn.source) (g.S.Source.remaining l.source)
-    (list_at (stored_at) [] l.fn.count (input_at l.fn.place (g.S.Source.remaining l.fn.source))) l.cells.items l.fn.count l.counter l.at
+    l.fn.place l.cells.items l.fn.count l.counter l.at
     (g.S.Source.failures l.fn.source) (g.S.Source.failures l.source) × Rises l.cells.items

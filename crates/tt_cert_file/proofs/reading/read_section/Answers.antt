@@ -1,12 +1,15 @@
-use Rattle.std.proofs.Common.{◌≡◌, Ok, sym, ap, ◌∙◌, length}
+use Rattle.std.proofs.Common.{◌≡◌, ℕ, ◌+◌, Ok, sym, ap, subst, ◌∙◌, length}
 use Rattle.std.proofs.lemmas.Result.{err_from_is_err_and}
 use Rattle.tt_cert.specs.Contents.{Contents}
 use Rattle.tt_cert.specs.Contexts.{frames_of}
-use Rattle.tt_cert_file.specs.Answers.{input_at}
+use Rattle.tt_cert_file.specs.Answers.{StopsAtEnd, input_at}
 use Rattle.tt_cert_file.specs.Readers.{Answer}
 use Rattle.tt_cert_file.specs.Sections.{Section, contexts_in, section_of}
 use Rattle.tt_cert_file.proofs.Listed.{length_built, listed_back, section_fails, section_steps}
 use Rattle.tt_stream.proofs.Beginnings.{consumes_then}
+use Rattle.tt_cert_file.specs.Reading.{contexts_at, fields_at, name_at, section_at, section_from, states_at}
+use Rattle.tt_cert_file.proofs.Stops.{stops_first, stops_made, stops_second}
+use Rattle.tt_cert_file.proofs.SteadyUnits.{after_name, contexts_steady, name_steady}
 use Rattle.tt_cert_file.proofs.reading.read_section.Goals as goal
 
 pub returns-in_err-contexts-clause-beginning : goal.returns-in_err-contexts-clause-beginning
@@ -49,3 +52,26 @@ returns-clause-reads g c = λ known.
     (λ i. record { name = c.in_ok-name.name; contexts = same i; states = (certificate i).states }) in
     let answer : Section → Answer Section = λ s. Ok (s, input_at c.in_ok-builder-2.at (g.S.Source.remaining c.read_states.new.source)) in
     (states.0, whole ∙ ap answer (sym section))
+
+pub returns-in_err-contexts-clause-stopped : goal.returns-in_err-contexts-clause-stopped
+unfolding section_at
+returns-in_err-contexts-clause-stopped g c =
+    let p = err_from_is_err_and c.from_residual-in_err-contexts.result c.from_residual-in_err-contexts.ensures.1 in
+    let e = c.in_err-contexts.field-0.0 in
+    rw (p.1, p.2) (stops_made section_from (fields_at c.args.form) _ _ _ e
+    (stops_second name_at (λ _. after_name c.args.form) _ _ _ _ _ _ e name_steady c.in_ok-name.ensures.reads
+    (stops_first (contexts_at c.args.form) (λ contexts. states_at c.args.form (length contexts + 1)) _ _ _ e c.in_err-contexts.ensures.stopped)))
+
+pub returns-in_err-builder-2-clause-stopped : goal.returns-in_err-builder-2-clause-stopped
+unfolding section_at
+returns-in_err-builder-2-clause-stopped g c =
+    let p = err_from_is_err_and c.from_residual-in_err-builder-2.result c.from_residual-in_err-builder-2.ensures.1 in
+    let e = c.in_err-builder-2.field-0.0 in
+    let contexts = c.in_ok-contexts.contexts.items in
+    let is : c.in_ok-builder.builder.contexts ≡ frames_of contexts = c.in_ok-builder.ensures.contexts ∙ ap frames_of c.deref.ensures.value in
+    let long = length_built contexts c.in_ok-builder.builder.contexts is in
+    rw (p.1, p.2) (stops_made section_from (fields_at c.args.form) _ _ _ e
+    (stops_second name_at (λ _. after_name c.args.form) _ _ _ _ _ _ e name_steady c.in_ok-name.ensures.reads
+    (stops_second (contexts_at c.args.form) (λ contexts. states_at c.args.form (length contexts + 1)) _ _ _ _ _ contexts e (contexts_steady c.args.form) c.in_ok-contexts.ensures.reads
+    (subst (λ (n : ℕ). StopsAtEnd c.in_ok-contexts.at (g.S.Source.remaining c.read_contexts.new.source) (g.S.Source.remaining c.read_states.new.source) (states_at c.args.form n) e) long
+    c.in_err-builder-2.ensures.stopped))))

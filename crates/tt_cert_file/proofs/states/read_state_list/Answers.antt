@@ -1,27 +1,21 @@
-use Rattle.std.proofs.Common.{◌≡◌, ℕ, List, Option, length, sym, ap, subst, ◌∙◌}
+use Rattle.std.proofs.Common.{length, sym, ap, subst, ◌∙◌}
 use Rattle.std.specs.Prelude.{option_map}
 use Rattle.std.proofs.lemmas.Result.{err_from_is_err_and}
 use Rattle.tt_stream.proofs.Beginnings.{consumes_then}
-use Rattle.tt_cert_file.specs.declared.form.Form.{Form}
-use Rattle.tt_cert_file.specs.Answers.{Fails, input_at}
-use Rattle.tt_cert_file.specs.Readers.{Input}
-use Rattle.tt_cert_file.specs.Reading.{entry_after, entry_at}
+use Rattle.tt_cert_file.specs.Answers.{Fails, StopsAtEnd, input_at}
+use Rattle.tt_cert_file.specs.Readers.{Answer, Input}
+use Rattle.tt_cert_file.specs.Reading.{entry_at}
 use Rattle.tt_cert_file.specs.Rules.{last_place}
 use Rattle.tt_cert_file.specs.Sections.{Entry}
-use Rattle.tt_cert_file.proofs.Loops.{reads_all, reads_fail, reads_on}
+use Rattle.tt_cert_file.proofs.Loops.{reads_all, reads_fail, reads_on, reads_stop}
 use Rattle.tt_cert_file.proofs.Rises.{last_pushed}
+use Rattle.tt_cert_file.proofs.SteadyUnits.{entry_same, entry_steady}
 use Rattle.tt_cert_file.proofs.states.read_state_list.Goals as goal
-
-entry_same : (form : Form) (n m : ℕ) (last : Option (ℕ × ℕ)) (before : List Entry) (i : Input) → n ≡ m → last ≡ last_place before
-    → entry_after form n last i ≡ entry_at form m before i
-unfolding entry_at
-entry_same form n m last before i e f = ap (λ (k : ℕ). entry_after form k last i) e ∙ ap (λ (l : Option (ℕ × ℕ)). entry_after form m l i) f
 
 pub returns-in_err-point-clause-reads : goal.returns-in_err-point-clause-reads
 returns-in_err-point-clause-reads g c =
     let p = err_from_is_err_and c.from_residual.result c.from_residual.ensures.1 in
-    let same = entry_same c.args.form c.contexts-contexts.result (length c.args.builder.contexts) c.states.last c.states.builder.states
-    (input_at c.states.at (g.S.Source.remaining c.states.source)) c.contexts-contexts.ensures.value c.states.invariant.2 in
+    let same = ap (λ (read : Input → Answer Entry). read (input_at c.states.at (g.S.Source.remaining c.states.source))) (entry_same c.args.form c.contexts-contexts.result (length c.args.builder.contexts) c.states.last c.states.builder.states c.contexts-contexts.ensures.value c.states.invariant.2) in
     rw (p.1, p.2) (λ known. reads_fail (entry_at c.args.form (length c.args.builder.contexts)) _ _ _ c.states.builder.states c.args.count c.states.counter c.states.at _ _
     c.in_err-point.field-0.0 c.states.invariant.0 c.states-test.true (λ k. subst (Fails c.in_err-point.field-0.0) same (c.in_err-point.ensures.reads k)) known)
 
@@ -33,10 +27,10 @@ returns-in_err-add_state-clause-beginning g c = consumes_then _ _ _ c.states.inv
 
 pub states-preserved : goal.states-preserved
 states-preserved g c =
-    let same = entry_same c.args.form c.contexts-contexts.result (length c.args.builder.contexts) c.states.last c.states.builder.states
-    (input_at c.states.at (g.S.Source.remaining c.states.source)) c.contexts-contexts.ensures.value c.states.invariant.2 in
+    let same = ap (λ (read : Input → Answer Entry). read (input_at c.states.at (g.S.Source.remaining c.states.source))) (entry_same c.args.form c.contexts-contexts.result (length c.args.builder.contexts) c.states.last c.states.builder.states c.contexts-contexts.ensures.value c.states.invariant.2) in
     let entry : Entry = (c.in_ok-point.point, c.in_ok-point.state) in (
       reads_on (entry_at c.args.form (length c.args.builder.contexts)) _ _ _ _ c.states.builder.states _ c.args.count c.states.counter c.states.at c.in_ok-point.after _ _ _ entry
+          (entry_steady c.args.form (length c.args.builder.contexts) c.states.builder.states)
           c.states.invariant.0 c.states-test.true (λ k. let r = c.in_ok-point.ensures.reads k in (r.0, sym same ∙ r.1)) c.read_entry.ensures.beginning c.in_ok-point.ensures.failures
           c.in_ok-add_state.ensures.added,
       c.in_ok-add_state.ensures.contexts ∙ c.states.invariant.1,
@@ -47,3 +41,12 @@ states-preserved g c =
 pub returns-clause-reads : goal.returns-clause-reads
 returns-clause-reads g c =
     reads_all (entry_at c.args.form (length c.args.builder.contexts)) _ _ _ c.states.builder.states c.args.count c.states.counter c.states.at _ _ c.states.invariant.0 c.states-test.false
+
+pub returns-in_err-point-clause-stopped : goal.returns-in_err-point-clause-stopped
+returns-in_err-point-clause-stopped g c =
+    let p = err_from_is_err_and c.from_residual.result c.from_residual.ensures.1 in
+    let one = entry_at c.args.form (length c.args.builder.contexts) in
+    let e = c.in_err-point.field-0.0 in
+    let same = entry_same c.args.form c.contexts-contexts.result (length c.args.builder.contexts) c.states.last c.states.builder.states c.contexts-contexts.ensures.value c.states.invariant.2 in
+    rw (p.1, p.2) (reads_stop one _ _ _ _ c.states.builder.states c.args.count c.states.counter c.states.at _ _ e c.states.invariant.0 c.states-test.true
+    (subst (λ (read : Input → Answer Entry). StopsAtEnd c.states.at (g.S.Source.remaining c.states.source) (g.S.Source.remaining c.read_entry.new.source) read e) same c.in_err-point.ensures.stopped))

@@ -1,7 +1,5 @@
-use Rattle.std.proofs.Common.{◌≡◌, [], length}
-use Rattle.tt_cert_file.specs.Answers.{input_at}
+use Rattle.std.proofs.Common.{◌≡◌, length}
 use Rattle.tt_cert_file.specs.Blocks.{AreKept}
-use Rattle.tt_cert_file.specs.Readers.{list_at}
 use Rattle.tt_cert_file.specs.Reading.{entry_at}
 use Rattle.tt_cert_file.specs.Rules.{last_place}
 use Rattle.tt_cert_file.proofs.Loops.{IsReading}
@@ -10,5 +8,5 @@ use Rattle.tt_cert_file.proofs.states.read_state_list.Given as goal
 abbrev pub invariant-states : goal.invariant-states
 invariant-states g l =
     IsReading (entry_at l.fn.form (length l.fn.builder.contexts)) (g.S.Source.remaining l.fn.source) (g.S.Source.remaining l.source)
-    (list_at (entry_at l.fn.form (length l.fn.builder.contexts)) [] l.fn.count (input_at l.fn.place (g.S.Source.remaining l.fn.source))) l.builder.states l.fn.count l.counter l.at
+    l.fn.place l.builder.states l.fn.count l.counter l.at
     (g.S.Source.failures l.fn.source) (g.S.Source.failures l.source) × (l.builder.contexts ≡ l.fn.builder.contexts) × (l.last ≡ last_place l.builder.states) × AreKept l.lists.functions.text.items l.lists.functions.list.items
