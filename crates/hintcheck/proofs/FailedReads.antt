@@ -1,5 +1,5 @@
 -- Calls of a session look at no byte past what they read, so that what was read before a failed read is refused nowhere but at its end.
-use Rattle.std.proofs.Common.{◌≡◌, ℕ, ◌+◌, Bool, cond, true, false, List, [], ◌∷◌, ◌++◌, length, Option, Some, None, is_some, Result, Ok, Err, refl, sym, ◌∙◌, ap, subst, arith, append_assoc}
+use Rattle.std.proofs.Common.{◌≡◌, ℕ, ◌+◌, Bool, cond, true, false, List, [], ◌∷◌, ◌++◌, length, Option, Some, None, is_some, Result, Ok, Err, refl, sym, ◌∙◌, ap, subst, arith, append_assoc, zero-add}
 use Rattle.std.specs.Prelude.{IfErr, slice_get}
 use Rattle.std.specs.Int.{w16, w32, from_be_bytes}
 use Rattle.std.specs.Io.KnownBytes.{Consumes, Keeps}
@@ -43,7 +43,7 @@ unit_advances n = record { by = λ i u j e m. let t = unit_takes n i u j e in om
 
 done_advances : {A : Type 0} (x : A) → Advances (λ i. Ok (x, i)) 0
 done_advances {A} x = record {
-  by = λ i y j e m. ap (λ (p : A × Input). place_after p.1.place m) (sym (ok_is (x, i) (y, j) e));
+  by = λ i y j e m. ap (λ (p : A × Input). place_after p.1.place m) (sym (ok_is (x, i) (y, j) e)) ∙ ap (place_after i.place) (sym (zero-add m));
 }
 
 refused_advances : {A : Type 0} (place k : ℕ) → Advances {A = A} (λ i. Err place) k
@@ -140,7 +140,7 @@ reads_on_always : (s : Standing) (old : Option (List ℕ)) (form : Form) (from :
 reads_on_always s old form from (where_it_was form1 place is) = record {
   front = [];
   parts = refl;
-  further = λ n. ap (λ (r : Option (Form × ℕ)). place_after (place_so_far r) n) (sym is);
+  further = λ n. ap (λ (r : Option (Form × ℕ)). place_after (place_so_far r) n) (sym is) ∙ ap (place_after (place_so_far s.read)) (sym (zero-add n));
   again = λ rest. where_it_was form place is;
 }
 reads_on_always s old form from (at_header form1 i none header) =

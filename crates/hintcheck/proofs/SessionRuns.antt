@@ -1,5 +1,5 @@
 -- What the calls of a session come to, one after the other.
-use Rattle.std.proofs.Common.{◌≡◌, inl, inr, ℕ, ◌+◌, ◌-◌, ◌<◌, List, [], ◌∷◌, ◌++◌, length, drop, Option, Some, None, Ok, Err, refl, sym, ◌∙◌, ap, subst, arith, append-nil, append_assoc}
+use Rattle.std.proofs.Common.{◌≡◌, inl, inr, ℕ, ◌+◌, ◌-◌, ◌<◌, List, [], ◌∷◌, ◌++◌, length, drop, Option, Some, None, Ok, Err, refl, sym, ◌∙◌, ap, subst, arith, append-nil, append_assoc, zero-add}
 use Rattle.std.specs.Prelude.{slice_get}
 use Rattle.std.specs.Io.KnownBytes.{Consumes}
 use Rattle.std.proofs.KnownBytes.{Consumes-nil, Consumes-trans}
@@ -235,7 +235,7 @@ nothing_checked d bytes s rs is none =
       good = λ e. tt;
       told = λ told. told;
       comes = λ told finding checked. same (bytes_in bytes) finding checked;
-      so_far = λ told. record { front = []; consumed = Consumes-nil bytes; further = λ n. refl; comes = λ rest finding checked. same rest finding checked };
+      so_far = λ told. record { front = []; consumed = Consumes-nil bytes; further = λ n. ap (place_after 0) (sym (zero-add n)); comes = λ rest finding checked. same rest finding checked };
     }))
   where
     same : (of : List ℕ) (finding : Finding) → IsChecked d of finding → IsChecked d of (all_refused [] finding)

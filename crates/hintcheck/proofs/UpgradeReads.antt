@@ -1,5 +1,5 @@
 -- An upgrade looks at no byte past what it reads, so that what was read before a failed read is at fault nowhere but at its end.
-use Rattle.std.proofs.Common.{◌≡◌, ℕ, ◌+◌, ◌<◌, List, [], ◌∷◌, ◌++◌, length, Option, Some, None, Result, Ok, Err, refl, sym, ◌∙◌, ap, subst, arith, append_assoc, append-nil}
+use Rattle.std.proofs.Common.{◌≡◌, ℕ, ◌+◌, ◌<◌, List, [], ◌∷◌, ◌++◌, length, Option, Some, None, Result, Ok, Err, refl, sym, ◌∙◌, ap, subst, arith, append_assoc, append-nil, zero-add}
 use Rattle.std.specs.Io.KnownBytes.{Consumes, Keeps}
 use Rattle.std.proofs.KnownBytes.{Consumes-trans}
 use Rattle.std.proofs.lemmas.List.{length-append}
@@ -32,7 +32,7 @@ record ReadAlways (form : Form) (number : ℕ) (i : Input) (sections : List Sect
   again : (rest : List ℕ) → AreRead form number (here i.place (front ++ rest)) sections (here at.place rest)
 
 read_always : (form : Form) (number : ℕ) (i : Input) (sections : List Section) (at : Input) → AreRead form number i sections at → ReadAlways form number i sections at
-read_always form number i sections at (none n j) = record { front = []; parts = refl; further = λ n. refl; again = λ rest. none number (here i.place rest) }
+read_always form number i sections at (none n j) = record { front = []; parts = refl; further = λ n. ap (place_after i.place) (sym (zero-add n)); again = λ rest. none number (here i.place rest) }
 read_always form number i sections at (one_more n j after end s others next more) =
     let t = (section_steady form).takes i s after next.is_read in
     let r = read_always form (number + 1) after others at more in
