@@ -3,8 +3,9 @@
 
 Usage: bench/contracts.py
 Each clause that the page names is in the sources; each public function with a contract is named in its crate's table, with all of its clauses,
-and what it asks of its caller in the table of that; each row's definitions are those that its clauses cite; and test modules and edits are
-there, and each edit that `rt ci` tries is named. What differs is printed, and the exit status is then 1.
+and what it asks in the table of what callers must ensure; each row's definitions are those that its clauses cite; and test modules and edits are
+there, and each edit that `rt ci` tries is named. The definitions that the headline's phrases name are there too. What differs is printed, and
+the exit status is then 1.
 
 It reads the sources by their layout, as `rt fmt` writes it: an `impl` or a `trait` begins a line, and a clause is `requires` or `ensures`, a
 name or none, and braces. A function is public where `src/lib.rt` names it, its type or its module as public.
@@ -162,7 +163,7 @@ def faults_of_row(crate: str, row: list[str], known: dict[tuple[str, str], Claus
 
 
 def faults_of_section(crate: str, section: str, asked: set[tuple[str, str]]) -> typing.Iterator[str]:
-    """What is wrong in a crate's table, or missing in it and in the table of what callers see to."""
+    """What is wrong in a crate's table, or missing in it and in the table of what callers must ensure."""
     clauses = clauses_of(crate)
     known: dict[tuple[str, str], Clause] = {}
     for clause in clauses:
@@ -183,15 +184,24 @@ def faults_of_section(crate: str, section: str, asked: set[tuple[str, str]]) -> 
             yield f"{crate}: the edit {edit.stem} isn't named"
 
 
+def definitions() -> set[str]:
+    """The definitions of all crates, and their modules."""
+    files = list(TOP.glob("crates/*/specs/*.antt"))
+    names = {name for file in files for name in re.findall(r"^(?:\w+ )?(?:abbrev |unfoldable )?pub (?:record |data )?(\w+)", file.read_text(), re.M)}
+    return names | {file.stem for file in files}
+
+
 def faults() -> typing.Iterator[str]:
     """All that is wrong."""
     sections = dict(re.findall(r"^## ([^\n]+)\n(.*?)(?=^## |\Z)", PAGE.read_text(), re.M | re.S))
     asked: dict[str, set[tuple[str, str]]] = {}
-    for crate, calls, _ in rows_of(sections["What a caller sees to"]):
+    for crate, calls, _ in rows_of(sections["What callers must ensure"]):
         asked.setdefault(crate, set()).update(pairs_in(calls))
     everything = {(clause.function, clause.name) for clause in clauses_of("hintcheck")}
     carry = {pair for row in rows_of(sections["The headline"]) for pair in pairs_in(row[1]) if pair[1]}
     yield from (f"headline: there is no clause {told(pair)}" for pair in sorted(carry - everything))
+    words = {word for row in rows_of(sections["The headline"]) if len(row) == 2 for word in re.findall(r"`([A-Za-z]\w*)`", row[1])}
+    yield from (f"headline: there is no definition {word}" for word in sorted(words - definitions()))
     crates = [name for name in sections if (TOP / "crates" / name / "src/lib.rt").exists()]
     for crate in sorted(path.parent.parent.name for path in TOP.glob("crates/*/src/lib.rt")):
         if crate not in crates and any(clauses_of(crate)):
