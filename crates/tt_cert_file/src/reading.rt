@@ -43,7 +43,8 @@ fn read_section<S: Source>(
 ///
 /// # Errors
 /// `Form` where no section's text begins what is left, with the place of the first byte of what breaks a rule, or of the input's end where that
-/// comes too early; `Read` exactly where a read failed; `OutOfMemory`. Then some beginning of what is left was read.
+/// comes too early; `Read` exactly where a read failed; `OutOfMemory`. Then some beginning of what is left was read, and at `Read` no unit of it
+/// that is whole breaks a rule.
 pub fn decode<S: Source>(
     alloc: Global,
     source: &mut S,
