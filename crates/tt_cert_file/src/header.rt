@@ -4,7 +4,7 @@ ghost use Rattle.std.specs.Prelude.{◌≡◌, ℕ, IfErr, OnErr, OnOk};
 ghost use Rattle.std.specs.Io.KnownBytes.{Appends, IsAtEnd, Keeps};
 ghost use Rattle.tt_stream.specs.Reads.{ConsumesBeginning};
 ghost use Rattle.tt_stream.specs.Streams.{AppendsBeginning};
-ghost use Rattle.tt_cert_file.specs.Answers.{CountsRead, CountsWrite, Gives, GivesHeader, IsMore, IsWantOfMemory, input_at, StopsAtEnd};
+ghost use Rattle.tt_cert_file.specs.Answers.{CountsRead, CountsWrite, Gives, GivesHeader, IsMore, IsWantOfMemory, StopsAtEnd, input_at};
 ghost use Rattle.tt_cert_file.specs.Reading.{form_at, header_at, magic_at};
 ghost use Rattle.tt_cert_file.specs.Text.{header_text};
 

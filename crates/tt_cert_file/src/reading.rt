@@ -1,8 +1,8 @@
 //! Sections read from a source.
 
-ghost use Rattle.std.specs.Prelude.{◌≡◌, ◌++◌, ℕ, List, Some, IfOk, MatchResult, IfErr};
+ghost use Rattle.std.specs.Prelude.{◌≡◌, ◌++◌, ℕ, List, Some, IfErr, IfOk, MatchResult};
 ghost use Rattle.tt_stream.specs.Reads.{ConsumesBeginning};
-ghost use Rattle.tt_cert_file.specs.Answers.{AreBytes, CountsRead, Gives, GivesSection, IsFormFault, ReadsSection, input_at, StopsAtEnd};
+ghost use Rattle.tt_cert_file.specs.Answers.{AreBytes, CountsRead, Gives, GivesSection, IsFormFault, ReadsSection, StopsAtEnd, input_at};
 ghost use Rattle.tt_cert_file.specs.Reading.{section_at};
 ghost use Rattle.tt_cert_file.specs.Rules.{Fits};
 ghost use Rattle.tt_cert_file.specs.Sections.{Section, section_of};
