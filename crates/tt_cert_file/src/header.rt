@@ -4,7 +4,7 @@ ghost use Rattle.std.specs.Prelude.{◌≡◌, ℕ, IfErr, OnErr, OnOk};
 ghost use Rattle.std.specs.Io.KnownBytes.{Appends, IsAtEnd, Keeps};
 ghost use Rattle.tt_stream.specs.Reads.{ConsumesBeginning};
 ghost use Rattle.tt_stream.specs.Streams.{AppendsBeginning};
-ghost use Rattle.tt_cert_file.specs.Answers.{CountsRead, CountsWrite, Gives, GivesHeader, IsMore, IsWantOfMemory, input_at, StopsAtEnd};
+ghost use Rattle.tt_cert_file.specs.Answers.{CountsRead, CountsWrite, Gives, GivesHeader, IsMore, IsWantOfMemory, StopsAtEnd, input_at};
 ghost use Rattle.tt_cert_file.specs.Reading.{form_at, header_at, magic_at};
 ghost use Rattle.tt_cert_file.specs.Text.{header_text};
 
@@ -67,7 +67,7 @@ fn read_header_at<S: Source>(source: &mut S, place: u64) -> Result<((Form, u32),
 ///
 /// # Errors
 /// `Form` with the place of the field that is wrong, or of the input's end where that comes too early; `Read` exactly where a read failed. Then
-/// some beginning of what is left was read.
+/// some beginning of what is left was read, and at `Read` no field of it that is whole is wrong.
 pub fn read_header<S: Source>(source: &mut S) -> Result<(Form, u32), DecodeFault>
     ensures exact { GivesHeader (S.remaining source.old) (S.remaining source.new) result (header_at (input_at 0 (S.remaining source.old))) }
     ensures beginning { ConsumesBeginning (S.remaining source.old) (S.remaining source.new) }
@@ -83,7 +83,7 @@ pub fn read_header<S: Source>(source: &mut S) -> Result<(Form, u32), DecodeFault
 /// Sees that nothing follows at a place: the end of a certificate file.
 ///
 /// # Errors
-/// `Form` with the place of the first byte that follows; `Read` exactly where a read failed.
+/// `Form` with the place of the first byte that follows; `Read` exactly where a read failed, and then nothing was read.
 pub fn read_end<S: Source>(source: &mut S, place: u64) -> Result<(), DecodeFault>
     ensures ended { OnOk result (IsAtEnd (S.remaining source.old) × IsAtEnd (S.remaining source.new)) }
     ensures followed { IfErr result (λ fault. (p : ℕ) → fault ≡ DecodeFault.Form p → (p ≡ place) × IsMore (S.remaining source.old)) }

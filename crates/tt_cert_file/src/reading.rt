@@ -1,8 +1,8 @@
 //! Sections read from a source.
 
-ghost use Rattle.std.specs.Prelude.{◌≡◌, ◌++◌, ℕ, List, Some, IfOk, MatchResult, IfErr};
+ghost use Rattle.std.specs.Prelude.{◌≡◌, ◌++◌, ℕ, List, Some, IfErr, IfOk, MatchResult};
 ghost use Rattle.tt_stream.specs.Reads.{ConsumesBeginning};
-ghost use Rattle.tt_cert_file.specs.Answers.{AreBytes, CountsRead, Gives, GivesSection, IsFormFault, ReadsSection, input_at, StopsAtEnd};
+ghost use Rattle.tt_cert_file.specs.Answers.{AreBytes, CountsRead, Gives, GivesSection, IsFormFault, ReadsSection, StopsAtEnd, input_at};
 ghost use Rattle.tt_cert_file.specs.Reading.{section_at};
 ghost use Rattle.tt_cert_file.specs.Rules.{Fits};
 ghost use Rattle.tt_cert_file.specs.Sections.{Section, section_of};
@@ -43,7 +43,8 @@ fn read_section<S: Source>(
 ///
 /// # Errors
 /// `Form` where no section's text begins what is left, with the place of the first byte of what breaks a rule, or of the input's end where that
-/// comes too early; `Read` exactly where a read failed; `OutOfMemory`. Then some beginning of what is left was read.
+/// comes too early; `Read` exactly where a read failed; `OutOfMemory`. Then some beginning of what is left was read, and at `Read` no unit of it
+/// that is whole breaks a rule.
 pub fn decode<S: Source>(
     alloc: Global,
     source: &mut S,
