@@ -4,6 +4,7 @@ use Rattle.std.specs.Io.KnownBytes.{Appends}
 use Rattle.hintcheck_words.specs.Requests.{Request, bare, check, find, list, meaning, upgrade, verdict}
 use Rattle.hintcheck.specs.Listing.{HoldListedProgram, HoldToldProgram}
 use Rattle.hintcheck.specs.Texts.{upgraded_line, verdict_text}
+use Rattle.hintcheck.specs.Upgrades.{IsNumberOfPrograms}
 use Rattle.hintcheck.specs.Verdicts.{Judgement}
 
 -- The lines of a verdict were written, where the written bytes are known: of one that refuses no program where the status is 0, and of one that
@@ -21,9 +22,9 @@ pub record PrintsListing (word : List ℕ) (status : ℕ) (old new : Option (Lis
   pub listed : status ≡ 0 → HoldListedProgram bytes word old new
   pub told : status ≡ 1 → HoldToldProgram bytes word old new
 
--- the line of an upgrade was written
+-- the line of an upgrade was written, whose certificate has a section for each program that a font may have
 abbrev pub PrintsUpgrade : Option (List ℕ) → Option (List ℕ) → Type 0
-PrintsUpgrade old new = (count : ℕ) × Appends old new (upgraded_line count)
+PrintsUpgrade old new = (count : ℕ) × IsNumberOfPrograms count × Appends old new (upgraded_line count)
 
 -- What was asked for is answered in these lines.
 abbrev pub Prints : Request → ℕ → Option (List ℕ) → Option (List ℕ) → Type 0
