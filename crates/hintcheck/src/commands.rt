@@ -1,7 +1,7 @@
 //! What the words of a command line ask for, done: a verdict or a fault in lines for the user, and
 //! the exit status.
 
-ghost use Rattle.std.specs.Prelude.{◌≡◌, ◌≢◌, ◌↔◌, ◌+◌, ◌≤◌, ◌<◌, ◌⊎◌, ℕ, IfErr, IfOk, IfSome, IsTrue, List, None, Err, Ok, OnOk, [], map, option_map, string_bytes, true, unwrap_or};
+ghost use Rattle.std.specs.Prelude.{◌≡◌, ◌≢◌, ◌↔◌, ◌+◌, ◌≤◌, ◌<◌, ◌⊎◌, ℕ, IfErr, IfOk, IfSome, IsTrue, List, None, Err, Ok, OnOk, [], length, map, option_map, string_bytes, true, unwrap_or};
 ghost use Rattle.std.specs.Io.Buffered.{writer_contents};
 ghost use Rattle.std.specs.Io.KnownBytes.{Appends, Keeps};
 ghost use Rattle.tt_stream.specs.Streams.{CountsPrintFailure};
@@ -12,7 +12,7 @@ ghost use Rattle.hintcheck.specs.Commands.{AtForm, HasAll, IsForVerdict, IsNoWri
 ghost use Rattle.hintcheck.specs.CommandFaults.{HasNoFault, IsFaultOfCertifying, IsFaultOfChecking, IsFaultOfFileListing, IsFaultOfFinding, IsFaultOfFontFile, IsFaultOfGlyph, IsFaultOfPrinting, IsFaultOfReading, IsFaultOfRequest, IsFaultOfRewriting, IsFaultOfSource, IsFaultOfTask, IsFaultOfUpgrading, IsFaultOfWords, MeansNoFault, ReadNoFault, SpellNoFault, TellsFault};
 ghost use Rattle.hintcheck.specs.FontPrograms.{IsFontInRange, IsSafeFont, IsVerdict};
 ghost use Rattle.hintcheck.specs.Listing.{HoldUnlistedProgram};
-ghost use Rattle.hintcheck.specs.MeansSafe.{HoldFont, HoldRefusedFont, HoldSafeFont, IsRefusedRequest, IsSafeRequest, IsVerdictOn, MeansRefused, MeansSafe, SpellRefusedGlyph, SpellSafeGlyph};
+ghost use Rattle.hintcheck.specs.MeansSafe.{HoldFont, HoldRefusedFont, HoldSafeFont, IsCheckOn, IsRefusedRequest, IsSafeRequest, IsVerdictAsked, IsVerdictOn, MeansRefused, MeansSafe, SpellRefusedGlyph, SpellSafeGlyph, SpellVerdict};
 ghost use Rattle.hintcheck.specs.Printed.{MeansPrinted, Prints, PrintsListing, PrintsUpgrade};
 ghost use Rattle.hintcheck.specs.Texts.{end_line, verdict_text};
 ghost use Rattle.hintcheck.specs.Upgrades.{IsNumberOfPrograms, IsUpgradeOf, UpgradesTo};
@@ -84,6 +84,7 @@ fn bare_verdict(
 ) -> Result<Verdict, CommandFault>
     ensures safe { IfOk result (λ verdict. verdict.refused ≡ [] → SpellSafeGlyph maxp.now cvt points contours program.now) }
     ensures refused { IfOk result (λ verdict. verdict.refused ≢ [] → SpellRefusedGlyph maxp.now cvt points contours program.now) }
+    ensures given { IfOk result (SpellVerdict maxp.now cvt points contours program.now) }
     ensures fault { IfErr result IsNoWriteFault }
     ensures faults { IfErr result (IsFaultOfGlyph maxp.now program.now) }
     ensures none { OnOk result (SpellNoFault maxp.now program.now) }
@@ -124,6 +125,7 @@ fn verdict_on_bytes<L: Ledger, F: Read + Drop>(
     requires { (blank.name ≡ L.name) × (blank.parts ≡ L.parts) × (0 < blank.parts) }
     ensures safe { IfOk result (λ verdict. verdict.refused ≡ [] → (bytes : List ℕ) × HasAll (F.remaining file) bytes × HoldSafeFont bytes) }
     ensures refused { IfOk result (λ verdict. verdict.refused ≢ [] → (bytes : List ℕ) × HasAll (F.remaining file) bytes × HoldRefusedFont bytes) }
+    ensures given { IfOk result (λ verdict. (bytes : List ℕ) × HasAll (F.remaining file) bytes × IsVerdictOn bytes verdict) }
     ensures fault { IfErr result IsNoWriteFault }
     ensures faults { IfErr result IsFaultOfFontFile }
 {
@@ -135,6 +137,7 @@ fn verdict_on_bytes<L: Ledger, F: Read + Drop>(
 fn file_verdict<R: Files + AllocGlobal>(rt: &R, name: &str) -> Result<Verdict, CommandFault>
     ensures safe { IfOk result (λ verdict. verdict.refused ≡ [] → (bytes : List ℕ) × HoldSafeFont bytes) }
     ensures refused { IfOk result (λ verdict. verdict.refused ≢ [] → (bytes : List ℕ) × HoldRefusedFont bytes) }
+    ensures given { IfOk result (λ verdict. (bytes : List ℕ) × IsVerdictOn bytes verdict) }
     ensures fault { IfErr result IsNoWriteFault }
     ensures faults { IfErr result IsFaultOfFontFile }
 {
@@ -180,6 +183,7 @@ fn verdict_by_file<L: Ledger, F: Read + Drop>(
     requires range { IsFontInRange font.now }
     requires blank { (blank.name ≡ L.name) × (blank.parts ≡ L.parts) × (0 < blank.parts) }
     ensures safe { IfOk result (λ verdict. verdict.refused ≡ [] → IsSafeFont font.now) }
+    ensures programs { IfOk result (λ verdict. verdict.programs ≡ length font.now.glyphs + 2) }
     ensures checked { IfOk result (λ verdict. IfSome (F.remaining file) (λ bytes. IsChecked font.now bytes (Ok verdict.refused))) }
     ensures form { IfErr result (λ fault. AtForm fault (λ place. IfSome (F.remaining file) (λ bytes. IsChecked font.now bytes (Err place)))) }
     ensures fault { IfErr result IsNoWriteFault }
@@ -199,6 +203,7 @@ fn check_verdict<R: Files + AllocGlobal>(
 ) -> Result<Verdict, CommandFault>
     ensures safe { IfOk result (λ verdict. verdict.refused ≡ [] → (bytes : List ℕ) × HoldSafeFont bytes) }
     ensures font { IfOk result (λ verdict. (bytes : List ℕ) × HoldFont bytes) }
+    ensures given { IfOk result (λ verdict. (bytes : List ℕ) × IsCheckOn bytes verdict) }
     ensures fault { IfErr result IsNoWriteFault }
     ensures faults { IfErr result IsFaultOfChecking }
 {
@@ -286,6 +291,7 @@ fn find_verdict<R: Files + AllocGlobal>(
 ) -> Result<Verdict, CommandFault>
     ensures safe { IfOk result (λ verdict. verdict.refused ≡ [] → (bytes : List ℕ) × HoldSafeFont bytes) }
     ensures refused { IfOk result (λ verdict. verdict.refused ≢ [] → (bytes : List ℕ) × HoldRefusedFont bytes) }
+    ensures given { IfOk result (λ verdict. (bytes : List ℕ) × IsVerdictOn bytes verdict) }
     ensures fault { IfErr result IsNoWriteFault }
     ensures faults { IfErr result (IsFaultOfFinding font.now certificate.now) }
     ensures none { OnOk result (font.now ≢ certificate.now) }
@@ -407,6 +413,7 @@ fn word_or_empty(word: &Option<String>) -> &str
 /// The verdict that the task asks for.
 fn verdict_on<R: Files + AllocGlobal>(rt: &R, task: &Task) -> Result<Verdict, CommandFault>
     requires { IsForVerdict (asked task.now) }
+    ensures given { IfOk result (IsVerdictAsked (asked task.now)) }
     ensures safe { IfOk result (λ verdict. verdict.refused ≡ [] → IsSafeRequest (asked task.now)) }
     ensures refused { IfOk result (λ verdict. verdict.refused ≢ [] → IsRefusedRequest (asked task.now)) }
     ensures fault { IfErr result IsNoWriteFault }
