@@ -377,7 +377,11 @@ fn upgrade_named<R: Files + AllocGlobal>(rt: &R, old: &str, new: &str) -> Result
         return Err(CommandFault::File);
     };
     let (count, _new) = upgrade_file::<Brand, Brand, _, _>(
-        rt.alloc(), old, new, Blank::new(1), Blank::new(1),
+        rt.alloc(),
+        old,
+        new,
+        Blank::new(1),
+        Blank::new(1),
     )?;
     Ok(count)
 }

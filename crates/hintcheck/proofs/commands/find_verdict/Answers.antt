@@ -7,12 +7,14 @@ verdict_to_file-requires-clause-blank g c = (refl, refl, omega (arith, c.new.ens
 
 pub returns-clause-safe : goal.returns-clause-safe
 returns-clause-safe g c = λ is_none.
-    let d = c.in_ok-font.font in
-    (c.deref.result.now, record {
-      font = d;
-      reads = c.in_ok-font.ensures.reads;
-      safe = font_is_safe d c.in_ok-font.ensures.range c.in_ok-verdict.verdict c.in_ok-verdict.ensures.exact is_none;
-    })
+    let d = c.in_ok-font.font in (
+      c.deref.result.now,
+      record {
+        font = d;
+        reads = c.in_ok-font.ensures.reads;
+        safe = font_is_safe d c.in_ok-font.ensures.range c.in_ok-verdict.verdict c.in_ok-verdict.ensures.exact is_none;
+      },
+    )
 
 pub returns-clause-given : goal.returns-clause-given
 returns-clause-given g c =
