@@ -1,6 +1,6 @@
 //! The check of a font by its certificate: each program by the family that its section lists.
 
-ghost use Rattle.std.specs.Prelude.{◌≡◌, ℕ, ◌<◌, ◌^◌, List, [], IfErr, IfOk, Ok, Err, OnOk, length};
+ghost use Rattle.std.specs.Prelude.{◌≡◌, ℕ, ◌+◌, ◌<◌, ◌^◌, List, [], IfErr, IfOk, Ok, Err, OnOk, length};
 ghost use Rattle.tt_code.specs.Cut.{Instruction};
 ghost use Rattle.tt_abs.specs.Entries.{Rises};
 ghost use Rattle.tt_abs.specs.Settings.{setting_of};
@@ -265,6 +265,7 @@ pub(crate) fn check_read_font<S: Source>(
 ) -> Result<Verdict, CheckFontFault>
     requires { IsFontInRange font.now }
     ensures safe { IfOk result (λ v. v.refused ≡ [] → IsSafeFont font.now) }
+    ensures programs { IfOk result (λ v. v.programs ≡ length font.now.glyphs + 2) }
     ensures exact { IsTold (S.remaining source.old) → Finds result (AnswersFinding font.now (bytes_in (S.remaining source.old)))
         (λ place. IsChecked font.now (bytes_in (S.remaining source.old)) (Err place)) }
     ensures beginning { ConsumesBeginning (S.remaining source.old) (S.remaining source.new) }

@@ -113,6 +113,8 @@ fn checked(
 ) -> Result<Found, ProgramFault>
     requires { Rises setting.now.start.now }
     ensures same { IfOk result (λ accepted. accepted ≡ found) }
+    // The check accepts it: no promise of the finder's says this here.
+    ensures good { OnOk result (HasGoodFilling (setting_of setting.now) setting.now.start.now (family_of found.certificate)) }
     ensures exact { HasGoodFilling (setting_of setting.now) setting.now.start.now (family_of found.certificate) → IfErr result IsWantOfMemory }
 {
     match check(alloc, setting, &found.certificate) {

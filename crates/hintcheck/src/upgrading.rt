@@ -9,7 +9,7 @@ ghost use Rattle.hintcheck.specs.Certificates.{HasNoSection, IsChecked};
 ghost use Rattle.hintcheck.specs.CertificateTexts.{WritesBeginning, WritesText};
 ghost use Rattle.hintcheck.specs.CheckedFonts.{IsTold, bytes_in};
 ghost use Rattle.hintcheck.specs.FailedReads.{HasReadOld, IsUnbrokenOld};
-ghost use Rattle.hintcheck.specs.Upgrades.{AreBegun, AreUpgraded, IsUpgradeBegunOf, IsUpgradeOf, LackSection, UpgradesTo, name_at};
+ghost use Rattle.hintcheck.specs.Upgrades.{AreBegun, AreUpgraded, IsNumberOfPrograms, IsUpgradeBegunOf, IsUpgradeOf, LackSection, UpgradesTo, name_at};
 ghost use Rattle.hintcheck.specs.UpgradeFaults.{ComesTo, CountsReads, CountsWrites};
 
 use crate::report::Name;
@@ -150,6 +150,8 @@ pub fn upgrade<S: Source, W: Sink>(
     // How many sections the bytes have, where the source tells them, or the place at which they are no certificate.
     ensures exact { IsTold (S.remaining source.old) → ComesTo result
         (λ count. UpgradesTo (bytes_in (S.remaining source.old)) (Ok count)) (λ place. UpgradesTo (bytes_in (S.remaining source.old)) (Err place)) }
+    // So many programs a font may have, whatever the source tells.
+    ensures number { IfOk result IsNumberOfPrograms }
     // What is appended is the certificate of form 4 with the sections that were read.
     ensures written { IsTold (S.remaining source.old)
         → IfOk result (λ _. WritesText (W.contents sink.old) (W.contents sink.new) (IsUpgradeOf (bytes_in (S.remaining source.old)))) }
