@@ -26,12 +26,12 @@ ones : {K X : Type 0} (es : List (K × X)) → sum_by (λ (x : X). 1) (values_of
 ones [] = refl
 ones {K} {X} (e ∷ es) = let ih = ones es in let more = sum_by-cons (λ (x : X). 1) e.1 (values_of es) in omega arith
 
--- a key behind others is above each
+-- a key after others is above each
 behind : {S : Type 0} (k : ℕ × ℕ) (done rest : List ((ℕ × ℕ) × S)) (x : (ℕ × ℕ) × S) → AllByRecursion (λ y. place_cmp k y ≡ Less) (keys_of (done ++ x ∷ rest)) → place_cmp k x.0 ≡ Less
 behind k [] rest x all = all.0
 behind k (d ∷ done) rest x all = behind k done rest x all.1
 
--- where places rise no state before stands at the place
+-- where places ascend no state before is at the place
 none_before : {S : Type 0} (done rest : List ((ℕ × ℕ) × S)) (x : (ℕ × ℕ) × S) → IsStrictlySortedBy place_cmp (keys_of (done ++ x ∷ rest)) → states_of done x.0 ≡ None
 none_before [] rest x rises = refl
 none_before {S} (d ∷ done) rest x rises =
@@ -39,7 +39,7 @@ none_before {S} (d ∷ done) rest x rises =
     let apart = ap is_eq (place_total.antisymm x.0 d.0 ∙ ap ordering_reverse below) in
     lookup_tail (is_at (place_cmp x.0)) d done apart ∙ none_before done rest x (sorted_tail place_cmp d.0 (keys_of (done ++ x ∷ rest)) rises)
 
--- where the state that comes next is to stand there is none
+-- where the state that comes next is to be there is none
 pub next_free : (old new : Contents) (numbers : List ℕ) (spare : List (ℕ × ℕ)) (place : ℕ × ℕ) (s : State) (n : ℕ) → has_point spare place ≡ false → IsFamily old → AreMoved old.contexts new.contexts numbers → IsFoundAll old
     → IsStrictlySortedBy place_cmp (keys_of old.states) → slice_get numbers place.0 ≡ Some n
     → (rest rest' : List ((ℕ × ℕ) × State)) → HasSoFar old new spare rest → rest ≡ (place, s) ∷ rest' → family_of new (place_of new n place.1) ≡ None
@@ -54,7 +54,7 @@ next_free old new numbers spare place s n listed family moved all rises known re
     same (place_of new n place.1) ∙ ap (λ k. cond (has_point spare (k, place.1)) None (states_of done (k, place.1))) number_is ∙ ap (λ b. cond b None (states_of done place)) listed
     ∙ none_before done rest' (place, s) (subst R split_here rises)
 
--- one more state stands there
+-- one more state is there
 pub amount_step : (old new new' : Contents) (place : List Frame × ℕ) (s : State) (changed : Bool) → family_of new place ≡ None
     → PutsAt state_order (family_of new) (family_of new') place s changed → Reweighs new new' place
     → (rest rest' : List ((ℕ × ℕ) × State)) (x : (ℕ × ℕ) × State) → rest ≡ x ∷ rest' → points_of new + length rest ≡ points_of old → points_of new' + length rest' ≡ points_of old

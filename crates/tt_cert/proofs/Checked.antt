@@ -1,4 +1,4 @@
--- What the check of one point says.
+-- What the check of one point tells.
 use Rattle.std.specs.Prelude.{◌≡◌, ◌↔◌, ℕ, ◌+◌, ◌<◌, Option, Some, None, List, [], ◌∷◌, true, false, IsTrue, Result, Ok, Err, IfOk, IfErr, length, map, reverse, slice_get, zero, suc}
 use Rattle.std.specs.Borrow.{Bor}
 use Rattle.std.proofs.Common.{refl, sym, ◌∙◌, ap, subst, arith, inl, inr}
@@ -186,7 +186,7 @@ module _ (s : Setting) (family : Place → Option State) (L : Place → Type 0) 
   pub stores_here : (fault : ProgramFault) → fault ≡ Refused (spot_of p.0) (told_offset p.1) Storage → (IsStoredWithin s a → ⊥) → Names (BreaksAt s family L p a) fault
   stores_here fault e above = let N : ProgramFault → Type 0 = λ x. Names (BreaksAt s family L p a) x in subst N (sym e) (p, refl, refl, stores above)
 
-  -- at the end storage indexes alone are looked at
+  -- at the end only storage indexes are checked
   pub passed_at_end : (carried : Option ℕ) (t : State) → carried ≡ None → IsStoredWithin s a → is_main_end s p.0 p.1 ≡ true → IsPassed s family L p a carried t
   passed_at_end carried t none stored ends = record {
     sound = record {

@@ -35,7 +35,7 @@ end_functions_hold s functions family Starts safe starts end at left l =
     let D : List (ℕ × ℕ) → Type 0 = λ fs. CoversFunctions end.functions fs in
     subst D l.left (subst C e covers.functions)
 
--- so it is with a good family
+-- the same for a good family
 pub defined_at_end : (family : Place → Option State) (length : ℕ) (functions : List (ℕ × ℕ)) (end : State) → family ([], length) ≡ Some end → functions ≡ end.functions
     → AreDefinedAtEnd family length functions
 defined_at_end family length functions end at listed s start setting short rises good long left leaves =

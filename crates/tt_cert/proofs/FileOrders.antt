@@ -132,7 +132,7 @@ module _ (entries : List (ℕ × Frame)) (index : BTreeMap Key ℕ) (states : Li
   listed_at : (k : Key) (n : ℕ) → (a : ℕ) × (slice_get queue.found a ≡ Some (k, n)) → (b : ℕ) × (slice_get order b ≡ Some n)
   listed_at k n (a, at) = (suc a, number_at a (k, n) at)
 
-  -- where the children of all were looked for each context was found
+  -- where the children of all were searched each context was found
   all_found : length order ≤ i → (most n : ℕ) → n < most → n < length v.contexts → (a : ℕ) × (slice_get order a ≡ Some n)
   all_found done zero n lt there = absurd (omega arith)
   all_found done (suc most) zero lt there = (0, first)

@@ -1,4 +1,4 @@
--- What the check of a whole family, and of one that leaves states out, says.
+-- What the check of a whole family tells, and that of one that leaves states out.
 use Rattle.std.specs.Prelude.{◌≡◌, ℕ, Bool, true, false, Option, Some, List, []}
 use Rattle.std.proofs.Common.{sym, ◌∙◌, ap, inl, inr}
 use Rattle.tt_code.specs.Settings.{Setting}
@@ -54,7 +54,7 @@ module _ (s : Setting) (functions : List (ℕ × ℕ)) (v : Contents) (IsFirst :
     only_memory (Refused spot offset r) (q, e, f, h) = not_broken q r h
     only_memory (OutOfMemory e) h = tt
 
--- what is broken by the one is by the other
+-- what is broken for the one is broken for the other
 broken_map : (s : Setting) (functions : List (ℕ × ℕ)) (v : Contents) (A B : Place → Reason → Type 0) → ((q : Place) (r : Reason) → A q r → B q r) → (fault : ProgramFault)
     → Names (IsBrokenBy s functions v A) fault → Names (IsBrokenBy s functions v B) fault
 broken_map s functions v A B f (Refused spot offset r) (q, e, g, h) = (q, e, g, go q r h)

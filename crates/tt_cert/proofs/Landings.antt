@@ -19,7 +19,7 @@ state_there v p n o family lt frames offset =
     let number : number_of v.contexts p.0 ≡ n = number_of-is v.contexts p.0 n family.distinct lt frames in
     λ i. states_of v.states (sym number i, offset i)
 
--- at an offset of more than 32 bits there is no state in a context whose states stand below
+-- at an offset of more than 32 bits there is no state in a context whose states are below that
 pub no_state_above : (v : Contents) (p : Place) (n from : ℕ) → IsFamily v → from < length v.contexts → AreToldBefore v from → n < from → frames_at v.contexts n ≡ p.0
     → 2 ^ 32 ≤ p.1 → family_of v p ≡ None
 no_state_above v p n from family lt told before frames above = sym (state_there v p n p.1 family (omega arith) frames refl) ∙ go (states_of v.states (n, p.1)) refl

@@ -19,11 +19,11 @@ use Rattle.tt_cert.specs.Rising.{AreMoved, SameContents, SameWithout, family_wit
 use Rattle.tt_cert.proofs.Puts.{cases_place, places_apart}
 use Rattle.tt_cert.proofs.Putting.{place_total}
 
--- the state at a key, but for the spare ones
+-- the state at a key, except for the spare ones
 abbrev listed_at : List (ℕ × ℕ) → List ((ℕ × ℕ) × State) → ℕ × ℕ → Option State
 listed_at spare states key = cond (has_point spare key) None (states_of states key)
 
--- the new contents hold the states that came before the rest of the old ones, but for the spare ones
+-- the new contents hold the states that came before the rest of the old ones, except for the spare ones
 abbrev pub HasSoFar : Contents → Contents → List (ℕ × ℕ) → List ((ℕ × ℕ) × State) → Type 0
 HasSoFar old new spare rest =
     (done : List ((ℕ × ℕ) × State)) × (old.states ≡ done ++ rest)
@@ -66,7 +66,7 @@ module _ {K X : Type 0} (test : K → Bool) where
   lookup_apart [] k v apart = ap (λ b. cond b (Some v) None) apart
   lookup_apart (e ∷ es) k v apart = ap (λ x. cond (test e.0) (Some e.1) x) (lookup_apart es k v apart)
 
--- each state of the old contents stands at its place
+-- each state of the old contents is at its place
 abbrev pub IsFoundAll : Contents → Type 0
 IsFoundAll old = All (λ (e : (ℕ × ℕ) × State). states_of old.states e.0 ≡ Some e.1) old.states
 
@@ -79,7 +79,7 @@ entry_found old done rest x split all =
     let F : (ℕ × ℕ) × State → Type 0 = λ y. states_of old.states y.0 ≡ Some y.1 in
     subst F at (all (length done) x (omega arith))
 
--- a state that is joined with itself stays
+-- a state that is joined with itself stays the same
 put_same : (slot slot' : Option State) (s : State) (changed : Bool) → PutGives state_order slot s slot' changed → state_order.InRange s
     → ((t : State) → slot ≡ Some t → t ≡ s) → slot' ≡ Some s
 put_same None None s changed put ranged before = absurd put
@@ -158,7 +158,7 @@ module _ (old new new' : Contents) (numbers : List ℕ) (spare : List (ℕ × �
         ],
   )
 
--- what the entry that comes next says of itself
+-- what the entry that comes next tells of itself
 pub next_found : (old new : Contents) (spare : List (ℕ × ℕ)) (rest rest' : List ((ℕ × ℕ) × State)) (x : (ℕ × ℕ) × State) → HasSoFar old new spare rest → rest ≡ x ∷ rest'
     → IsFoundAll old → states_of old.states x.0 ≡ Some x.1
 next_found old new spare rest rest' x so_far rest_is all =

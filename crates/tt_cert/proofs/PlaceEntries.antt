@@ -1,4 +1,4 @@
--- Lists of points by place: what a point that is put in makes of one, and when two are the same.
+-- Lists of points by place: what putting a point in makes of one, and when two are the same.
 use Rattle.std.specs.Prelude.{◌≡◌, ℕ, ◌+◌, Bool, true, false, cond, T, ◌&&◌, Option, Some, None, List, [], ◌∷◌, length}
 use Rattle.std.specs.declared.cmp.Ordering.{Ordering}
 use Rattle.std.specs.declared.cmp.Ordering.TheVariants.{Less, Equal, Greater}
@@ -16,7 +16,7 @@ use Rattle.tt_cert.specs.Places.{place_cmp, states_of}
 use Rattle.tt_cert.specs.PlaceRows.{Point, merged}
 use Rattle.tt_cert.proofs.Putting.{place_total}
 
--- places that rise, by the library's test
+-- places that ascend, by the library's test
 
 both : (a b : Bool) → T a → T b → T (a && b)
 both true b p q = q
@@ -74,7 +74,7 @@ found_is_find (e ∷ es) p = ap (cond (is_at (place_cmp p) e.0) (Some e.1)) (fou
 pub place_exact : (p q : ℕ × ℕ) → place_cmp p q ≡ Equal → p ≡ q
 place_exact p q tied = exact_pairs nat_cmp nat_cmp exact_unsigned exact_unsigned p q tied
 
--- lists by points that rise are the same if they have the same at each place
+-- lists by points that ascend are the same if they have the same at each place
 pub same_points : {X : Type 0} (es fs : List ((ℕ × ℕ) × X)) → IsStrictlySortedBy place_cmp (keys_of es) → IsStrictlySortedBy place_cmp (keys_of fs)
     → ((p : ℕ × ℕ) → states_of es p ≡ states_of fs p) → es ≡ fs
 same_points es fs rise rise' same =

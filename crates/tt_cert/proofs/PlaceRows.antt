@@ -1,4 +1,4 @@
--- Rows of points: what a search finds in them, and what is left of it all when a point is put behind a row or beside the rows.
+-- Rows of points: what a search finds in them, and what is left of it all when a point is put after a row or beside the rows.
 use Rattle.std.specs.Prelude.{◌≡◌, ◌≢◌, ℕ, zero, suc, ◌+◌, ◌≤◌, ◌<◌, true, false, cond, nat_eq, if◌then◌else◌, Option, Some, None, Result, Ok, Err, OnOk, OnErr, List, [], ◌∷◌, ◌++◌, length, slice_index_or, slice_set, min, max, take}
 use Rattle.std.specs.declared.cmp.Ordering.{Ordering}
 use Rattle.std.specs.declared.cmp.Ordering.TheVariants.{Less, Equal, Greater}
@@ -90,7 +90,7 @@ found_from b (suc i) c o (row ∷ rows) is =
 pub rows_found : (rows : List Offsets) (p : ℕ × ℕ) → states_of (rows_points 0 rows) p ≡ listed (row_of rows p.0) p.1
 rows_found rows p = found_from 0 p.0 p.0 p.1 rows (omega arith)
 
--- the rows' points rise
+-- the rows' points ascend
 
 contexts_from : (b c : ℕ) (row : Offsets) (es : List Point) → b ≤ c → AllByRecursion (λ p. b ≤ p.0) (keys_of es) → AllByRecursion (λ p. b ≤ p.0) (keys_of (row_points c row ++ es))
 contexts_from b c [] es le all = all
@@ -132,7 +132,7 @@ module _ (rows : List Offsets) (rest : List Point) (places : ArePlaces rows rest
     once = λ p n at. rows_found rows p ∙ places.unlisted p.0 p.1 n at;
   }
 
-  -- what stands at a place
+  -- what is at a place
   pub merged_at : (c o : ℕ) → states_of (merged (rows_points 0 rows) rest) (c, o) ≡ option_or (states_of rest (c, o)) (listed (row_of rows c) o)
   merged_at c o = merged_found (rows_points 0 rows) rest (c, o) ∙ ap (option_or (states_of rest (c, o))) (rows_found rows (c, o))
 
@@ -283,7 +283,7 @@ module _ (rows : List Offsets) (rest : List Point) (places : ArePlaces rows rest
   absent_parts : (states_of rest (c, o) ≡ None) × (listed (row_of rows c) o ≡ None)
   absent_parts = neither (states_of rest (c, o)) (listed (row_of rows c) o) (sym (merged_at rows rest places c o) ∙ absent)
 
-  -- it is put behind its row
+  -- it is put after its row
   module _ (within : c < length rows) (below : AreBelow o (row_of rows c)) (row : Offsets) (is : row ≡ row_of rows c ++ (o, n) ∷ []) where
     row_now : row_of (slice_set rows c row) c ≡ row_of rows c ++ (o, n) ∷ []
     row_now = get_or-set_same rows c row [] within ∙ is
@@ -372,7 +372,7 @@ module _ (rows : List Offsets) (rest : List Point) (places : ArePlaces rows rest
     rows_same : (row' : Offsets) → row' ≡ row → slice_set rows c row' ≡ rows
     rows_same row' same = ap (slice_set rows c) (same ∙ sym row_is) ∙ set-get_or rows c []
 
-    -- and the point was put behind it, if there was memory
+    -- and the point was put after it, if there was memory
     module _ (below : AreBelow o row) (row' : Offsets) where
       below_row : AreBelow o (row_of rows c)
       below_row = let B : Offsets → Type 0 = λ r. AreBelow o r in subst B (sym row_is) below

@@ -1,4 +1,4 @@
--- The walk through points in rows and beside them: the first of both, and what is left behind it.
+-- The walk through points in rows and beside them: the first of both, and what is left after it.
 use Rattle.std.specs.Prelude.{◌≡◌, ℕ, Bool, true, false, cond, Option, Some, None, List, [], ◌∷◌, IfSome}
 use Rattle.std.specs.declared.cmp.Ordering.{Ordering}
 use Rattle.std.specs.declared.cmp.Ordering.TheVariants.{Less, Equal, Greater}

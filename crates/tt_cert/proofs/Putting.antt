@@ -1,4 +1,4 @@
--- What a put leaves of a builder.
+-- What putting a state leaves of a builder.
 use Rattle.std.specs.Prelude.{◌≡◌, ℕ, ◌+◌, ◌≤◌, ◌<◌, Bool, Option, Some, None, List, length, unwrap_or, Ok, Err, IfOk, OnOk, OnErr, Result}
 use Rattle.std.specs.Cmp.{IsTotalOrder}
 use Rattle.std.specs.Option.{option_map, option_copied, IfSome}
@@ -112,7 +112,7 @@ module _ (entries : List (ℕ × Frame)) (index : BTreeMap Key ℕ) (states : Li
   pub state_at_point : (c off : ℕ) → c < length v.contexts → family_of v (place_of v c off) ≡ states_of v.states (c, off)
   state_at_point c off within = family_at v c off (family_is entries index states v is built) within
 
-  -- each entry's state stands at its place
+  -- each entry's state is at its place
   pub found_of : All (λ (e : (ℕ × ℕ) × State). states_of states e.0 ≡ Some e.1) states → All (λ (e : (ℕ × ℕ) × State). states_of v.states e.0 ≡ Some e.1) v.states
   found_of all =
       let F : List ((ℕ × ℕ) × State) → Type 0 = λ x. All (λ (e : (ℕ × ℕ) × State). states_of x e.0 ≡ Some e.1) x in

@@ -108,7 +108,7 @@ kin_at (e ∷ entries) p j x at is = elim (cases_Bool (e.0.0 == p)) [
     rest there zero at' apart = let same : e ≡ x = cc in absurd (apart (ap (λ (y : Key × ℕ). y.0.0) same ∙ is))
     rest there (suc j) at' apart = there j at'
 
--- children stand in the order of the index
+-- children are in the order of the index
 sorted_pair : {X : Type 0} (es : List (Key × X)) (i j : ℕ) (x y : Key × X) → IsStrictlySortedBy key_cmp (keys_of es) → i < j → slice_get es i ≡ Some x → slice_get es j ≡ Some y
     → key_cmp x.0 y.0 ≡ Less
 sorted_pair {X} es i j x y sorted lt at_x at_y =

@@ -194,7 +194,7 @@ module _ (v : Contents) (order : List ℕ) (family : IsFamily v) (file : IsFileO
         has_context v.contexts m (frames_at (in_order v.contexts order) n) (file.within n m at_m) (sym (frames_in_order v.contexts order n m at_m));
   }
 
--- a fault that isn't the other one is want of memory
+-- a fault that isn't the other one is out of memory
 
 pub no_context_memory : {A B : Type 0} (result : Result A ContextFault) (r : Result B ContextFault) (e : ContextFault) → result ≡ Err e → (result ≡ Err TooManyContexts → ⊥)
     → IsErrAnd r (λ x. x ≡ e) → IfErr r (λ x. x ≡ context.OutOfMemory)

@@ -1,4 +1,4 @@
--- Entries whose keys rise, as contexts.
+-- Entries whose keys ascend, as contexts.
 use Rattle.std.specs.Prelude.{◌≡◌, true, ℕ, ◌+◌, ◌-◌, ◌≤◌, ◌<◌, Some, List, length, slice_index_or, slice_get, zero, suc}
 use Rattle.std.specs.declared.cmp.Ordering.{Ordering}
 use Rattle.std.specs.declared.cmp.Ordering.TheVariants.{Less, Equal, Greater}
@@ -44,7 +44,7 @@ rises_over entries rises i (suc j) d e at_d at_e =
 
 module _ (entries : List (ℕ × Frame)) (index : BTreeMap Key ℕ) (states : List ((ℕ × ℕ) × State)) (v : Contents)
     (is : ◌≡◌ {A = Contents} (record { contexts = frames_of entries; states = states }) v) (built : IsBuilt entries index states) where
-  -- the entry of a context but the empty one
+  -- the entry of a context other than the empty one
   pub entry_of : (n : ℕ) → 0 < n → n < length v.contexts → (i : ℕ) × (e : ℕ × Frame) × (n ≡ i + 1) × (slice_get entries i ≡ Some e) × StandsAt v.contexts n e
   entry_of zero some lt = absurd (omega arith)
   entry_of (suc i) some lt =

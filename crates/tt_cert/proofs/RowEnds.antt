@@ -1,4 +1,4 @@
--- The end of a row: what its last offset says of the others, and an offset that is put behind them.
+-- The end of a row: what its last offset tells of the others, and an offset that is put after them.
 use Rattle.std.specs.Prelude.{◌≡◌, ◌↔◌, ℕ, zero, suc, ◌-◌, ◌<◌, IsTrue, cond, nat_eq, nat_lt, if◌then◌else◌, Some, None, [], ◌∷◌, ◌++◌, length, slice_get}
 use Rattle.std.specs.List.{AllByRecursion}
 use Rattle.std.proofs.Common.{refl, sym, ◌∙◌, ap, arith, inl, inr}
@@ -52,7 +52,7 @@ listed_at o (e ∷ row) (suc i) d rises at same =
 pub listed_last : (o : ℕ) (row : Offsets) (d : ℕ × ℕ) → Rises row → Some d ≡ slice_get row (length row - 1) → d.0 ≡ o → listed row o ≡ Some d.1
 listed_last o row d rises at same = listed_at o row (length row - 1) d rises (sym at) same
 
--- an offset behind a row
+-- an offset after a row
 
 pub listed_below : (o : ℕ) (row : Offsets) → AreBelow o row → listed row o ≡ None
 listed_below o [] below = refl

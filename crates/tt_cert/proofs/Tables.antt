@@ -106,7 +106,7 @@ index_below es i j d e rises at_i at_j keys lt =
     ∙ tied_itself place_total d.0 in
     cc
 
--- one place stands once
+-- one place is there once
 index_of : (es : Slots) (i j : ℕ) (d e : (ℕ × ℕ) × ℕ) → IsStrictlySortedBy place_cmp (keys_of es) → slice_get es i ≡ Some d → slice_get es j ≡ Some e → d.0 ≡ e.0 → i ≡ j
 index_of es i j d e rises at_i at_j keys = elim (cases_lt i j) [
   | inl lt ↦ absurd (index_below es i j d e rises at_i at_j keys lt)
@@ -136,7 +136,7 @@ module _ (slots : List State) (es : Slots) (table : IsTable slots es) where
   pub table_found : (t : List ((ℕ × ℕ) × State)) → table_of slots es ≡ t → All (λ (e : (ℕ × ℕ) × State). states_of t e.0 ≡ Some e.1) t
   table_found t is k d lt = entry_at t k (slice_index_or t k d) (table_rises t is) (slice_get-get_or t k d lt)
 
-  -- what stands at a place
+  -- what is at a place
   pub state_found : (t : List ((ℕ × ℕ) × State)) → table_of slots es ≡ t → (p : ℕ × ℕ) (n : ℕ) → Some n ≡ states_of es p → (x : State) → x ≡ slice_index_or slots n x
       → Some x ≡ states_of t p
   state_found t is p n at x read =
@@ -203,7 +203,7 @@ module _ (slots : List State) (es : Slots) (table : IsTable slots es) (k : ℕ �
     Reweighs-set u =
         sums_written t (table_of (slice_set slots n u) es) k old u old_is (sym (state_now u)) (set_table_is u ∙ ap (λ l. set_value (is_at (place_cmp k)) l u) is)
 
--- what is said of the depth of the state that stands at a place
+-- what is said of the depth of the state that is at a place
 pub one_depth : (x : Option State) (old t s : State) → Some old ≡ x → state_order.SameDepth old t → x ≡ Some s → state_order.SameDepth s t
 one_depth x old t s is deep has =
     let both : Some old ≡ Some s = is ∙ has in
@@ -225,7 +225,7 @@ IsTable-empty slots es none =
       fits = omega arith;
     }
 
--- slots behind those of the places may change
+-- slots after those of the places may change
 module _ (slots slots' : List State) (es : Slots) (table : IsTable slots es) (agrees : AgreesBelow (length es) slots slots') (long : length slots ≤ length slots') where
   IsTable-kept : IsTable slots' es
   IsTable-kept = record {

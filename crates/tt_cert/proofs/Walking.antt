@@ -41,7 +41,7 @@ seam : {A : Type 0} (xs ys : List A) (x : A) → slice_get (xs ++ x ∷ ys) (len
 seam [] ys x = refl
 seam (z ∷ zs) ys x = seam zs ys x
 
--- a state that is found stands in the list under its key
+-- a state that is found is in the list under its key
 entry_of : (es : List Entry) (key : ℕ × ℕ) (a : State) → states_of es key ≡ Some a → (i : ℕ) × (e : Entry) × (slice_get es i ≡ Some e) × (e.0 ≡ key) × (e.1 ≡ a)
 entry_of [] key a at = absurd (cc)
 entry_of (e ∷ es) key a at = elim (cases_Bool (is_at (place_cmp key) e.0)) [
@@ -179,7 +179,7 @@ module _ (v : Contents) (rises : IsStrictlySortedBy place_cmp (keys_of v.states)
     | inr none ↦ none
   ]
 
-  -- the states of the contexts before stand at offsets of 32 bits
+  -- the states of the contexts before are at offsets of 32 bits
   pub told_at : (entries : List Entry) (c n : ℕ) → IsRead v entries (c, n) → AreToldBefore v c
   told_at entries c n read d o a less at =
       let (i, e, at_i, key_is, how) = read_or_coming entries (c, n) read (d, o) a at in
@@ -494,7 +494,7 @@ module _ (s : Setting) (listing : Listing) (v : Contents) (family : IsFamily v) 
                 subst (λ c. (r : Reason) × RefusesState s (place_of v c x.1) b r) (sym context) (lost p a at none (way.carried_all p a at none past) b);
           }
 
-    -- behind the last point all are walked
+    -- after the last point all are walked
     pub walked_through : walk.next ≡ None → walk.carried ≡ None → IsWalkedThrough s listing v
     walked_through next none = record {
       filled = way.filled;

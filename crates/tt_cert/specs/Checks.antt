@@ -1,4 +1,4 @@
--- What a check asks of a family beside goodness, and what it names where the family isn't good.
+-- What a check asks of a family besides goodness, and what it names where the family isn't good.
 use Rattle.std.specs.Prelude.{◌≡◌, ◌⊎◌, ℕ, ◌<◌, ◌^◌, min, false, Ok, Option, Some, None, List, [], ◌∷◌, slice_get}
 use Rattle.tt_code.specs.Cut.{size}
 use Rattle.tt_code.specs.Settings.{Setting, is_main_end}
@@ -22,7 +22,7 @@ use Rattle.tt_cert.specs.declared.fault.ProgramFault.TheVariants.{Refused, OutOf
 abbrev pub key_of : Contents → Place → ℕ × ℕ
 key_of contents p = (number_of contents.contexts p.0, p.1)
 
--- an offset as a number of 32 bits: the largest one stands for those that are above
+-- an offset as a number of 32 bits: the largest one stands for those that are above it
 abbrev pub told_offset : ℕ → ℕ
 told_offset offset = min offset 4294967295
 
@@ -30,17 +30,17 @@ told_offset offset = min offset 4294967295
 abbrev pub Nowhere : Place → Type 0
 Nowhere q = ⊥
 
--- the family covers the state at the place, or has none there, which may be left out
+-- the family covers the state at the place, or has none there, where it may be left out
 abbrev pub IsMet : (Place → Option State) → Type 0 → Place → State → Type 0
 IsMet family MayBeLeftOut q t = CoversAt state_order family q t ⊎ ((family q ≡ None) × MayBeLeftOut)
 
--- the family has no state at the place, where none may be left out; or none that covers this one
+-- the family has no state at the place, where none may be left out; or one that doesn't cover this one
 abbrev pub IsGap : (Place → Option State) → Type 0 → Place → State → Reason → Type 0
 IsGap family MayBeLeftOut q t MissingPoint = (family q ≡ None) × (MayBeLeftOut → ⊥)
 IsGap family MayBeLeftOut q t NotCovered = (u : State) × (family q ≡ Some u) × (state_order.Below t u → ⊥)
 IsGap family MayBeLeftOut q t _ = ⊥
 
--- the fault names the place and the reason; want of memory says nothing
+-- the fault names the place and the reason; nothing is asked of out of memory
 abbrev pub NamesAt : Place → (Reason → Type 0) → ProgramFault → Type 0
 NamesAt p Is (Refused spot offset reason) = (spot ≡ spot_of p.0) × (offset ≡ told_offset p.1) × Is reason
 NamesAt p Is (OutOfMemory e) = Unit {0}
@@ -62,7 +62,7 @@ AreCovered family nexts t = (i : ℕ) (n : Next) → slice_get nexts i ≡ Some 
 abbrev pub AreMet : (Place → Option State) → (Place → Type 0) → List Next → State → Type 0
 AreMet family MayBeLeftOut nexts t = (i : ℕ) (n : Next) → slice_get nexts i ≡ Some n → IsMet family (MayBeLeftOut (place_of_next n)) (place_of_next n) t
 
--- the family doesn't cover the state at the place that comes next by this number
+-- the family doesn't cover the state at the place that comes next under this number
 pub record IsGapAt (family : Place → Option State) (MayBeLeftOut : Place → Type 0) (nexts : List Next) (t : State) (q : Place) (r : Reason) (i : ℕ) : Type 0 where
   pub next : Next
   pub found : slice_get nexts i ≡ Some next
@@ -103,7 +103,7 @@ pub data BreaksAt (s : Setting) (family : Place → Option State) (MayBeLeftOut 
 abbrev pub HasNextTurn : List Frame → Type 0
 HasNextTurn frames = (f : Frame) (fs : List Frame) → frames ≡ f ∷ fs → f.turn < f.count
 
--- the states of the contexts before this one stand at offsets of 32 bits
+-- the states of the contexts before this one are at offsets of 32 bits
 abbrev pub AreToldBefore : Contents → ℕ → Type 0
 AreToldBefore contents context = (c o : ℕ) (a : State) → c < context → states_of contents.states (c, o) ≡ Some a → o < 2 ^ 32
 
@@ -132,7 +132,7 @@ pub record WasAdded (s : Setting) (MayLeaveOut : Place → Place → Type 0) (Wa
   pub just_before : MayLeaveOut before q
   pub gives : GivesState s before state q t
 
--- The family with the states that were added as the walked places were looked at: the walked ones are sound, and what they give at a
+-- The family with the states that were added as the walked places were checked: the walked ones are sound, and what they give at a
 -- place where the family has no state was added there.
 pub record IsFilledBy (s : Setting) (MayLeaveOut : Place → Place → Type 0) (family : Place → Option State) (Walked : Place → Type 0) (filled : Place → Option State) : Type 0 where
   pub keeps : (p : Place) (a : State) → family p ≡ Some a → filled p ≡ Some a

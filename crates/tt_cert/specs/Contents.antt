@@ -60,7 +60,7 @@ pub record IsFamily (contents : Contents) : Type 0 where
   pub in_range : (c o : ℕ) (s : State) → states_of contents.states (c, o) ≡ Some s → state_order.InRange s
   pub fits : length contents.states ≤ 4294967295
 
--- the context is there under the number, and either was before or is the new last one
+-- the context is there under the number, and either was there before or is the new last one
 pub record AddsContext (old new : List (List Frame)) (frames : List Frame) (number : ℕ) : Type 0 where
   pub there : number < length new
   pub at : slice_index_or new number [] ≡ frames

@@ -4,7 +4,7 @@ use Rattle.std.proofs.Common.{refl, sym, ◌∙◌, ap, arith, length-append}
 use Rattle.std.proofs.Math.ListN.{get_or-append}
 use Rattle.std.proofs.Math.Seq.{get_or-append_seam}
 
--- each entry adds its parent's list with one frame more
+-- each entry adds its parent's list with one more frame
 abbrev pub grow : {F : Type 0} → List (List F) → List (ℕ × F) → List (List F)
 grow lists [] = lists
 grow lists (x ∷ rest) = grow (lists ++ (x.1 ∷ slice_index_or lists x.0 []) ∷ []) rest
@@ -25,7 +25,7 @@ length-grow lists (e ∷ entries) =
     let one = length-append lists ((e.1 ∷ slice_index_or lists e.0 []) ∷ []) in
     omega arith
 
--- the first lists stay
+-- the first lists stay the same
 pub grow-keeps : {F : Type 0} (lists : List (List F)) (entries : List (ℕ × F)) (j : ℕ) → j < length lists
     → slice_index_or (grow lists entries) j [] ≡ slice_index_or lists j []
 grow-keeps lists [] j lt = refl

@@ -1,4 +1,4 @@
--- What a family says of the functions that are defined where a program ends.
+-- What a family tells of the functions that are defined where a program ends.
 use Rattle.std.specs.Prelude.{◌≡◌, ℕ, List, Option}
 use Rattle.tt_code.specs.Cut.{size}
 use Rattle.tt_code.specs.Fonts.{Leaves}

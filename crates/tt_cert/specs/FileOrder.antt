@@ -15,7 +15,7 @@ children entries parent = values_of (filter (λ e. e.0.0 == parent) entries)
 abbrev pub in_order : List (List Frame) → List ℕ → List (List Frame)
 in_order contexts order = map (frames_at contexts) order
 
--- each context once, the empty one first, and each behind its parent, by rising keys
+-- each context once, the empty one first, and each after its parent, by ascending keys
 pub record IsFileOrder (contexts : List (List Frame)) (order : List ℕ) : Type 0 where
   pub first : slice_get order 0 ≡ Some 0
   pub within : (i n : ℕ) → slice_get order i ≡ Some n → n < length contexts

@@ -1,4 +1,4 @@
--- What a put of a state tells.
+-- What putting a state tells.
 use Rattle.std.specs.Prelude.{◌≡◌, ◌↔◌, Bool, true, false, Option, None}
 use Rattle.tt_abs.specs.declared.state.State.{State}
 use Rattle.tt_cert.specs.declared.joined.Joined.{Joined}

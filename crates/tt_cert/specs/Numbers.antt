@@ -48,7 +48,7 @@ at-number_of (x ∷ xs) frames lt = elim (cases_Bool (same_frames x frames)) [
       ap (λ n. slice_index_or (x ∷ xs) n []) succ ∙ at-number_of xs frames (omega arith)
 ]
 
--- a list that stands at a place has a number, at most that place
+-- a list that is at an index has a number, at most that index
 pub number_of-place : (xs : List (List Frame)) (frames : List Frame) (i : ℕ) → i < length xs → slice_index_or xs i [] ≡ frames → number_of xs frames ≤ i
 number_of-place [] frames i lt at = absurd (omega arith)
 number_of-place (x ∷ xs) frames zero lt at =
@@ -60,7 +60,7 @@ number_of-place (x ∷ xs) frames (suc i) lt at = elim (same_frames x frames) as
   | false ↦ let ih = number_of-place xs frames i (omega arith) at in omega arith
 ]
 
--- where no two are the same, the number is the place
+-- where no two are the same, the number is the index
 pub number_of-is : (xs : List (List Frame)) (frames : List Frame) (i : ℕ)
     → ((a b : ℕ) → a < length xs → b < length xs → slice_index_or xs a [] ≡ slice_index_or xs b [] → a ≡ b)
     → i < length xs → slice_index_or xs i [] ≡ frames → number_of xs frames ≡ i
@@ -81,7 +81,7 @@ number_of-append (x ∷ xs) y frames lt = elim (cases_Bool (same_frames x frames
       omega arith
 ]
 
--- and a list that had none is past the old ones
+-- and a list that had none is after the old ones
 pub number_of-append_past : (xs : List (List Frame)) (y frames : List Frame) → number_of xs frames ≡ length xs → length xs ≤ number_of (xs ++ y ∷ []) frames
 number_of-append_past [] y frames e = omega arith
 number_of-append_past (x ∷ xs) y frames e = elim (cases_Bool (same_frames x frames)) [

@@ -12,7 +12,7 @@ use Rattle.tt_cert.specs.Places.{place_cmp, states_of}
 abbrev pub Point : Type 0
 Point = (ℕ × ℕ) × ℕ
 
--- the offsets of a row with their slots, by rising offset
+-- the offsets of a row with their slots, by ascending offset
 abbrev pub Offsets : Type 0
 Offsets = List (ℕ × ℕ)
 
@@ -21,7 +21,7 @@ abbrev pub row_points : ℕ → Offsets → List Point
 row_points context [] = []
 row_points context (e ∷ es) = ((context, e.0), e.1) ∷ row_points context es
 
--- the points of the rows one behind the other: the first row is this context's, and each other one is the next context's
+-- the points of the rows one after the other: the first row is this context's, and each other one is the next context's
 abbrev pub rows_points : ℕ → List Offsets → List Point
 rows_points context [] = []
 rows_points context (row ∷ rows) = row_points context row ++ rows_points (suc context) rows
@@ -39,13 +39,13 @@ row_of rows context = slice_index_or rows context []
 abbrev pub AreBelow : ℕ → Offsets → Type 0
 AreBelow offset row = AllByRecursion (λ e. e.0 < offset) row
 
--- both lists rise, and no place is in both
+-- both lists ascend, and no place is in both
 pub record AreApart (points rest : List Point) : Type 0 where
   pub points_rise : IsStrictlySortedBy place_cmp (keys_of points)
   pub rest_rises : IsStrictlySortedBy place_cmp (keys_of rest)
   pub once : (p : ℕ × ℕ) (n : ℕ) → states_of rest p ≡ Some n → states_of points p ≡ None
 
--- the offsets of each row rise, and a point beside the rows stands behind none of them: its row has a greater offset, and not its own
+-- the offsets of each row ascend, and a point beside the rows comes after none of them: its row has a greater offset, and not its own
 pub record ArePlaces (rows : List Offsets) (rest : List Point) : Type 0 where
   pub rise : (c : ℕ) → Rises (row_of rows c)
   pub rest_rises : IsStrictlySortedBy place_cmp (keys_of rest)
@@ -64,7 +64,7 @@ pub record AddsRows (old new : List Offsets) : Type 0 where
   pub rows : (c : ℕ) → row_of new c ≡ row_of old c
   pub longer : length old ≤ length new
 
--- the first point, if it was taken out, and those behind it
+-- the first point, if it was taken out, and those after it
 abbrev pub with_first : Option Point → List Point → List Point
 with_first None es = []
 with_first (Some e) es = e ∷ es

@@ -1,4 +1,4 @@
--- A put of a state into the contents, as a family sees it, and what it does to sums over all states.
+-- What putting a state does to the contents, as a family sees it, and to sums over all states.
 use Rattle.std.specs.Prelude.{◌≡◌, ℕ, ◌+◌, ◌<◌, Bool, Option, Some, None, List, length}
 use Rattle.std.proofs.Common.{refl, sym, ◌∙◌, ap, subst, arith}
 use Rattle.std.specs.List.{sum_by}
@@ -15,7 +15,7 @@ abbrev pub weigh : (State → ℕ) → Option State → ℕ
 weigh w None = 0
 weigh w (Some s) = w s
 
--- whatever states weigh, all together weigh the more by what the state at the place does
+-- whatever states weigh, all together weigh more by what the state at the place adds
 abbrev pub ReweighsStates : List ((ℕ × ℕ) × State) → List ((ℕ × ℕ) × State) → ℕ × ℕ → Type 0
 ReweighsStates old new place = (w : State → ℕ) → sum_by w (values_of new) + weigh w (states_of old place) ≡ sum_by w (values_of old) + weigh w (states_of new place)
 

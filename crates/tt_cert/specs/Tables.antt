@@ -19,7 +19,7 @@ table_of slots (e ∷ es) = (e.0, state_in slots e.1) ∷ table_of slots es
 abbrev pub AreSlots : List State → List ((ℕ × ℕ) × ℕ) → Type 0
 AreSlots slots places = (i : ℕ) (e : (ℕ × ℕ) × ℕ) → slice_get places i ≡ Some e → e.1 < length slots
 
--- the places rise and have the first slots, one each
+-- the places ascend and have the first slots, one each
 pub record IsTable (slots : List State) (places : List ((ℕ × ℕ) × ℕ)) : Type 0 where
   pub rises : IsStrictlySortedBy place_cmp (keys_of places)
   pub first : (p : ℕ × ℕ) (n : ℕ) → states_of places p ≡ Some n → n < length places

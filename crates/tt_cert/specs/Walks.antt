@@ -38,21 +38,21 @@ MayLeaveOut Sparse s p = Precedes s p
 abbrev pub Entry : Type 0
 Entry = (ℕ × ℕ) × State
 
--- the state, if it is one, stands at its context and offset
+-- the state, if there is one, is at its context and offset
 abbrev pub IsEntry : Contents → Option (ℕ × ℕ × Bor State) → Type 0
 IsEntry contents entry = IfSome entry (λ (e : ℕ × ℕ × Bor State). states_of contents.states (e.0, e.1) ≡ Some e.2.now)
 
--- the state that comes next is this one, and stands at this context and offset
+-- the state that comes next is this one, and is at this context and offset
 abbrev pub IsComing : Option (ℕ × ℕ × Bor State) → ℕ → ℕ → State → Type 0
 IsComing None context offset state = ⊥
 IsComing (Some e) context offset state = (e.0 ≡ context) × (e.1 ≡ offset) × (e.2.now ≡ state)
 
--- the state that comes next, if one does, comes after this context and offset
+-- the state that comes next, if there is one, comes after this context and offset
 abbrev pub IsComingAfter : Option (ℕ × ℕ × Bor State) → ℕ × ℕ → Type 0
 IsComingAfter None key = Unit {0}
 IsComingAfter (Some e) key = IsLess key (e.0, e.1)
 
--- the state that comes next, if one does, is this one
+-- the state that comes next, if there is one, is this one
 abbrev pub IsNextState : Option (ℕ × ℕ × Bor State) → State → Type 0
 IsNextState entry state = IfSome entry (λ (e : ℕ × ℕ × Bor State). e.2.now ≡ state)
 
@@ -69,7 +69,7 @@ abbrev pub to_come : Option (ℕ × ℕ × Bor State) → List Entry → List En
 to_come None entries = []
 to_come (Some e) entries = ((e.0, e.1), e.2.now) ∷ entries
 
--- these are the last states of the family: one entry was read ahead, and these are the others; they rise, and each place comes once
+-- these are the last states of the family: one entry was read ahead, and these are the others; they ascend, and each place comes once
 pub record AreToCome (contents : Contents) (next : Option (ℕ × ℕ × Bor State)) (others : List Entry) : Type 0 where
   pub rest : (before : List Entry) × (contents.states ≡ before ++ to_come next others)
   pub rises : IsStrictlySortedBy place_cmp (keys_of contents.states)
@@ -82,7 +82,7 @@ IsMetBy family MayBeLeftOut next q t met.Next = CoversAt state_order family q t 
 IsMetBy family MayBeLeftOut next q t met.Listed = CoversAt state_order family q t
 IsMetBy family MayBeLeftOut next q t met.Added = (family q ≡ None) × MayBeLeftOut
 
--- of two: what is added is told before all, and else how the first is met
+-- one answer for two: that a state is added comes before all, otherwise how the first is met
 abbrev pub met_both : Met → Met → Met
 met_both met.Added other = met.Added
 met_both met.Next met.Added = met.Added
@@ -112,7 +112,7 @@ AreMetBy family fs after next nexts t met.Added = AreMet family (IsAfter fs afte
 abbrev pub IsUnlisted : Contents → Option (ℕ × ℕ × Bor State) → ℕ → ℕ → Type 0
 IsUnlisted contents next context offset = IsComingAfter next (context, offset) → states_of contents.states (context, offset) ≡ None
 
--- so it is with each offset after this one
+-- the same for each offset after this one
 abbrev pub AreUnlisted : Contents → Option (ℕ × ℕ × Bor State) → ℕ → ℕ → Type 0
 AreUnlisted contents next context offset = (after : ℕ) → offset < after → IsUnlisted contents next context after
 
@@ -122,7 +122,7 @@ pub record IsCarried (s : Setting) (family : Place → Option State) (MayBeLeftO
   pub none : family (p.0, offset) ≡ None
   pub may : MayBeLeftOut (p.0, offset)
 
--- the state at the point is sound, and what it gives is covered, but for what is carried on
+-- the state at the point is sound, and what it gives is covered, except for what is carried on
 pub record IsPassed (s : Setting) (family : Place → Option State) (MayBeLeftOut : Place → Type 0) (p : Place) (a : State) (carried : Option ℕ) (made : State) : Type 0 where
   pub sound : IsSoundAt s family MayBeLeftOut p a
   pub closed : carried ≡ None → (q : Place) (t : State) → GivesState s p a q t → CoversAt state_order family q t
@@ -150,7 +150,7 @@ pub record IsOnWay (s : Setting) (listing : Listing) (contents : Contents) (walk
   pub carried_all : (p : Place) (a : State) → filled p ≡ Some a → family_of contents p ≡ None → (IsLess (key_of contents p) reached → ⊥)
       → (o : ℕ) × (walk.carried ≡ Some o) × (p ≡ place_of contents walk.context o)
 
--- At a point: all before it are walked, and were something added after it, it would be refused.
+-- At a point: all before it are walked, and if anything were added after it, it would be refused.
 pub record IsAtPoint (s : Setting) (listing : Listing) (contents : Contents) (walk : Walk) (others : List Entry) (offset : ℕ) : Type 0 where
   pub filled : Place → Option State
   pub walked : IsWalkedTo s listing contents filled (walk.context, offset)
@@ -200,7 +200,7 @@ place_behind contents walk way = (frames_behind (calls_of contents walk) way, of
 abbrev pub nexts_made : Contents → Walk → Moves → List Next
 nexts_made contents walk moves = nexts_of (calls_of contents walk) moves (abstract_of walk.made)
 
--- what was made is met so at a place, where it may be left out if that is at the offset `after`
+-- how what was made is met at a place, where it may be left out if that is at the offset `after`
 abbrev pub IsMadeMet : Contents → Walk → Option ℕ → Place → Met → Type 0
 IsMadeMet contents walk after q = IsMetBy (family_of contents) (IsAfter (calls_of contents walk) after q) walk.next q walk.made
 
@@ -212,7 +212,7 @@ NamesGapMade contents walk after q = NamesAt q (IsGap (family_of contents) (IsAf
 abbrev pub MayTurn : List Frame → Moves → Type 0
 MayTurn fs moves = (i : ℕ) → slice_get (ways_of moves) i ≡ Some NextTurn → HasNextTurn fs
 
--- what was made is met so at all places to which moves lead
+-- how what was made is met at all places to which moves lead
 abbrev pub AreMadeMet : Contents → Walk → Option ℕ → Moves → Met → Type 0
 AreMadeMet contents walk after moves = AreMetBy (family_of contents) (calls_of contents walk) after walk.next (nexts_made contents walk moves) walk.made
 

@@ -29,16 +29,16 @@ use std::marker::Model;
 use tt_abs::State;
 use tt_code::Frame;
 
-/// At most so many contexts are kept, the empty one counted.
+/// How many contexts are kept at most, including the empty one.
 const MOST_CONTEXTS: u32 = 65_535;
 
 /// A family of states that grows. A context is a list of calls that haven't returned; contexts have numbers in the order in
 /// which they were added, and the empty one is number 0. A point is a context and an offset.
 #[derive(Drop)]
 pub struct Builder {
-    /// The contexts but the empty one, each with its parent's number and its last frame.
+    /// The contexts except for the empty one, each with its parent's number and its last frame.
     entries: Vec<(u32, Frame)>,
-    /// The number of each context but the empty one, by parent, call, body, turn and count.
+    /// The number of each context except for the empty one, by parent, call, body, turn and count.
     index: BTreeMap<ContextKey, u32>,
     /// The states by context and offset.
     states: StateTable,
@@ -56,10 +56,10 @@ impl Model for Builder {
     ghost invariant = { λ b. IsBuilt b.entries.items b.index b.states };
 }
 
-/// The parent, call, body, turn and count of a context, by which contexts rise.
+/// The parent, call, body, turn and count of a context, by which contexts ascend.
 type ContextKey = (u32, u32, u32, u32, u32);
 
-/// The number of a key. Most keys that are asked for are greater than all that are there.
+/// Returns the number of a key. Most keys that are asked for are greater than all that are there.
 fn number_of(index: &BTreeMap<ContextKey, u32>, key: ContextKey) -> Option<u32>
     ensures { result ≡ get key_cmp index.now key }
 {
@@ -71,7 +71,7 @@ fn number_of(index: &BTreeMap<ContextKey, u32>, key: ContextKey) -> Option<u32>
     index.get(&key).copied()
 }
 
-/// By what an entry's context rises.
+/// Returns the key by which an entry's context is ordered.
 fn key_of(entry: &(u32, Frame)) -> ContextKey
     ensures { result ≡ key_of_entry entry.now }
 {
@@ -79,7 +79,7 @@ fn key_of(entry: &(u32, Frame)) -> ContextKey
     (parent, frame.call, frame.body, frame.turn, frame.count)
 }
 
-/// Does each entry rise above the one before?
+/// Whether each entry is above the one before.
 fn rises(entries: &[(u32, Frame)]) -> bool
     ensures { IsTrue result → RisesByKey entries.now }
 {
@@ -91,7 +91,7 @@ fn rises(entries: &[(u32, Frame)]) -> bool
     true
 }
 
-/// Puts the numbers of a context's children behind the others, in the order of their frames.
+/// Appends the numbers of a context's children to the others, in the order of their frames.
 fn push_children(
     index: &BTreeMap<ContextKey, u32>,
     parent: u32,
@@ -108,7 +108,7 @@ fn push_children(
 }
 
 impl Builder {
-    /// The empty context alone, and no state.
+    /// Makes a builder with the empty context alone, and no state.
     pub fn new(alloc: Global) -> Self
         ensures contexts { result.contexts ≡ [] ∷ [] }
         ensures states { result.states ≡ [] }
@@ -121,21 +121,21 @@ impl Builder {
         }
     }
 
-    /// Says that the contexts and the states are a family, as they always are.
+    /// Shows that the contexts and the states are a family, as they always are.
     pub fn is_family(&self)
         ensures { IsFamily self.now }
     {
         self.contexts();
     }
 
-    /// Says that the states rise by context and offset, as they always do.
+    /// Shows that the states ascend by context and offset, as they always do.
     pub fn states_rise(&self)
         ensures { IsStrictlySortedBy place_cmp (keys_of self.now.states) }
     {
         self.states.rise();
     }
 
-    /// How many contexts there are, the empty one counted.
+    /// Returns how many contexts there are, including the empty one.
     pub fn contexts(&self) -> u32
         ensures value { result ≡ length self.now.contexts }
         ensures family { IsFamily self.now }
@@ -143,7 +143,7 @@ impl Builder {
         self.entries.len() as u32 + 1
     }
 
-    /// How many states there are.
+    /// Returns how many states there are.
     pub fn points(&self) -> u32
         ensures value { result ≡ points_of self.now }
         ensures family { IsFamily self.now }
@@ -151,7 +151,7 @@ impl Builder {
         self.states.len()
     }
 
-    /// A context's parent and last frame. The empty context has none, nor has a number under which there is no context.
+    /// Returns a context's parent and last frame. The empty context has none, nor has a number under which there is no context.
     pub fn context(&self, number: u32) -> Option<(u32, Frame)>
         ensures none { result ≡ None → (number ≡ 0) ⊎ (length self.now.contexts ≤ number) }
         ensures some { IfSome result (λ e. (number < length self.now.contexts) × (e.0 < number) × (frames_at self.now.contexts number ≡ e.1 ∷ frames_at self.now.contexts e.0)) }
@@ -165,7 +165,7 @@ impl Builder {
         }
     }
 
-    /// In which program a context stands.
+    /// Returns in which program a context is.
     pub fn spot(&self, context: u32) -> Spot
         requires { context < length self.now.contexts }
         ensures { result ≡ spot_of (frames_at self.now.contexts context) }
@@ -177,7 +177,7 @@ impl Builder {
         }
     }
 
-    /// The number of the context that has the parent's frames and one more.
+    /// Returns the number of the context that has the parent's frames and one more.
     pub fn number(&self, parent: u32, frame: Frame) -> Option<u32>
         ensures none { parent < length self.now.contexts → result ≡ None → HasContext self.now.contexts (frame ∷ frames_at self.now.contexts parent) → ⊥ }
         ensures some { IfSome result (λ number. (number < length self.now.contexts) × (frames_at self.now.contexts number ≡ frame ∷ frames_at self.now.contexts parent)) }
@@ -186,10 +186,10 @@ impl Builder {
         number_of(&self.index, key)
     }
 
-    /// The number of the context that has the parent's frames and one more, which is added where it isn't there.
+    /// Returns the number of the context that has the parent's frames and one more, which is added if it isn't there.
     ///
     /// # Errors
-    /// `TooManyContexts` exactly if it isn't there and 65,535 contexts are; `OutOfMemory`. Then the builder stays as it is.
+    /// `TooManyContexts` exactly if it isn't there and there are 65,535 contexts; `OutOfMemory`. Then the builder stays as it is.
     pub fn add_context(&mut self, parent: u32, frame: Frame) -> Result<u32, ContextFault>
         requires { parent < length self.old.contexts }
         ensures added { IfOk result (AddsContext self.old.contexts self.new.contexts (frame ∷ frames_at self.old.contexts parent)) }
@@ -217,7 +217,7 @@ impl Builder {
         Ok(count)
     }
 
-    /// A context's frames, the outermost first.
+    /// Returns a context's frames, the outermost first.
     ///
     /// # Errors
     /// If memory runs out.
@@ -230,7 +230,7 @@ impl Builder {
         Ok(frames)
     }
 
-    /// Puts a context's frames, the outermost first, in the place of what a list holds.
+    /// Replaces what a list holds by a context's frames, the outermost first.
     ///
     /// # Errors
     /// If memory runs out; then the list may hold any of them.
@@ -249,7 +249,7 @@ impl Builder {
         Ok(())
     }
 
-    /// The state at a point.
+    /// Returns the state at a point.
     pub fn state(&self, context: u32, offset: u32) -> Option<&State>
         ensures none { result ≡ None → states_of self.now.states (context, offset) ≡ None }
         ensures some { IfSome result (λ state. states_of self.now.states (context, offset) ≡ Some state.now) }
@@ -259,7 +259,7 @@ impl Builder {
         self.states.get(context, offset)
     }
 
-    /// The states with their contexts and offsets, by rising context, and by rising offset within one: each point that has a
+    /// Returns the states with their contexts and offsets, by ascending context, and by ascending offset within one: each point that has a
     /// state comes once.
     pub fn states(&self) -> States<'_>
         ensures rest { result ≡ self.now.states }
@@ -270,7 +270,7 @@ impl Builder {
         self.states.iter()
     }
 
-    /// The functions that are known at the end of a program of this length, where no call is open: by rising numbers, each
+    /// Returns the functions that are known at the end of a program of this length, where no call is open: by ascending numbers, each
     /// with its body. None if the end has no state. Where the family is good for the program, each run of it that reaches its end
     /// has these functions there, with these bodies.
     pub fn end_functions(&self, length: u32) -> Option<&[(u16, u32)]>
@@ -285,10 +285,10 @@ impl Builder {
         }
     }
 
-    /// Puts a state at a point, by a join where there is one and by a copy else, and answers what that makes of the state there.
+    /// Puts a state at a point, by a join where there is one and by a copy otherwise, and returns what that makes of the state there.
     ///
     /// # Errors
-    /// `DepthMismatch` exactly if a state of another depth stands there; `OutOfMemory`. Then the builder stays as it is.
+    /// `DepthMismatch` exactly if a state of another depth is there; `OutOfMemory`. Then the builder stays as it is.
     pub fn join_state(
         &mut self,
         context: u32,
@@ -309,7 +309,7 @@ impl Builder {
         self.states.join(context, offset, state)
     }
 
-    /// Takes all states and all contexts but the empty one away, and keeps their memory, that of the maps by key aside.
+    /// Removes all states and all contexts except for the empty one, and keeps their memory, except for that of the maps by key.
     pub fn clear(&mut self)
         ensures contexts { self.new.contexts ≡ [] ∷ [] }
         ensures states { self.new.states ≡ [] }
@@ -320,19 +320,19 @@ impl Builder {
         self.states.clear();
     }
 
-    /// Do the contexts rise?
+    /// Whether the contexts ascend.
     pub(crate) fn is_rising(&self) -> bool
         ensures { IsTrue result → IsFinished self.now }
     {
         rises(self.entries.as_slice())
     }
 
-    /// The allocator.
+    /// Returns the allocator.
     pub(crate) fn allocator(&self) -> Global {
         *self.entries.allocator()
     }
 
-    /// The numbers of the contexts in the order of the file: each behind its parent's, by depth, and then by the order of the
+    /// Returns the numbers of the contexts in the order of the file: each after its parent's, by depth, and then by the order of the
     /// parents and of the frames.
     pub(crate) fn file_order(&self) -> Result<Vec<u32>, AllocError>
         ensures { IfOk result (λ order. IsFileOrder self.now.contexts order.items) }

@@ -21,7 +21,7 @@ use std::marker::Model;
 use tt_abs::State;
 use tt_code::Frame;
 
-/// A family of states whose contexts have their numbers in order: the empty one is number 0, and the others rise by parent,
+/// A family of states whose contexts have their numbers in order: the empty one is number 0, and the others ascend by parent,
 /// call, body, turn and count.
 #[derive(Drop)]
 pub struct Certificate {
@@ -40,7 +40,7 @@ impl Model for Certificate {
 }
 
 impl Certificate {
-    /// The certificate of a builder's family, whose contexts are in order.
+    /// Makes the certificate of a builder's family, whose contexts are in order.
     pub fn of(builder: Builder) -> Self
         requires { IsFinished builder }
         ensures { result ≡ builder }
@@ -48,21 +48,21 @@ impl Certificate {
         Certificate { builder }
     }
 
-    /// The builder that holds the family.
+    /// Returns the builder that holds the family.
     pub(crate) fn builder(&self) -> &Builder
         ensures { result.now ≡ self.now }
     {
         &self.builder
     }
 
-    /// Says that the contexts are in order, as they always are.
+    /// Shows that the contexts are in order, as they always are.
     pub fn is_in_order(&self)
         ensures { IsFinished self.now }
     {
         self.contexts();
     }
 
-    /// How many contexts there are, the empty one counted.
+    /// Returns how many contexts there are, including the empty one.
     pub fn contexts(&self) -> u32
         ensures value { result ≡ length self.now.contexts }
         ensures finished { IsFinished self.now }
@@ -70,14 +70,14 @@ impl Certificate {
         self.builder.contexts()
     }
 
-    /// How many states there are.
+    /// Returns how many states there are.
     pub fn points(&self) -> u32
         ensures { result ≡ points_of self.now }
     {
         self.builder.points()
     }
 
-    /// A context's parent and last frame. The empty context has none, nor has a number under which there is no context.
+    /// Returns a context's parent and last frame. The empty context has none, nor has a number under which there is no context.
     pub fn context(&self, number: u32) -> Option<(u32, Frame)>
         ensures none { result ≡ None → (number ≡ 0) ⊎ (length self.now.contexts ≤ number) }
         ensures some { IfSome result (λ e. (number < length self.now.contexts) × (e.0 < number) × (frames_at self.now.contexts number ≡ e.1 ∷ frames_at self.now.contexts e.0)) }
@@ -85,7 +85,7 @@ impl Certificate {
         self.builder.context(number)
     }
 
-    /// In which program a context stands.
+    /// Returns in which program a context is.
     pub fn spot(&self, context: u32) -> Spot
         requires { context < length self.now.contexts }
         ensures { result ≡ spot_of (frames_at self.now.contexts context) }
@@ -93,7 +93,7 @@ impl Certificate {
         self.builder.spot(context)
     }
 
-    /// The number of the context that has the parent's frames and one more.
+    /// Returns the number of the context that has the parent's frames and one more.
     pub fn number(&self, parent: u32, frame: Frame) -> Option<u32>
         ensures none { parent < length self.now.contexts → result ≡ None → HasContext self.now.contexts (frame ∷ frames_at self.now.contexts parent) → ⊥ }
         ensures some { IfSome result (λ number. (number < length self.now.contexts) × (frames_at self.now.contexts number ≡ frame ∷ frames_at self.now.contexts parent)) }
@@ -101,7 +101,7 @@ impl Certificate {
         self.builder.number(parent, frame)
     }
 
-    /// A context's frames, the outermost first.
+    /// Returns a context's frames, the outermost first.
     ///
     /// # Errors
     /// If memory runs out.
@@ -112,7 +112,7 @@ impl Certificate {
         self.builder.frames(alloc, number)
     }
 
-    /// Puts a context's frames, the outermost first, in the place of what a list holds.
+    /// Replaces what a list holds by a context's frames, the outermost first.
     ///
     /// # Errors
     /// If memory runs out; then the list may hold any of them.
@@ -123,7 +123,7 @@ impl Certificate {
         self.builder.read_frames(number, frames)
     }
 
-    /// The state at a point.
+    /// Returns the state at a point.
     pub fn state(&self, context: u32, offset: u32) -> Option<&State>
         ensures none { result ≡ None → states_of self.now.states (context, offset) ≡ None }
         ensures some { IfSome result (λ state. states_of self.now.states (context, offset) ≡ Some state.now) }
@@ -132,7 +132,7 @@ impl Certificate {
         self.builder.state(context, offset)
     }
 
-    /// The states with their contexts and offsets, by rising context, and by rising offset within one: each point that has a
+    /// Returns the states with their contexts and offsets, by ascending context, and by ascending offset within one: each point that has a
     /// state comes once.
     pub fn states(&self) -> States<'_>
         ensures rest { result ≡ self.now.states }
@@ -143,7 +143,7 @@ impl Certificate {
         self.builder.states()
     }
 
-    /// A builder in the certificate's memory: the empty context alone, and no state.
+    /// Makes a builder in the certificate's memory: the empty context alone, and no state.
     pub fn into_builder(self) -> Builder
         ensures contexts { result.contexts ≡ [] ∷ [] }
         ensures states { result.states ≡ [] }
@@ -154,7 +154,7 @@ impl Certificate {
         builder
     }
 
-    /// The functions that are known at the end of a program of this length, where no call is open: by rising numbers, each
+    /// Returns the functions that are known at the end of a program of this length, where no call is open: by ascending numbers, each
     /// with its body. None if the end has no state. Where the family is good for the program, each run of it that reaches its end
     /// has these functions there, with these bodies.
     pub fn end_functions(&self, length: u32) -> Option<&[(u16, u32)]>

@@ -1,4 +1,4 @@
-//! The check of a certificate: whether its family is good for a program, or filled up a good one.
+//! The check of a certificate: whether its family is good for a program, or can be filled up to a good one.
 
 ghost use Rattle.std.specs.Prelude.{◌≡◌, ◌↔◌, ◌<◌, ◌^◌, [], None, IfOk, IfErr, IsFalse, IsTrue};
 ghost use Rattle.std.specs.List.{All};
@@ -27,14 +27,14 @@ use std::alloc::Global;
 use tt_abs::{Kind, Point, Refusal, Setting, step_at};
 use tt_code::Reason;
 
-/// Are the indexes of these storage cells below the limit?
+/// Whether the indexes of these storage cells are below the limit.
 fn are_stored_within(stored: &[(u16, i32)], limit: u16) -> bool
     ensures { IsTrue result ↔ All (λ cell. cell.0 < limit) stored.now }
 {
     stored.iter().all(|cell| cell.0 < limit)
 }
 
-/// Is a glyph program within maxSizeOfInstructions?
+/// Whether a glyph program is within maxSizeOfInstructions.
 pub fn is_short(setting: &Setting<'_>) -> bool
     ensures { IsTrue result ↔ IsShortEnough (setting_of setting.now) (setting_of setting.now).kind }
 {
@@ -45,14 +45,14 @@ pub fn is_short(setting: &Setting<'_>) -> bool
     }
 }
 
-/// Does the main program have a state at its end?
+/// Whether the main program has a state at its end.
 fn has_end(setting: &Setting<'_>, builder: &Builder) -> bool
     ensures { IsTrue result ↔ HasEnd (setting_of setting.now) (family_of builder.now) }
 {
     builder.end_functions(setting.main.len()).is_some()
 }
 
-/// Does the program, if it is a font program or a CVT program, have a state at its end?
+/// Whether the program, if it is a font program or a CVT program, has a state at its end.
 pub fn ends_well(setting: &Setting<'_>, builder: &Builder) -> bool
     ensures { IsTrue result ↔ EndsWell (setting_of setting.now) (setting_of setting.now).kind (family_of builder.now) }
 {
@@ -63,8 +63,8 @@ pub fn ends_well(setting: &Setting<'_>, builder: &Builder) -> bool
     }
 }
 
-/// Is the state with which the walk begins covered at the program's start? The walk is told whether that is the very state that comes
-/// first, as it mostly is: then there is nothing to copy.
+/// Checks that the state with which the walk begins is covered at the program's start. The walk is told whether that is the very state that
+/// comes first, as it mostly is: then there is nothing to copy.
 fn check_start(certificate: &Certificate, walk: &mut Walk<'_>) -> Result<(), ProgramFault>
     requires walk { IsWalk certificate.now walk.old }
     requires apart { IsFalse walk.old.is_next }
@@ -83,7 +83,7 @@ fn check_start(certificate: &Certificate, walk: &mut Walk<'_>) -> Result<(), Pro
     Ok(())
 }
 
-/// The offset just after an instruction, if a state may be left out there: in no whole family, and not at the main program's end.
+/// Returns the offset just after an instruction, if a state may be left out there: in no whole family, and not at the main program's end.
 fn left_out_after(
     setting: &Setting<'_>,
     listing: Listing,
@@ -99,8 +99,8 @@ fn left_out_after(
     }
 }
 
-/// Is the walk's state sound at its point, an offset of the walk's context? What comes of it is made in the same memory, and is carried
-/// where it is added just after the point.
+/// Checks that the walk's state is sound at its point, an offset of the walk's context. What it gives is made in the same memory, and is
+/// carried on where it is added just after the point.
 fn check_point(
     setting: &Setting<'_>,
     listing: Listing,
@@ -148,8 +148,8 @@ fn check_point(
     Ok(())
 }
 
-/// Are all points sound, those that are left out included, by rising contexts, and by rising offsets within one? The walk comes to the
-/// first of the listed ones, and these are the others.
+/// Checks that all points are sound, including those that are left out, by ascending contexts, and by ascending offsets within one. The walk
+/// comes to the first of the listed ones, and these are the others.
 fn check_points<'a>(
     setting: &Setting<'_>,
     listing: Listing,
@@ -173,7 +173,7 @@ fn check_points<'a>(
     Ok(())
 }
 
-/// Is the family good, or filled up a good one, in the order of the walk?
+/// Checks that the family is good, or can be filled up to a good one, in the order of the walk.
 ///
 /// # Errors
 /// `Refused` with what is broken first; `OutOfMemory`.
@@ -210,11 +210,11 @@ fn check_listed(
     check_points(setting, listing, certificate, &mut walk, states)
 }
 
-/// Is the family good for the program of this setting, all that a certificate has to be? In the order of the walk the first that
-/// isn't so is named: a glyph program longer than maxSizeOfInstructions; a start that isn't covered; a font program or a CVT program
-/// without a state at its end; then, by rising contexts and by rising offsets within one, a state that lists a storage index that isn't
+/// Checks that the family is good for the program of this setting, which is all that a certificate has to be. The first fault in the
+/// order of the walk is named: a glyph program longer than maxSizeOfInstructions; a start that isn't covered; a font program or a CVT program
+/// without a state at its end; then, by ascending contexts and by ascending offsets within one, a state that lists a storage index that isn't
 /// below maxStorage, that is refused at its place, or whose successor isn't covered, the smaller offset first. The contexts may hold any
-/// frames: behind a call at offset 4,294,967,295 there is no state, and the place there is named with that offset.
+/// frames: after a call at offset 4,294,967,295 there is no state, and the place there is named with that offset.
 ///
 /// # Errors
 /// `Refused` with what is broken first; `OutOfMemory`.
@@ -234,10 +234,10 @@ pub fn check_full(
     check_listed(alloc, setting, Listing::Whole, certificate)
 }
 
-/// Is the family, filled up with the states that it leaves out, good for the program of this setting, all that a certificate has to be?
-/// A state may be left out where the state at the point just before alone leads, the main program's end aside: there it is what that one
-/// gives. The order is that of `check_full`, and what is added is looked at as if it were listed, but kept no longer than until what comes
-/// of it is known.
+/// Checks that the family, filled up with the states that it leaves out, is good for the program of this setting, which is all that a
+/// certificate has to be. A state may be left out where only the state at the point just before leads, except for the main program's end:
+/// there it is what that one gives. The order is that of `check_full`, and what is added is checked as if it were listed, but kept only until
+/// what it gives is known.
 ///
 /// # Errors
 /// `Refused` with what is broken first; `OutOfMemory`.
@@ -257,7 +257,7 @@ pub fn check(
     check_listed(alloc, setting, Listing::Sparse, certificate)
 }
 
-/// A family has one good filling at most. The function does nothing: its contract is the law.
+/// Shows that a family has at most one good filling. The function does nothing: its contract is the law.
 pub fn one_good_filling()
     ensures { HasOneGoodFilling }
 {}

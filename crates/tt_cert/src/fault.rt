@@ -19,7 +19,7 @@ pub enum ContextFault {
 /// Why a builder refuses a state; it is as it was.
 #[derive(Clone, Copy, Debug, PartialEq, Eq, Error)]
 pub enum JoinFault {
-    /// A state of another depth stands at the point.
+    /// A state of another depth is at the point.
     #[error("depth mismatch")]
     DepthMismatch,
     /// A growth of memory was refused, or there are 4,294,967,295 states.
@@ -27,17 +27,17 @@ pub enum JoinFault {
     OutOfMemory,
 }
 
-/// Why a program is refused: by the finder, for which no family is good, or by the check, for which a certificate's isn't.
+/// Why a program is refused: by the finder, since no family is good for it, or by the check, since its certificate's family isn't.
 #[derive(Debug, Drop, Error)]
 pub enum ProgramFault {
-    /// What is broken first, and where: in which program, and at what offset there, 4,294,967,295 for one that is above.
+    /// What is broken first, and where: in which program, and at what offset there, 4,294,967,295 for one above that.
     #[error("{reason}")]
     Refused {
         spot: Spot,
         offset: u32,
         reason: Reason,
     },
-    /// A growth of memory was refused, which says nothing of the program.
+    /// A growth of memory was refused, which tells nothing of the program.
     #[error(transparent)]
     OutOfMemory(AllocError),
 }

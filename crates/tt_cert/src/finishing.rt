@@ -13,7 +13,7 @@ use crate::places::PointKey;
 use std::alloc::AllocError;
 use std::collections::BTreeSet;
 
-/// The place of each context in the order.
+/// Returns the place of each context in the order.
 fn places_in(old: &Builder, order: &[u32]) -> Result<Vec<u32>, AllocError>
     requires { IsFileOrder old.now.contexts order.now }
     ensures { IfOk result (λ places. ArePlaces old.now.contexts order.now places.items) }
@@ -73,7 +73,7 @@ fn move_contexts(
     Ok(())
 }
 
-/// Puts copies of all states, but for those at the spare points, into the new builder, which has the same contexts and no state.
+/// Puts copies of all states, except for those at the spare points, into the new builder, which has the same contexts and no state.
 fn move_states(
     old: &Builder,
     new: &mut Builder,
@@ -98,7 +98,7 @@ fn move_states(
     Ok(())
 }
 
-/// The same family with its contexts in the order of the file, without the states at the spare points.
+/// Returns the same family with its contexts in the order of the file, without the states at the spare points.
 fn reordered(old: &Builder, spare: &BTreeSet<PointKey>) -> Result<Builder, AllocError>
     ensures same { IfOk result (λ new. SameWithout old.now new spare.now.keys) }
     ensures points { IfOk result (λ new. spare.now.keys ≡ [] → points_of new ≡ points_of old.now) }
@@ -118,7 +118,7 @@ fn reordered(old: &Builder, spare: &BTreeSet<PointKey>) -> Result<Builder, Alloc
 }
 
 impl Builder {
-    /// The certificate of this family: its contexts get new numbers where theirs aren't in order.
+    /// Returns the certificate of this family: its contexts get new numbers where theirs aren't in order.
     ///
     /// # Errors
     /// If memory runs out: then the builder comes back as it was.
@@ -132,7 +132,7 @@ impl Builder {
         self.finish_without(&none)
     }
 
-    /// The certificate of this family without the states at the spare points, each a context's number and an offset.
+    /// Returns the certificate of this family without the states at the spare points, each a context's number and an offset.
     ///
     /// # Errors
     /// If memory runs out: then the builder comes back as it was.

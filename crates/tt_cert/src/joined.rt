@@ -1,12 +1,12 @@
-//! What a put of a state makes of the one at its point.
+//! What putting a state makes of the one at its point.
 
 ghost use Rattle.std.specs.Prelude.{◌≡◌, ◌≢◌};
 ghost use Rattle.tt_cert.specs.Joins.{is_change as is_change_of};
 
-/// What a put of a state makes of the one at its point.
+/// What putting a state makes of the one at its point.
 #[derive(Clone, Copy, Debug, PartialEq, Eq)]
 pub enum Joined {
-    /// There was none, and this one is there now.
+    /// There was none, and now this one is there.
     New,
     /// It has risen.
     Changed,
@@ -15,7 +15,7 @@ pub enum Joined {
 }
 
 impl Joined {
-    /// After a join with a state that was there, which changed that or didn't.
+    /// Returns what a join made of a state that was there: one that has risen, or one that is as it was.
     pub(crate) fn of(changed: bool) -> Joined
         ensures change { is_change_of result ≡ changed }
         ensures there { result ≢ Joined.New }
@@ -27,7 +27,7 @@ impl Joined {
         }
     }
 
-    /// Is the state at the point another one than before?
+    /// Whether the state at the point is another one than before.
     pub fn is_change(self) -> bool
         ensures { result ≡ is_change_of self }
     {

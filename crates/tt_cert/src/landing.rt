@@ -21,12 +21,12 @@ pub enum Landing {
     In { context: u32, offset: u32 },
     /// To the start of a function's body, in the context that has one call more than the one of this number.
     Body { parent: u32, frame: Frame },
-    /// After a call at the greatest offset of the context of this number, where no program is so long.
+    /// After a call at the greatest offset of the context of this number: no program is that long.
     Beyond { context: u32 },
 }
 
-/// Where a way leads from a context, for all who follow ways: the check looks the context up in which a body starts, and the finder
-/// adds it.
+/// Returns where a way leads from a context, for all who follow ways: the check looks up the context in which a body starts, and the
+/// finder adds it.
 pub fn landing_of(builder: &Builder, context: u32, way: Move) -> Landing
     requires there { context < length builder.now.contexts }
     requires turn { way ≡ Move.NextTurn → IsTurnCountable (frames_at builder.now.contexts context) }
@@ -66,7 +66,7 @@ pub fn landing_of(builder: &Builder, context: u32, way: Move) -> Landing
     }
 }
 
-/// The fault of a place where the certificate has no state.
+/// Returns the fault of a place where the certificate has no state.
 fn missing(spot: Spot, offset: u32) -> ProgramFault
     ensures { result ≡ ProgramFault.Refused spot offset Reason.MissingPoint }
 {
@@ -77,10 +77,10 @@ fn missing(spot: Spot, offset: u32) -> ProgramFault
     }
 }
 
-/// The number of the context, and the offset, to which a way leads from a context.
+/// Returns the number of the context, and the offset, to which a way leads from a context.
 ///
 /// # Errors
-/// `MissingPoint` where the certificate can have no state: it lacks the context, or tells no such offset.
+/// `MissingPoint` where the certificate can have no state: it lacks the context, or can't have such an offset.
 pub(crate) fn reach(
     certificate: &Certificate,
     context: u32,

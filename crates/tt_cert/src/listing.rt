@@ -13,11 +13,11 @@ use tt_abs::{Point, Setting};
 pub(crate) enum Listing {
     /// All of them.
     Whole,
-    /// At least those that aren't given by the state at the point just before alone.
+    /// At least those that the state at the point just before doesn't give alone.
     Sparse,
 }
 
-/// The offset just after an instruction that ends there, if a filling may add a state there: not at the main program's end.
+/// Returns the offset just after an instruction that ends there, if a filling may add a state there: not at the main program's end.
 pub fn added_after(setting: &Setting<'_>, point: &Point<'_>, end: u32) -> Option<u32>
     requires { EndsAt (setting_of setting.now) (frames_of point.now, point.now.offset) end }
     ensures { (q : Place) → IsAfter (frames_of point.now) result q ↔ Precedes (setting_of setting.now) (frames_of point.now, point.now.offset) q }

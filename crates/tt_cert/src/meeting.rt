@@ -25,7 +25,7 @@ pub(crate) enum Met {
     Added,
 }
 
-/// Of two: what is added is told before all, and else how the first is met.
+/// Returns one answer for two: that the state is added comes before all, otherwise how the first is met.
 fn met_by_both(first: Met, second: Met) -> Met
     ensures { result ≡ met_both first second }
 {
@@ -38,7 +38,7 @@ fn met_by_both(first: Met, second: Met) -> Met
     }
 }
 
-/// The fault that is told of an offset of a context.
+/// Returns the fault that names an offset of a context.
 pub(crate) fn fault_in(
     certificate: &Certificate,
     context: u32,
@@ -55,8 +55,8 @@ pub(crate) fn fault_in(
     }
 }
 
-/// How a state is met at an offset of a context, where it may be left out or not. Where the very state comes next in the walk, or
-/// comes after the place, there is nothing to look up.
+/// Returns how a state is met at an offset of a context, where it may be left out or not. Where the very state comes next in the walk,
+/// or comes after the place, there is nothing to look up.
 pub(crate) fn check_covered(
     certificate: &Certificate,
     next: Option<(u32, u32, &State)>,
@@ -96,7 +96,7 @@ pub(crate) fn check_covered(
     }
 }
 
-/// How what was made is met at an offset of the walk's context, where `after` is the one at which it may be left out.
+/// Returns how what was made is met at an offset of the walk's context, where `after` is the one at which it may be left out.
 fn check_offset(
     certificate: &Certificate,
     walk: &Walk<'_>,
@@ -118,7 +118,7 @@ fn check_offset(
     )
 }
 
-/// How what was made is met at the place to which a move leads from the walk's context.
+/// Returns how what was made is met at the place to which a move leads from the walk's context.
 fn check_way(
     certificate: &Certificate,
     walk: &Walk<'_>,
@@ -144,8 +144,8 @@ fn check_way(
     }
 }
 
-/// How what was made is met at all places to which moves lead from the walk's context. `after` is the offset at which it may be left
-/// out, if there is one.
+/// Returns how what was made is met at all places to which moves lead from the walk's context. `after` is the offset at which it may be
+/// left out, if there is one.
 pub(crate) fn check_moves(
     certificate: &Certificate,
     walk: &Walk<'_>,

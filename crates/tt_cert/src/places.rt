@@ -11,19 +11,19 @@ use std::collections::BTreeMap;
 use std::collections::btree_map::Iter;
 use std::marker::Model;
 
-/// So many rows keep their memory.
+/// How many rows keep their memory.
 const KEPT_ROWS: usize = 64;
 
 /// What a stored state is found by: its context's number and its offset.
 pub type PointKey = (u32, u32);
 
-/// The slots of points by context and offset. Within a context the points mostly come by rising offset: those stand in a row, and the
+/// The slots of points by context and offset. Within a context the points mostly come by ascending offset: those are in a row, and the
 /// others in a tree.
 #[derive(Drop)]
 pub(crate) struct Places {
-    /// For each context the points that came behind all others of the context.
+    /// For each context the points that came after all others of the context.
     rows: Vec<Row>,
-    /// How many rows may hold points. The rows behind those are empty, and are kept for their memory alone.
+    /// How many rows may hold points. The rows after those are empty, and are kept for their memory alone.
     used: usize,
     /// The points that came before a greater offset of their context.
     rest: BTreeMap<PointKey, u32>,
@@ -59,7 +59,7 @@ fn add_rows(rows: &mut Vec<Row>, context: u32) -> Result<(), AllocError>
     Ok(())
 }
 
-/// Puts a point that isn't there behind its row, or beside the rows.
+/// Puts a point that isn't there after the others of its row, or beside the rows.
 ///
 /// # Errors
 /// If memory runs out; then the points stay as they are.
@@ -85,7 +85,7 @@ fn put(
     Ok(())
 }
 
-/// Empties the first `used` rows, behind which all are empty, and keeps the memory of the first `KEPT_ROWS` rows.
+/// Empties the first `used` rows, after which all are empty, and keeps the memory of the first `KEPT_ROWS` rows.
 fn clear_rows(rows: &mut Vec<Row>, used: usize)
     requires { AreEmptyFrom used rows.old.items }
     ensures empty { (c : ℕ) → row_of rows.new.items c ≡ [] }
@@ -98,7 +98,7 @@ fn clear_rows(rows: &mut Vec<Row>, used: usize)
 }
 
 impl Places {
-    /// No point.
+    /// Makes a map without points.
     pub(crate) fn new(alloc: Global) -> Self
         ensures { result ≡ [] }
     {
@@ -110,14 +110,14 @@ impl Places {
         }
     }
 
-    /// How many points there are.
+    /// Returns how many points there are.
     pub(crate) fn len(&self) -> u32
         ensures { result ≡ length self.now }
     {
         self.count
     }
 
-    /// The slot of a point.
+    /// Returns the slot of a point.
     pub(crate) fn get(&self, context: u32, offset: u32) -> Option<u32>
         ensures { result ≡ states_of self.now (context, offset) }
     {
@@ -133,7 +133,7 @@ impl Places {
         }
     }
 
-    /// The points that are there, with their slots, by rising context, and by rising offset within one.
+    /// Returns the points that are there, with their slots, by ascending context, and by ascending offset within one.
     pub(crate) fn iter(&self) -> PlacesIter<'_>
         ensures { result ≡ self.now }
     {
@@ -164,7 +164,7 @@ impl Places {
         Ok(())
     }
 
-    /// Takes all points away, and keeps the memory of the first rows.
+    /// Removes all points, and keeps the memory of the first rows.
     pub(crate) fn clear(&mut self)
         ensures { self.new ≡ [] }
     {
@@ -198,7 +198,7 @@ impl<'a> Model for RowsIter<'a> {
 }
 
 impl<'a> RowsIter<'a> {
-    /// All points of the rows, of which the first is that of the first context.
+    /// Returns all points of the rows, the first of which is that of the first context.
     fn new(rows: &'a [Row]) -> Self
         requires { length rows.now ≤ 4294967296 }
         ensures { result ≡ rows_points 0 rows.now }

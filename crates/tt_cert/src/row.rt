@@ -1,4 +1,4 @@
-//! The points of one context that came by rising offset.
+//! The points of one context that came by ascending offset.
 
 ghost use Rattle.std.specs.Prelude.{◌≡◌, ◌↔◌, ◌<◌, ◌≤◌, length, [], ◌∷◌, ◌++◌, IsTrue, MatchResult, OnOk, OnErr};
 ghost use Rattle.tt_abs.specs.Entries.{Rises, listed};
@@ -8,7 +8,7 @@ ghost use Rattle.tt_cert.specs.PlaceRows.{AreBelow};
 use std::alloc::{AllocError, Global};
 use std::marker::Model;
 
-/// Offsets by rising order, each with its slot.
+/// Offsets in ascending order, each with its slot.
 #[derive(Drop)]
 pub(crate) struct Row {
     points: Vec<(u32, u32)>,
@@ -25,7 +25,7 @@ impl Model for Row {
     ghost invariant = { λ r. Rises r.points.items };
 }
 
-/// Where an offset stands, or where it would.
+/// Returns where an offset is, or where it would be.
 fn search(points: &[(u32, u32)], offset: u32) -> Result<usize, usize>
     requires { Rises points.now }
     ensures place { MatchResult result (IsAt offset points.now) (IsGap offset points.now) }
@@ -34,7 +34,7 @@ fn search(points: &[(u32, u32)], offset: u32) -> Result<usize, usize>
     points.binary_search_by_key(&offset, |point| point.0)
 }
 
-/// The slot that is listed with an offset.
+/// Returns the slot that is listed with an offset.
 fn slot_at(points: &[(u32, u32)], offset: u32) -> Option<u32>
     requires { Rises points.now }
     ensures { result ≡ listed points.now offset }
@@ -46,7 +46,7 @@ fn slot_at(points: &[(u32, u32)], offset: u32) -> Option<u32>
 }
 
 impl Row {
-    /// No offset.
+    /// Makes a row without offsets.
     pub(crate) fn new(alloc: Global) -> Self
         ensures { result ≡ [] }
     {
@@ -55,7 +55,7 @@ impl Row {
         }
     }
 
-    /// The offsets with their slots.
+    /// Returns the offsets with their slots.
     pub(crate) fn as_slice(&self) -> &[(u32, u32)]
         ensures { result.now ≡ self.now }
     {
@@ -72,7 +72,7 @@ impl Row {
         }
     }
 
-    /// The slot of an offset.
+    /// Returns the slot of an offset.
     pub(crate) fn get(&self, offset: u32) -> Option<u32>
         ensures { result ≡ listed self.now offset }
     {
@@ -82,7 +82,7 @@ impl Row {
         }
     }
 
-    /// Puts an offset behind smaller ones.
+    /// Puts an offset after smaller ones.
     ///
     /// # Errors
     /// If memory runs out; then the row stays as it is.
@@ -95,7 +95,7 @@ impl Row {
         Ok(())
     }
 
-    /// Takes all offsets away, and keeps their memory.
+    /// Removes all offsets, and keeps their memory.
     pub(crate) fn clear(&mut self)
         ensures { self.new ≡ [] }
     {

@@ -1,4 +1,4 @@
-//! In which program a place stands.
+//! In which program a place is.
 
 ghost use Rattle.std.specs.Prelude.{◌≡◌};
 ghost use Rattle.tt_cert.specs.Spots.{spot_of_body};
@@ -6,7 +6,7 @@ ghost use Rattle.tt_cert.specs.Spots.{spot_of_body};
 /// Bodies of the CVT program are named by their offset and this.
 const CVT_BODIES: u32 = 1 << 31;
 
-/// In which program a place stands.
+/// In which program a place is.
 #[derive(Clone, Copy, Debug, PartialEq, Eq)]
 pub enum Spot {
     /// In the program that runs, outside all functions.
@@ -18,7 +18,7 @@ pub enum Spot {
 }
 
 impl Spot {
-    /// In which program a function's body stands, by its name.
+    /// Returns in which program a function's body is, by its name.
     pub fn of_body(body: u32) -> Spot
         ensures { result ≡ spot_of_body body }
     {

@@ -1,4 +1,4 @@
-//! States by context and offset, in slots that are used again.
+//! States by context and offset, in slots that are reused.
 
 ghost use Rattle.std.specs.Prelude.{◌≡◌, ◌≢◌, ℕ, ◌≤◌, true, None, Some, [], Err, IfOk, IfErr, OnErr, OnOk, length, slice_get};
 ghost use Rattle.std.specs.Option.{option_copied};
@@ -20,15 +20,15 @@ use std::alloc::{AllocError, Global};
 use std::marker::Model;
 use tt_abs::{Order, State};
 
-/// At most so many states are kept.
+/// How many states are kept at most.
 const MOST_STATES: u32 = 4_294_967_295;
 
-/// States by context and offset, in slots that are used again.
+/// States by context and offset, in slots that are reused.
 #[derive(Drop)]
 pub(crate) struct StateTable {
     /// The slot of each point. The points have the first slots, one each.
     places: Places,
-    /// The states in the slots. What lies behind the slots of the points is kept for its memory alone.
+    /// The states in the slots. Those after the slots of the points are kept for their memory alone.
     slots: Vec<State>,
 }
 
@@ -44,10 +44,10 @@ impl Model for StateTable {
     ghost invariant = { λ t. IsTable t.slots.items t.places };
 }
 
-/// Makes a slot that is there, or the next one, hold a copy of a state.
+/// Makes an existing slot, or the next one, hold a copy of a state.
 ///
 /// # Errors
-/// If memory runs out; then the slot says nothing.
+/// If memory runs out; then what the slot holds is unspecified.
 fn fill(slots: &mut Vec<State>, number: usize, state: &State) -> Result<(), AllocError>
     requires { number ≤ length slots.old.items }
     ensures filled { OnOk result (slice_get slots.new.items number ≡ Some state.now) }
@@ -64,7 +64,7 @@ fn fill(slots: &mut Vec<State>, number: usize, state: &State) -> Result<(), Allo
 }
 
 impl StateTable {
-    /// No state.
+    /// Makes a table without states.
     pub(crate) fn new(alloc: Global) -> Self
         ensures { result ≡ [] }
     {
@@ -74,14 +74,14 @@ impl StateTable {
         }
     }
 
-    /// How many states there are.
+    /// Returns how many states there are.
     pub(crate) fn len(&self) -> u32
         ensures { result ≡ length self.now }
     {
         self.places.len()
     }
 
-    /// The state at a point.
+    /// Returns the state at a point.
     pub(crate) fn get(&self, context: u32, offset: u32) -> Option<&State>
         ensures { option_copied result ≡ states_of self.now (context, offset) }
     {
@@ -91,14 +91,14 @@ impl StateTable {
         }
     }
 
-    /// Says that the states rise by context and offset, as they always do.
+    /// Shows that the states ascend by context and offset, as they always do.
     pub(crate) fn rise(&self)
         ensures { IsStrictlySortedBy place_cmp (keys_of self.now) }
     {
         self.places.len();
     }
 
-    /// The states with their contexts and offsets, by rising context, and by rising offset within one.
+    /// Returns the states with their contexts and offsets, by ascending context, and by ascending offset within one.
     pub(crate) fn iter(&self) -> States<'_>
         ensures rest { result ≡ self.now }
         ensures rises { IsStrictlySortedBy place_cmp (keys_of self.now) }
@@ -110,10 +110,10 @@ impl StateTable {
         }
     }
 
-    /// Puts a state at a point, by a join where there is one, and answers what that makes of the state there.
+    /// Puts a state at a point, by a join where there is one, and returns what that makes of the state there.
     ///
     /// # Errors
-    /// `DepthMismatch` exactly if a state of another depth stands there; `OutOfMemory`. Then the states stay as they are.
+    /// `DepthMismatch` exactly if a state of another depth is there; `OutOfMemory`. Then the states stay as they are.
     pub(crate) fn join(
         &mut self,
         context: u32,
@@ -166,7 +166,7 @@ impl StateTable {
         Ok(())
     }
 
-    /// Takes all states away, and keeps their memory.
+    /// Removes all states, and keeps their memory.
     pub(crate) fn clear(&mut self)
         ensures { self.new ≡ [] }
     {

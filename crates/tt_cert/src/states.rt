@@ -28,8 +28,8 @@ impl<'a> Model for States<'a> {
 }
 
 impl<'a> States<'a> {
-    /// Takes the first of the states that are still to come, with its context's number and its offset: `None` exactly where none is, from
-    /// then on always.
+    /// Takes the first of the states that are still to come, with its context's number and its offset: `None` exactly where there is none, and
+    /// then always from there on.
     pub fn take_first(&mut self) -> Option<(u32, u32, &'a State)>
         ensures none { result ≡ None → self.old ≡ [] }
         ensures done { result ≡ None → self.new ≡ [] }

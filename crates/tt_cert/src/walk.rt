@@ -1,4 +1,4 @@
-//! The walk through the points of a certificate, those that it leaves out included.
+//! The walk through the points of a certificate, including those that it leaves out.
 
 ghost use Rattle.std.specs.Prelude.{◌≡◌, ◌↔◌, ◌<◌, IfOk, IfSome, IsFalse, IsTrue, None, OnOk, length};
 ghost use Rattle.tt_code.specs.Settings.{Setting as AnySetting};
@@ -20,15 +20,15 @@ pub(crate) struct Walk<'a> {
     pub context: u32,
     pub frames: Vec<Frame>,
     pub next: Option<(u32, u32, &'a State)>,
-    /// The state in which the program starts; then the state at the point that is looked at, and what comes of it, in the same memory.
+    /// The state in which the program starts; then the state at the point that is checked, and what it gives, in the same memory.
     pub made: State,
-    /// Is what was made the very state that comes next? Then that one needs no copy.
+    /// Whether what was made is the very state that comes next: then that one needs no copy.
     pub is_next: bool,
     /// The offset of the context at which what was made is the state, where the certificate lists none.
     pub carried: Option<u32>,
 }
 
-/// Is this the state that comes next, at this place?
+/// Whether this is the state that comes next, at this place.
 pub(crate) fn is_coming(
     next: Option<(u32, u32, &State)>,
     context: u32,
@@ -45,7 +45,7 @@ pub(crate) fn is_coming(
     }
 }
 
-/// Does the state that comes next, if one does, come after this place?
+/// Whether the state that comes next, if there is one, comes after this place.
 pub(crate) fn is_coming_after(next: Option<(u32, u32, &State)>, context: u32, offset: u32) -> bool
     ensures { IsTrue result ↔ IsComingAfter next.entry (context, offset) }
 {
@@ -58,7 +58,7 @@ pub(crate) fn is_coming_after(next: Option<(u32, u32, &State)>, context: u32, of
 }
 
 impl<'a> Walk<'a> {
-    /// A walk that begins in the empty context, with the state in which a program starts that knows these functions.
+    /// Makes a walk that begins in the empty context, with the state in which a program starts that knows these functions.
     pub(crate) fn start(
         alloc: Global,
         functions: &[(u16, u32)],
@@ -81,7 +81,7 @@ impl<'a> Walk<'a> {
         })
     }
 
-    /// Takes the state that comes next over, where it isn't what was made.
+    /// Takes over the state that comes next, where it isn't what was made.
     fn take(&mut self, state: &State) -> Result<(), AllocError>
         requires { IsTrue self.old.is_next → self.old.made ≡ state.now }
         ensures made { OnOk result (self.new.made ≡ state.now) }
@@ -114,8 +114,8 @@ impl<'a> Walk<'a> {
         Ok(())
     }
 
-    /// Goes on to the point that comes next, and takes its state: what was made, where that is carried there, and else the listed
-    /// state that comes next, of which these are the others. Answers the point's offset, None after the last point.
+    /// Goes on to the point that comes next, and takes its state: what was made, where that is carried there, and otherwise the listed
+    /// state that comes next, these being the others. Returns the point's offset, `None` after the last point.
     pub(crate) fn go_on(
         &mut self,
         certificate: &Certificate,
