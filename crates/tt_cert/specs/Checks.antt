@@ -40,7 +40,7 @@ IsGap family MayBeLeftOut q t MissingPoint = (family q ≡ None) × (MayBeLeftOu
 IsGap family MayBeLeftOut q t NotCovered = (u : State) × (family q ≡ Some u) × (state_order.Below t u → ⊥)
 IsGap family MayBeLeftOut q t _ = ⊥
 
--- the fault names the place and the reason; nothing is asked of out of memory
+-- the fault names the place and the reason; out of memory is unspecified
 abbrev pub NamesAt : Place → (Reason → Type 0) → ProgramFault → Type 0
 NamesAt p Is (Refused spot offset reason) = (spot ≡ spot_of p.0) × (offset ≡ told_offset p.1) × Is reason
 NamesAt p Is (OutOfMemory e) = Unit {0}

@@ -25,7 +25,7 @@ pub record SameContents (old new : Contents) : Type 0 where
 abbrev pub family_without : Contents → List (ℕ × ℕ) → List Frame × ℕ → Option State
 family_without contents points point = cond (has_point points (number_of contents.contexts point.0, point.1)) None (family_of contents point)
 
--- the same contexts, whatever their numbers, and the same state at each point, except for none at these
+-- the same contexts, whatever their numbers, and the same state at each point, but none at these
 pub record SameWithout (old new : Contents) (points : List (ℕ × ℕ)) : Type 0 where
   pub contexts : (frames : List Frame) → HasContext old.contexts frames ↔ HasContext new.contexts frames
   pub family : (point : List Frame × ℕ) → family_of new point ≡ family_without old points point

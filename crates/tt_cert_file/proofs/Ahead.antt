@@ -14,7 +14,7 @@ use Rattle.tt_cert_file.specs.Reading.{cell_at, function_at}
 use Rattle.tt_cert_file.proofs.Blocks.{none_left}
 use Rattle.tt_cert_file.proofs.Codecs.{here}
 
--- the bytes of which so many are taken, and those after them
+-- the bytes of which this many are taken, and those after them
 ahead_parts : (bytes ahead : List ℕ) (n : ℕ) → StartsWith bytes ahead → bytes ≡ take n ahead ++ (drop n ahead ++ drop (length ahead) bytes)
 ahead_parts bytes ahead n starts =
     let tail = drop (length ahead) bytes in
@@ -32,7 +32,7 @@ ahead_refused (fault.Form broken) (Some bytes) ahead before now place count star
     subst (λ (l : List ℕ). list_at function_at before (count + n) (here place l) ≡ Err broken) (sym (ahead_parts bytes ahead width starts))
     (breaks (count + n) (drop width ahead ++ drop (length ahead) bytes) few)
 
--- so many functions that are read ahead are taken
+-- this many functions that are read ahead are taken
 pub ahead_taken : (old new : Option (List ℕ)) (ahead : List ℕ) (before now : List (ℕ × ℕ)) (place after count over : ℕ) → 6 * count ≤ length ahead
     → AreTaken over before now place (take (6 * count) ahead) → Consumes old new (take (6 * count) ahead) → after ≡ place_after place (6 * count)
     → ReadsBlock (Ok after) old new before now place count

@@ -111,7 +111,7 @@ pub none_left : (bytes : List ℕ) → length bytes ≡ 0 → bytes ≡ []
 none_left [] none = refl
 none_left (x ∷ xs) none = absurd (omega (arith, none))
 
--- what is left after so many more bytes
+-- what is left after this many more bytes
 pub suffix_on : (bytes left rest : List ℕ) (width : ℕ) → left ≡ drop (length bytes - length left) bytes → rest ≡ drop width left → length left ≡ width + length rest
     → rest ≡ drop (length bytes - length rest) bytes
 suffix_on bytes left rest width left_is rest_is long =
@@ -132,7 +132,7 @@ held_slice taken filled buf le =
     let all : taken + (filled - taken) ≡ filled = omega arith in
     sym (drop-take taken (filled - taken) buf) ∙ ap (λ (n : ℕ). drop taken (take n buf)) all
 
--- what holds of such a slice, holds of the held bytes
+-- what holds of such a slice holds of the held bytes
 pub at_held : (P : ℕ → List ℕ → Type 0) (place taken at filled : ℕ) (buf : List ℕ) → taken ≤ filled → at ≡ place_after place taken
     → P at (take (filled - taken) (drop taken buf)) → P (place_after place taken) (held_in taken filled buf)
 at_held P place taken at filled buf le at_is holds =
@@ -161,7 +161,7 @@ held_left taken filled over after buf left le order few after_is left_is =
     let all : taken + (length (held_in taken filled buf) - over) ≡ after = omega (arith, long, after_is) in
     left_is ∙ drop-drop (length (held_in taken filled buf) - over) taken (take filled buf) ∙ ap (λ (n : ℕ). drop n (take filled buf)) all
 
--- what the filling of a block keeps: so many bytes are filled, of which so many are taken, as functions
+-- what the filling of a block keeps: this many bytes are filled, of which this many are taken, as functions
 pub record IsBlock (old now : Option (List ℕ)) (before xs : List (ℕ × ℕ)) (place count filled taken : ℕ) (buf : List ℕ) (failures failures_now : ℕ) : Type 0 where
   pub done : ℕ
   pub all : taken ≡ 6 * done

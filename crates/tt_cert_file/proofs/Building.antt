@@ -1,4 +1,4 @@
--- A state that is made of its parts, one after the other.
+-- A state that is made from its parts, one after the other.
 use Rattle.std.proofs.Common.{◌≡◌, ℕ, ℤ, zero, suc, ◌+◌, ◌<◌, List, [], ◌∷◌, ◌++◌, length, take, reverse, Some, refl, sym, ap, subst, ◌∙◌, arith}
 use Rattle.std.specs.Prelude.{slice_get, slice_index_or}
 use Rattle.std.specs.List.{AllByRecursion}
@@ -12,7 +12,7 @@ use Rattle.tt_abs.specs.declared.state.State.{State}
 use Rattle.tt_abs.specs.Transfers.{cells_on}
 use Rattle.tt_abs.proofs.CodedCells.{cells_on_reversed}
 
--- cells that are pushed on none
+-- cells that are pushed onto none
 pub on_none : (cells : List Cell) → cells_on cells [] ≡ reverse cells
 on_none cells = sym (cells_on_reversed [] cells)
 
@@ -28,7 +28,7 @@ all_get P [] i x h at = absurd cc
 all_get {A} P (y ∷ ys) zero x h at = let same : y ≡ x = cc in subst P same h.0
 all_get P (y ∷ ys) (suc i) x h at = all_get P ys i x h.1 at
 
--- the entries before one that rises over them
+-- the entries before one that is above them
 before_entry : {V : Type 0} (es : List (ℕ × V)) (k : ℕ) (e : ℕ × V) → Rises es → slice_get es k ≡ Some e → AllByRecursion (λ f. f.0 < e.0) (take k es)
 before_entry es zero e rises at = tt
 before_entry [] (suc k) e rises at = tt

@@ -190,7 +190,7 @@ rest_cut (Some xs) (Some ys) before now place after held more begun was number f
     let after_here : after ≡ place_after place (1 + length (begun ++ part)) = omega (arith, after_is, all) in
     rw (bytes, count, after_here) (no_cell before n place _ (1 ∷ (begun ++ part)) [] (cell_begun place (begun ++ part) (omega (arith, all))))
 
--- what the filling of a block keeps: so many bytes are filled, of which so many are taken, as cells
+-- what the filling of a block keeps: this many bytes are filled, of which this many are taken, as cells
 pub record IsCellBlock (old now : Option (List ℕ)) (before xs : List Cell) (place count wanted filled taken : ℕ) (buf : List ℕ) (failures failures_now : ℕ) : Type 0 where
   pub few : length xs ≤ length before + taken
   pub least : length before ≤ length xs
@@ -350,7 +350,7 @@ block_refused (fault.Form broken) old now next before xs ys place count wanted f
         ∙ ap (λ (l : List ℕ). l ++ yb) (sym (held_on now next taken filled wanted more was buf fills inv.order)) in
         rw bytes (breaks (count - length xs) yb (omega (arith, long, inv.few, inv.order, fills.few, fit.0, fit.1)))
 
--- of a cell that was begun less than four bytes of its number are held
+-- of a cell that was begun fewer than four bytes of its number are held
 pub rest_short : (old now : Option (List ℕ)) (before xs : List Cell) (place count wanted filled taken : ℕ) (buf : List ℕ) (f g : ℕ)
     → IsCellBlock old now before xs place count wanted filled taken buf f g → wanted ≤ 64 → taken < filled
     → length (take (filled - (taken + 1)) (drop (taken + 1) buf)) ≤ 4

@@ -102,7 +102,7 @@ and_then_codec {A} {B} first second spell spell' P Q one two = record {
       rw (append_assoc (spell x.0) (spell' x.1) rest, one.again x.0 place (spell' x.1 ++ rest) h.0 lt, (two x.0).again x.1 after rest h.1 (omega arith), n) refl;
 }
 
--- what is made of a value has the text of that, where the one can be told from the other
+-- what is made of a value has the text of that value, where the one can be told from the other
 pub made_of_codec : {A B : Type 0} (make : A → B) (unmake : B → A) (read : Input → Answer A) (spell : A → List ℕ) (P : A → Type 0) (Q : B → Type 0)
     → ((a : A) → P a → (unmake (make a) ≡ a) × Q (make a)) → ((b : B) → Q b → (make (unmake b) ≡ b) × P (unmake b)) → IsCodec read spell P
     → IsCodec (made_of make read) (λ b. spell (unmake b)) Q

@@ -1,4 +1,4 @@
--- What the reading of a section says of its text.
+-- What the reading of a section tells of its text.
 use Rattle.std.proofs.Common.{◌≡◌, ℕ, ◌^◌, ◌<◌, true, List, ◌++◌, Option, Some, None, is_some, Result, Ok, Err, refl, sym, ap, subst, ◌∙◌, arith, length}
 use Rattle.std.specs.Prelude.{IfOk, MatchResult}
 use Rattle.tt_cert.specs.Contents.{Contents}

@@ -267,7 +267,7 @@ cell_again (Known z) place rest h within =
 pub cell_codec : IsCodec cell_at cell_text CellFits
 cell_codec = record { takes = cell_takes; again = cell_again }
 
--- a number of 16 bits with one that has a sign
+-- a number of 16 bits and one that has a sign
 
 pub signed_back : (p : ℕ × ℕ) → PairFits p → ◌≡◌ {A = ℕ × ℕ} (p.0, cast_unsigned w32 (cast_signed w32 p.1)) p
 signed_back p h = ap (λ (n : ℕ). (p.0, n)) (unsigned32 p.1 h.1)

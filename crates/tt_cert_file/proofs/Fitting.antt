@@ -70,7 +70,7 @@ graphics_fit g h = record {
   loop_number = cell_fits g.loop_number h.0.1.1.1;
 }
 
--- lists of entries by rising numbers
+-- lists of entries by ascending numbers
 
 module _ {V : Type 0} (P : List (ℕ × V) → ℕ × V → Type 0) (Q : ℕ × V → Type 0) (make : (before : List (ℕ × V)) (e : ℕ × V) → Q e → is_above (last_of before) e ≡ true → P before e) where
   later_entries : (d : ℕ × V) (before es : List (ℕ × V)) → last_of before ≡ Some d → AllByRecursion (λ f. d.0 < f.0) es → Rises es → AllByRecursion Q es → EachAfter P before es
@@ -111,7 +111,7 @@ state_written (Ok x) s functions storage fe se stack few numbers stored_few stor
     let stored_fits = subst S se (stored_few, stored) in
     state_fits s range stack fits.0 fits.1 stored_fits.0 stored_fits.1
 
--- the states of a family, by rising places
+-- the states of a family, by ascending places
 
 module _ (n : ℕ) (few : n ≤ 65535) where
   entry_fits : (before : List Entry) (e : Entry) → HasRoom n e → option_map_or (λ q. is_lt (place_cmp q e.0)) (last_place before) true ≡ true → EntryFits Four n before e

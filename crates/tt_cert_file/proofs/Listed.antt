@@ -23,7 +23,7 @@ get_behind : {A : Type 0} (xs : List A) (i : ℕ) → slice_get (drop 1 xs) i �
 get_behind [] i = refl
 get_behind (x ∷ xs) i = let n : i + 1 ≡ suc i = omega arith in ap (slice_get (x ∷ xs)) (sym n)
 
--- a context stands in the list by its number
+-- a context is in the list under its number
 pub context_listed : (v : Contents) (i : ℕ) (c : Context) → IsFamily v → i + 1 < length v.contexts → frames_at v.contexts (i + 1) ≡ c.1 ∷ frames_at v.contexts c.0
     → c.0 < length v.contexts → slice_get (contexts_in v.contexts) i ≡ Some c
 context_listed v i c family lt frames parent =
@@ -45,7 +45,7 @@ same_by_get {A} (x ∷ xs) (y ∷ ys) len get =
     let tail : xs ≡ ys = same_by_get xs ys (omega (arith, len)) (λ i z at. get (suc i) z at) in
     cc
 
--- the contexts that a family was made of
+-- the contexts from which a family was made
 pub listed_back : (contexts : List Context) (v : Contents) → v.contexts ≡ frames_of contexts → IsFamily v → AreContexts contexts → contexts_in v.contexts ≡ contexts
 listed_back contexts v is family rules =
     let grown = length-grow ([] ∷ []) contexts in

@@ -1,4 +1,4 @@
--- Texts of values that are put behind one another.
+-- Texts of values that are put one after another.
 use Rattle.std.proofs.Common.{◌≡◌, ℕ, ℤ, ◌+◌, ◌^◌, ◌<◌, ◌≤◌, List, [], ◌∷◌, ◌++◌, length, take, Option, None, Some, Ok, Err, sym, ap, subst, ◌∙◌, append_assoc, append-nil, take_all}
 use Rattle.std.specs.Prelude.{FitsSigned, IfSome, IsSomeAnd, OnOk, Result, slice_get, slice_index_or}
 use Rattle.std.specs.Int.{w32}

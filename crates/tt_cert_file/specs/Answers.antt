@@ -17,13 +17,13 @@ use Rattle.tt_cert_file.specs.Text.{section_text}
 abbrev pub input_at : ℕ → Option (List ℕ) → Input
 input_at place known = record { place = place; bytes = unwrap_or known [] }
 
--- the fault is what reading refuses; a failed read and want of memory say nothing
+-- the fault is what reading refuses; a failed read and out of memory are unspecified
 abbrev pub Fails : {Y : Type 0} → DecodeFault → Result Y ℕ → Type 0
 Fails (fault.Form place) read = read ≡ Err place
 Fails fault.Read read = Unit {0}
 Fails (fault.OutOfMemory error) read = Unit {0}
 
--- Where the source tells its bytes, the answer, seen by a view, is what reading gives, failed reads and want of memory aside.
+-- Where the source tells its bytes, the answer, seen by a view, is what reading gives, except for failed reads and out of memory.
 abbrev pub Gives : {X Y : Type 0} → (X → Y) → Option (List ℕ) → Option (List ℕ) → Result (X × ℕ) DecodeFault → Answer Y → Type 0
 Gives view old new (Ok x) read = is_some old ≡ true → (is_some new ≡ true) × (read ≡ Ok (view x.0, input_at x.1 new))
 Gives view old new (Err e) read = is_some old ≡ true → Fails e read

@@ -13,7 +13,7 @@ use Rattle.tt_cert_file.specs.Reading.{cell_at, function_at}
 abbrev pub input_of : ℕ → List ℕ → List ℕ → Input
 input_of place bytes rest = record { place = place; bytes = bytes ++ rest }
 
--- So many functions were taken from the front of the bytes, after the old ones, and these are left: the rest of a list is read from there on.
+-- This many functions were taken from the front of the bytes, after the old ones, and these are left: the rest of a list is read from there on.
 pub record IsTaking (old now : List (ℕ × ℕ)) (place at : ℕ) (bytes left : List ℕ) : Type 0 where
   pub taken : ℕ
   pub long : length bytes ≡ 6 * taken + length left
@@ -22,7 +22,7 @@ pub record IsTaking (old now : List (ℕ × ℕ)) (place at : ℕ) (bytes left :
   pub anywhere : (p n : ℕ) (rest : List ℕ) → p < 2 ^ 64 → list_at function_at old (taken + n) (input_of p bytes rest)
       ≡ list_at function_at now n (input_of (place_after p (6 * taken)) left rest)
 
--- all functions that are whole were taken; so many bytes are left
+-- all functions that are whole were taken; this many bytes are left
 pub record AreTaken (over : ℕ) (old new : List (ℕ × ℕ)) (place : ℕ) (bytes : List ℕ) : Type 0 where
   pub at : ℕ
   pub left : List ℕ
@@ -35,14 +35,14 @@ pub record AreTaken (over : ℕ) (old new : List (ℕ × ℕ)) (place : ℕ) (by
 abbrev pub BreaksAt : List (ℕ × ℕ) → ℕ → List ℕ → ℕ → Type 0
 BreaksAt old place bytes broken = (n : ℕ) (rest : List ℕ) → length bytes ≤ 6 * n → list_at function_at old n (input_of place bytes rest) ≡ Err broken
 
--- what comes of taking the functions of these bytes; want of memory says nothing, and no read fails
+-- what comes of taking the functions of these bytes; out of memory is unspecified, and no read fails
 abbrev pub Takes : Result ℕ DecodeFault → List (ℕ × ℕ) → List (ℕ × ℕ) → ℕ → List ℕ → Type 0
 Takes (Ok over) old new place bytes = AreTaken over old new place bytes
 Takes (Err (fault.Form broken)) old new place bytes = BreaksAt old place bytes broken
 Takes (Err fault.Read) old new place bytes = ⊥
 Takes (Err (fault.OutOfMemory error)) old new place bytes = Unit {0}
 
--- So many more of the wanted bytes were read into the buffer, after those that it holds; none at the input's end.
+-- This many more of the wanted bytes were read into the buffer, after those that it holds; none at the input's end.
 pub record FillsOn (old new : Option (List ℕ)) (held wanted more : ℕ) (before buf : List ℕ) : Type 0 where
   pub long : length buf ≡ length before
   pub few : held + more ≤ wanted
@@ -55,7 +55,7 @@ pub record FillsOn (old new : Option (List ℕ)) (held wanted more : ℕ) (befor
 abbrev pub input_held : ℕ → List ℕ → Option (List ℕ) → Input
 input_held place held known = input_of place held (unwrap_or known [])
 
--- So many functions of a list were read after those before them; the rest of the list is read from there on.
+-- This many functions of a list were read after those before them; the rest of the list is read from there on.
 abbrev pub ReadsBlock : Result ℕ DecodeFault → Option (List ℕ) → Option (List ℕ) → List (ℕ × ℕ) → List (ℕ × ℕ) → ℕ → ℕ → Type 0
 ReadsBlock (Ok after) old new before now place count = is_some old ≡ true → (is_some new ≡ true)
     × ((n : ℕ) → list_at function_at before (count + n) (input_at place old) ≡ list_at function_at now n (input_at after new))
@@ -69,12 +69,12 @@ pub record FillsRest (old new : Option (List ℕ)) (held read : ℕ) (before buf
   pub consumed : Consumes old new (take read (drop held buf))
   pub at_end : held + read < length buf → IsAtEnd new
 
--- so many cells, after those before them
+-- this many cells, after those before them
 abbrev pub cells_at : List Cell → ℕ → Input → Answer (List Cell)
 cells_at before n i = list_at (λ _. cell_at) before n i
 
--- So many cells were taken from the front of the bytes, each of a byte at least, after the old ones, and these bytes are left: the rest of a list
--- is read from there on.
+-- This many cells were taken from the front of the bytes, each of at least one byte, after the old ones, and these bytes are left: the rest of a
+-- list is read from there on.
 pub record IsTakingCells (old now : List Cell) (place at : ℕ) (bytes left : List ℕ) : Type 0 where
   pub taken : ℕ
   pub grown : length now ≡ length old + taken
@@ -98,7 +98,7 @@ pub record AreCellsTaken (over : ℕ) (old new : List Cell) (place : ℕ) (bytes
   pub begun : 0 < over → IsBegun left
   pub taking : IsTakingCells old new place at bytes left
 
--- what comes of taking the cells of these bytes; want of memory says nothing, and no read fails
+-- what comes of taking the cells of these bytes; out of memory is unspecified, and no read fails
 abbrev pub TakesCells : Result ℕ DecodeFault → List Cell → List Cell → ℕ → List ℕ → Type 0
 TakesCells (Ok over) old new place bytes = AreCellsTaken over old new place bytes
 TakesCells (Err (fault.Form broken)) old new place bytes =
@@ -116,13 +116,13 @@ ReadsRest (Ok after) old new number before now place = (length now ≡ length be
     × ((n : ℕ) → cells_at before (1 + n) (input_begun place number old) ≡ cells_at now n (input_at after new)))
 ReadsRest (Err e) old new number before now place = is_some old ≡ true → (n : ℕ) → Fails e (cells_at before (1 + n) (input_begun place number old))
 
--- Some cells of so many in all were read after those before them; the rest of the list is read from there on.
+-- Some cells of this many in all were read after those before them; the rest of the list is read from there on.
 abbrev pub ReadsCells : Result ℕ DecodeFault → Option (List ℕ) → Option (List ℕ) → List Cell → List Cell → ℕ → ℕ → Type 0
 ReadsCells (Ok after) old new before now place count = (length before < length now) × (length now ≤ count) × (is_some old ≡ true → (is_some new ≡ true)
     × ((n : ℕ) → cells_at before ((length now - length before) + n) (input_at place old) ≡ cells_at now n (input_at after new)))
 ReadsCells (Err e) old new before now place count = is_some old ≡ true → Fails e (cells_at before (count - length before) (input_at place old))
 
--- Some cells were taken from the front of the bytes, at most as many as make so many in all; so many bytes were used.
+-- Some cells were taken from the front of the bytes, at most as many as make this many in all; this many bytes were used.
 pub record AreSomeCellsTaken (used : ℕ) (old new : List Cell) (place : ℕ) (bytes : List ℕ) (count : ℕ) : Type 0 where
   pub at : ℕ
   pub left : List ℕ
@@ -131,7 +131,7 @@ pub record AreSomeCellsTaken (used : ℕ) (old new : List Cell) (place : ℕ) (b
   pub few : length new ≤ count
   pub taking : IsTakingCells old new place at bytes left
 
--- what comes of taking some of these bytes' cells; want of memory says nothing, and no read fails
+-- what comes of taking some of these bytes' cells; out of memory is unspecified, and no read fails
 abbrev pub TakesSomeCells : Result ℕ DecodeFault → List Cell → List Cell → ℕ → List ℕ → ℕ → Type 0
 TakesSomeCells (Ok used) old new place bytes count = AreSomeCellsTaken used old new place bytes count
 TakesSomeCells (Err (fault.Form broken)) old new place bytes count =
@@ -139,19 +139,19 @@ TakesSomeCells (Err (fault.Form broken)) old new place bytes count =
 TakesSomeCells (Err fault.Read) old new place bytes count = ⊥
 TakesSomeCells (Err (fault.OutOfMemory error)) old new place bytes count = Unit {0}
 
--- More cells of so many in all were read after those before them, perhaps none; the rest of the list is read from there on.
+-- More cells of this many in all were read after those before them, perhaps none; the rest of the list is read from there on.
 abbrev pub ReadsMoreCells : Result ℕ DecodeFault → Option (List ℕ) → Option (List ℕ) → List Cell → List Cell → ℕ → ℕ → Type 0
 ReadsMoreCells (Ok after) old new before now place count = (length before ≤ length now) × (length now ≤ count) × (is_some old ≡ true → (is_some new ≡ true)
     × ((n : ℕ) → cells_at before ((length now - length before) + n) (input_at place old) ≡ cells_at now n (input_at after new)))
 ReadsMoreCells (Err e) old new before now place count = is_some old ≡ true → Fails e (cells_at before (count - length before) (input_at place old))
 
--- these bytes are read as these functions, wherever they stand
+-- these bytes are read as these functions, wherever they are
 pub record AreSpelled (text : List ℕ) (functions : List (ℕ × ℕ)) : Type 0 where
   pub count : ℕ
   pub long : length text ≡ 6 * count
   pub reads : (p n : ℕ) (rest : List ℕ) → p < 2 ^ 64 → list_at function_at [] (count + n) (input_of p text rest)
       ≡ list_at function_at functions n (input_of (place_after p (6 * count)) [] rest)
 
--- functions rise, and where there is a text, it is theirs
+-- functions ascend, and where there is a text, it is theirs
 abbrev pub AreKept : List ℕ → List (ℕ × ℕ) → Type 0
 AreKept text functions = Rises functions × (0 < length text → AreSpelled text functions)

@@ -1,7 +1,7 @@
 -- Reading unit by unit. A unit that is incomplete is refused at the input's end, one that breaks a rule at its own first byte.
 use Rattle.std.specs.Prelude.{ℕ, zero, suc, ◌+◌, ◌-◌, ◌^◌, min, Bool, List, [], ◌∷◌, ◌++◌, length, take, drop, Option, Some, None, Result, Ok, Err, nat_lt, if◌then◌else◌}
 
--- where reading stands: its place, which stops at the greatest number of 64 bits, and the bytes from there on
+-- where reading is: its place, which stops at the greatest number of 64 bits, and the bytes from there on
 pub record Input : Type 0 where
   pub place : ℕ
   pub bytes : List ℕ
@@ -47,7 +47,7 @@ ruled rule read i = do
   x ← read i
   if rule x.0 then Ok x else Err i.place
 
--- so many values, each by those before it
+-- this many values, each by those before it
 unfoldable pub list_at : {A : Type 0} → (List A → Input → Answer A) → List A → ℕ → Input → Answer (List A)
 list_at one before zero i = Ok (before, i)
 list_at one before (suc n) i = do

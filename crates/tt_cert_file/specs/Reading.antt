@@ -17,7 +17,7 @@ use Rattle.tt_cert_file.specs.Readers.{Answer, Input, and_then, given, list_at, 
 use Rattle.tt_cert_file.specs.Rules.{is_above, is_next_place, last_of, last_place, may_follow}
 use Rattle.tt_cert_file.specs.Sections.{Context, Entry, Section}
 
--- a number of 16 bits, one of 32, and one of 16 with one of 32
+-- a number of 16 bits, one of 32, and both together
 unfoldable pub word_at : Input → Answer ℕ
 word_at i = do
   u ← unit 2 i
@@ -160,7 +160,7 @@ parts_at form = and_then stack_at (λ _. and_then graphics_at (λ _. and_then fu
 unfoldable pub state_at : Form → Input → Answer State
 state_at form = made_of state_from (parts_at form)
 
--- a state with its place, in one of so many contexts, after the last one's; and after those before it
+-- a state with its place, in one of this many contexts, after the last one's; and after those before it
 abbrev pub entry_after : Form → ℕ → Option (ℕ × ℕ) → Input → Answer Entry
 entry_after form contexts last = and_then (place_at contexts last) (λ _. state_at form)
 

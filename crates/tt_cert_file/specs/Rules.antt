@@ -107,7 +107,7 @@ StorageFits Two cells = cells ≡ []
 StorageFits Three cells = ListFits StoredFits cells
 StorageFits Four cells = ListFits StoredFits cells
 
--- a context with an offset comes after the last one; its context is one of so many
+-- a context with an offset comes after the last one; its context is one of this many
 abbrev pub is_next_place : ℕ → Option (ℕ × ℕ) → ℕ × ℕ → Bool
 is_next_place contexts last p = nat_lt p.0 contexts && option_map_or (λ q. is_lt (place_cmp q p)) last true
 
@@ -152,6 +152,6 @@ pub record IsTextOf (text : List ℕ) (functions : List (ℕ × ℕ)) : Type 0 w
   pub few : length functions < 2 ^ 16
   pub numbers : AllByRecursion (λ e. (e.0 < 2 ^ 16) × (e.1 < 2 ^ 32)) functions
 
--- a state in one of so many contexts, at an offset of 32 bits, whose lists fit (Representation: no public clause cites it.)
+-- a state in one of this many contexts, at an offset of 32 bits, whose lists fit (Representation: no public clause cites it.)
 abbrev pub HasRoom : ℕ → Entry → Type 0
 HasRoom contexts e = (e.0.0 < contexts) × (e.0.1 < 2 ^ 32) × StateFits Four e.1

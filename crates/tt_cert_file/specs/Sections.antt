@@ -1,11 +1,11 @@
--- What a section of a certificate file says: a program's name and its family, as the file lists it.
+-- What a section of a certificate file tells: a program's name and its family, as the file lists it.
 use Rattle.std.specs.Prelude.{ℕ, List, [], ◌∷◌, map, drop}
 use Rattle.tt_code.specs.declared.machine.Frame.{Frame}
 use Rattle.tt_abs.specs.declared.state.State.{State}
 use Rattle.tt_cert.specs.Contents.{Contents, number_of}
 use Rattle.tt_cert_file.specs.declared.name.Name.{Name}
 
--- a context but the main one: the number of its parent, the list of calls without the last one, and the last call
+-- a context other than the main one: the number of its parent, the list of calls without the last one, and the last call
 abbrev pub Context : Type 0
 Context = ℕ × Frame
 
@@ -28,7 +28,7 @@ abbrev pub context_of : List (List Frame) → List Frame → Context
 context_of contexts [] = (0, no_frame)
 context_of contexts (f ∷ fs) = (number_of contexts fs, f)
 
--- the contexts of a family but the main one
+-- the contexts of a family except for the main one
 abbrev pub contexts_in : List (List Frame) → List Context
 contexts_in contexts = map (context_of contexts) (drop 1 contexts)
 

@@ -53,7 +53,7 @@ abbrev pub graphics_text : Cells → List ℕ
 graphics_text g = cell_text g.rp0 ++ (cell_text g.rp1 ++ (cell_text g.rp2
     ++ (zone_text g.zp0 ++ (zone_text g.zp1 ++ (zone_text g.zp2 ++ cell_text g.loop_number)))))
 
--- a number of 16 bits with one of 32: a context with an offset, a function with its body
+-- a number of 16 bits and one of 32: a context with an offset, a function with its body
 abbrev pub pair_text : ℕ × ℕ → List ℕ
 pair_text p = word p.0 ++ long p.1
 

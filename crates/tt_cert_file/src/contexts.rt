@@ -1,4 +1,4 @@
-//! Contexts of a section: read one after the other, each by the rules, and made those of a builder.
+//! Contexts of a section: read one after the other, each by the rules, and then added to a builder.
 
 ghost use Rattle.std.specs.Prelude.{◌≡◌, ◌<◌, ◌≤◌, ℕ, [], true, length, IfErr, IfOk};
 ghost use Rattle.std.specs.Option.{option_copied};
@@ -24,14 +24,14 @@ use tt_stream::Source;
 /// How many turns a call has at most.
 const MOST_TURNS: u32 = 0x7fff_ffff;
 
-/// Is the turn one of the call's?
+/// Whether the turn is one of the call's.
 fn is_turn(frame: &Frame) -> bool
     ensures { result ≡ is_turn_of frame.now }
 {
     1 <= frame.turn && frame.turn <= frame.count && frame.count <= MOST_TURNS
 }
 
-/// By what contexts rise: parent, call, body, turn and count.
+/// Returns the key by which contexts ascend: parent, call, body, turn and count.
 fn key_of(context: &(u32, Frame)) -> (u32, u32, u32, u32, u32)
     ensures { result ≡ key_of_context context.now }
 {
@@ -39,7 +39,7 @@ fn key_of(context: &(u32, Frame)) -> (u32, u32, u32, u32, u32)
     (parent, frame.call, frame.body, frame.turn, frame.count)
 }
 
-/// Is the context above the last one, if there is one?
+/// Whether the context is above the last one, if there is one.
 fn is_above(last: Option<&(u32, Frame)>, context: &(u32, Frame)) -> bool
     ensures { result ≡ is_above_context (option_copied last.entry) context.now }
 {
@@ -49,7 +49,7 @@ fn is_above(last: Option<&(u32, Frame)>, context: &(u32, Frame)) -> bool
     }
 }
 
-/// Does the body run in none of the calls of this context?
+/// Whether the body runs in none of the calls of this context.
 fn is_new_body(contexts: &[(u32, Frame)], number: u32, body: u32) -> bool
     requires parents { HaveParents contexts.now }
     requires there { number ≤ length contexts.now }
@@ -66,7 +66,7 @@ fn is_new_body(contexts: &[(u32, Frame)], number: u32, body: u32) -> bool
     true
 }
 
-/// May the context come after these?
+/// Whether the context may come after these.
 fn may_follow(before: &[(u32, Frame)], context: &(u32, Frame)) -> bool
     requires { HaveParents before.now }
     ensures { result ≡ may_follow_after before.now context.now }
@@ -77,7 +77,7 @@ fn may_follow(before: &[(u32, Frame)], context: &(u32, Frame)) -> bool
         && is_new_body(before, context.0, context.1.body)
 }
 
-/// Reads a context after those before it, whose numbers are from 1.
+/// Reads a context after those before it, whose numbers start from 1.
 #[tactic(auto, unfolding(crate::specs::Reading::context_at))]
 fn read_context<S: Source>(
     source: &mut S,
@@ -110,7 +110,7 @@ fn read_context<S: Source>(
     Ok((context, at))
 }
 
-/// Reads how many contexts a section has beside the main one.
+/// Reads how many contexts a section has besides the main one.
 fn read_count<S: Source>(source: &mut S, place: u64, form: Form) -> Result<(u16, u64), DecodeFault>
     ensures reads { Gives (λ x. x) (S.remaining source.old) (S.remaining source.new) result (context_count_at form (input_at place (S.remaining source.old))) }
     ensures few { IfOk result (λ r. r.0 ≤ most_contexts form) }
@@ -126,7 +126,7 @@ fn read_count<S: Source>(source: &mut S, place: u64, form: Form) -> Result<(u16,
     Ok((count, at))
 }
 
-/// Reads so many contexts.
+/// Reads this many contexts.
 fn read_context_list<S: Source>(
     alloc: Global,
     source: &mut S,
@@ -169,7 +169,7 @@ pub(crate) fn read_contexts<S: Source>(
     read_context_list(alloc, source, at, count)
 }
 
-/// A builder with these contexts, by their numbers, and without a state.
+/// Makes a builder with these contexts, by their numbers, and without a state.
 pub(crate) fn builder_of(alloc: Global, contexts: &[(u32, Frame)]) -> Result<Builder, AllocError>
     requires contexts { AreContexts contexts.now }
     requires few { length contexts.now ≤ 65534 }
@@ -182,7 +182,7 @@ pub(crate) fn builder_of(alloc: Global, contexts: &[(u32, Frame)]) -> Result<Bui
         match builder.add_context(*parent, *frame) {
             Ok(_) => {}
             Err(ContextFault::OutOfMemory) => return Err(AllocError),
-            // No context comes twice, and 65,535 are not there yet.
+            // No context comes twice, and there are fewer than 65,535 so far.
             Err(ContextFault::TooManyContexts) => unreachable!(),
         }
     }

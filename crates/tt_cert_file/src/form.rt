@@ -4,18 +4,18 @@ ghost use Rattle.tt_cert_file.specs.Forms.{form_number, form_of, most_contexts a
 /// A form of certificate files. Form 4 is written, all are read.
 #[derive(Clone, Copy, Debug, PartialEq, Eq)]
 pub enum Form {
-    /// Each state is listed, without its storage cells; at most 4,095 contexts beside the main one.
+    /// Each state is listed, without its storage cells; at most 4,095 contexts besides the main one.
     One,
     /// States may be left out; otherwise as the first.
     Two,
     /// As the second, with storage cells.
     Three,
-    /// As the third, with up to 65,534 contexts beside the main one.
+    /// As the third, with up to 65,534 contexts besides the main one.
     Four,
 }
 
 impl Form {
-    /// The form with this number.
+    /// Returns the form with this number.
     pub(crate) fn with_number(number: u16) -> Option<Form>
         ensures { result ≡ form_of number }
     {
@@ -28,7 +28,7 @@ impl Form {
         }
     }
 
-    /// The number by which a header names the form.
+    /// Returns the number by which a header names the form.
     pub fn number(self) -> u16
         ensures { result ≡ form_number self }
     {
@@ -40,7 +40,7 @@ impl Form {
         }
     }
 
-    /// How many contexts a section of this form may have at most, beside the main one.
+    /// Returns how many contexts a section of this form may have at most, besides the main one.
     pub fn most_contexts(self) -> u16
         ensures { result ≡ form_contexts self }
     {

@@ -13,7 +13,7 @@ use crate::form::Form;
 use crate::units::{read_long, read_word};
 use tt_stream::{Sink, Source, read_full, write_all};
 
-/// With what a certificate file begins: `HCRT`.
+/// What a certificate file begins with: `HCRT`.
 const MAGIC: u32 = 0x4843_5254;
 
 /// Reads what a certificate file begins with.
@@ -48,7 +48,7 @@ fn read_form<S: Source>(source: &mut S, place: u64) -> Result<(Form, u64), Decod
     }
 }
 
-/// Reads a header at a place, and answers it with the place after it.
+/// Reads a header at a place, and returns it with the place after it.
 #[tactic(auto, unfolding(crate::specs::Reading::header_at))]
 fn read_header_at<S: Source>(source: &mut S, place: u64) -> Result<((Form, u32), u64), DecodeFault>
     ensures reads { Gives (λ x. x) (S.remaining source.old) (S.remaining source.new) result (header_at (input_at place (S.remaining source.old))) }
@@ -80,7 +80,7 @@ pub fn read_header<S: Source>(source: &mut S) -> Result<(Form, u32), DecodeFault
     Ok(header)
 }
 
-/// Sees that nothing follows at a place: the end of a certificate file.
+/// Checks that nothing follows at a place: the end of a certificate file.
 ///
 /// # Errors
 /// `Form` with the place of the first byte that follows; `Read` exactly where a read failed, and then nothing was read.
@@ -99,7 +99,7 @@ pub fn read_end<S: Source>(source: &mut S, place: u64) -> Result<(), DecodeFault
     Ok(())
 }
 
-/// Writes the header of a certificate file of form 4 with so many sections.
+/// Writes the header of a certificate file of form 4 with this many sections.
 ///
 /// # Errors
 /// `Write` exactly where a write failed; then a beginning of the header was written, perhaps an empty one.

@@ -24,7 +24,7 @@ const FUNCTION: usize = 6;
 /// How many functions, or bytes of cells, are read at a time. Of both a state may list hundreds, which are most of a certificate's bytes.
 const BLOCK: usize = 64;
 
-/// Reads some more of the wanted bytes into the buffer, of which so many are held already, in one call.
+/// Reads some more of the wanted bytes into the buffer, which already holds this many, in one call.
 fn read_more<S: Source>(
     source: &mut S,
     buf: &mut [u8],
@@ -41,7 +41,7 @@ fn read_more<S: Source>(
     source.read(&mut buf[held..wanted])
 }
 
-/// Reads until the buffer is full, of which so many bytes are held already, and answers how many were read.
+/// Reads until the buffer is full, of which this many bytes are already held, and returns how many were read.
 fn read_rest<S: Source>(source: &mut S, buf: &mut [u8], held: usize) -> Result<usize, ReadFailed>
     requires { held ≤ length buf.old }
     ensures rest { IfOk result (λ n. FillsRest (S.remaining source.old) (S.remaining source.new) held n buf.old buf.new) }
@@ -52,7 +52,7 @@ fn read_rest<S: Source>(source: &mut S, buf: &mut [u8], held: usize) -> Result<u
     read_full(source, &mut buf[held..])
 }
 
-/// Takes the cells that are whole in these bytes, after those before them, and answers how many bytes are left of one more.
+/// Takes the cells that are whole in these bytes, after those before them, and returns how many bytes are left of one more.
 fn take_cells(cells: &mut Vec<Cell>, place: u64, bytes: &[u8]) -> Result<usize, DecodeFault>
     ensures { TakesCells result cells.old.items cells.new.items place bytes.now }
 {
@@ -79,7 +79,7 @@ fn take_cells(cells: &mut Vec<Cell>, place: u64, bytes: &[u8]) -> Result<usize, 
     Ok(0)
 }
 
-/// Takes cells from the front of these bytes, after those before them, as far as they are whole, and until there are so many in all. Answers how
+/// Takes cells from the front of these bytes, after those before them, as far as they are whole, and until there are `count` in all. Returns how
 /// many bytes they have.
 fn take_some_cells(
     cells: &mut Vec<Cell>,
@@ -116,7 +116,7 @@ fn take_some_cells(
     Ok(bytes.len() - left.len())
 }
 
-/// Takes cells that are read ahead, of so many in all, after those before them, and answers the place after them.
+/// Takes cells that are read ahead, of this many in all, after those before them, and returns the place after them.
 fn take_ahead_cells<S: Source>(
     source: &mut S,
     place: u64,
@@ -134,7 +134,7 @@ fn take_ahead_cells<S: Source>(
     Ok(place.saturating_add(used as u64))
 }
 
-/// Reads the rest of a known cell, of whose number these bytes were read, and answers the place after it.
+/// Reads the rest of a known cell, these bytes of whose number were read, and returns the place after it.
 fn read_rest_of_cell<S: Source>(
     source: &mut S,
     place: u64,
@@ -159,7 +159,7 @@ fn read_rest_of_cell<S: Source>(
     Ok(after)
 }
 
-/// Reads one more cell after those before it, and answers the place after it.
+/// Reads one more cell after those before it, and returns the place after it.
 fn read_one_cell<S: Source>(
     source: &mut S,
     place: u64,
@@ -177,8 +177,8 @@ fn read_one_cell<S: Source>(
     Ok(after)
 }
 
-/// Reads some cells at once, of so many in all, after those before them, and answers the place after them. Each cell has a byte at least:
-/// so as many bytes are read as cells are left, and then those of the last one that are missing. No call of the source is made once a tag is
+/// Reads some cells at once, of this many in all, after those before them, and returns the place after them. Each cell has at least one byte:
+/// so as many bytes are read as cells are left, and then those of the last one that are missing. The source isn't called again once a tag is
 /// read that breaks a rule.
 fn fetch_cell_block<S: Source>(
     source: &mut S,
@@ -213,8 +213,8 @@ fn fetch_cell_block<S: Source>(
     read_rest_of_cell(source, after, &bytes[taken + 1..filled], cells)
 }
 
-/// Reads some cells, of so many in all, after those before them, and answers the place after them: where bytes are read ahead, one and those
-/// that are read ahead after it, and else some at once.
+/// Reads some cells, of this many in all, after those before them, and returns the place after them: where bytes are read ahead, one and those
+/// that are read ahead after it, and otherwise some at once.
 fn read_cell_block<S: Source>(
     source: &mut S,
     place: u64,
@@ -234,7 +234,7 @@ fn read_cell_block<S: Source>(
     take_ahead_cells(source, at, count, cells)
 }
 
-/// Reads so many cells, in the memory of others.
+/// Reads this many cells, in the memory of others.
 fn read_cells<S: Source>(
     source: &mut S,
     place: u64,
@@ -273,7 +273,7 @@ pub(crate) fn read_stack<S: Source>(
     read_cells(source, at, count, others)
 }
 
-/// May the function come after these?
+/// Whether the function may come after these.
 fn is_next(functions: &[(u16, u32)], function: (u16, u32)) -> bool
     ensures { result ≡ is_above (last_of functions.now) function }
 {
@@ -283,7 +283,7 @@ fn is_next(functions: &[(u16, u32)], function: (u16, u32)) -> bool
     }
 }
 
-/// Takes the functions that are whole in these bytes, after those before them, and answers how many bytes are left of one more.
+/// Takes the functions that are whole in these bytes, after those before them, and returns how many bytes are left of one more.
 fn take_functions(
     functions: &mut Vec<(u16, u32)>,
     place: u64,
@@ -307,7 +307,7 @@ fn take_functions(
     Ok(left.len())
 }
 
-/// Takes so many functions that are read ahead, after those before them, and answers the place after them.
+/// Takes this many functions that are read ahead, after those before them, and returns the place after them.
 fn take_function_block<S: Source>(
     source: &mut S,
     place: u64,
@@ -328,7 +328,7 @@ fn take_function_block<S: Source>(
     Ok(place.saturating_add(width as u64))
 }
 
-/// Reads so many functions at once, after those before them, and answers the place after them. No call of the source is made once a function
+/// Reads this many functions at once, after those before them, and returns the place after them. The source isn't called again once a function
 /// is read that breaks a rule.
 fn fetch_function_block<S: Source>(
     source: &mut S,
@@ -360,7 +360,7 @@ fn fetch_function_block<S: Source>(
     Ok(place.saturating_add(taken as u64))
 }
 
-/// Reads so many functions, after those before them, and answers the place after them.
+/// Reads this many functions, after those before them, and returns the place after them.
 fn read_function_block<S: Source>(
     source: &mut S,
     place: u64,
@@ -380,7 +380,7 @@ fn read_function_block<S: Source>(
     fetch_function_block(source, place, count, functions)
 }
 
-/// Reads so many functions, in the memory of others.
+/// Reads this many functions, in the memory of others.
 fn read_function_list<S: Source>(
     source: &mut S,
     place: u64,
@@ -423,7 +423,7 @@ impl Functions {
     }
 }
 
-/// Is this text, of so many bytes, the next that is read ahead?
+/// Whether this text, of this many bytes, is what is read ahead next.
 fn is_ahead<S: Source>(source: &S, text: &[u8], width: usize) -> bool
     ensures some { result ≡ true → 0 < width }
     ensures long { result ≡ true → length text.now ≡ width }
@@ -438,7 +438,7 @@ fn is_ahead<S: Source>(source: &S, text: &[u8], width: usize) -> bool
     front == text
 }
 
-/// Takes so many functions that are read ahead, in the memory of others, and keeps their text.
+/// Takes this many functions that are read ahead, in the memory of others, and keeps their text.
 fn take_listed<S: Source>(
     source: &mut S,
     place: u64,
@@ -463,7 +463,7 @@ fn take_listed<S: Source>(
     Ok((Functions { list, text }, place.saturating_add(width as u64)))
 }
 
-/// Reads so many functions, which are mostly the others once more, and else in their memory.
+/// Reads this many functions, which are mostly the same as the others, and otherwise in their memory.
 fn read_listed<S: Source>(
     source: &mut S,
     place: u64,
@@ -491,7 +491,7 @@ fn read_listed<S: Source>(
     Ok((Functions { list, text }, after))
 }
 
-/// Reads the functions that are known, with their bodies, which are mostly the others once more, and else in their memory.
+/// Reads the functions that are known, with their bodies, which are mostly the same as the others, and otherwise in their memory.
 #[tactic(auto, unfolding(crate::specs::Reading::functions_at))]
 pub(crate) fn read_functions<S: Source>(
     source: &mut S,
@@ -532,7 +532,7 @@ fn read_stored<S: Source>(
     Ok(((index, number.cast_signed()), after))
 }
 
-/// Reads so many storage cells, in the memory of others.
+/// Reads this many storage cells, in the memory of others.
 fn read_storage_list<S: Source>(
     source: &mut S,
     place: u64,

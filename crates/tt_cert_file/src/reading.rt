@@ -18,7 +18,7 @@ use std::alloc::Global;
 use tt_cert::Certificate;
 use tt_stream::Source;
 
-/// Reads a section, and answers it with the place after it.
+/// Reads a section, and returns it with the place after it.
 #[tactic(auto, unfolding(crate::specs::Reading::section_at))]
 fn read_section<S: Source>(
     alloc: Global,
@@ -38,7 +38,7 @@ fn read_section<S: Source>(
     Ok(((name, Certificate::of(builder)), at))
 }
 
-/// Reads a section of a certificate file of this form, which begins at the place `start` of the file: exactly its bytes. Answers the program's
+/// Reads a section of a certificate file of this form, which begins at the place `start` of the file: exactly its bytes. Returns the program's
 /// name, its family, and the place after the section, which stops at the greatest number of 64 bits.
 ///
 /// # Errors
@@ -51,10 +51,10 @@ pub fn decode<S: Source>(
     start: u64,
     form: Form,
 ) -> Result<(Name, Certificate, u64), DecodeFault>
-    // What is read began the input, which is read so far and no further.
+    // What is read was at the beginning of the input, of which no more is read.
     ensures found { IfOk result (λ r. (input : List ℕ) → S.remaining source.old ≡ Some input → AreBytes input
         → ReadsSection form input start (section_of r.0 r.1) (S.remaining source.new) r.2) }
-    // A section that begins the input is read, failed reads and want of memory aside.
+    // A section at the beginning of the input is read, except for failed reads and out of memory.
     ensures only { (s : Section) (rest : List ℕ) → Fits form s → S.remaining source.old ≡ Some (section_text form s ++ rest)
         → MatchResult result (λ r. section_of r.0 r.1 ≡ s) (λ fault. ¬ IsFormFault fault) }
     // Which place a fault names.

@@ -1,4 +1,4 @@
-//! States of a section: each is made of its parts, and put into a builder.
+//! States of a section: each is made from its parts, and put into a builder.
 
 ghost use Rattle.std.specs.Prelude.{◌≡◌, ◌≤◌, [], ◌∷◌, ◌++◌, true, length, IfErr, IfOk, OnOk};
 ghost use Rattle.tt_abs.specs.Entries.{Rises};
@@ -35,7 +35,7 @@ fn set_graphics(state: &mut State, graphics: &Graphics<Cell, ZoneCell>)
     state.set_loop(graphics.loop_number);
 }
 
-/// Makes storage cells known, by rising indexes.
+/// Makes storage cells known, by ascending indexes.
 fn store_cells(state: &mut State, cells: &[(u16, i32)]) -> Result<(), AllocError>
     requires empty { state.old.storage ≡ [] }
     requires rises { Rises cells.now }
@@ -48,7 +48,7 @@ fn store_cells(state: &mut State, cells: &[(u16, i32)]) -> Result<(), AllocError
     Ok(())
 }
 
-/// The state that has these parts: the stack from the bottom up, and lists by rising numbers.
+/// Makes the state that has these parts: the stack from the bottom up, and lists by ascending numbers.
 #[tactic(auto, using(crate::proofs::Building::on_none))]
 fn state_of(
     alloc: Global,
@@ -120,7 +120,7 @@ fn read_state<S: Source>(
     Ok(((state, lists), at))
 }
 
-/// May a state stand at this place, in one of so many contexts, after the last one's?
+/// Whether a state may be at this place, in one of this many contexts, after the last one's.
 fn is_next_place(contexts: u32, last: Option<(u32, u32)>, place: (u32, u32)) -> bool
     ensures { result ≡ is_next_place_after contexts last place }
 {
@@ -199,7 +199,7 @@ fn add_state(builder: &mut Builder, point: (u32, u32), state: &State) -> Result<
     }
 }
 
-/// Reads so many states into a builder that has their contexts and no state.
+/// Reads this many states into a builder that has their contexts and no state.
 fn read_state_list<S: Source>(
     alloc: Global,
     builder: Builder,

@@ -34,7 +34,7 @@ fn fetch_unit<S: Source, const N: usize>(
     Ok((bytes, after))
 }
 
-/// Reads a unit of N bytes at a place, and answers it with the place after it.
+/// Reads a unit of N bytes at a place, and returns it with the place after it.
 #[inline]
 fn read_unit<S: Source, const N: usize>(
     source: &mut S,
@@ -80,7 +80,7 @@ pub(crate) fn read_long<S: Source>(source: &mut S, place: u64) -> Result<(u32, u
     Ok((u32::from_be_bytes(unit), after))
 }
 
-/// The number of 16 bits with one of 32 that these bytes are.
+/// Returns the number of 16 bits and the one of 32 that these bytes are.
 pub(crate) fn pair_of(unit: [u8; 6]) -> (u16, u32)
     ensures { result ≡ pair_from unit }
 {
@@ -90,7 +90,7 @@ pub(crate) fn pair_of(unit: [u8; 6]) -> (u16, u32)
     (word, long)
 }
 
-/// Reads a number of 16 bits with one of 32.
+/// Reads a number of 16 bits and one of 32.
 #[tactic(auto, unfolding(crate::specs::Reading::pair_at))]
 pub(crate) fn read_pair<S: Source>(
     source: &mut S,

@@ -25,10 +25,10 @@ use tt_code::Frame;
 use tt_code::kinds::{Pointer, Reference};
 use tt_stream::{Sink, write_all};
 
-/// For so many bytes of a section there is room from the start: most sections have fewer.
+/// How many bytes of a section there is room for from the start: most sections have fewer.
 const ROOM: usize = 16_384;
 
-/// The kind of a program, and its glyph.
+/// Returns the kind of a program, and its glyph.
 fn push_name(out: &mut Vec<u8>, name: Name) -> Result<(), AllocError>
     ensures written { OnOk result (out.new.items ≡ out.old.items ++ name_text name) }
     ensures fits { NameFits name }
@@ -92,7 +92,7 @@ fn push_zone(out: &mut Vec<u8>, zone: ZoneCell) -> Result<(), AllocError>
     Ok(())
 }
 
-/// How many values a list has. A list of 65,536 or more has no section: that it doesn't fit is told as want of memory.
+/// Returns how many values a list has. A list of 65,536 or more has no section: that it doesn't fit is reported as out of memory.
 fn push_count(out: &mut Vec<u8>, count: usize) -> Result<(), AllocError>
     ensures written { OnOk result (out.new.items ≡ out.old.items ++ word count) }
     ensures few { OnOk result (count < 2 ^ 16) }
@@ -103,7 +103,7 @@ fn push_count(out: &mut Vec<u8>, count: usize) -> Result<(), AllocError>
     push_word(out, count)
 }
 
-/// The stack's cells after their number, from the bottom up.
+/// Appends the stack's cells after their number, from the bottom up.
 fn push_stack(out: &mut Vec<u8>, state: &State) -> Result<(), AllocError>
     ensures written { OnOk result (out.new.items ≡ out.old.items ++ counted cell_text (reverse state.now.stack)) }
     ensures few { OnOk result (length state.now.stack < 2 ^ 16) }
@@ -116,7 +116,7 @@ fn push_stack(out: &mut Vec<u8>, state: &State) -> Result<(), AllocError>
     Ok(())
 }
 
-/// What is known of the graphics state.
+/// Appends what is known of the graphics state.
 fn push_graphics(out: &mut Vec<u8>, state: &State) -> Result<(), AllocError>
     ensures { OnOk result (out.new.items ≡ out.old.items ++ graphics_text state.now.graphics) }
 {
@@ -129,7 +129,7 @@ fn push_graphics(out: &mut Vec<u8>, state: &State) -> Result<(), AllocError>
     push_cell(out, state.loop_cell())
 }
 
-/// The functions after their number.
+/// Appends the functions after their number.
 fn push_functions(out: &mut Vec<u8>, functions: &[(u16, u32)]) -> Result<(), AllocError>
     ensures written { OnOk result (out.new.items ≡ out.old.items ++ counted pair_text functions.now) }
     ensures few { OnOk result (length functions.now < 2 ^ 16) }
@@ -143,7 +143,7 @@ fn push_functions(out: &mut Vec<u8>, functions: &[(u16, u32)]) -> Result<(), All
     Ok(())
 }
 
-/// A storage cell's index with its number.
+/// Appends a storage cell's index with its number.
 fn push_stored(out: &mut Vec<u8>, stored: (u16, i32)) -> Result<(), AllocError>
     ensures written { OnOk result (out.new.items ≡ out.old.items ++ stored_text stored) }
     ensures fits { OnOk result ((stored.0 < 2 ^ 16) × FitsSigned w32 stored.1) }
@@ -152,7 +152,7 @@ fn push_stored(out: &mut Vec<u8>, stored: (u16, i32)) -> Result<(), AllocError>
     out.extend_from_slice(&stored.1.to_be_bytes())
 }
 
-/// The storage cells after their number.
+/// Appends the storage cells after their number.
 fn push_storage(out: &mut Vec<u8>, cells: &[(u16, i32)]) -> Result<(), AllocError>
     ensures written { OnOk result (out.new.items ≡ out.old.items ++ counted stored_text cells.now) }
     ensures few { OnOk result (length cells.now < 2 ^ 16) }
@@ -165,7 +165,7 @@ fn push_storage(out: &mut Vec<u8>, cells: &[(u16, i32)]) -> Result<(), AllocErro
     Ok(())
 }
 
-/// Are the functions that are known in a state those of the state before?
+/// Whether the functions that are known in a state are those of the state before.
 fn has_same(before: Option<&State>, state: &State) -> bool
     ensures { result ≡ true → IsSomeAnd before.entry (λ s. s.now.functions ≡ state.now.functions) }
 {
@@ -175,8 +175,8 @@ fn has_same(before: Option<&State>, state: &State) -> bool
     }
 }
 
-/// The functions of a state after their number: by their text where the state before has the same ones, as most have, and else that is
-/// made anew.
+/// Appends the functions of a state after their number: by their text where the state before has the same ones, as most have, and otherwise by
+/// one that is made anew.
 fn push_known(
     out: &mut Vec<u8>,
     before: Option<&State>,
@@ -195,7 +195,7 @@ fn push_known(
     out.extend_from_slice(text.as_slice())
 }
 
-/// A state with its context and offset, after another one, of whose functions there is the text.
+/// Appends a state with its context and offset, after another one, whose functions' text is there.
 fn push_state(
     out: &mut Vec<u8>,
     point: (u16, u32),
@@ -216,7 +216,7 @@ fn push_state(
     push_storage(out, state.stored())
 }
 
-/// A context: its parent's number, and its last call.
+/// Appends a context: its parent's number, and its last call.
 fn push_context(out: &mut Vec<u8>, parent: u16, frame: &Frame) -> Result<(), AllocError>
     ensures written { OnOk result (out.new.items ≡ out.old.items ++ context_text (parent, frame.now)) }
     ensures numbers { OnOk result (CallFits (parent, frame.now)) }
@@ -228,7 +228,7 @@ fn push_context(out: &mut Vec<u8>, parent: u16, frame: &Frame) -> Result<(), All
     push_long(out, frame.count)
 }
 
-/// The contexts but the main one, after their number.
+/// Appends the contexts except for the main one, after their number.
 fn push_contexts(out: &mut Vec<u8>, certificate: &Certificate) -> Result<(), AllocError>
     ensures written { OnOk result (out.new.items ≡ out.old.items ++ counted context_text (contexts_in certificate.now.contexts)) }
     ensures numbers { OnOk result (AllByRecursion CallFits (contexts_in certificate.now.contexts)) }
@@ -243,7 +243,7 @@ fn push_contexts(out: &mut Vec<u8>, certificate: &Certificate) -> Result<(), All
     Ok(())
 }
 
-/// The states after their number.
+/// Appends the states after their number.
 fn push_states(out: &mut Vec<u8>, certificate: &Certificate) -> Result<(), AllocError>
     ensures written { OnOk result (out.new.items ≡ out.old.items ++ (long (length certificate.now.states) ++ flat_map (state_text Form.Four) certificate.now.states)) }
     ensures room { OnOk result (AllByRecursion (HasRoom (length certificate.now.contexts)) certificate.now.states) }
@@ -260,7 +260,7 @@ fn push_states(out: &mut Vec<u8>, certificate: &Certificate) -> Result<(), Alloc
     Ok(())
 }
 
-/// The bytes of a section.
+/// Returns the bytes of a section.
 fn section_bytes(
     alloc: Global,
     name: Name,
@@ -289,7 +289,7 @@ pub fn encode<W: Sink>(
     sink: &mut W,
 ) -> Result<(), EncodeFault>
     ensures written { OnOk result (Appends (W.contents sink.old) (W.contents sink.new) (section_text Form.Four (section_of name certificate.now))) }
-    // The section keeps the rules by which it is read, where each context's calls are in their turns and no body runs twice in them.
+    // The section keeps the rules by which it is read, if each context's calls are in their turns and no body runs twice in them.
     ensures fits { OnOk result (AreCallsInTurn certificate.now.contexts
         → Fits Form.Four (section_of name certificate.now)) }
     ensures beginning { OnErr result (AppendsBeginning (W.contents sink.old) (W.contents sink.new) (section_text Form.Four (section_of name certificate.now))) }
