@@ -208,7 +208,7 @@ number_among s rows id a level n = go (find (λ r. bytes_eq r.id id) rows) refl 
 
 -- ---- the whole command line
 
--- a subcommand beside `bare`: `help`, or one that asks for something
+-- a subcommand other than `bare`: `help`, or one that asks for something
 abbrev pub is_other : List Row → Shape → Bool
 is_other rows s = is_empty s.aliases && (bytes_eq s.name (codes "help") || (not (bytes_eq s.name (codes "bare")) && is_some (request_of (s.name, rows))))
 

@@ -1,4 +1,4 @@
--- From what clap says of a parse to what the words mean.
+-- From what clap tells of a parse to what the words mean.
 use Rattle.std.proofs.Common.{◌≡◌, Bool, true, false, List, Option, Some, None, refl, ap, ◌∙◌, subst, sym, option_map}
 use Rattle.std.specs.Prelude.{is_some}
 use Rattle.std.specs.Str.{bytes_eq}

@@ -1,5 +1,5 @@
 -- The rows of a parse that has no fault: each value passed the parser of its argument. For commands
--- whose arguments take values, but for help.
+-- whose arguments take values, except for help.
 use Rattle.std.proofs.Common.{◌≡◌, ℕ, zero, suc, ◌<◌, Bool, true, false, List, [], ◌∷◌, ◌++◌, Option, Some, None, length, refl, sym, subst, ◌⊎◌, inl, inr, arith, length-append}
 use Rattle.std.specs.Prelude.{nat_lt, find}
 use Rattle.std.specs.List.{list_all}
@@ -66,7 +66,7 @@ abbrev pub RowsFit : List Rule → List Row → Type 0
 RowsFit c [] = Unit {0}
 RowsFit c (r ∷ rs) = RowFits c r × RowsFit c rs
 
--- the argument takes a value at least, or asks for help
+-- the argument takes at least one value, or asks for help
 abbrev pub takes_value : ArgAction → Rule → Bool
 takes_value Set a = nat_lt 0 (unwrap_or_range a.range).start_inclusive
 takes_value Help a = true

@@ -1,5 +1,5 @@
 -- A walk over words that has no fault keeps rows that fit, and meets no `help`. For commands with no
--- flag but help.
+-- flag except for help.
 use Rattle.std.proofs.Common.{◌≡◌, ℕ, zero, suc, Bool, true, false, List, [], ◌∷◌, Option, Some, None, length, refl, sym, ap, subst, ◌∙◌, ◌⊎◌, inl, inr, codes}
 use Rattle.std.specs.Prelude.{fold, slice_get, is_some, ◌&&◌, if◌then◌else◌}
 use Rattle.std.specs.List.{list_all}
@@ -32,7 +32,7 @@ pub record Fits (c : List Rule) (w : Walk) : Type 0 where
   pub waits : is_option w.waiting ≡ false
   pub stopped : IsNotHelp w.stopped
 
--- what a word comes to that is no flag
+-- what a word that is no flag comes to
 record PlainWord (h : Held) (met : Held × Step) : Type 0 where
   pub rows : met.0.rows ≡ h.rows
   pub skip : met.0.skip ≡ 0

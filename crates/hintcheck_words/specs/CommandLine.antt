@@ -43,7 +43,7 @@ list = of_texts (codes "list") (codes "FONT" ∷ codes "PROGRAM" ∷ [])
 abbrev pub upgrade : App
 upgrade = of_texts (codes "upgrade") (codes "OLD" ∷ codes "NEW" ∷ [])
 
--- the program, which is told a subcommand always
+-- the program, which is always given a subcommand
 abbrev pub program : App
 program = record (new_app (codes "hintcheck")) {
   top = record (new_app (codes "hintcheck")).top { subcommand_required = true };

@@ -3,7 +3,7 @@ use Rattle.std.specs.Prelude.{◌≡◌, ◌≤◌, ◌%◌, ℕ, List, length, 
 use Rattle.std.specs.List.{AllPass}
 use Rattle.hex.specs.Hex.{decode_of, is_hex_digit}
 
--- an even number of hexadecimal digits, no more than spell 65,535 bytes
+-- an even number of hexadecimal digits, at most as many as spell 65,535 bytes
 pub record IsHexWord (word : List ℕ) : Type 0 where
   pub even : length word % 2 ≡ 0
   pub digits : AllPass is_hex_digit word

@@ -64,7 +64,7 @@ meaning words = option_and_then request_of (met words)
 unfoldable pub is_taken : List Text → Bool
 is_taken words = takes hintcheck words
 
--- the kinds of faults of which clap may tell one for the words; none where it finds no fault
+-- the kinds of faults of which clap may report one for the words; none where it finds no fault
 unfoldable pub faults_in : List Text → Kinds
 faults_in words = fault_of hintcheck words
 
@@ -83,7 +83,7 @@ pub record IsReadable (found : Text × List Row) : Type 0 where
 abbrev pub MeetsSubcommand : Option (Text × List Row) → Type 0
 MeetsSubcommand found = IsSomeAnd found IsReadable
 
--- a task without where its texts lie in memory
+-- a task apart from where its texts lie in memory
 unfoldable pub asked : Task → Request
 asked (task.Bare maxp cvt points contours program) = bare (string_bytes maxp) cvt points contours (option_map (λ s. string_bytes s) program)
 asked (task.Verdict font) = verdict (string_bytes font)
@@ -97,8 +97,8 @@ unfoldable pub IsWantOfMemory : TaskFault → Type 0
 IsWantOfMemory (fault.Words error) = ⊥
 IsWantOfMemory (fault.OutOfMemory error) = Unit {0}
 
--- Of the kinds of faults that clap may tell: a task comes only where there is none, words that mean none are told by one of them, and want of
--- memory says nothing.
+-- Of the kinds of faults that clap may report: a task comes only where there is none, words that mean none are reported by one of them, and
+-- out of memory is unspecified.
 abbrev pub TellsFault : {T : Type 0} → Kinds → Result T TaskFault → Type 0
 TellsFault kinds (Ok task) = kinds ≡ []
 TellsFault kinds (Err (fault.Words error)) = IsAmong (kind_of error) kinds

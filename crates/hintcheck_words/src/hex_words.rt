@@ -11,7 +11,7 @@ const MOST_DIGITS: usize = 131_070;
 /// Why a word gives no bytes.
 #[derive(Debug, Drop, Error)]
 pub enum WordFault {
-    /// The word is no even number of hexadecimal digits, or has too many.
+    /// The word isn't an even number of hexadecimal digits, or has too many.
     #[error("bad word")]
     BadWord,
     /// Memory ran out.
@@ -19,7 +19,7 @@ pub enum WordFault {
     OutOfMemory(AllocError),
 }
 
-/// The bytes that a word of hexadecimal digits, of either case, spells.
+/// Returns the bytes that a word of hexadecimal digits, of either case, spells.
 pub fn word_bytes(alloc: Global, word: &str) -> Result<Vec<u8>, WordFault>
     ensures ok { IfOk result (λ bytes. IsHexWord word.now × Spells word.now bytes.items) }
     ensures within { IfOk result (λ bytes. vec_len bytes ≤ 65535) }

@@ -11,7 +11,7 @@ use thiserror::Error;
 /// What the words ask for.
 #[derive(Debug, Drop)]
 pub enum Task {
-    /// Checks one glyph program beside the limits of a `maxp` table, both in hexadecimal digits.
+    /// Checks one glyph program together with the limits of a `maxp` table, both in hexadecimal digits.
     Bare {
         maxp: String,
         /// How many entries the control value table has.
@@ -54,7 +54,7 @@ pub enum Task {
 /// Why words ask for nothing.
 #[derive(Debug, Drop, Error)]
 pub enum TaskFault {
-    /// The words are none of the command line, or ask for help: clap's text for the user.
+    /// The words aren't those of the command line, or ask for help: clap's text for the user.
     #[error(transparent)]
     Words(clap::Error),
     /// Memory ran out.
@@ -128,7 +128,7 @@ const OLD: (&str, &str) = ("OLD", "The name of the old certificate's file");
 /// The argument that names a new certificate's file, with its help.
 const NEW: (&str, &str) = ("NEW", "The name of the new certificate's file");
 
-/// A subcommand whose arguments are texts that must be given.
+/// Makes a subcommand whose arguments are texts that must be given.
 fn texts_command<'a>(
     alloc: Global,
     command: (&'a str, &'a str),
@@ -159,7 +159,7 @@ fn command_line<'a>(alloc: Global) -> Result<Command<'a>, AllocError>
         .subcommand(texts_command(alloc, UPGRADE, &[OLD, NEW])?)
 }
 
-/// The text that the words give the argument, empty where they give none.
+/// Returns the text that the words give the argument, empty where they give none.
 fn text(alloc: Global, values: &ArgMatches<'_>, id: &str) -> Result<String, AllocError>
     ensures { IfOk result (λ t. string_bytes t ≡ text_in (rows_of (found_of values.now)) id.now) }
 {
@@ -179,7 +179,7 @@ fn optional_text(
     }
 }
 
-/// The number that the words give the argument.
+/// Returns the number that the words give the argument.
 fn number(values: &ArgMatches<'_>, id: &str) -> u16
     requires { HasNumber (rows_of (found_of values.now)) id.now }
     ensures { result ≡ number_in (rows_of (found_of values.now)) id.now }
@@ -200,7 +200,7 @@ fn bare_task(alloc: Global, values: &ArgMatches<'_>) -> Result<Task, AllocError>
     })
 }
 
-/// The task of the subcommand with this name.
+/// Returns the task of the subcommand with this name.
 fn task_of(alloc: Global, name: &str, values: &ArgMatches<'_>) -> Result<Task, AllocError>
     requires { IsReadable (name.now, rows_of (found_of values.now)) }
     ensures { IfOk result (λ t. request_of (name.now, rows_of (found_of values.now)) ≡ Some (asked t)) }
@@ -230,7 +230,7 @@ fn task_of(alloc: Global, name: &str, values: &ArgMatches<'_>) -> Result<Task, A
     }
 }
 
-/// What the words give the arguments, and the subcommand that they name.
+/// Returns what the words give the arguments, and the subcommand that they name.
 fn matches_of<'a>(alloc: Global, words: &'a [&'a str]) -> Result<ArgMatches<'a>, TaskFault>
     ensures met { IfOk result (λ m. subcommand_rows_of m ≡ met (map (λ w. w.now) words.entry.now)) }
     ensures meets { IfOk result (λ m. MeetsSubcommand (subcommand_rows_of m)) }
@@ -247,13 +247,13 @@ fn matches_of<'a>(alloc: Global, words: &'a [&'a str]) -> Result<ArgMatches<'a>,
     }
 }
 
-/// What the words ask for. The first word is the program's own name.
+/// Returns what the words ask for. The first word is the program's own name.
 pub fn read_words<'a>(alloc: Global, words: &'a [&'a str]) -> Result<Task, TaskFault>
     // The task is the request that the words mean.
     ensures asked { IfOk result (λ t. meaning (map (λ w. w.now) words.entry.now) ≡ Some (asked t)) }
-    // Words that the command line takes are refused for want of memory alone.
+    // Words that the command line takes are refused only when memory runs out.
     ensures refused { IfErr result (λ e. is_taken (map (λ w. w.now) words.entry.now) ≡ true → IsWantOfMemory e) }
-    // A task comes only where clap finds no fault in the words; else the fault is one that clap finds, or want of memory.
+    // A task comes only where clap finds no fault in the words; otherwise the fault is one that clap finds, or out of memory.
     ensures faults { TellsFault (faults_in (map (λ w. w.now) words.entry.now)) result }
 {
     let matches = matches_of(alloc, words)?;

@@ -1,4 +1,4 @@
--- What the finder's last table says, and what its refusals say of all families.
+-- What the finder's last table tells, and what its refusals tell of all families.
 use Rattle.std.specs.Prelude.{◌≡◌, ◌⊎◌, ℕ, zero, suc, ◌+◌, ◌<◌, cond, Option, Some, None, List, [], length}
 use Rattle.std.proofs.Common.{refl, sym, ◌∙◌, ap, subst, arith, inl, inr}
 use Rattle.std.proofs.lemmas.Bool.{cases_Bool}
@@ -90,7 +90,7 @@ module _ (s : Setting) (functions : List (ℕ × ℕ)) (laws : HasLaws s functio
     abbrev IsUnlisted : Place → Type 0
     IsUnlisted q = IsListed table.builder table.spare.keys q → ⊥
 
-    -- to a place that isn't listed the one just before leads alone
+    -- to a place that isn't listed only the one just before leads
     leads_just : (p : Place) (a : State) (q : Place) (t : State) → filled p ≡ Some a → GivesState s p a q t → IsUnlisted q → Precedes s p q
     leads_just p a q t at gives unlisted = elim (whole.kept.sound.closed p a q t at (free p) gives) [
       | inr never ↦ absurd never

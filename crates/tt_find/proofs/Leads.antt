@@ -128,7 +128,7 @@ module _ (s : Setting) (functions : List (ℕ × ℕ)) (laws : HasLaws s functio
         let A : List Frame → Type 0 = λ x. IsJustAfter s (x, off) after in
         record { leading = subst L both grown; there = adds.there; just_after = subst A (sym stay.0) on.just_after; goes_over = on.goes_over; walks = walk_still }
 
-  -- so it is where the walk's context has this number
+  -- the same where the walk's context has this number
   module _ (table : Table) (walk : Walk) (off : ℕ) (after : Option ℕ) (ways : Moves) (index : ℕ) (over : Option ℕ) (way : Move) (here : ℕ) (same : walk.context ≡ here)
       (on : IsLeadingOn s functions table walk off after ways index over) (found : slice_get (ways_of ways) index ≡ Some way) where
     pub reached_from : (v' : Contents) (number next : ℕ) → AddsContext table.builder.contexts v'.contexts (frames_behind (frames_at table.builder.contexts here) way) number

@@ -66,7 +66,7 @@ pub kept_state : (marks : Marks) (stored filled : Place → Option State) (q : P
 kept_state marks stored filled q a kept at =
     sym (kept_here marks stored filled q kept (λ passed. let no_such : None ≡ Some a = sym (kept.passed q passed) ∙ at in cc)) ∙ at
 
--- where states aren't kept none is
+-- where states aren't kept there is none
 pub none_kept : (marks : Marks) (stored filled : Place → Option State) (q : Place) → AreKept marks stored filled → mark_at marks q ≢ Kept → stored q ≡ None
 none_kept marks stored filled q kept fresh = elim (cases_mark (mark_at marks q)) [
   | inl free ↦ (kept.free q free).0

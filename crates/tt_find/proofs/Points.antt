@@ -55,7 +55,7 @@ slot_elsewhere family q slot p apart = elim (cases_Bool (same_frames p.0 q.0 && 
 pub has_number : (v : Contents) (p : Place) (s : State) → IsFamily v → family_of v p ≡ Some s → number_of v.contexts p.0 < length v.contexts
 has_number v p s family at = family.held (number_of v.contexts p.0) p.1 s at
 
--- the frames of an old context stay
+-- the frames of an old context stay the same
 pub frames_stay : (old new : List (List Frame)) (frames : List Frame) (n c : ℕ) → AddsContext old new frames n → c < length old → (frames_at new c ≡ frames_at old c) × (c < length new)
 frames_stay old new frames n c adds lt = elim adds.how [
   | inl same ↦ (ap (λ x. frames_at x c) same.1, let e = ap length same.1 in omega arith)

@@ -1,4 +1,4 @@
--- What a put, and carrying a point on, leave of a sound family.
+-- What a put, and carrying on a point, leave of a sound family.
 use Rattle.std.specs.Prelude.{◌≡◌, ◌≢◌, ◌⊎◌, Bool, true, false, Option, Some, None}
 use Rattle.std.proofs.Common.{refl, sym, ◌∙◌, ap, subst, inl, inr}
 use Rattle.tt_code.specs.declared.reason.Reason.{Reason}

@@ -94,7 +94,7 @@ none_waiting marked k none hit =
 pub first_apart : (p : ℕ × ℕ) (rest : BTreeSet (ℕ × ℕ)) → AreInOrder (Some p) rest → has_point rest.keys p ≡ false
 first_apart p rest all = list_any_none (is_at (place_cmp p)) rest.keys (λ k d lt. ap is_eq (all k d lt))
 
--- so it is where the next one takes its place
+-- the same where the next one takes its place
 pub popped_apart : (p : ℕ × ℕ) (old new : BTreeSet (ℕ × ℕ)) (next : Option (ℕ × ℕ)) → AreInOrder (Some p) old → IfSome next (λ k. old.keys ≡ k ∷ new.keys)
     → has_point (waiting_of next new) p ≡ false
 popped_apart p old new None all removal = refl

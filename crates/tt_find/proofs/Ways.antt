@@ -1,4 +1,4 @@
--- What a state gives that was carried on, as what is still to be put.
+-- What a state that was carried on gives, as what is still to be put.
 use Rattle.std.specs.Prelude.{◌≡◌, ◌↔◌, ℕ, true, false, List, [], ◌∷◌, Ok, Err, Some, map, slice_get, zero, suc}
 use Rattle.std.proofs.Common.{refl, sym, ◌∙◌, ap, subst, inl, inr}
 use Rattle.tt_code.specs.Settings.{Setting, is_main_end}

@@ -73,7 +73,7 @@ pub record HasLeastFilling (s : Setting) (functions : List (ℕ × ℕ)) (update
   pub at_least : length points ≤ updates
   pub at_most : updates ≤ length points * (1 + height_of s)
 
--- a derived state leads there from another place than the one just before
+-- a derived state leads there from a place other than the one just before
 pub record IsLedElsewhere (s : Setting) (functions : List (ℕ × ℕ)) (q : Place) : Type 0 where
   pub from : Place
   pub state : State
@@ -82,7 +82,7 @@ pub record IsLedElsewhere (s : Setting) (functions : List (ℕ × ℕ)) (q : Pla
   pub gives : GivesState s from state q given
   pub elsewhere : Precedes s from q → ⊥
 
--- a filling has no state there that the family hasn't: it is the start, or a place to which another leads than the one just before
+-- a filling has no state there that the family lacks: it is the start, or a place to which another one leads than the one just before
 abbrev pub IsNeeded : Setting → List (ℕ × ℕ) → Place → Type 0
 IsNeeded s functions q = (q ≡ ([], 0)) ⊎ IsLedElsewhere s functions q
 
@@ -106,7 +106,7 @@ NeedsAll s functions family = (q : Place) (other : Contents) → IsWithout famil
 abbrev pub NoneIsGood : Setting → List (ℕ × ℕ) → Type 0
 NoneIsGood s functions = (family : Place → Option State) → IsShortEnough s s.kind → IsGood state_order (flow_of s functions) family → HasFewContexts family → ⊥
 
--- The family is good but for a state at the end, which a font program and a CVT program are asked for; and each of its states is derived,
+-- The family is good except for a state at the end, which is required of a font program and of a CVT program; and each of its states is derived,
 -- so that it has the joins of all derived states.
 pub record LacksEnd (s : Setting) (functions : List (ℕ × ℕ)) (family : Place → Option State) : Type 0 where
   pub derived : (p : Place) (a : State) → family p ≡ Some a → IsDerived s functions p a
@@ -132,7 +132,7 @@ pub record EntersTooMany (s : Setting) (functions : List (ℕ × ℕ)) (p : Plac
   pub into : HasContext contexts next.0
 
 -- Why no family is found, and where: a glyph program is too long; a derived state is refused; two states that are derived at one place
--- differ in depth; there are too many contexts; the joins of the derived states are a good family, but for the end.
+-- differ in depth; there are too many contexts; the joins of the derived states are a good family, except for the end.
 pub data IsJustified (s : Setting) (functions : List (ℕ × ℕ)) : Place → Reason → Type 0 where
   too_long : (IsShortEnough s s.kind → ⊥) → IsJustified s functions ([], s.limits.program_size) ProgramTooLong
   refused : (p : Place) (a : State) (r : Reason) → IsDerived s functions p a → RefusesState s p a r → IsJustified s functions p r
@@ -140,12 +140,12 @@ pub data IsJustified (s : Setting) (functions : List (ℕ × ℕ)) : Place → R
   too_many : (p : Place) → EntersTooMany s functions p → IsJustified s functions p TooManyContexts
   never_ends : (family : Place → Option State) → LacksEnd s functions family → IsJustified s functions ([], 0) NeverEnds
 
--- the fault names such a place, and the reason; want of memory says nothing
+-- the fault names such a place, and the reason; out of memory is unspecified
 abbrev pub NamesPlace : (Place → Reason → Type 0) → ProgramFault → Type 0
 NamesPlace Is (Refused spot offset reason) = (p : Place) × (spot ≡ spot_of p.0) × (offset ≡ p.1) × Is p reason
 NamesPlace Is (OutOfMemory e) = Unit {0}
 
--- a state came where states had passed; where states are kept everywhere this isn't so
+-- a state came where states had passed; where states are kept everywhere this can't be
 abbrev pub NamesStop : (Place → Reason → Type 0) → Bool → Stop → Type 0
 NamesStop Is everywhere (Fault fault) = NamesPlace Is fault
 NamesStop Is everywhere Met = everywhere ≡ false

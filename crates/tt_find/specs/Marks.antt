@@ -22,7 +22,7 @@ mark_of marks spot offset = cond marks.everywhere Kept (slice_index_or (list_of 
 abbrev pub mark_at : Marks → Place → Mark
 mark_at marks p = mark_of marks (spot_of p.0) p.1
 
--- the offset has this mark from then on, and no other offset another one than before
+-- the offset has this mark from then on, and every other offset has the same as before
 pub record SetsMark (old new : Marks) (spot : Spot) (offset : ℕ) (mark : Mark) : Type 0 where
   pub here : mark_of new spot offset ≡ mark
   pub elsewhere : (other : Spot) (at : ℕ) → ((other ≡ spot) × (at ≡ offset) → ⊥) → mark_of new other at ≡ mark_of old other at

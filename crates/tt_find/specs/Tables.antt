@@ -1,4 +1,4 @@
--- What the finder keeps of the family so far, the points that are still to be carried on, and the count of updates.
+-- What the finder keeps of the family so far, of the points that are still to be carried on, and of the count of updates.
 use Rattle.std.specs.Prelude.{◌≡◌, ◌≢◌, ℕ, ◌+◌, ◌*◌, ◌≤◌, ◌<◌, ◌^◌, ◌⊎◌, ◌↔◌, Bool, true, false, cond, Option, Some, None, List, [], ◌∷◌, ◌++◌, Ok, drop, length, map, reverse}
 use Rattle.std.specs.List.{sum_by}
 use Rattle.tt_code.specs.Settings.{Setting, is_main_end}
@@ -70,7 +70,7 @@ pub record IsListed (contents : Contents) (spare : List (ℕ × ℕ)) (q : Place
   pub kept : family_of contents q ≡ Some state
   pub not_spare : has_point spare (key_of contents q) ≡ false
 
--- to where a place may lead: to the one just after it, and to those with a listed state
+-- where a place may lead: to the one just after it, and to those with a listed state
 abbrev pub MayLead : Setting → Contents → List (ℕ × ℕ) → Place → Place → Type 0
 MayLead s contents spare p q = Precedes s p q ⊎ IsListed contents spare q
 
@@ -78,7 +78,7 @@ MayLead s contents spare p q = Precedes s p q ⊎ IsListed contents spare q
 abbrev pub AreNeeded : Setting → List (ℕ × ℕ) → Contents → List (ℕ × ℕ) → Type 0
 AreNeeded s functions contents spare = (q : Place) → IsListed contents spare q → IsNeeded s functions q
 
--- each point took one update, and each rise of its state one more at most
+-- each point took one update, and each rise of its state at most one more
 pub record IsWithinBudget (o : Order State) (height : ℕ) (contents : Contents) (updates : ℕ) : Type 0 where
   pub spent : updates + total o.left contents ≤ points_of contents * (1 + height)
   pub counted : points_of contents ≤ updates
@@ -133,7 +133,7 @@ pub record IsSound (s : Setting) (functions : List (ℕ × ℕ)) (table : Table)
 abbrev pub IsWhole : Setting → List (ℕ × ℕ) → Table → Type 0
 IsWhole s functions table = IsSound s functions table (λ _. ⊥) (λ _ _ _. ⊥)
 
--- The table is whole and no point waits; the program isn't too long, and comes to its end where it must; so many updates were made.
+-- The table is whole and no point waits; the program isn't too long, and comes to its end where it must; this many updates were made.
 pub record IsFound (s : Setting) (functions : List (ℕ × ℕ)) (table : Table) (updates : ℕ) : Type 0 where
   pub whole : IsWhole s functions table
   pub none : table.waiting ≡ []
@@ -157,7 +157,7 @@ pub record HasRisen (old new : Table) : Type 0 where
   pub waiting : length new.waiting + old.changes ≤ length old.waiting + new.changes
   pub changes : old.changes ≤ new.changes
 
--- what waits still does, and where there was a change this point does; nothing else waits
+-- what waited still waits, and where there was a change this point does; nothing else waits
 pub record WaitsMore (old new : List (ℕ × ℕ)) (point : ℕ × ℕ) (changed : Bool) : Type 0 where
   pub more : (q : ℕ × ℕ) → has_point old q ≡ true → has_point new q ≡ true
   pub here : changed ≡ true → has_point new point ≡ true
@@ -180,8 +180,8 @@ pub record KeepsRest (old new : Table) : Type 0 where
   pub marks : new.marks ≡ old.marks
   pub passes : new.passes ≡ old.passes
 
--- What is spare after a state came to a point: from elsewhere, the point isn't any more; from just before, it is where it had no state, and
--- else as it was.
+-- What is spare after a state came to a point: from elsewhere, the point no longer is; from just before, it is where it had no state, and
+-- otherwise as it was.
 pub record SparesAt (old new : List (ℕ × ℕ)) (point : ℕ × ℕ) (was : Option State) (source : Source) : Type 0 where
   pub elsewhere : (q : ℕ × ℕ) → q ≢ point → has_point new q ≡ has_point old q
   pub listed : source ≡ Elsewhere → has_point new point ≡ false
@@ -234,7 +234,7 @@ abbrev pub Pends : List Place → State → Place → State → Type 0
 Pends [] t p u = ⊥
 Pends (q ∷ qs) t p u = ((p ≡ q) × (u ≡ t)) ⊎ Pends qs t p u
 
--- so it is with what comes from this place
+-- the same for what comes from this place
 abbrev pub PendsFrom : Place → List Place → State → Place → Place → State → Type 0
 PendsFrom from qs t p q u = (p ≡ from) × Pends qs t q u
 
@@ -267,7 +267,7 @@ pub record IsPopped (s : Setting) (functions : List (ℕ × ℕ)) (table : Table
   pub kept : states_of table.builder.states (context, offset) ≡ Some state
   pub apart : has_point table.waiting (context, offset) ≡ false
 
--- where an instruction ends, if no instruction but this one leads there as to the place just after it
+-- where an instruction ends, if this one alone leads there as to the place just after it
 abbrev pub IsJustAfter : Setting → Place → Option ℕ → Type 0
 IsJustAfter s p after = (q : Place) → IsAfter p.0 after q ↔ Precedes s p q
 
@@ -305,7 +305,7 @@ pub record IsLeadingOn (s : Setting) (functions : List (ℕ × ℕ)) (table : Ta
   pub goes_over : (at : ℕ) → over ≡ Some at → after ≡ Some at
   pub walks : IsWalk table.builder walk
 
--- So it is, and before that it is led to an offset of the context of this number.
+-- The same, and before that it is led to an offset of the context of this number.
 pub record IsLeadingTo (s : Setting) (functions : List (ℕ × ℕ)) (table : Table) (walk : Walk) (offset : ℕ) (after : Option ℕ) (ways : Moves) (index : ℕ) (over : Option ℕ) (number next : ℕ) : Type 0 where
   pub leading : IsLeadingAt s functions table walk offset (place_of table.builder number next ∷ place_over (calls_of table walk) over ++ places_from (calls_of table walk) ways index)
   pub there : number < length table.builder.contexts

@@ -22,18 +22,18 @@ use tt_abs::laws::flow_laws;
 use tt_cert::{Builder, Certificate, ProgramFault, Spot, ends_well, is_short};
 use tt_code::Reason;
 
-/// So often the finder starts with the marks that it has found. After that it keeps states everywhere.
+/// How often the finder starts with the marks that it has found. After that it keeps states everywhere.
 const STARTS: u32 = 8;
 
-/// A family that was found, and how many updates made its filling: the first state of a point is one, and each time that another comes there one
-/// more. Where states aren't kept, each that comes counts as another one: so a finder that has made other families may count otherwise.
+/// A family that was found, and how many updates made its filling: the first state of a point is one, and each time that another comes there is
+/// one more. Where states aren't kept, each that comes counts as another one: so a finder that has made other families may count otherwise.
 #[derive(Drop)]
 pub struct Found {
     pub certificate: Certificate,
     pub updates: u64,
 }
 
-/// Says that the laws of the program's flow hold, and that no count of updates is too great, as it always is.
+/// Shows that the laws of the program's flow hold, and that no count of updates is too great, as it always is.
 fn has_laws(setting: &Setting<'_>)
     requires rises { Rises setting.now.start.now }
     requires fits { FunctionsFit (setting_of setting.now) setting.now.start.now }
@@ -99,7 +99,7 @@ fn fill_anew(alloc: Global, table: &mut Table, setting: &Setting<'_>) -> Result<
     }
 }
 
-/// The fault at a place of the main program.
+/// Returns the fault at a place of the main program.
 fn refused_in_main(offset: u32, reason: Reason) -> ProgramFault
     ensures { result ≡ ProgramFault.Refused Spot.Main offset reason }
 {
@@ -110,7 +110,7 @@ fn refused_in_main(offset: u32, reason: Reason) -> ProgramFault
     }
 }
 
-/// Fills a table with the least good family, and answers how many updates that took.
+/// Fills a table with the least good family, and returns how many updates that took.
 ///
 /// # Errors
 /// As `find`.
@@ -145,7 +145,7 @@ pub struct Finder {
 }
 
 impl Finder {
-    /// A finder without memory.
+    /// Makes a finder without memory.
     pub fn new(alloc: Global) -> Finder
         ensures { IsEmptyTable result.table }
     {
@@ -154,7 +154,7 @@ impl Finder {
         }
     }
 
-    /// Takes the memory of a certificate back, in the place of what states the finder has.
+    /// Takes back the memory of a certificate, in place of the states that the finder has.
     pub fn take_back(&mut self, certificate: Certificate)
         ensures contexts { self.new.table.builder.contexts ≡ [] ∷ [] }
         ensures states { self.new.table.builder.states ≡ [] }
@@ -162,7 +162,7 @@ impl Finder {
         self.table.builder = certificate.into_builder();
     }
 
-    /// The least family as `find` finds it, with what states it has kept beside those that a filling needs. Its certificate has the
+    /// Returns the least family as `find` finds it, with the states that it has kept besides those that a filling needs. Its certificate has the
     /// finder's memory for states, which `take_back` takes back.
     ///
     /// # Errors
@@ -191,7 +191,7 @@ impl Finder {
         }
     }
 
-    /// The least family as `find` finds it, without the states that a filling adds. Its certificate has the finder's memory for states, which
+    /// Returns the least family as `find` finds it, without the states that a filling adds. Its certificate has the finder's memory for states, which
     /// `take_back` takes back.
     ///
     /// # Errors
@@ -226,7 +226,7 @@ impl Finder {
     }
 }
 
-/// The least family that is good for the program of this setting, without the states that a filling adds. The smallest point that is new
+/// Returns the least family that is good for the program of this setting, without the states that a filling adds. The smallest point that is new
 /// or has changed is taken first, by the number of its context, which is the order in which contexts were entered, and by its offset
 /// within one; of two ways the one to the smaller offset comes first.
 ///

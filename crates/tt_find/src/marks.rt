@@ -22,14 +22,14 @@ pub(crate) enum Mark {
 /// the next program, which may call the same functions. After the end of a list states are kept.
 #[derive(Drop)]
 pub(crate) struct Marks {
-    /// Are states kept at all offsets, whatever the lists say?
+    /// Whether states are kept at all offsets, whatever the lists tell.
     pub everywhere: bool,
     main: Vec<Mark>,
     font: Vec<Mark>,
     prep: Vec<Mark>,
 }
 
-/// The mark at an offset.
+/// Returns the mark at an offset.
 fn mark_in(marks: &[Mark], offset: u32) -> Mark
     ensures { result ≡ slice_index_or marks.now offset Mark.Kept }
 {
@@ -39,7 +39,7 @@ fn mark_in(marks: &[Mark], offset: u32) -> Mark
     }
 }
 
-/// Makes a list one for a program of this length, where it isn't.
+/// Makes a list fit a program of this length, where it doesn't.
 fn fit(marks: &mut Vec<Mark>, length: u32) -> Result<(), AllocError> {
     let length = length as usize + 1;
     if marks.len() != length {
@@ -50,7 +50,7 @@ fn fit(marks: &mut Vec<Mark>, length: u32) -> Result<(), AllocError> {
 }
 
 impl Marks {
-    /// States are kept everywhere.
+    /// Makes marks by which states are kept everywhere.
     pub(crate) fn new(alloc: Global) -> Marks {
         Marks {
             everywhere: true,
@@ -60,8 +60,8 @@ impl Marks {
         }
     }
 
-    /// Begins with a program: nothing is known of its offsets, and of those of the font program and of the CVT program what was, if those are
-    /// as long as before. What was known of other programs costs time alone.
+    /// Begins with a program: nothing is known of its offsets, and what was known of those of the font program and of the CVT program stays, if those
+    /// are as long as before. What was known of other programs costs only time.
     ///
     /// # Errors
     /// If memory runs out.
@@ -73,7 +73,7 @@ impl Marks {
         fit(&mut self.prep, setting.prep.len())
     }
 
-    /// What is known of an offset.
+    /// Returns what is known of an offset.
     pub(crate) fn at(&self, spot: Spot, offset: u32) -> Mark
         ensures { result ≡ mark_of self.now spot offset }
     {
@@ -99,7 +99,7 @@ impl Marks {
         }
     }
 
-    /// From now on states are kept at this offset. False where states went over it: those weren't.
+    /// Whether no state went over this offset. From now on states are kept there; those that went over it weren't.
     pub(crate) fn keep(&mut self, spot: Spot, offset: u32) -> bool
         ensures kept { IsTrue result → SetsMark self.old self.new spot offset Mark.Kept }
         ensures was { IsTrue result → mark_of self.old spot offset ≢ Mark.Passed }
@@ -118,7 +118,7 @@ impl Marks {
         }
     }
 
-    /// A state goes over an offset at which states aren't kept.
+    /// Marks an offset at which states aren't kept as one over which a state goes.
     pub(crate) fn pass(&mut self, spot: Spot, offset: u32)
         requires { mark_of self.old spot offset ≢ Mark.Kept }
         ensures { SetsMark self.old self.new spot offset Mark.Passed }

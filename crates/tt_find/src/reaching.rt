@@ -9,7 +9,7 @@ use tt_abs::Move;
 use tt_abs::setting::body_offset;
 use tt_cert::{Builder, ContextFault, Landing, PointKey, landing_of};
 
-/// The context's number and the offset to which a way leads from a context. A context that isn't there is added.
+/// Returns the context's number and the offset to which a way leads from a context. A context that isn't there is added.
 ///
 /// # Errors
 /// As `Builder::add_context`.

@@ -1,4 +1,4 @@
-//! A run: from a point where its state is kept a state is carried on in place, until states are kept where it comes, or until it goes elsewhere.
+//! A run: the state that is kept at a point is carried on in place, until it comes to where states are kept, or until it goes elsewhere.
 
 ghost use Rattle.std.specs.Prelude.{◌≡◌, ◌↔◌, ◌<◌, IfErr, IfOk, IfSome, IsTrue, Some, [], ◌∷◌, length};
 ghost use Rattle.tt_abs.specs.Lines.{EndsAt, Precedes};
@@ -22,7 +22,7 @@ use tt_abs::{Moves, Point, Refusal, Setting, Stepped, step_at};
 use tt_cert::{Builder, ContextFault, ProgramFault, added_after};
 use tt_code::Reason;
 
-/// Where the state at an offset of the walk's context leads; with what it leads there the walk holds then. None at the main program's end.
+/// Returns where the state at an offset of the walk's context leads; the walk then holds what it leads there. None at the main program's end.
 fn carried(
     builder: &Builder,
     walk: &mut Walk,
@@ -51,7 +51,7 @@ fn carried(
     }
 }
 
-/// From where a state comes to an offset of a context, from one in which an instruction ends at `after`, if it leads there.
+/// Returns from where a state comes to an offset of a context, if it leads there: from one in which an instruction ends at `after`.
 fn source_of(here: u32, context: u32, after: Option<u32>, next: u32) -> Source
     ensures { TellsSource here context after next result }
 {
@@ -96,7 +96,7 @@ pub(crate) fn store(
     Ok(())
 }
 
-/// May the walk's state go over an offset to which it comes from there?
+/// Whether the walk's state may go over an offset to which it comes from there.
 fn goes_over(table: &Table, walk: &Walk, source: Source, next: u32) -> bool
     ensures { IsTrue result → source ≡ Source.JustBefore }
 {
@@ -106,7 +106,7 @@ fn goes_over(table: &Table, walk: &Walk, source: Source, next: u32) -> bool
     }
 }
 
-/// Leads the state that an instruction left to the offset just after it: over it, which is answered, where states aren't kept there.
+/// Leads the state that an instruction left to the offset just after it: over it, which is what it returns, where states aren't kept there.
 fn lead_over(
     table: &mut Table,
     walk: &mut Walk,
@@ -138,7 +138,7 @@ fn lead_over(
     Ok(None)
 }
 
-/// The fault that a context can't be entered from an offset of another one.
+/// Returns the fault that a context can't be entered from an offset of another one.
 fn not_entered(builder: &Builder, context: u32, offset: u32, fault: ContextFault) -> ProgramFault
     requires { context < length builder.now.contexts }
     ensures full { fault ≡ ContextFault.TooManyContexts → result ≡ ProgramFault.Refused (spot_of (frames_at builder.now.contexts context)) offset Reason.TooManyContexts }
@@ -152,8 +152,8 @@ fn not_entered(builder: &Builder, context: u32, offset: u32, fault: ContextFault
     }
 }
 
-/// Leads the state that an instruction left to each place where its ways lead, one after the other, but to the one over which it goes last.
-/// Answers that one's offset.
+/// Leads the state that an instruction left to each place where its ways lead, one after the other, except for the one over which it goes last.
+/// Returns that one's offset.
 fn lead_away(
     table: &mut Table,
     walk: &mut Walk,
@@ -197,10 +197,10 @@ fn lead_away(
     }
 }
 
-/// Carries the walk's state on at an offset of its context. Answers the next offset, if the state goes on there in place.
+/// Carries the walk's state on at an offset of its context. Returns the next offset, if the state goes on there in place.
 ///
 /// # Errors
-/// `Fault` with `Refused`, if the state is refused there, or enters a context too many; or for two states of different depths, where they
+/// `Fault` with `Refused`, if the state is refused there, or enters one context too many; or for two states of different depths, where they
 /// meet; or with `OutOfMemory`. `Met` where a state is to be kept at an offset over which states went.
 fn step_on(
     table: &mut Table,
@@ -231,7 +231,7 @@ fn step_on(
     lead_away(table, walk, setting, offset, after, step.moves)
 }
 
-/// Carries the state at a point on, in place as far as that goes.
+/// Carries on the state at a point, in place as far as possible.
 ///
 /// # Errors
 /// As for each instruction on the way.

@@ -21,14 +21,14 @@ use tt_abs::State;
 use tt_cert::{Builder, JoinFault, Joined, PointKey, ProgramFault, Spot};
 use tt_code::Reason;
 
-/// The family so far. Its states are kept at the points where ways meet; those between are made again on the way.
+/// The family so far. Its states are kept at the points where ways meet; those in between are made again on the way.
 #[derive(Drop)]
 pub(crate) struct Table {
     /// The states that are kept.
     pub builder: Builder,
     /// The points whose state is new or has changed, each as its context's number and its offset.
     pub waiting: Waiting,
-    /// The points with kept states to which no state came but from just before.
+    /// The points with kept states to which states came only from just before.
     pub spare: BTreeSet<PointKey>,
     /// At which offsets states are kept.
     pub marks: Marks,
@@ -38,7 +38,7 @@ pub(crate) struct Table {
     pub passes: u64,
 }
 
-/// The fault that names a point for this reason.
+/// Returns the fault that names a point for this reason.
 pub(crate) fn refused_at(
     builder: &Builder,
     context: u32,
@@ -56,7 +56,7 @@ pub(crate) fn refused_at(
 }
 
 impl Table {
-    /// The table without a state.
+    /// Makes a table without states.
     pub(crate) fn new(alloc: Global) -> Table
         ensures { IsEmptyTable result }
     {
@@ -70,7 +70,7 @@ impl Table {
         }
     }
 
-    /// Takes all states and all contexts but the empty one away, and keeps their memory and the marks.
+    /// Removes all states and all contexts except for the empty one, and keeps their memory and the marks.
     pub(crate) fn clear(&mut self)
         ensures empty { IsEmptyTable self.new }
         ensures marks { self.new.marks ≡ self.old.marks }
@@ -82,7 +82,7 @@ impl Table {
         self.passes = 0;
     }
 
-    /// Puts a state at a point, and answers what that makes of the one there. If it is another one than before, the point waits, and
+    /// Puts a state at a point, and returns what that makes of the one there. If it is another one than before, the point waits, and
     /// one change is counted.
     ///
     /// # Errors
@@ -146,7 +146,7 @@ impl Table {
         Ok(())
     }
 
-    /// May a state go over a point where this context's program has this offset? Not where states are kept, and not where a point before it
+    /// Whether a state may go over a point where this context's program has this offset: not where states are kept, and not where a point before it
     /// waits.
     pub(crate) fn may_pass(&self, context: u32, spot: Spot, offset: u32) -> bool
         ensures { IsTrue result → mark_of self.now.marks spot offset ≢ Mark.Kept }
@@ -157,7 +157,7 @@ impl Table {
         }
     }
 
-    /// A state goes over an offset at which states aren't kept.
+    /// Counts a state that goes over an offset at which states aren't kept.
     ///
     /// # Errors
     /// If this can't be counted any more.

@@ -10,8 +10,8 @@ use std::collections::BTreeSet;
 use std::marker::Model;
 use tt_cert::PointKey;
 
-/// The points that are still to be carried on, in their order, each as its context's number and its offset. The first stands apart, so that
-/// one alone takes no memory.
+/// The points that are still to be carried on, in their order, each as its context's number and its offset. The first is kept apart, so that
+/// a single one takes no memory.
 #[derive(Drop)]
 pub(crate) struct Waiting {
     next: Option<PointKey>,
@@ -31,7 +31,7 @@ impl Model for Waiting {
 }
 
 impl Waiting {
-    /// No point.
+    /// Makes a set without points.
     pub(crate) fn new(alloc: Global) -> Waiting
         ensures { result ≡ [] }
     {
@@ -41,7 +41,7 @@ impl Waiting {
         }
     }
 
-    /// Puts a point in at its place, unless it is there.
+    /// Inserts a point at its place, unless it is there.
     ///
     /// # Errors
     /// If memory runs out; then the points stay as they are.
@@ -70,7 +70,7 @@ impl Waiting {
         Ok(())
     }
 
-    /// Does a point come before this one?
+    /// Whether a point comes before this one.
     pub(crate) fn has_before(&self, point: PointKey) -> bool {
         match self.next {
             Some(next) => next < point,
@@ -78,7 +78,7 @@ impl Waiting {
         }
     }
 
-    /// Takes all points out.
+    /// Removes all points.
     pub(crate) fn clear(&mut self)
         ensures { self.new ≡ [] }
     {
@@ -86,7 +86,7 @@ impl Waiting {
         self.rest.clear();
     }
 
-    /// Takes the first point out, if there is one.
+    /// Takes out the first point, if there is one.
     pub(crate) fn pop_first(&mut self) -> Option<PointKey>
         ensures none { result ≡ None → (self.old ≡ []) × (self.new ≡ []) }
         ensures some { IfSome result (λ point. self.old ≡ point ∷ self.new) }

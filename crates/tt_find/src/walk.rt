@@ -29,7 +29,7 @@ pub(crate) struct Walk {
 }
 
 impl Walk {
-    /// A walk that begins in the empty context, with the state in which a program starts with these functions.
+    /// Makes a walk that begins in the empty context, with the state in which a program starts with these functions.
     ///
     /// # Errors
     /// If memory runs out.
@@ -66,7 +66,7 @@ impl Walk {
         Ok(())
     }
 
-    /// Takes the state at a point over, where it isn't that one already. False if there is none.
+    /// Takes over the state at a point, where it isn't that one already. False if there is none.
     ///
     /// # Errors
     /// If memory runs out.
@@ -93,7 +93,7 @@ impl Walk {
         Ok(true)
     }
 
-    /// Is the state known to be that at a point?
+    /// Whether the state is known to be that at a point.
     fn is_at(&self, context: u32, offset: u32) -> bool
         ensures { IsTrue result ↔ (self.now.known ≡ Some (context, offset)) }
     {
