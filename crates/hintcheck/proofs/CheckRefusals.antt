@@ -1,4 +1,4 @@
--- Why a program is refused that is checked by its section.
+-- Why a program that is checked by its section is refused.
 use Rattle.std.proofs.Common.{◌≡◌, ◌⊎◌, inl, inr, ℕ, List, [], Option, Some, Bor, refl, sym, ap, subst, ◌∙◌}
 use Rattle.std.specs.Prelude.{Result, Ok, Err, IfErr, IfSome}
 use Rattle.tt_abs.specs.declared.state.State.{State}
@@ -60,14 +60,14 @@ broken_listing form x s family (fault.Refused spot offset r) looked (at, es, eo,
     let S : MachineSetting → Type 0 = λ t. IsGoodListing form t s.start.now family in
     exact (subst S looked.setting (subst F looked.functions good)))
 
--- the same of what a check answers
+-- the same of what a check returns
 pub broken_result : {T : Type 0} (form : Form) (x : Subject) (s : Setting) (family : Contents) (r : Result T ProgramFault) → IsLookedAt x s
     → IfErr r (Names (IsListingBrokenFirst form (setting_of s) s.start.now family))
     → (IsGoodListing form (setting_of s) s.start.now family → IfErr r IsWantOfMemory) → IfErr r (IsRefusedBy form x family)
 broken_result form x s family (Ok y) looked names exact = tt
 broken_result form x s family (Err f) looked names exact = broken_listing form x s family f looked names exact
 
--- a program passes whose family is good
+-- a program whose family is good passes
 pub passes : (form : Form) (x : Subject) (s : Setting) (family : Contents) → IsLookedAt x s → IsGoodListing form (setting_of s) s.start.now family → Passes form x s.main.now family
 passes form x s family looked good =
     let G : MachineSetting → List (ℕ × ℕ) → Type 0 = λ t fs. IsGoodListing form t fs family in
@@ -88,7 +88,7 @@ passes_to_end form x s family n found functions copy looked good size_is some e 
       functions_are = sym (copied ∙ same);
     }
 
--- what holds of each form but the first holds of such a form
+-- what holds of each form except the first holds of such a form
 pub of_sparse : (P : Form → Type 0) (form : Form) → (form ≡ Two) ⊎ ((form ≡ Three) ⊎ (form ≡ Four)) → P Two → P Three → P Four → P form
 of_sparse P form (inl e) two three four = subst P (sym e) two
 of_sparse P form (inr (inl e)) two three four = subst P (sym e) three

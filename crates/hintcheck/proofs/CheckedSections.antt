@@ -86,7 +86,7 @@ counts_decoding decode.Read old new h = h
 counts_decoding (decode.OutOfMemory error) old new h = h
 counts_decoding (decode.Form place) old new h = h
 
--- a certificate that can't be read is no fault of the font's
+-- a certificate that can't be read isn't a fault of the font's
 pub decoding_is_no_font : (e : DecodeFault) → IsNoFontFault (fault_of_decoding e)
 decoding_is_no_font decode.Read = tt
 decoding_is_no_font (decode.OutOfMemory error) = tt

@@ -1,4 +1,4 @@
--- Answers of which nothing is said, and texts that aren't printed.
+-- Answers that are unspecified, and texts that aren't printed.
 use Rattle.std.proofs.Common.{◌≡◌, ℕ, List, IfErr, IsErrAnd, OnOk, Result, Ok, Err, true}
 use Rattle.tt_stream.specs.declared.text.PrintFailed.{PrintFailed}
 use Rattle.tt_stream.specs.declared.text.PrintFailed.TheVariants as failed
@@ -7,7 +7,7 @@ use Rattle.hintcheck.specs.declared.commands.faults.CommandFault.{CommandFault}
 use Rattle.hintcheck.specs.Commands.{fault_of_print}
 use Rattle.hintcheck.specs.CommandFaults.{IsFaultOfWords, not_taken}
 
--- nothing is said of an answer
+-- an answer is left unspecified
 pub nothing_said : {T E : Type 0} (r : Result T E) → OnOk r (Unit {0})
 nothing_said (Ok x) = tt
 nothing_said (Err e) = tt

@@ -121,7 +121,7 @@ table_most tag most bytes e = go (extent tag bytes) (is_met (option_map_or (lies
         let fits : nat_le x.len most ≡ true = right_of_and (nat_le 0 x.len) (nat_le x.len most) (right_of_and (nat_le (x.offset + x.len) (length bytes)) (nat_le 0 x.len && nat_le x.len most) e) in
         let le = leb-true x.len most fits in let len = taken_most x.len (drop x.offset bytes) in omega arith
 
--- the conditions that don't stand
+-- the conditions that don't hold
 
 none_stands : (cs : List Condition) → first cs ≡ None → (k : ℕ) (c : Condition) → slice_get cs k ≡ Some c → c ≡ None
 none_stands [] e k c at = absurd (cc)
@@ -164,7 +164,7 @@ font_in_range bytes d h none reads = record {
       subst G is (subst HasFewBytes glyph.program (program_few (font_glyphs bytes id) (glyph_are_bytes bytes id h)));
 }
 
--- so it is with a font that was read
+-- the same for a font that was read
 pub read_in_range : (bytes : List ℕ) (r : Result FontData FontFault) → AreBytes bytes → TestsWithMemory (font_fault bytes) r → IfOk r (λ font. Reads bytes font)
     → IfOk r (λ font. IsFontInRange font)
 read_in_range bytes (Ok d) h tests reads = font_in_range bytes d h tests reads

@@ -28,7 +28,7 @@ use Rattle.hintcheck.proofs.LookLemmas.{looked_at, of_subject}
 use Rattle.tt_cert_file.specs.declared.name.Name.TheVariants as name
 use Rattle.hintcheck.specs.declared.report.Refused.{Refused as AnyRefused}
 
--- the functions of a good family's states rise by number
+-- the functions of a good family's states ascend by number
 pub functions_rise : (s : MachineSetting) (functions : List (ℕ × ℕ)) (family : Place → Option State) (p : Place) (a : State) → IsGoodFamily s functions family → family p ≡ Some a → Rises a.functions
 functions_rise s functions family p a good at = (good.good.in_range p a at).1.1.0.rises
 
@@ -123,7 +123,7 @@ known_of_accepted x is family n found functions copy a size_is some e copied =
     let (end, at, same) = subst S e some in
     known_at_end x is family end copy a (ap (λ (k : ℕ). family ([], k)) (sym size_is) ∙ at) (copied ∙ same)
 
--- so it is with what is found with it
+-- the same for what is found with it
 pub found_to_end : (x : Subject) (is : List Instruction) (found : Found) (n : ℕ) (o : Option (Bor (List (ℕ × ℕ)))) (functions : Bor (List (ℕ × ℕ))) (copy : List (ℕ × ℕ))
     → IsFoundFor x is found → n ≡ size is → IfSome o (λ fs. (end : State) × (family_of found.certificate ([], n) ≡ Some end) × (fs.now ≡ end.functions)) → o ≡ Some functions
     → copy ≡ functions.now → IsFoundToEnd x is found copy

@@ -24,7 +24,7 @@ glyph_there None gs id at lt =
     let there = at ∙ slice_get-get_or gs id (record { points = 0; contours = 0; program = [] }) lt in
     absurd (cc)
 
--- a glyph stands before those behind it
+-- a glyph is before those after it
 dropped_at : (gs : List GlyphData) (id : ℕ) (g : GlyphData) → slice_get gs id ≡ Some g → drop id gs ≡ g ∷ drop (suc id) gs
 dropped_at [] id g e = absurd (cc)
 dropped_at (x ∷ xs) zero g e = let same : x ≡ g = cc in ap (λ y. y ∷ xs) same

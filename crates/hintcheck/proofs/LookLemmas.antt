@@ -140,7 +140,7 @@ glyph_ends s fs points contours k h p r justified e family good =
     let P : Kind → Type 0 = λ t. EndsWell s t other in
     lacks.endless (subst P (sym k) tt)
 
--- what the finder says of a refusal, besides its cause
+-- what the finder tells of a refusal, besides its cause
 abbrev pub IsNoFamily : Setting → List (ℕ × ℕ) → Reason → Type 0
 IsNoFamily s fs r = (r ≡ reason.NeverEnds) ⊎ NoneIsGood s fs
 
@@ -159,7 +159,7 @@ pub found_no_good : (x : Subject) (is : List Instruction) → IsCutInto x is →
 found_no_good x is c r (inl e) = inl e
 found_no_good x is c r (inr none) = inr (none_known x is c none)
 
--- and so it is with a glyph program in any case
+-- and the same for a glyph program in any case
 pub glyph_no_good : (x : Subject) (is : List Instruction) (points contours : ℕ) → (x.setting is).kind ≡ GlyphProgram points contours → IsCutInto x is
     → HasFlow (x.setting is) x.functions → (p : Place) (r : Reason) → IsJustified (x.setting is) x.functions p r → IsNoFamily (x.setting is) x.functions r → HasGoodFamily x → ⊥
 glyph_no_good x is points contours k c h p r justified (inl e) g =
@@ -182,7 +182,7 @@ accepted_found x is s fs updates found c es ef h least =
       safe = of_subject (λ t f. IsSafe t f least.filling) x is s fs es ef (good_is_safe s h.range h.short fs h.rises least.filling least.good.good);
     }
 
--- and so it is with all that is found with it
+-- and the same for all that is found with it
 pub found_for : (x : Subject) (is : List Instruction) (s : Setting) (fs : List (ℕ × ℕ)) (found : Found) → x.setting is ≡ s → x.functions ≡ fs
     → IsAccepted x is (family_of found.certificate) → HasLeastFilling s fs found.updates (family_of found.certificate) → AreLeastContexts s fs found.certificate.contexts
     → NeedsAll s fs (family_of found.certificate) → IsFoundFor x is found
@@ -207,7 +207,7 @@ pub passed_on : {T : Type 0} (r : Result T ProgramFault) (f : ProgramFault) (P :
 passed_on (Ok x) f P is h = absurd is
 passed_on (Err x) f P is h = subst P (sym is) h
 
--- what the finder says, in a subject's words
+-- what the finder tells, in a subject's words
 
 abbrev pub IsUnfound : Setting → List (ℕ × ℕ) → ProgramFault → Type 0
 IsUnfound s fs f = IsWantOfMemory f ⊎ (IsNeverEnding f ⊎ NoneIsGood s fs)

@@ -1,4 +1,4 @@
--- The bytes of a font file hold one font, but for how often its components were read; and its check by a certificate is the same.
+-- The bytes of a font file hold one font, except for how often its components were read; and its check by a certificate is the same.
 use Rattle.std.proofs.Common.{◌≡◌, ◌≢◌, inl, inr, ℕ, suc, ◌+◌, ◌<◌, List, [], ◌∷◌, length, Some, Result, Ok, Err, refl, sym, ap, subst, ◌∙◌, arith}
 use Rattle.std.specs.List.{sum_by}
 use Rattle.std.proofs.lemmas.List.Sums.{sum_by-cons}
@@ -103,7 +103,7 @@ same_glyphs (g ∷ gs) (h ∷ hs) len same =
 
 -- fonts
 
--- the font, but that its components were read so often
+-- the font, except for how often its components were read
 abbrev with_reads : FontData → ℕ → FontData
 with_reads d n = record d { component_reads = n }
 

@@ -58,7 +58,7 @@ AreLeastFrom d over = Unit {0}
 least_of_end : (x : Subject) (is : List Instruction) (functions : List (ℕ × ℕ)) → EndsWith x is functions → HasLeastFamily x
 least_of_end x is functions e = record { instructions = is; cut = e.cut; family = e.family; good = e.good; least = e.least }
 
--- so it is where the verdict refuses none
+-- the same where the verdict refuses none
 
 glyphs_from : (font : Font) (known : List (ℕ × ℕ)) (n : ℕ) (gs : List GlyphData) (rs : List Refused) → AreRefused font known n gs rs → rs ≡ []
     → (k : ℕ) (g : GlyphData) → slice_get gs k ≡ Some g → HasLeastFamily (glyph_subject font known (n + k) g)

@@ -29,7 +29,7 @@ use Rattle.hintcheck.specs.declared.session.Outcome.{Outcome}
 use Rattle.hintcheck.proofs.CheckedSections.{all_dropped, dropped, one_more}
 use Rattle.hintcheck.proofs.FailedReads.{ends_there, next_always, place_so_far}
 
--- the finding, after that a program is refused, or none
+-- the finding after a program is refused, or none is
 abbrev pub before : Option Refused → Finding → Finding
 before None finding = finding
 before (Some r) finding = refused_before r finding
@@ -90,7 +90,7 @@ sections_come d form i finding (goes_on s t j after o rest (font_fails family r 
 sections_come d form i finding (comes_to_end s j left) = elim left [ ]
 sections_come d form i finding (fails_at s j place (no_font place1 none)) = no_font_section place none
 
--- from where a session stands: before the header, or at a stage
+-- from where a session is: before the header, or at a stage
 
 abbrev pub ComesFrom : FontData → Stage → Option (Form × ℕ) → Option (List ℕ) → Finding → Type 0
 ComesFrom d stage None bytes finding = IsChecked d (bytes_in bytes) finding
@@ -132,7 +132,7 @@ refused_so_far rs rs' (Some r) finding same = one_more rs r finding ∙ ap (λ (
 
 -- good families
 
--- so many calls answer at most
+-- this many calls answer at most
 unfoldable pub calls_left : FontData → Stage → ℕ
 calls_left d at_start = length d.glyphs + 3
 calls_left d (after_font f functions) = length d.glyphs + 2

@@ -1,4 +1,4 @@
--- Why a font isn't checked by a certificate, and what that says of failed reads.
+-- Why a font isn't checked by a certificate, and what that tells of failed reads.
 use Rattle.std.specs.Prelude.{◌≡◌, ◌≢◌, ◌+◌, ℕ, List, [], Option, Some, None, alloc_error, Result, Ok, Err}
 use Rattle.tt_font.specs.Conditions.{Condition}
 use Rattle.tt_font.specs.declared.fault.FontFault.TheVariants.{OutOfMemory}
@@ -12,7 +12,7 @@ use Rattle.hintcheck.specs.declared.certifying.FindFontFault.{FindFontFault}
 use Rattle.hintcheck.specs.declared.certifying.FindFontFault.TheVariants as find
 use Rattle.hintcheck.specs.Verdicts.{Judgement}
 
--- What holds of what is read, or of the place that a fault of form names; a failed read and want of memory say nothing.
+-- What holds of what is read, or of the place that a fault of form names; a failed read and out of memory are unspecified.
 abbrev pub Decodes : {T : Type 0} → Result T DecodeFault → (T → Type 0) → (ℕ → Type 0) → Type 0
 Decodes (Ok x) Is At = Is x
 Decodes (Err (decode.Form place)) Is At = At place
@@ -25,7 +25,7 @@ fault_of_decoding (decode.Form place) = fault.Form place
 fault_of_decoding decode.Read = fault.Read
 fault_of_decoding (decode.OutOfMemory error) = fault.OutOfMemory error
 
--- the count of failed reads rises by one exactly where the fault is a failed read
+-- the count of failed reads goes up by one exactly where the fault is a failed read
 abbrev pub CountsCheck : {T : Type 0} → Result T CheckFontFault → ℕ → ℕ → Type 0
 CountsCheck (Ok done) old new = new ≡ old
 CountsCheck (Err fault.Read) old new = new ≡ old + 1
@@ -33,8 +33,8 @@ CountsCheck (Err (fault.Font font)) old new = new ≡ old
 CountsCheck (Err (fault.Form place)) old new = new ≡ old
 CountsCheck (Err (fault.OutOfMemory error)) old new = new ≡ old
 
--- The check of a font tests the condition on its bytes: a fault of the font's is the one that stands, unless memory ran out, and any other answer says
--- that none does.
+-- The check of a font tests the condition on its bytes: a fault of the font's is the one that holds, unless memory ran out, and any other answer
+-- means that none does.
 abbrev pub TestsInCheck : {T : Type 0} → Condition → Result T CheckFontFault → Type 0
 TestsInCheck condition (Ok done) = condition ≡ None
 TestsInCheck condition (Err (fault.Font font)) = font ≢ OutOfMemory alloc_error → condition ≡ Some font
@@ -54,7 +54,7 @@ abbrev pub fault_of_encoding : EncodeFault → FindFontFault
 fault_of_encoding encode.Write = find.Write
 fault_of_encoding (encode.OutOfMemory error) = find.OutOfMemory error
 
--- the count of failed writes rises by one exactly where the fault is a failed write
+-- the count of failed writes goes up by one exactly where the fault is a failed write
 abbrev pub CountsFind : {T : Type 0} → Result T FindFontFault → ℕ → ℕ → Type 0
 CountsFind (Ok done) old new = new ≡ old
 CountsFind (Err find.Write) old new = new ≡ old + 1

@@ -27,7 +27,7 @@ pub record EndsGood (x : Subject) (instructions : List Instruction) (functions :
   pub at_end : family ([], size instructions) ≡ Some end
   pub functions_are : end.functions ≡ functions
 
--- These functions are listed by rising numbers.
+-- These functions are listed by ascending numbers.
 pub record IsGoodAtEnd (x : Subject) (instructions : List Instruction) (functions : List (ℕ × ℕ)) : Type 0 where
   pub ends : EndsGood x instructions functions
   pub rises : Rises functions
@@ -51,7 +51,7 @@ IsTold known = is_some known ≡ true
 abbrev pub bytes_in : Option (List ℕ) → List ℕ
 bytes_in known = unwrap_or known []
 
--- What holds of an answer, or of the place that a fault of form names; a failed read, want of memory and the font's own faults say nothing.
+-- What holds of an answer, or of the place that a fault of form names; a failed read, out of memory and the font's own faults are unspecified.
 abbrev pub Finds : {T : Type 0} → Result T CheckFontFault → (T → Type 0) → (ℕ → Type 0) → Type 0
 Finds (Ok x) Is At = Is x
 Finds (Err (fault.Form place)) Is At = At place
@@ -64,7 +64,7 @@ abbrev pub all_refused : List Refused → Finding → Finding
 all_refused rs (Ok others) = Ok (rs ++ others)
 all_refused rs (Err place) = Err place
 
--- the fault refuses the program as the check of its section does; want of memory says nothing
+-- the fault refuses the program as the check of its section does; out of memory is unspecified
 abbrev pub IsRefusedBy : Form → Subject → Contents → ProgramFault → Type 0
 IsRefusedBy form x family fault = IfRefused x.name fault (IsCheckRefusal form x family)
 

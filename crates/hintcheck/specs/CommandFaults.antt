@@ -1,4 +1,4 @@
--- Which fault a command tells, and when: each says that of its input, and want of memory says nothing.
+-- Which fault a command reports, and when: each tells that of its input, and out of memory is unspecified.
 use Rattle.std.specs.Prelude.{◌≡◌, ◌≢◌, ◌⊎◌, ℕ, List, Option, Some, None, alloc_error, true, unwrap_or, []}
 use Rattle.tt_font.specs.Conditions.{maxp_fault}
 use Rattle.tt_font.specs.FileFaults.{font_fault}
@@ -49,7 +49,7 @@ pub record SpellFault (maxp program : List ℕ) (f : FontFault) : Type 0 where
   pub spelled : Spells maxp table
   pub first : (maxp_fault table ≡ Some f) ⊎ (IsMemory f × (maxp_fault table ≡ None))
 
--- Why there is no verdict on one glyph program: the first of the words that spells no bytes, and else the fault of `maxp`.
+-- Why there is no verdict on one glyph program: the first of the words that spells no bytes, or else the fault of `maxp`.
 abbrev pub IsFaultOfGlyph : List ℕ → List ℕ → CommandFault → Type 0
 IsFaultOfGlyph maxp program fault.MaxpWord = IsHexWord maxp → ⊥
 IsFaultOfGlyph maxp program fault.ProgramWord = IsHexWord maxp × (IsHexWord program → ⊥)
@@ -76,8 +76,8 @@ IsFaultOfCertifying (fault.Font numbered) = IsFaultOfSomeFont numbered.0
 IsFaultOfCertifying fault.File = Unit {0}
 IsFaultOfCertifying other = IsFaultOfReading other
 
--- The same for a font file and a certificate's file with these names. One name stands for one file; two names may, and which do, no contract of the
--- runtime says.
+-- The same for a font file and a certificate's file with these names. One name stands for one file; two names may, and no contract of the runtime
+-- tells which do.
 abbrev pub IsFaultOfFinding : List ℕ → List ℕ → CommandFault → Type 0
 IsFaultOfFinding font certificate told = (told ≡ fault.CertificateWord) ⊎ (font ≢ certificate × IsFaultOfCertifying told)
 

@@ -1,4 +1,4 @@
--- What a command says of the count of failed writes to its output, and its exit status at a fault.
+-- What a command tells of the count of failed writes to its output, and its exit status at a fault.
 use Rattle.std.specs.Prelude.{◌≡◌, ◌+◌, ℕ, List, Option, IfSome, Result, Ok, Err}
 use Rattle.std.specs.Io.KnownBytes.{Consumes, IsAtEnd}
 use Rattle.hintcheck.specs.declared.commands.faults.CommandFault.{CommandFault}
@@ -23,7 +23,7 @@ abbrev pub font_status : FontFault → ℕ
 font_status (font.OutOfMemory error) = 3
 font_status other = 2
 
--- the exit status: 3 where memory ran out, and else 2
+-- the exit status: 3 where memory ran out, and otherwise 2
 abbrev pub status_of : CommandFault → ℕ
 status_of fault.OutOfMemory = 3
 status_of (fault.Font numbered) = font_status numbered.0
@@ -74,13 +74,13 @@ abbrev pub fault_of_word : WordFault → CommandFault → CommandFault
 fault_of_word words.BadWord bad = bad
 fault_of_word (words.OutOfMemory error) bad = fault.OutOfMemory
 
--- the count of failed writes rises by one exactly where the fault is a failed write
+-- the count of failed writes goes up by one exactly where the fault is a failed write
 abbrev pub TellsFailure : {T : Type 0} → Result T CommandFault → ℕ → ℕ → Type 0
 TellsFailure (Ok done) old new = new ≡ old
 TellsFailure (Err fault.Write) old new = new ≡ old + 1
 TellsFailure (Err other) old new = new ≡ old
 
--- the count of failed reads rises by one exactly where the fault is a failed read
+-- the count of failed reads goes up by one exactly where the fault is a failed read
 abbrev pub TellsFailedRead : {T : Type 0} → Result T CommandFault → ℕ → ℕ → Type 0
 TellsFailedRead (Ok done) old new = new ≡ old
 TellsFailedRead (Err fault.Read) old new = new ≡ old + 1
@@ -94,7 +94,7 @@ ReadsToEnd old new bytes = Consumes old new bytes × IsAtEnd new
 abbrev pub HasAll : Option (List ℕ) → List ℕ → Type 0
 HasAll left bytes = IfSome left (λ known. bytes ≡ known)
 
--- a verdict is asked for, and no listing or upgrade
+-- a verdict is asked for, and not a listing or an upgrade
 abbrev pub IsForVerdict : Request → Type 0
 IsForVerdict (bare maxp cvt points contours program) = Unit {0}
 IsForVerdict (verdict font) = Unit {0}

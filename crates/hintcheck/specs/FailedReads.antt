@@ -19,7 +19,7 @@ use Rattle.hintcheck.specs.declared.upgrading.UpgradeFault.TheVariants as upgrad
 abbrev pub OfRead : Option (List ℕ) → Option (List ℕ) → (List ℕ → Type 0) → Type 0
 OfRead old new Is = IsTold old → (front : List ℕ) × Consumes old new front × Is front
 
--- so it is where a read failed, in the check of a font by a certificate
+-- the same where a read failed, in the check of a font by a certificate
 abbrev pub HasRead : Option (List ℕ) → Option (List ℕ) → (List ℕ → Type 0) → CheckFontFault → Type 0
 HasRead old new Is fault.Read = OfRead old new Is
 HasRead old new Is (fault.Form place) = Unit {0}
@@ -51,7 +51,7 @@ pub data EndsInCall (s : Standing) (front : List ℕ) : Type 0 where
   in_header : s.read ≡ None → IsCutHeader front → EndsInCall s front
   in_sections : (form : Form) (from : Input) → ReadsOn s (Some front) form from → EndsInSection s.font form s.stage from → EndsInCall s front
 
--- it names no place before the end of so many bytes
+-- it names no place before the end of this many bytes
 abbrev pub IsAtEndOnly : {T : Type 0} → ℕ → Result T ℕ → Type 0
 IsAtEndOnly n (Ok x) = Unit {0}
 IsAtEndOnly n (Err place) = place ≡ place_after 0 n
@@ -62,7 +62,7 @@ pub record IsUnbroken (d : FontData) (front : List ℕ) : Type 0 where
   pub is_checked : IsChecked d front finding
   pub at_end : IsAtEndOnly (length front) finding
 
--- so is it with the font in these bytes
+-- the same with the font in these bytes
 abbrev pub IsUnbrokenFor : List ℕ → List ℕ → Type 0
 IsUnbrokenFor font front = (d : FontData) × Reads font d × IsUnbroken d front
 

@@ -53,12 +53,12 @@ pub data IsOutcomeByFinding (d : FontData) : Stage → Outcome → Option Found 
       → slice_get d.glyphs id ≡ Some g → IsRefusal (glyph_subject (font_of d f p) known id g) r
       → IsOutcomeByFinding d (at_glyph f p known id) (refused_as (name.Glyph id) r) None (at_glyph f p known (id + 1))
 
--- so is it with an answer, which is none where no program is left
+-- the same for an answer, which is none where no program is left
 abbrev pub IsFoundAnswer : FontData → Stage → Option (Outcome × Option Found) → Stage → Type 0
 IsFoundAnswer d stage (Some (o, found)) stage' = IsOutcomeByFinding d stage o found stage'
 IsFoundAnswer d stage None stage' = IsLast d stage × (stage' ≡ over)
 
--- memory ran out, as a session tells it that finds, and as it keeps it
+-- memory ran out, as a session that finds reports it, and as it keeps it
 abbrev pub out_of_memory : FindFontFault
 out_of_memory = find.OutOfMemory alloc_error
 

@@ -1,4 +1,4 @@
--- The programs of a font, what it means that they are safe, and what a verdict says of them.
+-- The programs of a font, what it means that they are safe, and what a verdict tells of them.
 use Rattle.std.specs.Prelude.{◌≡◌, ℕ, ◌+◌, ◌≤◌, ◌<◌, ◌^◌, List, [], ◌∷◌, Some, length, slice_get}
 use Rattle.tt_code.specs.Cut.{Instruction, IsCut}
 use Rattle.tt_code.specs.Grammar.{IsStructured}
@@ -16,7 +16,7 @@ use Rattle.hintcheck.specs.declared.report.Refused.{Refused}
 abbrev pub font_of : FontData → List Instruction → List Instruction → Font
 font_of d f p = record { limits = d.limits; cvt = d.cvt_count; font_program = f; cvt_program = p }
 
--- a font with one glyph alone and without a font program and a CVT program, by the fields of a `maxp` table and the number of control values
+-- a font with only one glyph and without a font program and a CVT program, by the fields of a `maxp` table and the number of control values
 abbrev pub one_glyph_font : List ℕ → ℕ → GlyphData → FontData
 one_glyph_font maxp cvt glyph = record { limits = limits_of maxp; cvt_count = cvt; fpgm = []; prep = []; glyphs = glyph ∷ []; component_reads = 0 }
 
@@ -41,7 +41,7 @@ pub record IsSafeGlyph (font : Font) (glyph : GlyphData) : Type 0 where
   pub structured : IsStructured instructions
   pub never_faults : NeverFaults (glyph_setting font glyph.points glyph.contours instructions) (StartsGlyphProgram font)
 
--- So it is with the font program, the CVT program and each glyph program of a font.
+-- The same for the font program, the CVT program and each glyph program of a font.
 pub record IsSafeFont (d : FontData) : Type 0 where
   pub font_program : List Instruction
   pub font_cut : IsCut d.fpgm font_program

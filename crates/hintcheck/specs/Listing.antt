@@ -15,7 +15,7 @@ use Rattle.tt_cert_file.specs.declared.name.Name.TheVariants as name
 use Rattle.hintcheck.specs.Texts.{refused_text}
 use Rattle.hintcheck.specs.declared.report.Refused.{Refused}
 
--- the text has no plus sign in front, and no zero there but as its only digit
+-- the text has no plus sign in front, and no zero there except as its only digit
 pub record IsPlain (text : List ℕ) : Type 0 where
   pub unsigned : slice_index text 0 ≢ 43
   pub first : slice_index text 0 ≡ 48 → length text ≡ 1
@@ -76,7 +76,7 @@ pub record HoldToldProgram (bytes word : List ℕ) (old new : Option (List ℕ))
   pub there : program_in font name ≡ Some program
   pub told : TellsUnlisted name program old new
 
--- The bytes hold a font, and the word is the name of none of its programs.
+-- The bytes hold a font, and the word isn't the name of any of its programs.
 pub record HoldNoSuchProgram (bytes word : List ℕ) : Type 0 where
   pub font : FontData
   pub reads : Reads bytes font
@@ -96,12 +96,12 @@ shown_name i = unwrap_or (option_and_then name_of (code_of i)) (codes "?")
 unfoldable pub line_of : ℕ → Instruction → List ℕ
 line_of offset i = decimal offset ++ (codes ": " ++ (hex_digits i ++ (codes " " ++ (shown_name i ++ codes "\n"))))
 
--- the lines of instructions, the first of which stands at an offset
+-- the lines of instructions, the first of which is at an offset
 abbrev pub lines_of : ℕ → List Instruction → List ℕ
 lines_of offset [] = []
 lines_of offset (i ∷ is) = line_of offset i ++ lines_of (offset + length i) is
 
--- the line behind them, with the program's length
+-- the line after them, with the program's length
 unfoldable pub last_line : List Instruction → List ℕ
 last_line is = codes "end: " ++ (decimal (size is) ++ codes "\n")
 

@@ -1,4 +1,4 @@
--- What the look at one program answers, and what is told of it.
+-- What the look at one program returns, and what is told of it.
 use Rattle.std.specs.Prelude.{◌≡◌, ℕ, List, [], ◌∷◌, ◌++◌, Option, Some}
 use Rattle.tt_code.specs.Cut.{Instruction}
 use Rattle.tt_code.specs.declared.reason.Reason.{Reason}
@@ -40,12 +40,12 @@ pub record IsAccepted (x : Subject) (instructions : List Instruction) (family : 
 abbrev pub told_at : Name → Spot → ℕ → Reason → AnyRefused
 told_at called spot offset r = record { program = called; place = record { program = program_at called spot; offset = offset }; reason = r }
 
--- so it is with what is told of a program by this name, where the fault refuses it; want of memory says nothing
+-- the same of what is told of a program by this name, where the fault refuses it; out of memory is unspecified
 abbrev pub IfRefused : Name → ProgramFault → (AnyRefused → Type 0) → Type 0
 IfRefused called (Refused spot offset r) Is = Is (told_at called spot offset r)
 IfRefused called (OutOfMemory e) Is = Unit {0}
 
--- the fault refuses a program by this name, which stands last in the list
+-- the fault refuses a program by this name, which is last in the list
 abbrev pub IsListed : Name → ProgramFault → List AnyRefused → List AnyRefused → Type 0
 IsListed called (Refused spot offset r) old new = new ≡ old ++ told_at called spot offset r ∷ []
 IsListed called (OutOfMemory e) old new = ⊥

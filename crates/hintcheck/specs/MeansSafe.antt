@@ -1,4 +1,4 @@
--- What the exit statuses 0 and 1 say: what was asked for is safe, or refused.
+-- What the exit statuses 0 and 1 mean: what was asked for is safe, or refused.
 use Rattle.std.specs.Prelude.{◌≡◌, ◌≢◌, ◌↔◌, ◌+◌, ◌≤◌, ℕ, All, List, [], Some, length, true, unwrap_or}
 use Rattle.tt_font.specs.Reading.{FontData, GlyphData, Reads}
 use Rattle.hintcheck_words.specs.HexWords.{Spells}
@@ -19,7 +19,7 @@ pub record SpellSafeGlyph (maxp : List ℕ) (cvt points contours : ℕ) (program
   pub program_spelled : Spells program glyph.program
   pub safe : IsSafeGlyph (font_of (one_glyph_font table cvt glyph) [] []) glyph
 
--- The verdict is the one on the font that stands in the bytes; where it names no refused program, the font is safe.
+-- The verdict is the one on the font that is in the bytes; where it names no refused program, the font is safe.
 pub record IsVerdictOn (bytes : List ℕ) (judgement : Judgement) : Type 0 where
   pub font : FontData
   pub reads : Reads bytes font
@@ -33,7 +33,7 @@ pub record HoldSafeFont (bytes : List ℕ) : Type 0 where
   pub safe : IsSafeFont font
 
 -- What is asked for is safe: the glyph program of `bare`, no digits being no bytes. For `verdict`, `find` and `check`, some bytes hold a safe
--- font: no contract of the runtime tells which bytes a file has, so that these can't be named here. A listing and an upgrade say nothing of safety.
+-- font: no contract of the runtime tells which bytes a file has, so that these can't be named here. Of safety, a listing and an upgrade tell nothing.
 abbrev pub IsSafeRequest : Request → Type 0
 IsSafeRequest (bare maxp cvt points contours program) = SpellSafeGlyph maxp cvt points contours (unwrap_or program [])
 IsSafeRequest (verdict font) = (bytes : List ℕ) × HoldSafeFont bytes
@@ -72,7 +72,7 @@ pub record HoldFont (bytes : List ℕ) : Type 0 where
   pub reads : Reads bytes font
 
 -- The words spell a `maxp` table and a glyph program, of which the verdict is this one: it names no refused program exactly where a family of abstract
--- states is good for the glyph program, and else that one, with what refuses it.
+-- states is good for the glyph program, and otherwise that one, with what refuses it.
 pub record SpellVerdict (maxp : List ℕ) (cvt points contours : ℕ) (program : List ℕ) (judgement : Judgement) : Type 0 where
   pub table : List ℕ
   pub table_spelled : Spells maxp table
@@ -85,8 +85,8 @@ pub record SpellVerdict (maxp : List ℕ) (cvt points contours : ℕ) (program :
   pub exact : judgement.refused ≡ [] ↔ HasGoodFamily (glyph_subject (font_of (one_glyph_font table cvt glyph) [] []) [] 0 glyph)
   pub refused : All (IsRefusal (glyph_subject (font_of (one_glyph_font table cvt glyph) [] []) [] 0 glyph)) judgement.refused
 
--- The verdict is one on the programs of the font that stands in the bytes; where it names none, the font is safe. Which ones a check by a certificate
--- refuses, no contract of the runtime tells, since it tells no bytes of that.
+-- The verdict is one on the programs of the font that is in the bytes; where it names none, the font is safe. Which ones a check by a certificate
+-- refuses, no contract of the runtime tells, since it doesn't tell the bytes of that.
 pub record IsCheckOn (bytes : List ℕ) (judgement : Judgement) : Type 0 where
   pub font : FontData
   pub reads : Reads bytes font
@@ -102,8 +102,8 @@ IsVerdictAsked (check font certificate) judgement = (bytes : List ℕ) × IsChec
 IsVerdictAsked (list font program) judgement = ⊥
 IsVerdictAsked (upgrade old new) judgement = ⊥
 
--- What is asked for is refused, as it is safe above; of `check` it says no more than that some bytes hold a font. For `list`, some bytes hold a font whose program of this name can't be cut or isn't
--- structured. An upgrade is never refused.
+-- What is asked for is refused, as it is safe above; for `check` this tells no more than that some bytes hold a font. For `list`, some bytes hold a
+-- font whose program of this name can't be cut or isn't structured. An upgrade is never refused.
 abbrev pub IsRefusedRequest : Request → Type 0
 IsRefusedRequest (bare maxp cvt points contours program) = SpellRefusedGlyph maxp cvt points contours (unwrap_or program [])
 IsRefusedRequest (verdict font) = (bytes : List ℕ) × HoldRefusedFont bytes
@@ -118,8 +118,8 @@ pub record MeansRefused (words : List (List ℕ)) : Type 0 where
   pub meant : meaning words ≡ Some request
   pub refused : IsRefusedRequest request
 
--- What an exit status says of the words of a command line: they ask for something safe where it is 0 and they are taken, and for something
--- refused where it is 1; where it is more, they have a fault, which gives it, and else, where they are taken, none.
+-- What an exit status tells of the words of a command line: they ask for something safe where it is 0 and they are taken, and for something
+-- refused where it is 1; where it is more, they have a fault, which gives it, and otherwise, where they are taken, none.
 pub record IsStatusOf (words : List (List ℕ)) (status : ℕ) : Type 0 where
   pub few : status ≤ 3
   pub safe : status ≡ 0 → is_taken words ≡ true → MeansSafe words

@@ -17,7 +17,7 @@ use Rattle.tt_cert_file.specs.declared.name.Name.TheVariants as name
 use Rattle.hintcheck.specs.declared.report.Refused.{Refused}
 
 -- A program that is looked at: its name; its bytes; what it is checked against, once its instructions are known; and the functions that
--- are known to be defined where it starts, by rising numbers, each with its body.
+-- are known to be defined where it starts, by ascending numbers, each with its body.
 pub record Subject : Type 0 where
   pub name : Name
   pub bytes : List ℕ
@@ -62,13 +62,13 @@ pub data IsCause (x : Subject) : Place → Reason → Type 0 where
   no_family : (instructions : List Instruction) (p : Place) (r : Reason) → IsCutInto x instructions
       → IsJustified (x.setting instructions) x.functions p r → IsCause x p r
 
--- the program in which a place stands that is reached from this program
+-- the program in which a place is that is reached from this program
 abbrev pub program_at : Name → Spot → Name
 program_at x spot.Main = x
 program_at x spot.Font = name.Font
 program_at x spot.Prep = name.Cvt
 
--- The program is refused: a cause is named with its place, and the program has no least family; for each cause but that it never ends, it has
+-- The program is refused: a cause is named with its place, and the program has no least family; for each cause except that it never ends, it has
 -- no good one either.
 pub record IsRefusal (x : Subject) (r : Refused) : Type 0 where
   pub program : r.program ≡ x.name

@@ -39,7 +39,7 @@ abbrev pub read_of : Option Progress → Option (Form × ℕ)
 read_of None = None
 read_of (Some p) = Some (p.form, p.place)
 
--- the fault that each call answers
+-- the fault that each call returns
 abbrev pub fault_of : Met → CheckFontFault
 fault_of (met.Form place) = fault.Form place
 fault_of met.Read = fault.Read
@@ -57,7 +57,7 @@ KeepsGood d (at_glyph f p known id) =
     ((functions : List (ℕ × ℕ)) × IsGoodAtEnd (font_subject d) f functions × IsGoodAtEnd (cvt_subject d f functions) p known) × (id ≤ length d.glyphs)
 KeepsGood d over = Unit {0}
 
--- So it is with the least families, where no certificate is read.
+-- The same for the least families, where no certificate is read.
 abbrev pub KeepsKnown : FontData → Stage → Type 0
 KeepsKnown d at_start = Unit {0}
 KeepsKnown d (after_font f functions) = IsKnownAtEnd (font_subject d) f functions
@@ -65,7 +65,7 @@ KeepsKnown d (at_glyph f p known id) =
     ((functions : List (ℕ × ℕ)) × IsKnownAtEnd (font_subject d) f functions × IsKnownAtEnd (cvt_subject d f functions) p known) × (id ≤ length d.glyphs)
 KeepsKnown d over = Unit {0}
 
--- what a session keeps that has read no certificate
+-- what a session that has read no certificate keeps
 abbrev pub KeepsFound : Option (Form × ℕ) → FontData → Stage → Type 0
 KeepsFound None d stage = KeepsKnown d stage
 KeepsFound (Some read) d stage = Unit {0}
@@ -74,17 +74,17 @@ KeepsFound (Some read) d stage = Unit {0}
 abbrev pub HasHeader : FontData → Form → Option (List ℕ) → Option (List ℕ) → Type 0
 HasHeader d form old new = (place : ℕ) × (header_at (input_at 0 old) ≡ Ok ((form, length d.glyphs + 2), input_at place new))
 
--- what is told of a program of this name that the fault refuses; want of memory says nothing of it
+-- what is told of a program of this name that the fault refuses; out of memory is unspecified
 abbrev pub TellsRefusal : Name → ProgramFault → Result Outcome CheckFontFault → Type 0
 TellsRefusal called (program.Refused spot offset r) told = told ≡ Ok (refused_as called (told_at called spot offset r))
 TellsRefusal called (program.OutOfMemory e) told = told ≡ Err (fault.OutOfMemory e)
 
--- what is told of a program of this name that the fault refuses; where memory ran out, that
+-- what is told of a program of this name that the fault refuses; that memory ran out, where it did
 abbrev pub TellsOutcome : Name → ProgramFault → Result Outcome AllocError → Type 0
 TellsOutcome called (program.Refused spot offset r) told = told ≡ Ok (refused_as called (told_at called spot offset r))
 TellsOutcome called (program.OutOfMemory e) told = told ≡ Err e
 
--- the refused program, if there is one, stands last in the list
+-- the refused program, if there is one, is last in the list
 abbrev pub ListsOutcome : List Refused → Option Refused → List Refused → Type 0
 ListsOutcome old None new = new ≡ old
 ListsOutcome old (Some r) new = new ≡ old ++ r ∷ []

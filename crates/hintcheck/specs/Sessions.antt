@@ -1,4 +1,4 @@
--- A session looks at the programs of a font one by one: where it stands, and what its calls answer.
+-- A session looks at the programs of a font one by one: where it is, and what its calls return.
 use Rattle.std.specs.Prelude.{◌≡◌, ◌≢◌, ℕ, ◌+◌, ◌<◌, List, [], Option, Some, None, Ok, Err, length, slice_get}
 use Rattle.tt_code.specs.Cut.{Instruction}
 use Rattle.tt_cert.specs.Contents.{Contents}
@@ -31,7 +31,7 @@ pub record Standing : Type 0 where
   pub stage : Stage
   -- the certificate's form, and how many of its bytes were read, once its header was
   pub read : Option (Form × ℕ)
-  -- the fault that was met, which each later call answers
+  -- the fault that was met, which each later call returns
   pub fault : Option CheckFontFault
 
 -- a session that met no fault
@@ -100,7 +100,7 @@ pub data ReadsOn (s : Standing) (bytes : Option (List ℕ)) : Form → Input →
   at_header : (form : Form) (i : Input) → s.read ≡ None → header_at (input_at 0 bytes) ≡ Ok ((form, length s.font.glyphs + 2), i)
       → ReadsOn s bytes form (after_header i.bytes)
 
--- The answer of a call of a session to which a source tells its bytes, and where the session stands then.
+-- The answer of a call of a session to which a source tells its bytes, and where the session is then.
 pub record AnswersNext (s : Standing) (bytes : Option (List ℕ)) (answer : Option Outcome) (t : Standing) (left : Option (List ℕ)) : Type 0 where
   pub form : Form
   pub from : Input
@@ -109,13 +109,13 @@ pub record AnswersNext (s : Standing) (bytes : Option (List ℕ)) (answer : Opti
   pub read_is : t.read ≡ Some (form, place)
   pub answers : AnswersAt s.font form s.stage from answer t.stage (input_at place left)
 
--- The place at which the bytes have no header of the font's certificate: that of the header's fault; or of the number of sections, where it is another one.
+-- The place at which the bytes have no header of the font's certificate: that of the header's fault; or of the number of sections, if that is wrong.
 pub data IsHeaderFault (d : FontData) (bytes : Option (List ℕ)) : ℕ → Type 0 where
   no_header_read : (place : ℕ) → header_at (input_at 0 bytes) ≡ Err place → IsHeaderFault d bytes place
   another_number : (form : Form) (sections : ℕ) (i : Input) → header_at (input_at 0 bytes) ≡ Ok ((form, sections), i)
       → sections ≢ length d.glyphs + 2 → IsHeaderFault d bytes 6
 
--- The place of a fault of form that a call of a session answers: in the header, where that comes first, or at the next section.
+-- The place of a fault of form that a call of a session returns: in the header, where that comes first, or at the next section.
 pub data IsNextFault (s : Standing) (bytes : Option (List ℕ)) : ℕ → Type 0 where
   in_header : (place : ℕ) → s.read ≡ None → IsHeaderFault s.font bytes place → IsNextFault s bytes place
   at_section : (form : Form) (from : Input) (place : ℕ) → ReadsOn s bytes form from → IsFaultAt s.font form from s.stage place → IsNextFault s bytes place
@@ -140,7 +140,7 @@ pub data IsLast (d : FontData) : Stage → Type 0 where
   none_is_left : IsLast d over
   last_glyph : (f p : List Instruction) (known : List (ℕ × ℕ)) (id : ℕ) → id ≡ length d.glyphs → IsLast d (at_glyph f p known id)
 
--- so is it with an answer, which is none where no program is left
+-- the same for an answer, which is none where no program is left
 abbrev pub IsSoundAnswer : FontData → Stage → Option Outcome → Stage → Type 0
 IsSoundAnswer d stage (Some o) stage' = IsSoundOutcome d stage o stage'
 IsSoundAnswer d stage None stage' = IsLast d stage × (stage' ≡ over)

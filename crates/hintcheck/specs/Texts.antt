@@ -23,7 +23,7 @@ refused_text r = codes "refused " ++ (text_of r.program ++ (codes " at " ++ (pla
 abbrev pub refused_lines : List Refused → List ℕ
 refused_lines rs = flat_map (λ r. refused_text r ++ codes "\n") rs
 
--- the last line where a program is refused: the font program or the CVT program, which end the look, or so many of the glyph programs
+-- the last line where a program is refused: the font program or the CVT program, which end the look, or this many of the glyph programs
 abbrev pub refused_line : ℕ → ℕ → Name → List ℕ
 refused_line count programs name.Font = codes "refused: font program\n"
 refused_line count programs name.Cvt = codes "refused: cvt program\n"
@@ -38,6 +38,6 @@ end_line programs (r ∷ rs) = refused_line (length (r ∷ rs)) programs r.progr
 abbrev pub verdict_text : Judgement → List ℕ
 verdict_text j = refused_lines j.refused ++ end_line j.programs j.refused
 
--- the line of a certificate file that was upgraded, which has so many sections
+-- the line of a certificate file that was upgraded, which has this many sections
 abbrev pub upgraded_line : ℕ → List ℕ
 upgraded_line count = codes "upgraded: " ++ (decimal count ++ codes " sections\n")

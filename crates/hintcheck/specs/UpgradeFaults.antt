@@ -1,4 +1,4 @@
--- Why a certificate isn't upgraded, and what that says of failed reads and writes.
+-- Why a certificate isn't upgraded, and what that tells of failed reads and writes.
 use Rattle.std.specs.Prelude.{◌≡◌, ◌+◌, ℕ, Result, Ok, Err}
 use Rattle.tt_cert_file.specs.declared.fault.DecodeFault.{DecodeFault}
 use Rattle.tt_cert_file.specs.declared.fault.DecodeFault.TheVariants as decode
@@ -18,7 +18,7 @@ abbrev pub fault_of_new : EncodeFault → UpgradeFault
 fault_of_new encode.Write = upgrade.Write
 fault_of_new (encode.OutOfMemory error) = upgrade.OutOfMemory error
 
--- What holds of an answer, or of the place that a fault of form names; a failed read or write and want of memory say nothing.
+-- What holds of an answer, or of the place that a fault of form names; a failed read or write and out of memory are unspecified.
 abbrev pub ComesTo : {T : Type 0} → Result T UpgradeFault → (T → Type 0) → (ℕ → Type 0) → Type 0
 ComesTo (Ok x) Is At = Is x
 ComesTo (Err (upgrade.Form place)) Is At = At place
@@ -26,7 +26,7 @@ ComesTo (Err upgrade.Read) Is At = Unit {0}
 ComesTo (Err upgrade.Write) Is At = Unit {0}
 ComesTo (Err (upgrade.OutOfMemory error)) Is At = Unit {0}
 
--- the count of failed reads rises by one exactly where the fault is a failed read
+-- the count of failed reads goes up by one exactly where the fault is a failed read
 abbrev pub CountsReads : {T : Type 0} → Result T UpgradeFault → ℕ → ℕ → Type 0
 CountsReads (Ok done) old new = new ≡ old
 CountsReads (Err upgrade.Read) old new = new ≡ old + 1
@@ -34,7 +34,7 @@ CountsReads (Err upgrade.Write) old new = new ≡ old
 CountsReads (Err (upgrade.Form place)) old new = new ≡ old
 CountsReads (Err (upgrade.OutOfMemory error)) old new = new ≡ old
 
--- the count of failed writes rises by one exactly where the fault is a failed write
+-- the count of failed writes goes up by one exactly where the fault is a failed write
 abbrev pub CountsWrites : {T : Type 0} → Result T UpgradeFault → ℕ → ℕ → Type 0
 CountsWrites (Ok done) old new = new ≡ old
 CountsWrites (Err upgrade.Write) old new = new ≡ old + 1

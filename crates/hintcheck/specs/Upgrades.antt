@@ -30,16 +30,16 @@ pub data AreRead (form : Form) : ℕ → Input → List Section → Input → Ty
   one_more : (number : ℕ) (i after end : Input) (s : Section) (others : List Section) → IsNext form number i s after
       → AreRead form (number + 1) after others end → AreRead form number i (s ∷ others) end
 
--- what the header of these bytes says, with the input after it
+-- what the header of these bytes tells, with the input after it
 abbrev pub header_in : List ℕ → Answer (Form × ℕ)
 header_in bytes = header_at (record { place = 0; bytes = bytes })
 
--- So many programs a font may have: the font program, the CVT program and those of at most 65,535 glyphs.
+-- A font may have this many programs: the font program, the CVT program and those of at most 65,535 glyphs.
 pub record IsNumberOfPrograms (count : ℕ) : Type 0 where
   pub some : 2 ≤ count
   pub few : count ≤ 65537
 
--- The bytes begin with the header of a certificate for so many programs and with these sections, and reading stands after them.
+-- The bytes begin with the header of a certificate for this many programs and with these sections, and reading is after them.
 pub record BeginWith (bytes : List ℕ) (form : Form) (count : ℕ) (sections : List Section) (at : Input) : Type 0 where
   pub after : Input
   pub header : header_in bytes ≡ Ok ((form, count), after)
@@ -79,14 +79,14 @@ pub data IsUpgradeBegunOf (bytes : List ℕ) : List ℕ → Type 0 where
   begun : (form : Form) (count : ℕ) (sections : List Section) (at : Input) → BeginWith bytes form count sections at
       → IsUpgradeBegunOf bytes (header_text Four count ++ section_texts sections)
 
--- So many sections were read from that of a number on, and their texts written in form 4. (Representation: no public clause cites it.)
+-- This many sections were read from that of a number on, and their texts written in form 4. (Representation: no public clause cites it.)
 pub record AreUpgraded (form : Form) (number count : ℕ) (from at : Input) (old new : Option (List ℕ)) : Type 0 where
   pub sections : List Section
   pub are_read : AreRead form number from sections at
   pub all : length sections ≡ count
   pub written : Appends old new (section_texts sections)
 
--- At most so many were read, and a beginning of their texts was written. (Representation: no public clause cites it.)
+-- At most this many were read, and a beginning of their texts was written. (Representation: no public clause cites it.)
 pub record AreBegun (form : Form) (number count : ℕ) (from : Input) (old new : Option (List ℕ)) : Type 0 where
   pub sections : List Section
   pub at : Input
@@ -94,7 +94,7 @@ pub record AreBegun (form : Form) (number count : ℕ) (from : Input) (old new :
   pub few : length sections ≤ count
   pub written : AppendsBeginning old new (section_texts sections)
 
--- One of so many sections isn't there, and the place of what is wrong. (Representation: no public clause cites it.)
+-- One of this many sections isn't there, and the place of what is wrong. (Representation: no public clause cites it.)
 pub record LackSection (form : Form) (number count : ℕ) (from : Input) (place : ℕ) : Type 0 where
   pub sections : List Section
   pub at : Input

@@ -135,7 +135,7 @@ fn check_section(
     }
 }
 
-/// The functions that are known where the font program or the CVT program of this setting ends, by its certificate.
+/// Returns the functions that are known where the font program or the CVT program of this setting ends, by its certificate.
 fn certified_functions(
     alloc: Global,
     setting: &Setting<'_>,
@@ -224,7 +224,7 @@ pub(crate) fn check_glyph_program(
     check_section(alloc, &setting, certificate, form)
 }
 
-/// Puts the outcome's program into the list of the refused ones, if it is refused.
+/// Adds the outcome's program to the list of the refused ones, if it is refused.
 fn list_outcome(refused: &mut Vec<Refused>, outcome: Outcome) -> Result<(), AllocError>
     ensures { OnOk result (ListsOutcome refused.old.items outcome.refused refused.new.items) }
 {
@@ -234,7 +234,7 @@ fn list_outcome(refused: &mut Vec<Refused>, outcome: Outcome) -> Result<(), Allo
     Ok(())
 }
 
-/// Checks the programs of a font, one after the other, by the sections that the source still has: the refused ones, in their order.
+/// Checks the programs of a font, one after the other, by the sections that the source still has: returns the refused ones, in their order.
 fn check_programs<S: Source>(
     alloc: Global,
     font: &Font<'_>,
@@ -257,7 +257,7 @@ fn check_programs<S: Source>(
     Ok(refused)
 }
 
-/// The verdict on the programs of a font that was read, by its certificate.
+/// Returns the verdict on the programs of a font that was read, by its certificate.
 pub(crate) fn check_read_font<S: Source>(
     alloc: Global,
     font: &Font<'_>,
@@ -277,8 +277,8 @@ pub(crate) fn check_read_font<S: Source>(
     Ok(Verdict::new(u32::from(font.glyph_count()) + 2, refused))
 }
 
-/// The verdict on the programs of a font file by its certificate, which is all that is left in the source: each program is checked by the family
-/// that its section lists, and nothing is trusted of where the certificate came from. The CVT program starts with the functions that are known
+/// Returns the verdict on the programs of a font file by its certificate, which is all that is left in the source: each program is checked by the
+/// family that its section lists, and where the certificate came from isn't trusted. The CVT program starts with the functions that are known
 /// where the font program ends, and a glyph program with those that are known where the CVT program ends. A refused font program or CVT program
 /// ends the check; a refused glyph program doesn't.
 ///
@@ -303,7 +303,7 @@ pub fn check_font<S: Source>(
     // Where a read failed, what was read is at fault nowhere but at its end: no unit that was read whole breaks a rule.
     ensures whole_units { IfErr result (HasRead (S.remaining source.old) (S.remaining source.new) (IsUnbrokenFor font.now)) }
     ensures failures { CountsCheck result (S.failures source.old) (S.failures source.new) }
-    // A fault of the font is the first one of its bytes, unless memory ran out; any other answer says that they have none.
+    // A fault of the font is the first one of its bytes, unless memory ran out; any other answer means that they have none.
     ensures faults { TestsInCheck (font_fault font.now) result }
 {
     let read = read_font(alloc, font)?;

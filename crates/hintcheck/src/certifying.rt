@@ -88,7 +88,7 @@ fn write_sections<W: Sink>(
     let mut session = Session::new(font);
     let mut finder = Finder::new(alloc);
     while let Some((outcome, found)) = session.look_next(alloc, &mut finder, Search::Writing)? {
-        // No program was refused at the first look, so that none is now.
+        // No program was refused at the first look, so none is now.
         let found = found.unwrap();
         found.certificate.is_in_order();
         encode(alloc, outcome.program, &found.certificate, sink)?;
@@ -114,7 +114,7 @@ fn write_certificate<W: Sink>(
     write_sections(alloc, font, sink)
 }
 
-/// The verdict on the programs of a font that was read, whose certificate is written where no program is refused.
+/// Returns the verdict on the programs of a font that was read, whose certificate is written where no program is refused.
 pub(crate) fn find_programs<W: Sink>(
     alloc: Global,
     font: &Font<'_>,
@@ -135,11 +135,11 @@ pub(crate) fn find_programs<W: Sink>(
     Ok(Verdict::new(u32::from(font.glyph_count()) + 2, refused))
 }
 
-/// The verdict on the programs of a font file, as `verdict` gives it. Where no program is refused, the font's certificate is written to the sink:
-/// the family that was found for each program, without the states that can be left out. Where one is, nothing is written.
+/// Returns the verdict on the programs of a font file, as `verdict` gives it. Where no program is refused, the font's certificate is written to the
+/// sink: the family that was found for each program, without the states that can be left out. Where one is, nothing is written.
 ///
 /// # Errors
-/// The faults of `Font::read`; `Write` exactly where a write failed; `OutOfMemory`. At the last two a beginning of the certificate was written,
+/// The faults of `Font::read`; `Write` exactly where a write failed; `OutOfMemory`. With the last two a beginning of the certificate was written,
 /// perhaps an empty one.
 pub fn find_font<W: Sink>(
     alloc: Global,
@@ -154,7 +154,7 @@ pub fn find_font<W: Sink>(
     // After a fault a beginning of the certificate was written: of the header and of the sections that were made.
     ensures begun { OnErr result (BeginsCertificate font.now (W.contents sink.old) (W.contents sink.new)) }
     ensures failures { CountsFind result (W.failures sink.old) (W.failures sink.new) }
-    // A fault of the font is the first one of its bytes, unless memory ran out; any other answer says that they have none.
+    // A fault of the font is the first one of its bytes, unless memory ran out; any other answer means that they have none.
     ensures faults { TestsInFind (font_fault font.now) result }
 {
     let read = read_font(alloc, font)?;

@@ -1,4 +1,4 @@
-//! What the words of a command line ask for, done: a verdict or a fault in lines for the user, and
+//! Does what the words of a command line ask for: gives a verdict or a fault in lines for the user, and
 //! the exit status.
 
 ghost use Rattle.std.specs.Prelude.{◌≡◌, ◌≢◌, ◌↔◌, ◌+◌, ◌≤◌, ◌<◌, ◌⊎◌, ℕ, IfErr, IfOk, IfSome, IsTrue, List, None, Err, Ok, OnOk, [], length, map, option_map, string_bytes, true, unwrap_or};
@@ -45,7 +45,7 @@ const ACCEPTED: u8 = 0;
 /// The exit status where a program is refused.
 const REFUSED: u8 = 1;
 
-/// So many bytes of a certificate are written at a time: those of many sections, since most are short.
+/// How many bytes of a certificate are written at a time: those of many sections, since most are short.
 const ROOM: usize = 65_536;
 
 /// Prints the verdict: a line for each refused program, and a last line.
@@ -73,7 +73,7 @@ fn print_last_line<O: Sink>(out: &mut O, verdict: &Verdict) -> Result<(), PrintF
     }
 }
 
-/// The verdict on one glyph program, whose `maxp` table and bytes are words of hexadecimal digits.
+/// Returns the verdict on one glyph program, whose `maxp` table and bytes are words of hexadecimal digits.
 fn bare_verdict(
     alloc: Global,
     maxp: &str,
@@ -100,7 +100,7 @@ fn bare_verdict(
     Ok(bare(alloc, &maxp, cvt, points, contours, &program)?)
 }
 
-/// The verdict on all programs of the font whose bytes are all that is left in the source, which is read to its end.
+/// Returns the verdict on all programs of the font whose bytes are all that is left in the source, which is read to its end.
 ///
 /// # Errors
 /// `Read` exactly where a read failed; the faults of `verdict`; `OutOfMemory`.
@@ -108,7 +108,7 @@ pub fn verdict_of<S: Source>(alloc: Global, source: &mut S) -> Result<Verdict, C
     ensures exact { IfOk result (λ v. (bytes : List ℕ) × ReadsToEnd (S.remaining source.old) (S.remaining source.new) bytes × IsVerdictOn bytes v) }
     ensures failures { TellsFailedRead result (S.failures source.old) (S.failures source.new) }
     ensures fault { IfErr result IsNoWriteFault }
-    // A fault is the first one of all bytes that were left, but where a read failed or memory ran out.
+    // A fault is the first one of all bytes that were left, except where a read failed or memory ran out.
     ensures faults { IfErr result (IsFaultOfSource (S.remaining source.old) (S.remaining source.new)) }
     ensures none { OnOk result (ReadNoFault (S.remaining source.old) (S.remaining source.new)) }
 {
@@ -116,7 +116,7 @@ pub fn verdict_of<S: Source>(alloc: Global, source: &mut S) -> Result<Verdict, C
     Ok(fonts::verdict(alloc, &bytes)?)
 }
 
-/// The verdict on all programs of a font, whose bytes are those that are left in the file.
+/// Returns the verdict on all programs of a font, whose bytes are those that are left in the file.
 fn verdict_on_bytes<L: Ledger, F: Read + Drop>(
     alloc: Global,
     file: F,
@@ -133,7 +133,7 @@ fn verdict_on_bytes<L: Ledger, F: Read + Drop>(
     verdict_of(alloc, &mut source)
 }
 
-/// The verdict on all programs of the font file with this name.
+/// Returns the verdict on all programs of the font file with this name.
 fn file_verdict<R: Files + AllocGlobal>(rt: &R, name: &str) -> Result<Verdict, CommandFault>
     ensures safe { IfOk result (λ verdict. verdict.refused ≡ [] → (bytes : List ℕ) × HoldSafeFont bytes) }
     ensures refused { IfOk result (λ verdict. verdict.refused ≢ [] → (bytes : List ℕ) × HoldRefusedFont bytes) }
@@ -147,7 +147,7 @@ fn file_verdict<R: Files + AllocGlobal>(rt: &R, name: &str) -> Result<Verdict, C
     verdict_on_bytes::<Brand, _>(rt.alloc(), file, Blank::new(1))
 }
 
-/// The bytes that are left in the file.
+/// Returns the bytes that are left in the file.
 fn read_file<L: Ledger, F: Read + Drop>(
     alloc: Global,
     file: F,
@@ -162,7 +162,7 @@ fn read_file<L: Ledger, F: Read + Drop>(
     Ok(read_all(alloc, &mut source)?)
 }
 
-/// The bytes of the file with this name.
+/// Returns the bytes of the file with this name.
 fn file_bytes<R: Files + AllocGlobal>(rt: &R, name: &str) -> Result<Vec<u8>, CommandFault>
     ensures fault { IfErr result IsNoWriteFault }
     ensures faults { IfErr result IsFaultOfReading }
@@ -173,7 +173,7 @@ fn file_bytes<R: Files + AllocGlobal>(rt: &R, name: &str) -> Result<Vec<u8>, Com
     read_file::<Brand, _>(rt.alloc(), file, Blank::new(1))
 }
 
-/// The verdict on a font by the certificate that is left in the file.
+/// Returns the verdict on a font by the certificate that is left in the file.
 fn verdict_by_file<L: Ledger, F: Read + Drop>(
     alloc: Global,
     font: &Font<'_>,
@@ -195,7 +195,7 @@ fn verdict_by_file<L: Ledger, F: Read + Drop>(
     Ok(check_read_font(alloc, font, &mut source)?)
 }
 
-/// The verdict on the font file with the first name by the certificate in the file with the second, which is opened where the first is a font.
+/// Returns the verdict on the font file with the first name by the certificate in the file with the second, opened where the first is a font.
 fn check_verdict<R: Files + AllocGlobal>(
     rt: &R,
     font: &str,
@@ -215,7 +215,7 @@ fn check_verdict<R: Files + AllocGlobal>(
     verdict_by_file::<Brand, _>(rt.alloc(), &font, file, Blank::new(1))
 }
 
-/// The writer's file, once it has all that was written.
+/// Returns the writer's file, once it has all that was written.
 fn write_rest<F: Write + Drop>(writer: BufWriter<F>) -> Result<F, CommandFault>
     ensures written { IfOk result (λ file. Keeps (writer_contents F.contents writer) (F.contents file)) }
     ensures fault { IfErr result (λ fault. fault ≡ CommandFault.File) }
@@ -229,7 +229,7 @@ fn write_rest<F: Write + Drop>(writer: BufWriter<F>) -> Result<F, CommandFault>
     }
 }
 
-/// The verdict on a font, and the file, to which the font's certificate is written where no program is refused.
+/// Returns the verdict on a font, and the file, to which the font's certificate is written where no program is refused.
 fn verdict_to_file<L: Ledger, F: Write + Drop>(
     alloc: Global,
     font: &Font<'_>,
@@ -260,7 +260,7 @@ struct FileNumbers {
     device: u64,
 }
 
-/// The numbers of the file with this name, where there is one and the runtime tells them: one that doesn't has 0 for each file.
+/// Returns the numbers of the file with this name, if it exists and the runtime gives them: a runtime that doesn't has 0 for each file.
 fn file_numbers<R: Files>(rt: &R, name: &str) -> Option<FileNumbers>
     ensures { IfSome result (λ numbers. numbers.file ≢ 0) }
 {
@@ -272,7 +272,7 @@ fn file_numbers<R: Files>(rt: &R, name: &str) -> Option<FileNumbers>
     (numbers.file != 0).then_some(numbers)
 }
 
-/// Are these the numbers of one file? Where they aren't told, that isn't known.
+/// Whether these are the numbers of one file. Where they aren't given, that isn't known.
 fn is_same_file(one: Option<FileNumbers>, other: Option<FileNumbers>) -> bool
     ensures { IsTrue result ↔ (one ≢ None × one ≡ other) }
 {
@@ -282,8 +282,8 @@ fn is_same_file(one: Option<FileNumbers>, other: Option<FileNumbers>) -> bool
     }
 }
 
-/// The verdict on the font file with the first name, whose certificate is written to the file with the second, which is made or emptied where the
-/// first is a font, and a file of its own as far as that can be told.
+/// Returns the verdict on the font file with the first name, whose certificate is written to the file with the second, which is made or emptied
+/// where the first is a font, and is a file of its own as far as that can be known.
 fn find_verdict<R: Files + AllocGlobal>(
     rt: &R,
     font: &str,
@@ -308,7 +308,7 @@ fn find_verdict<R: Files + AllocGlobal>(
     Ok(verdict)
 }
 
-/// Lists the program of the font file with this name whose name the word is, and answers the exit status: 0 listed, 1 refused.
+/// Lists the program of the font file with this name whose name the word is, and returns the exit status: 0 listed, 1 refused.
 ///
 /// # Errors
 /// `Read` where the file can't be opened or read; the faults of `list_program`.
@@ -329,7 +329,7 @@ fn list_of_file<R: Files + AllocGlobal, O: Sink>(
     list_program(rt.alloc(), &bytes, word, out)
 }
 
-/// Upgrades the certificate that is left in the old file to the new one: how many sections it has, and the new file.
+/// Upgrades the certificate that is left in the old file to the new one: returns how many sections it has, and the new file.
 fn upgrade_file<L: Ledger, M: Ledger, F: Read + Drop, G: Write + Drop>(
     alloc: Global,
     old: F,
@@ -360,7 +360,7 @@ fn upgrade_file<L: Ledger, M: Ledger, F: Read + Drop, G: Write + Drop>(
 }
 
 /// Upgrades the certificate in the file with the first name to the file with the second, which is made or emptied once the first is open, and is a
-/// file of its own as far as that can be told.
+/// file of its own as far as that can be known.
 fn upgrade_named<R: Files + AllocGlobal>(rt: &R, old: &str, new: &str) -> Result<u32, CommandFault>
     ensures number { IfOk result IsNumberOfPrograms }
     ensures fault { IfErr result IsNoWriteFault }
@@ -386,7 +386,7 @@ fn upgrade_named<R: Files + AllocGlobal>(rt: &R, old: &str, new: &str) -> Result
     Ok(count)
 }
 
-/// Upgrades the certificate in the file with the first name to the file with the second, and tells how many sections it has.
+/// Upgrades the certificate in the file with the first name to the file with the second, and returns how many sections it has.
 fn tell_upgrade<R: Files + AllocGlobal, O: Sink>(
     rt: &R,
     old: &str,
@@ -404,7 +404,7 @@ fn tell_upgrade<R: Files + AllocGlobal, O: Sink>(
     Ok(ACCEPTED)
 }
 
-/// The word, empty where it is left out.
+/// Returns the word, empty where it is left out.
 fn word_or_empty(word: &Option<String>) -> &str
     ensures { result.now ≡ unwrap_or (option_map (λ s. string_bytes s) word.now) [] }
 {
@@ -414,7 +414,7 @@ fn word_or_empty(word: &Option<String>) -> &str
     }
 }
 
-/// The verdict that the task asks for.
+/// Returns the verdict that the task asks for.
 fn verdict_on<R: Files + AllocGlobal>(rt: &R, task: &Task) -> Result<Verdict, CommandFault>
     requires { IsForVerdict (asked task.now) }
     ensures given { IfOk result (IsVerdictAsked (asked task.now)) }
@@ -446,7 +446,7 @@ fn verdict_on<R: Files + AllocGlobal>(rt: &R, task: &Task) -> Result<Verdict, Co
     }
 }
 
-/// Prints the verdict, and answers the exit status.
+/// Prints the verdict, and returns the exit status.
 fn tell_verdict<O: Sink>(out: &mut O, verdict: Verdict) -> Result<u8, CommandFault>
     ensures status { IfOk result (λ status. status ≤ 1) }
     ensures accepted { IfOk result (λ status. status ≡ 0 → verdict.refused ≡ []) }
@@ -463,7 +463,7 @@ fn tell_verdict<O: Sink>(out: &mut O, verdict: Verdict) -> Result<u8, CommandFau
     })
 }
 
-/// Does the task, prints the answer to `out`, and answers the exit status.
+/// Does the task, prints the answer to `out`, and returns the exit status.
 fn do_task<R: Files + AllocGlobal, O: Sink>(
     rt: &R,
     task: &Task,
@@ -485,13 +485,14 @@ fn do_task<R: Files + AllocGlobal, O: Sink>(
     }
 }
 
-/// Does what the words of a command line ask for and prints the answer to `out`, and answers the exit status: 0 accepted, listed or
-/// upgraded, 1 refused. It is `command` but that the fault is the caller's to tell.
+/// Does what the words of a command line ask for and prints the answer to `out`, and returns the exit status: 0 accepted, listed or
+/// upgraded, 1 refused. It is `command` except that reporting the fault is left to the caller.
 ///
 /// # Errors
 /// `Write` exactly where a write to `out` failed; `Usage` for words that the command line doesn't take; `MaxpWord` and `ProgramWord` for a
-/// word that spells no bytes; `ProgramWord` for one that names no program of the font too; `CertificateWord` where a font's file is to be its
-/// certificate's; `NewWord` where an old certificate's file is to be the new one's; `Font` for the first fault of the font or of `bare`'s `maxp`; `Form`, `Read`, `File` and `OutOfMemory`.
+/// word that spells no bytes; `ProgramWord` also for one that names no program of the font; `CertificateWord` where a font's file is to be its
+/// certificate's; `NewWord` where an old certificate's file is to be the new one's; `Font` for the first fault of the font or of `bare`'s `maxp`;
+/// `Form`, `Read`, `File` and `OutOfMemory`.
 pub fn try_command<R: Files + AllocGlobal, O: Sink>(
     rt: &R,
     words: &[&str],
@@ -504,7 +505,7 @@ pub fn try_command<R: Files + AllocGlobal, O: Sink>(
     ensures printed { IfOk result (λ status. is_taken (map (λ w. w.now) words.entry.now) ≡ true
         → MeansPrinted (map (λ w. w.now) words.entry.now) status (O.contents out.old) (O.contents out.new)) }
     ensures failures { TellsFailure result (O.failures out.old) (O.failures out.new) }
-    // A fault is one of the words, of what they name or of printing, and there is none where the status is answered.
+    // A fault is one of the words, of what they name or of printing, and there is none where the status is returned.
     ensures faults { IfErr result (IsFaultOfWords (map (λ w. w.now) words.entry.now)) }
     ensures none { OnOk result (is_taken (map (λ w. w.now) words.entry.now) ≡ true → MeansNoFault (map (λ w. w.now) words.entry.now)) }
 {
@@ -522,7 +523,7 @@ pub fn try_command<R: Files + AllocGlobal, O: Sink>(
 }
 
 /// Does what the words of a command line ask for, prints the answer to `out` or a fault to `err`,
-/// and answers the exit status: 0 accepted, listed or upgraded, 1 refused, 2 words, input or output that can't
+/// and returns the exit status: 0 accepted, listed or upgraded, 1 refused, 2 words, input or output that can't
 /// be read or written, 3 out of memory. The first word is the program's own name. Printing takes no memory.
 pub fn command<R: Files + AllocGlobal, O: Sink, E: Sink>(
     rt: &R,
@@ -538,7 +539,7 @@ pub fn command<R: Files + AllocGlobal, O: Sink, E: Sink>(
     // Where it is 0 or 1, and the command line takes the words, what is printed is the answer.
     ensures printed { result ≤ 1 → is_taken (map (λ w. w.now) words.entry.now) ≡ true
         → MeansPrinted (map (λ w. w.now) words.entry.now) result (O.contents out.old) (O.contents out.new) }
-    // Where the status is 2 or 3, a fault of the words gives it; else they have none where the command line takes them.
+    // Where the status is 2 or 3, a fault of the words gives it; otherwise they have none where the command line takes them.
     ensures told { 2 ≤ result → TellsFault (map (λ w. w.now) words.entry.now) result }
     ensures none { result ≤ 1 → is_taken (map (λ w. w.now) words.entry.now) ≡ true → MeansNoFault (map (λ w. w.now) words.entry.now) }
     // At most one write to `out` failed, and none unless the status is 2.
@@ -551,7 +552,7 @@ pub fn command<R: Files + AllocGlobal, O: Sink, E: Sink>(
     }
 }
 
-/// Prints the fault, and answers its exit status. A fault that can't be printed either is told by
+/// Prints the fault, and returns its exit status. A fault that can't be printed either is reported by
 /// the status alone.
 fn tell<E: Sink>(err: &mut E, fault: &CommandFault) -> u8
     ensures status { result ≡ status_of fault.now }

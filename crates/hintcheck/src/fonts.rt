@@ -25,7 +25,7 @@ use tt_code::Program;
 use tt_find::{Finder, Found};
 use tt_font::{Font, FontFault, GlyphPart};
 
-/// Looks at the font program or the CVT program of this setting: what is found for it, and the functions that are known where it ends.
+/// Looks at the font program or the CVT program of this setting: returns what is found for it, and the functions that are known where it ends.
 fn look_to_end(
     alloc: Global,
     finder: &mut Finder,
@@ -48,14 +48,14 @@ fn look_to_end(
     Ok((copy, found))
 }
 
-/// A font program or a CVT program, and the functions that are known where it ends, by rising number.
+/// A font program or a CVT program, and the functions that are known where it ends, by ascending number.
 #[derive(Drop)]
 pub(crate) struct Ended<'a> {
     pub(crate) program: Program<'a>,
     pub(crate) functions: Vec<(u16, u32)>,
 }
 
-/// Looks at the font program: what is known where it ends, and what is found for it.
+/// Looks at the font program: returns what is known where it ends, and what is found for it.
 ///
 /// # Errors
 /// `Refused`; `OutOfMemory`.
@@ -77,7 +77,7 @@ pub(crate) fn look_at_font_program<'a>(
     Ok((Ended { program, functions }, found))
 }
 
-/// The setting of the CVT program, which starts with the functions that are known where the font program ends.
+/// Returns the setting of the CVT program, which starts with the functions that are known where the font program ends.
 pub(crate) fn cvt_setting<'a>(
     font: &Font<'_>,
     fpgm: &'a Ended<'_>,
@@ -92,7 +92,7 @@ pub(crate) fn cvt_setting<'a>(
     setting.for_cvt_program(program, &fpgm.functions)
 }
 
-/// Looks at the CVT program, in a font with this font program: what is known where it ends, and what is found for it.
+/// Looks at the CVT program, in a font with this font program: returns what is known where it ends, and what is found for it.
 ///
 /// # Errors
 /// `Refused`; `OutOfMemory`.
@@ -117,14 +117,14 @@ pub(crate) fn look_at_cvt_program<'a>(
 }
 
 /// What the glyph programs of a font share: the setting of its CVT program, and the functions that are known where that one ends, by
-/// rising number.
+/// ascending number.
 #[derive(Clone, Copy)]
 pub(crate) struct Common<'a> {
     pub(crate) setting: Setting<'a>,
     pub(crate) functions: &'a [(u16, u32)],
 }
 
-/// Looks at the program of a glyph: what is found for it.
+/// Looks at the program of a glyph: returns what is found for it.
 ///
 /// # Errors
 /// `Refused`; `OutOfMemory`.
@@ -151,7 +151,7 @@ pub(crate) fn look_at_glyph_program(
     look(alloc, finder, &setting, search)
 }
 
-/// Looks at the program of a glyph, if it has instructions, in a finder's memory, which the finder has again where memory doesn't run out.
+/// Looks at the program of a glyph, if it has instructions, in a finder's memory, which the finder gets back unless memory runs out.
 ///
 /// # Errors
 /// `Refused`; `OutOfMemory`.
@@ -178,7 +178,7 @@ pub(crate) fn look_at_glyph(
     Ok(())
 }
 
-/// Looks at each glyph program: the refused ones, by rising numbers of their glyphs.
+/// Looks at each glyph program: returns the refused ones, by ascending numbers of their glyphs.
 fn refused_glyphs(
     alloc: Global,
     finder: &mut Finder,
@@ -202,7 +202,7 @@ fn refused_glyphs(
     Ok(refused)
 }
 
-/// The program of this name as the only refused one: the fault refuses it, and ends the look.
+/// Returns the program of this name as the only refused one: the fault refuses it, and ends the look.
 fn refused_alone(alloc: Global, name: Name, fault: ProgramFault) -> Result<Vec<Refused>, AllocError>
     ensures { IfOk result (λ refused. IsListed name fault [] refused.items) }
 {
@@ -211,7 +211,7 @@ fn refused_alone(alloc: Global, name: Name, fault: ProgramFault) -> Result<Vec<R
     Ok(refused)
 }
 
-/// Looks at the programs of a font, one after the other, each in the memory of those before: the refused ones, in their order.
+/// Looks at the programs of a font, one after the other, each in the memory of those before: returns the refused ones, in their order.
 pub(crate) fn refused_programs(
     alloc: Global,
     font: &Font<'_>,
@@ -250,7 +250,7 @@ pub fn read_font<'a>(alloc: Global, bytes: &'a [u8]) -> Result<Font<'a>, FontFau
     Font::read(alloc, bytes)
 }
 
-/// The verdict on the programs of a font file: on the font program, then on the CVT program, then on each glyph program. The CVT program
+/// Returns the verdict on the programs of a font file: on the font program, then on the CVT program, then on each glyph program. The CVT program
 /// starts with the functions that are known where the font program ends, and a glyph program with those that are known where the CVT
 /// program ends. A refused font program or CVT program ends the look; a refused glyph program doesn't.
 ///

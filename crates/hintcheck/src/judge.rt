@@ -18,7 +18,7 @@ use tt_code::{CodeFault, Limits, Program};
 use tt_find::Finder;
 use tt_font::{FontFault, GlyphPart, read_maxp};
 
-/// The error of a fault that is none of the program's.
+/// Returns the error of a fault that isn't the program's.
 fn memory_error(fault: CodeFault) -> AllocError
     requires { IsMemoryAlone fault }
 {
@@ -29,7 +29,7 @@ fn memory_error(fault: CodeFault) -> AllocError
     }
 }
 
-/// The program without instructions.
+/// Returns the program without instructions.
 fn empty_program(alloc: Global) -> Result<Program<'static>, AllocError>
     ensures { IfOk result (λ program. program ≡ []) }
 {
@@ -40,7 +40,7 @@ fn empty_program(alloc: Global) -> Result<Program<'static>, AllocError>
     }
 }
 
-/// The refused ones of the only program, that of the glyph `g0` in a font whose font program and CVT program are empty.
+/// Returns the refused ones of the only program, that of the glyph `g0` in a font whose font program and CVT program are empty.
 fn refused_programs(
     alloc: Global,
     limits: Limits,
@@ -65,7 +65,7 @@ fn refused_programs(
     Ok(refused)
 }
 
-/// The verdict on one glyph program, `g0`, of at most 65,535 bytes, in a font whose font program and CVT program are empty:
+/// Returns the verdict on one glyph program, `g0`, of at most 65,535 bytes, in a font whose font program and CVT program are empty:
 /// against the limits of a `maxp` table, a number of control values, and a glyph's numbers of points, without the four
 /// phantom points, and contours.
 ///

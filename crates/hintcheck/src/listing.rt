@@ -27,7 +27,7 @@ const LISTED: u8 = 0;
 /// The exit status where the program can't be cut or isn't structured.
 const UNLISTED: u8 = 1;
 
-/// Has the text no sign in front, and no zero there but as its only digit?
+/// Whether the text has no sign in front, and no zero there except as its only digit.
 fn is_plain(text: &[u8]) -> bool
     ensures { IsTrue result ↔ IsPlain text.now }
 {
@@ -38,7 +38,7 @@ fn is_plain(text: &[u8]) -> bool
     }
 }
 
-/// The number that the text is in decimal digits, with no sign and no needless zero in front.
+/// Returns the number that the text is in decimal digits, with no sign and no needless zero in front.
 fn read_number(text: &str) -> Option<u16>
     ensures read { IfSome result (λ number. text.now ≡ decimal number) }
     ensures each { (number : ℕ) → number < 2 ^ 16 → text.now ≡ decimal number → result ≡ Some number }
@@ -49,7 +49,7 @@ fn read_number(text: &str) -> Option<u16>
     text.parse::<u16>().ok()
 }
 
-/// The program's name that the word is, as names are printed.
+/// Returns the program's name that the word is, as names are printed.
 fn read_name(word: &str) -> Option<Name>
     ensures read { IfSome result (λ name. word.now ≡ text_of name) }
     ensures each { (name : Name) → IsOf16Bits name → word.now ≡ text_of name → result ≡ Some name }
@@ -61,7 +61,7 @@ fn read_name(word: &str) -> Option<Name>
     }
 }
 
-/// The bytes of the font's program of this name, if the font has it.
+/// Returns the bytes of the font's program of this name, if the font has it.
 fn program_of<'a>(font: &Font<'a>, name: Name) -> Option<&'a [u8]>
     ensures { option_map (λ program. program.now) result ≡ program_in font.now name }
 {
@@ -79,7 +79,7 @@ struct Named<'a> {
     bytes: &'a [u8],
 }
 
-/// The font's program whose name the word is, if there is one.
+/// Returns the font's program whose name the word is, if there is one.
 fn named_program<'a>(font: &Font<'a>, word: &str) -> Option<Named<'a>>
     requires { length font.now.glyphs < 2 ^ 16 }
     ensures there { IfSome result (λ named. Names word.now font.now named.bytes.now) }
@@ -110,7 +110,7 @@ impl fmt::Display for Digits<'_> {
     }
 }
 
-/// The name of the instruction's code, `?` where it has none.
+/// Returns the name of the instruction's code, `?` where it has none.
 fn name_of(instruction: &Instr<'_>) -> &'static str
     ensures { result.now ≡ shown_name instruction.now }
 {
@@ -134,7 +134,7 @@ fn print_instruction<O: Sink>(
     writeln!(out, "{offset}: {digits} {name}")
 }
 
-/// Prints the line behind those of the instructions.
+/// Prints the line after those of the instructions.
 fn print_last_line<O: Sink>(out: &mut O, program: &Program<'_>) -> Result<(), PrintFailed>
     ensures written { OnOk result (Appends (O.contents out.old) (O.contents out.new) (last_line program.now)) }
     ensures failures { CountsPrintFailure result (O.failures out.old) (O.failures out.new) }
@@ -158,7 +158,7 @@ fn print_program<O: Sink>(out: &mut O, program: &Program<'_>) -> Result<(), Prin
     print_last_line(out, program)
 }
 
-/// The program of this name, refused at this offset of its own.
+/// Returns the program of this name, refused at this offset of its own.
 fn refused_at(program: Name, offset: u32, reason: Reason) -> Refused
     ensures { result ≡ refused_in program offset reason }
 {
@@ -169,7 +169,7 @@ fn refused_at(program: Name, offset: u32, reason: Reason) -> Refused
     }
 }
 
-/// Lists the program, or prints the line of its refusal, and answers the exit status.
+/// Lists the program, or prints the line of its refusal, and returns the exit status.
 fn list_named<O: Sink>(alloc: Global, named: Named<'_>, out: &mut O) -> Result<u8, CommandFault>
     requires { length named.bytes.now < 2 ^ 31 }
     ensures status { IfOk result (λ status. status ≤ 1) }
@@ -194,8 +194,8 @@ fn list_named<O: Sink>(alloc: Global, named: Named<'_>, out: &mut O) -> Result<u
     }
 }
 
-/// Lists the program of the font in these bytes whose name the word is, and answers the exit status: 0 listed, 1 where the program can't
-/// be cut or isn't structured, which one line tells. Printing takes no memory.
+/// Lists the program of the font in these bytes whose name the word is, and returns the exit status: 0 listed, 1 where the program can't
+/// be cut or isn't structured, which one line reports. Printing takes no memory.
 ///
 /// # Errors
 /// The faults of `Font::read`; `ProgramWord` where the word is the name of none of the font's programs; `Write` exactly where a write to

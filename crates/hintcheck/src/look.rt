@@ -24,7 +24,7 @@ use tt_cert::{ProgramFault, Spot, check};
 use tt_code::{CodeFault, Program, Reason};
 use tt_find::{Finder, Found};
 
-/// The program in which a place stands that is reached from a program of this name.
+/// Returns the program in which a place is that is reached from a program of this name.
 fn program_at(name: Name, spot: Spot) -> Name
     ensures { result ≡ program_at_spot name spot }
 {
@@ -35,7 +35,7 @@ fn program_at(name: Name, spot: Spot) -> Name
     }
 }
 
-/// What is told of the program of this name that is refused at an offset.
+/// Returns what is told of the program of this name that is refused at an offset.
 pub(crate) fn told(name: Name, spot: Spot, offset: u32, reason: Reason) -> Refused
     ensures { result ≡ told_at name spot offset reason }
 {
@@ -49,10 +49,10 @@ pub(crate) fn told(name: Name, spot: Spot, offset: u32, reason: Reason) -> Refus
     }
 }
 
-/// Puts the program of this name, which the fault refuses, into the list of the refused ones.
+/// Adds the program of this name, which the fault refuses, to the list of the refused ones.
 ///
 /// # Errors
-/// Where the fault is want of memory, which refuses nothing; where the list doesn't grow.
+/// If the fault is out of memory, which refuses nothing; if the list doesn't grow.
 pub(crate) fn list_refused(
     refused: &mut Vec<Refused>,
     name: Name,
@@ -73,7 +73,7 @@ pub(crate) fn list_refused(
     }
 }
 
-/// The fault of a program that is refused at this offset of its own.
+/// Returns the fault of a program that is refused at this offset of its own.
 fn refused_at(offset: u32, reason: Reason) -> ProgramFault
     ensures { result ≡ ProgramFault.Refused Spot.Main offset reason }
 {
@@ -104,7 +104,7 @@ pub(crate) fn cut<'a>(alloc: Global, bytes: &'a [u8]) -> Result<Program<'a>, Pro
     }
 }
 
-/// What is found for a program, if the check accepts it; where it doesn't, the finder has its memory.
+/// Returns what is found for a program, if the check accepts it; where it doesn't, the finder has its memory.
 fn checked(
     alloc: Global,
     finder: &mut Finder,
@@ -113,7 +113,7 @@ fn checked(
 ) -> Result<Found, ProgramFault>
     requires { Rises setting.now.start.now }
     ensures same { IfOk result (λ accepted. accepted ≡ found) }
-    // The check accepts it: no promise of the finder's says this here.
+    // The check accepts it: this relies on no promise of the finder's.
     ensures good { OnOk result (HasGoodFilling (setting_of setting.now) setting.now.start.now (family_of found.certificate)) }
     ensures exact { HasGoodFilling (setting_of setting.now) setting.now.start.now (family_of found.certificate) → IfErr result IsWantOfMemory }
 {
@@ -139,7 +139,7 @@ pub(crate) enum Search {
     Writing,
 }
 
-/// The family of abstract states of the program of this setting, with no state that could be left out where it is for a certificate.
+/// Finds the family of abstract states of the program of this setting, with no state that could be left out where it is for a certificate.
 ///
 /// # Errors
 /// As `Finder::find`.

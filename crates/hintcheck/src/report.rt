@@ -1,4 +1,4 @@
-//! What is said of a font's programs.
+//! What is reported of a font's programs.
 
 ghost use Rattle.std.specs.Prelude.{◌≡◌, ◌↔◌, [], IsTrue};
 ghost use Rattle.hintcheck.specs.Verdicts.{Judgement};
@@ -11,7 +11,7 @@ use tt_code::Reason;
 /// An offset in a program.
 #[derive(Clone, Copy, Debug, PartialEq, Eq)]
 pub struct Place {
-    /// The program in which the offset stands: of a function's instruction the one in which its body stands.
+    /// The program in which the offset is: for a function's instruction the one in which its body is.
     pub program: Name,
     pub offset: u32,
 }
@@ -27,7 +27,7 @@ impl fmt::Display for Place {
     }
 }
 
-/// A program that is refused, where and why.
+/// A program that is refused, with where and why.
 #[derive(Clone, Copy, Debug, PartialEq, Eq)]
 pub struct Refused {
     pub program: Name,
@@ -67,28 +67,28 @@ impl Model for Verdict {
 }
 
 impl Verdict {
-    /// A verdict on so many programs, of which these are refused.
+    /// Makes a verdict on this many programs, of which these are refused.
     pub(crate) fn new(programs: u32, refused: Vec<Refused>) -> Self
         ensures { result ≡ record { programs = programs; refused = refused.items } }
     {
         Verdict { programs, refused }
     }
 
-    /// How many programs there are.
+    /// Returns how many programs there are.
     pub fn programs(&self) -> u32
         ensures { result ≡ self.now.programs }
     {
         self.programs
     }
 
-    /// The refused programs, in their order.
+    /// Returns the refused programs, in their order.
     pub fn refused(&self) -> &[Refused]
         ensures { result.now ≡ self.now.refused }
     {
         &self.refused
     }
 
-    /// Is no program refused?
+    /// Whether no program is refused.
     pub fn accepted(&self) -> bool
         ensures { IsTrue result ↔ (self.now.refused ≡ []) }
     {

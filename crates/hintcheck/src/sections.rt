@@ -27,7 +27,7 @@ pub(crate) struct Progress {
     pub(crate) place: u64,
 }
 
-/// Are the two names the same?
+/// Whether the two names are the same.
 fn is_same(one: Name, other: Name) -> bool
     ensures { IsTrue result ↔ (one ≡ other) }
 {

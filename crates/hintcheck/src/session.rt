@@ -34,7 +34,7 @@ use tt_find::{Finder, Found};
 use tt_font::Font;
 use tt_stream::Source;
 
-/// What comes of one program of a font: none, where it is accepted, or why it is refused.
+/// What comes of one program of a font: nothing, where it is accepted, or why it is refused.
 #[derive(Clone, Copy, Debug, PartialEq, Eq)]
 pub struct Outcome {
     pub program: Name,
@@ -50,7 +50,7 @@ enum Met {
 }
 
 impl Met {
-    /// The fault of a call, which isn't the font's.
+    /// Returns the fault of a call, which isn't the font's.
     fn of(fault: &CheckFontFault) -> Self
         requires { IsNoFontFault fault.now }
         ensures { fault_of result ≡ fault.now }
@@ -62,7 +62,7 @@ impl Met {
         }
     }
 
-    /// The fault as each call answers it.
+    /// Returns the fault as each call returns it.
     fn told(self) -> CheckFontFault
         ensures { result ≡ fault_of self }
     {
@@ -74,7 +74,7 @@ impl Met {
     }
 }
 
-/// What a session keeps of the accepted programs, and so which program is next.
+/// What a session keeps of the accepted programs, and thereby which program is next.
 #[derive(Drop)]
 enum Kept<'a> {
     /// None was looked at.
@@ -88,7 +88,7 @@ enum Kept<'a> {
 }
 
 impl Kept<'_> {
-    /// Is no program left?
+    /// Whether no program is left.
     fn is_over(&self) -> bool
         ensures { IsTrue result ↔ (stage_of self.now ≡ over) }
     {
@@ -106,7 +106,7 @@ struct Step<'a> {
     kept: Kept<'a>,
 }
 
-/// The outcome of an accepted program.
+/// Returns the outcome of an accepted program.
 fn accepted(program: Name) -> Outcome
     ensures { result ≡ accepted_as program }
 {
@@ -116,10 +116,10 @@ fn accepted(program: Name) -> Outcome
     }
 }
 
-/// The outcome of a program that the fault refuses.
+/// Returns the outcome of a program that the fault refuses.
 ///
 /// # Errors
-/// `OutOfMemory` where the fault is want of memory, which refuses nothing.
+/// `OutOfMemory` where the fault is out of memory, which refuses nothing.
 fn refused(program: Name, fault: ProgramFault) -> Result<Outcome, CheckFontFault>
     ensures { TellsRefusal program fault result }
 {
@@ -136,7 +136,7 @@ fn refused(program: Name, fault: ProgramFault) -> Result<Outcome, CheckFontFault
     }
 }
 
-/// The font program's outcome, by the next section.
+/// Returns the font program's outcome, by the next section.
 fn check_first<'a, S: Source>(
     alloc: Global,
     font: &Font<'a>,
@@ -172,7 +172,7 @@ fn check_first<'a, S: Source>(
     }
 }
 
-/// The CVT program's outcome, by the next section.
+/// Returns the CVT program's outcome, by the next section.
 fn check_second<'a, S: Source>(
     alloc: Global,
     font: &Font<'a>,
@@ -210,7 +210,7 @@ fn check_second<'a, S: Source>(
     }
 }
 
-/// The outcome of a glyph program, by the next section, in a font with these programs.
+/// Returns the outcome of a glyph program, by the next section, in a font with these programs.
 fn check_glyph<S: Source>(
     alloc: Global,
     font: &Font<'_>,
@@ -250,7 +250,7 @@ fn check_glyph<S: Source>(
     }
 }
 
-/// The next glyph program's outcome, or that no section follows that of the last one.
+/// Returns the next glyph program's outcome, or that no section follows that of the last one.
 fn check_third<'a, S: Source>(
     alloc: Global,
     font: &Font<'a>,
@@ -288,7 +288,7 @@ fn check_third<'a, S: Source>(
     })
 }
 
-/// What a call of a session comes to that keeps this, after the header was read.
+/// Returns what a call of a session that keeps this comes to, after the header was read.
 fn check_on<'a, S: Source>(
     alloc: Global,
     font: &Font<'a>,
@@ -323,7 +323,7 @@ fn check_on<'a, S: Source>(
     }
 }
 
-/// How far the certificate was read: so far, or its header, which is read if it wasn't yet.
+/// Returns how far the certificate was read: this far, or its header, which is read if it wasn't yet.
 fn progress_of<S: Source>(
     font: &Font<'_>,
     known: Option<Progress>,
@@ -343,7 +343,7 @@ fn progress_of<S: Source>(
     }
 }
 
-/// What a call of a session comes to that keeps this, and was read so far; and what it keeps then.
+/// Returns what a call of a session that keeps this, and has read this far, comes to; and what it keeps then.
 fn check_from<'a, S: Source>(
     alloc: Global,
     font: &Font<'a>,
@@ -400,7 +400,7 @@ impl<'a> Model for Session<'a> {
 }
 
 impl<'a> Session<'a> {
-    /// A session over the programs of this font. It takes no memory.
+    /// Makes a session over the programs of this font. It takes no memory.
     pub fn new(font: &'a Font<'a>) -> Self
         requires { IsFontInRange font.now }
         ensures { result ≡ new_standing font.now }
@@ -413,12 +413,12 @@ impl<'a> Session<'a> {
         }
     }
 
-    /// Reads the section of the next program, and checks the program by it: its outcome. The first call reads the certificate's header before. After
-    /// the last section, or after a refused font program or CVT program, there is none; the first time after the last section the certificate's end is
-    /// seen, and else nothing is read then. A session that this is called on is used for no other calls.
+    /// Reads the section of the next program, and checks the program by it: returns its outcome. The first call reads the certificate's header first.
+    /// After the last section, or after a refused font program or CVT program, there is none; the first time after the last section the call reads on
+    /// to see the certificate's end, and otherwise nothing is read then. A session on which this is called is used for no other calls.
     ///
     /// # Errors
-    /// `Form` where the bytes are no certificate for the font; `Read` exactly where a read failed; `OutOfMemory`. After a fault each call answers it,
+    /// `Form` where the bytes are no certificate for the font; `Read` exactly where a read failed; `OutOfMemory`. After a fault each call returns it,
     /// and reads nothing.
     pub fn check_next<S: Source>(
         &mut self,
@@ -428,7 +428,7 @@ impl<'a> Session<'a> {
         requires { IsForChecking self.old }
         // The outcome is the next program's, and an accepted one has a good family.
         ensures sound { IfOk result (λ answer. IsSoundAnswer self.old.font self.old.stage answer self.new.stage) }
-        // It comes from the program's section, where the source tells its bytes, which is read on from where the call before ended.
+        // It comes from the program's section, where the source tells its bytes, which is read from where the call before ended.
         ensures exact { self.old.fault ≡ None → IsTold (S.remaining source.old) → Finds result
             (λ answer. IsTold (S.remaining source.new) × AnswersNext self.old (S.remaining source.old) answer self.new (S.remaining source.new))
             (IsNextFault self.old (S.remaining source.old)) }
@@ -457,7 +457,7 @@ impl<'a> Session<'a> {
         answer
     }
 
-    /// Looks at the next program for what is asked: its outcome, and what is found for it where it is accepted.
+    /// Looks at the next program for what is asked: returns its outcome, and what is found for it where it is accepted.
     ///
     /// # Errors
     /// `OutOfMemory`.
@@ -490,12 +490,12 @@ impl<'a> Session<'a> {
         Ok(answer?)
     }
 
-    /// Finds the next program in a finder's memory, and checks it: its outcome, and where it is accepted, what is found for it, whose memory
-    /// `Finder::take_back` gives back. After the last program, or after a refused font program or CVT program, there is none. A session that this is
-    /// called on is used for no other calls.
+    /// Finds the next program in a finder's memory, and checks it: returns its outcome, and where it is accepted, what is found for it, whose memory
+    /// `Finder::take_back` gives back. After the last program, or after a refused font program or CVT program, there is none. A session on which this
+    /// is called is used for no other calls.
     ///
     /// # Errors
-    /// `OutOfMemory`, which each call answers afterwards.
+    /// `OutOfMemory`, which each call returns from then on.
     pub fn find_next(
         &mut self,
         alloc: Global,

@@ -19,7 +19,7 @@ use thiserror::Error;
 use tt_cert_file::{DecodeFault, EncodeFault, encode, read_end, read_header, write_header};
 use tt_stream::{Sink, Source};
 
-/// How few sections a certificate has: those of a font program, a CVT program and no glyph.
+/// How many sections a certificate has at least: those of a font program, a CVT program and no glyph.
 const FEWEST: u32 = 2;
 
 /// How many sections a certificate has at most: a font has up to 65,535 glyphs.
@@ -71,7 +71,7 @@ impl From<EncodeFault> for UpgradeFault {
     }
 }
 
-/// The name of the program whose section has this number.
+/// Returns the name of the program whose section has this number.
 fn name_of(number: u32) -> Name
     requires { number < 65537 }
     ensures { result ≡ name_at number }
@@ -110,7 +110,7 @@ fn upgrade_section<S: Source, W: Sink>(
     Ok(())
 }
 
-/// Reads the sections of so many programs and writes each again before the next one is read.
+/// Reads the sections of this many programs and writes each again before the next one is read.
 fn upgrade_sections<S: Source, W: Sink>(
     alloc: Global,
     count: u32,
@@ -137,7 +137,7 @@ fn upgrade_sections<S: Source, W: Sink>(
 }
 
 /// Reads a certificate of any form, which is all that is left in the source, and writes one of the newest form: with the same sections, of the same
-/// names and families. Answers how many sections there are. One of them is held at a time.
+/// names and families. Returns how many sections there are. One of them is held at a time.
 ///
 /// # Errors
 /// `Form` where the bytes are no certificate of any font; `Read` exactly where a read failed; `Write` exactly where a write failed; `OutOfMemory`.
@@ -150,7 +150,7 @@ pub fn upgrade<S: Source, W: Sink>(
     // How many sections the bytes have, where the source tells them, or the place at which they are no certificate.
     ensures exact { IsTold (S.remaining source.old) → ComesTo result
         (λ count. UpgradesTo (bytes_in (S.remaining source.old)) (Ok count)) (λ place. UpgradesTo (bytes_in (S.remaining source.old)) (Err place)) }
-    // So many programs a font may have, whatever the source tells.
+    // A font may have this many programs, whatever the source tells.
     ensures number { IfOk result IsNumberOfPrograms }
     // What is appended is the certificate of form 4 with the sections that were read.
     ensures written { IsTold (S.remaining source.old)

@@ -1,4 +1,4 @@
-//! The program. What it does stands in `hintcheck_process`, whose exit status it ends with.
+//! The program. What it does is in `hintcheck_process`, whose exit status it ends with.
 #![tactic(auto)]
 
 use hintcheck_process::program;

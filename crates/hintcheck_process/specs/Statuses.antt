@@ -1,11 +1,11 @@
--- What the process's exit status says.
+-- What the process's exit status tells.
 use Rattle.std.specs.Prelude.{◌≡◌, ◌⊎◌, ℕ, List}
 use Rattle.hintcheck.specs.MeansSafe.{IsStatusOf}
 
--- the command answers this status to some words
+-- the command returns this status for some words
 abbrev pub IsStatusOfSomeWords : ℕ → Type 0
 IsStatusOfSomeWords status = (words : List (List ℕ)) × IsStatusOf words status
 
--- the words can't be read, or this is what the command answers to them
+-- the words can't be read, or this is what the command returns for them
 abbrev pub IsStatus : ℕ → Type 0
 IsStatus status = (status ≡ 2) ⊎ (status ≡ 3) ⊎ IsStatusOfSomeWords status

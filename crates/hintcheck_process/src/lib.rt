@@ -15,13 +15,13 @@ use std::sync::ledger::{Blank, Ledger};
 use std::{env, io};
 use tt_stream::Counted;
 
-/// The exit status where a word is no text, as where the command takes no such words.
+/// The exit status where a word isn't text, the same as where the command doesn't take the words.
 const WORDS: u8 = 2;
 
 /// The exit status where memory ran out.
 const OUT_OF_MEMORY: u8 = 3;
 
-/// Runs the command on streams whose failed writes are counted, and answers the exit status.
+/// Runs the command on streams whose failed writes are counted, and returns the exit status.
 fn run<L: Ledger, M: Ledger, R: Files + AllocGlobal, O: Write + Drop, E: Write + Drop>(
     rt: &R,
     words: &[&str],
@@ -39,7 +39,7 @@ fn run<L: Ledger, M: Ledger, R: Files + AllocGlobal, O: Write + Drop, E: Write +
     command(rt, words, &mut out, &mut err)
 }
 
-/// The exit status of the command that the program's own words name.
+/// Returns the exit status of the command that the program's own words name.
 fn run_own_words(rt: &HostRuntime) -> io::Result<u8>
     ensures { IfOk result IsStatusOfSomeWords }
 {
@@ -50,7 +50,7 @@ fn run_own_words(rt: &HostRuntime) -> io::Result<u8>
     Ok(status)
 }
 
-/// What the process ends with: the command's status, 3 where memory ran out for the words, and 2 where a word is no text.
+/// Returns what the process ends with: the command's status, 3 where memory ran out for the words, and 2 where a word isn't text.
 fn exit_code(answer: io::Result<u8>) -> ExitCode
     ensures ok { IfOk answer (λ status. exit_status result ≡ status) }
     ensures err { IfErr answer (λ _. (exit_status result ≡ 2) ⊎ (exit_status result ≡ 3)) }
@@ -62,14 +62,14 @@ fn exit_code(answer: io::Result<u8>) -> ExitCode
     }
 }
 
-/// Does what the program's own words ask for, on its own streams. What the words are no contract of the runtime tells: the status is that
+/// Does what the program's own words ask for, on its own streams. No contract of the runtime tells what the words are: the status is that
 /// of some words, or 2 or 3 where they can't be read.
 pub fn program(rt: &HostRuntime) -> ExitCode
     ensures { IsStatus (exit_status result) }
 {
     let answer = run_own_words(rt);
     if let Err(error) = &answer {
-        // A word is no text, or memory ran out.
+        // A word isn't text, or memory ran out.
         let _ = if error.kind() == ErrorKind::OutOfMemory {
             eprintln!(rt; "fault: 9 out of memory")
         } else {

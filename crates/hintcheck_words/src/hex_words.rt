@@ -1,3 +1,5 @@
+//! The bytes that hexadecimal words spell.
+
 ghost use Rattle.std.specs.Prelude.{◌≡◌, ◌≤◌, IfOk, vec_len};
 ghost use Rattle.hintcheck_words.specs.HexWords.{IsHexWord, Spells};
 

@@ -1,3 +1,5 @@
+//! What the words of a command line ask for.
+
 ghost use Rattle.std.specs.Prelude.{◌≡◌, IfErr, IfOk, IfSome, Some, true, false, map, option_map, string_bytes};
 ghost use Rattle.clap.specs.Words.{app_of, found_of, rows_of, rule_of, subcommand_rows_of};
 ghost use Rattle.hintcheck_words.specs.CommandLine.{bare, hintcheck, needed as needed_rule, needed_number as number_rule, of_texts};

@@ -452,7 +452,7 @@ rest_stops fault.Read old now next before xs place count wanted filled taken buf
       short = omega (arith, part.few, length-append number part.bytes);
     })
 
--- the same of what reading the rest of a cell answers
+-- the same of what reading the rest of a cell returns
 pub rest_stopped : (r : Result ℕ DecodeFault) (old now next : Option (List ℕ)) (before xs : List Cell) (place count wanted filled taken : ℕ) (buf number : List ℕ) (f g : ℕ)
     → IsCellBlock old now before xs place count wanted filled taken buf f g → IsWanted before count wanted → taken < filled
     → number ≡ take (filled - (taken + 1)) (drop (taken + 1) buf) → IfErr r (λ e. IsReadFault e → ConsumesFewer (4 - length number) now next)

@@ -106,7 +106,7 @@ pub stops_after : {A B : Type 0} (first : Input → Answer A) (next : ℕ → A 
 stops_after first next place at old now new x e steady was stops =
     stops_there place at old now new (step first next) (next place x) e (λ known. reached_step first next place at old now x steady known (was known)) stops
 
--- the same of what a last call answers
+-- the same of what a last call returns
 pub stops_last : {X A B : Type 0} (r : Result X DecodeFault) (first : Input → Answer A) (next : ℕ → A → Input → Answer B) (place at : ℕ) (old now new : Option (List ℕ)) (x : A) → IsSteady first
     → (is_some old ≡ true → (is_some now ≡ true) × (first (input_at place old) ≡ Ok (x, input_at at now)))
     → IfErr r (StopsAtEnd at now new (next place x)) → IfErr r (StopsAtEnd place old new (step first next))

@@ -1,4 +1,4 @@
--- What a function that reads from a source, or writes to a sink, answers.
+-- What a function that reads from a source, or writes to a sink, returns.
 use Rattle.std.specs.Prelude.{◌≡◌, ℕ, ◌+◌, ◌<◌, true, List, [], ◌++◌, length, get_or, Option, Some, is_some, unwrap_or, IfSome, Result, Ok, Err}
 use Rattle.std.specs.Io.KnownBytes.{Consumes}
 use Rattle.tt_cert_file.specs.declared.fault.DecodeFault.{DecodeFault}
@@ -50,14 +50,14 @@ StopsAtEnd place old new read fault.Read = is_some old ≡ true → IsCutShort p
 StopsAtEnd place old new read (fault.Form at) = Unit {0}
 StopsAtEnd place old new read (fault.OutOfMemory error) = Unit {0}
 
--- the count of failed reads rises by one exactly at a failed read
+-- the count of failed reads goes up by one exactly at a failed read
 abbrev pub CountsRead : {T : Type 0} → Result T DecodeFault → ℕ → ℕ → Type 0
 CountsRead (Ok x) old new = new ≡ old
 CountsRead (Err fault.Read) old new = new ≡ old + 1
 CountsRead (Err (fault.OutOfMemory error)) old new = new ≡ old
 CountsRead (Err (fault.Form place)) old new = new ≡ old
 
--- the count of failed writes rises by one exactly at a failed write
+-- the count of failed writes goes up by one exactly at a failed write
 abbrev pub CountsWrite : {T : Type 0} → Result T EncodeFault → ℕ → ℕ → Type 0
 CountsWrite (Ok x) old new = new ≡ old
 CountsWrite (Err encode.Write) old new = new ≡ old + 1

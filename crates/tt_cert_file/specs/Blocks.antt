@@ -89,7 +89,7 @@ pub record IsBegun (left : List ℕ) : Type 0 where
   pub left_is : left ≡ 1 ∷ number
   pub short : length number < 4
 
--- all cells that are whole were taken; so many bytes are left
+-- all cells that are whole were taken; this many bytes are left
 pub record AreCellsTaken (over : ℕ) (old new : List Cell) (place : ℕ) (bytes : List ℕ) : Type 0 where
   pub at : ℕ
   pub left : List ℕ

@@ -1,3 +1,5 @@
+//! Why a header or a section wasn't read or written.
+
 use std::alloc::{AllocError, AllocFailed};
 use thiserror::Error;
 use tt_stream::{ReadFailed, WriteFailed};

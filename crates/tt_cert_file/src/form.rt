@@ -1,3 +1,5 @@
+//! The forms of certificate files.
+
 ghost use Rattle.std.specs.Prelude.{◌≡◌};
 ghost use Rattle.tt_cert_file.specs.Forms.{form_number, form_of, most_contexts as form_contexts};
 

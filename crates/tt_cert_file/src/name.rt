@@ -1,3 +1,5 @@
+//! The names of a font's programs.
+
 use std::fmt;
 
 /// A program of a font.

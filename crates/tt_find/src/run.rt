@@ -106,7 +106,7 @@ fn goes_over(table: &Table, walk: &Walk, source: Source, next: u32) -> bool
     }
 }
 
-/// Leads the state that an instruction left to the offset just after it: over it, which is what it returns, where states aren't kept there.
+/// Leads the state that an instruction left to the offset just after it: over it where states aren't kept there. Then it returns that offset.
 fn lead_over(
     table: &mut Table,
     walk: &mut Walk,

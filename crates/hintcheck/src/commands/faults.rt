@@ -13,7 +13,7 @@ use thiserror::Error;
 use tt_font::FontFault;
 use tt_stream::{PrintFailed, ReadFault};
 
-/// The exit status where the words or what they name can't be read, or the output not be written.
+/// The exit status where the words or what they name can't be read, or the output can't be written.
 const UNREADABLE: u8 = 2;
 
 /// The exit status where memory ran out.
@@ -33,7 +33,7 @@ impl fmt::Display for Numbered {
 /// Why a command gives no verdict: the line for the user, after `fault: `.
 #[derive(Debug, Drop, Error)]
 pub enum CommandFault {
-    /// The words are none of the command line. The text is clap's, and stands alone.
+    /// The words aren't those of the command line. The text is clap's, and is printed alone.
     #[error("{0}")]
     Usage(TaskFault),
     /// The word spells no bytes.
@@ -64,7 +64,7 @@ pub enum CommandFault {
     /// A file can't be made or written.
     #[error("45 write")]
     File,
-    /// A text gave up on being printed, as none here does: each goes to a window in memory that takes whatever it gets.
+    /// A text couldn't be printed, which doesn't happen here: each goes to a window in memory that takes whatever it gets.
     #[error("text")]
     Text,
 }
@@ -150,7 +150,7 @@ impl From<UpgradeFault> for CommandFault {
 }
 
 impl CommandFault {
-    /// The fault of a word of hexadecimal digits, which is `bad` where it spells no bytes.
+    /// Returns the fault of a word of hexadecimal digits, which is `bad` where it spells no bytes.
     pub(crate) fn of_word(fault: WordFault, bad: CommandFault) -> CommandFault
         requires { IsNoWriteFault bad }
         ensures fault { result ≡ fault_of_word fault bad }
@@ -162,7 +162,7 @@ impl CommandFault {
         }
     }
 
-    /// The exit status: 3 where memory ran out, and else 2.
+    /// Returns the exit status: 3 where memory ran out, and otherwise 2.
     pub fn status(&self) -> u8
         ensures { result ≡ status_of self.now }
     {

@@ -30,10 +30,10 @@ struct Step<'a> {
     kept: Kept<'a>,
 }
 
-/// The outcome of a program that the fault refuses.
+/// Returns the outcome of a program that the fault refuses.
 ///
 /// # Errors
-/// Where memory ran out, which refuses nothing.
+/// If memory ran out, which refuses nothing.
 fn refused(program: Name, fault: ProgramFault) -> Result<Outcome, AllocError>
     ensures { TellsOutcome program fault result }
 {
@@ -50,7 +50,7 @@ fn refused(program: Name, fault: ProgramFault) -> Result<Outcome, AllocError>
     }
 }
 
-/// The font program's outcome.
+/// Returns the font program's outcome.
 fn find_first<'a>(
     alloc: Global,
     finder: &mut Finder,
@@ -73,7 +73,7 @@ fn find_first<'a>(
     }
 }
 
-/// The CVT program's outcome, in a font with this font program.
+/// Returns the CVT program's outcome, in a font with this font program.
 fn find_second<'a>(
     alloc: Global,
     finder: &mut Finder,
@@ -98,7 +98,7 @@ fn find_second<'a>(
     }
 }
 
-/// The outcome of a glyph program, in a font with these programs.
+/// Returns the outcome of a glyph program, in a font with these programs.
 fn find_glyph(
     alloc: Global,
     finder: &mut Finder,
@@ -127,7 +127,7 @@ fn find_glyph(
     }
 }
 
-/// The next glyph program's outcome, or that there is none after the last one.
+/// Returns the next glyph program's outcome, or that there is none after the last one.
 fn find_third<'a>(
     alloc: Global,
     finder: &mut Finder,
@@ -155,7 +155,7 @@ fn find_third<'a>(
     })
 }
 
-/// What a call of a session comes to that keeps this.
+/// Returns what a call of a session that keeps this comes to.
 fn find_on<'a>(
     alloc: Global,
     finder: &mut Finder,
@@ -179,7 +179,7 @@ fn find_on<'a>(
     }
 }
 
-/// What a call of a session comes to that keeps this, and what it keeps then.
+/// Returns what a call of a session that keeps this comes to, and what it keeps then.
 pub(super) fn find_from<'a>(
     alloc: Global,
     finder: &mut Finder,
