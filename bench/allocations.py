@@ -1,5 +1,5 @@
 #!/usr/bin/env python3
-"""Refuses each allocation of `hintcheck` in turn, and looks at what it answers then.
+"""Refuses each allocation of `hintcheck` in turn, and checks what it answers then.
 
 Usage: bench/allocations.py WORDS..
 The words are those of the program, as `verdict FONT`. It runs once for each of its allocations, of which that one is refused, and once
@@ -18,7 +18,7 @@ import typing
 TOP = pathlib.Path(__file__).resolve().parent.parent
 PROGRAM = TOP / "crates/hintcheck_cli/out/hintcheck_cli"
 
-# REFUSED is the number of the allocation that is refused, from 1; with ONWARD, all behind it too. With COUNTED, that file gets the
+# REFUSED is the number of the allocation that is refused, from 1; with ONWARD, all after it too. With COUNTED, that file gets the
 # number of allocations at the end.
 REFUSER = r"""
 #define _GNU_SOURCE

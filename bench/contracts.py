@@ -36,7 +36,7 @@ class Clause(typing.NamedTuple):
 
 
 def without_comments(text: str) -> str:
-    """The text without line comments. A `//` after an odd number of quotes stands in a string."""
+    """The text without line comments. A `//` after an odd number of quotes is in a string."""
     lines = []
     for line in text.splitlines():
         at = line.find("//")
@@ -81,7 +81,7 @@ def modules_cited(text: str, imports: dict[str, str]) -> frozenset[str]:
 
 
 def imports_of(text: str, crate: str) -> dict[str, str]:
-    """The words that a file imports from modules of definitions, those of the standard library aside."""
+    """The words that a file imports from modules of definitions, except for those of the standard library."""
     imports = {}
     for source, module, group in IMPORT.findall(text):
         for word in group.split(","):

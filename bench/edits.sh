@@ -1,6 +1,6 @@
 #!/bin/sh
 # edits.sh [CRATE..]: tries the edits of bench/edits/CRATE that the prover must refuse, as `rt ci` tries those of crates/CRATE/must-fail.
-# Without a name it takes each crate that has some. It works on a copy of the repository, as it stands in the work tree.
+# Without a name it takes each crate that has some. It works on a copy of the repository, as it is in the work tree.
 top=$(cd "$(dirname -- "$0")/.." && pwd) || exit 2
 room=$(mktemp -d) || exit 2
 trap 'rm -rf "$room"' EXIT

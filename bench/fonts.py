@@ -1,5 +1,5 @@
 #!/usr/bin/env python3
-"""Times `hintcheck verdict` on font files, beside the time to read each file alone and that of `ots-sanitize`, with the greatest memory.
+"""Times `hintcheck verdict` on font files, next to the time to read each file alone and that of `ots-sanitize`, with the greatest memory.
 
 Usage: bench/fonts.py FONT..
 Times are in milliseconds of wall clock, of whole processes that take turns: of fifteen runs the least and the median. The last column but

@@ -1,12 +1,12 @@
 #!/usr/bin/env python3
-"""Runs `rt ci` in a clean clone of HEAD, and tells how its processor time is spent: by crate, for its proof (and a program's two builds), its
+"""Runs `rt ci` in a clean clone of HEAD, and reports how its processor time is spent: by crate, for its proof (and a program's two builds), its
 tests and its edits.
 
 Usage: bench/gate.py [PROCESSORS]
-Nothing is taken from earlier runs (a kit whose `rt ci` keeps its work is told so). With a number, only so many of the machine's processors are used: where a proof may take several, it shares
+Nothing is taken from earlier runs (a kit whose `rt ci` keeps its work is told so). With a number, only that many of the machine's processors are used: where a proof may take several, it shares
 its work out among copies of the prover, each of which reads the libraries anew, so that more processors take more of their time together.
 What `rt ci` prints goes to gate.log in the current folder. The figures are user and system time of the prover's processes, read once a
-second while they run, in minutes; the whole is that of all processes. Nothing else should run beside it.
+second while they run, in minutes; the whole is that of all processes. Nothing else should run at the same time.
 """
 
 import collections
@@ -23,7 +23,7 @@ TICKS = os.sysconf("SC_CLK_TCK")
 
 
 def name_of(process, room, number):
-    """The crate and the kind of work of a process of the prover, or None for any other process: one of the gate of this number stands in the
+    """The crate and the kind of work of a process of the prover, or None for any other process: one of the gate of this number is in the
     room, or in a folder for an edit that has the number in its name."""
     folder = os.readlink(process / "cwd")
     is_edit = folder.startswith(f"{tempfile.gettempdir()}/rt-edit-{number}-")

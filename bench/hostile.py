@@ -1,5 +1,5 @@
 #!/usr/bin/env python3
-"""Times hintcheck on font files that are made to take much time or memory, each beside a benign font of the same size.
+"""Times hintcheck on font files that are made to take much time or memory, each next to a benign font of the same size.
 
 Usage: bench/hostile.py [SECONDS]
 The files go to a temporary folder. Each is handed to `hintcheck verdict`, and where it is accepted, to `find` and `check`: processor seconds and
@@ -16,7 +16,7 @@ import tempfile
 TOP = pathlib.Path(__file__).resolve().parent.parent
 PROGRAM = TOP / "crates/hintcheck_cli/out/hintcheck_cli"
 
-# FDEF of function 0 begins with it, and the body after it.
+# FDEF of function 0 begins with it, followed by the body.
 FDEF = b"\xb0\x00\x2c"
 ENDF = b"\x2d"
 # An instruction that does nothing to the stack.
@@ -52,12 +52,12 @@ def font_of_glyphs(glyphs: list[bytes], fpgm: bytes = b"", stack: int = 1100, fu
 
 
 def turns(count: int) -> bytes:
-    """LOOPCALL of function 0 with so many turns, 65,534 at most."""
+    """LOOPCALL of function 0 with this many turns, 65,534 at most."""
     return b"\xb9" + struct.pack(">hh", count // 2, count - count // 2) + b"\x60\xb0\x00\x2a"
 
 
 def deep(cells: int) -> bytes:
-    """Pushes so many cells, 255 at a time."""
+    """Pushes this many cells, 255 at a time."""
     return (b"\x40\xff" + bytes(255)) * (cells // 255)
 
 
@@ -67,7 +67,7 @@ def branches(count: int) -> bytes:
 
 
 def many_functions(count: int) -> bytes:
-    """A font program that defines so many functions beside function 0, all of them empty."""
+    """A font program that defines this many functions besides function 0, all of them empty."""
     return b"".join(b"\xb8" + struct.pack(">h", number) + b"\x2c" + ENDF for number in range(1, count + 1))
 
 

@@ -86,7 +86,7 @@ def deep() -> bytes:
 
 
 def turns(count: int) -> bytes:
-    """LOOPCALL of function 0 with so many turns, 65,534 or a few more."""
+    """LOOPCALL of function 0 with this many turns, 65,534 or a few more."""
     return b"\xb9\x7f\xff\x7f\xff\x60\xb0" + bytes([count - 65_534]) + b"\x60\xb0\x00\x2a"
 
 
