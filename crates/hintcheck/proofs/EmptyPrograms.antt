@@ -1,4 +1,4 @@
--- The least family of a glyph program without instructions: the start alone.
+-- The least family of a glyph program without instructions: only the start.
 use Rattle.std.proofs.Common.{◌≡◌, ℕ, zero, suc, List, [], ◌∷◌, Option, Some, None, true, false, refl, sym, subst, arith}
 use Rattle.tt_code.specs.Fonts.{Font, glyph_setting}
 use Rattle.tt_code.specs.Grammar.{none}

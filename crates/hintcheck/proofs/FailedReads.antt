@@ -292,7 +292,7 @@ cut_short_after s form place old mid new check.Read reads has = λ told.
       in_sections form (input_at place (Some front)) (r.again front) ends,
     )
 
--- what is told of a refused program is no failed read
+-- what is reported of a refused program is no failed read
 pub tells_no_read : (called : Name) (fault : ProgramFault) (r : Result Outcome CheckFontFault) (old new : Option (List ℕ)) (Is : List ℕ → Type 0) → TellsRefusal called fault r
     → IfErr r (HasRead old new Is)
 tells_no_read called (program.Refused spot offset reason) r old new Is told = rw told tt

@@ -25,7 +25,7 @@ use Rattle.hintcheck.specs.declared.session.Outcome.{Outcome}
 use Rattle.hintcheck.proofs.FontEnds.{known_of_found}
 use Rattle.hintcheck.proofs.FontSafety.{good_end}
 
--- what is told of a refused program
+-- what is reported of a refused program
 tells : (called : Name) (fault : ProgramFault) (o : Outcome) (Is : Refused → Type 0) → TellsOutcome called fault (Ok o) → IfRefused called fault Is
     → (r : Refused) × Is r × (o ≡ refused_as called r)
 tells called (program.Refused spot offset reason) o Is told is = (told_at called spot offset reason, is, one o (refused_as called (told_at called spot offset reason)) told)

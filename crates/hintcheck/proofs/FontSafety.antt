@@ -155,7 +155,7 @@ font_is_safe d range v (looked_at_all f p functions known rs font cvt glyphs) e 
     let N : List Refused → Type 0 = λ rs. AreRefused (font_of d f p) known 0 d.glyphs rs in
     good_families_are_safe d range (none_is_refused d f p functions known font cvt (subst N e glyphs))
 
--- a glyph alone
+-- a single glyph
 
 none_in_range : AreInRange []
 none_in_range = record { bytes = tt; short = omega arith }

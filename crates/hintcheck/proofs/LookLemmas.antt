@@ -74,7 +74,7 @@ known_least x is c l =
 pub good_of_least : (x : Subject) → HasLeastFamily x → HasGoodFamily x
 good_of_least x l = record { instructions = l.instructions; cut = l.cut; family = l.family; good = l.good }
 
--- what is told of a refusal
+-- what is reported of a refusal
 pub is_refusal : (x : Subject) (at : Place) (spot : Spot) (offset : ℕ) (r : Reason) → spot ≡ spot_of at.0 → offset ≡ at.1
     → IsCause x at r → (HasLeastFamily x → ⊥) → ((r ≡ reason.NeverEnds) ⊎ (HasGoodFamily x → ⊥)) → IsRefusal x (told_at x.name spot offset r)
 is_refusal x at spot offset r es eo cause no_least no_good = record {

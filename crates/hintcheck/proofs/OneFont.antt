@@ -139,7 +139,7 @@ pub same_check : (bytes : List ℕ) (d e : FontData) → Reads bytes d → Reads
 same_check bytes d e r s certificate f checked =
     check_alike e d.component_reads certificate f (subst (λ (t : FontData). IsChecked t certificate f) (one_font bytes d e r s) checked)
 
--- where the check of a font by the bytes refuses nothing, so does what is answered
+-- where the check of a font by the bytes refuses nothing, neither does what is answered
 pub check_accepts : (font bytes : List ℕ) (read : FontData) (r : Result Judgement CheckFontFault) → Reads font read
     → Finds r (AnswersFinding read bytes) (λ place. IsChecked read bytes (Err place)) → (d : FontData) → Reads font d → IsChecked d bytes (Ok []) → Finds r (λ v. v.refused ≡ []) (λ _. ⊥)
 check_accepts font bytes read (Ok v) reads answers d reads_too checked =

@@ -46,7 +46,7 @@ other_number_read d old new form sections gives differs told =
     let read = gives told in
     another_number form sections (input_at read.1.0 new) read.1.1 differs
 
--- what is told of a refused program
+-- what is reported of a refused program
 tells : (called : Name) (fault : ProgramFault) (o : Outcome) (Is : Refused → Type 0) → TellsRefusal called fault (Ok o) → IfRefused called fault Is
     → (r : Refused) × Is r × (o ≡ refused_as called r)
 tells called (program.Refused spot offset reason) o Is told is = (told_at called spot offset reason, is, one o (refused_as called (told_at called spot offset reason)) told)
@@ -161,7 +161,7 @@ module _ (d : FontData) (f p : List Instruction) (known : List (ℕ × ℕ)) (fo
       let S : Outcome → Type 0 = λ x. IsOutcomeBySection d form i after (at_glyph f p known id) x (at_glyph f p known (id + 1)) in
       subst S (sym e) (glyph_fails f p known id g family r there section is)
 
--- what is told of a refused glyph program, whatever it comes to
+-- what is reported of a refused glyph program, whatever it comes to
 
 pub third_sound : (d : FontData) (f p : List Instruction) (known : List (ℕ × ℕ)) (id : ℕ) (g : GlyphData) (there : slice_get d.glyphs id ≡ Some g) (fault : ProgramFault)
     (r : Result Outcome CheckFontFault) → TellsRefusal (name.Glyph id) fault r → IfOk r (λ o. IsSoundOutcome d (at_glyph f p known id) o (at_glyph f p known (id + 1)))

@@ -1,4 +1,4 @@
--- What the look at one program returns, and what is told of it.
+-- What the look at one program returns, and what is reported of it.
 use Rattle.std.specs.Prelude.{◌≡◌, ℕ, List, [], ◌∷◌, ◌++◌, Option, Some}
 use Rattle.tt_code.specs.Cut.{Instruction}
 use Rattle.tt_code.specs.declared.reason.Reason.{Reason}
@@ -36,11 +36,11 @@ pub record IsAccepted (x : Subject) (instructions : List Instruction) (family : 
   pub within : (p : Place) (a : State) → filling p ≡ Some a → FitsLimits (x.setting instructions) a
   pub safe : IsSafe (x.setting instructions) x.functions filling
 
--- what is told of a program by this name that is refused at a place
+-- what is reported of a program by this name that is refused at a place
 abbrev pub told_at : Name → Spot → ℕ → Reason → AnyRefused
 told_at called spot offset r = record { program = called; place = record { program = program_at called spot; offset = offset }; reason = r }
 
--- the same of what is told of a program by this name, where the fault refuses it; out of memory is unspecified
+-- the same of what is reported of a program by this name, where the fault refuses it; out of memory is unspecified
 abbrev pub IfRefused : Name → ProgramFault → (AnyRefused → Type 0) → Type 0
 IfRefused called (Refused spot offset r) Is = Is (told_at called spot offset r)
 IfRefused called (OutOfMemory e) Is = Unit {0}

@@ -9,7 +9,7 @@ use Rattle.hintcheck.specs.Listing.{HoldUnlistedProgram}
 use Rattle.hintcheck.specs.Programs.{HasGoodFamily, IsRefusal}
 use Rattle.hintcheck.specs.Verdicts.{Judgement}
 
--- The words spell a `maxp` table and a glyph program, which is safe in a font of this glyph alone.
+-- The words spell a `maxp` table and a glyph program, which is safe in a font of only this glyph.
 pub record SpellSafeGlyph (maxp : List ℕ) (cvt points contours : ℕ) (program : List ℕ) : Type 0 where
   pub table : List ℕ
   pub table_spelled : Spells maxp table
@@ -33,7 +33,7 @@ pub record HoldSafeFont (bytes : List ℕ) : Type 0 where
   pub safe : IsSafeFont font
 
 -- What is asked for is safe: the glyph program of `bare`, no digits being no bytes. For `verdict`, `find` and `check`, some bytes hold a safe
--- font: no contract of the runtime tells which bytes a file has, so that these can't be named here. Of safety, a listing and an upgrade tell nothing.
+-- font: no contract of the runtime tells which bytes a file has, so that these can't be named here. A listing and an upgrade tell nothing of safety.
 abbrev pub IsSafeRequest : Request → Type 0
 IsSafeRequest (bare maxp cvt points contours program) = SpellSafeGlyph maxp cvt points contours (unwrap_or program [])
 IsSafeRequest (verdict font) = (bytes : List ℕ) × HoldSafeFont bytes
@@ -48,7 +48,7 @@ pub record MeansSafe (words : List (List ℕ)) : Type 0 where
   pub meant : meaning words ≡ Some request
   pub safe : IsSafeRequest request
 
--- The words spell a `maxp` table and a glyph program for which no family of abstract states is good, in a font of this glyph alone.
+-- The words spell a `maxp` table and a glyph program for which no family of abstract states is good, in a font of only this glyph.
 pub record SpellRefusedGlyph (maxp : List ℕ) (cvt points contours : ℕ) (program : List ℕ) : Type 0 where
   pub table : List ℕ
   pub table_spelled : Spells maxp table

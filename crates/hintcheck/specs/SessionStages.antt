@@ -74,12 +74,12 @@ KeepsFound (Some read) d stage = Unit {0}
 abbrev pub HasHeader : FontData → Form → Option (List ℕ) → Option (List ℕ) → Type 0
 HasHeader d form old new = (place : ℕ) × (header_at (input_at 0 old) ≡ Ok ((form, length d.glyphs + 2), input_at place new))
 
--- what is told of a program of this name that the fault refuses; out of memory is unspecified
+-- what is reported of a program of this name that the fault refuses; out of memory is unspecified
 abbrev pub TellsRefusal : Name → ProgramFault → Result Outcome CheckFontFault → Type 0
 TellsRefusal called (program.Refused spot offset r) told = told ≡ Ok (refused_as called (told_at called spot offset r))
 TellsRefusal called (program.OutOfMemory e) told = told ≡ Err (fault.OutOfMemory e)
 
--- what is told of a program of this name that the fault refuses; that memory ran out, where it did
+-- what is reported of a program of this name that the fault refuses; that memory ran out, where it did
 abbrev pub TellsOutcome : Name → ProgramFault → Result Outcome AllocError → Type 0
 TellsOutcome called (program.Refused spot offset r) told = told ≡ Ok (refused_as called (told_at called spot offset r))
 TellsOutcome called (program.OutOfMemory e) told = told ≡ Err e

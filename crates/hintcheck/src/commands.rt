@@ -552,8 +552,8 @@ pub fn command<R: Files + AllocGlobal, O: Sink, E: Sink>(
     }
 }
 
-/// Prints the fault, and returns its exit status. A fault that can't be printed either is reported by
-/// the status alone.
+/// Prints the fault, and returns its exit status. A fault that can't be printed either is reported only by
+/// the status.
 fn tell<E: Sink>(err: &mut E, fault: &CommandFault) -> u8
     ensures status { result ≡ status_of fault.now }
     ensures untold { E.failures err.old ≤ E.failures err.new }

@@ -35,7 +35,7 @@ fn program_at(name: Name, spot: Spot) -> Name
     }
 }
 
-/// Returns what is told of the program of this name that is refused at an offset.
+/// Returns what is reported of the program of this name that is refused at an offset.
 pub(crate) fn told(name: Name, spot: Spot, offset: u32, reason: Reason) -> Refused
     ensures { result ≡ told_at name spot offset reason }
 {
@@ -129,7 +129,7 @@ fn checked(
 /// What a program is looked at for.
 #[derive(Clone, Copy)]
 pub(crate) enum Search {
-    /// For the verdict alone, by a family that is checked.
+    /// Only for the verdict, by a family that is checked.
     Verdict,
     /// For its certificate, which lists no state that could be left out, and is checked.
     Certificate,

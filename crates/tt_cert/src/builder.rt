@@ -108,7 +108,7 @@ fn push_children(
 }
 
 impl Builder {
-    /// Makes a builder with the empty context alone, and no state.
+    /// Makes a builder with only the empty context, and no state.
     pub fn new(alloc: Global) -> Self
         ensures contexts { result.contexts ≡ [] ∷ [] }
         ensures states { result.states ≡ [] }

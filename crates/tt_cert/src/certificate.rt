@@ -143,7 +143,7 @@ impl Certificate {
         self.builder.states()
     }
 
-    /// Makes a builder in the certificate's memory: the empty context alone, and no state.
+    /// Makes a builder in the certificate's memory: only the empty context, and no state.
     pub fn into_builder(self) -> Builder
         ensures contexts { result.contexts ≡ [] ∷ [] }
         ensures states { result.states ≡ [] }

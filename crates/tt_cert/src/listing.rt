@@ -13,7 +13,7 @@ use tt_abs::{Point, Setting};
 pub(crate) enum Listing {
     /// All of them.
     Whole,
-    /// At least those that the state at the point just before doesn't give alone.
+    /// At least those that aren't given only by the state at the point just before.
     Sparse,
 }
 

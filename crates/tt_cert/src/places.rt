@@ -23,7 +23,7 @@ pub type PointKey = (u32, u32);
 pub(crate) struct Places {
     /// For each context the points that came after all others of the context.
     rows: Vec<Row>,
-    /// How many rows may hold points. The rows after those are empty, and are kept for their memory alone.
+    /// How many rows may hold points. The rows after those are empty, and are kept only for their memory.
     used: usize,
     /// The points that came before a greater offset of their context.
     rest: BTreeMap<PointKey, u32>,

@@ -28,7 +28,7 @@ const MOST_STATES: u32 = 4_294_967_295;
 pub(crate) struct StateTable {
     /// The slot of each point. The points have the first slots, one each.
     places: Places,
-    /// The states in the slots. Those after the slots of the points are kept for their memory alone.
+    /// The states in the slots. Those after the slots of the points are kept only for their memory.
     slots: Vec<State>,
 }
 

@@ -60,7 +60,7 @@ module _ (o : Order State) (order : OrderLaws o) (h : ℕ) where
       let m = ap (λ x. x * (1 + h)) ones' in
       record { spent = omega arith; counted = omega arith }
 
-  -- the start alone
+  -- only the start
   pub budget_start : (v v' : Contents) (t : State) (changed : Bool) → v.states ≡ [] → o.left t ≤ h → PutsAt o (family_of v) (family_of v') (place_of v 0 0) t changed
       → Reweighs v v' (place_of v 0 0) → IsWithinBudget o h v' (0 + cond changed 1 0)
   budget_start v v' t changed states low put sums =

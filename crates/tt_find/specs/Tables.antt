@@ -106,7 +106,7 @@ pub record HasLaws (s : Setting) (functions : List (ℕ × ℕ)) : Type 0 where
   pub height : height_of s < 4294967295
   pub short : AreProgramsShort s
 
--- the empty context alone, without a state, and no update
+-- only the empty context, without a state, and no update
 pub record IsEmptyTable (table : Table) : Type 0 where
   pub contexts : table.builder.contexts ≡ [] ∷ []
   pub states : table.builder.states ≡ []
@@ -267,7 +267,7 @@ pub record IsPopped (s : Setting) (functions : List (ℕ × ℕ)) (table : Table
   pub kept : states_of table.builder.states (context, offset) ≡ Some state
   pub apart : has_point table.waiting (context, offset) ≡ false
 
--- where an instruction ends, if this one alone leads there as to the place just after it
+-- where an instruction ends, if only this one leads there as to the place just after it
 abbrev pub IsJustAfter : Setting → Place → Option ℕ → Type 0
 IsJustAfter s p after = (q : Place) → IsAfter p.0 after q ↔ Precedes s p q
 
