@@ -29,7 +29,7 @@ pub record IsTextOf (form : Form) (called : Name) (family : Contents) (text : Li
   pub in_order : IsFinished family
   pub text_is : text ≡ section_text form (section_of called family)
 
--- The family of a font program or a CVT program is as is asked, this is its section's text, and these functions are known where the program ends.
+-- The family of a font program or a CVT program is as required, this is its section's text, and these functions are known where the program ends.
 pub record IsEndedText (Is : Asked) (form : Form) (x : Subject) (instructions : List Instruction) (text : List ℕ) (functions : List (ℕ × ℕ)) : Type 0 where
   pub family : Contents
   pub is_asked : Is x instructions family
@@ -38,20 +38,20 @@ pub record IsEndedText (Is : Asked) (form : Form) (x : Subject) (instructions : 
   pub at_end : family_of family ([], size instructions) ≡ Some end
   pub functions_are : end.functions ≡ functions
 
--- The section's text of a program whose family is as is asked.
+-- The section's text of a program whose family is as required.
 pub record IsGlyphText (Is : Asked) (form : Form) (x : Subject) (text : List ℕ) : Type 0 where
   pub instructions : List Instruction
   pub family : Contents
   pub is_asked : Is x instructions family
   pub text_of : IsTextOf form x.name family text
 
--- The texts of the glyph programs' sections from a number on, whose families are as is asked.
+-- The texts of the glyph programs' sections from a number on, whose families are as required.
 pub data AreGlyphTexts (Is : Asked) (form : Form) (font : Font) (functions : List (ℕ × ℕ)) : ℕ → List GlyphData → List ℕ → Type 0 where
   no_glyphs : (id : ℕ) → AreGlyphTexts Is form font functions id [] []
   one_more : (id : ℕ) (g : GlyphData) (gs : List GlyphData) (text rest : List ℕ) → IsGlyphText Is form (glyph_subject font functions id g) text
       → AreGlyphTexts Is form font functions (id + 1) gs rest → AreGlyphTexts Is form font functions id (g ∷ gs) (text ++ rest)
 
--- The bytes are a certificate of this form for the font, whose families are as is asked. The CVT program starts with the functions that are
+-- The bytes are a certificate of this form for the font, whose families are as required. The CVT program starts with the functions that are
 -- known where the font program ends, and a glyph program with those that are known where the CVT program ends.
 pub record IsCertificate (Is : Asked) (form : Form) (d : FontData) (bytes : List ℕ) : Type 0 where
   pub font_program : List Instruction

@@ -39,7 +39,7 @@ pub record IsNumberOfPrograms (count : ℕ) : Type 0 where
   pub some : 2 ≤ count
   pub few : count ≤ 65537
 
--- The bytes begin with the header of a certificate for this many programs and with these sections, and reading is after them.
+-- The bytes begin with the header of a certificate for this many programs and with these sections, and reading goes on after them.
 pub record BeginWith (bytes : List ℕ) (form : Form) (count : ℕ) (sections : List Section) (at : Input) : Type 0 where
   pub after : Input
   pub header : header_in bytes ≡ Ok ((form, count), after)
