@@ -35,9 +35,9 @@ pub record IsFoundToEnd (x : Subject) (instructions : List Instruction) (found :
   pub at_end : family_of found.certificate ([], size instructions) ≡ Some end
   pub functions_are : end.functions ≡ functions
 
--- The outcome of the next program, with what is found for it, and which one is next afterwards. The functions that are known at the end of an accepted
--- font program or CVT program are kept by all calls after it, up to those at the end of the CVT program. A refused font program or CVT program is the
--- last one.
+-- The outcome of the next program, with what is found for it, and which one is next afterwards. The functions that are known at the end of an
+-- accepted font program or CVT program are kept by all calls after it, up to those at the end of the CVT program. A refused font program or CVT
+-- program is the last one.
 pub data IsOutcomeByFinding (d : FontData) : Stage → Outcome → Option Found → Stage → Type 0 where
   font_found : (f : List Instruction) (functions : List (ℕ × ℕ)) (found : Found) → IsFoundToEnd (font_subject d) f found functions
       → IsOutcomeByFinding d at_start (accepted_as name.Font) (Some found) (after_font f functions)

@@ -71,8 +71,8 @@ pub record HoldFont (bytes : List ℕ) : Type 0 where
   pub font : FontData
   pub reads : Reads bytes font
 
--- The words spell a `maxp` table and a glyph program, of which the verdict is this one: it names no refused program exactly where a family of abstract
--- states is good for the glyph program, and otherwise that one, with what refuses it.
+-- The words spell a `maxp` table and a glyph program, of which the verdict is this one: it names no refused program exactly where a family of
+-- abstract states is good for the glyph program, and otherwise that one, with what refuses it.
 pub record SpellVerdict (maxp : List ℕ) (cvt points contours : ℕ) (program : List ℕ) (judgement : Judgement) : Type 0 where
   pub table : List ℕ
   pub table_spelled : Spells maxp table
@@ -85,8 +85,8 @@ pub record SpellVerdict (maxp : List ℕ) (cvt points contours : ℕ) (program :
   pub exact : judgement.refused ≡ [] ↔ HasGoodFamily (glyph_subject (font_of (one_glyph_font table cvt glyph) [] []) [] 0 glyph)
   pub refused : All (IsRefusal (glyph_subject (font_of (one_glyph_font table cvt glyph) [] []) [] 0 glyph)) judgement.refused
 
--- The verdict is one on the programs of the font that is in the bytes; where it names none, the font is safe. No contract of the runtime tells which ones a
--- check by a certificate refuses, since it doesn't tell the bytes of that.
+-- The verdict is one on the programs of the font that is in the bytes; where it names none, the font is safe. No contract of the runtime tells which
+-- ones a check by a certificate refuses, since it doesn't tell the bytes of that.
 pub record IsCheckOn (bytes : List ℕ) (judgement : Judgement) : Type 0 where
   pub font : FontData
   pub reads : Reads bytes font

@@ -54,8 +54,9 @@ accepted_as called = record { program = called; refused = None }
 abbrev pub refused_as : Name → Refused → Outcome
 refused_as called r = record { program = called; refused = Some r }
 
--- The outcome of the next program by its section, and which one is next afterwards. The functions that are known at the end of an accepted font program
--- or CVT program are kept by all calls after it, up to those at the end of the CVT program. A refused font program or CVT program is the last one.
+-- The outcome of the next program by its section, and which one is next afterwards. The functions that are known at the end of an accepted font
+-- program or CVT program are kept by all calls after it, up to those at the end of the CVT program. A refused font program or CVT program is the last
+-- one.
 pub data IsOutcomeBySection (d : FontData) (form : Form) (i after : Input) : Stage → Outcome → Stage → Type 0 where
   font_passes : (family : Contents) (f : List Instruction) (functions : List (ℕ × ℕ)) → IsSectionOf form i name.Font family after
       → PassesToEnd form (font_subject d) f family functions → IsOutcomeBySection d form i after at_start (accepted_as name.Font) (after_font f functions)
@@ -120,8 +121,8 @@ pub data IsNextFault (s : Standing) (bytes : Option (List ℕ)) : ℕ → Type 0
   in_header : (place : ℕ) → s.read ≡ None → IsHeaderFault s.font bytes place → IsNextFault s bytes place
   at_section : (form : Form) (from : Input) (place : ℕ) → ReadsOn s bytes form from → IsFaultAt s.font form from s.stage place → IsNextFault s bytes place
 
--- The outcome is that of the next program, whatever the source tells: an accepted one has a good family, and the functions that are known where it ends
--- are kept.
+-- The outcome is that of the next program, whatever the source tells: an accepted one has a good family, and the functions that are known where it
+-- ends are kept.
 pub data IsSoundOutcome (d : FontData) : Stage → Outcome → Stage → Type 0 where
   good_font : (f : List Instruction) (functions : List (ℕ × ℕ)) → IsGoodAtEnd (font_subject d) f functions
       → IsSoundOutcome d at_start (accepted_as name.Font) (after_font f functions)
