@@ -89,7 +89,7 @@ pub piece_at_some : (n : ℕ) (bytes : List ℕ) → 0 < n → piece_at n bytes 
 piece_at_some zero bytes h = absurd (omega arith)
 piece_at_some (suc n) bytes h = refl
 
--- among the lengths, an offset inside an instruction has 0, and one behind it is an offset among the others
+-- among the lengths, an offset inside an instruction has 0, and one past it is an offset among the others
 inside_or_behind : (r ls : List ℕ) (o : ℕ) → ((o < length r) × (get_or (replicate (length r) 0 ++ ls) o 0 ≡ 0)) ⊎ ((length r ≤ o) × (get_or (replicate (length r) 0 ++ ls) o 0 ≡ get_or ls (o - length r) 0))
 inside_or_behind [] ls o = inr (omega arith, rw sub-zero refl)
 inside_or_behind (x ∷ r) ls zero = inl (omega arith, refl)
@@ -103,7 +103,7 @@ drop_behind r bs o h =
     let split : length r + (o - length r) ≡ o = omega arith in
     ap (λ k. drop k (r ++ bs)) (sym split) ∙ drop-append-add r bs (o - length r)
 
--- what stands at an offset among the lengths says which instruction starts there
+-- what is at an offset among the lengths says which instruction starts there
 pub at_is : (is : List Instruction) → AllByRecursion IsInstruction is → (o : ℕ) → instruction_at is o ≡ piece_at (get_or (laid is) o 0) (drop o (concat is))
 at_is [] p o = refl
 at_is ([] ∷ is) p o = absurd p.0
@@ -138,7 +138,7 @@ at_fits ((x ∷ r) ∷ is) p (suc o) h =
           omega arith
     ]
 
--- what starts behind an instruction starts in the rest
+-- what starts after an instruction starts in the rest
 found_behind : (x : Instruction) (is : List Instruction) (o : ℕ) (i : Instruction) → instruction_at (x ∷ is) (suc o) ≡ Some i
     → instruction_at is (suc o - length x) ≡ Some i
 found_behind x is o i e = by_test (nat_lt (suc o) (length x)) refl

@@ -1,4 +1,4 @@
--- FDEF stands in the main program alone.
+-- FDEF is in the main program alone.
 use Rattle.std.proofs.Common.{◌≡◌, inl, inr, ℕ, ◌+◌, List, [], ◌∷◌, refl, sym, ◌∙◌, ap, subst, Some, Option}
 use Rattle.std.specs.List.{AllByRecursion}
 use Rattle.tt_code.specs.declared.word.Word.TheVariants.{Fdef}

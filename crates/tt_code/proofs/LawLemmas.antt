@@ -45,7 +45,7 @@ one_uncut bytes k m f g =
     let b = f.longest g.reached.0 g.reached.1 g.reached.2 in
     omega (arith, f.reached.3, g.reached.3)
 
--- Behind an instruction stands another, or the program's end.
+-- After an instruction there is another, or the program's end.
 pub next_stands : (is : List Instruction) (k : ℕ) (i : Instruction) → StandsAt is k i → ((j : Instruction) × StandsAt is (k + length i) j) ⊎ (k + length i ≡ size is)
 next_stands is k i s = go s.after s.whole
   where
@@ -61,7 +61,7 @@ next_stands is k i s = go s.after s.whole
       },
     )
 
--- Where control goes stands an instruction, or the program ends.
+-- Where control goes there is an instruction, or the program ends.
 pub target_stands : (is : List Instruction) (w : Word) (k t : ℕ) → GoesTo w is k t → ((j : Instruction) × StandsAt is t j) ⊎ (t ≡ size is)
 target_stands is w k t g =
     let before = g.before ++ (g.i ∷ g.inner) in

@@ -49,7 +49,7 @@ compare (a ∷ x) z (b ∷ y) v e d h =
       ]
     ]
 
--- a word that ends a list stands alone nowhere
+-- a word that ends a list is alone nowhere
 ends_stuck : (w u : Word) (k : ℕ) → Ends w u → step u k [] ≡ None
 ends_stuck If u k (inl h) = rw h refl
 ends_stuck If u k (inr h) = rw h refl
@@ -69,7 +69,7 @@ ends_opens Eif u h = absurd h
 ends_opens Endf u h = absurd h
 ends_opens Other u h = absurd h
 
--- No list goes on behind a list with what ends one.
+-- No list goes on after a list with what ends one.
 no_list_longer : (w : Word) (x y r : List Instruction) (e : Instruction) → IsList false x → IsList false y → Ends w (word e) → y ≡ x ++ (e ∷ r) → ⊥
 no_list_longer w x y r e lx ly h q =
     let whole : steps (x ++ (e ∷ r)) 0 [] ≡ Some [] = ap (λ y. steps y 0 []) (sym q) ∙ whole_steps ly in
@@ -94,12 +94,12 @@ goes_same is w v k s t each g h =
       ]
     ]
 
--- two instructions that stand at one offset are one
+-- two instructions that are at one offset are one
 pub one_stands : (is : List Instruction) (k : ℕ) (i j : Instruction) → AllByRecursion IsInstruction is → StandsAt is k i → StandsAt is k j → i ≡ j
 one_stands is k i j each s t =
     let same : Some i ≡ Some j = sym (stands_found is k i (each_bytes is each) s) ∙ stands_found is k j (each_bytes is each) t in cc
 
--- what leads on stands there
+-- what leads on is there
 pub goes_stands : (w : Word) (is : List Instruction) (k t : ℕ) (g : GoesTo w is k t) → StandsAt is k g.i
 goes_stands w is k t g = record { before = g.before; after = g.inner ++ (g.e ∷ g.after); whole = g.whole; offset = g.from }
 

@@ -291,7 +291,7 @@ unfoldable pub instruction_of_offset : List ℕ → ℕ → Option Instruction
 unfolding cut_within
 instruction_of_offset bytes offset = instruction_at (cut_of bytes) offset
 
--- the fault of a font program that stands at an offset, with the empty stack
+-- the fault of a font program that is at an offset, with the empty stack
 unfoldable pub fault_at : List ℕ → List Frame → ℕ → Option Reason
 unfolding outcome cut_within word
 fault_at bytes frames offset =
