@@ -1,4 +1,5 @@
-//! Laws of the definitions by which a font is read (OpenType specification, `glyf`). The function here does nothing: its contract⏎is the laws.
+//! Laws of the definitions by which a font is read (OpenType specification, `glyf`). The function here does nothing: its contract
+//! is the laws.
 
 ghost use Rattle.tt_font.specs.Laws.{FindsLeast, ListsComponents, StartsWays, FindsWaysOut};
 

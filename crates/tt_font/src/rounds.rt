@@ -1,4 +1,5 @@
-//! The points and contours of all glyphs, summed over their components round by round (OpenType specification, `glyf`, "Composite⏎glyph description").
+//! The points and contours of all glyphs, summed over their components round by round (OpenType specification, `glyf`, "Composite
+//! glyph description").
 
 ghost use Rattle.std.specs.Prelude.{◌≡◌, ℕ, [], ◌+◌, ◌*◌, ◌^◌, ◌<◌, ◌≤◌, length, IfOk, IfErr, OnOk, IsTrue, ◌↔◌, alloc_error};
 ghost use Rattle.tt_font.specs.Numbers.{first_below};

@@ -1,4 +1,5 @@
-//! The points and contours of a glyph, as a sum over its components (OpenType specification, `glyf`, "Composite glyph⏎description").
+//! The points and contours of a glyph, as a sum over its components (OpenType specification, `glyf`, "Composite glyph
+//! description").
 
 ghost use Rattle.std.specs.Prelude.{◌≡◌, ℕ, ◌+◌, ◌^◌, ◌<◌, ◌≤◌, length, min};
 ghost use Rattle.tt_font.specs.Components.{components, glyphs_named};
