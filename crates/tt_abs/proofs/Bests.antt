@@ -234,7 +234,7 @@ stored_best In index v area (Known l) c k cells e h w all j =
     (λ x i. ap (λ n. with_stored (natural n) (v x) (area x) j) (h.0 x i))
     (best_if In v (λ x. area x j) c (cells j) (nat_eq (natural l) j) w (all j))
 
--- is what the update looks into known?
+-- whether what the update reads is known
 abbrev pub Readable : List Cell → Update → Type 0
 Readable taken (update.SetPointer p i) = (k : ℤ) × (taken_at (Known (pos 1)) taken i ≡ Known k)
 Readable taken (update.Store i v) = (k : ℤ) × (taken_at (Known (pos 1)) taken i ≡ Known k)

@@ -228,7 +228,7 @@ module _ (s : Setting) (fs : List Frame) (at : ℕ) where
       go (Known k ∷ cs) = known_if a cs k (after_if (program_of s fs) at) refl
       go (Unknown ∷ cs) = unknown cs (after_if (program_of s fs) at) refl
 
-  -- Jumps. The number by which to jump stands below so many others.
+  -- Jumps. The number by which to jump is below so many others.
 
   abbrev pub jumping : ℕ → Machine → Tested Outcome
   jumping n m = do

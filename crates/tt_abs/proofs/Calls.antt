@@ -26,7 +26,7 @@ use Rattle.tt_abs.proofs.Depth.{depth_of_ways}
 use Rattle.tt_abs.proofs.Branches.{there, fails_there}
 use Rattle.tt_abs.proofs.Places.{leads_one, RunOnce, settled_stands, settled_within}
 
--- What is said of any instruction may be said of the machines that stand there alone.
+-- What is said of any instruction may be said of only the machines that are there.
 
 pub stands_for_as : (a : Abstract) (fs : List Frame) (at : ℕ) (does other : Machine → Tested Outcome) (r : Tested (List Next)) → ((m : Machine) → Stands a fs at m → other m ≡ does m)
     → StandsFor a fs at does r → StandsFor a fs at other r
@@ -250,7 +250,7 @@ module _ (s : Setting) (fs : List Frame) (at : ℕ) (once : RunOnce fs) where
         lands_stands (counting (Known (pos (suc k)))) fs at (λ m. loop_on m m.stack) (called_frames fs at name (suc k)) (body_offset name) (λ m. drop 2 m.stack) us
         (below_count (Known (pos (suc k)))) (λ m st. on_count (pos (suc k)) m m.stack st.covered.functions st.covered.stack)
 
-    -- another one goes on behind the call
+    -- another one goes on after the call
     passes : (k : ℤ) → ((m : Machine) (ns : List ℤ) → enters (there s fs at m) name ns k ≡ goes_to (there s fs at m) ns (at + 1))
         → StandsFor (counting (Known k)) fs at (λ m. loop_on m m.stack >>= within_depth s) (Ok (one_way fs (at + 1) (leaves_cells a us [])) >>= within_cells s)
     passes k behind =

@@ -41,12 +41,12 @@ use Rattle.tt_abs.proofs.TableRows.{rows_tested}
 
 -- What holds of a value, where there is one.
 
--- behind a test that passes
+-- after a test that passes
 pub holds_tested : {B : Type 0} (Q : B → Type 0) (b : Bool) (r : Reason) (f : Unit {0} → Tested B) → (b ≡ true → (x : Unit {0}) → Holds Q (f x)) → Holds Q (holds_or b r >>= f)
 holds_tested Q true r f k = k refl tt
 holds_tested Q false r f k = tt
 
--- behind what is found
+-- after what is found
 holds_some : {A B : Type 0} (Q : B → Type 0) (o : Option A) (r : Reason) (f : A → Tested B) → ((x : A) → o ≡ Some x → Holds Q (f x)) → Holds Q (some_or o r >>= f)
 holds_some Q None r f k = tt
 holds_some Q (Some x) r f k = k x refl
@@ -188,7 +188,7 @@ module _ (s : Setting) (g : Cells) where
   stores_taken os (update.SetLoop i ∷ us) stack h = holds_both (λ t. Unit {0}) (StoresFit us) (take_cells s g os stack) (holds_all (take_cells s g os stack)) (stores_taken os us stack h)
   stores_taken os (update.LoopIsOne ∷ us) stack h = holds_both (λ t. Unit {0}) (StoresFit us) (take_cells s g os stack) (holds_all (take_cells s g os stack)) (stores_taken os us stack h)
 
--- an FDEF of a body stands before the offset, in a program that may define functions
+-- an FDEF of a body is before the offset, in a program that may define functions
 pub record DefinesAt (s : Setting) (offset : ℕ) : Type 0 where
   pub frames : List Frame
   pub at : ℕ

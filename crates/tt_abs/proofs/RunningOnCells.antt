@@ -153,7 +153,7 @@ stack_after steps program = elim (followed steps (setting_of usual_limits progra
   | Err r ↦ Err r
 ]
 
--- Definitions of functions: the places behind them and the functions known there, where the program is a font program or a CVT
+-- Definitions of functions: the places after them and the functions known there, where the program is a font program or a CVT
 -- program.
 
 abbrev pub defined : Tested (List Next) → Tested (List (ℕ × List (ℕ × ℕ)))
@@ -207,11 +207,11 @@ defines_a_function = 0xb0 ∷ 0x00 ∷ 0x2c ∷ 0x18 ∷ 0x2d ∷ []
 abbrev pub glyph_does : Limits → ℕ → List Cell → Tested (List InCalls)
 glyph_does limits code = called limits defines_a_function [] (0x18 ∷ code ∷ 0x18 ∷ []) ((0, 3) ∷ []) [] 1
 
--- a font program that defines the function 0: in its body, from 1 on, LOOPCALL stands at 1, CALL at 2, and ENDF at 3
+-- a font program that defines the function 0: in its body, from 1 on, LOOPCALL is at 1, CALL at 2, and ENDF at 3
 abbrev pub function_calls : List ℕ
 function_calls = 0x2c ∷ 0x2a ∷ 0x2b ∷ 0x2d ∷ []
 
--- what stands at an offset of that body does this, where the body runs by these calls
+-- what is at an offset of that body does this, where the body runs by these calls
 abbrev pub body_does : Limits → List Frame → ℕ → List Cell → Tested (List InCalls)
 body_does limits = called limits function_calls [] (0x18 ∷ 0x18 ∷ []) ((0, 1) ∷ [])
 

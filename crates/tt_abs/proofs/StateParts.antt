@@ -117,7 +117,7 @@ one_state t u ht hu e =
     (entry_laws IsNumber).antisymmetric t.storage u.storage ht.1.1.1 hu.1.1.1 (storage_below t.storage u.storage area) (storage_below u.storage t.storage (sym area)) in
     λ i. record { stack = stack i; graphics = graphics i; functions = functions i; storage = storage i }
 
--- Lists by rising numbers.
+-- Lists in ascending order of their numbers.
 
 pub record AreListed (functions : List (ℕ × ℕ)) (area : ℕ → Cell) : Type 0 where
   pub functions_rise : Rises functions

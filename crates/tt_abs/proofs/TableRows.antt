@@ -6,7 +6,7 @@ use Rattle.tt_code.specs.Table.{Meaning, Plain, Lists, Line, table, meaning_in, 
 use Rattle.tt_abs.specs.Stored.{is_of_one_kind, is_tested_line}
 use Rattle.tt_abs.proofs.Rows.{is_readable_line}
 
--- does a plain line pass a test?
+-- whether a plain line passes a test
 abbrev passes : (Lists → Bool) → Meaning → Bool
 passes test (Plain line) = test line
 passes test m = true

@@ -32,7 +32,7 @@ number-above m n v (e ∷ es) h l = elim (cases_eq e.0 n) [
   | inr other ↦ number-above m n v es h.1 (sym (listed-there e es n other) ∙ l)
 ]
 
--- One list below another, first entries aside.
+-- One list below another, apart from first entries.
 
 -- a first entry that isn't in the second list may go
 pub below-without_first : {V : Type 0} (x : ℕ × V) (xs b : List (ℕ × V)) → AllByRecursion (λ e. x.0 < e.0) b → EntriesBelow (x ∷ xs) b → EntriesBelow xs b
@@ -60,7 +60,7 @@ below-same_first {V} x y xs ys same above p n v l = elim (cases_eq y.0 n) [
   | inr other ↦ below-with_first x xs ys above p n v (sym (listed-there y ys n other) ∙ l)
 ]
 
--- the first entry of the second list is that of the first, or behind it
+-- the first entry of the second list is that of the first, or after it
 pub first-below : {V : Type 0} (x y : ℕ × V) (xs ys : List (ℕ × V)) → AllByRecursion (λ e. x.0 < e.0) xs → EntriesBelow (x ∷ xs) (y ∷ ys) → (x ≡ y) ⊎ (x.0 < y.0)
 first-below {V} x y xs ys above p =
     let l : listed (x ∷ xs) y.0 ≡ Some y.1 = p y.0 y.1 (listed-here y ys y.0 refl) in

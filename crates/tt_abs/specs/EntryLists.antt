@@ -1,4 +1,4 @@
--- The order of lists of entries by rising numbers: the list with fewer entries covers more.
+-- The order of lists of entries in ascending order of their numbers: the list with fewer entries covers more.
 use Rattle.std.specs.Prelude.{◌≡◌, ℕ, zero, suc, ◌<◌, ⊤, Bool, false, ◌&&◌, nat_eq, nat_lt, if◌then◌else◌, List, [], ◌∷◌, Option, None, Some, length}
 use Rattle.std.specs.List.{AllByRecursion, filter}
 use Rattle.std.specs.Bool.{Decides}
@@ -9,7 +9,7 @@ use Rattle.tt_abs.specs.Entries.{Rises, listed}
 abbrev pub IsEquality : {V : Type 0} → (V → V → Bool) → Type 0
 IsEquality {V} same = (v w : V) → Decides (same v w) (v ≡ w)
 
--- the number stands at this index, behind smaller ones
+-- the number is at this index, after smaller ones
 abbrev pub IsAt : {V : Type 0} → ℕ → List (ℕ × V) → ℕ → Type 0
 IsAt n [] i = ⊥
 IsAt n (e ∷ es) zero = e.0 ≡ n
@@ -35,7 +35,7 @@ abbrev pub begins_with_entry : {V : Type 0} → (V → V → Bool) → ℕ × V 
 begins_with_entry same e [] = false
 begins_with_entry same e (x ∷ xs) = nat_eq x.0 e.0 && same x.1 e.1
 
--- the entries behind the first, if that is this one, and all of them otherwise
+-- the entries after the first, if that is this one, and all of them otherwise
 abbrev pub behind_entry : {V : Type 0} → (V → V → Bool) → ℕ × V → List (ℕ × V) → List (ℕ × V)
 behind_entry same e [] = []
 behind_entry same e (x ∷ xs) = if begins_with_entry same e (x ∷ xs) then xs else x ∷ xs

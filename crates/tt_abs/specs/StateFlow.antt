@@ -80,7 +80,7 @@ pub record AreProgramsShort (s : Setting) : Type 0 where
   pub font : size s.font < 2 ^ 31
   pub prep : size s.prep < 2 ^ 31
 
--- the laws of the flow, of each setting and each list of functions by rising numbers that are within the font's limits
+-- the laws of the flow, of each setting and each list of functions in ascending order of their numbers that are within the font's limits
 abbrev pub HasFlowLaws : Type 0
 HasFlowLaws =
     (s : Setting) (functions : List (ℕ × ℕ)) → IsSettingInRange s → AreProgramsShort s → Rises functions → FunctionsFit s functions
