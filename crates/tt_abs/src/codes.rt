@@ -43,7 +43,7 @@ pub fn cell_of(code: u16) -> Cell
     }
 }
 
-/// Whether each code is the same as its partner. By bits alone, so that the loop becomes vector code.
+/// Whether each code is the same as its partner. Compares bits only, so that the loop becomes vector code.
 pub fn are_equal(mine: &[u16], theirs: &[u16]) -> bool
     requires { length mine.now ≡ length theirs.now }
     ensures { IsTrue result ↔ (mine.now ≡ theirs.now) }

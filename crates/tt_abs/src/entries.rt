@@ -28,7 +28,7 @@ pub trait EntryValue: Copy + PartialEq {
     ghost decides: { IsEquality Self.eq };
 }
 
-/// Whether functions with their bodies are the same, in two lists of one length. By bits alone, so that no entry takes a branch.
+/// Whether functions with their bodies are the same, in two lists of one length. Compares bits only, so that no entry takes a branch.
 fn are_equal(mine: &[(u16, u32)], theirs: &[(u16, u32)]) -> bool
     requires { length mine.now ≡ length theirs.now }
     ensures { IsTrue result ↔ (mine.now ≡ theirs.now) }

@@ -368,7 +368,7 @@ impl Stack {
         self.wide.clear();
         self.codes.clear();
         self.codes.extend_from_slice(other.codes.as_slice())?;
-        // The usual case.
+        // The usual case: no cell is wide.
         if other.wide.is_empty() {
             return Ok(());
         }

@@ -73,7 +73,7 @@ impl<'a> Font<'a> {
     ghost use Rattle.tt_font.specs.GlyphParts.{glyph_data};
 
     /// Reads the bytes of a font file. No glyph and no program is copied, and the memory that is taken grows with the number of
-    /// glyphs alone, once `loca` is known to have an entry for each.
+    /// glyphs only, once `loca` is known to have an entry for each.
     ///
     /// Errors: the first of these that holds, or `OutOfMemory`, which is returned only where none of the first five holds.
     /// 1. Fewer than 12 bytes (`DirectoryTruncated`), the version (`NotSfnt`), fewer bytes than the records of the directory

@@ -24,7 +24,7 @@ use thiserror::Error;
 #[error("read")]
 pub struct ReadFailed;
 
-/// A write failed, or took no byte of at least one.
+/// A write failed, or took no byte though there was one.
 #[derive(Clone, Copy, Debug, PartialEq, Eq, Error)]
 #[error("write")]
 pub struct WriteFailed;

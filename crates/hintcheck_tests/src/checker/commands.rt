@@ -68,7 +68,7 @@ fn helps(rt: HostRuntime) {
     }
 }
 
-/// Whether a write that fails behind so many bytes is told on the error output, if there is room, and by the status; `whole` is what is
+/// Whether a write that fails after so many bytes is told on the error output, if there is room, and by the status; `whole` is what is
 /// printed where no write fails.
 fn tells_failed_write<R: Files + AllocGlobal>(
     rt: &R,
@@ -86,7 +86,7 @@ fn tells_failed_write<R: Files + AllocGlobal>(
         && cut.len() == room.min(16)
 }
 
-/// Whether that is so behind each number of bytes.
+/// Whether that is so after each number of bytes.
 fn tells_failed_writes_of<R: Files + AllocGlobal>(rt: &R, words: &[&str]) -> bool {
     let (status, whole, err) = printed(rt, words, ROOM, 0);
     for room in 0..whole.len() {
