@@ -66,13 +66,13 @@ lands_stands a fs at does gs next rest stack best always =
         let same : w.result ≡ goes_to (record w.old { frames = gs }) (rest w.old) next = cc in
         (ap (λ x. x.frames) w.new_is ∙ ap (λ x. x.after.frames) same, ap (λ x. x.offset) w.new_is ∙ ap (λ x. x.after.offset) same)
 
--- a machine with these numbers on its stack that has the listed functions alone
+-- a machine with these numbers on its stack that has only the listed functions
 exact_machine : (a : Abstract) (fs : List Frame) (at : ℕ) (ns : List ℤ) → CoversStack a.stack ns → (m : Machine) × Stands a fs at m × (m.stack ≡ ns) × (m.functions ≡ a.functions)
 exact_machine a fs at ns d =
     let (g, c) = some_graphics a.registers.graphics in
     (machine_with a fs at g ns (some_area a), machine_stands a fs at g ns (some_area a) c d (area_covered a), refl, refl)
 
--- The called function: some covered number with the listed functions alone names none, or each covered number with whatever functions
+-- The called function: some covered number, with only the listed functions, names none, or each covered number, with whatever functions
 -- are covered names the same body.
 
 abbrev CallsAs : Setting → List (ℕ × ℕ) → Cell → Tested ℕ → Type 0

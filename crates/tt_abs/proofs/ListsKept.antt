@@ -1,4 +1,4 @@
--- What the outcome on cells keeps of the functions and the storage area: they change where FDEF defines a function whose number is
+-- What the outcome on cells keeps of the functions and the storage area: they change only where FDEF defines a function whose number is
 -- below maxFunctionDefs, and where WS stores at an index below maxStorage.
 use Rattle.std.specs.Prelude.{ℤ, pos, negsuc, ◌^◌, not, Option, nat_eq, nat_lt, nat_le, if◌then◌else◌}
 use Rattle.std.specs.List.{AllByRecursion}
@@ -198,7 +198,7 @@ pub record DefinesAt (s : Setting) (offset : ℕ) : Type 0 where
   pub to : ℕ
   pub leads : after_fdef (program_of s frames) at ≡ Some to
 
--- What is kept: P says it of the functions and the storage area.
+-- What is kept: P says it about the functions and the storage area.
 module _ (s : Setting) (P : List (ℕ × ℕ) → (ℕ → Cell) → Type 0)
     (defines : (functions : List (ℕ × ℕ)) (area : ℕ → Cell) (n offset : ℕ) → P functions area → n < s.limits.functions → offset < 2 ^ 31 → DefinesAt s offset
     → P (with_entry n (body_name s.kind offset) functions) area)
@@ -229,7 +229,7 @@ module _ (s : Setting) (P : List (ℕ × ℕ) → (ℕ → Cell) → Type 0)
       (stores_taken s a.registers.graphics line.operands line.updates a.stack there) (λ t k.
       holds_any IsKept (test_cell_uses s a.registers.graphics line.uses) _ (λ ok. all_updated_kept a.registers.graphics a.functions t line.updates a.registers k h))
 
-  -- What changes the stack alone.
+  -- What changes only the stack.
 
   shuffled_kept : (op : StackOp) (a : Abstract) → IsKept a → Holds IsKept (shuffled_cells op a)
   shuffled_kept Dup a h = holds_any IsKept (top a.stack) _ (λ t. h)

@@ -25,7 +25,7 @@ use Rattle.tt_abs.proofs.EntryEdits.{Rises-with}
 use Rattle.tt_abs.proofs.ListsKept.{DefinesAt, lists_kept, are_shallow}
 use Rattle.tt_abs.proofs.RangesKept.{keeps_range}
 
--- what all have, one has
+-- what holds for all holds for one
 pub one_of_all : {X : Type 0} (P : X → Type 0) (xs : List X) (i : ℕ) (x : X) → AllByRecursion P xs → slice_get xs i ≡ Some x → P x
 one_of_all P [] i x h e = absurd (cc)
 one_of_all P (y ∷ ys) zero x h e = let same : y ≡ x = cc in subst P same h.0

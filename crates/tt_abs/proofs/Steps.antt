@@ -32,7 +32,7 @@ use Rattle.tt_abs.proofs.Ways.{transfers_to_as, behind_stands}
 use Rattle.tt_abs.proofs.Depth.{depth_of_ways, AreBelow, monotone_ways}
 use Rattle.tt_abs.proofs.Branches.{stands_there, fails_there, controlled_stands}
 
--- What leads nowhere else keeps the frames.
+-- What doesn't lead elsewhere keeps the frames.
 
 abbrev KeepsFrames : Machine → Tested Outcome → Type 0
 KeepsFrames m t = (o : Outcome) → t ≡ Ok o → o.after.frames ≡ m.frames

@@ -1,4 +1,4 @@
--- Each plain line of the table looks only into tested operands, stores and reads only at tested indices, and changes or pushes.
+-- Each plain line of the table reads only tested operands, stores and reads only at tested indices, and changes or pushes.
 use Rattle.std.proofs.Common.{◌≡◌, ℕ, List, [], ◌∷◌, refl, sym, ◌∙◌, ap, Bool, true, false}
 use Rattle.std.specs.Prelude.{◌&&◌, if◌then◌else◌}
 use Rattle.std.proofs.lemmas.Bool.{and_parts}

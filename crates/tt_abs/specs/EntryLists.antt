@@ -5,7 +5,7 @@ use Rattle.std.specs.Bool.{Decides}
 use Rattle.tt_abs.specs.Orders.{Order}
 use Rattle.tt_abs.specs.Entries.{Rises, listed}
 
--- the test tells whether two values are equal
+-- the test says whether two values are equal
 abbrev pub IsEquality : {V : Type 0} → (V → V → Bool) → Type 0
 IsEquality {V} same = (v w : V) → Decides (same v w) (v ≡ w)
 
@@ -45,7 +45,7 @@ abbrev pub entries_from : {V : Type 0} → ℕ → List (ℕ × V) → List (ℕ
 entries_from n [] = []
 entries_from n (x ∷ xs) = if nat_lt x.0 n then entries_from n xs else x ∷ xs
 
--- what is left of the second list when the first has gone by
+-- what is left of the second list after a pass along the first
 abbrev pub missing_entries : {V : Type 0} → (V → V → Bool) → List (ℕ × V) → List (ℕ × V) → List (ℕ × V)
 missing_entries same [] b = b
 missing_entries same (e ∷ es) b = missing_entries same es (behind_entry same e b)

@@ -1,4 +1,4 @@
--- Good families, said of machines: what a family of abstract states, one at each of some places, has to be for a program.
+-- Good families, described by machines: what a family of abstract states, one at each of some places, has to be for a program.
 use Rattle.std.specs.Prelude.{◌≡◌, ◌↔◌, ℕ, ◌≤◌, List, Option, Some, Err, false, length, slice_get}
 use Rattle.tt_code.specs.Runs.{Faults, Steps, outcome}
 use Rattle.tt_code.specs.Settings.{Setting}

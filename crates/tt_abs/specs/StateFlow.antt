@@ -24,7 +24,7 @@ CallFits f = (f.body < 2 ^ 32) × (f.call + 1 < 2 ^ 31)
 abbrev pub CallsFit : List Frame → Type 0
 CallsFit fs = AllByRecursion CallFits fs
 
--- a program can come there
+-- a program can reach this place
 pub record IsPlace (p : Place) : Type 0 where
   pub frames : FramesFit p.0
   pub calls : CallsFit p.0

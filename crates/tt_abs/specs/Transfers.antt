@@ -92,7 +92,7 @@ test_cell_uses s a (u ∷ us) = do
 
 -- Plain lines.
 
--- what changes read in cells whose tests have passed
+-- what changes read from cells whose tests have passed
 abbrev pub index_in : Cell → ℕ
 index_in (Known k) = natural k
 index_in Unknown = 0

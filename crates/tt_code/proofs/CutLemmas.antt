@@ -56,7 +56,7 @@ pub all_more : (is : List Instruction) (i : List ℕ) → AllByRecursion IsInstr
 all_more [] i p q = (q, tt)
 all_more (x ∷ is) i p q = (p.0, all_more is i p.1 q)
 
--- the zeros inside an instruction begin no piece
+-- no piece begins with the zeros inside an instruction
 inside : (r ls bs : List ℕ) → pieces (replicate (length r) 0 ++ ls) (r ++ bs) ≡ pieces ls bs
 inside [] ls bs = refl
 inside (x ∷ r) ls bs = inside r ls bs
@@ -80,7 +80,7 @@ no_longer (i ∷ is) (j ∷ js) rest other p q e none =
     let shorter = no_longer is js rest other p.1 q.1 (append_cancel_left i _ _ moved) none in
     simp length-append (rw same (omega arith))
 
--- the bytes that a length says, where there is one
+-- as many bytes as a length says, where there is one
 abbrev pub piece_at : ℕ → List ℕ → Option (List ℕ)
 piece_at zero bytes = None
 piece_at (suc n) bytes = Some (take (suc n) bytes)
@@ -158,7 +158,7 @@ found_is [] p o i e = let wrong : None ≡ Some i = e in cc
 found_is (x ∷ is) p zero i e = let same : x ≡ i = cc in subst IsInstruction same p.0
 found_is (x ∷ is) p (suc o) i e = found_is is p.1 (suc o - length x) i (found_behind x is o i e)
 
--- the same of a program as it is kept
+-- the same for a program as it is kept
 pub at_kept : (ls bs : List ℕ) (is : List Instruction) → IsLaid ls bs → pieces ls bs ≡ is → (o : ℕ) → instruction_at is o ≡ piece_at (get_or ls o 0) (drop o bs)
 at_kept ls bs is kept e o =
     ap (λ t. instruction_at t o) (sym e) ∙ at_is (pieces ls bs) kept.is_cut.each o
@@ -197,7 +197,7 @@ cannot bytes rest is offset b none left e =
           omega (arith, size_is js, size_is is);
     }
 
--- one instruction more
+-- one more instruction
 pub begins_more : (bytes rest : List ℕ) (is : List Instruction) (n : ℕ) → BeginsWith bytes is rest → IsInstruction (take n rest) → BeginsWith bytes (is ++ take n rest ∷ []) (drop n rest)
 begins_more bytes rest is n b p = record {
   joined = rw (concat_more, append_assoc, take-append-drop) b.joined;

@@ -1,4 +1,4 @@
--- What the lines of the instruction table say that push, move, compute and call. Stacks have their top first.
+-- What the lines of the instruction table that push, move, compute and call do. Stacks have their top first.
 use Rattle.std.proofs.Common.{◌≡◌, [], ◌∷◌, Some, refl}
 use Rattle.std.specs.Prelude.{pos, negsuc}
 use Rattle.tt_code.specs.Settings.{One}

@@ -25,7 +25,7 @@ the_main_program_goes_on_behind_an_endf : body_of_offset (0x58 ∷ 0x2c ∷ 0x2d
 unfolding structure
 the_main_program_goes_on_behind_an_endf = refl
 
--- Pushed data are no instructions.
+-- Pushed data aren't instructions.
 an_if_leads_behind_its_else : if_leads (0x58 ∷ 0x40 ∷ 0x01 ∷ 0x1b ∷ 0x1b ∷ 0x59 ∷ []) 0 ≡ Some 5
 unfolding structure
 an_if_leads_behind_its_else = refl

@@ -9,7 +9,7 @@ use Rattle.tt_code.proofs.ProgramLemmas.{all_after}
 use Rattle.tt_code.proofs.LookupLemmas.{compare}
 use Rattle.tt_code.proofs.StructureLaws.{each_before, each_joined}
 
--- One instruction more can go on, so fewer can.
+-- Where more instructions can go on, fewer can.
 shorter_goes_on : (x r : List Instruction) (i : Instruction) → AllByRecursion IsInstruction r → CanGoOn (x ++ (i ∷ r)) → CanGoOn (x ++ (i ∷ []))
 shorter_goes_on x r i a (rest, ok, l) =
     (r ++ rest, each_joined IsInstruction r rest a ok, subst IsStructured (append_assoc x (i ∷ r) rest ∙ sym (append_assoc x (i ∷ []) (r ++ rest))) l)
@@ -38,7 +38,7 @@ one_fault is k m each (inr f) (inl g) =
     absurd (g.cannot (shorter_goes_on g.before g.after g.i (all_after g.before g.after g.i ok) (subst CanGoOn g.whole f.can_go_on)))
 one_fault is k m each (inr f) (inr g) = sym f.offset ∙ g.offset
 
--- Bytes that can't be cut have one such offset.
+-- Bytes that can't be cut have only one such offset.
 pub one_uncut : (bytes : List ℕ) (k m : ℕ) → CannotBeCut bytes k → CannotBeCut bytes m → k ≡ m
 one_uncut bytes k m f g =
     let a = g.longest f.reached.0 f.reached.1 f.reached.2 in

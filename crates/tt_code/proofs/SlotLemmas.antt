@@ -390,7 +390,7 @@ map-replicate : {A B : Type 0} (f : A → B) (n : ℕ) (a : A) → map f (replic
 map-replicate f zero a = refl
 map-replicate f (suc n) a = ap (λ xs. f a ∷ xs) (map-replicate f n a)
 
--- the slots of one instruction more
+-- the slots of one more instruction
 map-grown : {B : Type 0} (f : Slot → B) (mid : List Slot) (slot : Slot) (m : ℕ) → map f (mid ++ (slot ∷ replicate m inside)) ≡ map f mid ++ (f slot ∷ replicate m (f inside))
 map-grown f mid slot m = map-append f mid (slot ∷ replicate m inside) ∙ ap (λ xs. map f mid ++ (f slot ∷ xs)) (map-replicate f m inside)
 

@@ -52,7 +52,7 @@ place (a ∷ first) e second (b ∷ before) i rest h =
       | later between p r ↦ later between (cc) r
     ]
 
--- Looking for an end passes over a list of the grammar.
+-- The search for an end passes over a list of the grammar.
 
 -- how many IFs are open after an IF
 abbrev deeper : Word → ℕ → ℕ
@@ -117,7 +117,7 @@ over_definition opener Eif n d = absurd d
 over_definition opener Endf n d = absurd d
 over_definition opener Other n d = absurd d
 
--- the end of a definition is passed over, except by what looks for one
+-- the end of a definition is passed over, except by the search for one
 abbrev PassesEndf : Word → Type 0
 PassesEndf opener = (n : ℕ) → still_open opener Endf n ≡ Some n
 
@@ -449,7 +449,7 @@ stands_found is at i each s =
 pub found_iff_stands : (is : List Instruction) (at : ℕ) (i : Instruction) → AllByRecursion IsInstruction is → (instruction_at is at ≡ Some i) ↔ StandsAt is at i
 found_iff_stands is at i each = (found_stands is at i, stands_found is at i (each_bytes is each))
 
--- an answer that the grammar pins is that of the function
+-- an answer that the grammar determines is that of the function
 pub leads_value : (opener : Word) (is : List Instruction) (at : ℕ) (found : Option ℕ) → IsStructured is → AllByRecursion IsInstruction is → Opens opener
     → IfSome found (GoesTo opener is at) → ((to : ℕ) → GoesTo opener is at to → found ≡ Some to) → found ≡ leads opener is at
 leads_value opener is at (Some to) structured each opens there only = sym (goes_leads (each_bytes is each) there)

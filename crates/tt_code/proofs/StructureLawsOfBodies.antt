@@ -399,7 +399,7 @@ body_iff_is is at i b structured each s = (λ h. (is_body is at b structured eac
 pub stands_in_body : {is : List Instruction} {at : ℕ} {i : Instruction} → IsStructured is → AllByRecursion IsInstruction is → StandsAt is at i → (b : Body) × IsBodyAt is at b
 stands_in_body structured each s = let found : Body = body_after body.Main 0 s.before in (found, after_is found structured each s refl)
 
--- an answer that the grammar pins is that of the function
+-- an answer that the grammar determines is that of the function
 pub body_value : (is : List Instruction) (at : ℕ) (found : Option Body) → IsStructured is → AllByRecursion IsInstruction is
     → IfSome found (λ b. ((i : Instruction) × StandsAt is at i) × IsBodyAt is at b) → IfNone found ((i : Instruction) → StandsAt is at i → ⊥) → found ≡ body_at is at
 body_value is at (Some b) structured each there absent = sym (body_is b structured each there.0.1 there.1)

@@ -1,4 +1,4 @@
--- That the definitions that go step by step mean what they are meant to mean.
+-- The definitions that go step by step mean what they are meant to mean.
 use Rattle.std.specs.Prelude.{◌≡◌, ℕ, zero, suc, ◌+◌, ◌<◌, ◌≤◌, ◌⊎◌, ◌||◌, List, [], ◌∷◌, length, Bool, true, false, not, nat_lt, nat_le, Option, Some, None, MatchOption, if◌then◌else◌}
 use Rattle.std.specs.List.{list_any}
 use Rattle.std.specs.Option.{option_or}

@@ -247,7 +247,7 @@ fn numbers_reasons(rt: HostRuntime) {
     }
 }
 
-/// The texts that no test of the command can call forth.
+/// The texts that no test of the command can produce.
 #[test]
 fn names_what_no_verdict_has(rt: HostRuntime) -> Result<(), Fail> {
     let missing = format!(in rt.alloc(); "{}", Reason::MissingPoint)?;

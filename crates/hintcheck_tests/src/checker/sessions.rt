@@ -10,7 +10,7 @@ use std::alloc::Global;
 use tt_font::Font;
 use tt_stream::{ReadFailed, Source};
 
-/// Bytes in memory, which are read without a failure until a read is to fail.
+/// Bytes in memory, which are read without a failure until a read should fail.
 #[derive(Drop)]
 struct Bytes<'a> {
     left: &'a [u8],

@@ -40,8 +40,8 @@ fn stored_certificates(rt: HostRuntime) {
     }
 }
 
-/// Returns the first length at which a certificate that is cut short isn't reported as such, or a read that fails there, or something else than a beginning
-/// of the new certificate was written.
+/// Returns the first length at which a certificate that is cut short isn't reported as such, or a read that fails there, or at which
+/// something else than a beginning of the new certificate was written.
 fn first_cut(alloc: Global, old: &[u8], new: &[u8]) -> Option<usize> {
     for length in 0..old.len() {
         let cut = &old[..length];

@@ -14,7 +14,7 @@ const PUSHED_ELSE: [u8; 6] = [0x58, 0x40, 0x01, 0x1b, 0x1b, 0x59];
 /// A definition of an instruction.
 const INSTRUCTION: [u8; 3] = [0x89, 0x20, 0x2d];
 
-/// No IF, ELSE or FDEF.
+/// The targets where there is no IF, ELSE or FDEF.
 const NOWHERE: [Option<u32>; 3] = [None; 3];
 
 /// Whether control goes to these places after the IF, the ELSE and the FDEF at an offset, which belongs to this body.
