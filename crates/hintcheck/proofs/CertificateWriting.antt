@@ -16,6 +16,7 @@ use Rattle.tt_font.specs.Reading.{FontData, GlyphData}
 use Rattle.tt_stream.specs.Streams.{AppendsBeginning}
 use Rattle.hintcheck.specs.CertificateTexts.{AreGlyphTexts, IsCertificate, IsEndedText, IsPassingCertificate, IsReadableListing, IsTextOf, WritesBeginning, WritesText, no_glyphs, one_more}
 use Rattle.hintcheck.specs.FindingSessions.{AreFirstSections, IsCertificateBegun, IsForFinding, IsFoundAnswer, IsFoundFor, IsFoundToEnd, IsOutcomeByFinding, cvt_found, cvt_refused, font_found, font_refused, glyph_found, glyph_refused, none_yet, one_program_more}
+use Rattle.hintcheck.specs.FontLooks.{AreAllRefused}
 use Rattle.hintcheck.specs.FontPrograms.{cvt_subject, font_of, font_subject, glyph_subject}
 use Rattle.hintcheck.specs.Programs.{Subject}
 use Rattle.hintcheck.specs.SessionStages.{AreSectionsFrom, AreSomeSections, all_there, cvt_next, font_first, glyph_next}
@@ -24,6 +25,7 @@ use Rattle.hintcheck.specs.declared.session.Outcome.{Outcome}
 use Rattle.hintcheck.proofs.CheckedSections.{all_dropped, dropped}
 use Rattle.hintcheck.proofs.CheckedTexts.{is_passing}
 use Rattle.hintcheck.proofs.LookLemmas.{calls_in_turn}
+use Rattle.hintcheck.proofs.SecondLooks.{AreLeastFrom, none_refused_at_start, none_refused_next}
 use Rattle.hintcheck.proofs.SessionRuns.{calls_left}
 use Rattle.hintcheck.proofs.TextBeginnings.{begins_any, begins_on, begins_whole}
 
@@ -160,9 +162,10 @@ pub record IsWrittenSoFar (d : FontData) (first : Option (List ℕ)) (s : Standi
   pub going : s.stage ≡ over → ⊥
   pub written : WritesText first now (TextsBefore s.font s.stage)
   pub first_ones : WritesText first now (AreFirstSections s.font s.stage)
+  pub least : AreLeastFrom s.font s.stage
 
-pub nothing_found : (d : FontData) (w : Option (List ℕ)) (s : Standing) → s ≡ new_standing d → IsWrittenSoFar d w s w
-nothing_found d w s is =
+pub nothing_found : (d : FontData) (w : Option (List ℕ)) (s : Standing) → AreAllRefused d [] → s ≡ new_standing d → IsWrittenSoFar d w s w
+nothing_found d w s all is =
     let S : Standing → Type 0 = λ t. IsWrittenSoFar d w t w in
     subst S (sym is) (record {
       font = refl;
@@ -171,6 +174,7 @@ nothing_found d w s is =
       going = λ e. cc;
       written = ([], (λ rest more. more), appends_nothing w);
       first_ones = ([], none_yet, appends_nothing w);
+      least = none_refused_at_start d all;
     })
 
 pub found_next : (d : FontData) (first old new : Option (List ℕ)) (s t : Standing) (answer : Option (Outcome × Option Found)) (o : Outcome) (found : Option Found) (x : Found)
@@ -183,6 +187,7 @@ found_next d first old new s t answer o found x is is_found so_far answers font 
     let outcome : IsOutcomeByFinding s.font s.stage o (Some x) t.stage = subst F is_found (subst A is answers) in
     let W : FontData → Type 0 = λ y. WritesText first new (TextsBefore y t.stage) in
     let F1 : FontData → Type 0 = λ y. WritesText first new (AreFirstSections y t.stage) in
+    let L : FontData → Type 0 = λ y. AreLeastFrom y t.stage in
     record {
       font = font ∙ so_far.font;
       none = none;
@@ -190,6 +195,7 @@ found_next d first old new s t answer o found x is is_found so_far answers font 
       going = goes_on s.font s.stage t.stage o x outcome;
       written = subst W (sym font) (texts_next s.font s.stage t.stage o x first old new so_far.written outcome (record { finished = finished; fits = fits }) appends);
       first_ones = subst F1 (sym font) (first_next s.font s.stage t.stage o x first old new so_far.first_ones outcome appends);
+      least = subst L (sym font) (none_refused_next s.font s.stage t.stage answer o found is answers so_far.least).1;
     }
 
 pub fewer_after : (s t : Standing) (answer : Option (Outcome × Option Found)) (o : Outcome) (found : Option Found) → answer ≡ Some (o, found) → t.font ≡ s.font

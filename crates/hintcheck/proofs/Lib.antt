@@ -22,3 +22,6 @@ pub mod UpgradeSteps
 pub mod SessionSteps
 pub mod SessionRuns
 pub mod FindingSteps
+pub mod SecondLooks
+pub mod FailedReads
+pub mod UpgradeReads

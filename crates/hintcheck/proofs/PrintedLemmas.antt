@@ -4,16 +4,17 @@ use Rattle.std.specs.Io.KnownBytes.{Appends}
 use Rattle.hintcheck_words.specs.Requests.{Request, bare, check, find, list, upgrade, verdict}
 use Rattle.hintcheck.specs.Commands.{IsForVerdict}
 use Rattle.hintcheck.specs.Listing.{HoldListedProgram, HoldToldProgram}
+use Rattle.hintcheck.specs.MeansSafe.{IsVerdictAsked}
 use Rattle.hintcheck.specs.Printed.{Prints, PrintsListing, PrintsUpgrade, PrintsVerdict}
 use Rattle.hintcheck.specs.Texts.{verdict_text}
 use Rattle.hintcheck.specs.Verdicts.{Judgement}
 use Rattle.hintcheck.specs.declared.commands.faults.CommandFault.{CommandFault}
 
 -- a verdict's lines, by what is said of the status and of the lines
-pub prints_verdict : (r : Result ℕ CommandFault) (v : Judgement) (old new : Option (List ℕ)) → IfOk r (λ status. status ≡ 0 → v.refused ≡ [])
-    → IfOk r (λ status. status ≡ 1 → v.refused ≢ []) → OnOk r (Appends old new (verdict_text v)) → IfOk r (λ status. PrintsVerdict status old new)
-prints_verdict (Ok status) v old new accepted refused written = record { judgement = v; accepted = accepted; refused = refused; written = written }
-prints_verdict (Err e) v old new accepted refused written = tt
+pub prints_verdict : (q : Request) (r : Result ℕ CommandFault) (v : Judgement) (old new : Option (List ℕ)) → IsVerdictAsked q v → IfOk r (λ status. status ≡ 0 → v.refused ≡ [])
+    → IfOk r (λ status. status ≡ 1 → v.refused ≢ []) → OnOk r (Appends old new (verdict_text v)) → IfOk r (λ status. PrintsVerdict q status old new)
+prints_verdict q (Ok status) v old new given accepted refused written = record { judgement = v; given = given; accepted = accepted; refused = refused; written = written }
+prints_verdict q (Err e) v old new given accepted refused written = tt
 
 -- a listing, by what is said of the bytes
 pub prints_listing : (r : Result ℕ CommandFault) (bytes word : List ℕ) (old new : Option (List ℕ)) → IfOk r (λ status. status ≡ 0 → HoldListedProgram bytes word old new)
@@ -22,7 +23,7 @@ prints_listing (Ok status) bytes word old new listed told = record { bytes = byt
 prints_listing (Err e) bytes word old new listed told = tt
 
 -- where a verdict is asked for, its lines are the answer
-pub prints_for_verdict : (q : Request) (status : ℕ) (old new : Option (List ℕ)) → IsForVerdict q → PrintsVerdict status old new → Prints q status old new
+pub prints_for_verdict : (q : Request) (status : ℕ) (old new : Option (List ℕ)) → IsForVerdict q → PrintsVerdict q status old new → Prints q status old new
 prints_for_verdict (bare maxp cvt points contours program) status old new for_verdict printed = printed
 prints_for_verdict (verdict font) status old new for_verdict printed = printed
 prints_for_verdict (find font certificate) status old new for_verdict printed = printed

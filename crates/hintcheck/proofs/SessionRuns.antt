@@ -1,25 +1,33 @@
 -- What the calls of a session come to, one after the other.
-use Rattle.std.proofs.Common.{◌≡◌, inl, inr, ℕ, ◌+◌, ◌-◌, ◌<◌, List, [], ◌∷◌, ◌++◌, length, drop, Option, Some, None, Ok, Err, refl, sym, ◌∙◌, ap, subst, arith, append-nil}
+use Rattle.std.proofs.Common.{◌≡◌, inl, inr, ℕ, ◌+◌, ◌-◌, ◌<◌, List, [], ◌∷◌, ◌++◌, length, drop, Option, Some, None, Ok, Err, refl, sym, ◌∙◌, ap, subst, arith, append-nil, append_assoc, zero-add}
 use Rattle.std.specs.Prelude.{slice_get}
+use Rattle.std.specs.Io.KnownBytes.{Consumes}
+use Rattle.std.proofs.KnownBytes.{Consumes-nil, Consumes-trans}
 use Rattle.std.proofs.lemmas.Bool.{cases_lt}
+use Rattle.std.proofs.lemmas.List.{length-append}
 use Rattle.std.proofs.lemmas.Option.{slice_get_within}
 use Rattle.tt_code.specs.Cut.{Instruction}
 use Rattle.tt_cert.specs.Contents.{Contents}
 use Rattle.tt_cert_file.specs.Answers.{input_at}
 use Rattle.tt_cert_file.specs.declared.form.Form.{Form}
 use Rattle.tt_cert_file.specs.declared.name.Name.TheVariants as name
-use Rattle.tt_cert_file.specs.Readers.{Input}
+use Rattle.tt_cert_file.specs.Readers.{Input, place_after}
 use Rattle.tt_font.specs.Reading.{FontData, GlyphData}
 use Rattle.hintcheck.specs.Certificates.{AreChecked, AreSectionsChecked, Finding, IsChecked, IsSectionOf, PassesToEnd, at_end, both_passed, cvt_refused, followed, font_refused, no_cvt_section, no_font_section, no_section, passed, refused, refused_before, sections_checked}
 use Rattle.hintcheck.specs.CheckedFonts.{EndsGood, HasGoodFamilies, IsTold, all_refused, bytes_in}
 use Rattle.hintcheck.specs.FontPrograms.{cvt_subject, font_of, font_subject, glyph_subject}
+use Rattle.hintcheck.specs.FailedReads.{EndsInCall, EndsInSection, HasRead, IsUnbroken, after_all, in_section, in_sections}
+use Rattle.hintcheck.specs.FailedReads as cut
 use Rattle.hintcheck.specs.Programs.{HasGoodFamily}
 use Rattle.hintcheck.specs.SessionStages.{ListsOutcome}
-use Rattle.hintcheck.specs.Sessions.{AnswersNext, IsFaultAt, IsLast, IsNextFault, IsNothingLeft, IsOutcomeBySection, IsSoundAnswer, IsSoundOutcome, ReadsOn, Stage, Standing, after_font, all_read, another_number, at_glyph, at_header, at_section, at_start, cvt_ends, cvt_fails, cvt_passes, font_ends, font_fails, font_passes, glyph_fails, glyph_goes_on, glyph_passes, good_cvt, good_font, good_glyph, in_header, last_glyph, more_follows, new_standing, no_cvt, no_font, no_glyph, no_header_read, none_is_left, over, where_it_was}
+use Rattle.hintcheck.specs.Sessions.{AnswersNext, IsFaultAt, IsLast, IsNextFault, IsNothingLeft, IsOutcomeBySection, IsSoundAnswer, IsSoundOutcome, ReadsOn, Stage, Standing, after_font, all_read, already_over, another_number, at_glyph, at_header, at_section, at_start, cvt_ends, cvt_fails, cvt_passes, font_ends, font_fails, font_passes, glyph_fails, glyph_goes_on, glyph_passes, good_cvt, good_font, good_glyph, in_header, last_glyph, more_follows, new_standing, no_cvt, no_font, no_glyph, no_header_read, none_is_left, over, where_it_was}
 use Rattle.hintcheck.specs.Certificates.{no_header, other_number}
+use Rattle.hintcheck.specs.declared.certified.CheckFontFault.{CheckFontFault}
+use Rattle.hintcheck.specs.declared.certified.CheckFontFault.TheVariants as fault
 use Rattle.hintcheck.specs.declared.report.Refused.{Refused}
 use Rattle.hintcheck.specs.declared.session.Outcome.{Outcome}
 use Rattle.hintcheck.proofs.CheckedSections.{all_dropped, dropped, one_more}
+use Rattle.hintcheck.proofs.FailedReads.{ends_there, next_always, place_so_far}
 
 -- the finding, after that a program is refused, or none
 abbrev pub before : Option Refused → Finding → Finding
@@ -199,6 +207,13 @@ still_good d s t o rs rs' sound listed till none =
     let both = listed_none rs rs' o.refused listed none in
     good_till_next d s t o sound both.1 (till both.0)
 
+-- What it has read, and what its further calls come to is what the check comes to, whatever follows.
+pub record IsReadSoFar (d : FontData) (bytes : Option (List ℕ)) (s : Standing) (left : Option (List ℕ)) (rs : List Refused) : Type 0 where
+  pub front : List ℕ
+  pub consumed : Consumes bytes left front
+  pub further : (n : ℕ) → place_after (place_so_far s.read) n ≡ place_after 0 (length front + n)
+  pub comes : (rest : List ℕ) (finding : Finding) → ComesFrom s.font s.stage s.read (Some rest) finding → IsChecked d (front ++ rest) (all_refused rs finding)
+
 -- A session has checked the programs before its stage: these are the refused ones, and what its further calls come to is what the check comes to.
 pub record IsCheckedSoFar (d : FontData) (bytes : Option (List ℕ)) (s : Standing) (left : Option (List ℕ)) (rs : List Refused) : Type 0 where
   pub font : s.font ≡ d
@@ -207,6 +222,7 @@ pub record IsCheckedSoFar (d : FontData) (bytes : Option (List ℕ)) (s : Standi
   pub good : rs ≡ [] → AreGoodTill s.font s.stage
   pub told : IsTold bytes → IsTold left
   pub comes : IsTold bytes → (finding : Finding) → ComesFrom s.font s.stage s.read left finding → IsChecked d (bytes_in bytes) (all_refused rs finding)
+  pub so_far : IsTold bytes → IsReadSoFar d bytes s left rs
 
 pub nothing_checked : (d : FontData) (bytes : Option (List ℕ)) (s : Standing) (rs : List Refused) → s ≡ new_standing d → rs ≡ [] → IsCheckedSoFar d bytes s bytes rs
 nothing_checked d bytes s rs is none =
@@ -218,12 +234,13 @@ nothing_checked d bytes s rs is none =
       starts = λ e. refl;
       good = λ e. tt;
       told = λ told. told;
-      comes = λ told finding checked. same finding checked;
+      comes = λ told finding checked. same (bytes_in bytes) finding checked;
+      so_far = λ told. record { front = []; consumed = Consumes-nil bytes; further = λ n. ap (place_after 0) (sym (zero-add n)); comes = λ rest finding checked. same rest finding checked };
     }))
   where
-    same : (finding : Finding) → IsChecked d (bytes_in bytes) finding → IsChecked d (bytes_in bytes) (all_refused [] finding)
-    same (Ok rs) checked = checked
-    same (Err place) checked = checked
+    same : (of : List ℕ) (finding : Finding) → IsChecked d of finding → IsChecked d of (all_refused [] finding)
+    same of (Ok rs) checked = checked
+    same of (Err place) checked = checked
 
 sound_outcome : (d : FontData) (s t : Stage) (answer : Option Outcome) (o : Outcome) → answer ≡ Some o → IsSoundAnswer d s answer t → IsSoundOutcome d s o t
 sound_outcome d s t answer o is sound = let S : Option Outcome → Type 0 = λ a. IsSoundAnswer d s a t in subst S is sound
@@ -253,6 +270,23 @@ checked_next d bytes s t left left' rs rs' answer o is so_far font none starts s
           let C : Finding → Type 0 = λ f. IsChecked d (bytes_in bytes) f in
           let rest = next_comes s t left left' o finding so_far.starts font (exact (so_far.told told)).1 comes in
           subst C (refused_so_far rs rs' o.refused finding listed) (so_far.comes told (before o.refused finding) rest);
+      so_far = λ told.
+          let known = so_far.told told in
+          let w = so_far.so_far told in
+          let a = next_always s t left left' o known (exact known).0 (exact known).1 in
+          record {
+            front = w.front ++ a.front;
+            consumed = Consumes-trans bytes left left' w.front a.front w.consumed a.consumed;
+            further = λ n.
+                let long : length w.front + (length a.front + n) ≡ length (w.front ++ a.front) + n = omega (arith, length-append w.front a.front) in
+                a.further n ∙ w.further (length a.front + n) ∙ ap (place_after 0) long;
+            comes = λ rest finding comes.
+                let C : Finding → Type 0 = λ f. IsChecked d ((w.front ++ a.front) ++ rest) f in
+                let B : List ℕ → Type 0 = λ l. IsChecked d l (all_refused rs (before o.refused finding)) in
+                let more = next_comes s t (Some (a.front ++ rest)) (Some rest) o finding so_far.starts font (a.again rest) comes in
+                subst C (refused_so_far rs rs' o.refused finding listed)
+                (subst B (sym (append_assoc w.front a.front rest)) (w.comes (a.front ++ rest) (before o.refused finding) more));
+          };
     }
 
 -- the last call
@@ -274,3 +308,37 @@ all_checked_good d bytes s t left rs answer is so_far sound empty =
     let S : Option Outcome → Type 0 = λ a. IsSoundAnswer s.font s.stage a t.stage in
     let last = subst S is sound in
     subst HasGoodFamilies so_far.font (all_good s.font s.stage last.0 (so_far.good empty))
+
+-- a read failed: what was read is refused nowhere but at its end
+
+nothing_left : (d : FontData) (s : Stage) (i : Input) → IsLast d s → i.bytes ≡ [] → IsNothingLeft d i s
+nothing_left d s i none_is_left empty = already_over
+nothing_left d s i (last_glyph f p known id last) empty = all_read f p known id last empty
+
+unbroken : (d : FontData) (bytes : Option (List ℕ)) (s : Standing) (left : Option (List ℕ)) (rs : List Refused) (front : List ℕ) → (s.read ≡ None → s.stage ≡ at_start)
+    → (w : IsReadSoFar d bytes s left rs) → EndsInCall s front → IsUnbroken d (w.front ++ front)
+unbroken d bytes s left rs front starts w (cut.in_header none at) =
+    let p = place_after 0 (length front) in
+    let there : p ≡ place_after 0 (length (w.front ++ front)) =
+    ap (λ (r : Option (Form × ℕ)). place_after (place_so_far r) (length front)) (sym none) ∙ w.further (length front) ∙ ap (place_after 0) (sym (length-append w.front front)) in
+    record { finding = Err p; is_checked = w.comes front (Err p) (fault_comes s (Some front) p starts (in_header p none (no_header_read p at))); at_end = there }
+unbroken d bytes s left rs front starts w (in_sections form from reads (in_section fault)) =
+    let p = place_after from.place (length from.bytes) in
+    let there : p ≡ place_after 0 (length (w.front ++ front)) =
+    ends_there s front form from reads ∙ w.further (length front) ∙ ap (place_after 0) (sym (length-append w.front front)) in
+    record { finding = Err p; is_checked = w.comes front (Err p) (comes_on s (Some front) form from (Err p) starts reads (fails_at s.stage from p fault)); at_end = there }
+unbroken d bytes s left rs front starts w (in_sections form from reads (after_all last empty)) = record {
+  finding = all_refused rs (Ok []);
+  is_checked = w.comes front (Ok []) (comes_on s (Some front) form from (Ok []) starts reads (comes_to_end s.stage from (nothing_left s.font s.stage from last empty)));
+  at_end = tt;
+}
+
+pub read_failed : (d : FontData) (bytes : Option (List ℕ)) (s : Standing) (left new : Option (List ℕ)) (rs : List Refused) (e : CheckFontFault) → IsCheckedSoFar d bytes s left rs
+    → HasRead left new (EndsInCall s) e → HasRead bytes new (IsUnbroken d) e
+read_failed d bytes s left new rs (fault.Form place) so_far has = tt
+read_failed d bytes s left new rs (fault.Font font) so_far has = tt
+read_failed d bytes s left new rs (fault.OutOfMemory error) so_far has = tt
+read_failed d bytes s left new rs fault.Read so_far has = λ told.
+    let w = so_far.so_far told in
+    let (front, consumed, ends) = has (so_far.told told) in
+    (w.front ++ front, Consumes-trans bytes left new w.front front w.consumed consumed, unbroken d bytes s left rs front so_far.starts w ends)

@@ -34,6 +34,11 @@ abbrev pub IsNoWriteFault : CommandFault → Type 0
 IsNoWriteFault fault.Write = ⊥
 IsNoWriteFault other = Unit {0}
 
+-- what holds of the place that a fault of form names
+abbrev pub AtForm : CommandFault → (ℕ → Type 0) → Type 0
+AtForm (fault.Form place) At = At place
+AtForm other At = Unit {0}
+
 -- the fault of a text that isn't printed
 abbrev pub fault_of_print : PrintFailed → CommandFault
 fault_of_print failed.Write = fault.Write

@@ -19,3 +19,4 @@ pub mod UpgradeFaults
 pub mod Sessions
 pub mod FindingSessions
 pub mod SessionStages
+pub mod FailedReads

@@ -54,4 +54,5 @@ IsListed called (OutOfMemory e) old new = ⊥
 abbrev pub IsForCertificate : Search → Type 0
 IsForCertificate search.Verdict = ⊥
 IsForCertificate search.Certificate = Unit {0}
-IsForCertificate search.Again = Unit {0}
+IsForCertificate search.BeforeWriting = ⊥
+IsForCertificate search.Writing = Unit {0}

@@ -1,12 +1,12 @@
 -- What the exit statuses 0 and 1 say: what was asked for is safe, or refused.
-use Rattle.std.specs.Prelude.{◌≡◌, ◌≢◌, ◌≤◌, ℕ, List, [], Some, true, unwrap_or}
+use Rattle.std.specs.Prelude.{◌≡◌, ◌≢◌, ◌↔◌, ◌+◌, ◌≤◌, ℕ, All, List, [], Some, length, true, unwrap_or}
 use Rattle.tt_font.specs.Reading.{FontData, GlyphData, Reads}
 use Rattle.hintcheck_words.specs.HexWords.{Spells}
 use Rattle.hintcheck_words.specs.Requests.{Request, bare, check, find, is_taken, list, meaning, upgrade, verdict}
 use Rattle.hintcheck.specs.CommandFaults.{MeansNoFault, TellsFault}
 use Rattle.hintcheck.specs.FontPrograms.{IsSafeFont, IsSafeGlyph, IsVerdict, font_of, glyph_subject, one_glyph_font}
 use Rattle.hintcheck.specs.Listing.{HoldUnlistedProgram}
-use Rattle.hintcheck.specs.Programs.{HasGoodFamily}
+use Rattle.hintcheck.specs.Programs.{HasGoodFamily, IsRefusal}
 use Rattle.hintcheck.specs.Verdicts.{Judgement}
 
 -- The words spell a `maxp` table and a glyph program, which is safe in a font of this glyph alone.
@@ -70,6 +70,37 @@ pub record HoldRefusedFont (bytes : List ℕ) : Type 0 where
 pub record HoldFont (bytes : List ℕ) : Type 0 where
   pub font : FontData
   pub reads : Reads bytes font
+
+-- The words spell a `maxp` table and a glyph program, of which the verdict is this one: it names no refused program exactly where a family of abstract
+-- states is good for the glyph program, and else that one, with what refuses it.
+pub record SpellVerdict (maxp : List ℕ) (cvt points contours : ℕ) (program : List ℕ) (judgement : Judgement) : Type 0 where
+  pub table : List ℕ
+  pub table_spelled : Spells maxp table
+  pub glyph : GlyphData
+  pub points_are : glyph.points ≡ points
+  pub contours_are : glyph.contours ≡ contours
+  pub program_spelled : Spells program glyph.program
+  pub one : judgement.programs ≡ 1
+  pub few : length judgement.refused ≤ 1
+  pub exact : judgement.refused ≡ [] ↔ HasGoodFamily (glyph_subject (font_of (one_glyph_font table cvt glyph) [] []) [] 0 glyph)
+  pub refused : All (IsRefusal (glyph_subject (font_of (one_glyph_font table cvt glyph) [] []) [] 0 glyph)) judgement.refused
+
+-- The verdict is one on the programs of the font that stands in the bytes; where it names none, the font is safe. Which ones a check by a certificate
+-- refuses, no contract of the runtime tells, since it tells no bytes of that.
+pub record IsCheckOn (bytes : List ℕ) (judgement : Judgement) : Type 0 where
+  pub font : FontData
+  pub reads : Reads bytes font
+  pub programs : judgement.programs ≡ length font.glyphs + 2
+  pub safe : judgement.refused ≡ [] → IsSafeFont font
+
+-- The verdict is the one that is asked for: on the glyph program of `bare`; and for the others on a font that some bytes hold.
+abbrev pub IsVerdictAsked : Request → Judgement → Type 0
+IsVerdictAsked (bare maxp cvt points contours program) judgement = SpellVerdict maxp cvt points contours (unwrap_or program []) judgement
+IsVerdictAsked (verdict font) judgement = (bytes : List ℕ) × IsVerdictOn bytes judgement
+IsVerdictAsked (find font certificate) judgement = (bytes : List ℕ) × IsVerdictOn bytes judgement
+IsVerdictAsked (check font certificate) judgement = (bytes : List ℕ) × IsCheckOn bytes judgement
+IsVerdictAsked (list font program) judgement = ⊥
+IsVerdictAsked (upgrade old new) judgement = ⊥
 
 -- What is asked for is refused, as it is safe above; of `check` it says no more than that some bytes hold a font. For `list`, some bytes hold a font whose program of this name can't be cut or isn't
 -- structured. An upgrade is never refused.

@@ -1,6 +1,6 @@
 //! The check of a font by its certificate: each program by the family that its section lists.
 
-ghost use Rattle.std.specs.Prelude.{◌≡◌, ℕ, ◌<◌, ◌^◌, List, [], IfErr, IfOk, Ok, Err, OnOk, length};
+ghost use Rattle.std.specs.Prelude.{◌≡◌, ℕ, ◌+◌, ◌<◌, ◌^◌, List, [], IfErr, IfOk, Ok, Err, OnOk, length};
 ghost use Rattle.tt_code.specs.Cut.{Instruction};
 ghost use Rattle.tt_abs.specs.Entries.{Rises};
 ghost use Rattle.tt_abs.specs.Settings.{setting_of};
@@ -15,6 +15,7 @@ ghost use Rattle.tt_stream.specs.Reads.{ConsumesBeginning};
 ghost use Rattle.hintcheck.specs.CertificateFaults.{CountsCheck, IsNoFontFault, TestsInCheck};
 ghost use Rattle.hintcheck.specs.Certificates.{IsChecked, IsGoodListing, IsListingBrokenFirst, Passes, PassesToEnd};
 ghost use Rattle.hintcheck.specs.CheckedFonts.{AnswersFinding, Finds, HasGoodFamilies, IsGoodAtEnd, IsRefusedBy, IsTold, bytes_in};
+ghost use Rattle.hintcheck.specs.FailedReads.{HasRead, IsCutHeader, IsUnbroken, IsUnbrokenFor};
 ghost use Rattle.hintcheck.specs.FontLooks.{ComesToEnd, IsOfSubject, subject_in};
 ghost use Rattle.hintcheck.specs.FontPrograms.{IsFontInRange, IsSafeFont, cvt_subject, font_subject};
 ghost use Rattle.hintcheck.specs.Looks.{IsLookedAt};
@@ -98,6 +99,7 @@ pub(crate) fn read_start<S: Source>(
     ensures header { IsTold (S.remaining source.old) → Finds result (λ p. IsTold (S.remaining source.new) × (p.place ≡ 10)
         × HasHeader font.now p.form (S.remaining source.old) (S.remaining source.new)) (IsHeaderFault font.now (S.remaining source.old)) }
     ensures beginning { ConsumesBeginning (S.remaining source.old) (S.remaining source.new) }
+    ensures stopped { IfErr result (HasRead (S.remaining source.old) (S.remaining source.new) IsCutHeader) }
     ensures failures { CountsCheck result (S.failures source.old) (S.failures source.new) }
     ensures font { IfErr result IsNoFontFault }
 {
@@ -243,6 +245,7 @@ fn check_programs<S: Source>(
     ensures exact { IsTold (S.remaining source.old) → Finds result (λ refused. IsChecked font.now (bytes_in (S.remaining source.old)) (Ok refused.items))
         (λ place. IsChecked font.now (bytes_in (S.remaining source.old)) (Err place)) }
     ensures beginning { ConsumesBeginning (S.remaining source.old) (S.remaining source.new) }
+    ensures whole_units { IfErr result (HasRead (S.remaining source.old) (S.remaining source.new) (IsUnbroken font.now)) }
     ensures failures { CountsCheck result (S.failures source.old) (S.failures source.new) }
     ensures font { IfErr result IsNoFontFault }
 {
@@ -262,9 +265,11 @@ pub(crate) fn check_read_font<S: Source>(
 ) -> Result<Verdict, CheckFontFault>
     requires { IsFontInRange font.now }
     ensures safe { IfOk result (λ v. v.refused ≡ [] → IsSafeFont font.now) }
+    ensures programs { IfOk result (λ v. v.programs ≡ length font.now.glyphs + 2) }
     ensures exact { IsTold (S.remaining source.old) → Finds result (AnswersFinding font.now (bytes_in (S.remaining source.old)))
         (λ place. IsChecked font.now (bytes_in (S.remaining source.old)) (Err place)) }
     ensures beginning { ConsumesBeginning (S.remaining source.old) (S.remaining source.new) }
+    ensures whole_units { IfErr result (HasRead (S.remaining source.old) (S.remaining source.new) (IsUnbroken font.now)) }
     ensures failures { CountsCheck result (S.failures source.old) (S.failures source.new) }
     ensures font { IfErr result IsNoFontFault }
 {
@@ -295,6 +300,8 @@ pub fn check_font<S: Source>(
     // Where the check of the font by the bytes refuses nothing, no program is refused and the form isn't at fault: `find_font` writes such bytes.
     ensures accepts { IsTold (S.remaining source.old) → (d : FontData) → Reads font.now d
         → IsChecked d (bytes_in (S.remaining source.old)) (Ok []) → Finds result (λ v. v.refused ≡ []) (λ _. ⊥) }
+    // Where a read failed, what was read is at fault nowhere but at its end: no unit that was read whole breaks a rule.
+    ensures whole_units { IfErr result (HasRead (S.remaining source.old) (S.remaining source.new) (IsUnbrokenFor font.now)) }
     ensures failures { CountsCheck result (S.failures source.old) (S.failures source.new) }
     // A fault of the font is the first one of its bytes, unless memory ran out; any other answer says that they have none.
     ensures faults { TestsInCheck (font_fault font.now) result }

@@ -6,6 +6,7 @@ ghost use Rattle.tt_font.specs.Reading.{FontData, Reads};
 ghost use Rattle.hintcheck.specs.CertificateFaults.{CountsFind, IsNoFaultOfFont, TestsInFind, WritesNothing};
 ghost use Rattle.hintcheck.specs.CertificateTexts.{IsPassingCertificate, WritesBeginning, WritesText};
 ghost use Rattle.hintcheck.specs.FindingSessions.{BeginsCertificate, IsCertificateBegun};
+ghost use Rattle.hintcheck.specs.FontLooks.{AreAllRefused};
 ghost use Rattle.hintcheck.specs.FontPrograms.{IsFontInRange, IsSafeFont, IsVerdict};
 ghost use Rattle.hintcheck.specs.SessionStages.{AreSectionsFrom, AreSomeSections};
 ghost use Rattle.hintcheck.specs.Sessions.{at_start};
@@ -71,13 +72,14 @@ impl From<EncodeFault> for FindFontFault {
     }
 }
 
-/// Writes the sections of a font's programs, none of which is refused: each program is found once more, so that one family is held at a time.
+/// Writes the sections of a font's programs, none of which is refused. Each program's family is found once more, so that one is held at a time.
 fn write_sections<W: Sink>(
     alloc: Global,
     font: &Font<'_>,
     sink: &mut W,
 ) -> Result<(), FindFontFault>
-    requires { IsFontInRange font.now }
+    requires range { IsFontInRange font.now }
+    requires accepted { AreAllRefused font.now [] }
     ensures written { OnOk result (WritesText (W.contents sink.old) (W.contents sink.new) (AreSectionsFrom font.now at_start)) }
     ensures begun { OnErr result (WritesBeginning (W.contents sink.old) (W.contents sink.new) (AreSomeSections font.now)) }
     ensures failures { CountsFind result (W.failures sink.old) (W.failures sink.new) }
@@ -85,11 +87,9 @@ fn write_sections<W: Sink>(
 {
     let mut session = Session::new(font);
     let mut finder = Finder::new(alloc);
-    while let Some((outcome, found)) = session.look_next(alloc, &mut finder, Search::Again)? {
-        // The verdict has accepted each program, so that none is refused here.
-        let Some(found) = found else {
-            return Err(FindFontFault::OutOfMemory(AllocError));
-        };
+    while let Some((outcome, found)) = session.look_next(alloc, &mut finder, Search::Writing)? {
+        // No program was refused at the first look, so that none is now.
+        let found = found.unwrap();
         found.certificate.is_in_order();
         encode(alloc, outcome.program, &found.certificate, sink)?;
         finder.take_back(found.certificate);
@@ -103,7 +103,8 @@ fn write_certificate<W: Sink>(
     font: &Font<'_>,
     sink: &mut W,
 ) -> Result<(), FindFontFault>
-    requires { IsFontInRange font.now }
+    requires range { IsFontInRange font.now }
+    requires accepted { AreAllRefused font.now [] }
     ensures written { OnOk result (WritesText (W.contents sink.old) (W.contents sink.new) (IsPassingCertificate font.now)) }
     ensures begun { OnErr result (WritesBeginning (W.contents sink.old) (W.contents sink.new) (IsCertificateBegun font.now)) }
     ensures failures { CountsFind result (W.failures sink.old) (W.failures sink.new) }
@@ -127,7 +128,7 @@ pub(crate) fn find_programs<W: Sink>(
     ensures failures { CountsFind result (W.failures sink.old) (W.failures sink.new) }
     ensures font { IfErr result IsNoFaultOfFont }
 {
-    let refused = refused_programs(alloc, font)?;
+    let refused = refused_programs(alloc, font, Search::BeforeWriting)?;
     if refused.is_empty() {
         write_certificate(alloc, font, sink)?;
     }

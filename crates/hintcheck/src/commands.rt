@@ -1,19 +1,21 @@
 //! What the words of a command line ask for, done: a verdict or a fault in lines for the user, and
 //! the exit status.
 
-ghost use Rattle.std.specs.Prelude.{◌≡◌, ◌≢◌, ◌↔◌, ◌+◌, ◌≤◌, ◌<◌, ◌⊎◌, ℕ, IfErr, IfOk, IfSome, IsTrue, List, None, Ok, OnOk, [], map, option_map, string_bytes, true, unwrap_or};
-ghost use Rattle.std.specs.Io.KnownBytes.{Appends};
+ghost use Rattle.std.specs.Prelude.{◌≡◌, ◌≢◌, ◌↔◌, ◌+◌, ◌≤◌, ◌<◌, ◌⊎◌, ℕ, IfErr, IfOk, IfSome, IsTrue, List, None, Err, Ok, OnOk, [], length, map, option_map, string_bytes, true, unwrap_or};
+ghost use Rattle.std.specs.Io.Buffered.{writer_contents};
+ghost use Rattle.std.specs.Io.KnownBytes.{Appends, Keeps};
 ghost use Rattle.tt_stream.specs.Streams.{CountsPrintFailure};
 ghost use Rattle.hintcheck_words.specs.Requests.{asked, is_taken};
 ghost use Rattle.hintcheck.specs.Certificates.{IsChecked};
-ghost use Rattle.hintcheck.specs.Commands.{HasAll, IsForVerdict, IsNoWriteFault, ReadsToEnd, TellsFailedRead, TellsFailure, status_of};
+ghost use Rattle.hintcheck.specs.CertificateTexts.{IsPassingCertificate, WritesText};
+ghost use Rattle.hintcheck.specs.Commands.{AtForm, HasAll, IsForVerdict, IsNoWriteFault, ReadsToEnd, TellsFailedRead, TellsFailure, status_of};
 ghost use Rattle.hintcheck.specs.CommandFaults.{HasNoFault, IsFaultOfCertifying, IsFaultOfChecking, IsFaultOfFileListing, IsFaultOfFinding, IsFaultOfFontFile, IsFaultOfGlyph, IsFaultOfPrinting, IsFaultOfReading, IsFaultOfRequest, IsFaultOfRewriting, IsFaultOfSource, IsFaultOfTask, IsFaultOfUpgrading, IsFaultOfWords, MeansNoFault, ReadNoFault, SpellNoFault, TellsFault};
 ghost use Rattle.hintcheck.specs.FontPrograms.{IsFontInRange, IsSafeFont, IsVerdict};
 ghost use Rattle.hintcheck.specs.Listing.{HoldUnlistedProgram};
-ghost use Rattle.hintcheck.specs.MeansSafe.{HoldFont, HoldRefusedFont, HoldSafeFont, IsRefusedRequest, IsSafeRequest, IsVerdictOn, MeansRefused, MeansSafe, SpellRefusedGlyph, SpellSafeGlyph};
+ghost use Rattle.hintcheck.specs.MeansSafe.{HoldFont, HoldRefusedFont, HoldSafeFont, IsCheckOn, IsRefusedRequest, IsSafeRequest, IsVerdictAsked, IsVerdictOn, MeansRefused, MeansSafe, SpellRefusedGlyph, SpellSafeGlyph, SpellVerdict};
 ghost use Rattle.hintcheck.specs.Printed.{MeansPrinted, Prints, PrintsListing, PrintsUpgrade};
 ghost use Rattle.hintcheck.specs.Texts.{end_line, verdict_text};
-ghost use Rattle.hintcheck.specs.Upgrades.{UpgradesTo};
+ghost use Rattle.hintcheck.specs.Upgrades.{IsNumberOfPrograms, IsUpgradeOf, UpgradesTo};
 
 pub mod faults;
 
@@ -82,6 +84,7 @@ fn bare_verdict(
 ) -> Result<Verdict, CommandFault>
     ensures safe { IfOk result (λ verdict. verdict.refused ≡ [] → SpellSafeGlyph maxp.now cvt points contours program.now) }
     ensures refused { IfOk result (λ verdict. verdict.refused ≢ [] → SpellRefusedGlyph maxp.now cvt points contours program.now) }
+    ensures given { IfOk result (SpellVerdict maxp.now cvt points contours program.now) }
     ensures fault { IfErr result IsNoWriteFault }
     ensures faults { IfErr result (IsFaultOfGlyph maxp.now program.now) }
     ensures none { OnOk result (SpellNoFault maxp.now program.now) }
@@ -122,6 +125,7 @@ fn verdict_on_bytes<L: Ledger, F: Read + Drop>(
     requires { (blank.name ≡ L.name) × (blank.parts ≡ L.parts) × (0 < blank.parts) }
     ensures safe { IfOk result (λ verdict. verdict.refused ≡ [] → (bytes : List ℕ) × HasAll (F.remaining file) bytes × HoldSafeFont bytes) }
     ensures refused { IfOk result (λ verdict. verdict.refused ≢ [] → (bytes : List ℕ) × HasAll (F.remaining file) bytes × HoldRefusedFont bytes) }
+    ensures given { IfOk result (λ verdict. (bytes : List ℕ) × HasAll (F.remaining file) bytes × IsVerdictOn bytes verdict) }
     ensures fault { IfErr result IsNoWriteFault }
     ensures faults { IfErr result IsFaultOfFontFile }
 {
@@ -133,6 +137,7 @@ fn verdict_on_bytes<L: Ledger, F: Read + Drop>(
 fn file_verdict<R: Files + AllocGlobal>(rt: &R, name: &str) -> Result<Verdict, CommandFault>
     ensures safe { IfOk result (λ verdict. verdict.refused ≡ [] → (bytes : List ℕ) × HoldSafeFont bytes) }
     ensures refused { IfOk result (λ verdict. verdict.refused ≢ [] → (bytes : List ℕ) × HoldRefusedFont bytes) }
+    ensures given { IfOk result (λ verdict. (bytes : List ℕ) × IsVerdictOn bytes verdict) }
     ensures fault { IfErr result IsNoWriteFault }
     ensures faults { IfErr result IsFaultOfFontFile }
 {
@@ -178,7 +183,9 @@ fn verdict_by_file<L: Ledger, F: Read + Drop>(
     requires range { IsFontInRange font.now }
     requires blank { (blank.name ≡ L.name) × (blank.parts ≡ L.parts) × (0 < blank.parts) }
     ensures safe { IfOk result (λ verdict. verdict.refused ≡ [] → IsSafeFont font.now) }
+    ensures programs { IfOk result (λ verdict. verdict.programs ≡ length font.now.glyphs + 2) }
     ensures checked { IfOk result (λ verdict. IfSome (F.remaining file) (λ bytes. IsChecked font.now bytes (Ok verdict.refused))) }
+    ensures form { IfErr result (λ fault. AtForm fault (λ place. IfSome (F.remaining file) (λ bytes. IsChecked font.now bytes (Err place)))) }
     ensures fault { IfErr result IsNoWriteFault }
     ensures faults { IfErr result IsFaultOfChecking }
 {
@@ -196,6 +203,7 @@ fn check_verdict<R: Files + AllocGlobal>(
 ) -> Result<Verdict, CommandFault>
     ensures safe { IfOk result (λ verdict. verdict.refused ≡ [] → (bytes : List ℕ) × HoldSafeFont bytes) }
     ensures font { IfOk result (λ verdict. (bytes : List ℕ) × HoldFont bytes) }
+    ensures given { IfOk result (λ verdict. (bytes : List ℕ) × IsCheckOn bytes verdict) }
     ensures fault { IfErr result IsNoWriteFault }
     ensures faults { IfErr result IsFaultOfChecking }
 {
@@ -207,27 +215,32 @@ fn check_verdict<R: Files + AllocGlobal>(
     verdict_by_file::<Brand, _>(rt.alloc(), &font, file, Blank::new(1))
 }
 
-/// Writes what the writer still holds to its file.
-fn write_rest<F: Write + Drop>(writer: BufWriter<F>) -> Result<(), CommandFault>
-    ensures { IfErr result (λ fault. fault ≡ CommandFault.File) }
+/// The writer's file, once it has all that was written.
+fn write_rest<F: Write + Drop>(writer: BufWriter<F>) -> Result<F, CommandFault>
+    ensures written { IfOk result (λ file. Keeps (writer_contents F.contents writer) (F.contents file)) }
+    ensures fault { IfErr result (λ fault. fault ≡ CommandFault.File) }
 {
-    let mut writer = writer;
-    match writer.flush() {
-        Ok(()) => Ok(()),
+    let Ok(mut file) = writer.into_inner() else {
+        return Err(CommandFault::File);
+    };
+    match file.flush() {
+        Ok(()) => Ok(file),
         Err(_) => Err(CommandFault::File),
     }
 }
 
-/// The verdict on a font, whose certificate is written to the file.
+/// The verdict on a font, and the file, to which the font's certificate is written where no program is refused.
 fn verdict_to_file<L: Ledger, F: Write + Drop>(
     alloc: Global,
     font: &Font<'_>,
     file: F,
     blank: Blank,
-) -> Result<Verdict, CommandFault>
+) -> Result<(Verdict, F), CommandFault>
     requires range { IsFontInRange font.now }
     requires blank { (blank.name ≡ L.name) × (blank.parts ≡ L.parts) × (0 < blank.parts) }
-    ensures exact { IfOk result (λ verdict. IsVerdict font.now verdict) }
+    ensures exact { IfOk result (λ r. IsVerdict font.now r.0) }
+    ensures written { IfOk result (λ r. r.0.refused ≡ [] → WritesText (F.contents file) (F.contents r.1) (IsPassingCertificate font.now)) }
+    ensures unwritten { IfOk result (λ r. r.0.refused ≢ [] → Keeps (F.contents file) (F.contents r.1)) }
     ensures fault { IfErr result IsNoWriteFault }
     ensures faults { IfErr result IsFaultOfCertifying }
 {
@@ -236,8 +249,8 @@ fn verdict_to_file<L: Ledger, F: Write + Drop>(
     };
     let mut sink = Counted::<BufWriter<F>, L>::new(file, blank);
     let verdict = find_programs(alloc, font, &mut sink)?;
-    write_rest(sink.into_inner())?;
-    Ok(verdict)
+    let file = write_rest(sink.into_inner())?;
+    Ok((verdict, file))
 }
 
 /// The numbers by which a system tells its files apart: that of the file on its device, and the device's.
@@ -278,6 +291,7 @@ fn find_verdict<R: Files + AllocGlobal>(
 ) -> Result<Verdict, CommandFault>
     ensures safe { IfOk result (λ verdict. verdict.refused ≡ [] → (bytes : List ℕ) × HoldSafeFont bytes) }
     ensures refused { IfOk result (λ verdict. verdict.refused ≢ [] → (bytes : List ℕ) × HoldRefusedFont bytes) }
+    ensures given { IfOk result (λ verdict. (bytes : List ℕ) × IsVerdictOn bytes verdict) }
     ensures fault { IfErr result IsNoWriteFault }
     ensures faults { IfErr result (IsFaultOfFinding font.now certificate.now) }
     ensures none { OnOk result (font.now ≢ certificate.now) }
@@ -290,7 +304,8 @@ fn find_verdict<R: Files + AllocGlobal>(
     let Ok(file) = fs::create(rt, certificate) else {
         return Err(CommandFault::File);
     };
-    verdict_to_file::<Brand, _>(rt.alloc(), &font, file, Blank::new(1))
+    let (verdict, _file) = verdict_to_file::<Brand, _>(rt.alloc(), &font, file, Blank::new(1))?;
+    Ok(verdict)
 }
 
 /// Lists the program of the font file with this name whose name the word is, and answers the exit status: 0 listed, 1 refused.
@@ -314,17 +329,21 @@ fn list_of_file<R: Files + AllocGlobal, O: Sink>(
     list_program(rt.alloc(), &bytes, word, out)
 }
 
-/// Upgrades the certificate that is left in the old file to the new one: how many sections it has.
+/// Upgrades the certificate that is left in the old file to the new one: how many sections it has, and the new file.
 fn upgrade_file<L: Ledger, M: Ledger, F: Read + Drop, G: Write + Drop>(
     alloc: Global,
     old: F,
     new: G,
     reads: Blank,
     writes: Blank,
-) -> Result<u32, CommandFault>
+) -> Result<(u32, G), CommandFault>
     requires reads { (reads.name ≡ L.name) × (reads.parts ≡ L.parts) × (0 < reads.parts) }
     requires writes { (writes.name ≡ M.name) × (writes.parts ≡ M.parts) × (0 < writes.parts) }
-    ensures exact { IfOk result (λ count. IfSome (F.remaining old) (λ bytes. UpgradesTo bytes (Ok count))) }
+    ensures exact { IfOk result (λ r. IfSome (F.remaining old) (λ bytes. UpgradesTo bytes (Ok r.0))) }
+    ensures written { IfOk result (λ r. IfSome (F.remaining old)
+        (λ bytes. WritesText (G.contents new) (G.contents r.1) (IsUpgradeOf bytes))) }
+    ensures form { IfErr result (λ fault. AtForm fault (λ place. IfSome (F.remaining old) (λ bytes. UpgradesTo bytes (Err place)))) }
+    ensures number { IfOk result (λ r. IsNumberOfPrograms r.0) }
     ensures fault { IfErr result IsNoWriteFault }
     ensures faults { IfErr result IsFaultOfRewriting }
 {
@@ -336,13 +355,14 @@ fn upgrade_file<L: Ledger, M: Ledger, F: Read + Drop, G: Write + Drop>(
     };
     let mut sink = Counted::<BufWriter<G>, M>::new(new, writes);
     let count = upgrade(alloc, &mut source, &mut sink)?;
-    write_rest(sink.into_inner())?;
-    Ok(count)
+    let new = write_rest(sink.into_inner())?;
+    Ok((count, new))
 }
 
 /// Upgrades the certificate in the file with the first name to the file with the second, which is made or emptied once the first is open, and is a
 /// file of its own as far as that can be told.
 fn upgrade_named<R: Files + AllocGlobal>(rt: &R, old: &str, new: &str) -> Result<u32, CommandFault>
+    ensures number { IfOk result IsNumberOfPrograms }
     ensures fault { IfErr result IsNoWriteFault }
     ensures faults { IfErr result (IsFaultOfUpgrading old.now new.now) }
     ensures none { OnOk result (old.now ≢ new.now) }
@@ -356,7 +376,14 @@ fn upgrade_named<R: Files + AllocGlobal>(rt: &R, old: &str, new: &str) -> Result
     let Ok(new) = fs::create(rt, new) else {
         return Err(CommandFault::File);
     };
-    upgrade_file::<Brand, Brand, _, _>(rt.alloc(), old, new, Blank::new(1), Blank::new(1))
+    let (count, _new) = upgrade_file::<Brand, Brand, _, _>(
+        rt.alloc(),
+        old,
+        new,
+        Blank::new(1),
+        Blank::new(1),
+    )?;
+    Ok(count)
 }
 
 /// Upgrades the certificate in the file with the first name to the file with the second, and tells how many sections it has.
@@ -390,6 +417,7 @@ fn word_or_empty(word: &Option<String>) -> &str
 /// The verdict that the task asks for.
 fn verdict_on<R: Files + AllocGlobal>(rt: &R, task: &Task) -> Result<Verdict, CommandFault>
     requires { IsForVerdict (asked task.now) }
+    ensures given { IfOk result (IsVerdictAsked (asked task.now)) }
     ensures safe { IfOk result (λ verdict. verdict.refused ≡ [] → IsSafeRequest (asked task.now)) }
     ensures refused { IfOk result (λ verdict. verdict.refused ≢ [] → IsRefusedRequest (asked task.now)) }
     ensures fault { IfErr result IsNoWriteFault }

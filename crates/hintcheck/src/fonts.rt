@@ -151,8 +151,7 @@ pub(crate) fn look_at_glyph_program(
     look(alloc, finder, &setting, search)
 }
 
-/// Looks at the program of a glyph for the verdict, if it has instructions, in a finder's memory, which the finder has again where memory
-/// doesn't run out.
+/// Looks at the program of a glyph, if it has instructions, in a finder's memory, which the finder has again where memory doesn't run out.
 ///
 /// # Errors
 /// `Refused`; `OutOfMemory`.
@@ -161,6 +160,7 @@ pub(crate) fn look_at_glyph(
     finder: &mut Finder,
     common: &Common<'_>,
     glyph: &GlyphPart<'_>,
+    search: Search,
 ) -> Result<(), ProgramFault>
     requires few { length glyph.now.program.now < 2 ^ 31 }
     requires rises { Rises common.now.functions.now }
@@ -173,7 +173,7 @@ pub(crate) fn look_at_glyph(
     if glyph.program.is_empty() {
         return Ok(());
     }
-    let found = look_at_glyph_program(alloc, finder, common, glyph, Search::Verdict)?;
+    let found = look_at_glyph_program(alloc, finder, common, glyph, search)?;
     finder.take_back(found.certificate);
     Ok(())
 }
@@ -184,6 +184,7 @@ fn refused_glyphs(
     finder: &mut Finder,
     font: &Font<'_>,
     common: &Common<'_>,
+    search: Search,
 ) -> Result<Vec<Refused>, AllocError>
     requires range { IsFontInRange font.now }
     requires rises { Rises common.now.functions.now }
@@ -193,7 +194,7 @@ fn refused_glyphs(
     let mut refused = Vec::new(alloc);
     for id in 0..font.glyph_count() {
         let glyph = font.glyph(id).unwrap();
-        match look_at_glyph(alloc, finder, common, &glyph) {
+        match look_at_glyph(alloc, finder, common, &glyph, search) {
             Ok(()) => {}
             Err(fault) => list_refused(&mut refused, Name::Glyph(id), fault)?,
         }
@@ -211,12 +212,15 @@ fn refused_alone(alloc: Global, name: Name, fault: ProgramFault) -> Result<Vec<R
 }
 
 /// Looks at the programs of a font, one after the other, each in the memory of those before: the refused ones, in their order.
-pub(crate) fn refused_programs(alloc: Global, font: &Font<'_>) -> Result<Vec<Refused>, AllocError>
+pub(crate) fn refused_programs(
+    alloc: Global,
+    font: &Font<'_>,
+    search: Search,
+) -> Result<Vec<Refused>, AllocError>
     requires { IsFontInRange font.now }
     ensures { IfOk result (λ refused. AreAllRefused font.now refused.items) }
 {
     let mut finder = Finder::new(alloc);
-    let search = Search::Verdict;
     let (fpgm, found) = match look_at_font_program(alloc, &mut finder, font, search) {
         Ok(looked_at) => looked_at,
         Err(fault) => return refused_alone(alloc, Name::Font, fault),
@@ -231,7 +235,7 @@ pub(crate) fn refused_programs(alloc: Global, font: &Font<'_>) -> Result<Vec<Ref
         setting: cvt_setting(font, &fpgm, &prep.program),
         functions: &prep.functions,
     };
-    refused_glyphs(alloc, &mut finder, font, &common)
+    refused_glyphs(alloc, &mut finder, font, &common, search)
 }
 
 /// Reads a font, whose programs and numbers are in their ranges.
@@ -257,6 +261,6 @@ pub fn verdict(alloc: Global, font: &[u8]) -> Result<Verdict, FontFault>
     ensures faults { TestsWithMemory (font_fault font.now) result }
 {
     let read = read_font(alloc, font)?;
-    let refused = refused_programs(alloc, &read)?;
+    let refused = refused_programs(alloc, &read, Search::Verdict)?;
     Ok(Verdict::new(u32::from(read.glyph_count()) + 2, refused))
 }

@@ -4,18 +4,30 @@ ghost use Rattle.std.specs.Prelude.{◌≡◌, ◌≤◌, ◌<◌, ◌^◌, ◌�
 ghost use Rattle.hintcheck.specs.FontPrograms.{IsSafeGlyph, font_of, glyph_subject, one_glyph_font};
 ghost use Rattle.hintcheck.specs.Judging.{IsJudged, IsMemory, font_around};
 ghost use Rattle.hintcheck.specs.Programs.{HasGoodFamily, IsRefusal};
+ghost use Rattle.tt_code.specs.Faults.{IsMemory as IsMemoryAlone};
 ghost use Rattle.tt_font.specs.Reading.{GlyphData};
 ghost use Rattle.tt_font.specs.Conditions.{maxp_fault};
 ghost use Rattle.tt_font.specs.GlyphParts.{glyph_data};
 
 use crate::fonts::{Common, look_at_glyph};
-use crate::look::list_refused;
+use crate::look::{Search, list_refused};
 use crate::report::{Name, Refused, Verdict};
 use std::alloc::{AllocError, Global};
 use tt_abs::Setting;
-use tt_code::{Limits, Program};
+use tt_code::{CodeFault, Limits, Program};
 use tt_find::Finder;
 use tt_font::{FontFault, GlyphPart, read_maxp};
+
+/// The error of a fault that is none of the program's.
+fn memory_error(fault: CodeFault) -> AllocError
+    requires { IsMemoryAlone fault }
+{
+    match fault {
+        CodeFault::OutOfMemory(error) => error,
+        CodeFault::CannotCut(_) => unreachable!(),
+        CodeFault::Structure(_) => unreachable!(),
+    }
+}
 
 /// The program without instructions.
 fn empty_program(alloc: Global) -> Result<Program<'static>, AllocError>
@@ -24,7 +36,7 @@ fn empty_program(alloc: Global) -> Result<Program<'static>, AllocError>
     match Program::cut(alloc, &[]) {
         Ok(program) => Ok(program),
         // No instruction passes the end of an empty program, and its structure is right.
-        Err(_) => Err(AllocError),
+        Err(fault) => Err(memory_error(fault)),
     }
 }
 
@@ -46,7 +58,7 @@ fn refused_programs(
     };
     let mut finder = Finder::new(alloc);
     let mut refused = Vec::new(alloc);
-    match look_at_glyph(alloc, &mut finder, &common, glyph) {
+    match look_at_glyph(alloc, &mut finder, &common, glyph, Search::Verdict) {
         Ok(()) => {}
         Err(fault) => list_refused(&mut refused, Name::Glyph(0), fault)?,
     }

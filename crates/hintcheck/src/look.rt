@@ -113,6 +113,8 @@ fn checked(
 ) -> Result<Found, ProgramFault>
     requires { Rises setting.now.start.now }
     ensures same { IfOk result (λ accepted. accepted ≡ found) }
+    // The check accepts it: no promise of the finder's says this here.
+    ensures good { OnOk result (HasGoodFilling (setting_of setting.now) setting.now.start.now (family_of found.certificate)) }
     ensures exact { HasGoodFilling (setting_of setting.now) setting.now.start.now (family_of found.certificate) → IfErr result IsWantOfMemory }
 {
     match check(alloc, setting, &found.certificate) {
@@ -131,8 +133,10 @@ pub(crate) enum Search {
     Verdict,
     /// For its certificate, which lists no state that could be left out, and is checked.
     Certificate,
-    /// For its certificate, after a verdict that accepts it: nothing is checked again. That the family has a good filling is the finder's promise.
-    Again,
+    /// For whether a certificate of the font can be written. Nothing is checked: that the family has a good filling is the finder's promise.
+    BeforeWriting,
+    /// For its certificate, as it is written. Nothing is checked: that the family has a good filling is the finder's promise.
+    Writing,
 }
 
 /// The family of abstract states of the program of this setting, with no state that could be left out where it is for a certificate.
@@ -155,14 +159,14 @@ fn find(
     ensures none_good { IfErr result (λ fault. IsWantOfMemory fault ⊎ IsNeverEnding fault ⊎ NoneIsGood (setting_of setting.now) setting.now.start.now) }
 {
     match search {
-        Search::Verdict => finder.find(alloc, setting),
-        Search::Certificate | Search::Again => finder.find_needed(alloc, setting),
+        Search::Verdict | Search::BeforeWriting => finder.find(alloc, setting),
+        Search::Certificate | Search::Writing => finder.find_needed(alloc, setting),
     }
 }
 
-/// Looks at the program of this setting, whose family of abstract states is found and then checked. A family that is found passes the
-/// check, which alone accepts. What is found has the finder's memory, which `Finder::take_back` gives back; where the program is refused, the
-/// finder keeps it.
+/// Looks at the program of this setting, whose family of abstract states is found and then, where that is asked, checked. A family that is
+/// found passes the check. What is found has the finder's memory, which `Finder::take_back` gives back; where the program is refused, the finder
+/// keeps it.
 ///
 /// # Errors
 /// `Refused` where no family is found; `OutOfMemory`.
@@ -183,7 +187,7 @@ pub(crate) fn look(
     setting.is_within();
     let found = find(alloc, finder, setting, search)?;
     match search {
-        Search::Again => Ok(found),
+        Search::BeforeWriting | Search::Writing => Ok(found),
         Search::Verdict | Search::Certificate => checked(alloc, finder, setting, found),
     }
 }

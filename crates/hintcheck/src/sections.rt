@@ -1,7 +1,8 @@
 //! The sections of a certificate, read one after the other.
 
-ghost use Rattle.std.specs.Prelude.{◌≡◌, ◌↔◌, IsTrue};
-ghost use Rattle.tt_cert_file.specs.Answers.{CountsRead, input_at};
+ghost use Rattle.std.specs.Prelude.{◌≡◌, ◌↔◌, IfErr, IsTrue};
+ghost use Rattle.tt_cert_file.specs.Answers.{CountsRead, StopsAtEnd, input_at};
+ghost use Rattle.tt_cert_file.specs.Reading.{section_at};
 ghost use Rattle.tt_stream.specs.Reads.{ConsumesBeginning};
 ghost use Rattle.hintcheck.specs.CertificateFaults.{Decodes};
 ghost use Rattle.hintcheck.specs.Certificates.{HasNoSection, IsSectionOf};
@@ -48,6 +49,7 @@ pub(crate) fn next_section<S: Source>(
         (HasNoSection progress.old.form (input_at progress.old.place (S.remaining source.old)) name) }
     ensures form { progress.new.form ≡ progress.old.form }
     ensures beginning { ConsumesBeginning (S.remaining source.old) (S.remaining source.new) }
+    ensures stopped { IfErr result (StopsAtEnd progress.old.place (S.remaining source.old) (S.remaining source.new) (section_at progress.old.form)) }
     ensures failures { CountsRead result (S.failures source.old) (S.failures source.new) }
 {
     let start = progress.place;

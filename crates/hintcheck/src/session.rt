@@ -6,6 +6,7 @@ ghost use Rattle.tt_cert_file.specs.Answers.{input_at};
 ghost use Rattle.tt_stream.specs.Reads.{ConsumesBeginning};
 ghost use Rattle.hintcheck.specs.CertificateFaults.{CountsCheck, IsNoFontFault};
 ghost use Rattle.hintcheck.specs.CheckedFonts.{Finds, IsTold};
+ghost use Rattle.hintcheck.specs.FailedReads.{EndsInCall, EndsInSection, HasRead};
 ghost use Rattle.hintcheck.specs.FindingSessions.{IsForFinding, IsFoundAnswer, out_of_memory, out_of_memory_here};
 ghost use Rattle.hintcheck.specs.FontPrograms.{IsFontInRange};
 ghost use Rattle.hintcheck.specs.Looks.{IsForCertificate};
@@ -150,6 +151,8 @@ fn check_first<'a, S: Source>(
         (IsFaultAt font.now progress.old.form (input_at progress.old.place (S.remaining source.old)) at_start) }
     ensures form { progress.new.form ≡ progress.old.form }
     ensures beginning { ConsumesBeginning (S.remaining source.old) (S.remaining source.new) }
+    ensures stopped { IfErr result (HasRead (S.remaining source.old) (S.remaining source.new)
+        (λ front. EndsInSection font.now progress.old.form at_start (input_at progress.old.place (Some front)))) }
     ensures failures { CountsCheck result (S.failures source.old) (S.failures source.new) }
     ensures font { IfErr result IsNoFontFault }
 {
@@ -186,6 +189,8 @@ fn check_second<'a, S: Source>(
         (IsFaultAt font.now progress.old.form (input_at progress.old.place (S.remaining source.old)) (after_font fpgm.entry.program fpgm.entry.functions.items)) }
     ensures form { progress.new.form ≡ progress.old.form }
     ensures beginning { ConsumesBeginning (S.remaining source.old) (S.remaining source.new) }
+    ensures stopped { IfErr result (HasRead (S.remaining source.old) (S.remaining source.new)
+        (λ front. EndsInSection font.now progress.old.form (after_font fpgm.entry.program fpgm.entry.functions.items) (input_at progress.old.place (Some front)))) }
     ensures failures { CountsCheck result (S.failures source.old) (S.failures source.new) }
     ensures font { IfErr result IsNoFontFault }
 {
@@ -228,6 +233,8 @@ fn check_glyph<S: Source>(
         (at_glyph fpgm.now.program prep.now.program prep.now.functions.items id)) }
     ensures form { progress.new.form ≡ progress.old.form }
     ensures beginning { ConsumesBeginning (S.remaining source.old) (S.remaining source.new) }
+    ensures stopped { IfErr result (HasRead (S.remaining source.old) (S.remaining source.new)
+        (λ front. EndsInSection font.now progress.old.form (at_glyph fpgm.now.program prep.now.program prep.now.functions.items id) (input_at progress.old.place (Some front)))) }
     ensures failures { CountsCheck result (S.failures source.old) (S.failures source.new) }
     ensures font { IfErr result IsNoFontFault }
 {
@@ -262,6 +269,8 @@ fn check_third<'a, S: Source>(
         (IsFaultAt font.now progress.old.form (input_at progress.old.place (S.remaining source.old)) (at_glyph fpgm.entry.program prep.entry.program prep.entry.functions.items id)) }
     ensures form { progress.new.form ≡ progress.old.form }
     ensures beginning { ConsumesBeginning (S.remaining source.old) (S.remaining source.new) }
+    ensures stopped { IfErr result (HasRead (S.remaining source.old) (S.remaining source.new)
+        (λ front. EndsInSection font.now progress.old.form (at_glyph fpgm.entry.program prep.entry.program prep.entry.functions.items id) (input_at progress.old.place (Some front)))) }
     ensures failures { CountsCheck result (S.failures source.old) (S.failures source.new) }
     ensures font { IfErr result IsNoFontFault }
 {
@@ -296,6 +305,8 @@ fn check_on<'a, S: Source>(
         (IsFaultAt font.now progress.old.form (input_at progress.old.place (S.remaining source.old)) (stage_of kept.entry)) }
     ensures form { progress.new.form ≡ progress.old.form }
     ensures beginning { ConsumesBeginning (S.remaining source.old) (S.remaining source.new) }
+    ensures stopped { IfErr result (HasRead (S.remaining source.old) (S.remaining source.new)
+        (λ front. EndsInSection font.now progress.old.form (stage_of kept.entry) (input_at progress.old.place (Some front)))) }
     ensures failures { CountsCheck result (S.failures source.old) (S.failures source.new) }
     ensures font { IfErr result IsNoFontFault }
 {
@@ -322,6 +333,7 @@ fn progress_of<S: Source>(
         (λ p. IsTold (S.remaining source.new) × ReadsOn (standing_at font.now stage (read_of known)) (S.remaining source.old) p.form (input_at p.place (S.remaining source.new)))
         (IsNextFault (standing_at font.now stage (read_of known)) (S.remaining source.old)) }
     ensures beginning { ConsumesBeginning (S.remaining source.old) (S.remaining source.new) }
+    ensures stopped { (stage : Stage) → IfErr result (HasRead (S.remaining source.old) (S.remaining source.new) (EndsInCall (standing_at font.now stage (read_of known)))) }
     ensures failures { CountsCheck result (S.failures source.old) (S.failures source.new) }
     ensures font { IfErr result IsNoFontFault }
 {
@@ -350,6 +362,8 @@ fn check_from<'a, S: Source>(
         (standing_at font.now (stage_of kept.new) (read_of read.new)) (S.remaining source.new))
         (IsNextFault (standing_at font.now (stage_of kept.old) (read_of read.old)) (S.remaining source.old)) }
     ensures beginning { ConsumesBeginning (S.remaining source.old) (S.remaining source.new) }
+    ensures stopped { IfErr result (HasRead (S.remaining source.old) (S.remaining source.new)
+        (EndsInCall (standing_at font.now (stage_of kept.old) (read_of read.old)))) }
     ensures failures { CountsCheck result (S.failures source.old) (S.failures source.new) }
     ensures font { IfErr result IsNoFontFault }
 {
@@ -425,6 +439,8 @@ impl<'a> Session<'a> {
         ensures font { self.new.font ≡ self.old.font }
         ensures checking { IsForChecking self.new }
         ensures beginning { ConsumesBeginning (S.remaining source.old) (S.remaining source.new) }
+        // Where a read failed, the call read no unit whole that breaks a rule.
+        ensures whole_units { self.old.fault ≡ None → IfErr result (HasRead (S.remaining source.old) (S.remaining source.new) (EndsInCall self.old)) }
         ensures failures { self.old.fault ≡ None → CountsCheck result (S.failures source.old) (S.failures source.new) }
         ensures no_font_fault { self.old.fault ≡ None → IfErr result IsNoFontFault }
     {

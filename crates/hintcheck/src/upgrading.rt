@@ -1,13 +1,15 @@
 //! Old certificates, written again in the newest form.
 
-ghost use Rattle.std.specs.Prelude.{◌≡◌, ℕ, ◌+◌, ◌<◌, ◌≤◌, ◌^◌, List, [], IfErr, IfOk, Ok, Err, OnErr, length};
+ghost use Rattle.std.specs.Prelude.{◌≡◌, ℕ, ◌+◌, ◌<◌, ◌≤◌, ◌^◌, List, [], IfErr, IfOk, Ok, Err, OnErr, Some, length};
 ghost use Rattle.tt_cert_file.specs.Answers.{AreBytes, input_at};
+ghost use Rattle.tt_cert_file.specs.Readers.{place_after};
 ghost use Rattle.tt_font.specs.Reading.{FontData};
 ghost use Rattle.tt_stream.specs.Reads.{ConsumesBeginning};
 ghost use Rattle.hintcheck.specs.Certificates.{HasNoSection, IsChecked};
 ghost use Rattle.hintcheck.specs.CertificateTexts.{WritesBeginning, WritesText};
 ghost use Rattle.hintcheck.specs.CheckedFonts.{IsTold, bytes_in};
-ghost use Rattle.hintcheck.specs.Upgrades.{AreBegun, AreUpgraded, IsUpgradeBegunOf, IsUpgradeOf, LackSection, UpgradesTo, name_at};
+ghost use Rattle.hintcheck.specs.FailedReads.{HasReadOld, IsUnbrokenOld};
+ghost use Rattle.hintcheck.specs.Upgrades.{AreBegun, AreUpgraded, IsNumberOfPrograms, IsUpgradeBegunOf, IsUpgradeOf, LackSection, UpgradesTo, name_at};
 ghost use Rattle.hintcheck.specs.UpgradeFaults.{ComesTo, CountsReads, CountsWrites};
 
 use crate::report::Name;
@@ -97,6 +99,8 @@ fn upgrade_section<S: Source, W: Sink>(
         (AreBegun progress.old.form number 1 (input_at progress.old.place (S.remaining source.old)) (W.contents sink.old) (W.contents sink.new)) }
     ensures form { progress.new.form ≡ progress.old.form }
     ensures beginning { ConsumesBeginning (S.remaining source.old) (S.remaining source.new) }
+    ensures stopped { IfErr result (HasReadOld (S.remaining source.old) (S.remaining source.new)
+        (λ front. HasNoSection progress.old.form (input_at progress.old.place (Some front)) (name_at number) (place_after progress.old.place (length front)))) }
     ensures reads { CountsReads result (S.failures source.old) (S.failures source.new) }
     ensures writes { CountsWrites result (W.failures sink.old) (W.failures sink.new) }
 {
@@ -121,6 +125,8 @@ fn upgrade_sections<S: Source, W: Sink>(
     ensures begun { IsTold (S.remaining source.old) → OnErr result
         (AreBegun progress.old.form 0 count (input_at progress.old.place (S.remaining source.old)) (W.contents sink.old) (W.contents sink.new)) }
     ensures beginning { ConsumesBeginning (S.remaining source.old) (S.remaining source.new) }
+    ensures stopped { IfErr result (HasReadOld (S.remaining source.old) (S.remaining source.new)
+        (λ front. LackSection progress.old.form 0 count (input_at progress.old.place (Some front)) (place_after progress.old.place (length front)))) }
     ensures reads { CountsReads result (S.failures source.old) (S.failures source.new) }
     ensures writes { CountsWrites result (W.failures sink.old) (W.failures sink.new) }
 {
@@ -144,6 +150,8 @@ pub fn upgrade<S: Source, W: Sink>(
     // How many sections the bytes have, where the source tells them, or the place at which they are no certificate.
     ensures exact { IsTold (S.remaining source.old) → ComesTo result
         (λ count. UpgradesTo (bytes_in (S.remaining source.old)) (Ok count)) (λ place. UpgradesTo (bytes_in (S.remaining source.old)) (Err place)) }
+    // So many programs a font may have, whatever the source tells.
+    ensures number { IfOk result IsNumberOfPrograms }
     // What is appended is the certificate of form 4 with the sections that were read.
     ensures written { IsTold (S.remaining source.old)
         → IfOk result (λ _. WritesText (W.contents sink.old) (W.contents sink.new) (IsUpgradeOf (bytes_in (S.remaining source.old)))) }
@@ -156,6 +164,8 @@ pub fn upgrade<S: Source, W: Sink>(
     ensures beginning { ConsumesBeginning (S.remaining source.old) (S.remaining source.new) }
     ensures begun { IsTold (S.remaining source.old)
         → OnErr result (WritesBeginning (W.contents sink.old) (W.contents sink.new) (IsUpgradeBegunOf (bytes_in (S.remaining source.old)))) }
+    // Where a read failed, what was read is at fault nowhere but at its end: no unit that was read whole breaks a rule.
+    ensures whole_units { IfErr result (HasReadOld (S.remaining source.old) (S.remaining source.new) IsUnbrokenOld) }
     ensures reads { CountsReads result (S.failures source.old) (S.failures source.new) }
     ensures writes { CountsWrites result (W.failures sink.old) (W.failures sink.new) }
 {

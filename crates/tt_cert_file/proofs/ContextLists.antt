@@ -173,6 +173,13 @@ context_added contexts k d v new n rules lt is family adds =
     ∙ ap frames_of (sym (take_more contexts k d lt))
 
 -- its parent is one of them
+pub contexts_so_far : (contexts : List Context) (k : ℕ) (v : Contents) → k < length contexts → v.contexts ≡ frames_of (take k contexts) → length v.contexts ≡ k + 1
+contexts_so_far contexts k v lt is =
+    let grown = length-grow ([] ∷ []) (take k contexts) in
+    let taken : length (take k contexts) ≡ k = length-take-le k contexts (omega arith) in
+    let same = ap length is in
+    omega arith
+
 pub parent_there : (contexts : List Context) (k : ℕ) (d : Context) (v : Contents) → AreContexts contexts → k < length contexts → v.contexts ≡ frames_of (take k contexts)
     → (slice_index_or contexts k d).0 < length v.contexts
 parent_there contexts k d v rules lt is =

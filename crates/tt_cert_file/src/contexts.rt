@@ -181,10 +181,9 @@ pub(crate) fn builder_of(alloc: Global, contexts: &[(u32, Frame)]) -> Result<Bui
     for (parent, frame) in contexts {
         match builder.add_context(*parent, *frame) {
             Ok(_) => {}
+            Err(ContextFault::OutOfMemory) => return Err(AllocError),
             // No context comes twice, and 65,535 are not there yet.
-            Err(ContextFault::OutOfMemory | ContextFault::TooManyContexts) => {
-                return Err(AllocError);
-            },
+            Err(ContextFault::TooManyContexts) => unreachable!(),
         }
     }
     Ok(builder)

@@ -191,8 +191,11 @@ fn add_state(builder: &mut Builder, point: (u32, u32), state: &State) -> Result<
     builder.states_rise();
     match joined {
         Ok(_) => Ok(()),
-        // No state stands at the point.
-        Err(JoinFault::OutOfMemory | JoinFault::DepthMismatch) => Err(AllocError),
+        Err(fault) => match fault {
+            JoinFault::OutOfMemory => Err(AllocError),
+            // No state is at the point.
+            JoinFault::DepthMismatch => unreachable!(),
+        },
     }
 }
 

@@ -22,8 +22,8 @@ use tt_abs::laws::flow_laws;
 use tt_cert::{Builder, Certificate, ProgramFault, Spot, ends_well, is_short};
 use tt_code::Reason;
 
-/// So often the finder starts at most. The last time it keeps states everywhere.
-const STARTS: u32 = 9;
+/// So often the finder starts with the marks that it has found. After that it keeps states everywhere.
+const STARTS: u32 = 8;
 
 /// A family that was found, and how many updates made its filling: the first state of a point is one, and each time that another comes there one
 /// more. Where states aren't kept, each that comes counts as another one: so a finder that has made other families may count otherwise.
@@ -82,18 +82,21 @@ fn fill_anew(alloc: Global, table: &mut Table, setting: &Setting<'_>) -> Result<
     ensures justified { IfErr result (NamesPlace (IsJustified (setting_of setting.now) setting.now.start.now)) }
 {
     table.marks.begin(setting)?;
-    for start in 0..STARTS {
+    for _ in 0..STARTS {
         table.clear();
-        if start == STARTS - 1 {
-            table.marks.everywhere = true;
-        }
         match fill(alloc, table, setting) {
             Ok(()) => return Ok(()),
             Err(Stop::Fault(fault)) => return Err(fault),
             Err(Stop::Met) => {}
         }
     }
-    Err(ProgramFault::OutOfMemory(AllocError))
+    table.clear();
+    table.marks.everywhere = true;
+    match fill(alloc, table, setting) {
+        Ok(()) => Ok(()),
+        Err(Stop::Fault(fault)) => Err(fault),
+        Err(Stop::Met) => unreachable!(),
+    }
 }
 
 /// The fault at a place of the main program.

@@ -3,7 +3,7 @@ use Rattle.std.proofs.KnownBytes.{Consumes-nil}
 use Rattle.std.proofs.lemmas.Result.{err_from_is_err_and}
 use Rattle.tt_stream.proofs.Beginnings.{consumes_beginning, consumes_then}
 use Rattle.hintcheck.proofs.CheckedSections.{counts_from, finds_fault}
-use Rattle.hintcheck.proofs.SessionRuns.{all_checked_good, checked_all, checked_fault, checked_next, fewer_after, nothing_checked}
+use Rattle.hintcheck.proofs.SessionRuns.{all_checked_good, checked_all, checked_fault, checked_next, fewer_after, nothing_checked, read_failed}
 use Rattle.hintcheck.proofs.certified.check_programs.Goals as goal
 
 pub loop-refused-init : goal.loop-refused-init
@@ -73,3 +73,10 @@ returns-clause-beginning g c = consumes_then _ _ _ c.loop-refused.invariant.2 c.
 
 pub returns-clause-failures : goal.returns-clause-failures
 returns-clause-failures g c = let e = c.in_ok-outcome.ensures in e.failures c.loop-refused.invariant.0.none ∙ c.loop-refused.invariant.1
+
+pub returns-in_err-outcome-clause-whole_units : goal.returns-in_err-outcome-clause-whole_units
+returns-in_err-outcome-clause-whole_units g c =
+    let p = err_from_is_err_and c.from_residual.result c.from_residual.ensures.1 in
+    let so_far = c.loop-refused.invariant.0 in
+    rw (p.1, p.2) (read_failed c.args.font.now (g.S.Source.remaining c.args.source.now) c.loop-refused.session (g.S.Source.remaining c.loop-refused.source)
+    (g.S.Source.remaining c.check_next.new.source) c.loop-refused.refused.items c.in_err-outcome.field-0.0 so_far (c.in_err-outcome.ensures.whole_units so_far.none))

@@ -84,4 +84,4 @@ returns-in_ok-verdict_on-in_default-clause-printed g c =
     let asks = for_verdict task c.in_default.not-List c.in_default.not-Upgrade in
     let told = c.tell_verdict.ensures in
     IfOk-weaker c.tell_verdict.result _ _ (λ status printed. prints_for_verdict (asked task) status old new asks printed)
-    (prints_verdict c.tell_verdict.result c.in_ok-verdict_on-in_default.field-0 old new told.accepted told.refused told.written)
+    (prints_verdict (asked task) c.tell_verdict.result c.in_ok-verdict_on-in_default.field-0 old new c.in_ok-verdict_on-in_default.ensures.given told.accepted told.refused told.written)

@@ -1,5 +1,4 @@
 use Rattle.std.proofs.Common.{refl, arith}
-use Rattle.std.proofs.lemmas.Result.{IfOk-weaker}
 use Rattle.hintcheck.proofs.FontSafety.{font_is_safe}
 use Rattle.hintcheck.proofs.commands.find_verdict.Goals as goal
 
@@ -7,8 +6,19 @@ pub verdict_to_file-requires-clause-blank : goal.verdict_to_file-requires-clause
 verdict_to_file-requires-clause-blank g c = (refl, refl, omega (arith, c.new.ensures))
 
 pub returns-clause-safe : goal.returns-clause-safe
-returns-clause-safe g c =
+returns-clause-safe g c = λ is_none.
+    let d = c.in_ok-font.font in (
+      c.deref.result.now,
+      record {
+        font = d;
+        reads = c.in_ok-font.ensures.reads;
+        safe = font_is_safe d c.in_ok-font.ensures.range c.in_ok-verdict.verdict c.in_ok-verdict.ensures.exact is_none;
+      },
+    )
+
+pub returns-clause-given : goal.returns-clause-given
+returns-clause-given g c =
     let d = c.in_ok-font.font in
-    IfOk-weaker c.verdict_to_file.result _ _
-    (λ v is none. (c.deref.result.now, record { font = d; reads = c.in_ok-font.ensures.reads; safe = font_is_safe d c.in_ok-font.ensures.range v is none }))
-    c.verdict_to_file.ensures.exact
+    let exact = c.in_ok-verdict.ensures.exact in
+    let safe = font_is_safe d c.in_ok-font.ensures.range c.in_ok-verdict.verdict exact in
+    (c.deref.result.now, record { font = d; reads = c.in_ok-font.ensures.reads; given = exact; safe = safe })

@@ -75,3 +75,19 @@ returns-in-Check-clause-faults g c = IfErr-weaker c.check_verdict.result _ _ (λ
 pub returns-in-Check-clause-none : goal.returns-in-Check-clause-none
 unfolding asked
 returns-in-Check-clause-none g c = rw c.in-Check.is (nothing_said c.check_verdict.result)
+
+pub returns-in-Bare-clause-given : goal.returns-in-Bare-clause-given
+unfolding asked
+returns-in-Bare-clause-given g c = IfOk-weaker c.bare_verdict.result _ _ (λ v is. rw c.in-Bare.is (rw (← c.deref.ensures, ← c.word_or_empty.ensures) is)) c.bare_verdict.ensures.given
+
+pub returns-in-Verdict-clause-given : goal.returns-in-Verdict-clause-given
+unfolding asked
+returns-in-Verdict-clause-given g c = IfOk-weaker c.file_verdict.result _ _ (λ v is. rw c.in-Verdict.is is) c.file_verdict.ensures.given
+
+pub returns-in-Find-clause-given : goal.returns-in-Find-clause-given
+unfolding asked
+returns-in-Find-clause-given g c = IfOk-weaker c.find_verdict.result _ _ (λ v is. rw c.in-Find.is is) c.find_verdict.ensures.given
+
+pub returns-in-Check-clause-given : goal.returns-in-Check-clause-given
+unfolding asked
+returns-in-Check-clause-given g c = IfOk-weaker c.check_verdict.result _ _ (λ v is. rw c.in-Check.is is) c.check_verdict.ensures.given

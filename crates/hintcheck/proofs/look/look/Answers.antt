@@ -6,16 +6,16 @@ use Rattle.hintcheck.specs.Programs.{HasGoodFamily, IsRefusal}
 use Rattle.hintcheck.proofs.LookLemmas.{HasFlow, accepted_found, found_for, found_refusal, glyph_without_good, passed_on, still_found}
 use Rattle.hintcheck.proofs.look.look.Goals as goal
 
-pub returns-in-Again-clause-accepted : goal.returns-in-Again-clause-accepted
-returns-in-Again-clause-accepted c = λ x looked.
+pub returns-in-BeforeWriting-clause-accepted : goal.returns-in-BeforeWriting-clause-accepted
+returns-in-BeforeWriting-clause-accepted c = λ x looked.
     let s = setting_of c.args.setting.now in
     let fs = c.args.setting.now.start.now in
     let h : HasFlow s fs = record { range = c.is_within.ensures.range; short = c.is_within.ensures.short; rises = c.requires.rises; fits = c.requires.fits } in
     accepted_found x c.args.setting.now.main.now s fs c.in_ok-found.found.updates c.in_ok-found.found.certificate looked.cut looked.setting looked.functions h
     c.in_ok-found.ensures.filling
 
-pub returns-in-Again-clause-found : goal.returns-in-Again-clause-found
-returns-in-Again-clause-found c = λ certificate x looked.
+pub returns-in-BeforeWriting-clause-found : goal.returns-in-BeforeWriting-clause-found
+returns-in-BeforeWriting-clause-found c = λ certificate x looked.
     let s = setting_of c.args.setting.now in
     let fs = c.args.setting.now.start.now in
     let h : HasFlow s fs = record { range = c.is_within.ensures.range; short = c.is_within.ensures.short; rises = c.requires.rises; fits = c.requires.fits } in

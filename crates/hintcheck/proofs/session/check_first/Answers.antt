@@ -3,6 +3,8 @@ use Rattle.tt_cert_file.specs.Answers.{input_at}
 use Rattle.hintcheck.specs.Sessions.{no_font}
 use Rattle.hintcheck.proofs.CheckedSections.{counts_decoding, decoding_is_no_font, finds_decoding}
 use Rattle.hintcheck.proofs.SessionSteps.{first_ends, first_fails, first_good, first_passes}
+use Rattle.tt_cert_file.specs.declared.name.Name.TheVariants as name
+use Rattle.hintcheck.proofs.FailedReads.{section_cut_short}
 use Rattle.hintcheck.proofs.session.check_first.Goals as goal
 
 pub returns-in_err-certificate-clause-failures : goal.returns-in_err-certificate-clause-failures
@@ -47,3 +49,8 @@ returns-in-Ok-refused-clause-exact g c = λ told.
       first_fails c.args.font.now progress.form c.next_section.new.progress.form before after c.in_ok-certificate.certificate c.in-Err.fault c.in-Ok-refused.outcome
           c.in_ok-certificate.ensures.form c.in-Ok-refused.ensures section.1 c.in-Err.ensures.refused,
     )
+
+pub returns-in_err-certificate-clause-stopped : goal.returns-in_err-certificate-clause-stopped
+returns-in_err-certificate-clause-stopped g c =
+    let p = err_from_is_err_and c.from_residual.result c.from_residual.ensures.1 in
+    rw (p.1, p.2) (section_cut_short c.args.font.now c.args.progress.now.form _ name.Font c.args.progress.now.place _ _ c.in_err-certificate.field-0.0 (λ i at none. no_font at none) c.in_err-certificate.ensures.stopped)

@@ -8,6 +8,8 @@ use Rattle.hintcheck.specs.Sessions.{no_glyph}
 use Rattle.hintcheck.proofs.CheckedSections.{counts_decoding, decoding_is_no_font, finds_decoding, slice_there}
 use Rattle.hintcheck.proofs.FontLists.{glyph_there}
 use Rattle.hintcheck.proofs.SessionSteps.{third_answers, third_good, third_passes, third_sound}
+use Rattle.tt_cert_file.specs.declared.name.Name.TheVariants as name
+use Rattle.hintcheck.proofs.FailedReads.{section_cut_short, tells_no_read}
 use Rattle.hintcheck.proofs.session.check_glyph.Goals as goal
 
 pub returns-in_err-certificate-clause-failures : goal.returns-in_err-certificate-clause-failures
@@ -73,3 +75,13 @@ returns-clause-exact g c = λ told.
     third_answers c.args.font.now c.args.fpgm.now.program c.args.prep.now.program c.args.prep.now.functions.items _ c.deref.result.now c.cvt_setting.ensures.programs
     c.deref.ensures.value c.args.id glyph at progress.form c.next_section.new.progress.form before after c.in_ok-certificate.certificate _ _ c.in-Err.fault c.refused.result
     c.in_ok-certificate.ensures.form c.refused.ensures section.1 (c.in-Err.ensures.refused c.args.id) section.0
+
+pub returns-in_err-certificate-clause-stopped : goal.returns-in_err-certificate-clause-stopped
+returns-in_err-certificate-clause-stopped g c =
+    let p = err_from_is_err_and c.from_residual.result c.from_residual.ensures.1 in
+    let glyph = slice_there c.args.font.now.glyphs c.args.id c.requires.there in
+    rw (p.1, p.2) (section_cut_short c.args.font.now c.args.progress.now.form _ (name.Glyph c.args.id) c.args.progress.now.place _ _ c.in_err-certificate.field-0.0
+    (λ i at none. no_glyph c.args.fpgm.now.program c.args.prep.now.program c.args.prep.now.functions.items c.args.id glyph.0 at glyph.1 none) c.in_err-certificate.ensures.stopped)
+
+pub returns-clause-stopped : goal.returns-clause-stopped
+returns-clause-stopped g c = tells_no_read (name.Glyph c.args.id) c.in-Err.fault c.refused.result _ _ _ c.refused.ensures

@@ -2,6 +2,7 @@ use Rattle.std.proofs.Common.{refl, ◌∙◌}
 use Rattle.std.proofs.lemmas.Result.{err_from_is_err_and}
 use Rattle.hintcheck.specs.Sessions.{last_glyph}
 use Rattle.hintcheck.proofs.SessionSteps.{fault_at_end, nothing_follows, still_told}
+use Rattle.hintcheck.proofs.FailedReads.{end_not_read}
 use Rattle.hintcheck.proofs.session.check_third.Goals as goal
 
 pub returns-in_err-read_end-clause-exact : goal.returns-in_err-read_end-clause-exact
@@ -25,3 +26,9 @@ returns-then-id-glyph_count-clause-exact g c = λ told.
 pub returns-then-id-glyph_count-clause-sound : goal.returns-then-id-glyph_count-clause-sound
 returns-then-id-glyph_count-clause-sound g c =
     (last_glyph c.args.fpgm.program c.args.prep.program c.args.prep.functions.items c.args.id (c.if-id-glyph_count.true ∙ c.glyph_count.ensures), refl)
+
+pub returns-in_err-read_end-clause-stopped : goal.returns-in_err-read_end-clause-stopped
+returns-in_err-read_end-clause-stopped g c =
+    let p = err_from_is_err_and c.from_residual.result c.from_residual.ensures.1 in
+    let last = last_glyph c.args.fpgm.program c.args.prep.program c.args.prep.functions.items c.args.id (c.if-id-glyph_count.true ∙ c.glyph_count.ensures) in
+    rw (p.1, p.2) (end_not_read c.args.font.now c.args.progress.now.form _ c.args.progress.now.place _ _ c.in_err-read_end.field-0.0 last c.in_err-read_end.ensures.unread)

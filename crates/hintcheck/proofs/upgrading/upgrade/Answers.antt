@@ -5,6 +5,7 @@ use Rattle.tt_cert_file.specs.Answers.{input_at}
 use Rattle.hintcheck.specs.CheckedFonts.{bytes_in}
 use Rattle.hintcheck.proofs.UpgradeChecks.{accepts_from, upgrade_passes}
 use Rattle.hintcheck.proofs.UpgradeSteps.{all_begun, all_upgraded, all_written, comes_on, followed_by_more, header_begun, header_fails, more_follows, nothing_written, of_no_font, programs_are, section_lacks, sections_begun, too_few, too_many}
+use Rattle.hintcheck.proofs.UpgradeReads.{encode_no_read, old_end_not_read, old_header_cut_short, old_sections_cut_short}
 use Rattle.hintcheck.proofs.upgrading.upgrade.Goals as goal
 use Rattle.hintcheck.proofs.upgrading.upgrade.Goals.{then-count-lt-FEWEST-via-then-count-lt-FEWEST, then-count-lt-FEWEST-via-else-count-lt-FEWEST+then-count-gt-MOST}
 
@@ -143,3 +144,33 @@ returns-clause-accepts g c = λ told are d lt checked.
 
 pub returns-clause-beginning : goal.returns-clause-beginning
 returns-clause-beginning g c = consumes_then _ _ _ (consumes_then _ _ _ c.read_header.ensures.beginning c.upgrade_sections.ensures.beginning) c.read_end.ensures.beginning
+
+pub returns-in_err-form-clause-whole_units : goal.returns-in_err-form-clause-whole_units
+returns-in_err-form-clause-whole_units g c =
+    let p = err_from_is_err_and c.from_residual.result c.from_residual.ensures.1 in
+    rw (p.1, p.2) (old_header_cut_short _ _ c.in_err-form.field-0.0 c.in_err-form.ensures.whole_fields)
+
+pub returns-in_err-write_header-clause-whole_units : goal.returns-in_err-write_header-clause-whole_units
+returns-in_err-write_header-clause-whole_units g c =
+    let p = err_from_is_err_and c.from_residual-in_err-write_header.result c.from_residual-in_err-write_header.ensures.1 in
+    rw (p.1, p.2) (encode_no_read _ _ _ c.in_err-write_header.field-0.0)
+
+pub returns-in_err-upgrade_sections-clause-whole_units : goal.returns-in_err-upgrade_sections-clause-whole_units
+returns-in_err-upgrade_sections-clause-whole_units g c =
+    let p = err_from_is_err_and c.from_residual-in_err-upgrade_sections.result c.from_residual-in_err-upgrade_sections.ensures.1 in
+    let left = g.S.Source.remaining in
+    let count = c.in_ok-form.count in
+    let programs = programs_are count (omega (arith, c.if-count-lt-FEWEST.false)) (omega (arith, c.if-count-gt-MOST.false)) in
+    rw (p.1, p.2) (old_sections_cut_short (left c.args.source.now) (left c.read_header.new.source) (left c.upgrade_sections.new.source) c.in_ok-form.form count
+    c.in_err-upgrade_sections.field-0.0 c.in_ok-form.ensures.exact programs c.in_err-upgrade_sections.ensures.stopped)
+
+pub returns-in_err-read_end-clause-whole_units : goal.returns-in_err-read_end-clause-whole_units
+returns-in_err-read_end-clause-whole_units g c =
+    let p = err_from_is_err_and c.from_residual-in_err-read_end.result c.from_residual-in_err-read_end.ensures.1 in
+    let left = g.S.Source.remaining in
+    let contents = g.W.Sink.contents in
+    let count = c.in_ok-form.count in
+    let programs = programs_are count (omega (arith, c.if-count-lt-FEWEST.false)) (omega (arith, c.if-count-gt-MOST.false)) in
+    rw (p.1, p.2) (old_end_not_read (left c.args.source.now) (left c.read_header.new.source) (left c.upgrade_sections.new.source) (left c.read_end.new.source) c.in_ok-form.form count
+    c.upgrade_sections.new.progress.place (contents c.write_header.new.sink) (contents c.upgrade_sections.new.sink) c.in_err-read_end.field-0.0 c.in_ok-form.ensures.exact programs
+    c.in_ok-upgrade_sections.ensures.sections c.in_err-read_end.ensures.unread)

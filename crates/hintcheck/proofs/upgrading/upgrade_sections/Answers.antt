@@ -1,4 +1,4 @@
-use Rattle.std.proofs.Common.{ℕ, arith, refl, subst, ◌∙◌, ◌≡◌}
+use Rattle.std.proofs.Common.{ℕ, Some, arith, length, refl, subst, ◌∙◌, ◌≡◌}
 use Rattle.std.proofs.KnownBytes.{Consumes-nil}
 use Rattle.std.proofs.lemmas.Result.{err_from_is_err_and}
 use Rattle.tt_cert_file.specs.Answers.{input_at}
@@ -7,6 +7,9 @@ use Rattle.tt_stream.proofs.Beginnings.{consumes_beginning, consumes_then}
 use Rattle.hintcheck.specs.Certificates.{HasNoSection}
 use Rattle.hintcheck.specs.Upgrades.{AreBegun, AreUpgraded, name_at}
 use Rattle.hintcheck.proofs.UpgradeSteps.{begun_on, comes_on, lack_next, none_upgraded, reads_on, upgraded_on, writes_on}
+use Rattle.tt_cert_file.specs.Readers.{place_after}
+use Rattle.hintcheck.specs.FailedReads.{HasReadOld}
+use Rattle.hintcheck.proofs.UpgradeReads.{lack_after}
 use Rattle.hintcheck.proofs.upgrading.upgrade_sections.Goals as goal
 
 pub loop-number-init : goal.loop-number-init
@@ -90,3 +93,17 @@ returns-clause-sections g c = λ told.
     let n : c.loop-number.number ≡ c.args.count = omega (arith, c.loop-number-test.false, c.loop-number.auto.number-end) in
     let U : ℕ → Type 0 = λ k. AreUpgraded c.args.progress.now.form 0 k first here (g.W.Sink.contents c.args.sink.now) (g.W.Sink.contents c.loop-number.sink) in
     (known.0, subst U n known.1)
+
+pub returns-in_err-upgrade_section-clause-stopped : goal.returns-in_err-upgrade_section-clause-stopped
+returns-in_err-upgrade_section-clause-stopped g c =
+    let p = err_from_is_err_and c.from_residual.result c.from_residual.ensures.1 in
+    let form = c.args.progress.now.form in
+    let left = g.S.Source.remaining in
+    let contents = g.W.Sink.contents in
+    let before = c.loop-number.invariant in
+    let at = c.loop-number.progress.place in
+    let H : Form → Type 0 = λ f. HasReadOld (left c.loop-number.source) (left c.upgrade_section.new.source)
+        (λ front. HasNoSection f (input_at at (Some front)) (name_at c.loop-number.number) (place_after at (length front))) c.in_err-upgrade_section.field-0.0 in
+    rw (p.1, p.2) (lack_after form c.loop-number.number c.args.count c.args.progress.now.place at (left c.args.source.now) (left c.loop-number.source) (left c.upgrade_section.new.source)
+    (contents c.args.sink.now) (contents c.loop-number.sink) c.in_err-upgrade_section.field-0.0 c.loop-number-test.true before.told
+    (subst H before.form c.in_err-upgrade_section.ensures.stopped))

@@ -1,7 +1,7 @@
-use Rattle.std.proofs.Common.{take_all, ap, ◌∙◌, arith}
+use Rattle.std.proofs.Common.{Err, take_all, ap, ◌∙◌, arith}
 use Rattle.tt_cert.specs.Contexts.{frames_of}
 use Rattle.tt_cert_file.specs.Sections.{Context, no_frame}
-use Rattle.tt_cert_file.proofs.ContextLists.{IsFinished-from, context_added, parent_there}
+use Rattle.tt_cert_file.proofs.ContextLists.{IsFinished-from, context_added, contexts_so_far, parent_there}
 use Rattle.tt_cert_file.proofs.contexts.builder_of.Goals as goal
 
 no_context : Context
@@ -25,3 +25,11 @@ pub returns-clause-finished : goal.returns-clause-finished
 returns-clause-finished c =
     let all = take_all c.loop-parent.parent-index c.args.contexts.now (omega arith) in
     IsFinished-from c.args.contexts.now c.loop-parent.builder (c.loop-parent.invariant.0 ∙ ap frames_of all) c.loop-parent.invariant.2 c.requires.contexts
+
+pub unreachable-requires : goal.unreachable-requires
+unreachable-requires c =
+    let full = c.add_context.ensures.full (c.in-Err-TooManyContexts.is ∙ ap Err c.in-Err-TooManyContexts.field-0-is) in
+    let lt = c.loop-parent-test.true in
+    let few = c.requires.few in
+    let count = contexts_so_far c.args.contexts.now c.loop-parent.parent-index c.loop-parent.builder lt c.loop-parent.invariant.0 in
+    absurd (omega (arith, full.1))
