@@ -1,4 +1,4 @@
-//! Tests of `tt_code`: bytes that are no programs, and programs with known structure.
+//! Tests of `tt_code`: bytes that aren't programs, and programs with known structure.
 
 mod faults;
 mod places;

@@ -56,7 +56,7 @@ best_same In f g Unknown e h =
     let N : ℤ → Type 0 = λ z. IsNumber z in
     (λ z k. subst N (sym (e z k)) (h.0 z k), (x, y, i, j, λ same. apart (sym (e x i) ∙ same ∙ e y j)))
 
--- what is best for the values of f is best for those along a map that reaches all
+-- what is best for the values of f is best for those along a map that reaches all of them
 pub best_along : {X Y : Type 0} (In : X → Type 0) (Of : Y → Type 0) (p : X → Y) (f : Y → ℤ) (c : Cell)
     → ((x : X) → In x → Of (p x)) → ((y : Y) → Of y → (x : X) × In x × (p x ≡ y)) → IsBestFor Of f c → IsBestFor In (λ x. f (p x)) c
 best_along In Of p f (Known k) into onto h =
@@ -234,7 +234,7 @@ stored_best In index v area (Known l) c k cells e h w all j =
     (λ x i. ap (λ n. with_stored (natural n) (v x) (area x) j) (h.0 x i))
     (best_if In v (λ x. area x j) c (cells j) (nat_eq (natural l) j) w (all j))
 
--- is what the update looks into known?
+-- whether what the update reads is known
 abbrev pub Readable : List Cell → Update → Type 0
 Readable taken (update.SetPointer p i) = (k : ℤ) × (taken_at (Known (pos 1)) taken i ≡ Known k)
 Readable taken (update.Store i v) = (k : ℤ) × (taken_at (Known (pos 1)) taken i ≡ Known k)

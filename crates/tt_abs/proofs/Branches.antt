@@ -45,7 +45,7 @@ one_smallest These fs next b h =
 pub one_met : (These : Machine → Type 0) (fs : List Frame) (next : ℕ) (b : Abstract) → AreSmallestCovers These (one_way fs next b) → (m : Machine) × At These fs next m
 one_met These fs next b h = h.met 0 (record { frames = fs; offset = next; state = b }) refl
 
--- What a number on top that isn't known leads to: each way is one for a number that is known.
+-- What a number on top that isn't known leads to: each way is that of a number that is known.
 
 module _ (a : Abstract) (cs : List Cell) (fs : List Frame) (at : ℕ) (does : Machine → Tested Outcome) where
   abbrev with_top : Cell → Abstract
@@ -90,7 +90,7 @@ module _ (a : Abstract) (cs : List Cell) (fs : List Frame) (at : ℕ) (does : Ma
   any_becomes k fits m w =
       record { old = w.old; stands = any_top k fits w.old w.stands; result = w.result; does_it = w.does_it; choices = w.choices; are_numbers = w.are_numbers; new_is = w.new_is }
 
-  -- where one number faults some number does
+  -- where one number faults, some number does
   pub some_number_faults : (k : ℤ) → IsNumber k → (r q : Reason) → TransfersTo (with_top (Known k)) fs at does (Err r) → TransfersTo (with_top Unknown) fs at does (Err q)
   some_number_faults k fits r q h = let (m, p, st, e) = h in (m, p, any_top k fits m st, e)
 
@@ -228,7 +228,7 @@ module _ (s : Setting) (fs : List Frame) (at : ℕ) where
       go (Known k ∷ cs) = known_if a cs k (after_if (program_of s fs) at) refl
       go (Unknown ∷ cs) = unknown cs (after_if (program_of s fs) at) refl
 
-  -- Jumps. The number by which to jump stands below so many others.
+  -- Jumps. The number by which to jump is below so many others.
 
   abbrev pub jumping : ℕ → Machine → Tested Outcome
   jumping n m = do
@@ -404,7 +404,7 @@ module _ (s : Setting) (fs : List Frame) (at : ℕ) where
 
   -- FDEF
 
-  -- an entry put at its place names what one put in front does
+  -- an entry put at its place names the same as one put in front
   entry_named : (k v : ℕ) (es : List (ℕ × ℕ)) (n : ℕ) → body_named (with_entry k v es) n ≡ body_named ((k, v) ∷ es) n
   entry_named k v [] n = refl
   entry_named k v (e ∷ es) n = go (nat_lt k e.0) (nat_eq k e.0) refl (entry_named k v es n)
@@ -512,7 +512,7 @@ module _ (s : Setting) (fs : List Frame) (at : ℕ) where
           (defining_cells a true a.stack (after_fdef (program_of s fs) at)) (λ m st. ap (λ b. defining_on m b m.stack (after_fdef (program_of s fs) at)) e) (of_stack a.stack (after_fdef (program_of s fs) at))
       allowed false e = fails_there a (λ m. controlled s (there m) FunctionDefinition) reason.Definition reason.Definition (λ m st. ap (λ b. defining_on m b m.stack (after_fdef (program_of s fs) at)) e)
 
-  -- All of them.
+  -- All of these instructions.
 
   controlled_there : (c : Control) → is_followed (Controls c) ≡ true → at < 2 ^ 31 → (a : Abstract) → TransfersTo a fs at (λ m. controlled s (there m) c) (controlled_cells s fs at a c)
   controlled_there If followed small a = if_stands a

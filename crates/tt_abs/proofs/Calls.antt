@@ -26,7 +26,7 @@ use Rattle.tt_abs.proofs.Depth.{depth_of_ways}
 use Rattle.tt_abs.proofs.Branches.{there, fails_there}
 use Rattle.tt_abs.proofs.Places.{leads_one, RunOnce, settled_stands, settled_within}
 
--- What is said of any instruction may be said of the machines that stand there alone.
+-- What is said of any instruction may be said of only the machines that are there.
 
 pub stands_for_as : (a : Abstract) (fs : List Frame) (at : ℕ) (does other : Machine → Tested Outcome) (r : Tested (List Next)) → ((m : Machine) → Stands a fs at m → other m ≡ does m)
     → StandsFor a fs at does r → StandsFor a fs at other r
@@ -66,13 +66,13 @@ lands_stands a fs at does gs next rest stack best always =
         let same : w.result ≡ goes_to (record w.old { frames = gs }) (rest w.old) next = cc in
         (ap (λ x. x.frames) w.new_is ∙ ap (λ x. x.after.frames) same, ap (λ x. x.offset) w.new_is ∙ ap (λ x. x.after.offset) same)
 
--- a machine with these numbers on its stack that has the listed functions alone
+-- a machine with these numbers on its stack that has only the listed functions
 exact_machine : (a : Abstract) (fs : List Frame) (at : ℕ) (ns : List ℤ) → CoversStack a.stack ns → (m : Machine) × Stands a fs at m × (m.stack ≡ ns) × (m.functions ≡ a.functions)
 exact_machine a fs at ns d =
     let (g, c) = some_graphics a.registers.graphics in
     (machine_with a fs at g ns (some_area a), machine_stands a fs at g ns (some_area a) c d (area_covered a), refl, refl)
 
--- The called function: some covered number with the listed functions alone names none, or each covered number with whatever functions
+-- The called function: some covered number, with only the listed functions, names none, or each covered number, with whatever functions
 -- are covered names the same body.
 
 abbrev CallsAs : Setting → List (ℕ × ℕ) → Cell → Tested ℕ → Type 0
@@ -250,7 +250,7 @@ module _ (s : Setting) (fs : List Frame) (at : ℕ) (once : RunOnce fs) where
         lands_stands (counting (Known (pos (suc k)))) fs at (λ m. loop_on m m.stack) (called_frames fs at name (suc k)) (body_offset name) (λ m. drop 2 m.stack) us
         (below_count (Known (pos (suc k)))) (λ m st. on_count (pos (suc k)) m m.stack st.covered.functions st.covered.stack)
 
-    -- another one goes on behind the call
+    -- another one goes on after the call
     passes : (k : ℤ) → ((m : Machine) (ns : List ℤ) → enters (there s fs at m) name ns k ≡ goes_to (there s fs at m) ns (at + 1))
         → StandsFor (counting (Known k)) fs at (λ m. loop_on m m.stack >>= within_depth s) (Ok (one_way fs (at + 1) (leaves_cells a us [])) >>= within_cells s)
     passes k behind =

@@ -1,4 +1,4 @@
--- Lists of codes alone: their differences, their order, and the least codes above two lists.
+-- Lists of codes only: their differences, their order, and the least codes above two lists.
 use Rattle.std.specs.Prelude.{◌↔◌}
 use Rattle.std.specs.Int.Bits.{bit_or, bit_xor, or_zero_l, xor_add_and, xor_self}
 use Rattle.std.proofs.Common.{◌≡◌, ℕ, ◌+◌, ◌<◌, ◌≤◌, List, get_or, sym, ◌∙◌, ap, subst, arith, inl, inr, length, set, below_more}
@@ -67,7 +67,7 @@ least_codes a b c same long h k = elim (cases_lt k (length a)) [
         let P : Cell → Type 0 = λ x. IsLeastCell x e g in let Q : Cell → Type 0 = λ x. IsLeastCell d x g in let R : Cell → Type 0 = λ x. IsLeastCell d f x in
         subst P (sym p) (subst Q (sym q) (subst R (sym r) l))
 
--- one more place joined
+-- one more place is joined
 pub joined_more : (old mine theirs : List ℕ) (i code : ℕ) → i < length mine
     → ((k : ℕ) → k < i → IsLeastCell (cell_of_code (get_or old k 0)) (cell_of_code (get_or theirs k 0)) (cell_of_code (get_or mine k 0)))
     → ((k : ℕ) → i ≤ k → get_or mine k 0 ≡ get_or old k 0)

@@ -18,7 +18,7 @@ use Rattle.tt_abs.proofs.StackOrders.{refilled}
 pub kept_length : (wide : List Cell) (codes : List ℕ) → length (kept_cells wide codes) ≡ length wide + length codes
 kept_length wide codes = length-append wide (cells_of codes) ∙ ap (λ n. length wide + n) (length-map codes cell_of_code)
 
--- all but the last so many of two lists, one behind the other
+-- all but the last so many of two lists, one after the other
 taken_parts : (xs ys : List Cell) (n : ℕ) → take (length xs - (n - length ys)) xs ++ take (length ys - n) ys ≡ take (length xs + length ys - n) (xs ++ ys)
 taken_parts xs ys n = elim (cases_lt (length ys) n) [
   | inr le ↦
@@ -130,7 +130,7 @@ written_back codes slice n m place code e f =
     ∙ ap (λ x. set x (place - n) code) e
     ∙ ap (λ x. set codes (place - x) code) f
 
--- cells behind others lie on them, in the other direction
+-- cells after others lie on them, in the other direction
 pub cells_on_reversed : (cs ds : List Cell) → reverse (cs ++ ds) ≡ cells_on ds (reverse cs)
 cells_on_reversed cs [] = ap reverse (append-nil cs)
 cells_on_reversed cs (d ∷ ds) =

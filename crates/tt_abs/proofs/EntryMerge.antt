@@ -14,7 +14,7 @@ from_step : {V : Type 0} (n : ℕ) (x : ℕ × V) (xs : List (ℕ × V)) (k : �
 from_step n x xs k true is le ih = let lt = ltb-true x.0 n is in ih ∙ sym (listed-there x xs k (λ q. omega arith))
 from_step n x xs k false is le ih = refl
 
--- what stands before a number isn't looked up from it on
+-- what comes before a number isn't looked up from it on
 pub listed-from : {V : Type 0} (n : ℕ) (es : List (ℕ × V)) (k : ℕ) → n ≤ k → listed (entries_from n es) k ≡ listed es k
 listed-from n [] k le = refl
 listed-from n (x ∷ xs) k le = from_step n x xs k (nat_lt x.0 n) refl le (listed-from n xs k le)

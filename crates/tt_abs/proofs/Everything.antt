@@ -39,7 +39,7 @@ module _ (s : Setting) (fs : List Frame) (at : ℕ) (a : Abstract) (small : at <
       settled_within s a fs at (λ m. does s m w rest next) (does_cells s fs at a w rest next) (does_leads RunOnce s fs at a once w followed rest next)
       (does_stands s fs at a w followed readable small fits rest next)
 
-  -- what is said of the machine that stands there
+  -- what is said of the machine that is there
   moved : (c : Control) → StandsFor a fs at (λ m. controlled s (there s fs at m) c >>= within_depth s) (controlled_cells s fs at a c >>= within_cells s)
       → StandsFor a fs at (λ m. controlled s m c >>= within_depth s) (controlled_cells s fs at a c >>= within_cells s)
   moved c =
@@ -94,7 +94,7 @@ outcome_gives s fs at a ns small fits once e = let R : Tested (List Next) → Ty
 pub never_faults : (s : Setting) (fs : List Frame) (at : ℕ) (a : Abstract) (ns : List Next) → StandsFor a fs at (outcome s) (Ok ns) → (m : Machine) (r : Reason) → Stands a fs at m → Faults s m r → ⊥
 never_faults s fs at a ns h = stays.never_faults s fs at a ns (h.none_faults, h.covers)
 
--- and what it becomes in a step stands at one of the next places and is covered there
+-- and what it becomes in a step is at one of the next places and is covered there
 pub steps_are_covered : (s : Setting) (fs : List Frame) (at : ℕ) (a : Abstract) (ns : List Next) → StandsFor a fs at (outcome s) (Ok ns) → (m new : Machine) → Stands a fs at m → Steps s m new
     → (i : ℕ) × (n : Next) × (slice_get ns i ≡ Some n) × Stands n.state n.frames n.offset new
 steps_are_covered s fs at a ns h = stays.steps_are_covered s fs at a ns (h.none_faults, h.covers)

@@ -44,7 +44,7 @@ sizes_need_room :
 unfolding performed
 sizes_need_room = refl
 
--- Instructions that take any numbers: what is not looked at may be unknown.
+-- Instructions that take any numbers: what isn't read may be unknown.
 settings_take_an_unknown_number :
     each_takes (0x1a ∷ 0x1d ∷ 0x1e ∷ 0x1f ∷ 0x4f ∷ 0x5e ∷ 0x5f ∷ 0x76 ∷ 0x77 ∷ 0x7e ∷ 0x7f ∷ 0x85 ∷ 0x8d ∷ [])
     (zones Either Either Either) (Unknown ∷ k 6 ∷ []) (k 6 ∷ [])

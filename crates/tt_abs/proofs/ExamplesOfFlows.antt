@@ -1,4 +1,4 @@
--- The flow of a glyph program of one RTG, which changes nothing that is kept: a family with the start before and behind it is good,
+-- The flow of a glyph program of one RTG, which changes nothing that is kept: a family with the start before and after it is good,
 -- so that the program never faults.
 use Rattle.std.specs.Prelude.{slice_get}
 use Rattle.std.proofs.Common.{◌≡◌, ℕ, zero, suc, List, [], ◌∷◌, Ok, Err, Option, None, Some, refl, sym, ◌∙◌, ap, subst, arith, true, false}
@@ -50,7 +50,7 @@ goes_on : outcome_on_cells rounding [] 0 (abstract_of begin) ≡ Ok (one_way [] 
 unfolding outcome_on_cells effect_of word
 goes_on = refl
 
--- the start is given again, behind the instruction
+-- the start is given again, after the instruction
 start_is_given : GivesState rounding ([], 0) begin ([], 1) begin
 start_is_given = record {
   running = refl;

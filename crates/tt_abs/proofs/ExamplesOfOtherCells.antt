@@ -239,7 +239,7 @@ npushw_needs_room :
 unfolding shown
 npushw_needs_room = refl
 
--- Instructions that move the elements of the stack look into no element but an index.
+-- Instructions that move the elements of the stack read no element but an index.
 dup_copies_the_top :
     each_stack_leaves 0x20 ((k 1 ∷ k 2 ∷ [], k 1 ∷ k 1 ∷ k 2 ∷ []) ∷ (Unknown ∷ k 2 ∷ [], Unknown ∷ Unknown ∷ k 2 ∷ []) ∷ [])
 unfolding shown

@@ -48,7 +48,7 @@ covers_through : (t u : State) (n o : Abstract) → abstract_of t ≡ n → abst
     → (m : Machine) → CoversState (abstract_of t) m → CoversState (abstract_of u) m
 covers_through t u n o first second covers m h = let C : Abstract → Type 0 = λ x. CoversState x m in subst C (sym second) (covers m (subst C first h))
 
--- a state gives one state alone
+-- a state gives only one state
 pub given_one : (s : Setting) (p : Place) (a : State) (q : Place) (t u : State) → GivesState s p a q t → GivesState s p a q u → t ≡ u
 given_one s p a q t u g h =
     let ok : Ok g.nexts ≡ Ok h.nexts = sym g.result ∙ h.result in

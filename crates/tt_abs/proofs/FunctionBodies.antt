@@ -29,7 +29,7 @@ use Rattle.tt_abs.proofs.StateParts.{one_of_all}
 module _ (s : Setting) (programs : AreProgramsOfFont s) where
   -- What an FDEF defines.
 
-  -- no FDEF stands in a function of the font program
+  -- no FDEF is in a function of the font program
   not_in_function : (at to first : ℕ) → is_body (body.Function first) (body_at s.font at) ≡ true → after_fdef s.font at ≡ Some to → ⊥
   not_in_function at to first starts leads =
       let g : GoesTo Fdef s.font at to = (leads_iff_goes programs.structured programs.each tt).0 leads in
@@ -46,7 +46,7 @@ module _ (s : Setting) (programs : AreProgramsOfFont s) where
       go true = refl
       go false = prep ∙ sym font
 
-  -- and else an FDEF stands in the CVT program
+  -- and else an FDEF is in the CVT program
   of_cvt : (fs : List Frame) (at to : ℕ) → s.prep ≡ s.main → is_body (body_of fs) (body_at (program_of s fs) at) ≡ true → after_fdef (program_of s fs) at ≡ Some to → after_fdef s.prep at ≡ Some to
   of_cvt [] at to prep starts leads = ap (λ (is : List Instruction). after_fdef is at) prep ∙ leads
   of_cvt (f ∷ fs) at to prep starts leads = go (nat_lt f.body CVT_BODIES) starts leads

@@ -88,7 +88,7 @@ defaults_from g h =
     let zp2 : g.zp2 ≡ One = one_from g.zp2 h.zp2 in
     λ i. record { rp0 = h.rp0 i; rp1 = h.rp1 i; rp2 = h.rp2 i; zp0 = zp0 i; zp1 = zp1 i; zp2 = zp2 i; loop_number = h.loop_number i }
 
--- the machine, as it stands at the program's first byte
+-- the machine at the program's first byte
 at_start : Machine → Machine
 at_start m = record m { frames = []; offset = 0 }
 

@@ -54,7 +54,7 @@ between_length low high (e ∷ es) le rises h =
     let b : e.0 < high = first.1 in
     let rest : e.0 + 1 + length es ≤ high = between_length (e.0 + 1) high es (omega arith) rises.1 (between_tail low high e es rises.0 h) in omega arith
 
--- a list by rising numbers that are all below a bound has at most so many entries
+-- a list in ascending order of numbers that are all below a bound has at most so many entries
 pub entries_at_most : {V : Type 0} (high : ℕ) (es : List (ℕ × V)) → Rises es → ((n : ℕ) (v : V) → listed es n ≡ Some v → n < high) → length es ≤ high
 entries_at_most high es rises h = let k : 0 + length es ≤ high = between_length 0 high es (omega arith) rises (λ n v l. (omega arith, h n v l)) in omega arith
 

@@ -1,4 +1,4 @@
--- The place just after another: it is after one alone, is never the start, and between the two no instruction starts.
+-- The place just after another: it is after only one place, is never the start, and between the two no instruction starts.
 use Rattle.std.specs.Prelude.{nat_eq, nat_lt, if◌then◌else◌, Bool, true, false, Option}
 use Rattle.std.proofs.Common.{◌≡◌, ℕ, zero, suc, ◌+◌, ◌-◌, ◌≤◌, ◌<◌, List, [], ◌∷◌, Err, Some, None, refl, sym, ◌∙◌, ap, arith, length}
 use Rattle.std.proofs.lemmas.Bool.{ltb-false, eqb-true}
@@ -95,7 +95,7 @@ module _ (s : Setting) where
       let same : h.instruction ≡ k.instruction = cc in
       h.end_is ∙ ap (λ (i : Instruction). p.1 + length i) same ∙ sym k.end_is
 
-  -- one place alone is just after another
+  -- only one place is just after another
   pub precedes_place : (p q r : Place) → Precedes s p q → Precedes s p r → q ≡ r
   precedes_place p q r h k =
       let calls : q.0 ≡ r.0 = h.calls ∙ sym k.calls in

@@ -1,4 +1,4 @@
--- What the outcome on cells keeps of the functions and the storage area: they change where FDEF defines a function whose number is
+-- What the outcome on cells keeps of the functions and the storage area: they change only where FDEF defines a function whose number is
 -- below maxFunctionDefs, and where WS stores at an index below maxStorage.
 use Rattle.std.specs.Prelude.{ℤ, pos, negsuc, ◌^◌, not, Option, nat_eq, nat_lt, nat_le, if◌then◌else◌}
 use Rattle.std.specs.List.{AllByRecursion}
@@ -41,12 +41,12 @@ use Rattle.tt_abs.proofs.TableRows.{rows_tested}
 
 -- What holds of a value, where there is one.
 
--- behind a test that passes
+-- after a test that passes
 pub holds_tested : {B : Type 0} (Q : B → Type 0) (b : Bool) (r : Reason) (f : Unit {0} → Tested B) → (b ≡ true → (x : Unit {0}) → Holds Q (f x)) → Holds Q (holds_or b r >>= f)
 holds_tested Q true r f k = k refl tt
 holds_tested Q false r f k = tt
 
--- behind what is found
+-- after what is found
 holds_some : {A B : Type 0} (Q : B → Type 0) (o : Option A) (r : Reason) (f : A → Tested B) → ((x : A) → o ≡ Some x → Holds Q (f x)) → Holds Q (some_or o r >>= f)
 holds_some Q None r f k = tt
 holds_some Q (Some x) r f k = k x refl
@@ -188,7 +188,7 @@ module _ (s : Setting) (g : Cells) where
   stores_taken os (update.SetLoop i ∷ us) stack h = holds_both (λ t. Unit {0}) (StoresFit us) (take_cells s g os stack) (holds_all (take_cells s g os stack)) (stores_taken os us stack h)
   stores_taken os (update.LoopIsOne ∷ us) stack h = holds_both (λ t. Unit {0}) (StoresFit us) (take_cells s g os stack) (holds_all (take_cells s g os stack)) (stores_taken os us stack h)
 
--- an FDEF of a body stands before the offset, in a program that may define functions
+-- an FDEF of a body is before the offset, in a program that may define functions
 pub record DefinesAt (s : Setting) (offset : ℕ) : Type 0 where
   pub frames : List Frame
   pub at : ℕ
@@ -198,7 +198,7 @@ pub record DefinesAt (s : Setting) (offset : ℕ) : Type 0 where
   pub to : ℕ
   pub leads : after_fdef (program_of s frames) at ≡ Some to
 
--- What is kept: P says it of the functions and the storage area.
+-- What is kept: P says it about the functions and the storage area.
 module _ (s : Setting) (P : List (ℕ × ℕ) → (ℕ → Cell) → Type 0)
     (defines : (functions : List (ℕ × ℕ)) (area : ℕ → Cell) (n offset : ℕ) → P functions area → n < s.limits.functions → offset < 2 ^ 31 → DefinesAt s offset
     → P (with_entry n (body_name s.kind offset) functions) area)
@@ -229,7 +229,7 @@ module _ (s : Setting) (P : List (ℕ × ℕ) → (ℕ → Cell) → Type 0)
       (stores_taken s a.registers.graphics line.operands line.updates a.stack there) (λ t k.
       holds_any IsKept (test_cell_uses s a.registers.graphics line.uses) _ (λ ok. all_updated_kept a.registers.graphics a.functions t line.updates a.registers k h))
 
-  -- What changes the stack alone.
+  -- What changes only the stack.
 
   shuffled_kept : (op : StackOp) (a : Abstract) → IsKept a → Holds IsKept (shuffled_cells op a)
   shuffled_kept Dup a h = holds_any IsKept (top a.stack) _ (λ t. h)

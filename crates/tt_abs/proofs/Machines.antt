@@ -1,4 +1,4 @@
--- Covered machine states: each part may be chosen by itself, so each cell of an abstract state is best for the machine states that
+-- Covered machine states: each part may be chosen independently, so each cell of an abstract state is best for the machine states that
 -- it covers. Where an outcome is a function of the machine and each part of an abstract state is best for it, that is the smallest
 -- cover of what the machines become.
 use Rattle.std.specs.Prelude.{ℤ, pos, nat_eq, if◌then◌else◌}
@@ -163,7 +163,7 @@ registers_best a frames offset = record {
       (best_self (a.registers.storage k));
 }
 
--- What functions the outcomes leave: each listed one, whatever machine it was; and some covered machine no others.
+-- Which functions the outcomes leave: each listed one, whatever machine it was; and for some covered machine no others.
 
 module _ (a : Abstract) (frames : List Frame) (offset : ℕ) (does : Machine → Tested Outcome) (o : Machine → Outcome) (b : Abstract)
     (always : (m : Machine) → Stands a frames offset m → does m ≡ Ok (o m))
@@ -228,7 +228,7 @@ module _ (a : Abstract) (frames : List Frame) (offset : ℕ) (does : Machine →
     },
   )
 
--- the same for what leaves the functions alone
+-- the same for what leaves the functions as they are
 pub transfers_same : (a : Abstract) (frames : List Frame) (offset : ℕ) (does : Machine → Tested Outcome) (o : Machine → Outcome) (b : Abstract)
     → ((m : Machine) → Stands a frames offset m → does m ≡ Ok (o m))
     → IsBestStack (May a frames offset) (λ x. (left_by (o x.0) x.1).stack) b.stack

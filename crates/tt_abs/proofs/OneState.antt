@@ -1,4 +1,4 @@
--- All next states are one: the ways of an instruction differ in where they lead alone.
+-- All next states are one: the ways of an instruction differ only in where they lead.
 use Rattle.std.specs.Prelude.{ℤ, pos, negsuc, not, Option, nat_eq, nat_lt, nat_le, slice_get, if◌then◌else◌}
 use Rattle.std.specs.List.{AllByRecursion}
 use Rattle.std.proofs.Common.{◌≡◌, ℕ, zero, suc, ◌+◌, List, [], ◌∷◌, Ok, Some, None, refl, sym, ◌∙◌, subst, length, Bool, true, false}

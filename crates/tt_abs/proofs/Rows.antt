@@ -1,4 +1,4 @@
--- Plain lines whose updates and pushes look only into operands that were tested.
+-- Plain lines whose updates and pushes read only operands that were tested.
 use Rattle.std.specs.Prelude.{ℕ, zero, suc, List, [], ◌∷◌, Bool, true, false, ◌&&◌}
 use Rattle.tt_code.specs.Table.{Lists}
 use Rattle.tt_code.specs.declared.kinds.Operand.{Operand}
@@ -31,7 +31,7 @@ is_known_at [] i = false
 is_known_at (o ∷ os) zero = is_tested o
 is_known_at (o ∷ os) (suc i) = is_single o && is_known_at os i
 
--- what the update looks into, beside what it copies, is an operand that must be known
+-- what the update reads, besides what it copies, is an operand that must be known
 abbrev pub is_readable : List Operand → Update → Bool
 is_readable os (update.SetPointer p i) = is_known_at os i
 is_readable os (update.Store i v) = is_known_at os i
@@ -52,6 +52,6 @@ abbrev pub are_readable_pushes : List Operand → List Pushed → Bool
 are_readable_pushes os [] = true
 are_readable_pushes os (p ∷ ps) = is_readable_push os p && are_readable_pushes os ps
 
--- what the line looks into are operands that must be known
+-- what the line reads are operands that must be known
 abbrev pub is_readable_line : Lists → Bool
 is_readable_line line = are_readable line.operands line.updates && are_readable_pushes line.operands line.pushes

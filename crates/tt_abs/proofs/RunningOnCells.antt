@@ -1,4 +1,4 @@
--- Running programs on the outcome on cells, so that worked examples can be computed. Nothing is known of the storage area, but
+-- Running programs on the outcome on cells, so that worked examples can be computed. Of the storage area it is only known
 -- that its cell 2 holds 102.
 use Rattle.std.specs.Prelude.{◌≡◌, ℕ, zero, suc, pos, negsuc, List, [], ◌∷◌, Ok, Err, map}
 use Rattle.tt_code.specs.Refusals.{Tested, ◌>>=◌}
@@ -27,7 +27,7 @@ lowest = Known (negsuc 2147483647)
 abbrev pub highest : Cell
 highest = k 2147483647
 
--- reference points that no zone has, each another one, and the loop number 2
+-- reference points that no zone has, all different, and the loop number 2
 abbrev pub zones : ZoneCell → ZoneCell → ZoneCell → Cells
 zones a b c = record { rp0 = k 20; rp1 = k 21; rp2 = k 22; zp0 = a; zp1 = b; zp2 = c; loop_number = k 2 }
 
@@ -38,7 +38,7 @@ storage_at_start i = Unknown
 abbrev pub begins : Cells → List Cell → Abstract
 begins g stack = record { stack = stack; registers = record { graphics = g; storage = storage_at_start }; functions = [] }
 
--- What is seen of where control goes next: the storage area is looked at up to the usual maxStorage.
+-- What is observed of where control goes next: the storage area is observed up to the usual maxStorage.
 pub record Seen : Type 0 where
   pub offset : ℕ
   pub stack : List Cell
@@ -84,7 +84,7 @@ each_leaves codes g stack left h = each_does codes g stack (goes_on_with left h 
 abbrev pub each_takes : List ℕ → Cells → List Cell → List Cell → Type 0
 each_takes codes g stack left = each_leaves codes g stack left g
 
--- each of these codes is refused so, on each of these stacks
+-- each of these codes is refused for this reason, on each of these stacks
 abbrev pub each_faults_by : Limits → List ℕ → Cells → List (List Cell) → Reason → Type 0
 each_faults_by limits codes g stacks r =
     map (λ (stack : List Cell). map (performed limits g stack) codes) stacks
@@ -93,7 +93,7 @@ each_faults_by limits codes g stacks r =
 abbrev pub each_faults : List ℕ → Cells → List (List Cell) → Reason → Type 0
 each_faults = each_faults_by wide_twilight
 
--- what one code leaves on the stack, of each of these stacks
+-- what one code leaves on the stack, for each of these stacks
 abbrev pub each_stack_leaves : ℕ → List (List Cell × List Cell) → Type 0
 each_stack_leaves code runs =
     map (λ (r : List Cell × List Cell). performed wide_twilight (zones Either Either Either) r.0 code) runs
@@ -125,7 +125,7 @@ abbrev pub each_leads : List ℕ → ℕ → List (List Cell × List Place) → 
 each_leads program offset runs =
     map (λ (r : List Cell × List Place). ways usual_limits program offset r.0) runs ≡ map (λ (r : List Cell × List Place). Ok r.1) runs
 
--- with each of these stacks it is refused so
+-- with each of these stacks it is refused for this reason
 abbrev pub each_is_refused_by : Limits → List ℕ → ℕ → List (List Cell) → Reason → Type 0
 each_is_refused_by limits program offset stacks r =
     map (λ (stack : List Cell). ways limits program offset stack) stacks ≡ map (λ (stack : List Cell). Err r) stacks
@@ -153,7 +153,7 @@ stack_after steps program = elim (followed steps (setting_of usual_limits progra
   | Err r ↦ Err r
 ]
 
--- Definitions of functions: the places behind them and the functions known there, where the program is a font program or a CVT
+-- Definitions of functions: the places after them and the functions known there, where the program is a font program or a CVT
 -- program.
 
 abbrev pub defined : Tested (List Next) → Tested (List (ℕ × List (ℕ × ℕ)))
@@ -178,7 +178,7 @@ in_cvt_program program = functions_by (cvt_setting (font_of usual_limits [] prog
 abbrev pub call_of : ℕ → ℕ → ℕ → ℕ → Frame
 call_of body offset turn count = record { body = body; call = offset; turn = turn; count = count }
 
--- What is seen of where control goes by calls: the calls that haven't returned too.
+-- What is observed of where control goes by calls: the calls that haven't returned too.
 pub record InCalls : Type 0 where
   pub frames : List Frame
   pub offset : ℕ
@@ -207,11 +207,11 @@ defines_a_function = 0xb0 ∷ 0x00 ∷ 0x2c ∷ 0x18 ∷ 0x2d ∷ []
 abbrev pub glyph_does : Limits → ℕ → List Cell → Tested (List InCalls)
 glyph_does limits code = called limits defines_a_function [] (0x18 ∷ code ∷ 0x18 ∷ []) ((0, 3) ∷ []) [] 1
 
--- a font program that defines the function 0: in its body, from 1 on, LOOPCALL stands at 1, CALL at 2, and ENDF at 3
+-- a font program that defines the function 0: in its body, from 1 on, LOOPCALL is at 1, CALL at 2, and ENDF at 3
 abbrev pub function_calls : List ℕ
 function_calls = 0x2c ∷ 0x2a ∷ 0x2b ∷ 0x2d ∷ []
 
--- what stands at an offset of that body does this, where the body runs by these calls
+-- what is at an offset of that body does this, where the body runs by these calls
 abbrev pub body_does : Limits → List Frame → ℕ → List Cell → Tested (List InCalls)
 body_does limits = called limits function_calls [] (0x18 ∷ 0x18 ∷ []) ((0, 1) ∷ [])
 

@@ -16,7 +16,7 @@ entry-decides {V} same decides x y =
     Decides-like _ (λ p. λ i. (p.0 i, p.1 i)) (λ q. (ap (λ (e : ℕ × V). e.0) q, ap (λ (e : ℕ × V). e.1) q))
     (Decides-and _ _ (Decides-eqb x.0 y.0) (decides x.1 y.1))
 
--- whether two lists of entries are
+-- whether two lists of entries are the same
 pub entries-decide : {V : Type 0} (same : V → V → Bool) → IsEquality same → (a b : List (ℕ × V)) (r : Bool)
     → r ≡ pointwise (λ (x y : ℕ × V). nat_eq x.0 y.0 && same x.1 y.1) a b → Decides r (a ≡ b)
 entries-decide same decides a b r e = slice_eq-Decides (entry-decides same decides) a b r e

@@ -1,4 +1,4 @@
--- Instructions that look at the stack alone: what they leave of it and what they push, and choosing the numbers with which they fault.
+-- Instructions that use only the stack: what they leave of it and what they push, and choosing the numbers with which they fault.
 use Rattle.std.specs.Prelude.{ℤ, pos, min, ◌-◌, map, remove}
 use Rattle.std.proofs.Common.{◌≡◌, ℕ, zero, suc, ◌+◌, ◌≤◌, ◌<◌, List, [], ◌∷◌, Ok, Err, refl, sym, ◌∙◌, ap, inl, inr, arith, length, length-append, drop}
 use Rattle.std.proofs.Math.ListN.{length-drop, length-take}

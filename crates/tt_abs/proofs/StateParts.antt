@@ -25,7 +25,7 @@ use Rattle.tt_abs.proofs.EntryEdits.{Rises-with}
 use Rattle.tt_abs.proofs.ListsKept.{DefinesAt, lists_kept, are_shallow}
 use Rattle.tt_abs.proofs.RangesKept.{keeps_range}
 
--- what all have, one has
+-- what holds for all holds for one
 pub one_of_all : {X : Type 0} (P : X → Type 0) (xs : List X) (i : ℕ) (x : X) → AllByRecursion P xs → slice_get xs i ≡ Some x → P x
 one_of_all P [] i x h e = absurd (cc)
 one_of_all P (y ∷ ys) zero x h e = let same : y ≡ x = cc in subst P same h.0
@@ -117,7 +117,7 @@ one_state t u ht hu e =
     (entry_laws IsNumber).antisymmetric t.storage u.storage ht.1.1.1 hu.1.1.1 (storage_below t.storage u.storage area) (storage_below u.storage t.storage (sym area)) in
     λ i. record { stack = stack i; graphics = graphics i; functions = functions i; storage = storage i }
 
--- Lists by rising numbers.
+-- Lists in ascending order of their numbers.
 
 pub record AreListed (functions : List (ℕ × ℕ)) (area : ℕ → Cell) : Type 0 where
   pub functions_rise : Rises functions

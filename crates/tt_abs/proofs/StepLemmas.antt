@@ -44,7 +44,7 @@ pub first_code : (i : Instruction) (c code : ℕ) (rest : List ℕ) → code_of 
 first_code [] c code rest e f = absurd (cc)
 first_code (d ∷ ds) c code rest e f = cc
 
--- what goes on behind itself
+-- what goes on after itself
 pub acts : (s : Setting) (fs : List Frame) (at : ℕ) (a b : Abstract) (w : Meaning) (code : ℕ) (rest : List ℕ) (size : ℕ) (r : Tested Abstract) → effect_of code ≡ w
     → ((next : ℕ) → does_cells s fs at a w rest next ≡ goes_on_cells fs next r) → r ≡ Ok b → size ≡ suc (length rest)
     → does_cells s fs at a (effect_of code) rest (at + suc (length rest)) ≡ Ok (one_way fs (at + size) b)

@@ -32,7 +32,7 @@ use Rattle.tt_abs.proofs.Ways.{transfers_to_as, behind_stands}
 use Rattle.tt_abs.proofs.Depth.{depth_of_ways, AreBelow, monotone_ways}
 use Rattle.tt_abs.proofs.Branches.{stands_there, fails_there, controlled_stands}
 
--- What leads nowhere else keeps the frames.
+-- What doesn't lead elsewhere keeps the frames.
 
 abbrev KeepsFrames : Machine → Tested Outcome → Type 0
 KeepsFrames m t = (o : Outcome) → t ≡ Ok o → o.after.frames ≡ m.frames
@@ -119,7 +119,7 @@ never_faults s fs at a ns h m r st f =
     let (o, e) = h.0 m st in
     let no_such : Ok o ≡ Err r = sym e ∙ f.fails in absurd (cc)
 
--- and what it becomes in a step stands at one of the next places and is covered there
+-- and what it becomes in a step is at one of the next places and is covered there
 pub steps_are_covered : (s : Setting) (fs : List Frame) (at : ℕ) (a : Abstract) (ns : List Next) → TransfersTo a fs at (outcome s) (Ok ns) → (m new : Machine) → Stands a fs at m → Steps s m new
     → (i : ℕ) × (n : Next) × (slice_get ns i ≡ Some n) × Stands n.state n.frames n.offset new
 steps_are_covered s fs at a ns h m new st w =

@@ -1,4 +1,4 @@
--- Each plain line of the table looks only into tested operands, stores and reads only at tested indices, and changes or pushes.
+-- Each plain line of the table reads only tested operands, stores and reads only at tested indices, and changes or pushes.
 use Rattle.std.proofs.Common.{◌≡◌, ℕ, List, [], ◌∷◌, refl, sym, ◌∙◌, ap, Bool, true, false}
 use Rattle.std.specs.Prelude.{◌&&◌, if◌then◌else◌}
 use Rattle.std.proofs.lemmas.Bool.{and_parts}
@@ -6,7 +6,7 @@ use Rattle.tt_code.specs.Table.{Meaning, Plain, Lists, Line, table, meaning_in, 
 use Rattle.tt_abs.specs.Stored.{is_of_one_kind, is_tested_line}
 use Rattle.tt_abs.proofs.Rows.{is_readable_line}
 
--- does a plain line pass a test?
+-- whether a plain line passes a test
 abbrev passes : (Lists → Bool) → Meaning → Bool
 passes test (Plain line) = test line
 passes test m = true

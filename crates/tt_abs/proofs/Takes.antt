@@ -1,4 +1,4 @@
--- Taking operands on cells and on numbers: what the cells refuse some covered numbers refuse, and where they don't, all covered
+-- Taking operands on cells and on numbers: what the cells refuse, some covered numbers refuse, and where they don't, all covered
 -- numbers are split at the same place.
 use Rattle.std.specs.Prelude.{ℤ, negsuc, ◌&&◌}
 use Rattle.std.proofs.Common.{◌≡◌, ℕ, zero, suc, List, [], ◌∷◌, ◌++◌, Ok, Err, refl, ◌∙◌, ap, subst, inl, inr, ◌⊎◌, Bool, true, false, append_assoc}
@@ -138,7 +138,7 @@ pub record Agrees (a : Cells) (test : Numbers → ℤ → Bool) (passes : ℤ �
   pub failing : (z : ℤ) → passes z ≡ false → (g : Numbers) × CoversGraphics a g × (test g z ≡ false)
   pub minus_one : passes (negsuc 0) ≡ false
 
--- a test that looks into no zone
+-- a test that reads no zone
 pub agrees_alone : (a : Cells) (test : ℤ → Bool) → test (negsuc 0) ≡ false → Agrees a (λ g. test) test
 agrees_alone a test e = record {
   passing = λ z h g c. h;

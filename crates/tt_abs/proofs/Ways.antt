@@ -1,4 +1,4 @@
--- What leads to one place or to two places stands there as list entries.
+-- What leads to one place or to two places is there as list entries.
 use Rattle.std.specs.Prelude.{nat_eq, nat_lt, slice_get, if◌then◌else◌}
 use Rattle.std.proofs.Common.{◌≡◌, ◌≢◌, ℕ, zero, suc, List, [], ◌∷◌, Ok, Err, Some, refl, sym, ◌∙◌, ap, subst, inl, inr, ◌⊎◌, Bool, true, false}
 use Rattle.std.proofs.lemmas.Bool.{eqb-true, eqb-false}
@@ -30,7 +30,7 @@ covers_same These Other ns to back h = record {
   apart = h.apart;
 }
 
--- The machine's outcome, looked at for machines that stand alone.
+-- The machine's outcome, looked at for only the machines that are there.
 
 pub becomes_as : (a : Abstract) (fs : List Frame) (at : ℕ) (does other : Machine → Tested Outcome) → ((m : Machine) → Stands a fs at m → other m ≡ does m)
     → (m : Machine) → Becomes a fs at other m → Becomes a fs at does m
@@ -136,7 +136,7 @@ going_on_stands a fs at does next (Ok b) h = (always, record { covers = covers; 
             let here : CoversState d (left_by w.result w.choices) = record { stack = after.stack; graphics = after.graphics; storage = after.storage; functions = after.functions } in
             let C : Machine → Type 0 = λ n. CoversState d n in subst C (sym w.new_is) here
 
--- an instruction that goes on behind itself
+-- an instruction that goes on after itself
 pub behind_stands : (a : Abstract) (fs : List Frame) (at : ℕ) (does : Machine → Tested Outcome) (next : ℕ) (r : Tested Abstract) → Transfers a fs at does r
     → ((m : Machine) → Stands a fs at m → (o : Outcome) → does m ≡ Ok o → o.after.frames ≡ m.frames) → TransfersTo a fs at (λ m. goes_on next (does m)) (goes_on_cells fs next r)
 behind_stands a fs at does next r h keeps = one_way_stands a fs at (λ m. goes_on next (does m)) next r (going_on_stands a fs at does next r h) (λ m st o e. lands m st (does m) (keeps m st) o e)

@@ -33,7 +33,7 @@ ZoneBelow One b = ⊤
 ZoneBelow Either Either = ⊤
 ZoneBelow Either b = ⊥
 
--- 1 for a known zone, and 0 for either
+-- 1 for a known zone, and 0 for one that may be either
 abbrev pub known_zones : ZoneCell → ℕ
 known_zones Zero = 1
 known_zones One = 1

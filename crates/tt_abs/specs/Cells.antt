@@ -53,7 +53,7 @@ CoversStorage cells area = (i : ℕ) → Covers (cells i) (area i)
 abbrev pub CoversFunctions : List (ℕ × ℕ) → List (ℕ × ℕ) → Type 0
 CoversFunctions listed functions = (n body : ℕ) → body_named listed n ≡ Some body → body_named functions n ≡ Some body
 
--- An abstract state: what is known of a machine state, where it stands and its calls aside.
+-- An abstract state: what is known of a machine state, except for where it is and its calls.
 pub record Abstract : Type 0 where
   -- the top first
   pub stack : List Cell

@@ -1,4 +1,4 @@
--- The numbers in which the stack keeps its cells. (Representation: no public clause cites them but by the stack's own view.)
+-- The numbers in which the stack keeps its cells. (Representation: no public clause cites them except through the stack's own view.)
 use Rattle.std.specs.Prelude.{ℕ, nat_eq, if◌then◌else◌, List, ◌++◌, map}
 use Rattle.std.specs.Int.{cast_signed, w16}
 use Rattle.tt_abs.specs.declared.cells.Cell.{Cell}

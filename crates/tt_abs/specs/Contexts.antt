@@ -1,4 +1,4 @@
--- The calls that haven't returned, as programs of this profile come to them.
+-- The calls that haven't returned, as programs of this profile have them.
 use Rattle.std.specs.Prelude.{◌≡◌, ◌<◌, ◌≤◌, ◌^◌, List, false}
 use Rattle.std.specs.List.{AllByRecursion}
 use Rattle.tt_code.specs.declared.machine.Frame.{Frame}

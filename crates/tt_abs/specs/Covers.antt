@@ -24,7 +24,7 @@ IsBestZone {X} In f zone.Zero = ((x : X) → In x → f x ≡ Zero) × ((x : X) 
 IsBestZone {X} In f zone.One = ((x : X) → In x → f x ≡ One) × ((x : X) × In x)
 IsBestZone {X} In f zone.Either = ((x : X) × In x × (f x ≡ Zero)) × ((x : X) × In x × (f x ≡ One))
 
--- the machine stands at this place, and the abstract state covers it
+-- the machine is at this place, and the abstract state covers it
 pub record Stands (a : Abstract) (frames : List Frame) (offset : ℕ) (m : Machine) : Type 0 where
   pub covered : CoversState a m
   pub frames_are : m.frames ≡ frames
@@ -45,11 +45,11 @@ pub record IsSmallestCover (These : Machine → Type 0) (b : Abstract) : Type 0 
   pub covers : (m : Machine) → These m → CoversState b m
   pub least : (d : Abstract) → ((m : Machine) → These m → CoversState d m) → (m : Machine) → CoversState b m → CoversState d m
 
--- those of the machines that stand at one place
+-- those of the machines that are at one place
 abbrev pub At : (Machine → Type 0) → List Frame → ℕ → Machine → Type 0
 At These frames offset m = These m × (m.frames ≡ frames) × (m.offset ≡ offset)
 
--- One entry for each place at which a machine stands: its state is the smallest that covers those there.
+-- One entry for each place at which a machine is: its state is the smallest that covers those there.
 pub record AreSmallestCovers (These : Machine → Type 0) (nexts : List Next) : Type 0 where
   pub places : (m : Machine) → These m → (i : ℕ) × (n : Next) × (slice_get nexts i ≡ Some n) × (m.frames ≡ n.frames) × (m.offset ≡ n.offset)
   pub met : (i : ℕ) (n : Next) → slice_get nexts i ≡ Some n → (m : Machine) × At These n.frames n.offset m

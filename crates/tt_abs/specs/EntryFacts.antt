@@ -1,4 +1,4 @@
--- What is listed after an entry was put or taken away: the functions by their names, and the storage area cell by cell.
+-- What is listed after an entry was put or removed: the functions by their names, and the storage area cell by cell.
 use Rattle.std.specs.Prelude.{◌≡◌, ℕ, ℤ, Bool, true, false, cond, not, nat_eq, nat_lt, if◌then◌else◌, List, [], ◌∷◌, Option, None, Some}
 use Rattle.std.specs.List.{AllByRecursion}
 use Rattle.std.proofs.Common.{refl, sym, ◌∙◌, ap, subst, inl, inr}
@@ -10,7 +10,7 @@ use Rattle.tt_abs.specs.declared.cells.Cell.TheVariants.{Known, Unknown}
 use Rattle.tt_abs.specs.Entries.{listed, with_entry, without_entry, known_or_not, storage_of, with_cell}
 use Rattle.tt_abs.specs.EntryLaws.{listed-here, listed-there}
 
--- each value that is listed has what all have
+-- what holds for all values holds for each value that is listed
 pub listed-all : {V : Type 0} (P : V → Type 0) (es : List (ℕ × V)) (n : ℕ) (v : V) → AllByRecursion (λ e. P e.1) es → listed es n ≡ Some v → P v
 listed-all P [] n v all l = cc
 listed-all {V} P (e ∷ es) n v all l = elim (cases_eq e.0 n) [
@@ -43,7 +43,7 @@ pub listed-with : {V : Type 0} (n : ℕ) (v : V) (es : List (ℕ × V)) (k : ℕ
 listed-with n v [] k = refl
 listed-with n v (e ∷ es) k = with_step n v e es k (nat_lt n e.0) (nat_eq n e.0) refl refl (listed-with n v es k)
 
--- An entry taken away.
+-- An entry removed.
 
 without_step : {V : Type 0} (n : ℕ) (e : ℕ × V) (es : List (ℕ × V)) (k : ℕ) (same : Bool) → nat_eq e.0 n ≡ same
     → listed (without_entry n es) k ≡ (if nat_eq n k then None else listed es k)
@@ -68,7 +68,7 @@ listed-without n (e ∷ es) k = without_step n e es k (nat_eq e.0 n) refl (liste
 
 -- Functions and their bodies.
 
--- both lookups are one
+-- both lookups are the same
 pub listed-named : (fs : List (ℕ × ℕ)) (n : ℕ) → listed fs n ≡ body_named fs n
 listed-named [] n = refl
 listed-named (f ∷ fs) n = ap (λ (o : Option ℕ). if nat_eq f.0 n then Some f.1 else o) (listed-named fs n)

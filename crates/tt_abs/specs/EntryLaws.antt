@@ -32,27 +32,27 @@ number-above m n v (e ∷ es) h l = elim (cases_eq e.0 n) [
   | inr other ↦ number-above m n v es h.1 (sym (listed-there e es n other) ∙ l)
 ]
 
--- One list below another, first entries aside.
+-- One list below another, apart from first entries.
 
--- a first entry that isn't in the second list may go
+-- a first entry that isn't in the second list may be removed
 pub below-without_first : {V : Type 0} (x : ℕ × V) (xs b : List (ℕ × V)) → AllByRecursion (λ e. x.0 < e.0) b → EntriesBelow (x ∷ xs) b → EntriesBelow xs b
 below-without_first x xs b above p n v l =
     let lt : x.0 < n = number-above x.0 n v b above l in
     sym (listed-there x xs n (λ q. omega arith)) ∙ p n v l
 
--- or come
+-- or added
 pub below-with_first : {V : Type 0} (x : ℕ × V) (xs b : List (ℕ × V)) → AllByRecursion (λ e. x.0 < e.0) xs → EntriesBelow xs b → EntriesBelow (x ∷ xs) b
 below-with_first x xs b above p n v l =
     let lt : x.0 < n = number-above x.0 n v xs above (p n v l) in
     listed-there x xs n (λ q. omega arith) ∙ p n v l
 
--- the second list's first entry may go
+-- the second list's first entry may be removed
 pub below-behind_first : {V : Type 0} (a : List (ℕ × V)) (y : ℕ × V) (ys : List (ℕ × V)) → AllByRecursion (λ e. y.0 < e.0) ys → EntriesBelow a (y ∷ ys) → EntriesBelow a ys
 below-behind_first a y ys above p n v l =
     let lt : y.0 < n = number-above y.0 n v ys above l in
     p n v (listed-there y ys n (λ q. omega arith) ∙ l)
 
--- or come, where both have it
+-- or added, where both have it
 pub below-same_first : {V : Type 0} (x y : ℕ × V) (xs ys : List (ℕ × V)) → x ≡ y → AllByRecursion (λ e. x.0 < e.0) xs → EntriesBelow xs ys → EntriesBelow (x ∷ xs) (y ∷ ys)
 below-same_first {V} x y xs ys same above p n v l = elim (cases_eq y.0 n) [
   | inl here ↦ let e : (x ∷ xs) ≡ (y ∷ xs) = ap (λ (z : ℕ × V). z ∷ xs) same in
@@ -60,7 +60,7 @@ below-same_first {V} x y xs ys same above p n v l = elim (cases_eq y.0 n) [
   | inr other ↦ below-with_first x xs ys above p n v (sym (listed-there y ys n other) ∙ l)
 ]
 
--- the first entry of the second list is that of the first, or behind it
+-- the first entry of the second list is that of the first, or after it
 pub first-below : {V : Type 0} (x y : ℕ × V) (xs ys : List (ℕ × V)) → AllByRecursion (λ e. x.0 < e.0) xs → EntriesBelow (x ∷ xs) (y ∷ ys) → (x ≡ y) ⊎ (x.0 < y.0)
 first-below {V} x y xs ys above p =
     let l : listed (x ∷ xs) y.0 ≡ Some y.1 = p y.0 y.1 (listed-here y ys y.0 refl) in

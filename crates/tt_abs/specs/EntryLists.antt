@@ -1,15 +1,15 @@
--- The order of lists of entries by rising numbers: the list with fewer entries covers more.
+-- The order of lists of entries in ascending order of their numbers: the list with fewer entries covers more.
 use Rattle.std.specs.Prelude.{◌≡◌, ℕ, zero, suc, ◌<◌, ⊤, Bool, false, ◌&&◌, nat_eq, nat_lt, if◌then◌else◌, List, [], ◌∷◌, Option, None, Some, length}
 use Rattle.std.specs.List.{AllByRecursion, filter}
 use Rattle.std.specs.Bool.{Decides}
 use Rattle.tt_abs.specs.Orders.{Order}
 use Rattle.tt_abs.specs.Entries.{Rises, listed}
 
--- the test tells whether two values are equal
+-- the test says whether two values are equal
 abbrev pub IsEquality : {V : Type 0} → (V → V → Bool) → Type 0
 IsEquality {V} same = (v w : V) → Decides (same v w) (v ≡ w)
 
--- the number stands at this index, behind smaller ones
+-- the number is at this index, after smaller ones
 abbrev pub IsAt : {V : Type 0} → ℕ → List (ℕ × V) → ℕ → Type 0
 IsAt n [] i = ⊥
 IsAt n (e ∷ es) zero = e.0 ≡ n
@@ -35,7 +35,7 @@ abbrev pub begins_with_entry : {V : Type 0} → (V → V → Bool) → ℕ × V 
 begins_with_entry same e [] = false
 begins_with_entry same e (x ∷ xs) = nat_eq x.0 e.0 && same x.1 e.1
 
--- the entries behind the first, if that is this one, and all of them otherwise
+-- the entries after the first, if that is this one, and all of them otherwise
 abbrev pub behind_entry : {V : Type 0} → (V → V → Bool) → ℕ × V → List (ℕ × V) → List (ℕ × V)
 behind_entry same e [] = []
 behind_entry same e (x ∷ xs) = if begins_with_entry same e (x ∷ xs) then xs else x ∷ xs
@@ -45,7 +45,7 @@ abbrev pub entries_from : {V : Type 0} → ℕ → List (ℕ × V) → List (ℕ
 entries_from n [] = []
 entries_from n (x ∷ xs) = if nat_lt x.0 n then entries_from n xs else x ∷ xs
 
--- what is left of the second list when the first has gone by
+-- what is left of the second list after a pass along the first
 abbrev pub missing_entries : {V : Type 0} → (V → V → Bool) → List (ℕ × V) → List (ℕ × V) → List (ℕ × V)
 missing_entries same [] b = b
 missing_entries same (e ∷ es) b = missing_entries same es (behind_entry same e b)

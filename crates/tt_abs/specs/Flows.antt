@@ -4,7 +4,7 @@ use Rattle.std.specs.Prelude.{◌≡◌, ◌⊎◌, ℕ, ◌≤◌}
 use Rattle.tt_code.specs.declared.reason.Reason.{Reason}
 use Rattle.tt_abs.specs.Orders.{Order}
 
--- The words of a flow: where a program starts and with what; where it can come; which values are within the limits; which values
+-- The words of a flow: where a program starts and with what; where it can go; which values are within the limits; which values
 -- are refused at a point, and why; the values that one value gives, each with its point.
 pub record Flow (P S : Type 0) : Type 1 where
   pub entry : P

@@ -1,4 +1,4 @@
--- Good families, said of machines: what a family of abstract states, one at each of some places, has to be for a program.
+-- Good families, described by machines: what a family of abstract states, one at each of some places, has to be for a program.
 use Rattle.std.specs.Prelude.{◌≡◌, ◌↔◌, ℕ, ◌≤◌, List, Option, Some, Err, false, length, slice_get}
 use Rattle.tt_code.specs.Runs.{Faults, Steps, outcome}
 use Rattle.tt_code.specs.Settings.{Setting}
@@ -40,7 +40,7 @@ pub record AreContextsOf (family : Place → Option State) (contexts : List (Lis
   pub apart : (i j : ℕ) (fs : List Frame) → slice_get contexts i ≡ Some fs → slice_get contexts j ≡ Some fs → i ≡ j
   pub each : (i : ℕ) (fs : List Frame) → slice_get contexts i ≡ Some fs → HasStateIn family fs
 
--- The states are in range; each stands in a context whose calls are in their turns and of which no body comes twice; there are at most
+-- The states are in range; each is in a context whose calls are in their turns and of which no body comes twice; there are at most
 -- 65,535 of these contexts.
 pub record IsFamilyByContext (family : Place → Option State) : Type 0 where
   pub in_range : IsFamilyInRange state_order family

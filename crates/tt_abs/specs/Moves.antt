@@ -19,7 +19,7 @@ use Rattle.tt_abs.specs.Settings.{setting_of, frames_of}
 use Rattle.tt_abs.specs.States.{abstract_of}
 use Rattle.tt_abs.specs.Transfers.{Next, controlled_cells, outcome_on_cells}
 
--- the calls behind a move, the innermost first
+-- the calls after a move, the innermost first
 abbrev pub frames_behind : List Frame → Move → List Frame
 frames_behind fs (To offset) = fs
 frames_behind fs (Enter f) = f ∷ fs
@@ -64,7 +64,7 @@ control_at setting point state op = controlled_cells (setting_of setting) (frame
 abbrev pub LeadsBy : Point → Tested (List Next) → Moves → State → Type 0
 LeadsBy point outcome moves new = outcome ≡ Ok (nexts_of (frames_of point) moves (abstract_of new))
 
--- what holds of a refusal's reason; want of memory says nothing
+-- what holds of a refusal's reason; nothing is said where memory ran out
 abbrev pub ForReason : Refusal → (Reason → Type 0) → Type 0
 ForReason (Refused r) P = P r
 ForReason (OutOfMemory e) P = Unit {0}

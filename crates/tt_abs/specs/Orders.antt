@@ -17,7 +17,7 @@ pub record IsLeastAbove {S : Type 0} (o : Order S) (a b c : S) : Type 0 where
   pub right : o.Below b c
   pub least : (d : S) → o.InRange d → o.Below a d → o.Below b d → o.Below c d
 
--- What each order proves of its words. What is below another value and isn't it can rise more often (left_falls and left_strict).
+-- What each order proves of its words. What is below another value and differs from it can rise more often (left_falls and left_strict).
 pub record OrderLaws {S : Type 0} (o : Order S) : Type 0 where
   pub reflexive : (a : S) → o.Below a a
   pub transitive : (a b c : S) → o.Below a b → o.Below b c → o.Below a c

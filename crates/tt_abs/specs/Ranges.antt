@@ -19,7 +19,7 @@ abbrev pub AreInRange : List Cell → Type 0
 AreInRange [] = Unit {0}
 AreInRange (c ∷ cs) = IsInRange c × AreInRange cs
 
--- each cell beside the stack is in range
+-- each cell besides the stack is in range
 pub record AreRegistersInRange (r : Registers Cell ZoneCell) : Type 0 where
   pub rp0 : IsInRange r.graphics.rp0
   pub rp1 : IsInRange r.graphics.rp1

@@ -1,4 +1,4 @@
--- What a family of abstract states by place says of a program's runs.
+-- What a family of abstract states by place says about a program's runs.
 use Rattle.std.specs.Prelude.{◌≡◌, ℕ, List, Option, Some}
 use Rattle.tt_code.specs.Runs.{Faults, IsFresh, Runs}
 use Rattle.tt_code.specs.Settings.{Setting}

@@ -24,7 +24,7 @@ CallFits f = (f.body < 2 ^ 32) × (f.call + 1 < 2 ^ 31)
 abbrev pub CallsFit : List Frame → Type 0
 CallsFit fs = AllByRecursion CallFits fs
 
--- a program can come there
+-- a program can reach this place
 pub record IsPlace (p : Place) : Type 0 where
   pub frames : FramesFit p.0
   pub calls : CallsFit p.0
@@ -80,7 +80,7 @@ pub record AreProgramsShort (s : Setting) : Type 0 where
   pub font : size s.font < 2 ^ 31
   pub prep : size s.prep < 2 ^ 31
 
--- the laws of the flow, of each setting and each list of functions by rising numbers that are within the font's limits
+-- the laws of the flow, of each setting and each list of functions in ascending order of their numbers that are within the font's limits
 abbrev pub HasFlowLaws : Type 0
 HasFlowLaws =
     (s : Setting) (functions : List (ℕ × ℕ)) → IsSettingInRange s → AreProgramsShort s → Rises functions → FunctionsFit s functions

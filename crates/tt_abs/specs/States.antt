@@ -1,4 +1,4 @@
--- Abstract states as the program keeps them: what they say, and their order.
+-- Abstract states as the program keeps them: what they mean, and their order.
 use Rattle.std.specs.Prelude.{ℕ, ℤ, pos, ⊤, List, []}
 use Rattle.std.proofs.Common.{refl}
 use Rattle.tt_code.specs.States.{IsNumber}

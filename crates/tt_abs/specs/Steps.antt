@@ -1,4 +1,4 @@
--- What the code does in place, read as the outcome on cells. (Representation: no public clause cites it but by these words' definitions.)
+-- What the code does in place, read as the outcome on cells. (Representation: no public clause cites it except through these words' definitions.)
 use Rattle.std.specs.Prelude.{◌≡◌, ℕ, ℤ, List, Ok, Err, Bool, true, false, not, length}
 use Rattle.tt_code.specs.States.{is_true}
 use Rattle.tt_code.specs.declared.machine.Frame.{Frame}

@@ -1,4 +1,4 @@
--- The lines of the table that store or read storage cells do it at an index that was tested, and none both changes and pushes.
+-- The lines of the table that store or read storage cells do so at an index that was tested, and none both changes and pushes.
 -- (Representation: how the code reads an index as one of 16 bits, and in which order it works.)
 use Rattle.std.specs.Prelude.{◌≡◌, ℕ, zero, suc, ◌<◌, ◌^◌, List, [], ◌∷◌, pos, Bool, true, false, ◌&&◌}
 use Rattle.tt_code.specs.Table.{Lists}

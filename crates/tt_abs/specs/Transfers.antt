@@ -1,6 +1,6 @@
 -- What an instruction makes of an abstract state: the machine's tests in the machine's order, read on cells, where an unknown cell
--- fails each test that looks into it. (Apple TrueType Reference Manual, "The TrueType instruction set"; the reading on cells is
--- own.) What looks into no number is the machine's own definition, used on cells.
+-- fails each test that reads it. (Apple TrueType Reference Manual, "The TrueType instruction set"; the reading on cells is
+-- own.) What reads no number is the machine's own definition, used on cells.
 use Rattle.std.specs.Prelude.{ℕ, zero, suc, ◌+◌, ℤ, pos, negsuc, ◌+ℤ◌, ◌-ℤ◌, neg_ℤ, int_lt, int_le, List, [], ◌∷◌, Option, None, Some, Ok, Err, Bool, true, false, not, ◌&&◌, ◌||◌, length, map, remove, nat_eq, nat_lt, nat_le, if◌then◌else◌}
 use Rattle.tt_code.specs.Refusals.{Tested, ◌>>=◌, holds_or, some_or}
 use Rattle.tt_code.specs.Table.{Meaning, NoEntry, Plain, Pushes, Stack, Computes, Controls, Lists, effect_of}
@@ -43,13 +43,13 @@ abbrev pub known : Cell → Tested ℤ
 known (Known k) = Ok k
 known Unknown = Err reason.UnknownOperand
 
--- is the number below the bound in each zone that the pointer may name?
+-- whether the number is below the bound in each zone that the pointer may name
 abbrev pub is_below_in : (ZoneNumber → ℕ) → ZoneCell → ℤ → Bool
 is_below_in bound zone.Zero z = is_below z (bound Zero)
 is_below_in bound zone.One z = is_below z (bound One)
 is_below_in bound zone.Either z = is_below z (bound Zero) && is_below z (bound One)
 
--- does the number name a point in each zone that counts, whichever zones the pointers name?
+-- whether the number names a point in each zone that counts, whichever zones the pointers name
 abbrev pub is_point_in : Setting → Cells → Within → ℤ → Bool
 is_point_in s a (In p) z = is_below_in (zone_size s) (pointer p a) z
 is_point_in s a (Both p q) z = is_below_in (zone_size s) (pointer p a) z && is_below_in (zone_size s) (pointer q a) z
@@ -92,7 +92,7 @@ test_cell_uses s a (u ∷ us) = do
 
 -- Plain lines.
 
--- what changes read in cells whose tests have passed
+-- what changes read from cells whose tests have passed
 abbrev pub index_in : Cell → ℕ
 index_in (Known k) = natural k
 index_in Unknown = 0
@@ -194,14 +194,14 @@ of_both_known f (Known a) (Known b) = f a b
 of_both_known f Unknown b = Unknown
 of_both_known f a Unknown = Unknown
 
--- is the first below the second? No number is below the least one, and the greatest one is below none.
+-- whether the first is below the second; no number is below the least one, and the greatest one is below none
 abbrev pub lt_cells : Cell → Cell → Cell
 lt_cells (Known a) (Known b) = truth_cell (int_lt a b)
 lt_cells Unknown (Known b) = only_if (equal b LEAST) (truth_cell false)
 lt_cells (Known a) Unknown = only_if (equal a GREATEST) (truth_cell false)
 lt_cells Unknown Unknown = Unknown
 
--- is the first at most the second? The least number is at most each, and each is at most the greatest.
+-- whether the first is at most the second; the least number is at most each, and each is at most the greatest
 abbrev pub le_cells : Cell → Cell → Cell
 le_cells (Known a) (Known b) = truth_cell (int_le a b)
 le_cells Unknown (Known b) = only_if (equal b GREATEST) (truth_cell true)
@@ -250,7 +250,7 @@ computed_cells Not a = of_one_cell a (of_known (λ x. truth_cell (not (is_true x
 
 -- Control.
 
--- Where next states stand, and what is known of all that stand there.
+-- Where next states are, and what is known of all that are there.
 pub record Next : Type 0 where
   -- the calls that haven't returned, the innermost first
   pub frames : List Frame
@@ -310,7 +310,7 @@ called_cell s functions c = do
   ok ← holds_or (is_below n s.limits.functions) reason.Function
   some_or (body_named functions (natural n)) reason.Function
 
--- is the body one that runs already?
+-- whether the body is one that is running already
 abbrev pub is_running : ℕ → List Frame → Bool
 is_running name [] = false
 is_running name (f ∷ fs) = nat_eq f.body name || is_running name fs
@@ -328,7 +328,7 @@ loops_cells s fs at a name stack (pos zero) = Ok (one_way fs (at + 1) (leaves_ce
 loops_cells s fs at a name stack (pos (suc n)) = enters_cells s fs at a name stack (suc n)
 loops_cells s fs at a name stack (negsuc n) = Ok (one_way fs (at + 1) (leaves_cells a stack []))
 
--- at the end of a body: to its next turn, or behind the call
+-- at the end of a body: to its next turn, or to just after the call
 abbrev pub returns_cells : Abstract → List Frame → Tested (List Next)
 returns_cells a [] = Err reason.Target
 returns_cells a (f ∷ fs) =

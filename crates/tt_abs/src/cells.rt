@@ -33,14 +33,14 @@ impl MadeWith<Global> for Cell {
 }
 
 impl Cell {
-    /// Are the two the same?
+    /// Whether the two are the same.
     pub(crate) fn is_same(self, other: Cell) -> bool
         ensures { IsTrue result ↔ (self ≡ other) }
     {
         self == other
     }
 
-    /// The least cell above both: what they have in common.
+    /// Returns the least cell above both: what they have in common.
     pub fn joined(self, other: Cell) -> Cell
         ensures { IsLeastAbove cell_order self other result }
     {
@@ -73,14 +73,14 @@ impl Order for Cell {
 }
 
 impl ZoneCell {
-    /// Are the two the same?
+    /// Whether the two are the same.
     pub(crate) fn is_same(self, other: ZoneCell) -> bool
         ensures { IsTrue result ↔ (self ≡ other) }
     {
         self == other
     }
 
-    /// The least zone cell above both.
+    /// Returns the least zone cell above both.
     pub fn joined(self, other: ZoneCell) -> ZoneCell
         ensures { IsLeastAbove zone_order self other result }
     {

@@ -16,10 +16,10 @@ use smallvec::SmallVec;
 use std::alloc::{AllocError, Global};
 use tt_code::kinds::{Pushed, Source, Update};
 
-/// What a line pushes: two cells at most.
+/// What a line pushes: at most two cells.
 pub type PushedCells = SmallVec<Cell, 2>;
 
-/// The zone that a cell names.
+/// Returns the zone that a cell names.
 fn zone_of(cell: Cell) -> ZoneCell
     ensures { result ≡ zone_in cell }
 {
@@ -30,7 +30,7 @@ fn zone_of(cell: Cell) -> ZoneCell
     }
 }
 
-/// The element at a position among so many that are taken; 1 where there is none.
+/// Returns the element at a position among so many that are taken; 1 where there is none.
 fn taken(stack: &Stack, count: usize, position: u8) -> Cell
     ensures { result ≡ taken_at (Known (pos 1)) (take count stack.now) position }
 {
@@ -44,7 +44,7 @@ fn taken(stack: &Stack, count: usize, position: u8) -> Cell
     }
 }
 
-/// The number of the storage cell that an index names.
+/// Returns the number of the storage cell that an index names.
 fn index_of(cell: Cell) -> u16
     requires { IsIndex cell }
     ensures { result ≡ index_in cell }
@@ -96,7 +96,7 @@ pub fn update_all(state: &mut State, count: usize, changes: &[Update]) -> Result
     Ok(())
 }
 
-/// A cell that is pushed.
+/// Returns a cell that is pushed.
 fn pushed_cell(state: &State, count: usize, pushed: Pushed) -> Cell
     requires { IndexedPush (take count state.now.stack) pushed }
     ensures { result ≡ cell_pushed (take count state.now.stack) (storage_of state.now.storage) pushed }
@@ -110,7 +110,7 @@ fn pushed_cell(state: &State, count: usize, pushed: Pushed) -> Cell
     }
 }
 
-/// What a line pushes, before its changes.
+/// Returns what a line pushes, before its changes.
 pub fn pushed_cells(
     alloc: Global,
     state: &State,

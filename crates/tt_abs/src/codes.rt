@@ -10,7 +10,7 @@ ghost use Rattle.tt_abs.specs.Stacks.{IsLeastCell, StackBelow, cell_at};
 use crate::cells::Cell;
 use smallvec::SmallVec;
 
-/// So many codes need no allocation.
+/// How many codes need no allocation.
 pub const INLINE_CELLS: usize = 32;
 
 /// The codes of cells, the bottom first.
@@ -19,7 +19,7 @@ pub type Codes = SmallVec<u16, INLINE_CELLS>;
 /// The code of an unknown cell. Each other code is the two's complement of its cell's number.
 pub const UNKNOWN: u16 = 0x8000;
 
-/// The code of the cell, if it has one: an unknown cell, or a number from -32,767 to 32,767.
+/// Returns the code of the cell, if it has one: an unknown cell, or a number from -32,767 to 32,767.
 pub fn code_of(cell: Cell) -> Option<u16>
     ensures { MatchOption result ((code : ℕ) → code < 2 ^ 16 → cell_of_code code ≢ cell) (λ code. cell_of_code code ≡ cell) }
 {
@@ -32,7 +32,7 @@ pub fn code_of(cell: Cell) -> Option<u16>
     }
 }
 
-/// The cell of the code.
+/// Returns the cell of the code.
 pub fn cell_of(code: u16) -> Cell
     ensures { result ≡ cell_of_code code }
 {
@@ -43,7 +43,7 @@ pub fn cell_of(code: u16) -> Cell
     }
 }
 
-/// Whether the codes are the same, each as its partner. By bits alone, so that the loop becomes vector code.
+/// Whether each code is the same as its partner. Compares bits only, so that the loop becomes vector code.
 pub fn are_equal(mine: &[u16], theirs: &[u16]) -> bool
     requires { length mine.now ≡ length theirs.now }
     ensures { IsTrue result ↔ (mine.now ≡ theirs.now) }
@@ -55,14 +55,14 @@ pub fn are_equal(mine: &[u16], theirs: &[u16]) -> bool
     difference == 0
 }
 
-/// Whether the second one's cell covers whatever the first one's does.
+/// Whether the second code's cell covers whatever the first one's does.
 fn is_below(mine: u16, theirs: u16) -> bool
     ensures { IsTrue result ↔ CellBelow (cell_of_code mine) (cell_of_code theirs) }
 {
     (mine == theirs) | (theirs == UNKNOWN)
 }
 
-/// Whether each cell is below its partner, of cells that are as many.
+/// Whether each cell is below its partner, of two equally long lists.
 pub fn are_below(mine: &[u16], theirs: &[u16]) -> bool
     requires { length mine.now ≡ length theirs.now }
     ensures { IsTrue result ↔ StackBelow (cells_of mine.now) (cells_of theirs.now) }
@@ -74,7 +74,7 @@ pub fn are_below(mine: &[u16], theirs: &[u16]) -> bool
     all
 }
 
-/// A code of the least cell above both, of which one is given by its code.
+/// Returns a code of the least cell above both, of which one is given by its code.
 pub fn joined(mine: u16, theirs: Cell) -> u16
     ensures { IsLeastCell (cell_of_code mine) theirs (cell_of_code result) }
 {
@@ -85,14 +85,14 @@ pub fn joined(mine: u16, theirs: Cell) -> u16
     }
 }
 
-/// A code of the least cell above both.
+/// Returns a code of the least cell above both.
 fn joined_code(mine: u16, theirs: u16) -> u16
     ensures { IsLeastCell (cell_of_code mine) (cell_of_code theirs) (cell_of_code result) }
 {
     if mine == theirs { mine } else { UNKNOWN }
 }
 
-/// Makes each cell the least one above it and its partner, of cells that are as many.
+/// Makes each cell the least one above it and its partner, of two equally long lists.
 pub fn join_codes(mine: &mut [u16], theirs: &[u16])
     requires { length mine.old ≡ length theirs.now }
     ensures { (k : ℕ) → k < length mine.old → IsLeastCell (cell_of_code (slice_index mine.old k)) (cell_of_code (slice_index theirs.now k)) (cell_of_code (slice_index mine.new k)) }
@@ -133,8 +133,8 @@ fn append_code(codes: &mut Codes, code: u16)
     codes.push_reserved(code);
 }
 
-/// Appends the codes of cells, for which there is room, up to the first cell that has none, and answers
-/// how many they are.
+/// Appends the codes of cells, for which there is room, up to the first cell that has none, and returns
+/// how many codes were appended.
 pub fn append_codes(codes: &mut Codes, cells: &[Cell]) -> usize
     requires { HasRoomFor codes.old (length cells.now) }
     ensures count { result ≤ length cells.now }

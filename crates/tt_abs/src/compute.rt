@@ -1,4 +1,4 @@
-//! The instructions that compute.
+//! The arithmetic and logical instructions.
 
 ghost use Rattle.std.specs.Prelude.{◌≡◌, IfErr, OnOk};
 ghost use Rattle.tt_abs.specs.Moves.{ForReason};
@@ -13,7 +13,7 @@ use crate::shuffle::cell_under;
 use crate::stack::Stack;
 use tt_code::kinds::Arithmetic;
 
-/// Does the instruction take one operand alone?
+/// Whether the instruction takes only one operand.
 fn is_of_one(operation: Arithmetic) -> bool
     ensures { result ≡ takes_one operation }
 {
@@ -25,7 +25,7 @@ fn is_of_one(operation: Arithmetic) -> bool
     }
 }
 
-/// The result of ABS, NEG or NOT.
+/// Returns the result of ABS, NEG or NOT.
 fn result_of_one(operation: Arithmetic, cell: Cell) -> Cell
     ensures { result ≡ one_result operation cell }
 {
@@ -36,7 +36,7 @@ fn result_of_one(operation: Arithmetic, cell: Cell) -> Cell
     }
 }
 
-/// The result of an instruction of two operands, the second element of the stack first.
+/// Returns the result of an instruction of two operands, the second element of the stack first.
 fn result_of_two(operation: Arithmetic, second: Cell, top: Cell) -> Cell
     ensures { result ≡ two_results operation second top }
 {
@@ -54,7 +54,7 @@ fn result_of_two(operation: Arithmetic, second: Cell, top: Cell) -> Cell
     }
 }
 
-/// Computes from the top.
+/// Replaces the top of the stack by the result of an instruction of one operand.
 fn compute_of_one(stack: &mut Stack, operation: Arithmetic) -> Result<(), Refusal>
     ensures ok { OnOk result (Restacks (λ a. of_one_cell a (one_result operation)) stack.old stack.new) }
     ensures refused { IfErr result (λ e. ForReason e (RefusesStack (λ a. of_one_cell a (one_result operation)) stack.old)) }
@@ -65,7 +65,7 @@ fn compute_of_one(stack: &mut Stack, operation: Arithmetic) -> Result<(), Refusa
     Ok(())
 }
 
-/// Computes from the two upper cells.
+/// Replaces the two upper cells by the result of an instruction of two operands.
 fn compute_of_two(stack: &mut Stack, operation: Arithmetic) -> Result<(), Refusal>
     ensures ok { OnOk result (Restacks (λ a. of_two_cells a (two_results operation)) stack.old stack.new) }
     ensures refused { IfErr result (λ e. ForReason e (RefusesStack (λ a. of_two_cells a (two_results operation)) stack.old)) }
@@ -77,7 +77,7 @@ fn compute_of_two(stack: &mut Stack, operation: Arithmetic) -> Result<(), Refusa
     Ok(())
 }
 
-/// Computes from the upper cells.
+/// Replaces an instruction's operands, which are on top, by its result.
 pub fn compute(stack: &mut Stack, operation: Arithmetic) -> Result<(), Refusal>
     ensures ok { OnOk result (Restacks (computed_cells operation) stack.old stack.new) }
     ensures refused { IfErr result (λ e. ForReason e (RefusesStack (computed_cells operation) stack.old)) }

@@ -1,4 +1,4 @@
-//! The instructions that lead elsewhere than behind themselves, or define a function.
+//! The instructions that lead elsewhere than to the next instruction, or define a function.
 
 ghost use Rattle.std.specs.Prelude.{◌≡◌, ◌+◌, ◌<◌, ◌^◌, Err, IfErr, IfOk, List, Ok, length, reverse, ℕ};
 ghost use Rattle.tt_code.specs.Control.{body_named};
@@ -21,7 +21,7 @@ use crate::state::State;
 use tt_code::kinds::Control;
 use tt_code::{Frame, Reason};
 
-/// Behind an instruction of one byte.
+/// Returns the offset just after an instruction of one byte.
 fn behind(point: &Point<'_>) -> u32
     requires { point.now.offset < 2 ^ 31 }
     ensures { result ≡ point.now.offset + 1 }
@@ -29,7 +29,7 @@ fn behind(point: &Point<'_>) -> u32
     point.offset + 1
 }
 
-/// The ways of an IF by its cell.
+/// Returns the ways of an IF by its cell.
 fn ways_of_if(setting: &Setting<'_>, point: &Point<'_>, cell: Cell) -> Result<Moves, Reason>
     requires { point.now.offset < 2 ^ 31 }
     ensures ok { IfOk result (λ m. (depth : ℕ) → Leads (λ stack a. if_ways (setting_of setting.now) (frames_of point.now) point.now.offset a cell stack) (frames_of point.now) depth m) }
@@ -53,7 +53,7 @@ fn ways_of_if(setting: &Setting<'_>, point: &Point<'_>, cell: Cell) -> Result<Mo
     }
 }
 
-/// IF.
+/// Carries out IF.
 fn branch(setting: &Setting<'_>, point: &Point<'_>, state: &mut State) -> Result<Moves, Refusal>
     requires { point.now.offset < 2 ^ 31 }
     ensures ok { IfOk result (λ m. LeadsBy point.now (control_at setting.now point.now state.old control.If) m state.new) }
@@ -65,7 +65,7 @@ fn branch(setting: &Setting<'_>, point: &Point<'_>, state: &mut State) -> Result
     Ok(moves)
 }
 
-/// ELSE, where it is reached.
+/// Carries out ELSE, where it is reached.
 fn skip_else(setting: &Setting<'_>, point: &Point<'_>, state: &mut State) -> Result<Moves, Refusal>
     ensures ok { IfOk result (λ m. LeadsBy point.now (control_at setting.now point.now state.old control.Else) m state.new) }
     ensures refused { IfErr result (IsRefusedFor (control_at setting.now point.now state.old control.Else)) }
@@ -76,7 +76,7 @@ fn skip_else(setting: &Setting<'_>, point: &Point<'_>, state: &mut State) -> Res
     }
 }
 
-/// Where a jump by a cell leads, with a stack so deep.
+/// Returns where a jump by a cell leads, with a stack so deep.
 fn jump_target(
     setting: &Setting<'_>,
     point: &Point<'_>,
@@ -99,7 +99,7 @@ fn jump_target(
     }
 }
 
-/// JMPR.
+/// Carries out JMPR.
 fn jump(setting: &Setting<'_>, point: &Point<'_>, state: &mut State) -> Result<Moves, Refusal>
     requires { point.now.offset < 2 ^ 31 }
     ensures ok { IfOk result (λ m. LeadsBy point.now (control_at setting.now point.now state.old control.Jump) m state.new) }
@@ -111,7 +111,7 @@ fn jump(setting: &Setting<'_>, point: &Point<'_>, state: &mut State) -> Result<M
     Ok(Moves::One(Move::To(target)))
 }
 
-/// The ways of JROT and JROF by the condition's cell, which jump where the condition is as asked.
+/// Returns the ways of JROT and JROF by the condition's cell; they jump where the condition is as asked.
 fn ways_of_jump(
     setting: &Setting<'_>,
     point: &Point<'_>,
@@ -140,7 +140,7 @@ fn ways_of_jump(
     }
 }
 
-/// JROT and JROF, which jump where the condition is as asked.
+/// Carries out JROT and JROF, which jump where the condition is as asked.
 fn jump_if(
     setting: &Setting<'_>,
     point: &Point<'_>,
@@ -158,7 +158,7 @@ fn jump_if(
     Ok(moves)
 }
 
-/// FDEF: the number that is popped names the body behind it, in the font program and in the CVT program.
+/// Carries out FDEF: the number that is popped names the body after it, in the font program and in the CVT program.
 fn define(setting: &Setting<'_>, point: &Point<'_>, state: &mut State) -> Result<Moves, Refusal>
     requires { point.now.offset + 1 < 2 ^ 31 }
     ensures ok { IfOk result (λ m. LeadsBy point.now (control_at setting.now point.now state.old control.FunctionDefinition) m state.new) }
@@ -180,7 +180,7 @@ fn define(setting: &Setting<'_>, point: &Point<'_>, state: &mut State) -> Result
     Ok(Moves::One(Move::To(after)))
 }
 
-/// The body of a called function: its number is below maxFunctionDefs and it is known.
+/// Returns the body of a called function: its number is below maxFunctionDefs and it is known.
 fn called(setting: &Setting<'_>, state: &State, cell: Cell) -> Result<u32, Reason>
     ensures ok { IfOk result (λ n. called_cell (setting_of setting.now) state.now.functions cell ≡ Ok n) }
     ensures refused { IfErr result (λ r. called_cell (setting_of setting.now) state.now.functions cell ≡ Err r) }
@@ -195,7 +195,7 @@ fn called(setting: &Setting<'_>, state: &State, cell: Cell) -> Result<u32, Reaso
     }
 }
 
-/// Does the body run already?
+/// Whether the body is running already.
 fn is_running(frames: &[Frame], body: u32) -> bool
     ensures { result ≡ runs_already body (reverse frames.now) }
 {
@@ -209,7 +209,7 @@ fn is_running(frames: &[Frame], body: u32) -> bool
     false
 }
 
-/// Into a body for so many turns, with a stack so deep.
+/// Enters a body for so many turns, with a stack so deep.
 fn enter(
     setting: &Setting<'_>,
     point: &Point<'_>,
@@ -234,7 +234,7 @@ fn enter(
     })))
 }
 
-/// CALL.
+/// Carries out CALL.
 fn call(setting: &Setting<'_>, point: &Point<'_>, state: &mut State) -> Result<Moves, Refusal>
     ensures ok { IfOk result (λ m. LeadsBy point.now (control_at setting.now point.now state.old control.Call) m state.new) }
     ensures refused { IfErr result (IsRefusedFor (control_at setting.now point.now state.old control.Call)) }
@@ -246,7 +246,7 @@ fn call(setting: &Setting<'_>, point: &Point<'_>, state: &mut State) -> Result<M
     Ok(moves)
 }
 
-/// Where a LOOPCALL of a body leads by its count; 0 or less calls nothing.
+/// Returns where a LOOPCALL of a body leads by its count; 0 or less calls nothing.
 fn repeat(
     setting: &Setting<'_>,
     point: &Point<'_>,
@@ -265,7 +265,7 @@ fn repeat(
     }
 }
 
-/// LOOPCALL.
+/// Carries out LOOPCALL.
 fn loop_call(setting: &Setting<'_>, point: &Point<'_>, state: &mut State) -> Result<Moves, Refusal>
     requires { point.now.offset < 2 ^ 31 }
     ensures ok { IfOk result (λ m. LeadsBy point.now (control_at setting.now point.now state.old control.LoopCall) m state.new) }
@@ -280,7 +280,7 @@ fn loop_call(setting: &Setting<'_>, point: &Point<'_>, state: &mut State) -> Res
     Ok(moves)
 }
 
-/// ENDF: to the next turn, or behind the call.
+/// Carries out ENDF: goes on to the next turn, or to just after the call.
 fn end_function(setting: &Setting<'_>, point: &Point<'_>, state: &State) -> Result<Moves, Refusal>
     ensures ok { IfOk result (λ m. LeadsBy point.now (control_at setting.now point.now state.now control.EndFunction) m state.now) }
     ensures refused { IfErr result (IsRefusedFor (control_at setting.now point.now state.now control.EndFunction)) }

@@ -1,4 +1,4 @@
-//! Lists of entries by rising numbers: functions with their bodies, storage cells with their numbers.
+//! Lists of entries in ascending order of their numbers: functions with their bodies, storage cells with their numbers.
 
 ghost use Rattle.std.specs.Prelude.{◌≡◌, ◌↔◌, ℕ, ◌<◌, ◌≤◌, List, [], ◌∷◌, IsTrue, IfOk, MatchResult, OnOk, OnErr, take, length};
 ghost use Rattle.std.specs.Option.{IsSome};
@@ -12,7 +12,7 @@ use crate::order::{AbsFault, Order};
 use std::alloc::{AllocError, Global};
 use std::marker::Model;
 
-/// At most so many entries are kept.
+/// How many entries are kept at most.
 const MOST_ENTRIES: usize = 65_535;
 
 /// A value of an entry: it is copied, and `==` tells equal values from others.
@@ -20,7 +20,7 @@ pub trait EntryValue: Copy + PartialEq {
     /// The values of the machine.
     ghost is_in_range: { Self → Type 0 };
 
-    /// Are the entries of two lists of one length the same?
+    /// Whether the entries of two lists of one length are the same.
     fn are_same(mine: &[(u16, Self)], theirs: &[(u16, Self)]) -> bool
         requires { length mine.now ≡ length theirs.now }
         ensures { IsTrue result ↔ (mine.now ≡ theirs.now) };
@@ -28,7 +28,7 @@ pub trait EntryValue: Copy + PartialEq {
     ghost decides: { IsEquality Self.eq };
 }
 
-/// Are functions with their bodies the same, in two lists of one length? By bits alone, so that no entry takes a branch.
+/// Whether functions with their bodies are the same, in two lists of one length. Compares bits only, so that no entry takes a branch.
 fn are_equal(mine: &[(u16, u32)], theirs: &[(u16, u32)]) -> bool
     requires { length mine.now ≡ length theirs.now }
     ensures { IsTrue result ↔ (mine.now ≡ theirs.now) }
@@ -66,7 +66,7 @@ impl EntryValue for i32 {
     }
 }
 
-/// Values by rising numbers, one for each number at most.
+/// Values in ascending order of their numbers, at most one for each number.
 #[derive(Drop)]
 pub struct Entries<T> {
     entries: Vec<(u16, T)>,
@@ -83,7 +83,7 @@ impl<T> Model for Entries<T> {
     ghost invariant = { λ e. IsRising e.entries.items };
 }
 
-/// Where a number stands, or where it would.
+/// Returns where a number is, or where it would be.
 fn search<T>(entries: &[(u16, T)], number: u16) -> Result<usize, usize>
     requires { Rises entries.now }
     ensures place { MatchResult result (IsAt number entries.now) (IsGap number entries.now) }
@@ -92,7 +92,7 @@ fn search<T>(entries: &[(u16, T)], number: u16) -> Result<usize, usize>
     entries.binary_search_by_key(&number, |entry| entry.0)
 }
 
-/// The value that is listed with a number.
+/// Returns the value that is listed with a number.
 fn value_at<T: Copy>(entries: &[(u16, T)], number: u16) -> Option<T>
     requires { Rises entries.now }
     ensures { result ≡ listed entries.now number }
@@ -120,7 +120,7 @@ fn insert_entry<T: Drop>(
     Ok(())
 }
 
-/// Puts an entry at its place, instead of one of its number.
+/// Puts an entry at its place, instead of the one of its number.
 fn put_entry<T: Copy>(entries: &mut Vec<(u16, T)>, number: u16, value: T) -> Result<(), AllocError>
     requires { Rises entries.old.items }
     ensures ok { OnOk result (entries.new.items ≡ with_entry number value entries.old.items) }
@@ -136,7 +136,7 @@ fn put_entry<T: Copy>(entries: &mut Vec<(u16, T)>, number: u16, value: T) -> Res
     }
 }
 
-/// Takes the entry of a number away.
+/// Removes the entry of a number.
 fn remove_entry<T: Copy>(entries: &mut Vec<(u16, T)>, number: u16)
     requires { Rises entries.old.items }
     ensures { entries.new.items ≡ without_entry number entries.old.items }
@@ -156,7 +156,7 @@ fn begins_with<T: EntryValue>(entries: &[(u16, T)], entry: &(u16, T)) -> bool
     }
 }
 
-/// The entries behind the first, if that is this one, and all of them otherwise.
+/// Returns the entries after the first, if that is this one, and all of them otherwise.
 fn behind<'a, T: EntryValue>(entries: &'a [(u16, T)], entry: &(u16, T)) -> &'a [(u16, T)]
     ensures { result.now ≡ behind_entry T.eq entry.now entries.now }
 {
@@ -166,7 +166,7 @@ fn behind<'a, T: EntryValue>(entries: &'a [(u16, T)], entry: &(u16, T)) -> &'a [
     }
 }
 
-/// Whether the first list has all the entries of the second, which goes by along the first.
+/// Whether the first list has all the entries of the second, found by passing along the first.
 fn passes_all<T: EntryValue>(mine: &[(u16, T)], theirs: &[(u16, T)]) -> bool
     requires mine_rise { Rises mine.now }
     requires theirs_rise { Rises theirs.now }
@@ -193,7 +193,7 @@ fn lists_all<T: EntryValue>(mine: &[(u16, T)], theirs: &[(u16, T)]) -> bool
     }
 }
 
-/// The entries from a number on.
+/// Returns the entries from a number on.
 fn from_number<T>(entries: &[(u16, T)], number: u16) -> &[(u16, T)]
     ensures { result.now ≡ entries_from number entries.now }
 {
@@ -207,7 +207,7 @@ fn from_number<T>(entries: &[(u16, T)], number: u16) -> &[(u16, T)]
     rest
 }
 
-/// Moves the entries that the other list has too to the front, and says how many they are.
+/// Moves to the front the entries that the other list has too, and returns how many they are.
 fn gather_common<T: EntryValue>(mine: &mut [(u16, T)], theirs: &[(u16, T)]) -> usize
     requires mine_rise { Rises mine.old }
     requires theirs_rise { Rises theirs.now }
@@ -238,7 +238,7 @@ fn keep_common<T: EntryValue>(mine: &mut Vec<(u16, T)>, theirs: &[(u16, T)])
 }
 
 impl<T: Copy> Entries<T> {
-    /// No entries. Takes no memory.
+    /// Makes a list without entries. Takes no memory.
     pub fn new(alloc: Global) -> Entries<T>
         ensures { result ≡ [] }
     {
@@ -247,7 +247,7 @@ impl<T: Copy> Entries<T> {
         }
     }
 
-    /// A list of these entries.
+    /// Makes a list of these entries.
     ///
     /// # Errors
     /// If memory runs out.
@@ -260,7 +260,7 @@ impl<T: Copy> Entries<T> {
         })
     }
 
-    /// A list with the same entries.
+    /// Makes a list with the same entries.
     ///
     /// # Errors
     /// If memory runs out.
@@ -273,19 +273,19 @@ impl<T: Copy> Entries<T> {
     /// Becomes a list with the same entries, in the memory that it has where that is enough.
     ///
     /// # Errors
-    /// If memory runs out; then the list says nothing.
+    /// If memory runs out; then the list's entries are unspecified.
     pub fn copy_from(&mut self, other: &Entries<T>) -> Result<(), AllocError>
         ensures { OnOk result (self.new ≡ other.now) }
     {
         self.entries.clear();
-        // As mostly in storage.
+        // The usual case for storage cells: the other list is empty.
         if other.entries.is_empty() {
             return Ok(());
         }
         self.entries.extend_from_slice(other.entries.as_slice())
     }
 
-    /// The entries, by rising numbers.
+    /// Returns the entries, in ascending order of their numbers.
     pub fn as_slice(&self) -> &[(u16, T)]
         ensures value { result.now ≡ self.now }
         ensures rises { Rises result.now }
@@ -293,14 +293,14 @@ impl<T: Copy> Entries<T> {
         self.entries.as_slice()
     }
 
-    /// The value that is listed with a number.
+    /// Returns the value that is listed with a number.
     pub fn get(&self, number: u16) -> Option<T>
         ensures { result ≡ listed self.now number }
     {
         value_at(self.entries.as_slice(), number)
     }
 
-    /// Puts an entry at its place, instead of one of its number.
+    /// Puts an entry at its place, instead of the one of its number.
     ///
     /// # Errors
     /// If memory runs out, or there are 65,535 other entries; then the list stays as it is. An entry of a number that is listed is
@@ -313,7 +313,7 @@ impl<T: Copy> Entries<T> {
         put_entry(&mut self.entries, number, value)
     }
 
-    /// Takes the entry of a number away. Takes no memory.
+    /// Removes the entry of a number. Takes no memory.
     pub fn remove(&mut self, number: u16)
         ensures { self.new ≡ without_entry number self.old }
     {
@@ -322,7 +322,7 @@ impl<T: Copy> Entries<T> {
 }
 
 impl<T: EntryValue> Entries<T> {
-    /// Are the entries the same?
+    /// Whether the entries are the same.
     pub fn is_same(&self, other: &Entries<T>) -> bool
         ensures { IsTrue result ↔ (self.now ≡ other.now) }
     {

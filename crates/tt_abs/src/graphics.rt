@@ -8,7 +8,7 @@ use crate::cells::{Cell, ZoneCell};
 use crate::order::{AbsFault, Order};
 use tt_code::Graphics;
 
-/// Are the two graphics states the same, part by part?
+/// Whether the two graphics states are the same, part by part.
 pub fn is_same_graphics(mine: &Graphics<Cell, ZoneCell>, theirs: &Graphics<Cell, ZoneCell>) -> bool
     ensures { IsTrue result ↔ (mine.now ≡ theirs.now) }
 {
@@ -21,7 +21,7 @@ pub fn is_same_graphics(mine: &Graphics<Cell, ZoneCell>, theirs: &Graphics<Cell,
         && mine.loop_number.is_same(theirs.loop_number)
 }
 
-/// The least graphics state above both, part by part.
+/// Returns the least graphics state above both, part by part.
 pub fn joined_graphics(
     mine: &Graphics<Cell, ZoneCell>,
     theirs: &Graphics<Cell, ZoneCell>,

@@ -25,7 +25,7 @@ pub fn carry_out(setting: &Setting<'_>, state: &mut State, line: &Row) -> Result
 {
     let count = take_operands(setting, &state.graphics, &state.stack, line.operands)?;
     test_uses(setting, &state.graphics, line.uses)?;
-    // So an index that was tested has 16 bits.
+    // There are fewer than 2^16 storage cells, so an index that was tested has 16 bits.
     prove!(u32::from(setting.limits.storage) < 65536);
     if line.pushes.is_empty() {
         update_all(state, count, line.updates)?;

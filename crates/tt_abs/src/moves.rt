@@ -17,11 +17,11 @@ pub enum Move {
     Enter(Frame),
     /// To the next turn of the innermost call.
     NextTurn,
-    /// Behind the innermost call.
+    /// To just after the innermost call.
     Return,
 }
 
-/// The ways that a program may go on, all with one state: a short list, which is read by `first` and `get`.
+/// The ways in which a program may go on, all with one state: a short list, which is read by `first` and `get`.
 #[derive(Clone, Copy, Debug, PartialEq, Eq)]
 pub enum Moves {
     One(Move),
@@ -30,7 +30,7 @@ pub enum Moves {
 }
 
 impl Moves {
-    /// The first of them.
+    /// Returns the first of them.
     pub fn first(&self) -> Move
         ensures { slice_get (ways_of self.now) 0 ≡ Some result }
     {
@@ -40,7 +40,7 @@ impl Moves {
         }
     }
 
-    /// The one that has this number, from 0 on, if they are so many.
+    /// Returns the one with this number, from 0 on, if there are so many.
     pub fn get(&self, index: usize) -> Option<Move>
         ensures { result ≡ slice_get (ways_of self.now) index }
     {
@@ -51,7 +51,7 @@ impl Moves {
         }
     }
 
-    /// The two ways to two offsets; one where they are the same.
+    /// Makes the two ways to two offsets; one where they are the same.
     pub(crate) fn two(one: u32, other: u32) -> Moves
         ensures { (fs : List AnyFrame) (a : Abstract) → two_ways fs one other a ≡ nexts_of fs result a }
     {

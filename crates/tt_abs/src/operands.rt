@@ -20,7 +20,7 @@ use crate::stack::Stack;
 use tt_code::kinds::{Operand, Use, Within};
 use tt_code::{Graphics, Reason};
 
-/// The number of a cell.
+/// Returns the number of a cell.
 pub fn number(cell: Cell) -> Result<i32, Reason>
     ensures ok { IfOk result (λ z. cell ≡ Known z) }
     ensures refused { IfErr result (λ r. known cell ≡ Err r) }
@@ -31,7 +31,7 @@ pub fn number(cell: Cell) -> Result<i32, Reason>
     }
 }
 
-/// A count: a number of 0 or more.
+/// Returns a count: a number of 0 or more.
 fn count(cell: Cell) -> Result<u32, Reason>
     ensures ok { IfOk result (λ n. known_count cell ≡ Ok n) }
     ensures refused { IfErr result (λ r. known_count cell ≡ Err r) }
@@ -43,7 +43,7 @@ fn count(cell: Cell) -> Result<u32, Reason>
     }
 }
 
-/// The number under so many cells, and how many are taken with it.
+/// Returns the number under so many cells, and how many are taken with it.
 fn next_number(stack: &Stack, taken: usize) -> Result<(i32, usize), Reason>
     ensures ok { IfOk result (λ r. (below : List AnyCell) × (drop taken stack.now ≡ Known r.0 ∷ below) × (r.1 ≡ taken + 1)) }
     ensures refused { IfErr result (λ r. (passes : ℤ → Bool) (other : AnyReason) → tested_cell passes other (drop taken stack.now) ≡ Err r) }
@@ -101,7 +101,7 @@ fn take_contour(
     }
 }
 
-/// Takes a point of each zone that counts.
+/// Takes a point that is in each zone that counts.
 fn take_point(
     setting: &Setting<'_>,
     graphics: &Graphics<Cell, ZoneCell>,
@@ -189,7 +189,7 @@ fn take_cvt_pair(stack: &Stack, taken: usize, cvt: u32) -> Result<usize, Reason>
     take_any(stack, after)
 }
 
-/// The count under so many cells, and how many are taken with it.
+/// Returns the count under so many cells, and how many are taken with it.
 fn next_count(stack: &Stack, taken: usize) -> Result<(u32, usize), Reason>
     ensures ok { IfOk result (λ r. (c : AnyCell) × (below : List AnyCell) × (drop taken stack.now ≡ c ∷ below) × (known_count c ≡ Ok r.0) × (r.1 ≡ taken + 1)) }
     ensures refused { IfErr result (λ r. (one : List AnyCell → Tested (Taking AnyCell)) → pairs known_count one (drop taken stack.now) ≡ Err r) }
@@ -233,7 +233,7 @@ fn take_cvt_pairs(stack: &Stack, taken: usize, cvt: u32) -> Result<usize, Reason
     Ok(after)
 }
 
-/// Takes what an operand says.
+/// Takes what an operand describes.
 fn take_operand(
     setting: &Setting<'_>,
     graphics: &Graphics<Cell, ZoneCell>,
@@ -264,7 +264,7 @@ fn take_operand(
     }
 }
 
-/// Takes the operands of a line from the top on, and answers how many cells they are.
+/// Takes the operands of a line, from the top on, and returns how many cells they are.
 pub fn take_operands(
     setting: &Setting<'_>,
     graphics: &Graphics<Cell, ZoneCell>,

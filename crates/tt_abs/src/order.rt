@@ -23,7 +23,7 @@ pub trait Order {
     fn below(&self, other: &Self) -> bool
         ensures { IsTrue result ↔ order.Below self.now other.now };
 
-    /// Makes this value the least one above both, and answers whether that differs from what it was.
+    /// Makes this value the least one above both, and returns whether that differs from what it was.
     ///
     /// # Errors
     /// `DepthMismatch` exactly if the two differ in depth; then this value stays as it is.

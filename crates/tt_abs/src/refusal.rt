@@ -10,7 +10,7 @@ pub enum Refusal {
     /// A test of the instruction fails.
     #[error(transparent)]
     Refused(Reason),
-    /// A growth of memory was refused, which says nothing of the program.
+    /// Memory could not be grown, which says nothing about the program.
     #[error(transparent)]
     OutOfMemory(AllocError),
 }

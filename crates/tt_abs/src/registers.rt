@@ -7,7 +7,7 @@ use crate::cells::{Cell, ZoneCell};
 use tt_code::Graphics;
 use tt_code::kinds::{Pointer, Reference};
 
-/// The reference point.
+/// Returns what is known of the reference point.
 pub fn reference(graphics: &Graphics<Cell, ZoneCell>, reference: Reference) -> Cell
     ensures { result ≡ reference_of reference graphics.now }
 {
@@ -18,7 +18,7 @@ pub fn reference(graphics: &Graphics<Cell, ZoneCell>, reference: Reference) -> C
     }
 }
 
-/// The zone that the pointer names.
+/// Returns what is known of the zone that the pointer names.
 pub fn pointer(graphics: &Graphics<Cell, ZoneCell>, pointer: Pointer) -> ZoneCell
     ensures { result ≡ pointer_of pointer graphics.now }
 {

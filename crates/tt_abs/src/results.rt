@@ -8,7 +8,7 @@ ghost use Rattle.tt_abs.specs.Transfers.{and_cells, exact_cell, le_cells, lt_cel
 
 use crate::cells::Cell;
 
-/// The result, where it is a number of the machine, -2^31 to 2^31 - 1.
+/// Returns the result, where it is a number of the machine, -2^31 to 2^31 - 1.
 fn exact(value: i64) -> Cell
     ensures { result ≡ exact_cell value }
 {
@@ -18,7 +18,7 @@ fn exact(value: i64) -> Cell
     }
 }
 
-/// 1 for true, 0 for false.
+/// Returns 1 for true, 0 for false.
 fn truth(holds: bool) -> Cell
     ensures { result ≡ truth_cell holds }
 {
@@ -29,7 +29,7 @@ fn truth(holds: bool) -> Cell
     }
 }
 
-/// The answer where it is decided.
+/// Returns the answer where it is decided.
 fn decided(is_decided: bool, answer: bool) -> Cell
     ensures { result ≡ only_if is_decided (truth_cell answer) }
 {
@@ -40,7 +40,7 @@ fn decided(is_decided: bool, answer: bool) -> Cell
     }
 }
 
-/// ADD: the sum.
+/// Returns the sum, for ADD.
 pub fn sum(first: Cell, second: Cell) -> Cell
     ensures { result ≡ of_both_known (λ a b. exact_cell (a +ℤ b)) first second }
 {
@@ -50,7 +50,7 @@ pub fn sum(first: Cell, second: Cell) -> Cell
     }
 }
 
-/// SUB: the first less the second.
+/// Returns the first less the second, for SUB.
 pub fn difference(first: Cell, second: Cell) -> Cell
     ensures { result ≡ of_both_known (λ a b. exact_cell (a -ℤ b)) first second }
 {
@@ -60,7 +60,7 @@ pub fn difference(first: Cell, second: Cell) -> Cell
     }
 }
 
-/// ABS.
+/// Returns the absolute value, for ABS.
 pub fn absolute_value(cell: Cell) -> Cell
     ensures { result ≡ of_known (λ a. exact_cell (absolute a)) cell }
 {
@@ -70,7 +70,7 @@ pub fn absolute_value(cell: Cell) -> Cell
     }
 }
 
-/// NEG.
+/// Returns the negative, for NEG.
 pub fn negative(cell: Cell) -> Cell
     ensures { result ≡ of_known (λ a. exact_cell (neg_ℤ a)) cell }
 {
@@ -80,7 +80,7 @@ pub fn negative(cell: Cell) -> Cell
     }
 }
 
-/// LT: is the first below the second? No number is below -2^31, and 2^31 - 1 is below none.
+/// Returns whether the first is below the second, for LT. No number is below -2^31, and 2^31 - 1 is below none.
 pub fn less(first: Cell, second: Cell) -> Cell
     ensures { result ≡ lt_cells first second }
 {
@@ -96,7 +96,7 @@ pub fn less(first: Cell, second: Cell) -> Cell
     }
 }
 
-/// LTEQ: is the first at most the second? -2^31 is at most each number, and each is at most 2^31 - 1.
+/// Returns whether the first is at most the second, for LTEQ. -2^31 is at most each number, and each is at most 2^31 - 1.
 pub fn at_most(first: Cell, second: Cell) -> Cell
     ensures { result ≡ le_cells first second }
 {
@@ -112,7 +112,7 @@ pub fn at_most(first: Cell, second: Cell) -> Cell
     }
 }
 
-/// EQ.
+/// Returns whether the two are the same, for EQ.
 pub fn same(first: Cell, second: Cell) -> Cell
     ensures { result ≡ of_both_known (λ a b. truth_cell (equal a b)) first second }
 {
@@ -122,7 +122,7 @@ pub fn same(first: Cell, second: Cell) -> Cell
     }
 }
 
-/// NEQ.
+/// Returns whether the two differ, for NEQ.
 pub fn different(first: Cell, second: Cell) -> Cell
     ensures { result ≡ of_both_known (λ a b. truth_cell (not (equal a b))) first second }
 {
@@ -132,14 +132,14 @@ pub fn different(first: Cell, second: Cell) -> Cell
     }
 }
 
-/// Every number but 0 is true.
+/// Whether the number is true: every number but 0 is.
 pub fn is_true(number: i32) -> bool
     ensures { result ≡ holds number }
 {
     number != 0
 }
 
-/// AND: false decides.
+/// Returns whether both are true, for AND: false decides.
 pub fn both(first: Cell, second: Cell) -> Cell
     ensures { result ≡ and_cells first second }
 {
@@ -155,7 +155,7 @@ pub fn both(first: Cell, second: Cell) -> Cell
     }
 }
 
-/// OR: true decides.
+/// Returns whether one of the two is true, for OR: true decides.
 pub fn either(first: Cell, second: Cell) -> Cell
     ensures { result ≡ or_cells first second }
 {
@@ -171,7 +171,7 @@ pub fn either(first: Cell, second: Cell) -> Cell
     }
 }
 
-/// NOT.
+/// Returns whether the number is false, for NOT.
 pub fn opposite(cell: Cell) -> Cell
     ensures { result ≡ of_known (λ a. truth_cell (not (holds a))) cell }
 {

@@ -16,10 +16,10 @@ use crate::registers::pointer;
 use tt_code::kinds::Within;
 use tt_code::{Body, Frame, Graphics, Limits, Program};
 
-/// How many phantom points a glyph has beside its own (OpenType specification, "Phantom points").
+/// How many phantom points a glyph has besides its own (OpenType specification, "Phantom points").
 const PHANTOM_POINTS: u32 = 4;
 
-/// Bodies of the CVT program are named by their offset and this.
+/// What is added to the offset of a body of the CVT program to make its name.
 const CVT_BODIES: u32 = 1 << 31;
 
 /// Which program runs.
@@ -29,11 +29,11 @@ pub enum Kind {
     Font,
     /// The CVT program, `prep`.
     Cvt,
-    /// A glyph program; how many points and contours the glyph has, phantom points aside.
+    /// A glyph program; how many points and contours the glyph has, except for phantom points.
     Glyph { points: u16, contours: u16 },
 }
 
-/// What a program may rely on. For the font program all three programs are one, for the CVT program `prep` is `main`.
+/// What a program may rely on. For the font program all three programs are the same, for the CVT program `prep` is `main`.
 #[derive(Clone, Copy)]
 pub struct Setting<'a> {
     pub limits: Limits,
@@ -46,11 +46,11 @@ pub struct Setting<'a> {
     pub font: &'a Program<'a>,
     /// The CVT program.
     pub prep: &'a Program<'a>,
-    /// The functions with which the program starts, as number and body, by rising number.
+    /// The functions with which the program starts, as number and body, in ascending order of the numbers.
     pub start: &'a [(u16, u32)],
 }
 
-/// Where a program stands.
+/// Where a program is.
 #[derive(Clone, Copy)]
 pub struct Point<'a> {
     /// The calls that haven't returned, the outermost first.
@@ -59,7 +59,7 @@ pub struct Point<'a> {
     pub offset: u32,
 }
 
-/// The offset of a body in its program.
+/// Returns the offset of a body in its program.
 pub fn body_offset(body: u32) -> u32
     ensures { result ≡ offset_of_body body }
 {
@@ -70,7 +70,7 @@ pub fn body_offset(body: u32) -> u32
     }
 }
 
-/// The body in which a point stands.
+/// Returns the body to which a point belongs.
 pub(crate) fn body_of(point: &Point<'_>) -> Body
     ensures { result ≡ body_of_frames (frames_of point.now) }
 {
@@ -80,7 +80,7 @@ pub(crate) fn body_of(point: &Point<'_>) -> Body
     }
 }
 
-/// Are the two one body of the main program or of a function?
+/// Whether the two are the same body of the main program or of a function.
 pub(crate) fn is_same_body(body: Body, other: Body) -> bool
     ensures { result ≡ is_body body (Some other) }
 {
@@ -97,7 +97,7 @@ pub(crate) fn is_same_body(body: Body, other: Body) -> bool
     }
 }
 
-/// Is the number an index below the bound?
+/// Whether the number is an index below the bound.
 pub fn is_index(number: i32, bound: u32) -> bool
     ensures { result ≡ is_below number bound }
 {
@@ -108,7 +108,7 @@ pub fn is_index(number: i32, bound: u32) -> bool
 }
 
 impl<'a> Setting<'a> {
-    /// The setting of a font program, which starts with no function.
+    /// Makes the setting of a font program, which starts with no function.
     pub fn for_font_program(limits: Limits, cvt: u32, program: &'a Program<'a>) -> Setting<'a>
         ensures setting { setting_of result ≡ font_setting (programs_of result) }
         ensures programs { programs_of result ≡ record { limits = limits; cvt = cvt; font_program = program.entry.now; cvt_program = program.entry.now } }
@@ -126,8 +126,8 @@ impl<'a> Setting<'a> {
         }
     }
 
-    /// The setting of the CVT program of the same font, from that of the font program. It starts with these functions, by rising number:
-    /// those that are known where the font program ends.
+    /// Makes the setting of the CVT program of the same font, from that of the font program. It starts with these functions, in ascending
+    /// order of their numbers: those that are known where the font program ends.
     pub fn for_cvt_program(
         &self,
         program: &'a Program<'a>,
@@ -147,8 +147,9 @@ impl<'a> Setting<'a> {
         }
     }
 
-    /// The setting of a glyph program of the same font, from that of the CVT program. The glyph has so many points, phantom points aside, and
-    /// so many contours. Its program starts with these functions, by rising number: those that are known where the CVT program ends.
+    /// Makes the setting of a glyph program of the same font, from that of the CVT program. The glyph has so many points, except for phantom
+    /// points, and so many contours. Its program starts with these functions, in ascending order of their numbers: those that are known where
+    /// the CVT program ends.
     pub fn for_glyph_program(
         &self,
         points: u16,
@@ -168,7 +169,7 @@ impl<'a> Setting<'a> {
         }
     }
 
-    /// How many points the glyph zone has.
+    /// Returns how many points the glyph zone has.
     fn glyph_zone(&self) -> u32
         ensures { result ≡ zone_size (setting_of self.now) One }
     {
@@ -179,7 +180,7 @@ impl<'a> Setting<'a> {
         }
     }
 
-    /// How many contours the glyph zone has.
+    /// Returns how many contours the glyph zone has.
     fn glyph_contours(&self) -> u32
         ensures { result ≡ contours_in (setting_of self.now) One }
     {
@@ -190,7 +191,7 @@ impl<'a> Setting<'a> {
         }
     }
 
-    /// The least number of points of the zones that may be meant.
+    /// Returns the least number of points of the zones that may be meant.
     fn points_in(&self, zone: ZoneCell) -> u32
         ensures { (z : ℤ) → is_below z result ≡ is_below_in (zone_size (setting_of self.now)) zone z }
     {
@@ -202,7 +203,7 @@ impl<'a> Setting<'a> {
         }
     }
 
-    /// The least number of points of the zones that count.
+    /// Returns the least number of points of the zones that count.
     fn points_within(&self, graphics: &Graphics<Cell, ZoneCell>, within: Within) -> u32
         ensures { (z : ℤ) → is_below z result ≡ is_point_in (setting_of self.now) graphics.now within z }
     {
@@ -219,14 +220,14 @@ impl<'a> Setting<'a> {
         }
     }
 
-    /// Is the number a point's of each zone that may be meant?
+    /// Whether the number is that of a point in each zone that may be meant.
     pub(crate) fn is_in(&self, zone: ZoneCell, number: i32) -> bool
         ensures { result ≡ is_below_in (zone_size (setting_of self.now)) zone number }
     {
         is_index(number, self.points_in(zone))
     }
 
-    /// Is the number a point's of each zone that counts?
+    /// Whether the number is that of a point in each zone that counts.
     pub(crate) fn is_point(
         &self,
         graphics: &Graphics<Cell, ZoneCell>,
@@ -238,7 +239,7 @@ impl<'a> Setting<'a> {
         is_index(number, self.points_within(graphics, within))
     }
 
-    /// Is the number a contour's of each zone that may be meant?
+    /// Whether the number is that of a contour in each zone that may be meant.
     pub(crate) fn is_contour(&self, zone: ZoneCell, number: i32) -> bool
         ensures { result ≡ is_below_in (contours_in (setting_of self.now)) zone number }
     {
@@ -249,7 +250,7 @@ impl<'a> Setting<'a> {
         }
     }
 
-    /// Says that the programs are of bytes and shorter than 2^31 bytes, and that depths have 16 bits, as they always are.
+    /// States that the programs consist of bytes and are shorter than 2^31 bytes, and that depths have 16 bits, as they always do.
     pub fn is_within(&self)
         ensures range { IsSettingInRange (setting_of self.now) }
         ensures short { AreProgramsShort (setting_of self.now) }
@@ -260,7 +261,7 @@ impl<'a> Setting<'a> {
         prove!(u32::from(self.limits.stack) < 1 << 16);
     }
 
-    /// The program in which a point stands.
+    /// Returns the program in which a point is.
     pub fn program(&self, point: &Point<'_>) -> &'a Program<'a>
         ensures { result.now ≡ program_of (setting_of self.now) (frames_of point.now) }
     {
@@ -276,7 +277,7 @@ impl<'a> Setting<'a> {
         }
     }
 
-    /// May control jump there from the point? To an instruction of the same body, in a main program to its end too.
+    /// Whether control may jump there from the point: to an instruction of the same body, in a main program to its end too.
     pub(crate) fn is_target(&self, point: &Point<'_>, target: i64) -> bool
         requires { target ≤ℤ pos 4294967295 }
         ensures { result ≡ is_jump_target (setting_of self.now) (frames_of point.now) target }
@@ -287,7 +288,7 @@ impl<'a> Setting<'a> {
         }
     }
 
-    /// Does an instruction of the point's body start at the offset?
+    /// Whether an instruction of the point's body starts at the offset.
     pub fn starts(&self, point: &Point<'_>, offset: u32) -> bool
         ensures { result ≡ starts_in_body (setting_of self.now) (frames_of point.now) offset }
     {
@@ -297,14 +298,14 @@ impl<'a> Setting<'a> {
         }
     }
 
-    /// Is the offset the main program's end, and the point the main program's?
+    /// Whether the offset is the main program's end, and the point the main program's.
     pub fn is_end(&self, point: &Point<'_>, offset: u32) -> bool
         ensures { result ≡ is_main_end (setting_of self.now) (frames_of point.now) offset }
     {
         point.frames.is_empty() && offset == self.main.len()
     }
 
-    /// May the program define functions?
+    /// Whether the program may define functions.
     pub(crate) fn may_define(&self) -> bool
         ensures { result ≡ may_define_functions (setting_of self.now).kind }
     {
@@ -315,7 +316,7 @@ impl<'a> Setting<'a> {
         }
     }
 
-    /// The name of a body that the program defines at an offset below 2^31.
+    /// Returns the name of a body that the program defines at an offset below 2^31.
     pub(crate) fn body_name(&self, offset: u32) -> u32
         requires { offset < 2 ^ 31 }
         ensures { result ≡ name_of_body (setting_of self.now).kind offset }
@@ -326,7 +327,7 @@ impl<'a> Setting<'a> {
         }
     }
 
-    /// Does the number name a zone that the font has?
+    /// Whether the number names a zone that the font has.
     pub(crate) fn is_zone(&self, number: i32) -> bool
         ensures { result ≡ is_zone_number (setting_of self.now) number }
     {

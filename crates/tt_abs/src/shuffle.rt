@@ -19,7 +19,7 @@ use crate::stack::Stack;
 use tt_code::Reason;
 use tt_code::kinds::StackOp;
 
-/// The cell under so many others.
+/// Returns the cell under so many others.
 pub fn cell_under(stack: &Stack, taken: usize) -> Result<Cell, Reason>
     ensures ok { IfOk result (λ c. drop taken stack.now ≡ c ∷ drop (taken + 1) stack.now) }
     ensures refused { IfErr result (λ r. (drop taken stack.now ≡ []) × (r ≡ reason.Underflow)) }
@@ -30,7 +30,7 @@ pub fn cell_under(stack: &Stack, taken: usize) -> Result<Cell, Reason>
     }
 }
 
-/// DUP: copies the top.
+/// Carries out DUP: copies the top.
 fn duplicate(stack: &mut Stack) -> Result<(), Refusal>
     ensures ok { OnOk result (Restacks (shuffled_cells op.Dup) stack.old stack.new) }
     ensures refused { IfErr result (λ e. ForReason e (RefusesStack (shuffled_cells op.Dup) stack.old)) }
@@ -40,7 +40,7 @@ fn duplicate(stack: &mut Stack) -> Result<(), Refusal>
     Ok(())
 }
 
-/// POP: drops the top.
+/// Carries out POP: drops the top.
 fn discard(stack: &mut Stack) -> Result<(), Refusal>
     ensures ok { OnOk result (Restacks (shuffled_cells op.Pop) stack.old stack.new) }
     ensures refused { IfErr result (λ e. ForReason e (RefusesStack (shuffled_cells op.Pop) stack.old)) }
@@ -50,7 +50,7 @@ fn discard(stack: &mut Stack) -> Result<(), Refusal>
     Ok(())
 }
 
-/// SWAP: exchanges the two upper cells.
+/// Carries out SWAP: exchanges the two upper cells.
 fn swap(stack: &mut Stack) -> Result<(), Refusal>
     ensures ok { OnOk result (Restacks (shuffled_cells op.Swap) stack.old stack.new) }
     ensures refused { IfErr result (λ e. ForReason e (RefusesStack (shuffled_cells op.Swap) stack.old)) }
@@ -63,7 +63,7 @@ fn swap(stack: &mut Stack) -> Result<(), Refusal>
     Ok(())
 }
 
-/// DEPTH: pushes how many cells there are.
+/// Carries out DEPTH: pushes how many cells there are.
 fn push_depth(stack: &mut Stack) -> Result<(), Refusal>
     ensures ok { OnOk result (Restacks (shuffled_cells op.Depth) stack.old stack.new) }
     ensures refused { IfErr result (λ e. ForReason e (RefusesStack (shuffled_cells op.Depth) stack.old)) }
@@ -73,7 +73,7 @@ fn push_depth(stack: &mut Stack) -> Result<(), Refusal>
     Ok(())
 }
 
-/// The place that an index from 1 names, the top being 0.
+/// Returns the place that an index from 1 names, the top being 0.
 fn place(index: i32) -> Result<usize, Reason>
     ensures ok { IfOk result (λ n. index ≡ pos (suc n)) }
     ensures refused { IfErr result (λ r. (cells : List AnyCell) → element index cells ≡ Err r) }
@@ -84,7 +84,7 @@ fn place(index: i32) -> Result<usize, Reason>
     }
 }
 
-/// The index on top: how many cells lie above the cell that it names, the index itself aside, and that cell.
+/// Reads the index on top: returns how many cells lie above the cell that it names, except for the index itself, and that cell.
 fn indexed(stack: &Stack) -> Result<(usize, Cell), Reason>
     ensures ok { IfOk result (λ r. (k : AnyCell) × (below : List AnyCell) × (stack.now ≡ k ∷ below) × (known k ≡ Ok (pos (suc r.0))) × (drop r.0 below ≡ r.1 ∷ drop (r.0 + 1) below)) }
     ensures refused { IfErr result (λ r. RefusesStack (shuffled_cells op.CopyIndexed) stack.now r × RefusesStack (shuffled_cells op.MoveIndexed) stack.now r) }
@@ -96,7 +96,7 @@ fn indexed(stack: &Stack) -> Result<(usize, Cell), Reason>
     Ok((above, cell))
 }
 
-/// CINDEX: copies the cell that the top names.
+/// Carries out CINDEX: copies the cell that the top names.
 fn copy_indexed(stack: &mut Stack) -> Result<(), Refusal>
     ensures ok { OnOk result (Restacks (shuffled_cells op.CopyIndexed) stack.old stack.new) }
     ensures refused { IfErr result (λ e. ForReason e (RefusesStack (shuffled_cells op.CopyIndexed) stack.old)) }
@@ -107,7 +107,7 @@ fn copy_indexed(stack: &mut Stack) -> Result<(), Refusal>
     Ok(())
 }
 
-/// MINDEX: moves the cell that the top names to the top.
+/// Carries out MINDEX: moves the cell that the top names to the top.
 fn move_indexed(stack: &mut Stack) -> Result<(), Refusal>
     ensures ok { OnOk result (Restacks (shuffled_cells op.MoveIndexed) stack.old stack.new) }
     ensures refused { IfErr result (λ e. ForReason e (RefusesStack (shuffled_cells op.MoveIndexed) stack.old)) }
@@ -119,7 +119,7 @@ fn move_indexed(stack: &mut Stack) -> Result<(), Refusal>
     Ok(())
 }
 
-/// ROLL: brings the third cell to the top.
+/// Carries out ROLL: brings the third cell to the top.
 fn roll(stack: &mut Stack) -> Result<(), Refusal>
     ensures ok { OnOk result (Restacks (shuffled_cells op.Roll) stack.old stack.new) }
     ensures refused { IfErr result (λ e. ForReason e (RefusesStack (shuffled_cells op.Roll) stack.old)) }
@@ -134,7 +134,7 @@ fn roll(stack: &mut Stack) -> Result<(), Refusal>
     Ok(())
 }
 
-/// Moves the stack's cells.
+/// Carries out an instruction that moves the stack's cells.
 pub fn shuffle(stack: &mut Stack, operation: StackOp) -> Result<(), Refusal>
     ensures ok { OnOk result (Restacks (shuffled_cells operation) stack.old stack.new) }
     ensures refused { IfErr result (λ e. ForReason e (RefusesStack (shuffled_cells operation) stack.old)) }

@@ -23,14 +23,14 @@ use std::marker::Model;
 /// How many cells a stack may have at most.
 const MOST_CELLS: usize = 0x7fff_ffff;
 
-/// So many codes are taken away one by one: `truncate` clears those that it takes by a call, which a few aren't worth.
+/// Up to so many codes are removed one by one: `truncate` clears what it removes by a call, which isn't worth it for a few.
 const FEW: usize = 8;
 
 /// A stack of cells, which contracts see top first. Up to 32 cells need no allocation, if each is unknown or has a number from
 /// -32,767 to 32,767.
 #[derive(Drop)]
 pub struct Stack {
-    /// The cells from the bottom up to the uppermost that has no code; mostly none.
+    /// The cells from the bottom up to the uppermost that has no code; usually none.
     wide: Vec<Cell>,
     /// The codes of the cells above those.
     codes: Codes,
@@ -68,7 +68,7 @@ impl<'a> Model for StackCells<'a> {
 }
 
 impl<'a> StackCells<'a> {
-    /// Takes the first of the cells that are still to come: `None` exactly where none is, from then on always.
+    /// Takes the first of the cells that are still to come: `None` exactly where there is none, and from then on always.
     pub fn take_first(&mut self) -> Option<Cell>
         ensures none { result ≡ None → self.old ≡ [] }
         ensures done { result ≡ None → self.new ≡ [] }
@@ -99,7 +99,7 @@ fn make_room(codes: &mut Codes, wide: usize, more: usize) -> Result<(), AllocErr
     codes.reserve(more)
 }
 
-/// Puts a cell on top that has no code: it and those below it become wide ones.
+/// Puts a cell on top that has no code: it and those below it become wide cells.
 fn push_wide(wide: &mut Vec<Cell>, codes: &mut Codes, cell: Cell) -> Result<(), AllocError>
     requires { length wide.old.items + length codes.old.items < 2 ^ 31 }
     ensures cells { OnOk result (kept_cells wide.new.items codes.new.items ≡ kept_cells wide.old.items codes.old.items ++ cell ∷ []) }
@@ -113,7 +113,7 @@ fn push_wide(wide: &mut Vec<Cell>, codes: &mut Codes, cell: Cell) -> Result<(), 
     Ok(())
 }
 
-/// Takes so many codes away from the end, or all of them if there are fewer.
+/// Removes so many codes from the end, or all of them if there are fewer.
 fn shorten(codes: &mut Codes, count: usize)
     ensures { codes.new.items ≡ take (length codes.old.items - count) codes.old.items }
 {
@@ -127,7 +127,7 @@ fn shorten(codes: &mut Codes, count: usize)
     }
 }
 
-/// The signed word of two bytes.
+/// Returns the signed word of two bytes.
 fn word_of(high: u8, low: u8) -> i32
     ensures { result ≡ word_number high low }
 {
@@ -135,7 +135,7 @@ fn word_of(high: u8, low: u8) -> i32
     if high < 128 { number } else { number - 65536 }
 }
 
-/// Says that a cell's number is one of the machine, as it always is.
+/// States that a cell's number is one of the machine, as it always is.
 fn is_in_range(cell: Cell)
     ensures { CellInRange cell }
 {}
@@ -154,7 +154,7 @@ fn cells_equal(mine: &[Cell], theirs: &[Cell]) -> bool
 }
 
 impl Stack {
-    /// The empty stack.
+    /// Makes the empty stack.
     pub fn new(alloc: Global) -> Self
         ensures { result ≡ [] }
     {
@@ -164,7 +164,7 @@ impl Stack {
         }
     }
 
-    /// How many cells there are.
+    /// Returns how many cells there are.
     pub fn len(&self) -> usize
         ensures value { result ≡ length self.now }
         ensures small { result < 2 ^ 31 }
@@ -192,7 +192,7 @@ impl Stack {
         }
     }
 
-    /// Puts cells on top, one after the other, up to the first that has no code, and answers how many they are.
+    /// Puts cells on top, one after the other, up to the first that has no code, and returns how many they are.
     fn push_coded(&mut self, cells: &[Cell]) -> Result<usize, AllocError>
         ensures count { IfOk result (λ n. n ≤ length cells.now) }
         ensures pushed { IfOk result (λ n. self.new ≡ cells_on (take n cells.now) self.old) }
@@ -248,7 +248,7 @@ impl Stack {
         Ok(())
     }
 
-    /// The cell at a place, from the bottom: 0 is the bottom.
+    /// Returns the cell at a place, from the bottom: 0 is the bottom.
     fn at(&self, place: usize) -> Cell
         requires { place < length self.now }
         ensures { result ≡ cell_at (reverse self.now) place }
@@ -262,7 +262,7 @@ impl Stack {
         }
     }
 
-    /// The cells, from the bottom up.
+    /// Returns the cells, from the bottom up.
     pub fn cells(&self) -> StackCells<'_>
         ensures { result ≡ reverse self.now }
     {
@@ -272,7 +272,7 @@ impl Stack {
         }
     }
 
-    /// The cell under so many others, if there is one: under 0 others is the top.
+    /// Returns the cell under so many others, if there is one: under 0 others is the top.
     pub fn under(&self, taken: usize) -> Option<Cell>
         ensures cell { result ≡ first (drop taken self.now) }
         ensures room { IfSome result (λ _. taken + 1 < 2 ^ 64) }
@@ -285,7 +285,7 @@ impl Stack {
         }
     }
 
-    /// The cell above so many others, if there is one: above 0 others is the bottom.
+    /// Returns the cell above so many others, if there is one: above 0 others is the bottom.
     pub fn above(&self, others: usize) -> Option<Cell>
         ensures { result ≡ slice_get (reverse self.now) others }
     {
@@ -296,7 +296,7 @@ impl Stack {
         }
     }
 
-    /// Takes so many cells from the top away, or all of them if there are fewer.
+    /// Removes so many cells from the top, or all of them if there are fewer.
     pub fn cut(&mut self, count: usize)
         ensures { self.new ≡ drop count self.old }
     {
@@ -309,7 +309,7 @@ impl Stack {
         }
     }
 
-    /// Takes one cell out, by its place from the top: 0 is the top.
+    /// Removes one cell, by its place from the top: 0 is the top.
     pub fn remove(&mut self, place: usize)
         requires { place < length self.old }
         ensures { self.new ≡ remove self.old place }
@@ -323,7 +323,7 @@ impl Stack {
         }
     }
 
-    /// Takes all cells away.
+    /// Removes all cells.
     pub fn clear(&mut self)
         ensures { self.new ≡ [] }
     {
@@ -331,12 +331,12 @@ impl Stack {
         self.codes.clear();
     }
 
-    /// Where its memory comes from.
+    /// Returns where its memory comes from.
     pub(crate) fn allocator(&self) -> Global {
         *self.codes.allocator()
     }
 
-    /// A stack of the same cells.
+    /// Makes a stack of the same cells.
     ///
     /// # Errors
     /// If memory runs out.
@@ -361,21 +361,21 @@ impl Stack {
     /// Becomes a stack of the same cells, in the memory that it has where that is enough.
     ///
     /// # Errors
-    /// If memory runs out; then the stack says nothing.
+    /// If memory runs out; then the stack's cells are unspecified.
     pub fn copy_from(&mut self, other: &Stack) -> Result<(), AllocError>
         ensures { OnOk result (self.new ≡ other.now) }
     {
         self.wide.clear();
         self.codes.clear();
         self.codes.extend_from_slice(other.codes.as_slice())?;
-        // As mostly.
+        // The usual case: no cell is wide.
         if other.wide.is_empty() {
             return Ok(());
         }
         self.wide.extend_from_slice(other.wide.as_slice())
     }
 
-    /// Whether the cells are kept in the same way, which is found fast. Mostly they are, if they are the same.
+    /// Whether the cells are kept in the same way, which is fast to find. Usually they are, if they are the same.
     fn has_same_parts(&self, other: &Stack) -> bool
         ensures { IsTrue result → self.now ≡ other.now }
     {
@@ -385,7 +385,7 @@ impl Stack {
             && cells_equal(self.wide.as_slice(), other.wide.as_slice())
     }
 
-    /// Whether each cell is its partner, of cells that are as many.
+    /// Whether each cell is the same as its partner, of two equally deep stacks.
     fn partners_same(&self, other: &Stack) -> bool
         requires { length self.now ≡ length other.now }
         ensures { IsTrue result ↔ (self.now ≡ other.now) }
@@ -405,7 +405,7 @@ impl Stack {
         self.len() == other.len() && (self.has_same_parts(other) || self.partners_same(other))
     }
 
-    /// Whether each cell is below its partner, of cells that are as many, place by place.
+    /// Whether each cell is below its partner, of two equally deep stacks, place by place.
     fn places_below(&self, other: &Stack) -> bool
         requires { length self.now ≡ length other.now }
         ensures { IsTrue result ↔ StackBelow self.now other.now }
@@ -418,7 +418,7 @@ impl Stack {
         true
     }
 
-    /// Whether each cell is below its partner, of cells that are as many.
+    /// Whether each cell is below its partner, of two equally deep stacks.
     fn partners_below(&self, other: &Stack) -> bool
         requires { length self.now ≡ length other.now }
         ensures { IsTrue result ↔ StackBelow self.now other.now }
@@ -456,7 +456,7 @@ impl Stack {
         }
     }
 
-    /// Becomes the least stack above both, cell by cell, without memory.
+    /// Becomes the least stack above both, cell by cell. Takes no memory.
     pub fn raise(&mut self, other: &Stack)
         requires { length self.old ≡ length other.now }
         ensures { IsLeastAbove stack_order self.old other.now self.new }

@@ -9,7 +9,7 @@ use std::alloc::{AllocError, Global};
 use tt_code::Graphics;
 use tt_code::kinds::{Pointer, Reference};
 
-/// What is known of a machine's state, where it stands and its calls aside.
+/// What is known of a machine's state, except for where it is and its calls.
 #[derive(Drop)]
 pub struct State {
     pub(crate) stack: Stack,
@@ -38,8 +38,8 @@ impl State {
     ghost use Rattle.tt_abs.specs.States.{start_of, state_order};
     ghost use Rattle.tt_abs.specs.Transfers.{cells_on};
 
-    /// The state in which a program starts: an empty stack, the default graphics state, and these functions, by rising
-    /// numbers, each with its body. Of the storage area nothing is known.
+    /// Makes the state in which a program starts: an empty stack, the default graphics state, and these functions, in ascending
+    /// order of their numbers, each with its body. Of the storage area nothing is known.
     ///
     /// # Errors
     /// If memory runs out.
@@ -56,7 +56,7 @@ impl State {
         })
     }
 
-    /// The same state once more.
+    /// Makes a copy of the state.
     ///
     /// # Errors
     /// If memory runs out.
@@ -75,7 +75,7 @@ impl State {
     /// Becomes the same as another state, in the memory that it has where that is enough.
     ///
     /// # Errors
-    /// If memory runs out; then the state says nothing.
+    /// If memory runs out; then the state's content is unspecified.
     pub fn copy_from(&mut self, other: &State) -> Result<(), AllocError>
         ensures { OnOk result (self.new ≡ other.now) }
     {
@@ -102,28 +102,28 @@ impl State {
         self.functions.is_same(&other.functions)
     }
 
-    /// How many cells the stack has.
+    /// Returns how many cells the stack has.
     pub fn depth(&self) -> usize
         ensures { result ≡ length self.now.stack }
     {
         self.stack.len()
     }
 
-    /// A cell of the stack, by its place from the bottom: 0 is the bottom.
+    /// Returns a cell of the stack, by its place from the bottom: 0 is the bottom.
     pub fn cell(&self, place: usize) -> Option<Cell>
         ensures { result ≡ slice_get (reverse self.now.stack) place }
     {
         self.stack.above(place)
     }
 
-    /// The cells of the stack, from the bottom up.
+    /// Returns the cells of the stack, from the bottom up.
     pub fn stack_cells(&self) -> StackCells<'_>
         ensures { result ≡ reverse self.now.stack }
     {
         self.stack.cells()
     }
 
-    /// What is known of a reference point.
+    /// Returns what is known of a reference point.
     pub fn rp(&self, which: Reference) -> Cell
         ensures { result ≡ reference which self.now.graphics }
     {
@@ -134,7 +134,7 @@ impl State {
         }
     }
 
-    /// What is known of a zone pointer.
+    /// Returns what is known of a zone pointer.
     pub fn zone(&self, which: Pointer) -> ZoneCell
         ensures { result ≡ pointer which self.now.graphics }
     {
@@ -145,14 +145,14 @@ impl State {
         }
     }
 
-    /// What is known of the loop number.
+    /// Returns what is known of the loop number.
     pub fn loop_cell(&self) -> Cell
         ensures { result ≡ self.now.graphics.loop_number }
     {
         self.graphics.loop_number
     }
 
-    /// The functions that are known, by rising numbers, each with its body.
+    /// Returns the functions that are known, in ascending order of their numbers, each with its body.
     pub fn functions(&self) -> &[(u16, u32)]
         ensures value { result.now ≡ self.now.functions }
         ensures rises { Rises result.now }
@@ -160,14 +160,14 @@ impl State {
         self.functions.as_slice()
     }
 
-    /// The storage cells that are known, by rising indexes, each with its number.
+    /// Returns the storage cells that are known, in ascending order of their indexes, each with its number.
     pub fn stored(&self) -> &[(u16, i32)]
         ensures { result.now ≡ self.now.storage }
     {
         self.storage.as_slice()
     }
 
-    /// Says that the lists of a state rise by their numbers, as they always do.
+    /// States that the lists of a state are in ascending order of their numbers, as they always are.
     pub(crate) fn rises(&self)
         ensures functions { Rises self.now.functions }
         ensures storage { Rises self.now.storage }
@@ -176,7 +176,7 @@ impl State {
         let _storage = self.storage.as_slice();
     }
 
-    /// What is known of a storage cell.
+    /// Returns what is known of a storage cell.
     pub fn storage(&self, index: u16) -> Cell
         ensures { result ≡ storage_of self.now.storage index }
     {
@@ -186,7 +186,7 @@ impl State {
         }
     }
 
-    /// Puts a cell on the stack, which has fewer than 65,535.
+    /// Puts a cell on the stack, which has fewer than 65,535 cells.
     ///
     /// # Errors
     /// If memory runs out; then the state stays as it is.
@@ -199,7 +199,7 @@ impl State {
         self.stack.push(cell)
     }
 
-    /// Puts cells on the stack, one after the other, which has at most 65,535 then.
+    /// Puts cells on the stack, one after the other; it has at most 65,535 cells then.
     ///
     /// # Errors
     /// If memory runs out.
@@ -245,7 +245,7 @@ impl State {
         self.graphics.loop_number = cell;
     }
 
-    /// Makes a function known by its number, with its body, instead of another one of the number.
+    /// Makes a function known by its number, with its body, instead of any other one of that number.
     ///
     /// # Errors
     /// If memory runs out, or there are 65,535 other functions; then the state stays as it is.

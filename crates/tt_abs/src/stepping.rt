@@ -21,7 +21,7 @@ use crate::state::State;
 use tt_code::kinds::Effect;
 use tt_code::{Instr, Reason, entry};
 
-/// What an instruction does, by the kind of its effect; the depth afterwards is tested elsewhere.
+/// Carries out an instruction by the kind of its effect; the depth afterwards is tested elsewhere.
 fn act(
     setting: &Setting<'_>,
     point: &Point<'_>,
@@ -43,7 +43,7 @@ fn act(
     Ok(Moves::One(Move::To(point.offset + instr.len())))
 }
 
-/// Carries out the instruction that starts at a point, in the point's body, and answers where the program goes on.
+/// Carries out the instruction that starts at a point, in the point's body, and returns where the program goes on.
 fn perform(
     setting: &Setting<'_>,
     point: &Point<'_>,
@@ -66,8 +66,8 @@ fn perform(
     Ok(moves)
 }
 
-/// Carries out the instruction at a point on a state that the caller owns, and answers where the program goes on. After a
-/// refusal the state says nothing.
+/// Carries out the instruction at a point on a state that the caller owns, and returns where the program goes on. After a
+/// refusal the state's content is unspecified.
 ///
 /// # Errors
 /// `Refused` with the reason of the first test of the instruction that fails; `OutOfMemory`.
@@ -85,7 +85,7 @@ pub fn step(setting: &Setting<'_>, point: &Point<'_>, state: &mut State) -> Resu
     perform(setting, point, state, &instr)
 }
 
-/// Where a program goes on from an instruction, and where that ends.
+/// Where a program goes on from an instruction, and where the instruction ends.
 #[derive(Clone, Copy)]
 pub struct Stepped {
     pub moves: Moves,
@@ -93,11 +93,11 @@ pub struct Stepped {
     pub end: u32,
 }
 
-/// Carries out the instruction at a point, as `step` does, where one of the point's body starts there. After a refusal the state
-/// says nothing.
+/// Carries out the instruction at a point, as `step` does, if an instruction of the point's body starts there. After a refusal the
+/// state's content is unspecified.
 ///
 /// # Errors
-/// `Refused` with `Target` where none starts there, and else as `step` refuses; `OutOfMemory`.
+/// `Refused` with `Target` where none starts there, and otherwise as `step` refuses; `OutOfMemory`.
 pub fn step_at(
     setting: &Setting<'_>,
     point: &Point<'_>,

@@ -21,9 +21,9 @@ pub struct Successors {
     pub state: State,
 }
 
-/// What an abstract state becomes by the instruction that starts at the point in the body of its innermost call. It is refused
+/// Computes what an abstract state becomes by the instruction that starts at the point in the body of its innermost call. It is refused
 /// exactly if some machine state that it covers faults there, or comes to run a body twice, or they come to more lists of calls than
-/// a program may have. Else there is a way to each place at which a next machine state stands, and the state is the smallest that
+/// a program may have. Else there is a way to each place at which a next machine state is, and its state is the smallest that
 /// covers those there.
 ///
 /// # Errors

@@ -44,7 +44,7 @@ at_place k [] h = absurd h
 at_place k (x ∷ s) (inl h) = (x, inl refl, h)
 at_place k (x ∷ s) (inr h) = let r = at_place k s h in (r.0, inr r.1, r.2)
 
--- The instruction that opened o stands where o says.
+-- The instruction that opened o is where o says.
 abbrev pub Opener : Open → List Instruction → Type 0
 Opener o p = (a : List Instruction) × (d : Instruction) × (b : List Instruction) × (p ≡ a ++ (d ∷ b)) × (size a ≡ place o) × (word d ≡ word_for o)
 
@@ -259,7 +259,7 @@ each_front : (a b : List Instruction) → AllByRecursion IsInstruction (a ++ b) 
 each_front [] b h = tt
 each_front (x ∷ a) b h = (h.0, each_front a b h.1)
 
--- the place lies behind, so the longer beginning has the instruction
+-- the place lies past it, so the longer beginning has the instruction
 reaches : (x a r b : List Instruction) (d i : Instruction) → x ++ (d ∷ r) ≡ a ++ (i ∷ b) → size x < size a → AllByRecursion IsInstruction (x ++ (d ∷ r)) → (z : List Instruction) × (a ≡ x ++ (d ∷ z))
 reaches x a r b d i e l h = go l2.0 l2.1 l2.2
   where

@@ -56,7 +56,7 @@ pub all_more : (is : List Instruction) (i : List ℕ) → AllByRecursion IsInstr
 all_more [] i p q = (q, tt)
 all_more (x ∷ is) i p q = (p.0, all_more is i p.1 q)
 
--- the zeros inside an instruction begin no piece
+-- no piece begins with the zeros inside an instruction
 inside : (r ls bs : List ℕ) → pieces (replicate (length r) 0 ++ ls) (r ++ bs) ≡ pieces ls bs
 inside [] ls bs = refl
 inside (x ∷ r) ls bs = inside r ls bs
@@ -80,7 +80,7 @@ no_longer (i ∷ is) (j ∷ js) rest other p q e none =
     let shorter = no_longer is js rest other p.1 q.1 (append_cancel_left i _ _ moved) none in
     simp length-append (rw same (omega arith))
 
--- the bytes that a length says, where there is one
+-- as many bytes as a length says, where there is one
 abbrev pub piece_at : ℕ → List ℕ → Option (List ℕ)
 piece_at zero bytes = None
 piece_at (suc n) bytes = Some (take (suc n) bytes)
@@ -89,7 +89,7 @@ pub piece_at_some : (n : ℕ) (bytes : List ℕ) → 0 < n → piece_at n bytes 
 piece_at_some zero bytes h = absurd (omega arith)
 piece_at_some (suc n) bytes h = refl
 
--- among the lengths, an offset inside an instruction has 0, and one behind it is an offset among the others
+-- among the lengths, an offset inside an instruction has 0, and one past it is an offset among the others
 inside_or_behind : (r ls : List ℕ) (o : ℕ) → ((o < length r) × (get_or (replicate (length r) 0 ++ ls) o 0 ≡ 0)) ⊎ ((length r ≤ o) × (get_or (replicate (length r) 0 ++ ls) o 0 ≡ get_or ls (o - length r) 0))
 inside_or_behind [] ls o = inr (omega arith, rw sub-zero refl)
 inside_or_behind (x ∷ r) ls zero = inl (omega arith, refl)
@@ -103,7 +103,7 @@ drop_behind r bs o h =
     let split : length r + (o - length r) ≡ o = omega arith in
     ap (λ k. drop k (r ++ bs)) (sym split) ∙ drop-append-add r bs (o - length r)
 
--- what stands at an offset among the lengths says which instruction starts there
+-- what is at an offset among the lengths says which instruction starts there
 pub at_is : (is : List Instruction) → AllByRecursion IsInstruction is → (o : ℕ) → instruction_at is o ≡ piece_at (get_or (laid is) o 0) (drop o (concat is))
 at_is [] p o = refl
 at_is ([] ∷ is) p o = absurd p.0
@@ -138,7 +138,7 @@ at_fits ((x ∷ r) ∷ is) p (suc o) h =
           omega arith
     ]
 
--- what starts behind an instruction starts in the rest
+-- what starts after an instruction starts in the rest
 found_behind : (x : Instruction) (is : List Instruction) (o : ℕ) (i : Instruction) → instruction_at (x ∷ is) (suc o) ≡ Some i
     → instruction_at is (suc o - length x) ≡ Some i
 found_behind x is o i e = by_test (nat_lt (suc o) (length x)) refl
@@ -158,7 +158,7 @@ found_is [] p o i e = let wrong : None ≡ Some i = e in cc
 found_is (x ∷ is) p zero i e = let same : x ≡ i = cc in subst IsInstruction same p.0
 found_is (x ∷ is) p (suc o) i e = found_is is p.1 (suc o - length x) i (found_behind x is o i e)
 
--- the same of a program as it is kept
+-- the same for a program as it is kept
 pub at_kept : (ls bs : List ℕ) (is : List Instruction) → IsLaid ls bs → pieces ls bs ≡ is → (o : ℕ) → instruction_at is o ≡ piece_at (get_or ls o 0) (drop o bs)
 at_kept ls bs is kept e o =
     ap (λ t. instruction_at t o) (sym e) ∙ at_is (pieces ls bs) kept.is_cut.each o
@@ -197,7 +197,7 @@ cannot bytes rest is offset b none left e =
           omega (arith, size_is js, size_is is);
     }
 
--- one instruction more
+-- one more instruction
 pub begins_more : (bytes rest : List ℕ) (is : List Instruction) (n : ℕ) → BeginsWith bytes is rest → IsInstruction (take n rest) → BeginsWith bytes (is ++ take n rest ∷ []) (drop n rest)
 begins_more bytes rest is n b p = record {
   joined = rw (concat_more, append_assoc, take-append-drop) b.joined;

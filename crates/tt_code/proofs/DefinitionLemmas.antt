@@ -1,4 +1,4 @@
--- FDEF stands in the main program alone.
+-- FDEF is only in the main program.
 use Rattle.std.proofs.Common.{◌≡◌, inl, inr, ℕ, ◌+◌, List, [], ◌∷◌, refl, sym, ◌∙◌, ap, subst, Some, Option}
 use Rattle.std.specs.List.{AllByRecursion}
 use Rattle.tt_code.specs.declared.word.Word.TheVariants.{Fdef}

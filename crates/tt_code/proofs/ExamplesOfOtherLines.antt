@@ -1,11 +1,11 @@
--- What the lines of the instruction table say that push, move, compute and call. Stacks have their top first.
+-- What the lines of the instruction table that push, move, compute and call do. Stacks have their top first.
 use Rattle.std.proofs.Common.{◌≡◌, [], ◌∷◌, Some, refl}
 use Rattle.std.specs.Prelude.{pos, negsuc}
 use Rattle.tt_code.specs.Settings.{One}
 use Rattle.tt_code.specs.declared.reason.Reason.TheVariants as reason
 use Rattle.tt_code.proofs.Running.{computed, lowest, highest, usual_limits, zones, untouched, seen_at_end, ends_with, each_stack_leaves, each_faults, each_faults_by, frames_at_fault, functions_left}
 
--- Pushed bytes are unsigned, and the last one is on top. What stands behind them is an instruction again.
+-- Pushed bytes are unsigned, and the last one is on top. What follows them is an instruction again.
 pushb_pushes_one_byte : ends_with (0xb0 ∷ 0xfa ∷ 0x18 ∷ []) (pos 250 ∷ [])
 unfolding computed
 pushb_pushes_one_byte = refl
@@ -420,7 +420,7 @@ the_newest_definition_comes_first :
 unfolding computed
 the_newest_definition_comes_first = refl
 
--- The depth is tested behind the operands and uses, and before the target of a jump.
+-- The depth is tested after the operands and uses, and before the target of a jump.
 the_depth_is_tested_before_a_jump_target :
     each_faults_by (record usual_limits { stack = 2 }) (0x1c ∷ []) (zones One One One)
     ((pos 50 ∷ pos 1 ∷ pos 2 ∷ pos 3 ∷ []) ∷ []) reason.Overflow

@@ -217,7 +217,7 @@ the_loop_number_zero_takes_no_point : accepted (0xb0 ∷ 0x00 ∷ 0x17 ∷ 0x33 
 unfolding answer
 the_loop_number_zero_takes_no_point = refl
 
--- What a program stores it reads again.
+-- A program reads again what it stores.
 a_stored_point_is_read_again : accepted (0xb1 ∷ 0x01 ∷ 0x00 ∷ 0x42 ∷ 0xb0 ∷ 0x01 ∷ 0x43 ∷ 0x2e ∷ [])
 unfolding answer
 a_stored_point_is_read_again = refl

@@ -25,7 +25,7 @@ the_main_program_goes_on_behind_an_endf : body_of_offset (0x58 ∷ 0x2c ∷ 0x2d
 unfolding structure
 the_main_program_goes_on_behind_an_endf = refl
 
--- Pushed data are no instructions.
+-- Pushed data aren't instructions.
 an_if_leads_behind_its_else : if_leads (0x58 ∷ 0x40 ∷ 0x01 ∷ 0x1b ∷ 0x1b ∷ 0x59 ∷ []) 0 ≡ Some 5
 unfolding structure
 an_if_leads_behind_its_else = refl
@@ -151,7 +151,7 @@ an_instruction_definition_is_no_function_definition : definition_leads (0x89 ∷
 unfolding structure
 an_instruction_definition_is_no_function_definition = refl
 
--- Where a machine may stand: at an instruction of its body.
+-- Where a machine may be: at an instruction of its body.
 a_machine_may_stand_at_an_instruction : fault_at (0xb0 ∷ 0x00 ∷ 0x2c ∷ 0x18 ∷ 0x2d ∷ 0x18 ∷ []) [] 5 ≡ None
 unfolding structure
 a_machine_may_stand_at_an_instruction = refl

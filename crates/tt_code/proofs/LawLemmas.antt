@@ -9,7 +9,7 @@ use Rattle.tt_code.proofs.ProgramLemmas.{all_after}
 use Rattle.tt_code.proofs.LookupLemmas.{compare}
 use Rattle.tt_code.proofs.StructureLaws.{each_before, each_joined}
 
--- One instruction more can go on, so fewer can.
+-- Where more instructions can go on, fewer can.
 shorter_goes_on : (x r : List Instruction) (i : Instruction) → AllByRecursion IsInstruction r → CanGoOn (x ++ (i ∷ r)) → CanGoOn (x ++ (i ∷ []))
 shorter_goes_on x r i a (rest, ok, l) =
     (r ++ rest, each_joined IsInstruction r rest a ok, subst IsStructured (append_assoc x (i ∷ r) rest ∙ sym (append_assoc x (i ∷ []) (r ++ rest))) l)
@@ -38,14 +38,14 @@ one_fault is k m each (inr f) (inl g) =
     absurd (g.cannot (shorter_goes_on g.before g.after g.i (all_after g.before g.after g.i ok) (subst CanGoOn g.whole f.can_go_on)))
 one_fault is k m each (inr f) (inr g) = sym f.offset ∙ g.offset
 
--- Bytes that can't be cut have one such offset.
+-- Bytes that can't be cut have only one such offset.
 pub one_uncut : (bytes : List ℕ) (k m : ℕ) → CannotBeCut bytes k → CannotBeCut bytes m → k ≡ m
 one_uncut bytes k m f g =
     let a = g.longest f.reached.0 f.reached.1 f.reached.2 in
     let b = f.longest g.reached.0 g.reached.1 g.reached.2 in
     omega (arith, f.reached.3, g.reached.3)
 
--- Behind an instruction stands another, or the program's end.
+-- After an instruction there is another, or the program's end.
 pub next_stands : (is : List Instruction) (k : ℕ) (i : Instruction) → StandsAt is k i → ((j : Instruction) × StandsAt is (k + length i) j) ⊎ (k + length i ≡ size is)
 next_stands is k i s = go s.after s.whole
   where
@@ -61,7 +61,7 @@ next_stands is k i s = go s.after s.whole
       },
     )
 
--- Where control goes stands an instruction, or the program ends.
+-- Where control goes there is an instruction, or the program ends.
 pub target_stands : (is : List Instruction) (w : Word) (k t : ℕ) → GoesTo w is k t → ((j : Instruction) × StandsAt is t j) ⊎ (t ≡ size is)
 target_stands is w k t g =
     let before = g.before ++ (g.i ∷ g.inner) in

@@ -15,7 +15,7 @@ use Rattle.tt_code.proofs.NestingLemmas.{steps-append, whole_steps}
 use Rattle.tt_code.proofs.SlotLemmas.{weaken}
 use Rattle.tt_code.proofs.StructureLaws.{each_bytes, stands_found}
 
--- Two places of one size are one.
+-- Two places of one size are the same.
 pub same_place : (a b c d : List Instruction) (i j : Instruction) → AllByRecursion IsInstruction (a ++ (i ∷ b)) → a ++ (i ∷ b) ≡ c ++ (j ∷ d) → size a ≡ size c →
     (a ≡ c) × (i ≡ j) × (b ≡ d)
 same_place [] b [] d i j h e s = (refl, cc, cc)
@@ -32,7 +32,7 @@ same_place (x ∷ a) b (y ∷ c) d i j h e s =
     let u = r.0 in
     (cc, r.1, r.2)
 
--- Two beginnings of one list: equal, or one goes on in the other.
+-- Two beginnings of one list are equal, or one of them goes on in the other.
 pub compare : (x z y v : List Instruction) (e d : Instruction) → x ++ (e ∷ z) ≡ y ++ (d ∷ v) →
     ((x ≡ y) × (e ≡ d)) ⊎ (((r : List Instruction) × (y ≡ x ++ (e ∷ r))) ⊎ ((r : List Instruction) × (x ≡ y ++ (d ∷ r))))
 compare [] z [] v e d h = inl (refl, cc)
@@ -49,7 +49,7 @@ compare (a ∷ x) z (b ∷ y) v e d h =
       ]
     ]
 
--- a word that ends a list stands alone nowhere
+-- a word that ends a list is nowhere a list by itself
 ends_stuck : (w u : Word) (k : ℕ) → Ends w u → step u k [] ≡ None
 ends_stuck If u k (inl h) = rw h refl
 ends_stuck If u k (inr h) = rw h refl
@@ -69,7 +69,7 @@ ends_opens Eif u h = absurd h
 ends_opens Endf u h = absurd h
 ends_opens Other u h = absurd h
 
--- No list goes on behind a list with what ends one.
+-- No list goes on after a list with what ends one.
 no_list_longer : (w : Word) (x y r : List Instruction) (e : Instruction) → IsList false x → IsList false y → Ends w (word e) → y ≡ x ++ (e ∷ r) → ⊥
 no_list_longer w x y r e lx ly h q =
     let whole : steps (x ++ (e ∷ r)) 0 [] ≡ Some [] = ap (λ y. steps y 0 []) (sym q) ∙ whole_steps ly in
@@ -94,12 +94,12 @@ goes_same is w v k s t each g h =
       ]
     ]
 
--- two instructions that stand at one offset are one
+-- two instructions at one offset are the same
 pub one_stands : (is : List Instruction) (k : ℕ) (i j : Instruction) → AllByRecursion IsInstruction is → StandsAt is k i → StandsAt is k j → i ≡ j
 one_stands is k i j each s t =
     let same : Some i ≡ Some j = sym (stands_found is k i (each_bytes is each) s) ∙ stands_found is k j (each_bytes is each) t in cc
 
--- what leads on stands there
+-- an instruction that leads on is at its offset
 pub goes_stands : (w : Word) (is : List Instruction) (k t : ℕ) (g : GoesTo w is k t) → StandsAt is k g.i
 goes_stands w is k t g = record { before = g.before; after = g.inner ++ (g.e ∷ g.after); whole = g.whole; offset = g.from }
 

@@ -236,7 +236,7 @@ within_main (InElse k ∷ s) h = within_main s h
 within_main (InFunction k ∷ s) h = cc
 within_main (InInstruction k ∷ s) h = cc
 
--- the body behind a word
+-- the body after a word
 pub body_step : (w : Word) (k : ℕ) (s t : List Open) (p : List Instruction) → Opened s p → step w k s ≡ Some t → body_after (body_of s) w k ≡ body_of t
 body_step Other k s t p h e = cc
 body_step If k s t p h e = let q : InIf k ∷ s ≡ t = cc in ap body_of q

@@ -99,7 +99,7 @@ sizes_left bytes rest p s b slots begins r =
     let long : length slots ≡ size p = read_size p s b slots r in
     (omega (arith, size_is p), omega (arith, size_is p))
 
--- what is structured can only want memory
+-- where the program is structured, the only fault can be that memory ran out
 pub only_memory : (bytes : List ℕ) (is : List Instruction) (e : CodeFault) → IsCut bytes is → IsStructured is → IsMemory e ⊎ IsMisnested bytes e → IsMemory e
 only_memory bytes is e cut l (inl h) = h
 only_memory bytes is (Structure k) cut l (inr h) = absurd (no_fault bytes h.0 is k h.1 cut l h.2)

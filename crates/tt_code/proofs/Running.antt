@@ -1,5 +1,5 @@
 -- Running programs on the machine's definitions, so that worked examples can be computed. Where any number may be pushed one
--- number is taken, mostly 7, and cell i of the storage area holds 100 + i at the start.
+-- number is taken, usually 7, and cell i of the storage area holds 100 + i at the start.
 use Rattle.std.proofs.Common.{◌≡◌, ℕ, zero, suc, ◌+◌, List, [], ◌∷◌, Option, None, Some, Ok, Err, take, drop}
 use Rattle.std.specs.Prelude.{ℤ, pos, negsuc, true, false, map, option_map, nat_lt, if◌then◌else◌}
 use Rattle.tt_code.specs.Refusals.{Tested}
@@ -21,7 +21,7 @@ use Rattle.tt_code.specs.declared.reason.Reason.{Reason}
 abbrev pub storage_at_start : ℕ → ℤ
 storage_at_start i = pos (100 + i)
 
--- the machine with which a program starts that may call these functions
+-- the machine with which a program starts, where the program may call these functions
 abbrev pub start : List (ℕ × ℕ) → Machine
 start functions = record {
   frames = [];
@@ -36,7 +36,7 @@ pub data Ending : Type 0 where
   Faulted : Machine → Reason → Ending
   Running : Machine → Ending
 
--- where a run comes to after so many steps at most, that takes this number where any may be pushed
+-- where a run comes to after at most so many steps, with this number taken where any may be pushed
 unfoldable pub run : ℤ → ℕ → Setting → Machine → Ending
 unfolding outcome effect_of word
 run any zero s m = Running m
@@ -72,7 +72,7 @@ pub data Part : Type 0 where
   InCvt : Part
   InGlyph : Part
 
--- how a font's programs end: the program that runs at a fault, the one in which it stands, and the offset there
+-- how a font's programs end: the program that runs at a fault, the one to which the faulting instruction belongs, and the offset there
 pub data Answer : Type 0 where
   Accepted : Answer
   Refused : Part → Part → ℕ → Reason → Answer
@@ -104,7 +104,7 @@ answer any limits f p glyph =
     and_then any (cvt_setting font) a.functions (λ (b : Machine).
     and_then any (glyph_setting font 4 1 (cut_of glyph)) b.functions (λ (c : Machine). Accepted)))
 
--- Words to state answers with.
+-- Words for stating answers.
 
 abbrev pub answers_by : Limits → List ℕ → Answer → Type 0
 answers_by limits glyph a = answer (pos 7) limits [] [] glyph ≡ a
@@ -140,7 +140,7 @@ abbrev pub font_answers_to_any : List ℕ → List ℕ → List ℕ → Answer �
 font_answers_to_any f p glyph a b c d =
     map (λ (any : ℤ). answer any usual_limits f p glyph) (pos 0 ∷ pos 7 ∷ lowest ∷ highest ∷ []) ≡ a ∷ b ∷ c ∷ d ∷ []
 
--- What is seen of a machine: the storage area is looked at up to the usual maxStorage.
+-- What is observed of a machine: the storage area is observed up to the usual maxStorage.
 
 pub record Seen : Type 0 where
   pub offset : ℕ
@@ -186,8 +186,8 @@ performed limits g stack code = elim (outcome (alone limits code) (before g stac
 abbrev pub wide_twilight : Limits
 wide_twilight = record usual_limits { twilight = 12 }
 
--- Reference points that no zone has, each another one, and the loop number 2: what isn't used isn't tested, and what changes
--- is seen.
+-- Reference points that no zone has, all different, and the loop number 2: what isn't used isn't tested, and what changes
+-- is observed.
 abbrev pub zones : ZoneNumber → ZoneNumber → ZoneNumber → Graphics ℤ ZoneNumber
 zones a b c = record { rp0 = pos 20; rp1 = pos 21; rp2 = pos 22; zp0 = a; zp1 = b; zp2 = c; loop_number = pos 2 }
 
@@ -216,7 +216,7 @@ each_leaves = each_leaves_by wide_twilight
 abbrev pub each_takes : List ℕ → Graphics ℤ ZoneNumber → List ℤ → List ℤ → Type 0
 each_takes codes g stack left = each_leaves codes g stack left g
 
--- each of these codes is refused so, on each of these stacks
+-- each of these codes is refused for this reason, on each of these stacks
 abbrev pub each_faults_by : Limits → List ℕ → Graphics ℤ ZoneNumber → List (List ℤ) → Reason → Type 0
 each_faults_by limits codes g stacks r =
     map (λ (stack : List ℤ). map (performed limits g stack) codes) stacks
@@ -225,7 +225,7 @@ each_faults_by limits codes g stacks r =
 abbrev pub each_faults : List ℕ → Graphics ℤ ZoneNumber → List (List ℤ) → Reason → Type 0
 each_faults = each_faults_by wide_twilight
 
--- what one code leaves on the stack, of each of these stacks
+-- what one code leaves on the stack, for each of these stacks
 abbrev pub each_stack_leaves : ℕ → List (List ℤ × List ℤ) → Type 0
 each_stack_leaves code runs =
     map (λ (r : List ℤ × List ℤ). performed wide_twilight (zones One One One) r.0 code) runs
@@ -291,7 +291,7 @@ unfoldable pub instruction_of_offset : List ℕ → ℕ → Option Instruction
 unfolding cut_within
 instruction_of_offset bytes offset = instruction_at (cut_of bytes) offset
 
--- the fault of a font program that stands at an offset, with the empty stack
+-- the fault of a font program that is at an offset, with the empty stack
 unfoldable pub fault_at : List ℕ → List Frame → ℕ → Option Reason
 unfolding outcome cut_within word
 fault_at bytes frames offset =

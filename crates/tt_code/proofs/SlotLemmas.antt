@@ -25,7 +25,7 @@ weaken (if_eif e hi la he lr) = if_eif e hi (weaken la) he (weaken lr)
 weaken (if_else_eif l e hi la hl lb he lr) = if_else_eif l e hi (weaken la) hl (weaken lb) he (weaken lr)
 weaken (definition e hd la he lr) = definition e hd la he lr
 
--- the two ways in which an instruction stands in a list with one more at its end
+-- the two ways in which an instruction is in a list with one more at its end
 pub snoc_split : (p a b : List Instruction) (i j : Instruction) → p ++ (j ∷ []) ≡ a ++ (i ∷ b) →
     ((a ≡ p) × (i ≡ j)) ⊎ ((c : List Instruction) × (p ≡ a ++ (i ∷ c)))
 snoc_split [] [] b i j e = inl (refl, cc)
@@ -239,7 +239,7 @@ step_open Endf k m (InFunction j ∷ s) t e (inr h) = let q : s ≡ t = cc in in
 step_open Endf k m (InInstruction j ∷ s) t e (inl h) = inl (ap Some h)
 step_open Endf k m (InInstruction j ∷ s) t e (inr h) = let q : s ≡ t = cc in inr (subst (λ x. IsOpenAt m x) q h)
 
--- A word that leads on is open behind itself.
+-- A word that leads on is open after itself.
 pub step_opens : (w : Word) (k : ℕ) (s t : List Open) → step w k s ≡ Some t → Opens w → IsOpenAt k t
 step_opens If k s t e h = let q : InIf k ∷ s ≡ t = cc in subst (λ x. IsOpenAt k x) q (inl refl)
 step_opens Else k [] t e h = cc
@@ -390,7 +390,7 @@ map-replicate : {A B : Type 0} (f : A → B) (n : ℕ) (a : A) → map f (replic
 map-replicate f zero a = refl
 map-replicate f (suc n) a = ap (λ xs. f a ∷ xs) (map-replicate f n a)
 
--- the slots of one instruction more
+-- the slots of one more instruction
 map-grown : {B : Type 0} (f : Slot → B) (mid : List Slot) (slot : Slot) (m : ℕ) → map f (mid ++ (slot ∷ replicate m inside)) ≡ map f mid ++ (f slot ∷ replicate m (f inside))
 map-grown f mid slot m = map-append f mid (slot ∷ replicate m inside) ∙ ap (λ xs. map f mid ++ (f slot ∷ xs)) (map-replicate f m inside)
 

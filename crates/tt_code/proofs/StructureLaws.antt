@@ -11,7 +11,7 @@ use Rattle.tt_code.specs.declared.word.Word.{Word}
 use Rattle.tt_code.specs.declared.word.Word.TheVariants.{If, Else, Eif, Fdef, Idef, Endf, Other}
 use Rattle.tt_code.proofs.CutLemmas.{size-append, some_bytes}
 
--- What is said of each instruction is said of those before and behind a place.
+-- What is said of each instruction is said of those before and after a place.
 
 abbrev pub HasBytes : Instruction → Type 0
 HasBytes i = 0 < length i
@@ -32,7 +32,7 @@ pub each_joined : (P : Instruction → Type 0) (is js : List Instruction) → Al
 each_joined P [] js h k = k
 each_joined P (i ∷ is) js h k = (h.0, each_joined P is js h.1 k)
 
--- Where a place stands in a list that is parted at another place: before that one, at it, or behind it.
+-- Where a place is in a list that is parted at another place: before that one, at it, or after it.
 pub data Place (first : List Instruction) (e : Instruction) (second before : List Instruction) (i : Instruction) (rest : List Instruction) : Type 0 where
   earlier : (between : List Instruction) → first ≡ before ++ (i ∷ between) → rest ≡ between ++ (e ∷ second) → Place first e second before i rest
   same : before ≡ first → i ≡ e → rest ≡ second → Place first e second before i rest
@@ -52,9 +52,9 @@ place (a ∷ first) e second (b ∷ before) i rest h =
       | later between p r ↦ later between (cc) r
     ]
 
--- Looking for an end passes over a list of the grammar.
+-- The search for an end passes over a list of the grammar.
 
--- how many IFs are open behind an IF
+-- how many IFs are open after an IF
 abbrev deeper : Word → ℕ → ℕ
 deeper If n = suc n
 deeper Else n = suc n
@@ -117,7 +117,7 @@ over_definition opener Eif n d = absurd d
 over_definition opener Endf n d = absurd d
 over_definition opener Other n d = absurd d
 
--- the end of a definition is passed over, except by what looks for one
+-- the end of a definition is passed over, except by the search for one
 abbrev PassesEndf : Word → Type 0
 PassesEndf opener = (n : ℕ) → still_open opener Endf n ≡ Some n
 
@@ -176,14 +176,14 @@ passes Eif w h = absurd h
 passes Endf w h = absurd h
 passes Other w h = absurd h
 
--- behind a list stands its end
+-- after a list comes its end
 pub end_found : (opener : Word) (inner : List Instruction) (e : Instruction) (after : List Instruction) (k : ℕ) → IsList (begins_definition opener) inner → Ends opener (word e)
     → behind_end opener (inner ++ (e ∷ after)) k zero ≡ Some ((k + size inner) + length e)
 end_found opener inner e after k l h =
     list_over l opener (passes opener (word e) h) (e ∷ after) k zero
     ∙ rw (ends_now opener (word e) h, behind_end) refl
 
--- What stands behind an opening instruction: a list and its end.
+-- What follows an opening instruction: a list and its end.
 
 pub record Closed (opener : Word) (rest : List Instruction) : Type 0 where
   pub inner : List Instruction
@@ -377,7 +377,7 @@ goes_leads {opener} {is} {at} {to} each g =
     ∙ end_found opener g.inner g.e g.after (at + length g.i) g.nested g.ends
     ∙ ap Some (omega (arith, g.from, g.target))
 
--- an opening instruction with its end behind it
+-- an opening instruction with its end after it
 pub closed_goes : {opener : Word} {is : List Instruction} {at : ℕ} {i : Instruction} → (s : StandsAt is at i) → word i ≡ opener → (c : Closed opener s.after)
     → GoesTo opener is at (at + (length i + (size c.inner + length c.e)))
 closed_goes {i = i} s opens c = record {
@@ -418,7 +418,7 @@ leads_goes {opener} {is} {at} {to} structured o h =
 pub leads_iff_goes : {opener : Word} {is : List Instruction} {at to : ℕ} → IsStructured is → AllByRecursion IsInstruction is → Opens opener → (leads opener is at ≡ Some to) ↔ GoesTo opener is at to
 leads_iff_goes {is = is} structured each o = (leads_goes structured o, goes_leads (each_bytes is each))
 
--- The instruction that starts at an offset is the one that stands there.
+-- The instruction that starts at an offset is the one that is there.
 
 pub found_stands : (is : List Instruction) (at : ℕ) (i : Instruction) → instruction_at is at ≡ Some i → StandsAt is at i
 found_stands [] at i h = let wrong : None ≡ Some i = h in cc
@@ -449,7 +449,7 @@ stands_found is at i each s =
 pub found_iff_stands : (is : List Instruction) (at : ℕ) (i : Instruction) → AllByRecursion IsInstruction is → (instruction_at is at ≡ Some i) ↔ StandsAt is at i
 found_iff_stands is at i each = (found_stands is at i, stands_found is at i (each_bytes is each))
 
--- an answer that the grammar pins is that of the function
+-- an answer that the grammar determines is that of the function
 pub leads_value : (opener : Word) (is : List Instruction) (at : ℕ) (found : Option ℕ) → IsStructured is → AllByRecursion IsInstruction is → Opens opener
     → IfSome found (GoesTo opener is at) → ((to : ℕ) → GoesTo opener is at to → found ≡ Some to) → found ≡ leads opener is at
 leads_value opener is at (Some to) structured each opens there only = sym (goes_leads (each_bytes is each) there)

@@ -91,7 +91,7 @@ list_keeps (if_else_eif {i = i} {yes = inner} l {otherwise = otherwise} e {rest 
 )
 list_keeps (definition e hd ld he lr) t = cc
 
--- the body behind the beginning of a program
+-- the body after the beginning of a program
 abbrev pub body_after : Body → ℕ → List Instruction → Body
 body_after here start [] = here
 body_after here start (i ∷ is) = body_after (body_behind here (word i) (start + length i)) (start + length i) is
@@ -136,7 +136,7 @@ body_found (i ∷ is) here start at b h = elim (taken (nat_eq start at) _ _ (Som
       record { before = i ∷ f.before; i = f.i; rest = f.rest; whole = ap (λ x. i ∷ x) f.whole; from = omega (arith, f.from); is_body = f.is_body }
 ]
 
--- What stands in a definition has its body.
+-- What is in a definition has its body.
 
 -- the beginning of a program up to a place in a definition: the definition's beginning, and a part of what it defines
 record Reaches (opener : Word) (from : ℕ) (before : List Instruction) : Type 0 where
@@ -221,7 +221,7 @@ definition_body {opener} {is} {from} {i = i} each d s (to, g, low, high) =
     let there = each_parted r.outer r.d (r.part ++ (i ∷ s.after)) each (parted s r.outer r.d r.part r.whole) in
     reached_body opener from s.before d r ∙ ap (λ n. body_behind body.Main opener (from + n)) (definition_length r.d there.0 (subst IsDefinition (sym r.opens) d))
 
--- What has the body of a definition stands in that definition.
+-- What has the body of a definition is in that definition.
 
 last_word : (here : Body) (opener w : Word) (k n : ℕ) → IsDefinition opener → body_behind here w k ≡ body_behind body.Main opener n
     → ((here ≡ body_behind body.Main opener n) × KeepsBody w) ⊎ ((w ≡ opener) × (k ≡ n))
@@ -241,7 +241,7 @@ last_word here Eif w k n d h = absurd d
 last_word here Endf w k n d h = absurd d
 last_word here Other w k n d h = absurd d
 
--- the last of FDEF, IDEF and ENDF in a beginning, behind which the body begins
+-- the last of FDEF, IDEF and ENDF in a beginning, after which the body begins
 record Begun (opener : Word) (is : List Instruction) (start first : ℕ) : Type 0 where
   outer : List Instruction
   d : Instruction
@@ -348,7 +348,7 @@ body_definition {opener} {first = first} structured each d s h = elim (last_defi
   | inr b ↦ begun_definition structured each d s b
 ]
 
--- The body behind what stands before an instruction is the instruction's.
+-- The body after what comes before an instruction is the instruction's.
 
 after_is : {is : List Instruction} {at : ℕ} {i : Instruction} (b : Body) → IsStructured is → AllByRecursion IsInstruction is → (s : StandsAt is at i) → body_after body.Main 0 s.before ≡ b → IsBodyAt is at b
 after_is body.Main structured each s h = (
@@ -399,7 +399,7 @@ body_iff_is is at i b structured each s = (λ h. (is_body is at b structured eac
 pub stands_in_body : {is : List Instruction} {at : ℕ} {i : Instruction} → IsStructured is → AllByRecursion IsInstruction is → StandsAt is at i → (b : Body) × IsBodyAt is at b
 stands_in_body structured each s = let found : Body = body_after body.Main 0 s.before in (found, after_is found structured each s refl)
 
--- an answer that the grammar pins is that of the function
+-- an answer that the grammar determines is that of the function
 pub body_value : (is : List Instruction) (at : ℕ) (found : Option Body) → IsStructured is → AllByRecursion IsInstruction is
     → IfSome found (λ b. ((i : Instruction) × StandsAt is at i) × IsBodyAt is at b) → IfNone found ((i : Instruction) → StandsAt is at i → ⊥) → found ≡ body_at is at
 body_value is at (Some b) structured each there absent = sym (body_is b structured each there.0.1 there.1)

@@ -3,7 +3,7 @@ use Rattle.std.proofs.Common.{◌≡◌, ℕ, zero, suc, ◌+◌, ◌<◌, List,
 use Rattle.std.specs.Prelude.{map}
 use Rattle.tt_code.specs.Entries.{codes_from}
 
--- what stands at i in a list that agrees with f from the first code on
+-- what is at i in a list that agrees with f from the first code on
 pub agrees_at : {E A : Type 0} (n first i : ℕ) (es : List E) (view : E → A) (f : ℕ → A) (d : E) → i < n → map view es ≡ map f (codes_from first n)
     → view (get_or es i d) ≡ f (first + i)
 agrees_at zero first i es view f d h e = absurd (omega arith)

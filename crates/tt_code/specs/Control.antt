@@ -23,7 +23,7 @@ jumps s m by stack = do
   ok ← holds_or (is_target s m.frames (pos m.offset +ℤ by)) reason.Target
   Ok (goes_to m stack (natural (pos m.offset +ℤ by)))
 
--- Where the condition doesn't hold, the offset of the jump isn't looked at (own).
+-- Where the condition doesn't hold, the offset of the jump isn't read (own).
 abbrev pub jumps_if : Setting → Machine → (ℤ → Bool) → Tested Outcome
 jumps_if s m holds = do
   e ← top m.stack
@@ -49,7 +49,7 @@ enters m name stack (pos (suc n)) =
 enters m name stack (pos zero) = goes_to m stack (m.offset + 1)
 enters m name stack (negsuc n) = goes_to m stack (m.offset + 1)
 
--- at the end of a body: to its next turn, or behind the call
+-- at the end of a body: to its next turn, or to just after the call
 abbrev pub returns : Machine → List Frame → Tested Outcome
 returns m [] = Err reason.Target
 returns m (f ∷ fs) =

@@ -28,7 +28,7 @@ abbrev pub IsInstruction : List ℕ → Type 0
 IsInstruction [] = ⊥
 IsInstruction (code ∷ rest) = data_length (effect_of code) rest ≡ Some (length rest)
 
--- the data of a push instruction, among the bytes behind its code: all of them but a count byte
+-- the data of a push instruction, among the bytes after its code: all of them but a count byte
 abbrev pub data_behind : Push → List ℕ → List ℕ
 data_behind CountedBytes rest = drop 1 rest
 data_behind CountedWords rest = drop 1 rest
@@ -52,7 +52,7 @@ abbrev pub data_of : Instruction → List ℕ
 data_of [] = []
 data_of (code ∷ rest) = data_in (effect_of code) rest
 
--- how many bytes the instructions have, which is the offset of what comes behind them
+-- how many bytes the instructions have, which is the offset of what comes after them
 abbrev pub size : List Instruction → ℕ
 size [] = 0
 size (i ∷ is) = length i + size is

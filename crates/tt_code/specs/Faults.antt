@@ -1,11 +1,11 @@
--- What a fault says of bytes.
+-- What a fault says about the bytes.
 use Rattle.std.specs.Prelude.{ℕ, List}
 use Rattle.tt_code.specs.declared.fault.CodeFault.{CodeFault}
 use Rattle.tt_code.specs.declared.fault.CodeFault.TheVariants.{CannotCut, Structure, OutOfMemory}
 use Rattle.tt_code.specs.Cut.{Instruction, IsCut}
 use Rattle.tt_code.specs.Grammar.{IsFault}
 
--- memory is wanted, which says nothing of the bytes
+-- memory ran out, which says nothing about the bytes
 abbrev pub IsMemory : CodeFault → Type 0
 IsMemory (OutOfMemory error) = Unit {0}
 IsMemory (CannotCut offset) = ⊥

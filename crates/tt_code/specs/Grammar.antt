@@ -35,12 +35,12 @@ pub data IsList : (inside : Bool) → List Instruction → Type 0 where
 abbrev pub IsStructured : List Instruction → Type 0
 IsStructured is = IsList false is
 
--- some list of the grammar begins so
+-- some list of the grammar begins with these
 abbrev pub CanGoOn : List Instruction → Type 0
 CanGoOn is = (rest : List Instruction) × AllByRecursion IsInstruction rest × IsStructured (is ++ rest)
 
 -- The fault of a program that isn't structured: the first instruction such that no list of the grammar begins with the program
--- up to and with it; or, if there is none, the program's end, where something is left open. (Own: the fault's place.)
+-- up to and including it; or, if there is none, the program's end, where something is left open. (Own: the fault's place.)
 
 pub record BreaksAt (is : List Instruction) (at : ℕ) : Type 0 where
   pub before : List Instruction
@@ -59,15 +59,15 @@ pub record OpenAtEnd (is : List Instruction) (at : ℕ) : Type 0 where
 abbrev pub IsFault : List Instruction → ℕ → Type 0
 IsFault is at = BreaksAt is at ⊎ OpenAtEnd is at
 
--- the instruction that stands at an offset
+-- the instruction at an offset
 pub record StandsAt (is : List Instruction) (at : ℕ) (i : Instruction) : Type 0 where
   pub before : List Instruction
   pub after : List Instruction
   pub whole : is ≡ before ++ (i ∷ after)
   pub offset : size before ≡ at
 
--- Partners. Behind an opening instruction stands a list, and then what ends it: behind an IF its ELSE or its EIF, behind an ELSE
--- its EIF, behind an FDEF or IDEF its ENDF. Control goes behind that one, and what a definition defines is what stands between.
+-- Partners. An opening instruction is followed by a list, and then by what ends it: an IF by its ELSE or its EIF, an ELSE by
+-- its EIF, an FDEF or IDEF by its ENDF. Control goes to just after that one, and what a definition defines is what is between.
 
 abbrev pub Ends : Word → Word → Type 0
 Ends If w = (w ≡ Else) ⊎ (w ≡ Eif)
@@ -78,7 +78,7 @@ Ends Eif w = ⊥
 Ends Endf w = ⊥
 Ends Other w = ⊥
 
--- what stands behind an FDEF or IDEF is inside a definition; a list that is inside one is a list outside too
+-- what follows an FDEF or IDEF is inside a definition; a list that is inside one is a list outside too
 abbrev pub begins_definition : Word → Bool
 begins_definition Fdef = true
 begins_definition Idef = true
@@ -97,10 +97,10 @@ pub record GoesTo (opener : Word) (is : List Instruction) (at to : ℕ) : Type 0
   pub from : size before ≡ at
   pub target : size before + (length i + (size inner + length e)) ≡ to
 
--- Bodies. What stands behind an FDEF up to and with its ENDF is the body of a function; behind an IDEF it is of none. All else is
+-- Bodies. What follows an FDEF up to and including its ENDF is the body of a function; after an IDEF it is of none. All else is
 -- the main program's.
 
--- the offset stands in the definition that begins at another
+-- the offset is in the definition that begins at another
 abbrev pub InDefinition : Word → List Instruction → ℕ → ℕ → Type 0
 InDefinition opener is from at = (to : ℕ) × GoesTo opener is from to × (from < at) × (at < to)
 

@@ -14,7 +14,7 @@ use Rattle.tt_code.specs.declared.kinds.Operand.{Operand}
 use Rattle.tt_code.specs.declared.kinds.Operand.TheVariants as operand
 use Rattle.tt_code.specs.declared.kinds.Use.{Use}
 
--- The elements that are taken, the first taken first, and the stack below them. (These forms look into no element.)
+-- The elements that are taken, the first taken first, and the stack below them. (These forms read no element.)
 
 abbrev pub Taking : Type 0 → Type 0
 Taking N = List N × List N
@@ -65,11 +65,11 @@ abbrev pub count_of : ℤ → Tested ℕ
 count_of (pos n) = Ok n
 count_of (negsuc n) = Err reason.Count
 
--- does the number name a zone?
+-- whether the number names a zone
 abbrev pub is_zone : Setting → ℤ → Bool
 is_zone s z = is_some (zone_named s z)
 
--- does the number name a point in each zone that counts?
+-- whether the number names a point in each zone that counts
 abbrev pub is_point : Setting → Graphics ℤ ZoneNumber → Within → ℤ → Bool
 is_point s g (In p) z = is_below z (zone_size s (pointer p g))
 is_point s g (Both p q) z = is_below z (zone_size s (pointer p g)) && is_below z (zone_size s (pointer q g))
@@ -91,7 +91,7 @@ abbrev pub take_operands : Setting → Graphics ℤ ZoneNumber → List Operand 
 take_operands s g [] stack = Ok ([], stack)
 take_operands s g (o ∷ os) stack = then_take (take_operand s g o stack) (take_operands s g os)
 
--- the reference points that are used, tested behind the operands whatever the loop number is
+-- the reference points that are used, tested after the operands whatever the loop number is
 abbrev pub test_uses : Setting → Graphics ℤ ZoneNumber → List Use → Tested (Unit {0})
 test_uses s g [] = Ok tt
 test_uses s g (u ∷ us) = do

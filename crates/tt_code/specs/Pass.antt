@@ -1,4 +1,4 @@
--- The one pass from the left that the code makes: what is open behind an instruction, and the body. (Representation: no public
+-- The one pass from the left that the code makes: what is open after an instruction, and the body. (Representation: no public
 -- clause cites it.)
 use Rattle.std.specs.Prelude.{◌≡◌, ℕ, ◌+◌, List, [], ◌∷◌, ◌++◌, length, Bool, true, false, Option, Some, None, if◌then◌else◌}
 use Rattle.tt_code.specs.declared.word.Word.{Word}
@@ -13,7 +13,7 @@ use Rattle.tt_code.specs.Cut.{Instruction, size}
 use Rattle.tt_code.specs.Grammar.{IsList}
 use Rattle.tt_code.specs.Structure.{word}
 
--- whether what stands behind an opening is inside a definition
+-- whether what follows an opening is inside a definition
 abbrev pub inside_of : Open → Bool → Bool
 inside_of (InIf k) b = b
 inside_of (InElse k) b = b
@@ -24,7 +24,7 @@ abbrev pub within : List Open → Bool
 within [] = false
 within (o ∷ s) = inside_of o (within s)
 
--- what is open after a word at offset k, the innermost first, or nothing where the word can't stand there
+-- what is open after a word at offset k, the innermost first, or nothing where the word isn't allowed there
 abbrev pub step : Word → ℕ → List Open → Option (List Open)
 step Other k s = Some s
 step If k s = Some (InIf k ∷ s)
@@ -54,7 +54,7 @@ place (InElse k) = k
 place (InFunction k) = k
 place (InInstruction k) = k
 
--- the offset of the instruction that leads behind this word, where there is one
+-- the offset of the instruction that leads to just after this word, where there is one
 abbrev pub closed : Word → List Open → Option ℕ
 closed Else (o ∷ s) = Some (place o)
 closed Eif (o ∷ s) = Some (place o)

@@ -12,13 +12,13 @@ use Rattle.tt_code.specs.Control.{controlled}
 use Rattle.tt_code.specs.declared.reason.Reason.{Reason}
 use Rattle.tt_code.specs.declared.reason.Reason.TheVariants as reason
 
--- an outcome that goes on behind the instruction
+-- an outcome that goes on after the instruction
 abbrev pub goes_on : ℕ → Tested Outcome → Tested Outcome
 goes_on next outcome = do
   o ← outcome
   Ok (record o { after = at_offset o.after next })
 
--- what an instruction does, by what its code stands for; the bytes behind its code, and the offset behind it
+-- what an instruction does, by what its code stands for; the bytes after its code, and the offset after it
 abbrev pub does : Setting → Machine → Meaning → List ℕ → ℕ → Tested Outcome
 does s m NoEntry rest next = Err reason.Opcode
 does s m (Plain line) rest next = goes_on next (plain s m line)

@@ -9,7 +9,7 @@ use Rattle.tt_code.specs.declared.machine.Frame.{Frame}
 use Rattle.tt_code.specs.declared.machine.Body.{Body}
 use Rattle.tt_code.specs.declared.machine.Body.TheVariants as body
 
--- which program runs; in a glyph program, how many points and contours the glyph has, phantom points aside
+-- which program runs; in a glyph program, how many points and contours the glyph has, except for phantom points
 pub data Kind : Type 0 where
   FontProgram : Kind
   CvtProgram : Kind
@@ -79,7 +79,7 @@ body_name FontProgram offset = offset
 body_name CvtProgram offset = CVT_BODIES + offset
 body_name (GlyphProgram points contours) offset = offset
 
--- the program in which a machine with these frames stands, the innermost frame first
+-- the program in which a machine with these frames is, the innermost frame first
 abbrev pub program_of : Setting → List Frame → List Instruction
 program_of s [] = s.main
 program_of s (f ∷ fs) = if nat_lt f.body CVT_BODIES then s.font else s.prep
@@ -94,16 +94,16 @@ is_body body.Main (Some body.Main) = true
 is_body (body.Function a) (Some (body.Function b)) = nat_eq a b
 is_body _ _ = false
 
--- does an instruction of the frames' body start at the offset?
+-- whether an instruction of the frames' body starts at the offset
 abbrev pub starts_in_body : Setting → List Frame → ℕ → Bool
 starts_in_body s fs offset = is_body (body_of fs) (body_at (program_of s fs) offset)
 
--- is this the end of the main program?
+-- whether this is the end of the main program
 abbrev pub is_main_end : Setting → List Frame → ℕ → Bool
 is_main_end s [] offset = nat_eq offset (size s.main)
 is_main_end s (f ∷ fs) offset = false
 
--- May control go there by a jump? To an instruction of the same body, in a main program to its end too (own).
+-- Whether control may go there by a jump: to an instruction of the same body, in a main program to its end too (own).
 abbrev pub is_target : Setting → List Frame → ℤ → Bool
 is_target s fs (negsuc n) = false
 is_target s fs (pos n) = starts_in_body s fs n || is_main_end s fs n

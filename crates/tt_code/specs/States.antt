@@ -1,5 +1,5 @@
 -- The state of the hint machine. (Apple TrueType Reference Manual, "The TrueType interpreter" and "Graphics state".) What
--- this product doesn't decide, as coordinates, vectors, rounding and the control values, isn't kept: where a program reads it,
+-- this product doesn't decide, such as coordinates, vectors, rounding and the control values, isn't kept: where a program reads it,
 -- any number may be read.
 use Rattle.std.specs.Prelude.{ℕ, ℤ, pos, negsuc, FitsSigned, List, Bool, true, false, nat_lt, ◌^◌, zero, suc}
 use Rattle.std.specs.Int.{w32}
@@ -19,7 +19,7 @@ abbrev pub is_number : ℤ → Bool
 is_number (pos n) = nat_lt n (2 ^ 31)
 is_number (negsuc n) = nat_lt n (2 ^ 31)
 
--- indices and point numbers are unsigned: a negative number is no index
+-- indices and point numbers are unsigned: a negative number isn't an index
 abbrev pub is_below : ℤ → ℕ → Bool
 is_below (pos n) bound = nat_lt n bound
 is_below (negsuc n) bound = false
@@ -30,16 +30,16 @@ is_true (pos zero) = false
 is_true (pos (suc n)) = true
 is_true (negsuc n) = true
 
--- what is kept beside the stack: the graphics state, and the storage area by index
+-- what is kept besides the stack: the graphics state, and the storage area by index
 pub record Registers (N Z : Type 0) : Type 0 where
   pub graphics : Graphics N Z
-  -- The area has no end here; a program reaches the cells below maxStorage alone.
+  -- The area has no end here; a program reaches only the cells below maxStorage.
   pub storage : ℕ → N
 
 pub record Machine : Type 0 where
   -- the calls that haven't returned, the innermost first
   pub frames : List Frame
-  -- where it stands, in the program of its innermost frame
+  -- where it is, in the program of its innermost frame
   pub offset : ℕ
   -- the top first
   pub stack : List ℤ
@@ -76,7 +76,7 @@ default_graphics = record { rp0 = pos 0; rp1 = pos 0; rp2 = pos 0; zp0 = One; zp
 abbrev pub at_offset : Machine → ℕ → Machine
 at_offset m offset = record m { offset = offset }
 
--- What an instruction pushes: a number, or a number about which nothing is known.
+-- What an instruction pushes: a number, or a number of which nothing is known.
 
 pub data Value : Type 0 where
   Exactly : ℤ → Value

@@ -34,7 +34,7 @@ is_word Other Other = true
 is_word _ _ = false
 
 -- Looking for the instruction that ends what an opening one began, while so many IFs are open inside: None where this is
--- it, else how many are open behind it. An IF ends at its ELSE or EIF, an ELSE at its EIF, a definition at its ENDF.
+-- it, else how many are open after it. An IF ends at its ELSE or EIF, an ELSE at its EIF, a definition at its ENDF.
 abbrev pub still_open : Word → Word → ℕ → Option ℕ
 still_open If If inside = Some (suc inside)
 still_open If Else zero = None
@@ -49,7 +49,7 @@ still_open Else _ inside = Some inside
 still_open _ Endf inside = None
 still_open _ _ inside = Some inside
 
--- the offset behind the end of what the opening instruction began, in the instructions from an offset on
+-- the offset after the end of what the opening instruction began, in the instructions from an offset on
 abbrev pub behind_end : Word → List Instruction → ℕ → ℕ → Option ℕ
 behind_end opener [] offset inside = None
 behind_end opener (i ∷ is) offset inside = elim (still_open opener (word i) inside) [
@@ -57,7 +57,7 @@ behind_end opener (i ∷ is) offset inside = elim (still_open opener (word i) in
   | Some more ↦ behind_end opener is (offset + length i) more
 ]
 
--- where the opening instruction leads that stands at an offset, in the instructions from another offset on
+-- where the opening instruction at an offset leads, in the instructions from another offset on
 abbrev pub leads_from : ℕ → Word → List Instruction → ℕ → Option ℕ
 leads_from start opener [] offset = None
 leads_from start opener (i ∷ is) offset =
@@ -68,19 +68,19 @@ leads_from start opener (i ∷ is) offset =
 abbrev pub leads : Word → List Instruction → ℕ → Option ℕ
 leads opener is offset = leads_from 0 opener is offset
 
--- where an IF goes on 0: behind its ELSE, or without one behind its EIF
+-- where an IF goes on 0: to just after its ELSE, or without one just after its EIF
 abbrev pub after_if : List Instruction → ℕ → Option ℕ
 after_if = leads If
 
--- where an ELSE goes that is reached: behind its EIF
+-- where an ELSE that is reached goes: to just after its EIF
 abbrev pub after_else : List Instruction → ℕ → Option ℕ
 after_else = leads Else
 
--- where an FDEF goes: behind its ENDF
+-- where an FDEF goes: to just after its ENDF
 abbrev pub after_fdef : List Instruction → ℕ → Option ℕ
 after_fdef = leads Fdef
 
--- the body of what stands behind an instruction of a body, where the instruction ends at an offset
+-- the body of what follows an instruction of a body, where the instruction ends at an offset
 abbrev pub body_behind : Body → Word → ℕ → Body
 body_behind here Fdef next = body.Function next
 body_behind here Idef next = body.Instruction next

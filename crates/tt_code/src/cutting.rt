@@ -1,4 +1,5 @@
-//! Where one instruction ends.
+//! Where one instruction ends: at its code, or at the last of its data (Apple TrueType Reference Manual, "Pushing data onto the
+//! interpreter stack").
 
 ghost use Rattle.std.specs.Prelude.{◌≡◌, ℕ, ◌≤◌, ◌<◌, ◌^◌, List, ◌++◌, take, length, IfSome, IfNone};
 ghost use Rattle.tt_code.specs.Cut.{CannotBeCut, Instruction, IsCut, IsInstruction, data_length};
@@ -7,7 +8,7 @@ ghost use Rattle.tt_code.specs.Entries.{view};
 use crate::kinds::{Effect, Push};
 use crate::table::entry;
 
-/// How many bytes follow the code, a count byte included; None where the count byte is missing.
+/// Returns how many bytes follow the code, a count byte included; None where the count byte is missing.
 fn data_length_of(effect: &Effect, rest: &[u8]) -> Option<u16>
     ensures value { result ≡ data_length (view effect.now) rest.now }
     ensures small { IfSome result (λ n. n ≤ 511) }
@@ -21,7 +22,7 @@ fn data_length_of(effect: &Effect, rest: &[u8]) -> Option<u16>
     }
 }
 
-/// How many bytes the instruction at the front has; None where it passes the end.
+/// Returns how many bytes the instruction at the front has; None where it passes the end.
 pub fn front_length(bytes: &[u8]) -> Option<u16>
     ensures found { IfSome result (λ n. (0 < n) × (n ≤ length bytes.now) × IsInstruction (take n bytes.now)) }
     ensures none { IfNone result ((i rest : List ℕ) → IsInstruction i → i ++ rest ≡ bytes.now → ⊥) }
@@ -35,7 +36,7 @@ pub fn front_length(bytes: &[u8]) -> Option<u16>
     }
 }
 
-/// The offset of the instruction that passes the end, if there is one.
+/// Finds the instruction that passes the end, and returns its offset, if there is one.
 pub fn first_uncut(bytes: &[u8]) -> Option<u32>
     requires { length bytes.now < 2 ^ 31 }
     ensures cut { IfNone result ((is : List Instruction) × IsCut bytes.now is) }

@@ -1,4 +1,4 @@
-//! One instruction of a program.
+//! One instruction of a program (Apple TrueType Reference Manual, "The TrueType instruction set").
 
 ghost use Rattle.std.specs.Prelude.{◌≡◌, ℕ, List, Some, length};
 ghost use Rattle.tt_code.specs.Cut.{code_of, data_of};
@@ -8,7 +8,7 @@ use crate::kinds::{Effect, Push};
 use crate::table::entry;
 use std::marker::Model;
 
-/// An instruction: its code, and behind it the data of a push instruction. Contracts see its bytes.
+/// An instruction: its code, followed by the data of a push instruction. Contracts see its bytes.
 #[derive(Drop)]
 pub struct Instr<'a> {
     bytes: &'a [u8],
@@ -23,7 +23,7 @@ impl<'a> Model for Instr<'a> {
 }
 
 impl<'a> Instr<'a> {
-    /// The instruction of these bytes.
+    /// Makes the instruction of these bytes.
     pub(crate) fn new(bytes: &'a [u8]) -> Self
         requires { IsHeld bytes.now }
         ensures { result ≡ bytes.entry.now }
@@ -31,7 +31,7 @@ impl<'a> Instr<'a> {
         Instr { bytes }
     }
 
-    /// The instruction's code.
+    /// Returns the instruction's code.
     pub fn code(&self) -> u8
         ensures { code_of self.now ≡ Some result }
     {
@@ -41,21 +41,21 @@ impl<'a> Instr<'a> {
         }
     }
 
-    /// How many bytes the instruction has.
+    /// Returns how many bytes the instruction has.
     pub fn len(&self) -> u32
         ensures { result ≡ length self.now }
     {
         self.bytes.len() as u32
     }
 
-    /// All bytes of the instruction.
+    /// Returns all bytes of the instruction.
     pub fn bytes(&self) -> &'a [u8]
         ensures { result.now ≡ self.now }
     {
         self.bytes
     }
 
-    /// What a push instruction pushes, as bytes or words of two bytes; empty for every other one.
+    /// Returns what a push instruction pushes, as bytes or words of two bytes; empty for every other one.
     pub fn data(&self) -> &'a [u8]
         ensures { result.now ≡ data_of self.now }
     {

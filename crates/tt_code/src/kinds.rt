@@ -1,4 +1,4 @@
-//! What an instruction takes, tests, changes and pushes, by kinds.
+//! What an instruction takes, tests, changes and pushes, by kinds (Apple TrueType Reference Manual, "The TrueType instruction set").
 
 /// One of the three reference points of the graphics state.
 #[derive(Clone, Copy)]
@@ -42,7 +42,7 @@ pub enum Operand {
     Zone,
     /// A contour number of the zone of zp2.
     Contour,
-    /// As many point numbers as the loop number says.
+    /// As many point numbers as the loop number states.
     LoopPoints(Within),
     /// A count, and as many pairs of a point number and a number.
     PointPairs(Within),
@@ -66,7 +66,7 @@ pub enum Source {
     Same(Reference),
 }
 
-/// What an instruction changes beside the stack.
+/// What an instruction changes besides the stack.
 #[derive(Clone, Copy)]
 pub enum Update {
     /// The reference point becomes the source's number.
@@ -84,7 +84,7 @@ pub enum Update {
 /// What an instruction pushes.
 #[derive(Clone, Copy)]
 pub enum Pushed {
-    /// A number about which nothing is known.
+    /// A number of which nothing is known.
     Any,
     /// The number in the storage cell whose index was taken at this position.
     Stored(u8),
@@ -104,7 +104,7 @@ pub struct Row {
     pub pushes: &'static [Pushed],
 }
 
-/// A push instruction, by how its data stand behind its code.
+/// A push instruction, by how its data are laid out after its code.
 #[derive(Clone, Copy)]
 pub enum Push {
     /// A count byte and that many bytes.
@@ -117,7 +117,7 @@ pub enum Push {
     Words(u8),
 }
 
-/// An instruction that moves the stack's elements and looks into none but an index.
+/// An instruction that moves the stack's elements and reads none of them but an index.
 #[derive(Clone, Copy)]
 pub enum StackOp {
     Dup,
@@ -150,7 +150,7 @@ pub enum Arithmetic {
     Not,
 }
 
-/// An instruction that leads elsewhere than behind itself, or defines a function.
+/// An instruction that leads elsewhere than to the next instruction, or defines a function.
 #[derive(Clone, Copy)]
 pub enum Control {
     If,
@@ -174,7 +174,7 @@ pub enum Control {
 /// The effect of an instruction code.
 #[derive(Clone, Copy)]
 pub enum Effect {
-    /// The code stands for no instruction.
+    /// The code isn't that of an instruction.
     NoEntry,
     Plain(Row),
     Push(Push),

@@ -8,68 +8,68 @@ ghost use Rattle.tt_code.specs.Structure.{after_else, after_fdef, after_if, body
 ghost use Rattle.tt_code.specs.declared.machine.Body.{Body};
 ghost use Rattle.tt_code.specs.declared.word.Word.{Word};
 
-/// A program has at most one cut.
+/// States that a program has at most one cut.
 pub fn one_cut()
     ensures { (bytes : List ℕ) (is js : List Instruction) → IsCut bytes is → IsCut bytes js → is ≡ js }
 {}
 
-/// A program that cannot be cut has one fault of its cut.
+/// States that a program that cannot be cut has one fault of its cut.
 pub fn one_end_of_cut()
     ensures { (bytes : List ℕ) (k m : ℕ) → CannotBeCut bytes k → CannotBeCut bytes m → k ≡ m }
 {}
 
-/// A program that can be cut has at most one fault of its structure.
+/// States that a program that can be cut has at most one fault of its structure.
 pub fn one_fault()
     ensures { (bytes : List ℕ) (is : List Instruction) (k m : ℕ) → IsCut bytes is → IsFault is k → IsFault is m → k ≡ m }
 {}
 
-/// A structured program has no fault of its structure.
+/// States that a structured program has no fault of its structure.
 pub fn structured_without_fault()
     ensures { (bytes : List ℕ) (is : List Instruction) (k : ℕ) → IsCut bytes is → IsStructured is → IsFault is k → ⊥ }
 {}
 
-/// An instruction that opens something leads to one place.
+/// States that an instruction that opens something leads to one place.
 pub fn one_target()
     ensures { (bytes : List ℕ) (is : List Instruction) (opener other : Word) (offset s t : ℕ) → IsCut bytes is → GoesTo opener is offset s → GoesTo other is offset t → s ≡ t }
 {}
 
-/// By the grammar each instruction of a structured program that opens something leads somewhere.
+/// States that by the grammar each instruction of a structured program that opens something leads somewhere.
 pub fn each_target()
     ensures { (bytes : List ℕ) (is : List Instruction) (offset : ℕ) (i : Instruction) (e : Word) → IsCut bytes is → IsStructured is → StandsAt is offset i → Ends (word i) e → (to : ℕ) × GoesTo (word i) is offset to }
 {}
 
-/// One instruction stands at an offset.
+/// States that there is one instruction at an offset.
 pub fn one_instruction()
     ensures { (bytes : List ℕ) (is : List Instruction) (offset : ℕ) (i j : Instruction) → IsCut bytes is → StandsAt is offset i → StandsAt is offset j → i ≡ j }
 {}
 
-/// An instruction of a structured program has one body.
+/// States that an instruction of a structured program has one body.
 pub fn one_body()
     ensures { (bytes : List ℕ) (is : List Instruction) (offset : ℕ) (i : Instruction) (b c : Body) → IsCut bytes is → IsStructured is → StandsAt is offset i → IsBodyAt is offset b → IsBodyAt is offset c → b ≡ c }
 {}
 
-/// By the grammar each instruction of a structured program has a body.
+/// States that by the grammar each instruction of a structured program has a body.
 pub fn each_body()
     ensures { (bytes : List ℕ) (is : List Instruction) (offset : ℕ) (i : Instruction) → IsCut bytes is → IsStructured is → StandsAt is offset i → (b : Body) × IsBodyAt is offset b }
 {}
 
-/// Behind an instruction stands another one, or the program ends.
+/// States that after an instruction there is another one, or the program ends.
 pub fn next_stands()
     ensures { (is : List Instruction) (offset : ℕ) (i : Instruction) → StandsAt is offset i → ((j : Instruction) × StandsAt is (offset + length i) j) ⊎ (offset + length i ≡ size is) }
 {}
 
-/// Where control goes stands an instruction, or the program ends.
+/// States that where control goes there is an instruction, or the program ends.
 pub fn target_stands()
     ensures { (is : List Instruction) (opener : Word) (offset to : ℕ) → GoesTo opener is offset to → ((j : Instruction) × StandsAt is to j) ⊎ (to ≡ size is) }
 {}
 
-/// The instruction that is found at an offset is the one that stands there.
+/// States that the instruction that is found at an offset is the one that is there.
 pub fn instructions_are_found()
     ensures { (is : List Instruction) (at : ℕ) (i : Instruction) → AllByRecursion IsInstruction is →
         ((instruction_at is at ≡ Some i) ↔ StandsAt is at i) }
 {}
 
-/// In a structured program IF, ELSE, FDEF and IDEF lead behind the instruction that ends what they begin.
+/// States that in a structured program IF, ELSE, FDEF and IDEF lead to just after the instruction that ends what they begin.
 pub fn partners_are_found()
     ensures of_if { (is : List Instruction) (at to : ℕ) → IsStructured is → AllByRecursion IsInstruction is →
         ((after_if is at ≡ Some to) ↔ GoesTo Word.If is at to) }
@@ -81,7 +81,7 @@ pub fn partners_are_found()
         ((leads Word.Idef is at ≡ Some to) ↔ GoesTo Word.Idef is at to) }
 {}
 
-/// In a structured program it is found where each IF, ELSE, FDEF and IDEF leads.
+/// States that in a structured program it is found where each IF, ELSE, FDEF and IDEF leads.
 pub fn partners_are_there()
     ensures of_if { (is : List Instruction) (at : ℕ) (i : Instruction) → IsStructured is → AllByRecursion IsInstruction is →
         StandsAt is at i → word i ≡ Word.If → (to : ℕ) × (after_if is at ≡ Some to) }
@@ -93,7 +93,7 @@ pub fn partners_are_there()
         StandsAt is at i → word i ≡ Word.Idef → (to : ℕ) × (leads Word.Idef is at ≡ Some to) }
 {}
 
-/// A body is found for each instruction, and in a structured program it is the one in which the instruction stands.
+/// States that a body is found for each instruction, and that in a structured program it is the one to which the instruction belongs.
 pub fn bodies_are_found()
     ensures found { (is : List Instruction) (at : ℕ) (i : Instruction) (b : Body) → IsStructured is → AllByRecursion IsInstruction is →
         StandsAt is at i → ((body_at is at ≡ Some b) ↔ IsBodyAt is at b) }
@@ -103,7 +103,7 @@ pub fn bodies_are_found()
         (i : Instruction) × StandsAt is at i }
 {}
 
-/// In a structured program each FDEF stands in the main program.
+/// States that in a structured program each FDEF is in the main program.
 pub fn definitions_stand_in_main()
     ensures { (is : List Instruction) (at : ℕ) (i : Instruction) → IsStructured is → AllByRecursion IsInstruction is →
         StandsAt is at i → word i ≡ Word.Fdef → body_at is at ≡ Some Body.Main }

@@ -1,4 +1,4 @@
-//! What a font allows its programs.
+//! What a font allows its programs (OpenType specification, `maxp`).
 
 /// The limits of the font's `maxp` table, version 1.0 (OpenType specification, `maxp`).
 #[derive(Clone, Copy, Debug, PartialEq, Eq)]

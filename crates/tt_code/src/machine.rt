@@ -1,4 +1,4 @@
-//! What the hint machine keeps beside its stack.
+//! What the hint machine keeps besides its stack (Apple TrueType Reference Manual, "Graphics state").
 
 /// A call that hasn't returned.
 #[derive(Clone, Copy, Debug, PartialEq, Eq)]
@@ -23,17 +23,17 @@ pub struct Graphics<N, Z> {
     pub zp0: Z,
     pub zp1: Z,
     pub zp2: Z,
-    /// The loop number, that SLOOP sets.
+    /// The loop number, which SLOOP sets.
     pub loop_number: N,
 }
 
-/// To which part of a program an instruction belongs.
+/// Which part of a program an instruction belongs to.
 #[derive(Clone, Copy, Debug, PartialEq, Eq)]
 pub enum Body {
     /// Outside all definitions, FDEF and IDEF themselves included.
     Main,
-    /// Behind an FDEF, up to and with its ENDF; the offset of the body's first instruction names it.
+    /// After an FDEF, up to and including its ENDF; the offset of the body's first instruction names it.
     Function(u32),
-    /// Behind an IDEF, up to and with its ENDF, by the offset of the first instruction. No function has this body.
+    /// After an IDEF, up to and including its ENDF, named by the offset of the first instruction. No function has this body.
     Instruction(u32),
 }

@@ -1,4 +1,5 @@
-//! What is open at a place of a program.
+//! What is open at a place of a program (Apple TrueType Reference Manual, "Managing the flow of control", "Defining and using
+//! functions and instructions").
 
 ghost use Rattle.std.specs.Prelude.{◌≡◌, ◌<◌, ◌-◌, ◌^◌, IfOk, reverse};
 ghost use Rattle.tt_code.specs.Pass.{Turns, body_of, body_after};
@@ -17,10 +18,10 @@ pub enum Open {
     InInstruction(u32),
 }
 
-/// What an instruction does to what is open.
+/// What an instruction does to the things that are open.
 #[derive(Clone, Copy)]
 pub enum Turn {
-    /// It cannot stand here.
+    /// It isn't allowed here.
     Refused,
     /// It closes nothing.
     Passed,
@@ -28,7 +29,7 @@ pub enum Turn {
     Closed(u32),
 }
 
-/// Puts an instruction at an offset, in a body, behind what is open, the innermost last.
+/// Adds an instruction at an offset, in a body, to what is open, the innermost last.
 pub fn take_turn(
     stack: &mut Vec<Open>,
     word: Word,
@@ -76,7 +77,7 @@ pub fn take_turn(
     }
 }
 
-/// The body behind an instruction at an offset.
+/// Returns the body after an instruction at an offset.
 pub fn next_body(body: Body, word: Word, offset: u32) -> Body
     requires { offset < 2 ^ 32 - 1 }
     ensures { result ≡ body_after body word offset }

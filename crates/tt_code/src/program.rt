@@ -1,4 +1,4 @@
-//! Programs cut into their instructions, and their structure.
+//! Programs cut into their instructions, and their structure (Apple TrueType Reference Manual, "The TrueType instruction set").
 
 ghost use Rattle.std.specs.Prelude.{◌≡◌, ℕ, ◌+◌, ◌^◌, ◌<◌, ◌≤◌, ◌⊎◌, List, length, Err, Some, IfOk, IfErr, IfSome, IfNone, option_map};
 ghost use Rattle.std.specs.List.{AllByRecursion};
@@ -18,7 +18,7 @@ use crate::word::{Word, word_of_code};
 use std::alloc::Global;
 use std::marker::Model;
 
-/// How many bytes there are.
+/// Returns how many bytes there are.
 fn byte_count(bytes: &[u8]) -> u32
     requires { length bytes.now < 2 ^ 31 }
     ensures value { result ≡ length bytes.now }
@@ -70,7 +70,7 @@ impl<'a> Program<'a> {
     ///
     /// # Errors
     /// `CannotCut` where an instruction passes the end, with the instruction's offset, whatever the structure is and however
-    /// little memory there is; `Structure` with the offset of the first instruction that cannot stand where it does, or with the
+    /// little memory there is; `Structure` with the offset of the first instruction that isn't allowed where it is, or with the
     /// program's length where something is left open; `OutOfMemory`.
     pub fn cut(alloc: Global, bytes: &'a [u8]) -> Result<Program<'a>, CodeFault>
         requires { length bytes.now < 2 ^ 31 }
@@ -94,7 +94,7 @@ impl<'a> Program<'a> {
         })
     }
 
-    /// How many bytes the program has, at most 2^31 - 1.
+    /// Returns how many bytes the program has, at most 2^31 - 1.
     pub fn len(&self) -> u32
         ensures value { result ≡ size self.now }
         ensures small { result < 2 ^ 31 }
@@ -103,7 +103,7 @@ impl<'a> Program<'a> {
         byte_count(self.bytes)
     }
 
-    /// The instruction that starts at the offset, if one does.
+    /// Returns the instruction that starts at the offset, if one does.
     pub fn at(&self, offset: u32) -> Option<Instr<'a>>
         ensures value { result ≡ instruction_at self.now offset }
         ensures within { IfSome result (λ i. offset + length i ≤ size self.now) }
@@ -114,7 +114,7 @@ impl<'a> Program<'a> {
         Some(instruction)
     }
 
-    /// Where the slots say that control goes behind what the opening instruction at the offset opens, if one starts there.
+    /// Returns where the slots say that control goes after what the opening instruction at the offset opens, if one starts there.
     fn look_up(&self, opener: Word, offset: u32) -> Option<u32>
         requires { Opens opener }
         ensures found { IfSome result (GoesTo opener self.now offset) }
@@ -130,7 +130,7 @@ impl<'a> Program<'a> {
         }
     }
 
-    /// Where control goes behind what the opening instruction at the offset opens, if one starts there.
+    /// Returns where control goes after what the opening instruction at the offset opens, if one starts there.
     fn goes(&self, opener: Word, offset: u32) -> Option<u32>
         requires { Opens opener }
         ensures value { result ≡ leads opener self.now offset }
@@ -138,13 +138,13 @@ impl<'a> Program<'a> {
         ensures only { (to : ℕ) → GoesTo opener self.now offset to → result ≡ Some to }
         ensures none { IfNone result ((i : Instruction) → StandsAt self.now offset i → word i ≡ opener → ⊥) }
     {
-        // The slots' invariant holds where they are looked at: the proof of `value` wants it here.
+        // The slots' invariant holds where they are read: the proof of `value` needs it here.
         let _slots = &self.slots;
         self.look_up(opener, offset)
     }
 
-    /// Where the IF at the offset goes on 0: behind its ELSE, or without one behind its EIF (Apple TrueType Reference Manual,
-    /// IF). None where no IF starts at the offset.
+    /// Returns where the IF at the offset goes on 0: to just after its ELSE, or without one just after its EIF (Apple TrueType
+    /// Reference Manual, IF). None where no IF starts at the offset.
     pub fn after_if(&self, offset: u32) -> Option<u32>
         ensures value { result ≡ leads Word.If self.now offset }
         ensures found { IfSome result (GoesTo Word.If self.now offset) }
@@ -154,8 +154,8 @@ impl<'a> Program<'a> {
         self.goes(Word::If, offset)
     }
 
-    /// Where the ELSE at the offset goes where it is reached: behind its EIF (Apple TrueType Reference Manual, ELSE). None where no
-    /// ELSE starts at the offset.
+    /// Returns where the ELSE at the offset goes when it is reached: to just after its EIF (Apple TrueType Reference Manual, ELSE).
+    /// None where no ELSE starts at the offset.
     pub fn after_else(&self, offset: u32) -> Option<u32>
         ensures value { result ≡ leads Word.Else self.now offset }
         ensures found { IfSome result (GoesTo Word.Else self.now offset) }
@@ -165,8 +165,8 @@ impl<'a> Program<'a> {
         self.goes(Word::Else, offset)
     }
 
-    /// Where the FDEF at the offset goes: behind its ENDF (Apple TrueType Reference Manual, FDEF). None where no FDEF starts at
-    /// the offset.
+    /// Returns where the FDEF at the offset goes: to just after its ENDF (Apple TrueType Reference Manual, FDEF). None where no FDEF
+    /// starts at the offset.
     pub fn after_fdef(&self, offset: u32) -> Option<u32>
         ensures value { result ≡ leads Word.Fdef self.now offset }
         ensures found { IfSome result (GoesTo Word.Fdef self.now offset) }
@@ -176,7 +176,7 @@ impl<'a> Program<'a> {
         self.goes(Word::Fdef, offset)
     }
 
-    /// The body of the instruction that starts at the offset, if one does.
+    /// Returns the body of the instruction that starts at the offset, if one does.
     pub fn body_at(&self, offset: u32) -> Option<Body>
         ensures value { result ≡ body_on_cut self.now offset }
         ensures found { IfSome result (λ b. ((i : Instruction) × StandsAt self.now offset i) × IsBodyAt self.now offset b) }
@@ -187,7 +187,7 @@ impl<'a> Program<'a> {
         Some(body)
     }
 
-    /// The instruction that starts at the offset, with its body, if one does: what `at` and `body_at` say, by one look-up.
+    /// Returns the instruction that starts at the offset, with its body, if one does: what `at` and `body_at` return, by one look-up.
     pub fn found_at(&self, offset: u32) -> Option<(Instr<'a>, Body)>
         ensures instruction { option_map (λ found. found.0) result ≡ instruction_at self.now offset }
         ensures body { option_map (λ found. found.1) result ≡ body_on_cut self.now offset }

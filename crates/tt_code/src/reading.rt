@@ -1,4 +1,5 @@
-//! The one pass over a program's instructions that finds its structure.
+//! The one pass over a program's instructions that finds its structure (Apple TrueType Reference Manual, "Managing the flow of
+//! control").
 
 ghost use Rattle.std.specs.Prelude.{◌≡◌, List, [], ◌∷◌, ◌++◌, ◌+◌, ◌<◌, ◌≤◌, ◌^◌, length, Ok, true, false, IfOk};
 ghost use Rattle.std.specs.Vec.{vec_capacity};
@@ -25,7 +26,7 @@ pub struct Reading {
 impl Reading {
     ghost use Rattle.tt_code.specs.Slots.{IsReading};
 
-    /// Nothing is read yet, and there is room for so many bytes.
+    /// Makes the state before anything is read, with room for so many bytes.
     pub fn new(alloc: Global, size: usize) -> Result<Reading, AllocError>
         ensures start { IfOk result (IsReading []) }
         ensures room { IfOk result (λ r. size ≤ vec_capacity r.slots) }
@@ -37,7 +38,7 @@ impl Reading {
         })
     }
 
-    /// Reads the next instruction, if it can stand here; says whether it can.
+    /// Reads the next instruction, if it is allowed here; returns whether it is.
     pub fn read(&mut self, instruction: &[u8]) -> Result<bool, AllocError>
         requires whole { IsInstruction instruction.now }
         requires short { length instruction.now < 2 ^ 16 }

@@ -6,7 +6,7 @@ ghost use Rattle.tt_code.specs.Refusals.{number_of, reason_text};
 use std::error::Error;
 use std::fmt;
 
-/// Why a program is refused. Each reason has a number, and its text is what the command prints behind it.
+/// Why a program is refused. Each reason has a number, and its text is what the command prints after the number.
 #[derive(Clone, Copy, Debug, PartialEq, Eq, Drop)]
 pub enum Reason {
     CannotCut = 20,
@@ -35,14 +35,14 @@ pub enum Reason {
 }
 
 impl Reason {
-    /// The reason's number, 20 to 42.
+    /// Returns the reason's number, 20 to 42.
     pub fn number(self) -> u8
         ensures { result ≡ number_of self }
     {
         self as u8
     }
 
-    /// The reason in words.
+    /// Returns the reason in words.
     pub fn text(self) -> &'static str
         ensures { result.now ≡ reason_text self }
     {

@@ -16,7 +16,7 @@ pub enum Kind {
 /// What is kept of one byte of a program.
 #[derive(Clone, Copy)]
 pub struct Slot {
-    /// Where control goes behind what the instruction that starts here opens; 0 where it opens nothing.
+    /// Where control goes after what the instruction that starts here opens; 0 where it opens nothing.
     pub target: u32,
     /// The offset of the first instruction of its body; 0 in the main program.
     pub first: u32,
@@ -29,7 +29,7 @@ pub struct Slot {
 const _: () = prove!(size_of::<Slot>() == 12);
 
 impl Slot {
-    /// A byte inside an instruction.
+    /// Makes the slot of a byte inside an instruction.
     pub fn inside() -> Slot
         ensures { result ≡ inside }
     {
@@ -41,7 +41,7 @@ impl Slot {
         }
     }
 
-    /// The first byte of an instruction of this length, in a body.
+    /// Makes the slot of the first byte of an instruction of this length, in a body.
     pub fn start(length: u16, body: Body) -> Slot
         requires { 0 < length }
         ensures length { result.length ≡ length }
@@ -61,7 +61,7 @@ impl Slot {
         }
     }
 
-    /// The body of the instruction that starts here, if one does.
+    /// Returns the body of the instruction that starts here, if one does.
     pub fn body(self) -> Option<Body>
         ensures { result ≡ body_in self }
     {
@@ -75,7 +75,7 @@ impl Slot {
         })
     }
 
-    /// Where control goes behind what the instruction opens, if it opens something.
+    /// Returns where control goes after what the instruction opens, if it opens something.
     pub fn target(self) -> Option<u32>
         ensures { result ≡ target_in self }
     {
@@ -87,7 +87,7 @@ impl Slot {
     }
 }
 
-/// How many bytes the instruction at the offset has, and its body, if one starts there.
+/// Returns how many bytes the instruction at the offset has, and its body, if one starts there.
 pub fn start_at(slots: &[Slot], offset: u32) -> Option<(u16, Body)>
     ensures length { IfSome result (λ found. 0 < found.0 × (found.0 ≡ slice_index (lengths slots.now) offset)) }
     ensures body { option_map (λ found. found.1) result ≡ body_found (bodies slots.now) offset }
@@ -98,7 +98,7 @@ pub fn start_at(slots: &[Slot], offset: u32) -> Option<(u16, Body)>
     Some((slot.length, body))
 }
 
-/// Where control goes behind what the instruction at the offset opens, if one starts there and opens something.
+/// Returns where control goes after what the instruction at the offset opens, if one starts there and opens something.
 pub fn target_of(slots: &[Slot], offset: u32) -> Option<u32>
     ensures { result ≡ target_found (targets slots.now) offset }
 {

@@ -1,4 +1,5 @@
-//! The instruction set, as an array with an effect and one with a name for each code.
+//! The instruction set, as an array with an effect and one with a name for each code (Apple TrueType Reference Manual, "The
+//! TrueType instruction set").
 
 ghost use Rattle.std.specs.Prelude.{◌≡◌, map, option_map};
 ghost use Rattle.tt_code.specs.Table.{effect_of, name_of};
@@ -407,7 +408,7 @@ const ENDF: Effect = Effect::Control(Control::EndFunction);
 
 const IDEF: Effect = Effect::Control(Control::InstructionDefinition);
 
-/// The effects of all codes, sixteen from each comment on.
+/// The effects of all codes; each comment gives the first of the sixteen codes after it.
 static EFFECTS: [Effect; 256] = [
     // 00
     SVTCA,
@@ -683,7 +684,7 @@ static EFFECTS: [Effect; 256] = [
     MIRP_SET_RP0,
 ];
 
-/// The names of all codes, sixteen from each comment on; a code without an entry has the empty one.
+/// The names of all codes; each comment gives the first of the sixteen codes after it. A code without an entry has the empty name.
 static NAMES: [&str; 256] = [
     // 00
     "SVTCA",
@@ -959,28 +960,28 @@ static NAMES: [&str; 256] = [
     "MIRP",
 ];
 
-/// The effects of all codes.
+/// Returns the effects of all codes.
 fn effects() -> &'static [Effect; 256]
     ensures { map view result.now ≡ map effect_of (codes_from 0 256) }
 {
     &EFFECTS
 }
 
-/// The names of all codes.
+/// Returns the names of all codes.
 fn names() -> &'static [&'static str; 256]
     ensures { map name_text result.now ≡ map name_of (codes_from 0 256) }
 {
     &NAMES
 }
 
-/// The code's entry of the table, which says what `effect` says.
+/// Returns the code's entry of the table, which is the same as what `effect` returns.
 pub fn entry(code: u8) -> &'static Effect
     ensures { view result.now ≡ effect_of code }
 {
     &effects()[code as usize]
 }
 
-/// What the instructions of a code take, test, change and push (Apple TrueType Reference Manual, "The TrueType
+/// Returns what the instructions of a code take, test, change and push (Apple TrueType Reference Manual, "The TrueType
 /// instruction set").
 pub fn effect(code: u8) -> Effect
     ensures { view result ≡ effect_of code }
@@ -988,7 +989,7 @@ pub fn effect(code: u8) -> Effect
     *entry(code)
 }
 
-/// The code's name in the printed instruction set; a code without an entry has none.
+/// Returns the code's name in the printed instruction set; a code without an entry has none.
 pub fn name(code: u8) -> Option<&'static str>
     ensures { option_map (λ n. n.now) result ≡ name_of code }
 {

@@ -1,4 +1,4 @@
-//! What an instruction is for a program's structure.
+//! What an instruction is for a program's structure (Apple TrueType Reference Manual, "Managing the flow of control").
 
 ghost use Rattle.std.specs.Prelude.{◌≡◌};
 ghost use Rattle.tt_code.specs.Structure.{word_of};
@@ -15,7 +15,7 @@ pub enum Word {
     Other,
 }
 
-/// What the instructions of a code are.
+/// Returns what the instructions of a code are for the structure.
 pub fn word_of_code(code: u8) -> Word
     ensures { result ≡ word_of code }
 {

@@ -33,7 +33,7 @@ In-step i c [] h = absurd h
 In-step i c (d ∷ cs) (inl e) = inl (ap (λ x. i ∷ x) e)
 In-step i c (d ∷ cs) (inr h) = inr (In-step i c cs h)
 
--- what stands in a stepped list
+-- what is in a stepped list
 from_step : (i j : ℕ) (c : List ℕ) (cs : List (List ℕ)) → In (j ∷ c) (step i cs) → (j ≡ i) × In c cs
 from_step i j c [] h = absurd h
 from_step i j c (d ∷ cs) (inl e) = (let a : j ≡ i = cc in a, inl (let b : c ≡ d = cc in b))
@@ -86,7 +86,7 @@ over_distinct f i [] d = tt
 over_distinct f i (c ∷ cs) d = Distinct-append (step i (f c)) (over f (suc i) cs) (Distinct-step i (f c) (d c)) (over_distinct f (suc i) cs d)
     (λ x a b. apart_step f i c cs x a b)
 
--- a chain by the j-th component stands there if its rest does
+-- a chain by the j-th component is there if its rest is
 over_has : (f : ℕ → List (List ℕ)) (i j : ℕ) (cs : List ℕ) (c : List ℕ) → j < length cs → In c (f (get_or cs j 0)) → In ((i + j) ∷ c) (over f i cs)
 over_has f i j [] c lt h = absurd (omega arith)
 over_has f i zero (d ∷ cs) c lt h =

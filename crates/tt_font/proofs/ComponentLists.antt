@@ -14,7 +14,7 @@ pub size_is_least : (flags : ℕ) → 6 ≤ component_size flags
 unfolding component_size
 size_is_least flags = let some = arguments_are_some (has_flag flags 0x0001) in omega arith
 
--- a component lies behind its place and in the glyph
+-- a component lies after its place and in the glyph
 pub record IsBehind (place : ℕ) (glyph : List ℕ) (c : Component) : Type 0 where
   pub behind : place < c.after
   pub within : c.after ≤ length glyph
@@ -56,7 +56,7 @@ any_room (suc n) (suc m) place glyph a b =
     same_listed (λ after. components_from n after glyph) (λ after. components_from m after glyph) (component_at place glyph)
     (λ c e. let is = is_behind place glyph c e in let behind = is.behind in any_room n m c.after glyph (omega arith) (omega arith))
 
--- the components from a place on: the one there, and those from the place behind it on
+-- the components from a place on: the one there, and those from the place after it on
 pub components_at_is : (place : ℕ) (glyph : List ℕ) → components_at place glyph ≡ listed (λ after. components_at after glyph) (component_at place glyph)
 unfolding components_at components_from
 components_at_is place glyph =

@@ -1,4 +1,4 @@
--- The rounds, which write the rows of the composite glyphs alone.
+-- The rounds, which write only the rows of the composite glyphs.
 use Rattle.std.specs.Prelude.{◌≡◌, ◌≢◌, ℕ, ◌+◌, ◌<◌, ◌≤◌, ◌++◌, List, [], ◌∷◌, length, take, drop, Bool, true, false, slice_index_or, slice_set}
 use Rattle.std.specs.List.{Contains, sum_by}
 use Rattle.std.proofs.Common.{refl, sym, ◌∙◌, ap, subst, arith, inl, inr, ◌⊎◌, drop_of_length-le}
@@ -70,7 +70,7 @@ composites_same glyphs n numbers are is = record {
 
 -- ---- a round
 
--- a round in its course: what is left of the list of composite glyphs, the rows and the reads so far
+-- a round in progress: what is left of the list of composite glyphs, the rows and the reads so far
 pub record GoesRound (glyphs : ℕ → List ℕ) (n : ℕ) (table : List Sum) (before : ℕ) (rest : List ℕ) (next : List Sum) (reads : ℕ) : Type 0 where
   pub len : length next ≡ n
   pub inside : (id : ℕ) → Contains rest id → id < n

@@ -1,4 +1,4 @@
--- That the definitions which go step by step mean what they are to mean.
+-- The definitions that go step by step mean what they are meant to mean.
 use Rattle.std.specs.Prelude.{◌≡◌, ℕ, zero, suc, ◌+◌, ◌<◌, ◌≤◌, ◌⊎◌, ◌||◌, List, [], ◌∷◌, length, Bool, true, false, not, nat_lt, nat_le, Option, Some, None, MatchOption, if◌then◌else◌}
 use Rattle.std.specs.List.{list_any}
 use Rattle.std.specs.Option.{option_or}
@@ -54,7 +54,7 @@ is_there bytes place c at =
     ∙ ap (λ x. C c.flags c.glyph x) (sym at.after) in
     ap (λ b. if b then Some (C (u16_at place bytes) (u16_at (place + 2) bytes) (place + component_size (u16_at place bytes))) else None) fits ∙ ap (λ x. Some x) same
 
--- a list that stands there is what is read there, and has a last component
+-- a list that is there is what is read there, and has a last component
 pub record IsRead (bytes : List ℕ) (place : ℕ) (cs : List Component) : Type 0 where
   pub same : cs ≡ components_at place bytes
   pub last : Component

@@ -1,4 +1,4 @@
--- No condition on the tables of a file stands for want of memory.
+-- No condition on the tables of a file holds because memory ran out.
 use Rattle.std.proofs.Common.{◌≡◌, Bool, true, false, ℕ, List, [], ◌∷◌, Option, None, Some, subst, ◌+◌, ◌*◌}
 use Rattle.std.specs.List.{AllByRecursion}
 use Rattle.std.specs.Option.{option_map}

@@ -1,4 +1,4 @@
--- The composite glyphs of a font, and tables that agree on the other ones. This is representation.
+-- The composite glyphs of a font, and tables that agree on the other ones. (Representation.)
 use Rattle.std.specs.Prelude.{◌≡◌, ℕ, ◌<◌, List, length, true, false}
 use Rattle.std.specs.List.{Contains, sum_by}
 use Rattle.tt_font.specs.declared.sums.Sum.{Sum}

@@ -1,4 +1,4 @@
--- Conditions on which bytes are refused, each with its fault. Of a list of conditions the first that stands is answered.
+-- Conditions on which bytes are refused, each with its fault. Of a list of conditions the first that holds is the answer.
 use Rattle.std.specs.Prelude.{◌≡◌, ◌≢◌, ℕ, ◌+◌, ◌*◌, ◌&&◌, ◌||◌, List, [], ◌∷◌, length, Bool, true, Option, Some, None, is_some, is_none, not, alloc_error, Result, MatchResult, nat_le, nat_lt, ◌==◌, if◌then◌else◌}
 use Rattle.std.specs.Option.{option_map, option_map_or, option_or}
 use Rattle.tt_font.specs.declared.fault.FontFault.{FontFault}
@@ -11,7 +11,7 @@ use Rattle.tt_font.specs.Locations.{entry_fits}
 use Rattle.tt_font.specs.Glyphs.{program_of}
 use Rattle.tt_font.specs.Outlines.{Outline, refused}
 
--- the fault of a condition that stands
+-- the fault of a condition that holds
 abbrev pub Condition : Type 0
 Condition = Option FontFault
 
@@ -19,12 +19,12 @@ Condition = Option FontFault
 abbrev pub unless : Bool → FontFault → Condition
 unless test fault = if test then None else Some fault
 
--- the first condition that stands
+-- the first condition that holds
 abbrev pub first : List Condition → Condition
 first [] = None
 first (c ∷ cs) = option_or c (first cs)
 
--- the answer is Ok exactly if the condition doesn't stand, and is else its fault
+-- the answer is Ok exactly if the condition doesn't hold, and is else its fault
 abbrev pub Tests : {T : Type 0} → Condition → Result T FontFault → Type 0
 Tests condition answer = MatchResult answer (λ _. condition ≡ None) (λ fault. condition ≡ Some fault)
 

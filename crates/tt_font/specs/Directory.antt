@@ -9,11 +9,11 @@ use Rattle.tt_font.specs.Tags.{tag_number}
 abbrev pub record_count : List ℕ → ℕ
 record_count bytes = u16_at 4 bytes
 
--- where the i-th record of the directory stands
+-- where the i-th record of the directory is
 abbrev pub record_place : ℕ → ℕ
 record_place i = 12 + 16 * i
 
--- where a table stands in the file
+-- where a table is in the file
 pub record Extent : Type 0 where
   pub offset : ℕ
   pub len : ℕ
@@ -26,7 +26,7 @@ extent_of bytes i = record { offset = u32_at (record_place i + 8) bytes; len = u
 abbrev pub first_record : ℕ → List ℕ → ℕ → Option ℕ
 first_record tag bytes count = first_below (λ i. u32_at (record_place i) bytes == tag) count
 
--- where a table stands: the first record with its tag counts
+-- where a table is: the first record with its tag counts
 unfoldable pub extent : Tag → List ℕ → Option Extent
 extent tag bytes = option_map (extent_of bytes) (first_record (tag_number tag) bytes (record_count bytes))
 

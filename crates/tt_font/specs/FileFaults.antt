@@ -1,4 +1,4 @@
--- Why the bytes of a file are no font: the conditions in their order, of which the first that stands is answered.
+-- Why the bytes of a file aren't a font: the conditions in their order, of which the first that holds is the answer.
 use Rattle.std.specs.Prelude.{ℕ, List, [], ◌∷◌}
 use Rattle.tt_font.specs.declared.tag.Tag.TheVariants.{Cvt, Fpgm, Glyf, Head, Loca, Maxp, Prep}
 use Rattle.tt_font.specs.Directory.{table}

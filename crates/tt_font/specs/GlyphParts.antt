@@ -1,4 +1,4 @@
--- The glyphs as the code has them, and lists that grow glyph by glyph. This is representation.
+-- The glyphs as the code has them, and lists that grow glyph by glyph. (Representation.)
 use Rattle.std.specs.Prelude.{◌≡◌, ℕ, ◌<◌, List, [], length, slice_index_or, Some}
 use denote.Bor.{Bor}
 use Rattle.tt_font.specs.declared.glyph_part.GlyphPart.{GlyphPart}

@@ -1,4 +1,4 @@
--- The glyphs of a table as the code has it. This is representation.
+-- The glyphs of a table as the code has it. (Representation.)
 use Rattle.std.specs.Prelude.{◌≡◌, ℕ, ◌<◌, List, true, is_some}
 use Rattle.tt_font.specs.declared.glyph_table.GlyphTable.{GlyphTable}
 use Rattle.tt_font.specs.Locations.{glyph_bytes}

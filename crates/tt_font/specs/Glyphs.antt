@@ -39,7 +39,7 @@ abbrev pub composite_program : List ℕ → Option Component → Option (List �
 composite_program glyph None = None
 composite_program glyph (Some last) = if has_instructions last.flags then program_at last.after glyph else Some []
 
--- the program of a glyph, none where the glyph's bytes end before it does; a glyph without data has an empty one
+-- the program of a glyph, none where the glyph's bytes end before the program does; a glyph without data has an empty one
 unfoldable pub program_of : List ℕ → Option (List ℕ)
 program_of glyph =
     if is_composite glyph then composite_program glyph (last_of (components glyph)) else

@@ -1,4 +1,4 @@
--- Where the glyphs stand (OpenType specification, `head`, `loca`, `glyf`).
+-- Where the glyphs are (OpenType specification, `head`, `loca`, `glyf`).
 use Rattle.std.specs.Prelude.{ℕ, ◌+◌, ◌-◌, ◌*◌, ◌&&◌, ◌||◌, List, length, slice_range, Bool, nat_le, ◌==◌, if◌then◌else◌}
 use Rattle.tt_font.specs.Numbers.{u16_at, u32_at}
 

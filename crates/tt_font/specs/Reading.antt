@@ -31,7 +31,7 @@ no_glyph = record { points = 0; contours = 0; program = [] }
 abbrev pub glyph_at : List GlyphData → ℕ → GlyphData
 glyph_at glyphs id = slice_index_or glyphs id no_glyph
 
--- a glyph's program stands in its bytes, and its points and contours are the sums over all chains of components
+-- a glyph's program is in its bytes, and its points and contours are the sums over all chains of components
 pub record ReadsGlyph (glyph : List ℕ) (outlines : ℕ → Outline) (id : ℕ) (found : GlyphData) : Type 0 where
   pub program : program_of glyph ≡ Some found.program
   pub points : SumsChains own_points outlines id found.points
@@ -39,12 +39,12 @@ pub record ReadsGlyph (glyph : List ℕ) (outlines : ℕ → Outline) (id : ℕ)
   pub points_most : found.points ≤ 65535
   pub contours_most : found.contours ≤ 65535
 
--- so it is with each glyph of a font
+-- each glyph of a font is so
 pub record ReadsGlyphs (count : ℕ) (glyphs : ℕ → List ℕ) (outlines : ℕ → Outline) (found : List GlyphData) : Type 0 where
   pub len : length found ≡ count
   pub each : (id : ℕ) → id < count → ReadsGlyph (glyphs id) outlines id (glyph_at found id)
 
--- each field of a font stands in the bytes at its place
+-- each field of a font is in the bytes at its place
 pub record Reads (bytes : List ℕ) (font : FontData) : Type 0 where
   pub limits : font.limits ≡ font_limits bytes
   pub cvt_count : font.cvt_count ≡ font_cvt_count bytes

@@ -1,4 +1,4 @@
--- How the points and contours of all glyphs are summed round by round. This is representation.
+-- How the points and contours of all glyphs are summed round by round. (Representation.)
 use Rattle.std.specs.Prelude.{◌≡◌, ℕ, zero, suc, ◌<◌, ◌||◌, List, length, slice_index_or, Bool, true, not, nat_lt, min}
 use Rattle.std.specs.List.{sum_by, list_any}
 use Rattle.tt_font.specs.declared.sums.Sum.{Sum}
@@ -13,7 +13,7 @@ unfoldable pub is_bad : ℕ → (ℕ → Outline) → ℕ → ℕ → Bool
 is_bad count outlines zero id = has_parts (outlines id)
 is_bad count outlines (suc k) id = list_any (λ part. not (nat_lt part count) || is_bad count outlines k part) (parts (outlines id))
 
--- what a table says of a glyph; of one that it doesn't have, that it leads out
+-- what a table says about a glyph; about one that it doesn't have, that it leads out
 abbrev pub no_row : Sum
 no_row = record { bad = true; points = 0; contours = 0 }
 

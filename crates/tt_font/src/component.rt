@@ -1,3 +1,5 @@
+//! The components of composite glyphs (OpenType specification, `glyf`, "Composite glyph description").
+
 ghost use Rattle.std.specs.Prelude.{◌≡◌, ℕ, ◌+◌, ◌^◌, ◌<◌, ◌≤◌, length, is_some, IfSome, if◌then◌else◌};
 ghost use Rattle.tt_font.specs.Components.{component_size};
 
@@ -12,11 +14,11 @@ pub(crate) struct Component {
     pub(crate) flags: u16,
     /// The number of the component's glyph.
     pub(crate) glyph: u16,
-    /// The place behind the component.
+    /// The place just after the component.
     pub(crate) after: usize,
 }
 
-/// How many bytes a component has: its flags, its glyph, its arguments and its scale.
+/// Returns how many bytes a component has: its flags, its glyph, its arguments and its scale.
 #[tactic(auto, unfolding(crate::specs::Components::component_size))]
 fn size_of(flags: u16) -> usize
     ensures size { result ≡ component_size flags }
@@ -40,7 +42,7 @@ impl Component {
     ghost use Rattle.std.specs.Prelude.{◌≡◌, ℕ, ◌+◌, ◌^◌, ◌<◌, ◌≤◌, length, is_some, IfSome, if◌then◌else◌};
     ghost use Rattle.tt_font.specs.Components.{component_at, has_more, has_instructions, components, last_of};
 
-    /// Reads the component at a place of a glyph, where its bytes are there, and counts it. Nothing else reads a component.
+    /// Reads the component at a place of a glyph, where its bytes are there, and counts it. No other function reads a component.
     #[tactic(auto, unfolding(crate::specs::Components::component_at), using(crate::proofs::ComponentLists::size_is_least))]
     pub(crate) fn read(glyph: &[u8], place: usize, reads: &mut u64) -> Option<Component>
         requires place { place < 2 ^ 33 }
@@ -73,14 +75,14 @@ impl Component {
         self.flags & 0x0020 != 0
     }
 
-    /// Whether the program follows.
+    /// Whether the instructions follow the last component.
     pub(crate) fn has_instructions(&self) -> bool
         ensures { result ≡ has_instructions self.now.flags }
     {
         self.flags & 0x0100 != 0
     }
 
-    /// The last component of a glyph, where the bytes of all are there.
+    /// Reads the components of a glyph up to the last one, and returns that one, where the bytes of all of them are there.
     pub(crate) fn last(glyph: &[u8], reads: &mut u64) -> Option<Component>
         requires small { length glyph.now < 2 ^ 32 }
         requires room { reads.old + length (components glyph.now) + 1 < 2 ^ 64 }

@@ -1,3 +1,5 @@
+//! The directory of a font file, which says where its tables are (OpenType specification, "Table directory").
+
 ghost use Rattle.std.specs.Prelude.{◌≡◌, ◌==◌, ◌+◌, ◌*◌, ◌≤◌, ◌<◌, ◌^◌, length, IfOk, IfSome};
 ghost use Rattle.std.specs.Option.{option_map};
 ghost use Rattle.tt_font.specs.Numbers.{u32_at, first_below};
@@ -19,14 +21,14 @@ pub(crate) struct Directory<'a> {
     ghost whole: { 12 + 16 * count ≤ length bytes.now },
 }
 
-/// Where a table stands in the file.
+/// Where a table is in the file.
 #[derive(Clone, Copy, PartialEq, Eq)]
 pub(crate) struct Extent {
     offset: u32,
     len: u32,
 }
 
-/// The number of the first of some records with a tag.
+/// Finds the first of some records with a tag, and returns its number.
 fn find_record(bytes: &[u8], count: u16, tag: u32) -> Option<u16>
     requires { 12 + 16 * count ≤ length bytes.now }
     ensures first { result ≡ first_record tag bytes.now count }
@@ -41,7 +43,7 @@ fn find_record(bytes: &[u8], count: u16, tag: u32) -> Option<u16>
 }
 
 impl<'a> Directory<'a> {
-    /// The directory of a file, where it is that of a font and whole.
+    /// Reads the directory of a file, where it is that of a font and whole.
     #[tactic(auto, unfolding(crate::specs::Conditions::directory_fault))]
     pub(crate) fn read(bytes: &'a [u8]) -> Result<Directory<'a>, FontFault>
         ensures fault { Tests (directory_fault bytes.now) result }
@@ -61,7 +63,7 @@ impl<'a> Directory<'a> {
         Ok(Directory { bytes, count })
     }
 
-    /// Where the first record with the tag says that its table stands.
+    /// Returns where the first record with the tag says that its table is.
     #[tactic(auto, unfolding(crate::specs::Directory::extent))]
     fn extent(&self, tag: Tag) -> Option<Extent>
         ensures { option_map (λ e. record { offset = e.offset; len = e.len }) result
@@ -75,7 +77,7 @@ impl<'a> Directory<'a> {
         })
     }
 
-    /// The bytes of a table that every font has, where they are at least `least`.
+    /// Returns the bytes of a table that every font has, where they are at least `least`.
     #[tactic(auto, unfolding(crate::specs::Conditions::table_fault, crate::specs::Directory::table))]
     pub(crate) fn required(&self, tag: Tag, least: u32) -> Result<&'a [u8], FontFault>
         ensures fault { Tests (table_fault tag least self.now.bytes.now) result }
@@ -93,7 +95,7 @@ impl<'a> Directory<'a> {
         Ok(&self.bytes[extent.offset as usize..end])
     }
 
-    /// The bytes of a table that a font may lack, where they are at most `most`.
+    /// Returns the bytes of a table that a font may lack, where they are at most `most`.
     #[tactic(auto, unfolding(crate::specs::Conditions::optional_table_fault, crate::specs::Directory::table))]
     pub(crate) fn optional(&self, tag: Tag, most: u32) -> Result<&'a [u8], FontFault>
         ensures fault { Tests (optional_table_fault tag most self.now.bytes.now) result }

@@ -1,3 +1,5 @@
+//! Why a font file is refused (OpenType specification, "Table directory", `maxp`, `loca` and `glyf`).
+
 ghost use Rattle.std.specs.Prelude.{◌≡◌};
 ghost use Rattle.tt_font.specs.FaultNumbers.{fault_number};
 
@@ -5,7 +7,7 @@ use crate::tag::Tag;
 use std::alloc::{AllocError, AllocFailed};
 use thiserror::Error;
 
-/// Why the bytes of a file are no font whose programs can be checked.
+/// Why the bytes of a file aren't a font whose programs can be checked.
 #[derive(Clone, Copy, Debug, PartialEq, Eq, Error)]
 pub enum FontFault {
     /// The file doesn't begin with a version of TrueType outlines.
@@ -30,16 +32,16 @@ pub enum FontFault {
     /// A glyph's bytes end too early.
     #[error("glyph {0} truncated")]
     GlyphTruncated(u16),
-    /// A composite glyph leads to no glyph or too deep, or a glyph has more than 65,535 points or contours.
+    /// A composite glyph leads to no glyph or nests too deep, or a glyph has more than 65,535 points or contours.
     #[error("composite {0}")]
     Composite(u16),
-    /// There was no memory.
+    /// Memory ran out.
     #[error("out of memory")]
     OutOfMemory(AllocError),
 }
 
 impl FontFault {
-    /// The number of the fault, from 1 to 9, which is printed before its text.
+    /// Returns the number of the fault, from 1 to 9, which is printed before its text.
     pub fn number(&self) -> u8
         ensures { result ≡ fault_number self.now }
     {

@@ -1,3 +1,5 @@
+//! A whole font file: its limits, its programs and its glyphs (OpenType specification, "Font tables").
+
 ghost use Rattle.std.specs.Prelude.{◌≡◌, ◌+◌, ◌*◌, ◌^◌, ◌<◌, ◌≤◌, map, IfOk, OnOk};
 ghost use Rattle.tt_font.specs.GlyphTables.{glyphs_of, outlines_in, components_in};
 ghost use Rattle.tt_font.specs.GlyphParts.{glyph_data};
@@ -14,7 +16,7 @@ use std::alloc::Global;
 use std::marker::Model;
 use tt_code::Limits;
 
-/// The glyphs of a font, and how often a component was read for them.
+/// Reads the glyphs of a font, and counts how often a component was read for them.
 #[tactic(auto, unfolding(crate::specs::Conditions::glyphs_fault))]
 fn read_glyphs<'a>(
     alloc: Global,
@@ -71,9 +73,9 @@ impl<'a> Font<'a> {
     ghost use Rattle.tt_font.specs.GlyphParts.{glyph_data};
 
     /// Reads the bytes of a font file. No glyph and no program is copied, and the memory that is taken grows with the number of
-    /// glyphs alone, once `loca` is known to have an entry for each.
+    /// glyphs only, once `loca` is known to have an entry for each.
     ///
-    /// Errors: the first of these that stands, or `OutOfMemory`, which comes only where none of the first five stands.
+    /// Errors: the first of these that holds, or `OutOfMemory`, which is returned only where none of the first five holds.
     /// 1. Fewer than 12 bytes (`DirectoryTruncated`), the version (`NotSfnt`), fewer bytes than the records of the directory
     ///    take (`DirectoryTruncated`).
     /// 2. `maxp` is missing, lies outside the file or has fewer than 4 bytes, isn't of version 1.0, has fewer than 32 bytes.
@@ -104,50 +106,50 @@ impl<'a> Font<'a> {
         })
     }
 
-    /// What the font allows its programs.
+    /// Returns what the font allows its programs.
     pub fn limits(&self) -> Limits
         ensures { result ≡ self.now.limits }
     {
         self.limits
     }
 
-    /// How many control values the font has.
+    /// Returns how many control values the font has.
     pub fn cvt_count(&self) -> u32
         ensures { result ≡ self.now.cvt_count }
     {
         self.cvt_count
     }
 
-    /// How many glyphs the font has.
+    /// Returns how many glyphs the font has.
     pub fn glyph_count(&self) -> u16
         ensures { result ≡ length self.now.glyphs }
     {
         self.glyphs.len() as u16
     }
 
-    /// The font program, empty where the font has none.
+    /// Returns the font program, empty where the font has none.
     pub fn fpgm(&self) -> &'a [u8]
         ensures { result.now ≡ self.now.fpgm }
     {
         self.fpgm
     }
 
-    /// The CVT program, empty where the font has none.
+    /// Returns the CVT program, empty where the font has none.
     pub fn prep(&self) -> &'a [u8]
         ensures { result.now ≡ self.now.prep }
     {
         self.prep
     }
 
-    /// A glyph, none where the font hasn't as many.
+    /// Returns a glyph; None where the font has fewer glyphs.
     pub fn glyph(&self, id: u16) -> Option<GlyphPart<'a>>
         ensures { option_map glyph_data result ≡ slice_get self.now.glyphs id }
     {
         self.glyphs.get(usize::from(id)).copied()
     }
 
-    /// How often an entry of a component list was read while the font was: at least once for each entry of each glyph, and at
-    /// most 17 times as often.
+    /// Returns how often an entry of a component list was read while the font was read: at least once for each entry of each glyph,
+    /// and at most 17 times as often.
     pub fn component_reads(&self) -> u64
         ensures { result ≡ self.now.component_reads }
     {

@@ -1,3 +1,5 @@
+//! The bytes of one glyph: its program, points and contours (OpenType specification, `glyf`).
+
 ghost use Rattle.std.specs.Prelude.{◌≡◌, ◌+◌, ◌*◌, ◌^◌, ◌<◌, ◌≤◌, length, is_some, true, false};
 ghost use Rattle.std.specs.Option.{option_map};
 ghost use Rattle.tt_font.specs.Components.{components, last_of};
@@ -9,7 +11,7 @@ use crate::numbers::u16_at;
 /// numberOfContours from this value on is a negative number: the glyph is made of components.
 const COMPOSITE: u16 = 0x8000;
 
-/// The instructions at a place of a glyph, behind their length, where their bytes are there.
+/// Returns the instructions at a place of a glyph, after their length, where their bytes are there.
 #[tactic(auto, unfolding(crate::specs::Glyphs::program_at))]
 fn read_program(glyph: &[u8], place: usize) -> Option<&[u8]>
     requires { place < 2 ^ 33 }
@@ -26,7 +28,7 @@ fn read_program(glyph: &[u8], place: usize) -> Option<&[u8]>
     Some(&glyph[start..end])
 }
 
-/// The program of a simple glyph, where its bytes are there.
+/// Reads the program of a simple glyph, where its bytes are there.
 fn read_simple_program(glyph: &[u8]) -> Option<&[u8]>
     requires { 10 ≤ length glyph.now }
     ensures { option_map (λ program. program.now) result ≡ simple_program glyph.now }
@@ -38,7 +40,7 @@ fn read_simple_program(glyph: &[u8]) -> Option<&[u8]>
     read_program(glyph, HEADER + 2 * contours)
 }
 
-/// The program of a composite glyph, where its bytes are there.
+/// Reads the program of a composite glyph, where its bytes are there.
 fn read_composite_program<'a>(glyph: &'a [u8], reads: &mut u64) -> Option<&'a [u8]>
     requires small { length glyph.now < 2 ^ 32 }
     requires room { reads.old + length (components glyph.now) + 1 < 2 ^ 64 }
@@ -61,7 +63,7 @@ pub(crate) fn is_composite(glyph: &[u8]) -> bool
     glyph.len() >= HEADER && u16_at(glyph, 0) >= COMPOSITE
 }
 
-/// The program of a glyph, where its bytes are there. One without data has an empty program.
+/// Reads the program of a glyph, where its bytes are there. A glyph without data has an empty program.
 #[tactic(auto, unfolding(crate::specs::Glyphs::program_of, crate::specs::Glyphs::component_count))]
 pub(crate) fn read_glyph_program<'a>(glyph: &'a [u8], reads: &mut u64) -> Option<&'a [u8]>
     requires small { length glyph.now < 2 ^ 32 }
@@ -80,7 +82,7 @@ pub(crate) fn read_glyph_program<'a>(glyph: &'a [u8], reads: &mut u64) -> Option
     }
 }
 
-/// The points of a glyph that isn't composite and whose bytes are there.
+/// Returns how many points a glyph has that isn't composite and whose bytes are there.
 #[tactic(auto, unfolding(crate::specs::Glyphs::simple_points), using(crate::proofs::WholeGlyphs::end_points_are_there))]
 pub(crate) fn simple_points(glyph: &[u8]) -> u32
     requires simple { is_composite glyph.now ≡ false }
@@ -98,7 +100,7 @@ pub(crate) fn simple_points(glyph: &[u8]) -> u32
     u32::from(u16_at(glyph, HEADER + 2 * (contours - 1))) + 1
 }
 
-/// The contours of a glyph that isn't composite.
+/// Returns how many contours a glyph has that isn't composite.
 #[tactic(auto, unfolding(crate::specs::Glyphs::simple_contours))]
 pub(crate) fn simple_contours(glyph: &[u8]) -> u32
     ensures contours { result ≡ simple_contours glyph.now }

@@ -1,3 +1,5 @@
+//! What is kept of a glyph (OpenType specification, `glyf`).
+
 /// A glyph of a font: how many points and contours it has, and its program.
 #[derive(Clone, Copy, Debug, PartialEq, Eq)]
 pub struct GlyphPart<'a> {

@@ -1,10 +1,12 @@
+//! The glyphs of a font by their numbers (OpenType specification, `loca` and `glyf`).
+
 ghost use Rattle.std.specs.Prelude.{◌≡◌, ℕ, ◌+◌, ◌*◌, ◌^◌, ◌<◌, ◌≤◌, length, true};
 ghost use Rattle.tt_font.specs.Locations.{entry_size, entry, entry_fits};
 
 use crate::fault::FontFault;
 use crate::numbers::{u16_at, u32_at};
 
-/// Where the glyphs of a font stand: each has the bytes of `glyf` from its entry of `loca` to the next entry (OpenType
+/// Where the glyphs of a font are: each has the bytes of `glyf` from its entry of `loca` to the next entry (OpenType
 /// specification, `loca`).
 #[derive(Clone, Copy)]
 pub(crate) struct GlyphTable<'a> {
@@ -19,7 +21,7 @@ pub(crate) struct GlyphTable<'a> {
     ghost placed: { (i : ℕ) → i ≤ count → entry_fits format loca.now glyf.now i ≡ true },
 }
 
-/// The place in `glyf` that an entry of `loca` names.
+/// Returns the place in `glyf` that an entry of `loca` names.
 fn entry_at(format: u16, loca: &[u8], i: u32) -> u32
     requires format { format < 2 }
     requires there { entry_size format * (i + 1) ≤ length loca.now }
@@ -54,7 +56,7 @@ impl<'a> GlyphTable<'a> {
     ghost use Rattle.tt_font.specs.GlyphTables.{glyphs_of};
     ghost use Rattle.tt_font.specs.Conditions.{Tests, loca_fault};
 
-    /// The glyphs of the tables `loca` and `glyf`, for the format that `head` tells.
+    /// Reads the glyphs of the tables `loca` and `glyf`, in the format that `head` gives.
     pub(crate) fn read(
         format: u16,
         loca: &'a [u8],
@@ -84,7 +86,7 @@ impl<'a> GlyphTable<'a> {
         })
     }
 
-    /// Where a glyph's bytes begin and end in `glyf`.
+    /// Returns where a glyph's bytes begin and end in `glyf`.
     fn place(&self, id: u16) -> (usize, usize)
         requires { id < self.now.count }
         ensures start { result.0 ≡ entry self.now.format self.now.loca.now id }
@@ -97,7 +99,7 @@ impl<'a> GlyphTable<'a> {
         (start as usize, end as usize)
     }
 
-    /// The bytes of a glyph.
+    /// Returns the bytes of a glyph.
     #[tactic(auto, unfolding(crate::specs::Locations::glyph_bytes))]
     pub(crate) fn glyph(&self, id: u16) -> &'a [u8]
         requires { id < self.now.count }

@@ -1,4 +1,4 @@
-//! The font file: from its bytes to limits and programs.
+//! The font file: from its bytes to limits and programs (OpenType specification, "Font tables").
 #![tactic(auto)]
 
 mod component;

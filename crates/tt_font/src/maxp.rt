@@ -1,3 +1,5 @@
+//! The limits that a font sets (OpenType specification, `maxp`).
+
 ghost use Rattle.std.specs.Prelude.{◌≡◌, ◌≤◌, length, IfOk, OnOk};
 ghost use Rattle.tt_font.specs.Conditions.{Tests, maxp_fault};
 ghost use Rattle.tt_font.specs.Maxp.{limits_of};
@@ -7,7 +9,7 @@ use crate::numbers::{u16_at, u32_at};
 use crate::tag::Tag;
 use tt_code::Limits;
 
-/// The limits in the bytes of a `maxp` table (OpenType specification, `maxp`). A table of version 1.0 has 32 bytes, and a
+/// Reads the limits from the bytes of a `maxp` table (OpenType specification, `maxp`). A table of version 1.0 has 32 bytes, and a
 /// longer one is accepted. Takes no memory.
 ///
 /// Errors: `TableOutside` where the table is too short, `MaxpVersion` where it isn't of version 1.0.

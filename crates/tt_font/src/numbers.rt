@@ -1,9 +1,11 @@
+//! Big-endian numbers in the bytes of a font (OpenType specification, "Data types").
+
 ghost use Rattle.std.specs.Prelude.{◌≡◌, ◌+◌, ◌≤◌, length};
 ghost use Rattle.tt_font.specs.Numbers.{u16_at, u32_at};
 
 use byteorder::{BigEndian, ByteOrder};
 
-/// The u16 at a place.
+/// Returns the u16 at a place.
 #[tactic(auto, unfolding(crate::specs::Numbers::u16_at))]
 pub(crate) fn u16_at(bytes: &[u8], place: usize) -> u16
     requires { place + 2 ≤ length bytes.now }
@@ -12,7 +14,7 @@ pub(crate) fn u16_at(bytes: &[u8], place: usize) -> u16
     BigEndian::read_u16(&bytes[place..])
 }
 
-/// The u32 at a place.
+/// Returns the u32 at a place.
 #[tactic(auto, unfolding(crate::specs::Numbers::u32_at))]
 pub(crate) fn u32_at(bytes: &[u8], place: usize) -> u32
     requires { place + 4 ≤ length bytes.now }

@@ -1,3 +1,5 @@
+//! The programs of all glyphs (OpenType specification, `glyf`).
+
 ghost use Rattle.std.specs.Prelude.{◌≡◌, ℕ, ◌+◌, ◌^◌, ◌<◌, ◌≤◌, length, map, IfOk, IfErr, alloc_error};
 ghost use Rattle.tt_font.specs.Rounds.{row};
 ghost use Rattle.tt_font.specs.GlyphTables.{glyphs_of, components_in};
@@ -11,7 +13,7 @@ use crate::glyph_table::GlyphTable;
 use crate::sums::Sum;
 use std::alloc::Global;
 
-/// The programs of all glyphs, or the first glyph whose bytes end too early.
+/// Reads the programs of all glyphs, or returns the first glyph whose bytes end too early.
 pub(crate) fn read_programs<'a>(
     alloc: Global,
     glyphs: &GlyphTable<'a>,
@@ -32,7 +34,7 @@ pub(crate) fn read_programs<'a>(
     Ok(programs)
 }
 
-/// The glyphs, from their programs and the sums over their components.
+/// Makes the glyphs from their programs and the sums over their components.
 pub(crate) fn put_together<'a>(
     alloc: Global,
     programs: &[&'a [u8]],

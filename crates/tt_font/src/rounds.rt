@@ -1,3 +1,6 @@
+//! The points and contours of all glyphs, summed over their components round by round (OpenType specification, `glyf`, "Composite
+//! glyph description").
+
 ghost use Rattle.std.specs.Prelude.{◌≡◌, ℕ, [], ◌+◌, ◌*◌, ◌^◌, ◌<◌, ◌≤◌, length, IfOk, IfErr, OnOk, IsTrue, ◌↔◌, alloc_error};
 ghost use Rattle.tt_font.specs.Numbers.{first_below};
 ghost use Rattle.tt_font.specs.CompositeLists.{AreComposites, AgreeOnSimple};
@@ -14,7 +17,7 @@ use std::mem::swap;
 /// How many steps a chain of components may have.
 const STEPS: u32 = 16;
 
-/// The table before the first round: what each glyph's own bytes say. The numbers of the glyphs that are composite are listed.
+/// Makes the table before the first round: what each glyph's own bytes say. Lists the numbers of the composite glyphs.
 fn first_table(
     alloc: Global,
     glyphs: &GlyphTable,
@@ -37,7 +40,7 @@ fn first_table(
     Ok(table)
 }
 
-/// Writes what a table is after one more round into `next`, which has the rows of the glyphs that aren't composite already.
+/// Writes what a table is after one more round into `next`, which already has the rows of the glyphs that aren't composite.
 fn take_round(
     glyphs: &GlyphTable,
     composites: &[u16],
@@ -58,7 +61,7 @@ fn take_round(
     }
 }
 
-/// The first glyph that its row refuses.
+/// Returns the first glyph that its row refuses.
 fn first_refused(table: &[Sum], count: u16) -> Option<u16>
     requires { length table.now ≡ count }
     ensures { result ≡ first_below (λ id. row_refuses (row table.now id)) count }
@@ -71,15 +74,15 @@ fn first_refused(table: &[Sum], count: u16) -> Option<u16>
     None
 }
 
-/// Whether two tables say the same.
+/// Whether two tables are the same.
 fn is_same(a: &[Sum], b: &[Sum]) -> bool
     ensures { IsTrue result ↔ (a.now ≡ b.now) }
 {
     a == b
 }
 
-/// The table after the last round. Each round takes the sums over one more step of the chains of components; where one changes
-/// nothing, those after it would change nothing either.
+/// Makes the table after the last round. Each round takes the sums over one more step of the chains of components; where one
+/// changes nothing, those after it would change nothing either.
 fn last_table(alloc: Global, glyphs: &GlyphTable, reads: &mut u64) -> Result<Vec<Sum>, FontFault>
     requires whole { AreWhole glyphs.now }
     requires room { reads.old + 16 * components_in glyphs.now + 1 < 2 ^ 64 }
@@ -104,7 +107,7 @@ fn last_table(alloc: Global, glyphs: &GlyphTable, reads: &mut u64) -> Result<Vec
     Ok(table)
 }
 
-/// The points and contours of all glyphs, or the first glyph that is refused.
+/// Returns the points and contours of all glyphs, or the first glyph that is refused.
 pub(crate) fn sum_up(
     alloc: Global,
     glyphs: &GlyphTable,

@@ -1,3 +1,6 @@
+//! The points and contours of a glyph, as a sum over its components (OpenType specification, `glyf`, "Composite glyph
+//! description").
+
 ghost use Rattle.std.specs.Prelude.{◌≡◌, ℕ, ◌+◌, ◌^◌, ◌<◌, ◌≤◌, length, min};
 ghost use Rattle.tt_font.specs.Components.{components, glyphs_named};
 ghost use Rattle.tt_font.specs.Rounds.{row, AddsUp};
@@ -33,7 +36,7 @@ const NO_GLYPH: Sum = Sum {
     contours: 0,
 };
 
-/// The lesser of a sum and one more than the greatest number.
+/// Returns the sum of two numbers, or one more than the greatest allowed number where that is less.
 fn capped(a: u32, b: u32) -> u32
     requires a_most { a ≤ 65536 }
     requires b_most { b ≤ 65536 }
@@ -48,7 +51,7 @@ impl Sum {
     ghost use Rattle.tt_font.specs.Outlines.{outline_of, own_points, own_contours};
     ghost use Rattle.tt_font.specs.Rounds.{has_parts, row, row_refuses};
 
-    /// What a glyph's own bytes say, before its components are known.
+    /// Returns what a glyph's own bytes say, before its components are known.
     pub(crate) fn own(glyph: &[u8]) -> Sum
         requires { is_some (program_of glyph.now) ≡ true }
         ensures bad { result.bad ≡ has_parts (outline_of glyph.now) }
@@ -66,14 +69,14 @@ impl Sum {
         }
     }
 
-    /// What a table says of a glyph.
+    /// Returns what a table says of a glyph.
     pub(crate) fn of(table: &[Sum], id: u16) -> Sum
         ensures { result ≡ row table.now id }
     {
         table.get(usize::from(id)).copied().unwrap_or(NO_GLYPH)
     }
 
-    /// The sum of two.
+    /// Adds two sums.
     fn plus(self, part: Sum) -> Sum
         requires points { self.points ≤ 65536 }
         requires part_points { part.points ≤ 65536 }
@@ -90,7 +93,7 @@ impl Sum {
         }
     }
 
-    /// Whether it refuses its glyph after the last round.
+    /// Whether the sum refuses its glyph after the last round.
     pub(crate) fn refuses(&self) -> bool
         ensures { result ≡ row_refuses self.now }
     {
@@ -98,7 +101,7 @@ impl Sum {
     }
 }
 
-/// The sum over a glyph's components, by the table of the round before.
+/// Adds up a glyph's components, by the table of the round before.
 pub(crate) fn add_up(table: &[Sum], glyph: &[u8], reads: &mut u64) -> Sum
     requires points { (id : ℕ) → (row table.now id).points ≤ 65536 }
     requires contours { (id : ℕ) → (row table.now id).contours ≤ 65536 }

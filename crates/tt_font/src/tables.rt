@@ -1,3 +1,5 @@
+//! The tables of a font file that are read (OpenType specification, "Font tables").
+
 ghost use Rattle.std.specs.Prelude.{◌≡◌, ◌/◌, ◌<◌, ◌^◌, IfOk};
 ghost use Rattle.tt_font.specs.declared.tag.Tag.TheVariants.{Fpgm, Glyf, Head, Loca, Prep};
 ghost use Rattle.tt_font.specs.Locations.{loca_format};
@@ -28,7 +30,7 @@ pub(crate) struct Tables<'a> {
 }
 
 impl<'a> Tables<'a> {
-    /// The tables of a font file.
+    /// Reads the tables of a font file.
     #[tactic(auto, unfolding(crate::specs::FileFaults::tables_fault))]
     pub(crate) fn read(bytes: &'a [u8]) -> Result<Tables<'a>, FontFault>
         ensures fault { Tests (tables_fault bytes.now) result }

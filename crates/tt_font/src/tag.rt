@@ -1,3 +1,5 @@
+//! The tags of the tables that are read (OpenType specification, "Table directory").
+
 ghost use Rattle.std.specs.Prelude.{◌≡◌};
 ghost use Rattle.tt_font.specs.Tags.{tag_bytes, tag_number};
 
@@ -19,7 +21,7 @@ pub enum Tag {
     /// The font header.
     #[error("head")]
     Head,
-    /// Where each glyph stands.
+    /// Where each glyph is.
     #[error("loca")]
     Loca,
     /// The maximum profile: what the programs may use.
@@ -31,7 +33,7 @@ pub enum Tag {
 }
 
 impl Tag {
-    /// The four bytes of the tag in the directory.
+    /// Returns the four bytes of the tag in the directory.
     pub fn bytes(self) -> [u8; 4]
         ensures { result ≡ tag_bytes self }
     {
@@ -46,7 +48,7 @@ impl Tag {
         }
     }
 
-    /// The four bytes as one number.
+    /// Returns the four bytes as one number.
     pub(crate) fn number(self) -> u32
         ensures { result ≡ tag_number self }
     {

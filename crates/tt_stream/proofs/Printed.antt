@@ -10,7 +10,7 @@ use Rattle.std.proofs.Common.{inl, inr}
 use Rattle.tt_stream.proofs.Windows.{length-take_cut}
 use Rattle.tt_stream.specs.Streams.{AppendsText, AppendsBeginning, AppendsBeginningOfText}
 
--- the window shows the text behind its first skip bytes
+-- the window shows the text after its first skip bytes
 abbrev pub Shows : Option (List ℕ) → ℕ → ℕ → List ℕ → Type 0
 Shows text room skip kept = IfSome text (λ t. kept ≡ take room (drop skip t))
 

@@ -52,7 +52,7 @@ take-min n xs = elim (cases_lt n (length xs)) [
   | inr long ↦ let least : min (length xs) n ≡ length xs = omega arith in ap (λ m. take m xs) least ∙ take_all (length xs) xs (omega arith) ∙ sym (take_all n xs long)
 ]
 
--- a piece behind the bytes that are skipped, or none of it
+-- a piece after the bytes that are skipped, or none of it
 pub drop-min : (skip : ℕ) (piece : List ℕ) → take (length piece - min skip (length piece)) (drop (min skip (length piece)) piece) ≡ drop skip piece
 drop-min skip piece =
     let same : drop (min skip (length piece)) piece ≡ drop skip piece = elim (cases_lt skip (length piece)) [

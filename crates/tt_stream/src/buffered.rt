@@ -12,8 +12,8 @@ use std::marker::Model;
 /// How many bytes are read ahead at a time.
 const ROOM: usize = 65_536;
 
-/// A source of which many bytes are read at a time, and kept until they are asked for. It is called where bytes are asked for and none are kept,
-/// and then once.
+/// A source from which many bytes are read at a time, and kept until they are asked for. It is called only where bytes are asked for and none
+/// are kept, and then once.
 #[derive(Drop)]
 pub struct Buffered<S> {
     source: S,
@@ -31,7 +31,7 @@ impl<S> Model for Buffered<S> {
 }
 
 impl<S: Source> Buffered<S> {
-    /// The source with nothing read ahead.
+    /// Makes the source with nothing read ahead.
     ///
     /// # Errors
     /// If memory runs out; then the source is dropped.
@@ -62,7 +62,7 @@ impl<S: Source> Buffered<S> {
         Ok(())
     }
 
-    /// Sees that something is read ahead, where anything is left.
+    /// Makes sure that something is read ahead, where anything is left.
     fn fill(&mut self) -> Result<(), ReadFailed>
         ensures bytes { Keeps (prepend_known self.old.ahead (S.remaining self.old.source)) (prepend_known self.new.ahead (S.remaining self.new.source)) }
         ensures at_end { OnOk result (self.new.ahead ≡ [] → IsAtEnd (S.remaining self.new.source)) }
@@ -74,7 +74,7 @@ impl<S: Source> Buffered<S> {
         Ok(())
     }
 
-    /// Lets go of so many bytes that were read ahead.
+    /// Drops so many bytes that were read ahead.
     fn drop_front(&mut self, count: usize)
         requires { count ≤ length self.old.ahead }
         ensures source { self.new.source ≡ self.old.source }

@@ -1,4 +1,4 @@
-//! Readers and writers whose failed calls are counted. Contracts alone see the count.
+//! Readers and writers whose failed calls are counted. Only contracts see the count.
 #![tactic(auto)]
 
 ghost use Rattle.std.specs.Prelude.{◌≡◌, ℕ, ◌+◌, ◌<◌, ◌≤◌, List, [], Option, drop, length, take, IfOk, IfSome, OnErr, OnOk};
@@ -24,7 +24,7 @@ use thiserror::Error;
 #[error("read")]
 pub struct ReadFailed;
 
-/// A write failed, or took no byte where there was one.
+/// A write failed, or took no byte though there was one.
 #[derive(Clone, Copy, Debug, PartialEq, Eq, Error)]
 #[error("write")]
 pub struct WriteFailed;
@@ -40,14 +40,14 @@ pub trait Source {
     /// The bytes that are read ahead: of what is left, those that are given without a call that can fail.
     ghost read_ahead: { Self → List ℕ };
 
-    /// Reads some bytes into the front of `buf` and answers how many: 0 only at the end, or where
+    /// Reads some bytes into the front of `buf` and returns how many: 0 only at the end, or where
     /// `buf` has no room.
     fn read(&mut self, buf: &mut [u8]) -> Result<usize, ReadFailed>
         ensures bound { ReadsAtMost result buf.new }
         ensures bytes { ReadConsumes (remaining self.old) (remaining self.new) result buf.new }
         ensures failures { CountsFailure result (failures self.old) (failures self.new) };
 
-    /// The bytes that are read ahead, with which what is left begins.
+    /// Returns the bytes that are read ahead, with which what is left begins.
     fn ahead(&self) -> &[u8]
         ensures value { result.now ≡ read_ahead self.now }
         ensures front { IfSome (remaining self.now) (λ bytes. StartsWith bytes result.now) };
@@ -68,7 +68,7 @@ pub trait Sink {
     /// How many calls have failed.
     ghost failures: { Self → ℕ };
 
-    /// Takes some bytes from the front of `buf`, one at least where there is one, and answers how
+    /// Takes some bytes from the front of `buf`, at least one where there is one, and returns how
     /// many, or fails and takes none.
     fn write(&mut self, buf: &[u8]) -> Result<usize, WriteFailed>
         ensures bound { WritesAtMost result buf.now }
@@ -76,7 +76,7 @@ pub trait Sink {
         ensures bytes { WriteAppends (contents self.old) (contents self.new) result buf.now }
         ensures failures { CountsFailure result (failures self.old) (failures self.new) };
 
-    /// What `write!` and `writeln!` call: writes the text, or a beginning of it, with no memory.
+    /// Writes the text, or a beginning of it, with no memory. `write!` and `writeln!` call it.
     final fn write_fmt<D: Display + Drop>(&mut self, text: D) -> Result<(), PrintFailed>
     where
         Self: Sized,
@@ -88,7 +88,7 @@ pub trait Sink {
     }
 }
 
-/// A reader or a writer of std whose failed calls are counted. The counter has no bytes.
+/// A reader or a writer of std whose failed calls are counted. The counter takes no bytes.
 #[derive(Drop)]
 pub struct Counted<T, L: Ledger> {
     inner: T,
@@ -105,7 +105,7 @@ impl<T, L: Ledger> Model for Counted<T, L> {
 }
 
 impl<T, L: Ledger> Counted<T, L> {
-    /// The reader or writer, with no call that has failed yet, over a ledger of its own.
+    /// Wraps the reader or writer, with no call that has failed yet, over a ledger of its own.
     pub fn new(inner: T, blank: Blank) -> Self
         requires name { blank.name ≡ L.name }
         requires parts { blank.parts ≡ L.parts }
@@ -121,7 +121,7 @@ impl<T, L: Ledger> Counted<T, L> {
         }
     }
 
-    /// The reader or writer again.
+    /// Returns the reader or writer.
     pub fn into_inner(self) -> T
         ensures { result ≡ self.inner }
     {

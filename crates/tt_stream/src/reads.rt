@@ -1,4 +1,4 @@
-//! Reading to the end, and reading a buffer full.
+//! Reading to the end, and filling a buffer.
 
 ghost use Rattle.std.specs.Prelude.{◌≡◌, length, IfOk, OnErr};
 ghost use Rattle.std.specs.Io.{ReadsAtMost};
@@ -44,7 +44,7 @@ impl From<AllocError> for ReadFault {
     }
 }
 
-/// All bytes that are left. After a fault some beginning of them was read.
+/// Reads all bytes that are left. After a fault some beginning of them was read.
 pub fn read_all<R: Source>(alloc: Global, source: &mut R) -> Result<Vec<u8>, ReadFault>
     ensures all { IfOk result (λ bytes. Consumes (R.remaining source.old) (R.remaining source.new) bytes.items × IsAtEnd (R.remaining source.new)) }
     ensures beginning { OnErr result (ConsumesBeginning (R.remaining source.old) (R.remaining source.new)) }
@@ -61,7 +61,7 @@ pub fn read_all<R: Source>(alloc: Global, source: &mut R) -> Result<Vec<u8>, Rea
     }
 }
 
-/// Reads until the buffer is full or the input ends, and answers how many bytes stand at its front.
+/// Reads until the buffer is full or the input ends, and returns how many bytes are at its front.
 ///
 /// # Errors
 /// If a read fails; then some beginning of what is left was read, of fewer bytes than the buffer has.

@@ -35,7 +35,7 @@ impl From<WriteFailed> for PrintFailed {
     }
 }
 
-/// The part of a text behind its first `skip` bytes, as far as there is room.
+/// The part of a text after its first `skip` bytes, as far as there is room.
 #[derive(Drop)]
 struct Window {
     bytes: [u8; ROOM],
@@ -86,7 +86,7 @@ impl fmt::Write for Window {
     }
 }
 
-/// What the window behind the value's first `skip` bytes shows.
+/// Renders what the window after the value's first `skip` bytes shows.
 fn render<D: Display>(value: &D, skip: usize) -> Result<Window, PrintFailed>
     ensures text { IfOk result (λ w. IfSome (D.output value.now) (λ text. w.kept ≡ take ROOM (drop skip text))) }
     ensures failed { IfErr result (λ e. e ≡ PrintFailed.Format) }

@@ -22,7 +22,7 @@ fn make_changes(functions: &mut Entries<u32>, changes: &[Change]) -> Result<(), 
     Ok(())
 }
 
-/// What an empty list becomes by these changes; nothing for want of memory.
+/// Returns what an empty list becomes by these changes; nothing where memory ran out.
 fn list_after(alloc: Global, changes: &[Change]) -> Option<Entries<u32>> {
     let mut functions = Entries::new(alloc);
     make_changes(&mut functions, changes).ok()?;
@@ -59,12 +59,12 @@ const MADE: [Made<'static>; 2] = [
 /// Puts three functions with their bodies into a list, out of order.
 const THREE: [Change; 3] = [Change::Put(5, 40), Change::Put(1, 10), Change::Put(3, 20)];
 
-/// Whether a list holds what it is to hold.
+/// Whether a list holds what it should hold.
 fn holds(functions: &Entries<u32>, made: &Made<'_>) -> bool {
     functions.as_slice() == made.entries && [functions.get(3), functions.get(4)] == made.found
 }
 
-/// Whether a list that is made so holds what it is to hold.
+/// Whether a list that is made in this way holds what it should hold.
 fn is_made(alloc: Global, made: &Made<'_>) -> bool {
     match list_after(alloc, made.changes) {
         Some(functions) => holds(&functions, made),
@@ -80,7 +80,7 @@ fn changes(rt: HostRuntime) {
     }
 }
 
-/// Whether a copy of three functions keeps one that the list loses; nothing for want of memory.
+/// Whether a copy of three functions keeps one that the list loses; nothing where memory ran out.
 fn is_kept_by_a_copy(alloc: Global) -> Option<bool> {
     let mut functions = list_after(alloc, &THREE)?;
     let copy = functions.copied(alloc).ok()?;
@@ -93,7 +93,7 @@ fn copies(rt: HostRuntime) {
     assert!(rt; is_kept_by_a_copy(rt.alloc()) == Some(true));
 }
 
-/// Whether two lists of storage cells, of which one number differs, are joined to the number that they share; nothing for want of memory.
+/// Whether two lists of storage cells, of which one number differs, are joined to the number that they share; nothing where memory ran out.
 fn is_joined(alloc: Global) -> Option<bool> {
     let mut storage: Entries<i32> = Entries::from_slice(alloc, &[(1, -7), (2, 5)]).ok()?;
     let other = Entries::from_slice(alloc, &[(1, -7), (2, 6)]).ok()?;

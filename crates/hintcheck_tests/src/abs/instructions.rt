@@ -14,18 +14,18 @@ use tt_abs::{
 };
 use tt_code::{Frame, Graphics, Limits, Program, Reason};
 
-/// What an instruction is to do.
+/// What an instruction should do.
 #[derive(Clone, Copy)]
 pub(crate) enum Want<'a> {
     /// A test of it fails.
     Refused(Reason),
-    /// It goes on behind its one byte, which stands at 0, with this stack.
+    /// It goes on after its one byte, which is at 0, with this stack.
     Leaves(&'a [Cell]),
     /// It goes on so, with this stack.
     Goes(Moves, &'a [Cell]),
 }
 
-/// What has changed before an instruction beside the stack, and what is known where it goes on.
+/// What has changed before an instruction besides the stack, and what is known where it goes on.
 #[derive(Clone, Copy)]
 pub(crate) struct Given<'a> {
     /// The changes since the program's start.
@@ -36,18 +36,18 @@ pub(crate) struct Given<'a> {
     pub(crate) stored: Cell,
 }
 
-/// Nothing has changed, and the stack alone changes.
+/// Nothing has changed, and only the stack changes.
 pub(crate) const USUAL: Given<'static> = Given {
     before: &[],
     graphics: GRAPHICS,
     stored: Unknown,
 };
 
-/// An instruction of a glyph's program, what is known before it, and what it is to do.
+/// An instruction of a glyph's program, what is known before it, and what it should do.
 #[derive(Clone, Copy)]
 pub(crate) struct Case<'a> {
     pub(crate) program: &'a [u8],
-    /// The call that hasn't returned, if there is one. The instruction stands in the font program then.
+    /// The call that hasn't returned, if there is one. The instruction is in the font program then.
     pub(crate) call: Option<Frame>,
     pub(crate) offset: u32,
     pub(crate) stack: &'a [Cell],
@@ -102,7 +102,7 @@ fn does(setting: &Setting<'_>, point: &Point<'_>, state: &State, case: &Case<'_>
     }
 }
 
-/// The same where the case says in which call the instruction stands.
+/// Whether the same is so where the case gives the call to which the instruction belongs.
 fn does_in_call(setting: &Setting<'_>, state: &State, case: &Case<'_>) -> bool
     requires { state_order.InRange state.now }
 {
@@ -162,7 +162,7 @@ pub(crate) enum Code {
     MdrpSetRp0 = 0xd0,
 }
 
-/// The font program: FDEF makes what stands at 3, an instruction and ENDF, the body of function 0.
+/// The font program: FDEF makes what is at 3, an instruction and ENDF, the body of function 0.
 const FONT: [u8; 5] = [
     Code::Pushb as u8,
     0,
@@ -173,7 +173,7 @@ const FONT: [u8; 5] = [
 
 pub(crate) const BODY: u32 = 3;
 
-/// The state before the instruction of a case, with function 0.
+/// Returns the state before the instruction of a case, with function 0.
 fn state_before(alloc: Global, case: &Case<'_>) -> Result<State, AllocError>
     ensures { IfOk result (λ state. state_order.InRange state) }
 {
@@ -183,7 +183,7 @@ fn state_before(alloc: Global, case: &Case<'_>) -> Result<State, AllocError>
     Ok(state)
 }
 
-/// A program of less than 100 bytes, cut.
+/// Returns a program of less than 100 bytes, cut.
 fn cut<'a>(alloc: Global, bytes: &'a [u8]) -> Option<Program<'a>> {
     if bytes.len() >= 100 {
         return None;
@@ -191,7 +191,7 @@ fn cut<'a>(alloc: Global, bytes: &'a [u8]) -> Option<Program<'a>> {
     Program::cut(alloc, bytes).ok()
 }
 
-/// The setting of a glyph with 4 points and 1 contour, so that its zone has 8 points, in a font with 10 control values.
+/// Returns the setting of a glyph with 4 points and 1 contour, so that its zone has 8 points, in a font with 10 control values.
 fn setting_of<'a>(main: &'a Program<'a>, font: &'a Program<'a>) -> Setting<'a> {
     Setting {
         limits: LIMITS,
@@ -215,17 +215,17 @@ fn is_done_in(alloc: Global, setting: &Setting<'_>, case: &Case<'_>) -> bool {
     }
 }
 
-/// Whether the instruction of a case does what the case wants; nothing for want of memory, or if the program can't be cut.
+/// Whether the instruction of a case does what the case wants; nothing where memory ran out, or if the program can't be cut.
 pub(crate) fn is_done(alloc: Global, case: &Case<'_>) -> Option<bool> {
     let main = cut(alloc, case.program)?;
     let font = cut(alloc, &FONT)?;
     Some(is_done_in(alloc, &setting_of(&main, &font), case))
 }
 
-/// An instruction that is a program by itself, its stack, and what it is to do.
+/// An instruction that is a program by itself, its stack, and what it should do.
 pub(crate) type Single<'a> = (u8, &'a [Cell], Want<'a>);
 
-/// Whether an instruction does what is wanted that is a program by itself.
+/// Whether an instruction that is a program by itself does what is wanted.
 pub(crate) fn is_single_done(alloc: Global, given: &Given<'_>, single: &Single<'_>) -> bool {
     let (code, stack, want) = *single;
     let case = Case {
@@ -239,7 +239,7 @@ pub(crate) fn is_single_done(alloc: Global, given: &Given<'_>, single: &Single<'
     is_done(alloc, &case) == Some(true)
 }
 
-/// Asserts that instructions do what is wanted that are programs by themselves.
+/// Asserts that instructions that are programs by themselves do what is wanted.
 pub(crate) fn assert_singles(
     rt: &impl Abort,
     alloc: Global,

@@ -15,11 +15,11 @@ use tt_code::kinds::Pointer;
 /// What is told of a join of one state with another.
 #[derive(Clone, Copy)]
 struct Joined {
-    /// How the one stood to the other before.
+    /// How the one compared with the other before.
     before: Relation,
     /// Whether the one changed by a first join, and by a second one.
     changed: Result<[bool; 2], AbsFault>,
-    /// How the one stands to the other afterwards.
+    /// How the one compares with the other afterwards.
     after: Relation,
 }
 
@@ -44,7 +44,7 @@ const REFUSED: Joined = Joined {
     after: APART,
 };
 
-/// Is this told of the join of one state with another?
+/// Whether this is told of the join of one state with another.
 fn is_joined(one: &mut State, other: &State, want: &Joined) -> bool
     requires one { state_order.InRange one.old }
     requires other { state_order.InRange other.now }
@@ -54,7 +54,7 @@ fn is_joined(one: &mut State, other: &State, want: &Joined) -> bool
         && compare(one, other) == want.after
 }
 
-/// Is this told of the join of a state with the one that these changes make?
+/// Whether this is told of the join of a state with the one that these changes make.
 fn joins(alloc: Global, one: &mut State, other: &[Change<'_>], want: &Joined) -> bool
     requires { state_order.InRange one.old }
 {
@@ -76,7 +76,7 @@ const NEITHER: [Cell; 3] = [Known(7), Unknown, Known(1)];
 /// Two stacks, and what the first becomes by a join with the second.
 type Stacks<'a> = (&'a [Cell], &'a [Cell], &'a [Cell]);
 
-/// Is the join of two stacks such a one?
+/// Whether the join of two stacks is such a one.
 fn joins_stacks(alloc: Global, stacks: &Stacks<'_>, want: &Joined) -> bool {
     let (one, other, left) = *stacks;
     match state_after(alloc, &[Change::Push(one)]) {
@@ -109,7 +109,7 @@ fn joins_of_stacks(rt: HostRuntime) {
     assert!(rt; joins_stacks(rt.alloc(), &deeper, &REFUSED));
 }
 
-/// The join of a state with another; nothing for want of memory, or where they can't be joined.
+/// Returns the join of a state with another; nothing where memory ran out, or where they can't be joined.
 fn joined_state(alloc: Global, one: &[Change<'_>], other: &[Change<'_>]) -> Option<State> {
     let mut state = state_after(alloc, one).ok()?;
     let other = state_after(alloc, other).ok()?;
@@ -117,7 +117,7 @@ fn joined_state(alloc: Global, one: &[Change<'_>], other: &[Change<'_>]) -> Opti
     Some(state)
 }
 
-/// How the joins of two states either way stand to each other.
+/// Returns how the joins of two states either way compare with each other.
 fn compare_joins(alloc: Global, one: &[Change<'_>], other: &[Change<'_>]) -> Option<[Relation; 2]> {
     let first = joined_state(alloc, one, other)?;
     let second = joined_state(alloc, other, one)?;
@@ -130,7 +130,7 @@ fn joins_of_the_same_low_bits_either_way(rt: HostRuntime) {
     assert!(rt; told == Some([SAME, SAME]));
 }
 
-/// The join of two states of which neither covers the other; nothing where it isn't such a one, or for want of memory.
+/// Returns the join of two states of which neither covers the other; nothing where it isn't such a one, or where memory ran out.
 fn met(alloc: Global, one: &[Change<'_>], other: &[Change<'_>]) -> Option<State> {
     let mut state = state_after(alloc, one).ok()?;
     if joins(alloc, &mut state, other, &MET) {
@@ -140,7 +140,7 @@ fn met(alloc: Global, one: &[Change<'_>], other: &[Change<'_>]) -> Option<State>
     }
 }
 
-/// What is left of the storage cells 1 and 2, of which the second has two numbers.
+/// Returns what is left of the storage cells 1 and 2, of which the second has two numbers.
 fn joined_storage(alloc: Global) -> Option<[Cell; 2]> {
     let state = met(
         alloc,
@@ -155,7 +155,7 @@ fn joins_of_storage(rt: HostRuntime) {
     assert!(rt; joined_storage(rt.alloc()) == Some([Known(7), Unknown]));
 }
 
-/// The state that is left where function 2 has two bodies.
+/// Returns the state that is left where function 2 has two bodies.
 fn joined_functions(alloc: Global) -> Option<State> {
     met(
         alloc,
@@ -164,7 +164,7 @@ fn joined_functions(alloc: Global) -> Option<State> {
     )
 }
 
-/// Are these the functions of a state, before and after function 2 is defined?
+/// Whether these are the functions of a state, before and after function 2 is defined.
 fn has_functions(state: &mut State, before: &[(u16, u32)], after: &[(u16, u32)]) -> bool {
     state.functions() == before && state.define(2, 20).is_ok() && state.functions() == after
 }
@@ -175,7 +175,7 @@ fn joins_of_functions(rt: HostRuntime) {
     assert!(rt; has_functions(&mut state, &[(1, 10)], &[(1, 10), (2, 20)]));
 }
 
-/// What is left where a zone and the loop number differ.
+/// Returns what is left where a zone and the loop number differ.
 fn joined_graphics(alloc: Global) -> Option<Graphics<Cell, ZoneCell>> {
     let changes = [
         Change::Zone(Pointer::Zp1, ZoneCell::Zero),

@@ -1,4 +1,4 @@
-//! States that tests make by changes, how they stand to each other, and what they hold.
+//! States that tests make by changes, how they compare with each other, and what they hold.
 
 ghost use Rattle.std.specs.Prelude.{IfOk};
 ghost use Rattle.tt_abs.specs.States.{state_order};
@@ -9,7 +9,7 @@ use tt_abs::{AbsFault, Cell, Order, State, ZoneCell};
 use tt_code::Graphics;
 use tt_code::kinds::{Pointer, Reference};
 
-/// Test states have at most so many cells on their stacks.
+/// How many cells test states have on their stacks at most.
 const MOST_CELLS: usize = 100;
 
 /// A change of a state.
@@ -72,7 +72,7 @@ pub(crate) fn make_changes(state: &mut State, changes: &[Change<'_>]) -> Result<
     Ok(())
 }
 
-/// What the state at a start without functions becomes by these changes.
+/// Returns what the state at a start without functions becomes by these changes.
 ///
 /// # Errors
 /// If memory runs out, or there were more than 100 cells.
@@ -95,7 +95,7 @@ pub(crate) const GRAPHICS: Graphics<Cell, ZoneCell> = Graphics {
     loop_number: Known(1),
 };
 
-/// What a state tells of the graphics state.
+/// Returns what a state tells of the graphics state.
 pub(crate) fn graphics_of(state: &State) -> Graphics<Cell, ZoneCell> {
     Graphics {
         rp0: state.rp(Reference::Rp0),
@@ -108,7 +108,7 @@ pub(crate) fn graphics_of(state: &State) -> Graphics<Cell, ZoneCell> {
     }
 }
 
-/// Whether a state's stack holds these cells alone, the bottom first.
+/// Whether a state's stack holds exactly these cells, the bottom first.
 pub(crate) fn has_stack(state: &State, cells: &[Cell]) -> bool {
     for (place, cell) in cells.iter().enumerate() {
         if state.cell(place) != Some(*cell) {
@@ -118,7 +118,7 @@ pub(crate) fn has_stack(state: &State, cells: &[Cell]) -> bool {
     state.depth() == cells.len() && state.cell(cells.len()).is_none()
 }
 
-/// How one state stands to another.
+/// How one state compares with another.
 #[derive(Clone, Copy, PartialEq, Eq)]
 pub(crate) struct Relation {
     /// Whether the other covers all that the one covers.
@@ -153,7 +153,7 @@ pub(crate) const APART: Relation = Relation {
     same: false,
 };
 
-/// How one state stands to another.
+/// Returns how one state compares with another.
 pub(crate) fn compare(one: &State, other: &State) -> Relation {
     Relation {
         below: one.below(other),

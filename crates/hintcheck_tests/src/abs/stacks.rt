@@ -32,7 +32,7 @@ fn push_all(stack: &mut Stack, cells: &[Cell]) -> Result<(), AllocError> {
 /// Changes a stack.
 ///
 /// # Errors
-/// If memory runs out, or a cell that isn't there is to be taken out.
+/// If memory runs out, or a cell that isn't there should be taken out.
 fn make_change(stack: &mut Stack, change: Change<'_>) -> Result<(), AllocError> {
     match change {
         Change::Push(cells) => return push_all(stack, cells),
@@ -47,7 +47,7 @@ fn make_change(stack: &mut Stack, change: Change<'_>) -> Result<(), AllocError> 
     Ok(())
 }
 
-/// Whether a stack has these cells alone, the bottom first, counted from below and from above.
+/// Whether a stack has exactly these cells, the bottom first, counted from below and from above.
 fn holds(stack: &Stack, cells: &[Cell]) -> bool {
     for (place, cell) in cells.iter().enumerate() {
         if stack.above(place) != Some(*cell) {

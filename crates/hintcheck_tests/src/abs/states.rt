@@ -1,4 +1,4 @@
-//! Abstract states: what their calls say, copies, and which states are the same.
+//! Abstract states: what their calls return, copies, and which states are the same.
 
 ghost use Rattle.std.specs.Prelude.{◌≤◌, length};
 ghost use Rattle.tt_abs.specs.States.{state_order};
@@ -13,7 +13,7 @@ use tt_abs::{Cell, Order, State, ZoneCell};
 use tt_code::Graphics;
 use tt_code::kinds::{Pointer, Reference};
 
-/// What a state tells of the graphics state after these changes.
+/// Returns what a state tells of the graphics state after these changes.
 fn graphics_after(alloc: Global, changes: &[Change<'_>]) -> Option<Graphics<Cell, ZoneCell>> {
     let state = state_after(alloc, changes).ok()?;
     Some(graphics_of(&state))
@@ -37,7 +37,7 @@ fn calls_of_graphics(rt: HostRuntime) {
     assert!(rt; graphics_after(rt.alloc(), &GRAPHICS_CHANGES) == Some(want));
 }
 
-/// What a state tells of the storage cells 1 and 2 after these changes.
+/// Returns what a state tells of the storage cells 1 and 2 after these changes.
 fn storage_after(alloc: Global, changes: &[Change<'_>]) -> Option<[Cell; 2]> {
     let state = state_after(alloc, changes).ok()?;
     Some([state.storage(1), state.storage(2)])
@@ -160,7 +160,7 @@ fn copies(rt: HostRuntime) {
     }
 }
 
-/// A copy that is made over another state; nothing for want of memory.
+/// Returns a copy that is made over another state; nothing where memory ran out.
 fn copied_over(alloc: Global, copying: &Copying<'_>) -> Option<State> {
     let mut copy = state_after(alloc, copying.over).ok()?;
     let state = state_after(alloc, copying.of).ok()?;
@@ -175,7 +175,7 @@ fn copies_over_a_longer_one(rt: HostRuntime) {
     assert!(rt; copy.stored() == [(3, -1)].as_slice());
 }
 
-/// The state at a start without functions, with these cells on its stack; nothing for want of memory.
+/// Returns the state at a start without functions, with these cells on its stack; nothing where memory ran out.
 fn with_cells(alloc: Global, cells: &[Cell]) -> Option<State>
     requires { length cells.now ≤ 65535 }
 {
@@ -190,7 +190,7 @@ fn cells_pushed_at_once(rt: HostRuntime) {
     assert!(rt; has_stack(&state, &WIDE));
 }
 
-/// Whether two states have the same functions after these changes; nothing for want of memory.
+/// Whether two states have the same functions after these changes; nothing where memory ran out.
 fn same_functions(alloc: Global, one: &[Change<'_>], other: &[Change<'_>]) -> Option<bool> {
     let one = state_after(alloc, one).ok()?;
     let other = state_after(alloc, other).ok()?;
@@ -216,7 +216,7 @@ struct Parting<'a> {
     name: &'a str,
     of_copy: &'a [Change<'a>],
     of_state: &'a [Change<'a>],
-    /// How the copy stands to the state then.
+    /// How the copy compares with the state then.
     want: Relation,
 }
 
@@ -271,7 +271,7 @@ const PARTINGS: [Parting<'static>; 8] = [
     },
 ];
 
-/// A changed copy of a state.
+/// Returns a changed copy of a state.
 fn changed_copy(state: &State, changes: &[Change<'_>]) -> Result<State, AllocError>
     requires { state_order.InRange state.now }
 {
@@ -280,7 +280,7 @@ fn changed_copy(state: &State, changes: &[Change<'_>]) -> Result<State, AllocErr
     Ok(copy)
 }
 
-/// How this stands to a changed copy of the state; nothing for want of memory.
+/// Returns how this compares with a changed copy of the state; nothing where memory ran out.
 fn compare_with_changed(one: &State, state: &State, changes: &[Change<'_>]) -> Option<Relation>
     requires { state_order.InRange state.now }
 {
@@ -288,7 +288,7 @@ fn compare_with_changed(one: &State, state: &State, changes: &[Change<'_>]) -> O
     Some(compare(one, &changed))
 }
 
-/// How a changed copy stands to its changed state; nothing for want of memory.
+/// Returns how a changed copy compares with its changed state; nothing where memory ran out.
 fn parted(alloc: Global, parting: &Parting<'_>) -> Option<Relation> {
     let state = state_after(alloc, &WITH_A_FUNCTION).ok()?;
     let copy = changed_copy(&state, parting.of_copy).ok()?;

@@ -130,7 +130,7 @@ fn moves_of_the_stack(rt: HostRuntime) {
     assert_singles(&rt, rt.alloc(), &USUAL, &MOVES);
 }
 
-/// The jump stands at 1.
+/// The jump is at 1.
 const BY_CONDITION: [u8; 4] = [
     Code::Rtg as u8,
     Code::Jrot as u8,
@@ -160,14 +160,14 @@ const JUMPS_BY_CONDITION: [(&[Cell], Want<'static>); 7] = [
     ),
 ];
 
-// A jump counts from its own offset, 1, and the condition is on top. Where the condition is unknown, both ways are gone, to one place
+// A jump counts from its own offset, 1, and the condition is on top. Where the condition is unknown, both ways are taken, to one place
 // if they meet.
 #[test]
 fn jumps_by_a_condition(rt: HostRuntime) {
     assert_at(&rt, rt.alloc(), &BY_CONDITION, 1, &JUMPS_BY_CONDITION);
 }
 
-/// The jump stands at 3, and the end is 5.
+/// The jump is at 3, and the end is 5.
 const JUMP: [u8; 5] = [
     Code::Rtg as u8,
     Code::Rtg as u8,
@@ -244,10 +244,10 @@ fn points_of_either_zone(rt: HostRuntime) {
     }
 }
 
-/// Changes, what is known of the storage cell 1 behind an instruction, and the instruction.
+/// Changes, what is known of the storage cell 1 after an instruction, and the instruction.
 type Changed<'a> = (&'a [Change<'a>], Cell, Single<'a>);
 
-/// Whether an instruction does what is wanted behind changes.
+/// Whether an instruction does what is wanted after changes.
 fn is_changed_done(alloc: Global, changed: &Changed<'_>) -> bool {
     let (before, stored, single) = *changed;
     let given = Given {
@@ -322,7 +322,7 @@ fn refuses(alloc: Global, code: u8, number: i32, reason: Reason) -> bool {
     is_single_done(alloc, &USUAL, &single)
 }
 
-// No index is as great as what it counts, or negative.
+// An index is never as great as what it counts, or negative.
 #[test]
 fn great_indices(rt: HostRuntime) {
     for (code, reason) in &INDICES {
@@ -398,13 +398,13 @@ const DEEP: [Single<'static>; 3] = [
     ),
 ];
 
-// A stack has 8 elements at most, behind each instruction.
+// A stack has 8 elements at most, after each instruction.
 #[test]
 fn too_deep(rt: HostRuntime) {
     assert_singles(&rt, rt.alloc(), &USUAL, &DEEP);
 }
 
-/// Changes behind which nothing is known of the graphics state.
+/// Changes after which nothing is known of the graphics state.
 const NOTHING_KNOWN: [Change<'static>; 7] = [
     Change::Reference(Reference::Rp0, Unknown),
     Change::Reference(Reference::Rp1, Unknown),
@@ -525,7 +525,7 @@ fn calls(rt: HostRuntime) {
     assert_singles(&rt, rt.alloc(), &USUAL, &CALLS);
 }
 
-/// Whether ENDF, which stands at 4, goes on so in this turn of two.
+/// Whether ENDF, which is at 4, goes on so in this turn of two.
 fn ends(alloc: Global, turn: u32, want: Move) -> bool {
     let case = Case {
         program: &[],
@@ -542,7 +542,7 @@ fn ends(alloc: Global, turn: u32, want: Move) -> bool {
     is_done(alloc, &case) == Some(true)
 }
 
-// ENDF ends a turn, and behind the last one the call.
+// ENDF ends a turn, and after the last one the call.
 #[test]
 fn ends_of_calls(rt: HostRuntime) {
     assert!(rt; ends(rt.alloc(), 1, Move::NextTurn));

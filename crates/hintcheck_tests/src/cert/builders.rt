@@ -12,7 +12,7 @@ use tt_code::Frame;
 /// A context, an offset, and the cells of the stack there, the bottom first, if there is a state.
 type Seen<'a> = (u32, u32, Option<&'a [Cell]>);
 
-/// Has the state these cells alone, or is there none where none is wanted?
+/// Whether the state has exactly these cells, or there is none where none is wanted.
 fn has_stack(state: Option<&State>, stack: Option<&[Cell]>) -> bool {
     let (Some(state), Some(cells)) = (state, stack) else {
         return state.is_none() && stack.is_none();
@@ -25,7 +25,7 @@ fn has_stack(state: Option<&State>, stack: Option<&[Cell]>) -> bool {
     state.depth() == cells.len()
 }
 
-/// Has a builder these stacks?
+/// Whether a builder has these stacks.
 fn has_stacks(builder: &Builder, stacks: &[Seen<'_>]) -> bool {
     for (context, offset, stack) in stacks {
         if !has_stack(builder.state(*context, *offset), *stack) {
@@ -66,7 +66,7 @@ const PUTS: [Puts<'static>; 2] = [
     },
 ];
 
-/// Are the states joined as is wanted?
+/// Whether the states are joined as is wanted.
 fn joins(alloc: Global, builder: &mut Builder, puts: &Puts<'_>) -> bool {
     for (row, want) in puts.rows {
         if put(alloc, builder, &[], *row) != *want {
@@ -97,7 +97,7 @@ const SECOND: Filling<'static> = Filling {
     rows: &[(0, 7, &[1, 9]), (1, 3, &[1, 9]), (1, 2, &[])],
 };
 
-/// What a builder is to hold.
+/// What a builder should hold.
 struct Content<'a> {
     contexts: u32,
     points: u32,
@@ -126,7 +126,7 @@ const SECOND_CONTENT: Content<'static> = Content {
     ],
 };
 
-/// Does a builder hold this?
+/// Whether a builder holds this.
 fn holds(builder: &Builder, content: &Content<'_>) -> bool {
     builder.contexts() == content.contexts
         && builder.points() == content.points
@@ -134,12 +134,12 @@ fn holds(builder: &Builder, content: &Content<'_>) -> bool {
         && has_stacks(builder, content.stacks)
 }
 
-/// Does a builder hold nothing, and what is put into it then?
+/// Whether a builder holds nothing, and then what is put into it.
 fn is_as_new(alloc: Global, builder: &mut Builder) -> bool {
     holds(builder, &NOTHING) && fill(alloc, builder, &SECOND) && holds(builder, &SECOND_CONTENT)
 }
 
-/// Is a builder that is cleared as a new one?
+/// Whether a builder that is cleared is like a new one.
 fn clears(alloc: Global) -> bool {
     let mut builder = Builder::new(alloc);
     let is_filled = fill(alloc, &mut builder, &FIRST);
@@ -152,7 +152,7 @@ fn cleared_builders_take_other_states(rt: HostRuntime) {
     assert!(rt; clears(rt.alloc()));
 }
 
-/// Is a builder in the memory of a certificate as a new one? Nothing for want of memory.
+/// Whether a builder in the memory of a certificate is like a new one; nothing where memory ran out.
 fn gives_its_memory(alloc: Global) -> Option<bool> {
     let mut filled = Builder::new(alloc);
     let is_filled = fill(alloc, &mut filled, &FIRST);
@@ -166,7 +166,7 @@ fn builder_in_the_memory_of_a_certificate(rt: HostRuntime) {
     assert!(rt; gives_its_memory(rt.alloc()) == Some(true));
 }
 
-/// Does a builder have states at these points alone?
+/// Whether a builder has states at exactly these points.
 fn has_points(builder: &Builder, points: &[(u32, u32)]) -> bool {
     u32::try_from(points.len()) == Ok(builder.points()) && leads_through(builder.states(), points)
 }
@@ -212,7 +212,7 @@ const AT_POINTS: [Seen<'static>; 4] = [
     (2, 4, None),
 ];
 
-/// Does a builder hold in order what is put out of order?
+/// Whether a builder holds in order what is put out of order.
 fn orders(alloc: Global) -> bool {
     let mut builder = Builder::new(alloc);
     fill(alloc, &mut builder, &OUT_OF_ORDER)
@@ -245,7 +245,7 @@ const AFTER_A_CLEAR: [Row<'static>; 5] = [
     (0, 5, &[1, 2]),
 ];
 
-/// Are the points before a clear gone behind it, and those that are put then in order?
+/// Whether the points before a clear are gone after it, and those that are put then are in order.
 fn orders_after_a_clear(alloc: Global) -> bool {
     let mut builder = Builder::new(alloc);
     let is_filled = fill(alloc, &mut builder, &BEFORE_A_CLEAR);
@@ -262,7 +262,7 @@ fn points_out_of_order_after_a_clear(rt: HostRuntime) {
     assert!(rt; orders_after_a_clear(rt.alloc()));
 }
 
-/// Adds a context for each call below the limit; has each the number that is the call's offset?
+/// Adds a context for each call below the limit, and returns whether each has the number that is the call's offset.
 fn add_to_the_limit(builder: &mut Builder) -> bool {
     for call in 1..65_535 {
         if add(builder, 0, Frame { call, ..CALL }) != Ok(call) {
@@ -272,7 +272,7 @@ fn add_to_the_limit(builder: &mut Builder) -> bool {
     true
 }
 
-/// Does a full builder refuse another context, and not one that it has?
+/// Whether a full builder refuses another context, but not one that it has.
 fn is_full(builder: &mut Builder) -> bool {
     let other = Frame {
         call: 65_535,

@@ -104,7 +104,7 @@ const FINISHED: [Finished<'static>; 2] = [
     },
 ];
 
-/// Has a certificate these contexts alone?
+/// Whether a certificate has exactly these contexts.
 fn has_contexts(certificate: &Certificate, contexts: &[Option<Context>]) -> bool {
     let mut number = 0;
     for context in contexts {
@@ -116,13 +116,13 @@ fn has_contexts(certificate: &Certificate, contexts: &[Option<Context>]) -> bool
     number == certificate.contexts()
 }
 
-/// Has a certificate states at these points alone?
+/// Whether a certificate has states at exactly these points.
 fn has_points(certificate: &Certificate, points: &[(u32, u32)]) -> bool {
     u32::try_from(points.len()) == Ok(certificate.points())
         && leads_through(certificate.states(), points)
 }
 
-/// Has the certificate of a filling its contexts and points? Nothing for want of memory.
+/// Whether the certificate of a filling has its contexts and points; nothing where memory ran out.
 fn is_finished(alloc: Global, finished: &Finished<'_>) -> Option<bool> {
     let certificate = certificate(alloc, finished.of.contexts, &[], finished.of.rows)?;
     Some(has_contexts(&certificate, finished.contexts) && has_points(&certificate, finished.points))
@@ -136,7 +136,7 @@ fn contexts_and_points(rt: HostRuntime) {
     }
 }
 
-/// Are these the frames of a context?
+/// Whether these are the frames of a context.
 fn has_frames(alloc: Global, certificate: &Certificate, number: u32, want: &[Frame]) -> bool {
     if number >= certificate.contexts() {
         return false;
@@ -147,7 +147,7 @@ fn has_frames(alloc: Global, certificate: &Certificate, number: u32, want: &[Fra
     }
 }
 
-/// Are the frames of a context, the depth of a state and the missing end read? Nothing for want of memory.
+/// Whether the frames of a context, the depth of a state and the missing end are read; nothing where memory ran out.
 fn is_read(alloc: Global) -> Option<bool> {
     let certificate = certificate(alloc, CALLS.contexts, &[], CALLS.rows)?;
     Some(
@@ -162,7 +162,7 @@ fn frames_and_states(rt: HostRuntime) {
     assert!(rt; is_read(rt.alloc()) == Some(true));
 }
 
-/// Are there functions, and none of them, at the end alone? Nothing for want of memory.
+/// Whether there is a list of functions only at the end, which is empty; nothing where memory ran out.
 fn has_functions_at_the_end(alloc: Global) -> Option<bool> {
     let certificate = certificate(alloc, &[], &[], &[(0, 12, &[])])?;
     let functions = certificate.end_functions(12)?;

@@ -17,7 +17,7 @@ use tt_code::{Frame, Limits, Program, Reason};
 /// What a check tells: that a family is good, or where it is refused and why.
 pub(crate) type Answer = Result<(), (Spot, u32, Reason)>;
 
-/// Which check is asked.
+/// Which check is asked for.
 #[derive(Clone, Copy)]
 pub(crate) enum Asked {
     /// Whether the family is good.
@@ -65,7 +65,7 @@ pub(crate) const EMPTY: Subject<'static> = Subject {
     asked: Asked::Whole,
 };
 
-/// A program of less than 100 bytes, cut.
+/// Returns a program of less than 100 bytes, cut.
 fn cut<'a>(alloc: Global, bytes: &'a [u8]) -> Option<Program<'a>> {
     if bytes.len() >= 100 {
         return None;
@@ -73,7 +73,7 @@ fn cut<'a>(alloc: Global, bytes: &'a [u8]) -> Option<Program<'a>> {
     Program::cut(alloc, bytes).ok()
 }
 
-/// What the check tells of a family for the program of this setting; nothing for want of memory.
+/// Returns what the check tells of a family for the program of this setting; nothing where memory ran out.
 fn answer_in(
     alloc: Global,
     setting: &Setting<'_>,
@@ -99,7 +99,7 @@ fn answer_in(
     }
 }
 
-/// What it tells of a family for a program that starts with these functions.
+/// Returns what it tells of a family for a program that starts with these functions.
 fn checked(
     alloc: Global,
     subject: &Subject<'_>,
@@ -124,7 +124,7 @@ fn checked(
     answer_in(alloc, &setting, family, subject.asked)
 }
 
-/// What it tells of the family with these states for a program that starts with these functions.
+/// Returns what it tells of the family with these states for a program that starts with these functions.
 fn answer_from(
     alloc: Global,
     subject: &Subject<'_>,
@@ -137,7 +137,7 @@ fn answer_from(
     checked(alloc, subject, start, &family)
 }
 
-/// What it tells of the family with these states.
+/// Returns what it tells of the family with these states.
 fn answer(alloc: Global, subject: &Subject<'_>, rows: &[Row<'_>]) -> Option<Answer> {
     match subject.function {
         Some(body) => answer_from(alloc, subject, &[(0, body)], rows),
@@ -199,7 +199,7 @@ fn what_is_broken_first_of_two(rt: HostRuntime) {
 /// A program, its kind, the states of a family, and where it is refused for which reason.
 type Broken<'a> = (&'a [u8], Kind, &'a [Row<'a>], u32, Reason);
 
-/// What the check tells of the family of a broken one.
+/// Returns what the check tells of the family of a broken one.
 fn answer_of_broken(alloc: Global, broken: &Broken<'_>) -> Option<Answer> {
     let (program, kind, rows, ..) = *broken;
     let subject = Subject {
@@ -229,7 +229,7 @@ const BROKEN: [Broken<'static>; 6] = [
         0,
         Reason::Underflow,
     ),
-    // PUSHB: the state behind it is deeper than the start.
+    // PUSHB: the state after it is deeper than the start.
     (
         &[0xb0, 0x07],
         GLYPH,
@@ -265,7 +265,7 @@ const CALL: Frame = Frame {
     count: 1,
 };
 
-/// A glyph program that pushes 7 and calls function 0 of the font program, which takes it away.
+/// A glyph program that pushes 7 and calls function 0 of the font program, which pops it.
 pub(crate) const CALLING: Subject<'static> = Subject {
     programs: [&POPS, &[], &CALLS],
     function: Some(3),
@@ -290,7 +290,7 @@ const CALLING_PREP: Subject<'static> = Subject {
     ..EMPTY
 };
 
-/// All states of such programs, and all but that behind the call.
+/// All states of such programs, and all but that after the call.
 const CALL_FAMILIES: [Family<'static>; 2] = [
     (
         &[
@@ -349,7 +349,7 @@ fn return_above_all_offsets(rt: HostRuntime) {
 }
 
 /// Adds the first 4,095 turns of a LOOPCALL at offset 5 of the body at offset 3, function 0, of so many, and puts a state at the start of
-/// each turn; was all of it put?
+/// each turn, and returns whether all of it was put.
 fn put_turns(alloc: Global, builder: &mut Builder, count: u32) -> bool {
     for turn in 1..4_096 {
         let frame = Frame {
@@ -367,7 +367,7 @@ fn put_turns(alloc: Global, builder: &mut Builder, count: u32) -> bool {
     true
 }
 
-/// The certificate of a family with the first 4,095 turns of a glyph program that calls function 0 so often.
+/// Returns the certificate of a family with the first 4,095 turns of a glyph program that calls function 0 so often.
 fn certificate_of_turns(alloc: Global, count: u16) -> Option<Certificate> {
     let number = i32::from(count);
     let rows: [Row<'_>; 4] = [
@@ -382,7 +382,7 @@ fn certificate_of_turns(alloc: Global, count: u16) -> Option<Certificate> {
     finished_if(is_filled, builder)
 }
 
-/// What the check tells of that family, where function 0 is ENDF alone.
+/// Returns what the check tells of that family, where function 0 is ENDF alone.
 fn answer_of_turns(alloc: Global, program: &[u8], count: u16) -> Option<Answer> {
     let family = certificate_of_turns(alloc, count)?;
     let subject = Subject {
@@ -410,7 +410,7 @@ fn turns_of_a_loop(rt: HostRuntime) {
     }
 }
 
-/// What is known at a point beside what is known at the start.
+/// What is known at a point besides what is known at the start.
 #[derive(Clone, Copy)]
 enum Further {
     /// A storage cell.
@@ -419,7 +419,7 @@ enum Further {
     Rp0,
 }
 
-/// The start state with what is known further; nothing for want of memory.
+/// Returns the start state with what else is known; nothing where memory ran out.
 fn further_state(alloc: Global, further: Further) -> Option<State>
     ensures { IfSome result (λ state. state_order.InRange state) }
 {
@@ -431,7 +431,7 @@ fn further_state(alloc: Global, further: Further) -> Option<State>
     Some(state)
 }
 
-/// The certificate of the family with the start state at these offsets, and with this state at a further one.
+/// Returns the certificate of the family with the start state at these offsets, and with this state at a further one.
 fn certificate_with(
     alloc: Global,
     offsets: &[u32],
@@ -450,7 +450,7 @@ fn certificate_with(
 /// and the reason for which the family is refused there.
 type More<'a> = (Kind, &'a [u32], u32, Further, Reason);
 
-/// What the check tells of such a family.
+/// Returns what the check tells of such a family.
 fn answer_with_more(alloc: Global, more: &More<'_>) -> Option<Answer> {
     let (kind, offsets, offset, further, _) = *more;
     let state = further_state(alloc, further)?;
@@ -463,7 +463,7 @@ fn answer_with_more(alloc: Global, more: &More<'_>) -> Option<Answer> {
     checked(alloc, &subject, &[], &family)
 }
 
-// Storage cells are looked at before targets, and the reference points at the end of a font program must be those of a start.
+// Storage cells are tested before targets, and the reference points at the end of a font program must be those of a start.
 const MORE: [More<'static>; 3] = [
     (GLYPH, &[0, 1], 7, Further::Storage(3), Reason::Target),
     (GLYPH, &[0, 1], 7, Further::Storage(4), Reason::Storage),

@@ -63,7 +63,7 @@ const STRAIGHT: Subject<'static> = Subject {
 
 const FAMILIES_OF_STRAIGHT: [Family<'static>; 4] = [
     (&[(0, 0, &[]), (0, 3, &[])], Ok(())),
-    // It is no fault to list a state that needn't be, nor one that covers more.
+    // It isn't a fault to list a state that needn't be listed, nor one that covers more.
     (
         &[(0, 0, &[]), (0, 2, &[7]), (0, 2, &[8]), (0, 3, &[])],
         Ok(()),
@@ -129,7 +129,7 @@ fn states_left_out_of_a_whole_family(rt: HostRuntime) {
     assert_families(&rt, rt.alloc(), &WHOLE, &[start_and_end]);
 }
 
-/// PUSHB 0, FDEF, ENDF, RTG: the definition leads behind its ENDF.
+/// PUSHB 0, FDEF, ENDF, RTG: the definition leads to just after its ENDF.
 const DEFINES: Subject<'static> = Subject {
     programs: [&[0xb0, 0x00, 0x2c, 0x2d, 0x18]; 3],
     kind: Kind::Font,
@@ -149,7 +149,7 @@ fn place_behind_a_definition(rt: HostRuntime) {
     assert_families(&rt, rt.alloc(), &DEFINES, &FAMILIES_OF_DEFINES);
 }
 
-/// A program that pushes 7 and calls function 0, which takes it away.
+/// A program that pushes 7 and calls function 0, which pops it.
 const CALLS: Subject<'static> = Subject {
     asked: Asked::Sparse,
     ..CALLING

@@ -1,4 +1,4 @@
-//! What the tests share: states, builders that are filled from tables, and what stands in a family.
+//! What the tests share: states, builders that are filled from tables, and what is in a family.
 
 ghost use Rattle.std.specs.Prelude.{IfOk};
 ghost use Rattle.tt_abs.specs.Entries.{Rises};
@@ -23,7 +23,7 @@ pub(crate) const CALL: Frame = Frame {
     count: 1,
 };
 
-/// The state at a start with these functions, with these numbers on the stack, the bottom first; eight of them at most.
+/// Returns the state at a start with these functions, with these numbers on the stack, the bottom first; eight of them at most.
 pub(crate) fn state_of(
     alloc: Global,
     functions: &[(u16, u32)],
@@ -49,7 +49,7 @@ pub(crate) fn add(builder: &mut Builder, parent: u32, frame: Frame) -> Result<u3
     builder.add_context(parent, frame)
 }
 
-/// Adds contexts, each below one that is there; were all of them added?
+/// Adds contexts, each below one that is there, and returns whether all of them were added.
 pub(crate) fn add_all(builder: &mut Builder, contexts: &[Context]) -> bool {
     for (parent, frame) in contexts {
         if add(builder, *parent, *frame).is_err() {
@@ -89,7 +89,7 @@ pub(crate) fn put(
     }
 }
 
-/// Joins the states of these rows, in which these functions are known; were all of them joined?
+/// Joins the states of these rows, in which these functions are known, and returns whether all of them were joined.
 pub(crate) fn put_all(
     alloc: Global,
     builder: &mut Builder,
@@ -106,7 +106,7 @@ pub(crate) fn put_all(
     true
 }
 
-/// Joins the start state at offsets of a context, one after the other; was it joined at all of them?
+/// Joins the start state at offsets of a context, one after the other, and returns whether it was joined at all of them.
 pub(crate) fn put_at(alloc: Global, builder: &mut Builder, context: u32, offsets: &[u32]) -> bool {
     for offset in offsets {
         if put(alloc, builder, &[], (context, *offset, &[])).is_err() {
@@ -123,12 +123,12 @@ pub(crate) struct Filling<'a> {
     pub(crate) rows: &'a [Row<'a>],
 }
 
-/// Puts a filling into a builder; was all of it put?
+/// Puts a filling into a builder, and returns whether all of it was put.
 pub(crate) fn fill(alloc: Global, builder: &mut Builder, filling: &Filling<'_>) -> bool {
     add_all(builder, filling.contexts) && put_all(alloc, builder, &[], filling.rows)
 }
 
-/// The certificate of a builder's family, if all of it was put.
+/// Returns the certificate of a builder's family, if all of it was put.
 pub(crate) fn finished_if(is_filled: bool, builder: Builder) -> Option<Certificate> {
     if !is_filled {
         return None;
@@ -136,7 +136,7 @@ pub(crate) fn finished_if(is_filled: bool, builder: Builder) -> Option<Certifica
     builder.finish().ok()
 }
 
-/// The certificate of the family with these contexts and states.
+/// Returns the certificate of the family with these contexts and states.
 pub(crate) fn certificate(
     alloc: Global,
     contexts: &[Context],
@@ -151,7 +151,7 @@ pub(crate) fn certificate(
     finished_if(is_filled, builder)
 }
 
-/// Does the walk lead through these points alone, in this order?
+/// Whether the walk leads through exactly these points, in this order.
 pub(crate) fn leads_through(states: States<'_>, points: &[(u32, u32)]) -> bool {
     let mut states = states;
     for point in points {

@@ -2,7 +2,7 @@
 
 use std::alloc::{AllocError, Global};
 
-/// Adds the bytes of hexadecimal digits, two for each; whatever else stands between them is left out.
+/// Adds the bytes of hexadecimal digits, two for each; whatever else is between them is left out.
 fn push_digits(bytes: &mut Vec<u8>, digits: &str) -> Result<(), AllocError> {
     let mut high = None;
     for digit in digits.chars().filter_map(|c| c.to_digit(16)) {
@@ -18,7 +18,7 @@ fn push_digits(bytes: &mut Vec<u8>, digits: &str) -> Result<(), AllocError> {
     Ok(())
 }
 
-/// The bytes of parts, one after the other, each in hexadecimal digits.
+/// Returns the bytes of parts, one after the other, each in hexadecimal digits.
 pub(crate) fn bytes_of(alloc: Global, parts: &[&str]) -> Result<Vec<u8>, AllocError> {
     let mut bytes = Vec::new(alloc);
     for part in parts {
@@ -27,7 +27,7 @@ pub(crate) fn bytes_of(alloc: Global, parts: &[&str]) -> Result<Vec<u8>, AllocEr
     Ok(bytes)
 }
 
-/// The bytes of parts of which one is another text.
+/// Returns the bytes of parts of which one is another text.
 pub(crate) fn bytes_but(
     alloc: Global,
     parts: &[&str],

@@ -13,10 +13,10 @@ use tt_cert_file::{
 };
 use tt_stream::Counted;
 
-/// So many bytes or calls that there are never as many.
+/// More bytes or calls than there ever are.
 pub(crate) const ALL: usize = 1_000_000;
 
-/// Gives no more than `step` bytes a call. The call after so many others fails, and it alone: who asks again gets more.
+/// Gives no more than `step` bytes a call. Only the call after so many others fails: a caller that asks again gets more.
 #[derive(Drop)]
 pub(crate) struct Steps<'a> {
     pub(crate) bytes: &'a [u8],
@@ -39,7 +39,7 @@ impl io::Read for Steps<'_> {
     }
 }
 
-/// Takes no more than `step` bytes a call. The call after so many others fails, or takes nothing, and it alone: who asks again gets rid of more.
+/// Takes no more than `step` bytes a call. Only the call after so many others fails, or takes nothing: a caller that asks again can write more.
 #[derive(Drop)]
 pub(crate) struct Taker {
     pub(crate) bytes: Vec<u8>,
@@ -49,7 +49,7 @@ pub(crate) struct Taker {
 }
 
 impl Taker {
-    /// Has no byte yet.
+    /// Makes the writer that has no byte yet.
     pub(crate) fn new(alloc: Global, step: usize, calls: usize) -> Taker {
         Taker {
             bytes: Vec::new(alloc),
@@ -83,7 +83,7 @@ impl Write for Taker {
 /// What a call says, and in a section's case how many bytes it leaves.
 #[derive(Clone, Copy, Debug, PartialEq, Eq)]
 pub(crate) enum Told {
-    /// A section whose end is this place, with so many bytes left behind it.
+    /// A section whose end is this place, with so many bytes left after it.
     Section { after: u64, left: usize },
     /// A header.
     Header(Form, u32),
@@ -147,7 +147,7 @@ fn decode_over<L: Ledger>(
     }
 }
 
-/// The section that these bytes begin with, if they do, and what was told.
+/// Returns the section that these bytes begin with, if they do, and what was told.
 pub(crate) fn decoded(
     alloc: Global,
     steps: Steps<'_>,
@@ -157,7 +157,7 @@ pub(crate) fn decoded(
     decode_over::<Brand>(alloc, steps, start, form, Blank::new(1))
 }
 
-/// What reading a section in steps of so many bytes tells.
+/// Returns what reading a section in steps of so many bytes tells.
 pub(crate) fn told_in_steps(
     alloc: Global,
     bytes: &[u8],
@@ -173,7 +173,7 @@ pub(crate) fn told_in_steps(
     decoded(alloc, steps, start, form).1
 }
 
-/// What reading a section byte by byte tells, where a call fails after so many.
+/// Returns what reading a section byte by byte tells, where a call fails after so many.
 pub(crate) fn told_of_calls(alloc: Global, bytes: &[u8], calls: usize, form: Form) -> Told {
     let steps = Steps {
         bytes,
@@ -195,7 +195,7 @@ fn header_over<L: Ledger>(steps: Steps<'_>, blank: Blank) -> Told
     }
 }
 
-/// What reading a header tells.
+/// Returns what reading a header tells.
 pub(crate) fn told_of_header(steps: Steps<'_>) -> Told {
     header_over::<Brand>(steps, Blank::new(1))
 }
@@ -212,7 +212,7 @@ fn end_over<L: Ledger>(steps: Steps<'_>, place: u64, blank: Blank) -> Told
     }
 }
 
-/// What a look for the end at a place tells.
+/// Returns what a look for the end at a place tells.
 pub(crate) fn told_of_end(steps: Steps<'_>, place: u64) -> Told {
     end_over::<Brand>(steps, place, Blank::new(1))
 }
@@ -234,7 +234,7 @@ fn file_over<L: Ledger>(alloc: Global, steps: Steps<'_>, blank: Blank) -> Result
     Ok(place)
 }
 
-/// What reading a file tells.
+/// Returns what reading a file tells.
 pub(crate) fn told_of_file_by(alloc: Global, steps: Steps<'_>) -> Told {
     match file_over::<Brand>(alloc, steps, Blank::new(1)) {
         Ok(after) => Told::Section { after, left: 0 },
@@ -242,7 +242,7 @@ pub(crate) fn told_of_file_by(alloc: Global, steps: Steps<'_>) -> Told {
     }
 }
 
-/// What reading a file in steps of 5 bytes tells.
+/// Returns what reading a file in steps of 5 bytes tells.
 pub(crate) fn told_of_file(alloc: Global, bytes: &[u8]) -> Told {
     let steps = Steps {
         bytes,
@@ -267,7 +267,7 @@ fn encode_over<L: Ledger>(
     (told_by_writing(result), sink.into_inner().bytes)
 }
 
-/// What writing a section tells, and the bytes that were taken.
+/// Returns what writing a section tells, and the bytes that were taken.
 pub(crate) fn encoded(alloc: Global, section: &Section, taker: Taker) -> (Told, Vec<u8>) {
     encode_over::<Brand>(alloc, section, taker, Blank::new(1))
 }
@@ -282,7 +282,7 @@ fn write_header_over<L: Ledger>(sections: u32, taker: Taker, blank: Blank) -> (T
     (told_by_writing(result), sink.into_inner().bytes)
 }
 
-/// What writing a header tells, and the bytes that were taken.
+/// Returns what writing a header tells, and the bytes that were taken.
 pub(crate) fn written_header(sections: u32, taker: Taker) -> (Told, Vec<u8>) {
     write_header_over::<Brand>(sections, taker, Blank::new(1))
 }

@@ -13,7 +13,7 @@ use tt_cert::Certificate;
 use tt_cert_file::{Form, Name};
 use tt_code::{Frame, Graphics};
 
-/// The graphics state behind the MDAP of point 7.
+/// The graphics state after the MDAP of point 7.
 const MOVED: Graphics<Cell, ZoneCell> = Graphics {
     rp0: Known(7),
     rp1: Known(7),
@@ -32,7 +32,7 @@ struct Content<'a> {
     rows: &'a [Row<'a>],
 }
 
-/// Are these the contexts but the main one?
+/// Whether these are the contexts except for the main one.
 fn are_contexts(certificate: &Certificate, contexts: &[(u32, Frame)]) -> bool {
     let mut number = 0u32;
     for context in contexts {
@@ -50,14 +50,14 @@ fn has_content(section: &Section, content: Content<'_>) -> bool {
         && are_rows(section.certificate.states(), content.rows)
 }
 
-/// The bytes of a section's parts, and two more.
+/// Returns the bytes of a section's parts, and two more.
 fn bytes_and_two(alloc: Global, parts: &[&str]) -> Result<Vec<u8>, AllocError> {
     let mut bytes = bytes_of(alloc, parts)?;
     bytes.extend_from_slice(&[0, 2])?;
     Ok(bytes)
 }
 
-/// Reads a section of so many bytes at the place 100, where two bytes follow it. Is its content read, and no byte more?
+/// Reads a section of so many bytes at the place 100, where two bytes follow it, and returns whether its content is read, and no byte more.
 fn is_read(
     alloc: Global,
     (parts, form, length): (&[&str], Form, u64),

@@ -8,7 +8,7 @@ use crate::cert_file::sections::{
 use std::alloc::Global;
 use tt_cert_file::Form;
 
-/// The section with these parts.
+/// Returns the section with these parts.
 pub(crate) fn section_of(alloc: Global, parts: &[&str], form: Form) -> Option<Section> {
     let bytes = bytes_of(alloc, parts).ok()?;
     let steps = Steps {
@@ -19,7 +19,7 @@ pub(crate) fn section_of(alloc: Global, parts: &[&str], form: Form) -> Option<Se
     decoded(alloc, steps, 0, form).0
 }
 
-/// Does a section, read in a form and written so many bytes a call, have these parts?
+/// Whether a section, read in a form and written so many bytes a call, has these parts.
 fn is_written(alloc: Global, section: &Section, step: usize, parts: &[&str]) -> bool {
     let (told, bytes) = encoded(alloc, section, Taker::new(alloc, step, ALL));
     match bytes_of(alloc, parts) {
@@ -28,7 +28,7 @@ fn is_written(alloc: Global, section: &Section, step: usize, parts: &[&str]) -> 
     }
 }
 
-/// Are the parts of a section in a form, read and then written, these parts?
+/// Whether the parts of a section in a form, read and then written, are these parts.
 fn becomes(alloc: Global, read: &[&str], form: Form, written: &[&str]) -> bool {
     match section_of(alloc, read, form) {
         Some(section) => {

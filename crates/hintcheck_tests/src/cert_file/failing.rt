@@ -18,7 +18,7 @@ struct Case<'a> {
     told: Told,
 }
 
-/// Does each number of calls below that of the case tell a failed read, and that of the case what it tells?
+/// Whether each number of calls below that of the case tells a failed read, and that of the case what it should tell.
 fn is_told(alloc: Global, case: &Case<'_>) -> bool {
     let Ok(bytes) = bytes_but(alloc, &FULL, case.part, case.digits) else {
         return false;

@@ -25,7 +25,7 @@ const SMALLEST: [&str; 15] = [
     "",
 ];
 
-/// What the file with another part tells.
+/// Returns what the file with another part tells.
 fn told_with(alloc: Global, part: usize, digits: &str) -> Told {
     match bytes_but(alloc, &SMALLEST, part, digits) {
         Ok(bytes) => told_of_file(alloc, &bytes),
@@ -63,7 +63,7 @@ fn smallest_file(rt: HostRuntime) {
     }
 }
 
-/// Tells the first length at which a file that is cut short isn't told so.
+/// Returns the first length at which a file that is cut short isn't reported as such.
 fn first_cut_not_told(alloc: Global, bytes: &[u8]) -> Option<usize> {
     for length in 0..bytes.len() {
         if told_of_file(alloc, &bytes[..length]) != Told::Form(length as u64) {

@@ -7,7 +7,7 @@ use crate::cert_file::calls::{
 use std::alloc::Global;
 use tt_cert_file::Form;
 
-/// What reading a header byte by byte tells, where a call fails after so many.
+/// Returns what reading a header byte by byte tells, where a call fails after so many.
 fn told_of(alloc: Global, digits: &str, calls: usize) -> Told {
     match bytes_of(alloc, &[digits]) {
         Ok(bytes) => told_of_header(Steps {

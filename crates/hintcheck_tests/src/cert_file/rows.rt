@@ -28,7 +28,7 @@ pub(crate) const START: Graphics<Cell, ZoneCell> = Graphics {
     loop_number: Known(1),
 };
 
-/// A state in which no function and no storage cell is known.
+/// Returns a state in which no function and no storage cell is known.
 pub(crate) fn plain(offset: u32, stack: &[Cell], graphics: Graphics<Cell, ZoneCell>) -> Row<'_> {
     Row {
         point: (0, offset),
@@ -69,7 +69,7 @@ fn is_row(point: (u32, u32), state: &State, row: &Row<'_>) -> bool {
         && state.stored() == row.stored
 }
 
-/// Are these the states, in this order, and no others?
+/// Whether these are the states, in this order, and no others.
 pub(crate) fn are_rows(states: States<'_>, rows: &[Row<'_>]) -> bool {
     let mut states = states;
     for row in rows {

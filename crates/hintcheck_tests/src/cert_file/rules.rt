@@ -11,13 +11,13 @@ use tt_cert_file::Form;
 struct Change<'a> {
     /// Which part.
     part: usize,
-    /// What stands there instead.
+    /// What is there instead.
     digits: &'a str,
     /// What is at fault.
     place: u64,
 }
 
-/// Does the changed section tell this place in the form, however many bytes a call gives, and from the place 1,000 on likewise?
+/// Whether the changed section tells this place in the form, however many bytes a call gives, and likewise from the place 1,000 on.
 fn tells_place(alloc: Global, form: Form, change: &Change<'_>) -> bool {
     let Ok(bytes) = bytes_but(alloc, &FULL, change.part, change.digits) else {
         return false;
@@ -29,7 +29,7 @@ fn tells_place(alloc: Global, form: Form, change: &Change<'_>) -> bool {
         && told_in_steps(alloc, &bytes, 3, 0, form) == Told::Form(change.place)
 }
 
-/// Tells the number of the first change that isn't told as it is to be, in the third form and in the fourth.
+/// Returns the number of the first change that isn't told as it should be, in the third form and in the fourth.
 fn first_not_told(alloc: Global, changes: &[Change<'_>]) -> Option<usize> {
     for (number, change) in changes.iter().enumerate() {
         if !tells_place(alloc, Form::Three, change) || !tells_place(alloc, Form::Four, change) {
@@ -39,7 +39,7 @@ fn first_not_told(alloc: Global, changes: &[Change<'_>]) -> Option<usize> {
     None
 }
 
-/// A part of the full section with other digits, and the place that is at fault.
+/// Returns a part of the full section with other digits, and the place that is at fault.
 fn at_part(part: usize, digits: &str, place: u64) -> Change<'_> {
     Change {
         part,
@@ -144,7 +144,7 @@ fn functions_and_storage_cells(rt: HostRuntime) {
 
 #[test]
 fn numbers_of_contexts(rt: HostRuntime) {
-    // Where the number itself is allowed, what follows the two contexts is none that may come next.
+    // Where the number itself is allowed, what follows the two contexts may not come next.
     let table = [
         (Form::One, "0FFF", 41),
         (Form::One, "1000", 3),
@@ -164,7 +164,7 @@ fn numbers_of_contexts(rt: HostRuntime) {
     }
 }
 
-/// Tells the first length at which a section that is cut short isn't told so.
+/// Returns the first length at which a section that is cut short isn't reported as such.
 fn first_cut_not_told(alloc: Global, bytes: &[u8], step: usize) -> Option<usize> {
     for length in 0..bytes.len() {
         let cut = &bytes[..length];

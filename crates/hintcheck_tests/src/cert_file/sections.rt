@@ -69,7 +69,7 @@ pub(crate) const SPARSE_GLYPH: [&str; 9] = [
     "0000 0000",
 ];
 
-/// A section with something in each list, in the third and the fourth form: 141 bytes. Its units begin at the places that stand beside them.
+/// A section with something in each list, in the third and the fourth form: 141 bytes. Its units begin at the places that are given beside them.
 pub(crate) const FULL: [&str; 27] = [
     "02 0005", // 0: the name
     "0002", // 3: the contexts

@@ -12,7 +12,7 @@ use std::marker::Brand;
 use std::sync::ledger::{Blank, Ledger};
 use tt_stream::Counted;
 
-/// The bytes of parts in hexadecimal digits, one after the other; nothing for want of memory.
+/// Returns the bytes of parts in hexadecimal digits, one after the other; nothing where memory ran out.
 pub(crate) fn bytes_of(alloc: Global, parts: &[&str]) -> Option<Vec<u8>> {
     let mut bytes = Vec::new(alloc);
     for part in parts {
@@ -37,7 +37,7 @@ pub(crate) enum Told {
     OutOfMemory,
 }
 
-/// What a verdict says.
+/// Returns what a verdict says.
 fn told_of_verdict(verdict: &Verdict) -> Told {
     match verdict.refused() {
         [] => Told::Accepted,
@@ -49,7 +49,7 @@ fn told_of_verdict(verdict: &Verdict) -> Told {
     }
 }
 
-/// What the verdict on a font's bytes is.
+/// Returns what the verdict on a font's bytes is.
 pub(crate) fn judged(alloc: Global, font: &[u8]) -> Told {
     match verdict(alloc, font) {
         Ok(verdict) => told_of_verdict(&verdict),
@@ -57,7 +57,7 @@ pub(crate) fn judged(alloc: Global, font: &[u8]) -> Told {
     }
 }
 
-/// What the fault of a check says.
+/// Returns what the fault of a check says.
 pub(crate) fn told_of_check_fault(fault: &CheckFontFault) -> Told {
     match fault {
         CheckFontFault::Font(font) => Told::Font(font.number()),
@@ -77,12 +77,12 @@ fn check_on<L: Ledger>(alloc: Global, font: &[u8], steps: Steps<'_>, blank: Blan
     }
 }
 
-/// What the check of a font answers by what this reader gives.
+/// Returns what the check of a font answers by what this reader gives.
 pub(crate) fn checked_by(alloc: Global, font: &[u8], steps: Steps<'_>) -> Told {
     check_on::<Brand>(alloc, font, steps, Blank::new(1))
 }
 
-/// These bytes, after which a read fails where it is to.
+/// Returns these bytes, after which a read fails where it should.
 pub(crate) fn steps_of(bytes: &[u8], fails: bool) -> Steps<'_> {
     if fails {
         return Steps {
@@ -98,7 +98,7 @@ pub(crate) fn steps_of(bytes: &[u8], fails: bool) -> Steps<'_> {
     }
 }
 
-/// What the check of a font answers by these bytes, after which a read fails where it is to.
+/// Returns what the check of a font answers by these bytes, after which a read fails where it should.
 pub(crate) fn checked(alloc: Global, font: &[u8], bytes: &[u8], fails: bool) -> Told {
     checked_by(alloc, font, steps_of(bytes, fails))
 }
@@ -116,12 +116,12 @@ fn find_on<L: Ledger>(alloc: Global, font: &[u8], taker: Taker, blank: Blank) ->
     (told, sink.into_inner().bytes)
 }
 
-/// What the search for a font's certificate answers, and what this writer took.
+/// Returns what the search for a font's certificate answers, and what this writer took.
 pub(crate) fn found_by(alloc: Global, font: &[u8], taker: Taker) -> (Told, Vec<u8>) {
     find_on::<Brand>(alloc, font, taker, Blank::new(1))
 }
 
-/// What the search for a font's certificate answers, and what is written, where there is room for so many bytes.
+/// Returns what the search for a font's certificate answers, and what is written, where there is room for so many bytes.
 pub(crate) fn found(alloc: Global, font: &[u8], room: usize) -> (Told, Vec<u8>) {
     found_by(alloc, font, Taker::new(alloc, 1, room))
 }
@@ -148,7 +148,7 @@ fn upgrade_on<L: Ledger, M: Ledger>(
     (told, sink.into_inner().bytes)
 }
 
-/// How many sections an upgrade tells of what this reader gives, and what this writer took.
+/// Returns how many sections an upgrade tells of what this reader gives, and what this writer took.
 pub(crate) fn upgraded_by(
     alloc: Global,
     steps: Steps<'_>,
@@ -157,8 +157,8 @@ pub(crate) fn upgraded_by(
     upgrade_on::<Brand, Brand>(alloc, steps, taker, Blank::new(1), Blank::new(1))
 }
 
-/// How many sections an upgrade of these bytes tells, after which a read fails where it is to, and what is written, where there is room for so
-/// many bytes.
+/// Returns how many sections an upgrade of these bytes tells, after which a read fails where it should, and what is written, where there is room for
+/// so many bytes.
 pub(crate) fn upgraded(
     alloc: Global,
     bytes: &[u8],

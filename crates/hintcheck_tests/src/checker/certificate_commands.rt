@@ -7,7 +7,7 @@ use std::path::PathBuf;
 use std::test::Fail;
 use std::{env, fs, process};
 
-/// The path of a file with this ending, which no other process takes.
+/// Returns the path of a file with this ending, which no other process takes.
 pub(crate) fn path_of(rt: &HostRuntime, ending: &str) -> Result<PathBuf, Fail> {
     let process = process::id(rt.process());
     let name = format!(in rt.alloc(); "hintcheck-certificate-{process}.{ending}")?;
@@ -96,7 +96,7 @@ fn commands_on_files(rt: HostRuntime) -> Result<(), Fail> {
     Ok(())
 }
 
-/// Does `find` tell that this is a name of the font's own file, and leave the font as it is?
+/// Whether `find` tells that this is a name of the font's own file, and leaves the font as it is.
 fn is_kept(rt: &HostRuntime, font: &str, name: &str, bytes: &[u8]) -> Result<bool, Fail> {
     let find = ["hintcheck", "find", font, name];
     let told = answers(rt, &find, 2, "", "fault: words: CERT\n");

@@ -50,7 +50,7 @@ fn found_certificate(rt: HostRuntime) {
     assert_eq!(rt; none.len(), 0);
 }
 
-/// The first room below that of all bytes in which the certificate is written after all, or no beginning of it.
+/// Returns the first room below that of all bytes in which the certificate is written after all, or no beginning of it.
 fn first_room(alloc: Global, font: &[u8], want: &[u8]) -> Option<usize> {
     for room in 0..want.len() {
         let (told, bytes) = found(alloc, font, room);
@@ -71,7 +71,7 @@ fn writer_that_fails(rt: HostRuntime) {
     assert_eq!(rt; first_room(rt.alloc(), &font, &want), None);
 }
 
-/// The first length at which a certificate that is cut short isn't told so, or a read that fails there.
+/// Returns the first length at which a certificate that is cut short isn't reported as such, or a read that fails there.
 fn first_cut(alloc: Global, font: &[u8], bytes: &[u8]) -> Option<usize> {
     for length in 0..bytes.len() {
         let cut = &bytes[..length];
@@ -91,7 +91,7 @@ fn certificate_cut_short(rt: HostRuntime) {
     assert_eq!(rt; first_cut(rt.alloc(), &font, &bytes), None);
 }
 
-/// The bytes with another one at a place.
+/// Returns the bytes with another one at a place.
 pub(crate) fn with_byte(bytes: &[u8], place: usize, byte: u8, alloc: Global) -> Option<Vec<u8>> {
     let mut changed = Vec::from_slice(alloc, bytes).ok()?;
     *changed.get_mut(place)? = byte;

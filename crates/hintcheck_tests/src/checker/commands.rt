@@ -24,7 +24,7 @@ fn tells_faults_of_bare(rt: HostRuntime) {
     }
 }
 
-/// Whether words that clap refuses are told to the error output alone, with status 2.
+/// Whether words that clap refuses are told only on the error output, with status 2.
 fn is_refused<R: Files + AllocGlobal>(rt: &R, words: &[&str]) -> bool {
     let (status, out, err) = printed(rt, words, ROOM, ROOM);
     status == 2 && out.is_empty() && err.starts_with(b"error: ")
@@ -48,7 +48,7 @@ fn refuses_other_words(rt: HostRuntime) {
     }
 }
 
-/// Whether help is printed to the output alone, with status 0.
+/// Whether help is printed only on the output, with status 0.
 fn is_helped<R: Files + AllocGlobal>(rt: &R, words: &[&str]) -> bool {
     let (status, out, err) = printed(rt, words, ROOM, ROOM);
     status == 0 && !out.is_empty() && err.is_empty()
@@ -68,7 +68,7 @@ fn helps(rt: HostRuntime) {
     }
 }
 
-/// Whether a write that fails behind so many bytes is told on the error output, if there is room, and by the status; `whole` is what is
+/// Whether a write that fails after so many bytes is told on the error output, if there is room, and by the status; `whole` is what is
 /// printed where no write fails.
 fn tells_failed_write<R: Files + AllocGlobal>(
     rt: &R,
@@ -86,7 +86,7 @@ fn tells_failed_write<R: Files + AllocGlobal>(
         && cut.len() == room.min(16)
 }
 
-/// Whether that is so behind each number of bytes.
+/// Whether that is so after each number of bytes.
 fn tells_failed_writes_of<R: Files + AllocGlobal>(rt: &R, words: &[&str]) -> bool {
     let (status, whole, err) = printed(rt, words, ROOM, 0);
     for room in 0..whole.len() {

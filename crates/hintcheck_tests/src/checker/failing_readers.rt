@@ -1,4 +1,4 @@
-//! Readers that give one byte a call, of which one fails: all that was told by then stands, and no further call is made.
+//! Readers that give one byte a call, of which one fails: all that was told by then remains valid, and no further call is made.
 
 ghost use Rattle.std.specs.Prelude.{◌≡◌, ◌<◌};
 ghost use Rattle.hintcheck.specs.FontPrograms.{IsFontInRange};
@@ -25,7 +25,7 @@ pub(crate) const TWICE: [u8; 17] = [
     0, 0x20, 0, 0, 0, 0, 1, 0, 0, 0, 0, 0, 0, 3, 0xB0, 0x0B, 0x2E,
 ];
 
-/// These bytes, one a call, of which the one after so many others fails.
+/// Returns these bytes, one a call, of which the one after so many others fails.
 fn one_by_one(bytes: &[u8], calls: usize) -> Steps<'_> {
     Steps {
         bytes,
@@ -34,7 +34,7 @@ fn one_by_one(bytes: &[u8], calls: usize) -> Steps<'_> {
     }
 }
 
-/// What the calls of a session tell, one for each program and one for the end. No more than one program is refused.
+/// Returns what the calls of a session tell, one for each program and one for the end. No more than one program is refused.
 fn told_by_calls<S: Source>(alloc: Global, font: &Font<'_>, source: &mut S) -> Told
     requires { IsFontInRange font.now }
 {
@@ -64,7 +64,7 @@ fn session_on<L: Ledger>(alloc: Global, file: &[u8], steps: Steps<'_>, blank: Bl
     }
 }
 
-/// What a session of a font tells of what this reader gives.
+/// Returns what a session of a font tells of what this reader gives.
 fn told_by_session(alloc: Global, file: &[u8], steps: Steps<'_>) -> Told {
     session_on::<Brand>(alloc, file, steps, Blank::new(1))
 }
@@ -78,7 +78,7 @@ struct Case<'a> {
     told: Told,
 }
 
-/// The first call whose failure isn't told, or that is made though all was told before.
+/// Returns the first call whose failure isn't told, or that is made though all was told before.
 fn first_wrong_call(alloc: Global, case: &Case<'_>) -> Option<usize> {
     for calls in 0..case.calls.min(ALL) + 2 {
         let want = if calls < case.calls {
@@ -133,7 +133,7 @@ fn checks_and_sessions(rt: HostRuntime) -> Result<(), Fail> {
     Ok(())
 }
 
-/// The first call of the reader of a file whose failure its header, its sections or its end don't tell.
+/// Returns the first call of the reader of a file whose failure its header, its sections or its end don't tell.
 fn first_wrong_read(alloc: Global, bytes: &[u8]) -> Option<usize> {
     for calls in 0..=bytes.len() {
         if told_of_file_by(alloc, one_by_one(bytes, calls)) != Read::Read {
@@ -149,7 +149,7 @@ fn first_wrong_read(alloc: Global, bytes: &[u8]) -> Option<usize> {
     Some(bytes.len())
 }
 
-/// The first call of the reader of an old certificate whose failure isn't told, or after which no beginning of the new one was written.
+/// Returns the first call of the reader of an old certificate whose failure isn't told, or after which no beginning of the new one was written.
 fn first_wrong_upgrade(alloc: Global, old: &[u8], new: &[u8]) -> Option<usize> {
     for calls in 0..=old.len() {
         let taker = Taker::new(alloc, 1, ALL);

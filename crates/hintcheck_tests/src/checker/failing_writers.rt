@@ -21,7 +21,7 @@ fn taker(alloc: Global, calls: usize, takes_nothing: bool) -> Taker {
     }
 }
 
-/// The first call whose failure isn't told by the search for this certificate, or before which no beginning of it was taken.
+/// Returns the first call whose failure isn't told by the search for this certificate, or before which no beginning of it was taken.
 fn first_wrong_search(alloc: Global, font: &[u8], want: &[u8]) -> Option<usize> {
     for calls in 0..=want.len() {
         let told = if calls < want.len() {
@@ -39,7 +39,7 @@ fn first_wrong_search(alloc: Global, font: &[u8], want: &[u8]) -> Option<usize> 
     None
 }
 
-/// So it is with an upgrade.
+/// Returns the same for an upgrade.
 fn first_wrong_upgrade(alloc: Global, old: &[u8], new: &[u8]) -> Option<usize> {
     for calls in 0..=new.len() {
         for takes_nothing in [false, true] {
@@ -80,7 +80,7 @@ fn searches_and_upgrades(rt: HostRuntime) -> Result<(), Fail> {
     Ok(())
 }
 
-/// The first call whose failure isn't told by the writing of a section, or before which no beginning of its text was taken.
+/// Returns the first call whose failure isn't told by the writing of a section, or before which no beginning of its text was taken.
 fn first_wrong_section(alloc: Global, section: &Section, want: &[u8]) -> Option<usize> {
     for calls in 0..=want.len() {
         let told = if calls < want.len() {
@@ -98,7 +98,7 @@ fn first_wrong_section(alloc: Global, section: &Section, want: &[u8]) -> Option<
     None
 }
 
-/// How many sections a certificate has that are written as they were read, also where a call fails.
+/// Returns how many sections a certificate has that are written as they were read, also where a call fails.
 fn sections_written(alloc: Global, bytes: &[u8]) -> Option<usize> {
     let mut left = bytes.get(10..)?;
     for sections in 0..ALL {

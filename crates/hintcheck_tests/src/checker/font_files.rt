@@ -18,7 +18,7 @@ pub(crate) static LIMITS: [u8; 32] = [
     0, 1, 0, 0, 0, 1, 0, 4, 0, 1, 0, 0, 0, 0, 0, 2, 0, 4, 0, 4, 0, 2, 0, 0, 0, 8, 0, 64, 0, 0, 0, 0,
 ];
 
-/// A `maxp` table for so many glyphs, with the same limits.
+/// Returns a `maxp` table for so many glyphs, with the same limits.
 fn maxp_for(glyphs: u16) -> [u8; 32] {
     let [high, low] = glyphs.to_be_bytes();
     let mut maxp = LIMITS;
@@ -27,7 +27,7 @@ fn maxp_for(glyphs: u16) -> [u8; 32] {
     maxp
 }
 
-/// A font file with these tables, each beginning at a multiple of 4; nothing for want of memory, or where it is too long.
+/// Returns a font file with these tables, each beginning at a multiple of 4; nothing where memory ran out, or where it is too long.
 pub(crate) fn file_of(alloc: Global, tables: &[(Tag, &[u8])]) -> Option<Vec<u8>> {
     let mut file = Vec::new(alloc);
     let mut data: Vec<u8> = Vec::new(alloc);
@@ -53,7 +53,7 @@ pub(crate) fn file_of(alloc: Global, tables: &[(Tag, &[u8])]) -> Option<Vec<u8>>
     Some(file)
 }
 
-/// A font file with 10 control values, this font program, this CVT program, and so many glyphs, whose bytes are these.
+/// Returns a font file with 10 control values, this font program, this CVT program, and so many glyphs, whose bytes are these.
 pub(crate) fn file_with_glyphs(
     alloc: Global,
     fpgm: &str,
@@ -90,7 +90,7 @@ fn add_glyph(alloc: Global, glyf: &mut Vec<u8>, loca: &mut Vec<u8>, program: &st
     Some(())
 }
 
-/// A font file with 10 control values, this font program, this CVT program and glyphs of 4 points with these programs.
+/// Returns a font file with 10 control values, this font program, this CVT program and glyphs of 4 points with these programs.
 pub(crate) fn font_of(alloc: Global, fpgm: &str, prep: &str, glyphs: &[&str]) -> Option<Vec<u8>> {
     let mut loca = [0; 4].to_vec(alloc).ok()?;
     let mut glyf = Vec::new(alloc);

@@ -35,7 +35,7 @@ fn refused_at((program, place, offset, reason): Refusal) -> Refused {
     }
 }
 
-/// Whether these programs alone are refused.
+/// Whether exactly these programs are refused.
 fn has_refused(verdict: &Verdict, refusals: &[Refusal]) -> bool {
     for (place, refusal) in refusals.iter().enumerate() {
         if verdict.refused().get(place).copied() != Some(refused_at(*refusal)) {
@@ -45,7 +45,7 @@ fn has_refused(verdict: &Verdict, refusals: &[Refusal]) -> bool {
     verdict.refused().len() == refusals.len()
 }
 
-/// Whether a font with one glyph is judged so.
+/// Whether a font with one glyph gets this verdict.
 fn is_judged(alloc: Global, (fpgm, prep, glyph, refusals): &Case<'_>) -> bool {
     let Some(file) = font_of(alloc, fpgm, prep, &[*glyph]) else {
         return false;
@@ -56,7 +56,7 @@ fn is_judged(alloc: Global, (fpgm, prep, glyph, refusals): &Case<'_>) -> bool {
     }
 }
 
-/// Asserts that the fonts are judged so.
+/// Asserts that the fonts get these verdicts.
 fn assert_judged(rt: &impl Abort, alloc: Global, fonts: &[Case<'_>]) {
     for case in fonts {
         let (fpgm, prep, glyph, _) = case;
@@ -167,7 +167,7 @@ const OF_EACH_GLYPH: [Refusal; 2] = [
     (Name::Glyph(2), Name::Glyph(2), 0, Reason::Underflow),
 ];
 
-/// Whether each glyph of a font is looked at.
+/// Whether each glyph of a font is checked.
 fn is_each_looked_at(alloc: Global) -> bool {
     let Some(file) = font_of(alloc, TAKES, "", &[CALLS, CALLS_WITH_7, "21"]) else {
         return false;

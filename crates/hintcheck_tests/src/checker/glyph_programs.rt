@@ -27,7 +27,7 @@ pub(crate) const TOO_LONG: &str =
 /// Where and why a program is refused.
 type Refusal = Option<(u32, Reason)>;
 
-/// The refused program, which is the only one.
+/// Returns the refused program, which is the only one.
 fn refused_at(refusal: Refusal) -> Option<Refused> {
     let (offset, reason) = refusal?;
     let program = Name::Glyph(0);

@@ -173,7 +173,7 @@ fn refuses_programs_of_fonts(rt: HostRuntime) {
     }
 }
 
-/// A font file without control values, font program and instructions of its only glyph, with short entries in `loca` and this CVT program.
+/// Returns a font file without control values, font program and instructions of its only glyph, with short entries in `loca` and this CVT program.
 fn small_font(alloc: Global, prep: &str) -> Option<Vec<u8>> {
     let prep = word_bytes(alloc, prep).ok()?;
     file_of(
@@ -247,7 +247,7 @@ fn numbers_reasons(rt: HostRuntime) {
     }
 }
 
-/// The texts that no test of the command can call forth.
+/// The texts that no test of the command can produce.
 #[test]
 fn names_what_no_verdict_has(rt: HostRuntime) -> Result<(), Fail> {
     let missing = format!(in rt.alloc(); "{}", Reason::MissingPoint)?;
@@ -285,7 +285,7 @@ fn tells_faults_of_directories(rt: HostRuntime) {
     }
 }
 
-/// A font file with two glyphs, whose tables are words of hexadecimal digits.
+/// Returns a font file with two glyphs, whose tables are words of hexadecimal digits.
 fn font_with_glyphs(alloc: Global, loca: &str, glyf: &str) -> Option<Vec<u8>> {
     let loca = word_bytes(alloc, loca).ok()?;
     let glyf = word_bytes(alloc, glyf).ok()?;

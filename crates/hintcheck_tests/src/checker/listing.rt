@@ -7,7 +7,7 @@ use std::rt::Files;
 use std::test::Fail;
 use std::{env, fs, process};
 
-/// A font program, a CVT program, and programs of glyphs: one without instructions, pushes of each kind, codes without a name, an
+/// Returns a font program, a CVT program, and programs of glyphs: one without instructions, pushes of each kind, codes without a name, an
 /// instruction that passes the end, and an EIF without an IF.
 fn font(alloc: Global) -> Option<Vec<u8>> {
     let glyphs = [
@@ -64,7 +64,7 @@ fn refuses_programs(rt: HostRuntime) {
     }
 }
 
-/// Words that name no program of the font.
+/// Words that don't name a program of the font.
 const OTHER_WORDS: [&str; 19] = [
     "",
     "x",
@@ -97,7 +97,7 @@ fn tells_other_words(rt: HostRuntime) {
     }
 }
 
-/// The font is read before the word is.
+/// Asserts that the font is read before the word is.
 #[test]
 fn tells_other_fonts(rt: HostRuntime) {
     let line = "fault: 1 not an sfnt file\n";
@@ -106,7 +106,7 @@ fn tells_other_fonts(rt: HostRuntime) {
     assert!(rt; answers(&rt, &words, 2, "", "fault: 44 read\n"));
 }
 
-/// Whether a write that fails behind so many bytes is told on the error output and by the status.
+/// Whether a write that fails after so many bytes is told on the error output and by the status.
 fn tells_failed_write(rt: &HostRuntime, words: &[&str], room: usize) -> bool {
     let (status, out, err) = printed(rt, words, room, ROOM);
     status == 2 && out.len() == room && err.as_slice() == b"fault: 45 write\n".as_slice()

@@ -12,7 +12,7 @@ use std::alloc::Global;
 use std::fs;
 use std::test::Fail;
 
-/// Is this a verdict, or a fault 1 to 8 or 43?
+/// Whether this is a verdict, or a fault 1 to 8 or 43.
 fn is_answer(told: Told) -> bool {
     match told {
         Told::Accepted | Told::Refused(_, _, _) | Told::Form(_) => true,
@@ -21,7 +21,7 @@ fn is_answer(told: Told) -> bool {
     }
 }
 
-/// Have the font and its check by the certificate an answer, and does the check accept only where the verdict does?
+/// Whether the font and its check by the certificate have an answer, and the check accepts only where the verdict does.
 fn is_answered(alloc: Global, font: &[u8], certificate: &[u8]) -> bool {
     let verdict = judged(alloc, font);
     let check = checked(alloc, font, certificate, false);
@@ -75,7 +75,7 @@ fn certificates_with_another_byte(rt: HostRuntime) {
     }
 }
 
-/// Do the verdict, the search for a certificate and the check by what it wrote tell this, and does the command print it?
+/// Whether the verdict, the search for a certificate and the check by what it wrote tell this, and the command prints it.
 fn is_told(
     rt: &HostRuntime,
     font: &[u8],
@@ -114,7 +114,7 @@ fn composite_glyphs(rt: HostRuntime) -> Result<(), Fail> {
     Ok(())
 }
 
-/// Does the check of the font by these bytes of a certificate print this?
+/// Whether the check of the font by these bytes of a certificate prints this.
 fn is_printed(
     rt: &HostRuntime,
     (font, certificate): (&str, &str),

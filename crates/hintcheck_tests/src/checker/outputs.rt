@@ -39,7 +39,7 @@ impl Write for Narrow {
     }
 }
 
-/// The exit status at these words, and both writers afterwards.
+/// Returns the exit status at these words, and both writers afterwards.
 fn run<L: Ledger, M: Ledger, R: Files + AllocGlobal>(
     rt: &R,
     words: &[&str],
@@ -57,7 +57,7 @@ fn run<L: Ledger, M: Ledger, R: Files + AllocGlobal>(
     (status, out.into_inner().bytes, err.into_inner().bytes)
 }
 
-/// The exit status at these words, and what stands on writers with room for so many bytes.
+/// Returns the exit status at these words, and what writers with room for so many bytes have taken.
 pub(crate) fn printed<R: Files + AllocGlobal>(
     rt: &R,
     words: &[&str],
@@ -141,7 +141,7 @@ fn answers_on_name<R: Files + AllocGlobal>(
     }
 }
 
-/// Whether that is so of a font file with these bytes; nothing where it can't be written or removed, or for want of memory.
+/// Whether that is so of a font file with these bytes; nothing where it can't be written or removed, or memory ran out.
 fn try_on_file(
     rt: &HostRuntime,
     bytes: &[u8],

@@ -10,7 +10,7 @@ use std::alloc::Global;
 use tt_font::Font;
 use tt_stream::{ReadFailed, Source};
 
-/// Bytes in memory, which are read without a failure until a read is to fail.
+/// Bytes in memory, which are read without a failure until a read should fail.
 #[derive(Drop)]
 struct Bytes<'a> {
     left: &'a [u8],
@@ -40,7 +40,7 @@ impl Source for Bytes<'_> {
     fn skip(&mut self, _count: usize) {}
 }
 
-/// The first refused program of a font by its certificate, of which nothing is read after that one's section; none where each is accepted.
+/// Returns the first refused program of a font by its certificate, of which nothing is read after that one's section; none where each is accepted.
 fn first_refused<S: Source>(
     alloc: Global,
     font: &Font<'_>,
@@ -87,7 +87,8 @@ fn told_of(answer: Result<Option<Outcome>, CheckFontFault>) -> Told {
     }
 }
 
-/// What five calls of a session answer, the last of which is given other bytes; and how many bytes are left of the first ones and of the others.
+/// Returns what five calls of a session answer, the last of which is given other bytes; and how many bytes are left of the first ones and of the
+/// others.
 fn five_calls(
     alloc: Global,
     font: &Font<'_>,
@@ -111,14 +112,14 @@ fn five_calls(
     )
 }
 
-/// What they answer for a font's bytes; nothing where these hold no font, or for want of memory.
+/// Returns what they answer for a font's bytes; nothing where these hold no font, or where memory ran out.
 fn called(alloc: Global, parts: &[&str], bytes: &[u8]) -> Option<([Told; 5], usize, usize)> {
     let file = bytes_of(alloc, parts)?;
     let font = read_font(alloc, &file).ok()?;
     Some(five_calls(alloc, &font, bytes, bytes))
 }
 
-/// The first refused program of a font's bytes; nothing where these hold no font, or for want of memory.
+/// Returns the first refused program of a font's bytes; nothing where these hold no font, or where memory ran out.
 fn first_of(
     alloc: Global,
     parts: &[&str],

@@ -19,7 +19,7 @@ const STORED: [(&[&str], &[&str]); 4] = [
     (&FORM_4, &FORM_4),
 ];
 
-/// Does the file hold these bytes?
+/// Whether the file holds these bytes.
 fn holds(rt: &HostRuntime, name: &str, bytes: &[u8]) -> Result<bool, Fail> {
     Ok(fs::read(rt, name)?.as_slice() == bytes)
 }
@@ -105,7 +105,7 @@ fn files_that_cannot_be_upgraded(rt: HostRuntime) -> Result<(), Fail> {
     Ok(())
 }
 
-/// Does `upgrade` tell that this is a name of the old certificate's own file, and leave it as it is?
+/// Whether `upgrade` tells that this is a name of the old certificate's own file, and leaves it as it is.
 fn is_kept(rt: &HostRuntime, old: &str, name: &str, bytes: &[u8]) -> Result<bool, Fail> {
     let upgrade = ["hintcheck", "upgrade", old, name];
     let told = answers(rt, &upgrade, 2, "", "fault: words: NEW\n");

@@ -15,7 +15,7 @@ const STORED: [(&[&str], &[&str]); 4] = [
     (&FORM_4, &FORM_4),
 ];
 
-/// Is the certificate with these sections upgraded to those bytes, and those to themselves?
+/// Whether the certificate with these sections is upgraded to those bytes, and those to themselves.
 fn is_upgraded(alloc: Global, old: &[u8], new: &[u8], sections: u32) -> bool {
     let (told, first) = upgraded(alloc, old, false, ROOM);
     let (told_again, second) = upgraded(alloc, new, false, ROOM);
@@ -40,8 +40,8 @@ fn stored_certificates(rt: HostRuntime) {
     }
 }
 
-/// The first length at which a certificate that is cut short isn't told so, or a read that fails there, or something else than a beginning of the
-/// new certificate was written.
+/// Returns the first length at which a certificate that is cut short isn't reported as such, or a read that fails there, or at which
+/// something else than a beginning of the new certificate was written.
 fn first_cut(alloc: Global, old: &[u8], new: &[u8]) -> Option<usize> {
     for length in 0..old.len() {
         let cut = &old[..length];
@@ -58,7 +58,7 @@ fn first_cut(alloc: Global, old: &[u8], new: &[u8]) -> Option<usize> {
     None
 }
 
-/// The first room below that of all bytes in which the new certificate is written after all, or no beginning of it.
+/// Returns the first room below that of all bytes in which the new certificate is written after all, or no beginning of it.
 fn first_room(alloc: Global, old: &[u8], new: &[u8]) -> Option<usize> {
     for room in 0..new.len() {
         let (told, written) = upgraded(alloc, old, false, room);
@@ -107,7 +107,7 @@ struct Case<'a> {
     written: Option<usize>,
 }
 
-/// A certificate of a form, of which so many sections are there.
+/// Returns a certificate of a form, of which so many sections are there.
 fn certificate(
     alloc: Global,
     start: &str,
@@ -123,7 +123,7 @@ fn certificate(
     Some(bytes)
 }
 
-/// What the upgrade of the case's certificate tells and writes, and what it has to write.
+/// Returns what the upgrade of the case's certificate tells and writes, and what it has to write.
 fn upgrade_of(alloc: Global, case: &Case<'_>) -> Option<(Result<u32, Told>, Vec<u8>, Vec<u8>)> {
     let mut old = certificate(alloc, "484352540002", case, case.sections.len(), "")?;
     old.extend_from_slice(&bytes_of(alloc, &[case.more])?).ok()?;
@@ -199,7 +199,7 @@ fn numbers_and_names_of_sections(rt: HostRuntime) {
     }
 }
 
-/// Bytes that begin no certificate, and the place of what is wrong.
+/// Bytes that don't begin a certificate, and the place of what is wrong.
 const NO_HEADER: [(&str, u64); 5] = [
     ("", 0),
     ("4843525500040000000300", 0),

@@ -1,4 +1,4 @@
-//! Bytes that are no programs.
+//! Bytes that aren't programs.
 
 ghost use Rattle.std.specs.Prelude.{◌<◌, ◌^◌, length};
 

@@ -14,10 +14,10 @@ const PUSHED_ELSE: [u8; 6] = [0x58, 0x40, 0x01, 0x1b, 0x1b, 0x59];
 /// A definition of an instruction.
 const INSTRUCTION: [u8; 3] = [0x89, 0x20, 0x2d];
 
-/// No IF, ELSE or FDEF.
+/// The targets where there is no IF, ELSE or FDEF.
 const NOWHERE: [Option<u32>; 3] = [None; 3];
 
-/// Whether control goes to these places behind the IF, the ELSE and the FDEF at an offset, which belongs to this body.
+/// Whether control goes to these places after the IF, the ELSE and the FDEF at an offset, which belongs to this body.
 fn leads(
     program: &Program<'_>,
     offset: u32,
@@ -67,13 +67,13 @@ fn places(rt: HostRuntime) {
     }
 }
 
-/// The length of the instruction at an offset, if one starts there.
+/// Returns the length of the instruction at an offset, if one starts there.
 fn length_at(program: &Program<'_>, offset: u32) -> Option<u32> {
     let instruction = program.at(offset)?;
     Some(instruction.len())
 }
 
-/// The same with the body that it belongs to.
+/// Returns the same with the body that it belongs to.
 fn found_at(program: &Program<'_>, offset: u32) -> Option<(u32, Body)> {
     let (instruction, body) = program.found_at(offset)?;
     Some((instruction.len(), body))

@@ -81,7 +81,7 @@ const BACK: [Family<'static>; 5] = [
     ),
 ];
 
-// Each jump leads to a place that was gone over before; of several jumps each leads to an earlier place than those before it.
+// Each jump leads to a place that was passed before; of several jumps each leads to an earlier place than those before it.
 #[test]
 fn jumps_back(rt: HostRuntime) {
     assert_families(&rt, rt.alloc(), GLYPH, &BACK);
@@ -114,7 +114,7 @@ const FONT_AND_CVT: [Family<'static>; 2] = [
     (&[0x18; 65], (1, 66, 66), &[(0, 0), (0, 65)]),
 ];
 
-// A definition leads behind its ENDF, which isn't just after it.
+// A definition leads to just after its ENDF, which isn't just after the definition itself.
 #[test]
 fn font_and_cvt_programs(rt: HostRuntime) {
     assert_families(&rt, rt.alloc(), Kind::Font, &FONT_AND_CVT);
@@ -170,7 +170,7 @@ fn repeated_calls(rt: HostRuntime) {
     assert_calling_families(&rt, rt.alloc(), &REPEATED_CALLS);
 }
 
-/// How many states a program lists, if it has a family of this size.
+/// Returns how many states a program lists, if it has a family of this size.
 fn listed(told: &Told, size: Size) -> Option<u32> {
     if told.answer != Ok(size) {
         return None;

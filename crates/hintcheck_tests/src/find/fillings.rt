@@ -4,7 +4,7 @@ use std::alloc::Global;
 use tt_abs::{Move, Moves, Point, Setting, State, step_at};
 use tt_cert::Certificate;
 
-/// Does one of the moves lead to this offset of the same body?
+/// Whether one of the moves leads to this offset of the same body.
 fn leads_to(moves: Moves, offset: u32) -> bool {
     match moves {
         Moves::One(next) => next == Move::To(offset),
@@ -12,7 +12,7 @@ fn leads_to(moves: Moves, offset: u32) -> bool {
     }
 }
 
-/// The offset just after the instruction at a point, if the state leads there, and that isn't the main program's end. The state is what
+/// Returns the offset just after the instruction at a point, if the state leads there, and that isn't the main program's end. The state is what
 /// leads there then.
 fn just_after(setting: &Setting<'_>, point: &Point<'_>, state: &mut State) -> Option<u32> {
     if setting.is_end(point, point.offset) {
@@ -28,7 +28,7 @@ fn just_after(setting: &Setting<'_>, point: &Point<'_>, state: &mut State) -> Op
     }
 }
 
-/// How many states a filling adds after a listed one, up to the next point that is listed or isn't just after; nothing for want of memory.
+/// Returns how many states a filling adds after a listed one, up to the next point that is listed or isn't just after; nothing where memory ran out.
 fn added_behind(
     alloc: Global,
     setting: &Setting<'_>,
@@ -60,7 +60,7 @@ fn added_behind(
     None
 }
 
-/// How many points the filling of a certificate has: the listed ones, and those that are added. Nothing for want of memory.
+/// Returns how many points the filling of a certificate has: the listed ones, and those that are added. Nothing where memory ran out.
 pub(crate) fn filled_points(
     alloc: Global,
     setting: &Setting<'_>,

@@ -10,7 +10,7 @@ use std::process::Abort;
 use tt_cert::Certificate;
 use tt_find::Finder;
 
-/// Has a certificate the contexts of another one, and the states that this one lists?
+/// Whether a certificate has the contexts of another one, and the states that this one lists.
 fn has_all_of(one: &Certificate, other: &Certificate) -> bool {
     if one.contexts() != other.contexts() {
         return false;
@@ -33,7 +33,7 @@ fn has_all_of(one: &Certificate, other: &Certificate) -> bool {
     true
 }
 
-/// Is the same told by a finder that has looked at other programs as by one of its own? The first may list more states.
+/// Whether a finder that has looked at other programs tells the same as one of the program's own. The first may list more states.
 fn is_told_alike(again: &Told, alone: &Told) -> bool {
     if again.answer != alone.answer {
         return false;
@@ -47,15 +47,15 @@ fn is_told_alike(again: &Told, alone: &Told) -> bool {
     }
 }
 
-/// Gives a finder the memory of a certificate back.
+/// Gives the memory of a certificate back to a finder.
 fn give_back(finder: &mut Finder, told: Told) {
     if let Some(certificate) = told.certificate {
         finder.take_back(certificate);
     }
 }
 
-/// Is the same told of a glyph program that starts with function 0 by this finder as by one of its own? Afterwards the finder may get the memory
-/// of its certificate back. Nothing for want of memory.
+/// Whether this finder tells the same of a glyph program that starts with function 0 as one of the program's own. Afterwards the finder may
+/// get back the memory of its certificate. Nothing where memory ran out.
 fn is_found_alike(
     alloc: Global,
     finder: &mut Finder,

@@ -36,7 +36,7 @@ pub(crate) const GLYPH: Kind = Kind::Glyph {
     contours: 1,
 };
 
-/// Does the walk lead through these points alone, in this order?
+/// Whether the walk leads through exactly these points, in this order.
 fn leads_through(states: States<'_>, points: &[(u32, u32)]) -> bool {
     let mut states = states;
     for point in points {
@@ -49,7 +49,7 @@ fn leads_through(states: States<'_>, points: &[(u32, u32)]) -> bool {
 }
 
 impl Told {
-    /// Are these the points of the states that are listed, each a context and an offset, in their order?
+    /// Whether these are the points of the states that are listed, each a context and an offset, in their order.
     pub(crate) fn lists(&self, points: &[(u32, u32)]) -> bool {
         match &self.certificate {
             Some(certificate) => leads_through(certificate.states(), points),
@@ -58,7 +58,7 @@ impl Told {
     }
 }
 
-/// A program of less than 100 bytes, cut.
+/// Returns a program of less than 100 bytes, cut.
 fn cut<'a>(alloc: Global, bytes: &'a [u8]) -> Option<Program<'a>> {
     if bytes.len() >= 100 {
         return None;
@@ -69,7 +69,7 @@ fn cut<'a>(alloc: Global, bytes: &'a [u8]) -> Option<Program<'a>> {
     }
 }
 
-/// How large a family is that was found, if the check accepts it, and else what the check says; nothing for want of memory.
+/// Returns how large a family is that was found, if the check accepts it, and else what the check says; nothing where memory ran out.
 fn checked(alloc: Global, setting: &Setting<'_>, found: &Found) -> Option<Answer>
     requires { Rises setting.now.start.now }
 {
@@ -89,7 +89,7 @@ fn checked(alloc: Global, setting: &Setting<'_>, found: &Found) -> Option<Answer
     }
 }
 
-/// What is told of a program for which this was found; nothing for want of memory.
+/// Returns what is told of a program for which this was found; nothing where memory ran out.
 fn told_of(alloc: Global, setting: &Setting<'_>, found: Result<Found, ProgramFault>) -> Option<Told>
     requires { Rises setting.now.start.now }
 {
@@ -115,7 +115,7 @@ fn told_of(alloc: Global, setting: &Setting<'_>, found: Result<Found, ProgramFau
     }
 }
 
-/// What is told of a program that starts with no function.
+/// Returns what is told of a program that starts with no function.
 pub(crate) fn alone(alloc: Global, program: &[u8], kind: Kind) -> Option<Told> {
     let main = cut(alloc, program)?;
     let setting = Setting {
@@ -131,7 +131,7 @@ pub(crate) fn alone(alloc: Global, program: &[u8], kind: Kind) -> Option<Told> {
     told_of(alloc, &setting, found)
 }
 
-/// What is told of a glyph program that starts with function 0, whose body begins at offset 3 of the font program.
+/// Returns what is told of a glyph program that starts with function 0, whose body begins at offset 3 of the font program.
 pub(crate) fn with_function(alloc: Global, font: &[u8], program: &[u8]) -> Option<Told> {
     let font = cut(alloc, font)?;
     let main = cut(alloc, program)?;
@@ -148,7 +148,7 @@ pub(crate) fn with_function(alloc: Global, font: &[u8], program: &[u8]) -> Optio
     told_of(alloc, &setting, found)
 }
 
-/// What is told of such a program by a finder that may have looked at others.
+/// Returns what is told of such a program by a finder that may have looked at others.
 pub(crate) fn with_function_by(
     alloc: Global,
     finder: &mut Finder,

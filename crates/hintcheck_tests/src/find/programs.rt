@@ -12,7 +12,7 @@ pub(crate) const BRANCHES: [u8; 9] = [0x4b, 0x58, 0xb0, 0x01, 0x1b, 0xb0, 0x02, 
 /// MPPEM; IF, PUSHB 1; EIF; POP.
 pub(crate) const PUSHES_ON_ONE_WAY: [u8; 6] = [0x4b, 0x58, 0xb0, 0x01, 0x59, 0x21];
 
-/// MPPEM; IF, POP; ELSE, POP; EIF. There is nothing to take away on either way.
+/// MPPEM; IF, POP; ELSE, POP; EIF. There is nothing to pop on either way.
 pub(crate) const POPS_ON_BOTH_WAYS: [u8; 6] = [0x4b, 0x58, 0x21, 0x1b, 0x21, 0x59];
 
 /// MPPEM; IF; EIF; RTG. Without the IF's body both ways meet at offset 3.
@@ -45,7 +45,7 @@ pub(crate) const MAY_STOP_COUNTING: [u8; 11] = [
 pub(crate) const PUSHES_WITHOUT_END: [u8; 7] = [0x18, 0xb0, 0x01, 0xb8, 0xff, 0xfb, 0x1c];
 
 /// PUSHB 1; DUP, MDAP; PUSHB 1, ADD; PUSHW -9, MPPEM, JROT to offset 2; POP; POP. The second number that MDAP takes isn't known, and the
-/// second POP has nothing to take away.
+/// second POP has nothing to pop.
 pub(crate) const REFUSED_TWICE: [u8; 14] = [
     0xb0, 0x01, 0x20, 0x2e, 0xb0, 0x01, 0x60, 0xb8, 0xff, 0xf7, 0x4b, 0x78, 0x21, 0x21,
 ];
@@ -70,7 +70,7 @@ pub(crate) const TEN_JUMPS_BACK: [u8; 61] = [
     0xd1, 0x4b, 0x78, 0xb8, 0xff, 0xcb, 0x4b, 0x78, 0xb8, 0xff, 0xc5, 0x4b, 0x78,
 ];
 
-/// PUSHB 0; FDEF, ENDF; RTG. The definition leads behind its ENDF.
+/// PUSHB 0; FDEF, ENDF; RTG. The definition leads to just after its ENDF.
 pub(crate) const DEFINES: [u8; 5] = [0xb0, 0x00, 0x2c, 0x2d, 0x18];
 
 /// FDEF 0: POP; ENDF.
@@ -107,7 +107,7 @@ pub(crate) const CALLS_WITH_A_NUMBER: [u8; 4] = [0xb1, 0x07, 0x00, 0x2b];
 /// PUSHB 1; CALL, of a function that isn't known.
 pub(crate) const CALLS_ANOTHER: [u8; 3] = [0xb0, 0x01, 0x2b];
 
-/// MPPEM; IF, PUSHB 0, CALL; ELSE, POP; EIF. There is nothing to take away.
+/// MPPEM; IF, PUSHB 0, CALL; ELSE, POP; EIF. There is nothing to pop.
 pub(crate) const MAY_CALL: [u8; 8] = [0x4b, 0x58, 0xb0, 0x00, 0x2b, 0x1b, 0x21, 0x59];
 
 /// PUSHB 1; PUSHB 0; CALL; ADD, for which two numbers are missing.

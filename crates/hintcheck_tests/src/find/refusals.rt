@@ -12,7 +12,7 @@ use tt_abs::Kind;
 use tt_cert::Spot;
 use tt_code::Reason;
 
-/// Is this told of a program, for which there was memory?
+/// Whether this is told of a program, for which there was memory.
 fn is_refused(told: Option<Told>, want: (Spot, u32, Reason)) -> bool {
     match told {
         Some(told) => told.answer == Err(want),

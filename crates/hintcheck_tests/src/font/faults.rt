@@ -5,7 +5,7 @@ use std::alloc::{AllocError, Global};
 use std::test::Fail;
 use tt_font::{Font, FontFault, Tag};
 
-/// A font with a simple glyph and a composite one, both with programs.
+/// Returns a font with a simple glyph and a composite one, both with programs.
 fn small_font(alloc: Global) -> Result<Vec<u8>, Fail> {
     let glyph = square(alloc, &[0x4B])?;
     let composite = made(alloc, &[0, 0x20, 0, 0, 0, 0, 1, 0, 0, 0, 0, 0, 0, 1, 0x4B])?;
@@ -17,7 +17,7 @@ fn small_font(alloc: Global) -> Result<Vec<u8>, Fail> {
     )
 }
 
-/// A font is read, or refused for another reason than want of memory.
+/// Whether a font is read, or is refused for another reason than that memory ran out.
 fn is_answered(alloc: Global, file: &[u8]) -> bool {
     match Font::read(alloc, file) {
         Ok(_) => true,
@@ -49,7 +49,7 @@ fn answers_for_every_byte(rt: HostRuntime) -> Result<(), Fail> {
     Ok(())
 }
 
-/// A fault is printed as this text.
+/// Whether a fault is printed as this text.
 fn prints(alloc: Global, fault: &FontFault, text: &str) -> bool {
     match format!(in alloc; "{fault}") {
         Ok(printed) => printed.as_str() == text,

@@ -38,14 +38,14 @@ fn push_table(data: &mut Vec<u8>, bytes: &[u8]) -> Result<(), Fail> {
     Ok(())
 }
 
-/// What stands in front of the directory's records.
+/// Returns what comes before the directory's records.
 fn header(alloc: Global, tables: usize) -> Result<Vec<u8>, Fail> {
     let [high, low] = u16::try_from(tables)?.to_be_bytes();
     let bytes = [0, 1, 0, 0, high, low, 0, 0, 0, 0, 0, 0];
     Ok(bytes.to_vec(alloc)?)
 }
 
-/// A font file with these tables, each beginning at a multiple of 4.
+/// Returns a font file with these tables, each beginning at a multiple of 4.
 pub fn file_of(alloc: Global, tables: &[(Tag, &[u8])]) -> Result<Vec<u8>, Fail> {
     let mut file = header(alloc, tables.len())?;
     let mut data: Vec<u8> = Vec::new(alloc);
@@ -59,7 +59,7 @@ pub fn file_of(alloc: Global, tables: &[(Tag, &[u8])]) -> Result<Vec<u8>, Fail> 
     Ok(file)
 }
 
-/// A `maxp` table for so many glyphs.
+/// Returns a `maxp` table for so many glyphs.
 fn maxp_for(glyphs: u16) -> [u8; 32] {
     let mut maxp = MAXP;
     let [high, low] = glyphs.to_be_bytes();
@@ -77,7 +77,7 @@ pub struct Glyphs {
 }
 
 impl Glyphs {
-    /// The tables without a glyph.
+    /// Returns the tables without a glyph.
     pub fn new(alloc: Global) -> Result<Glyphs, Fail> {
         Ok(Glyphs {
             glyf: Vec::new(alloc),
@@ -95,7 +95,7 @@ impl Glyphs {
         Ok(())
     }
 
-    /// A font with these glyphs, the functions of its font program and its CVT program.
+    /// Returns a font with these glyphs, the functions of its font program and its CVT program.
     pub fn font<'a>(
         &'a self,
         alloc: Global,
@@ -117,7 +117,7 @@ impl Glyphs {
     }
 }
 
-/// A font with these glyphs, the functions of its font program and its CVT program.
+/// Returns a font with these glyphs, the functions of its font program and its CVT program.
 pub fn font_of(alloc: Global, fpgm: &[u8], prep: &[u8], glyphs: &[&[u8]]) -> Result<Vec<u8>, Fail> {
     let mut tables = Glyphs::new(alloc)?;
     for glyph in glyphs {
@@ -126,20 +126,20 @@ pub fn font_of(alloc: Global, fpgm: &[u8], prep: &[u8], glyphs: &[&[u8]]) -> Res
     tables.font(alloc, fpgm, prep)
 }
 
-/// A glyph of 4 points with a program.
+/// Returns a glyph of 4 points with a program.
 pub fn square(alloc: Global, program: &[u8]) -> Result<Vec<u8>, Fail> {
     let length = u16::try_from(program.len())?.to_be_bytes();
     let parts: [&[u8]; 3] = [&SQUARE, &length, program];
     Ok(parts.concat(alloc)?)
 }
 
-/// A composite glyph with these components and what stands behind them.
+/// Returns a composite glyph with these components and what follows them.
 pub fn made(alloc: Global, components: &[u8]) -> Result<Vec<u8>, Fail> {
     let parts: [&[u8]; 2] = [&MADE, components];
     Ok(parts.concat(alloc)?)
 }
 
-/// A composite glyph that has a glyph so many times as a component.
+/// Returns a composite glyph that has a glyph so many times as a component.
 pub fn many_times(alloc: Global, id: u16, times: u16) -> Result<Vec<u8>, Fail> {
     let [high, low] = id.to_be_bytes();
     let mut glyph = MADE.to_vec(alloc)?;
@@ -150,7 +150,7 @@ pub fn many_times(alloc: Global, id: u16, times: u16) -> Result<Vec<u8>, Fail> {
     Ok(glyph)
 }
 
-/// Whether this is read of a glyph, none where the font hasn't as many.
+/// Whether this is read of a glyph, none where the font has fewer glyphs.
 pub fn has_glyph(alloc: Global, file: &[u8], id: u16, glyph: Option<GlyphPart<'_>>) -> bool {
     match Font::read(alloc, file) {
         Ok(font) => font.glyph(id) == glyph,

@@ -5,7 +5,7 @@ use std::alloc::Global;
 use std::test::Fail;
 use tt_font::{Font, FontFault, GlyphPart};
 
-/// What is refused in a font with these glyphs.
+/// Returns what is refused in a font with these glyphs.
 fn fault_of(alloc: Global, glyphs: &[&[u8]]) -> Result<Option<FontFault>, Fail> {
     let file = font_of(alloc, &[], &[], glyphs)?;
     Ok(Font::read(alloc, &file).err())
@@ -38,14 +38,14 @@ fn reads_glyphs(rt: HostRuntime) -> Result<(), Fail> {
     Ok(())
 }
 
-/// A font of a glyph of 4 points and a composite glyph with these components.
+/// Returns a font of a glyph of 4 points and a composite glyph with these components.
 pub(crate) fn font_with(alloc: Global, components: &[u8]) -> Result<Vec<u8>, Fail> {
     let glyph = square(alloc, &[])?;
     let composite = made(alloc, components)?;
     font_of(alloc, &[], &[], &[glyph.as_slice(), composite.as_slice()])
 }
 
-/// Components with what stands behind them, and the glyph program that they leave.
+/// Components with what follows them, and the glyph program that they leave.
 const COMPONENTS: [(&[u8], &[u8]); 2] = [
     (
         &[
@@ -101,14 +101,14 @@ fn refuses_circles(rt: HostRuntime) -> Result<(), Fail> {
     Ok(())
 }
 
-/// A font of a glyph of 4 points and one that has it so many times as a component.
+/// Returns a font of a glyph of 4 points and one that has it so many times as a component.
 pub(crate) fn font_of_many(alloc: Global, times: u16) -> Result<Vec<u8>, Fail> {
     let glyph = square(alloc, &[])?;
     let many = many_times(alloc, 0, times)?;
     font_of(alloc, &[], &[], &[glyph.as_slice(), many.as_slice()])
 }
 
-/// How many points a glyph has that has one of 4 points so many times as a component.
+/// Returns how many points a glyph has that has one of 4 points so many times as a component.
 fn points_of(alloc: Global, times: u16) -> Result<Result<u16, FontFault>, Fail> {
     let file = font_of_many(alloc, times)?;
     match Font::read(alloc, &file) {
@@ -127,7 +127,7 @@ fn bounds_points(rt: HostRuntime) -> Result<(), Fail> {
     Ok(())
 }
 
-/// A font of an empty glyph, and so many glyphs that are each made of the one before a thousand times.
+/// Returns a font of an empty glyph, and so many glyphs that are each made of the one before a thousand times.
 pub(crate) fn tower(alloc: Global, height: u16) -> Result<Vec<u8>, Fail> {
     let mut glyphs = Glyphs::new(alloc)?;
     glyphs.push(&[0; 10])?;
@@ -137,7 +137,7 @@ pub(crate) fn tower(alloc: Global, height: u16) -> Result<Vec<u8>, Fail> {
     glyphs.font(alloc, &[], &[])
 }
 
-/// How many glyphs a tower has, and how often a component of it was read.
+/// Returns how many glyphs a tower has, and how often a component of it was read.
 fn reads_of(alloc: Global, height: u16) -> Result<Result<(u16, u64), FontFault>, Fail> {
     let file = tower(alloc, height)?;
     match Font::read(alloc, &file) {

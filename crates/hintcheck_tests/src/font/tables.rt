@@ -25,7 +25,7 @@ const PREP: [u8; 1] = [0x4B];
 /// A glyph program.
 const PROGRAM: [u8; 4] = [0xB1, 0x07, 0x00, 0x2B];
 
-/// A font of one glyph, with programs.
+/// Returns a font of one glyph, with programs.
 fn whole_font(alloc: Global) -> Result<Vec<u8>, Fail> {
     let glyph = square(alloc, &PROGRAM)?;
     font_of(alloc, &FPGM, &PREP, &[glyph.as_slice()])
@@ -67,7 +67,7 @@ fn reads_a_glyph(rt: HostRuntime) -> Result<(), Fail> {
     Ok(())
 }
 
-/// A table, or the one that stands in its place.
+/// Returns a table, or the one that takes its place.
 fn table_of<'a>(tag: Tag, bytes: &'a [u8], changed: (Tag, &'a [u8])) -> (Tag, &'a [u8]) {
     if tag == changed.0 {
         changed
@@ -76,7 +76,7 @@ fn table_of<'a>(tag: Tag, bytes: &'a [u8], changed: (Tag, &'a [u8])) -> (Tag, &'
     }
 }
 
-/// What is refused in the tables of a font with one glyph, where one table is another one.
+/// Returns what is refused in the tables of a font with one glyph, where one table is another one.
 fn fault_with(alloc: Global, changed: (Tag, &[u8])) -> Result<Option<FontFault>, Fail> {
     let glyph = square(alloc, &[])?;
     let tables = [
@@ -125,7 +125,7 @@ fn refuses_tables(rt: HostRuntime) -> Result<(), Fail> {
     Ok(())
 }
 
-/// Files that end behind their directory or in it, and why they are refused.
+/// Files that end after their directory or in it, and why they are refused.
 const REFUSED_DIRECTORIES: [(&[u8], FontFault); 5] = [
     (
         &[0, 1, 0, 0, 0, 0, 0, 0, 0, 0, 0],
@@ -151,7 +151,7 @@ fn refuses_directories(rt: HostRuntime) {
     }
 }
 
-/// A font of one empty glyph, without programs, with two `maxp` tables.
+/// Returns a font of one empty glyph, without programs, with two `maxp` tables.
 fn bare_font(alloc: Global) -> Result<Vec<u8>, Fail> {
     let tables: [(Tag, &[u8]); 6] = [
         (Tag::Maxp, &MAXP),
@@ -177,7 +177,7 @@ fn takes_what_is_missing_as_empty(rt: HostRuntime) -> Result<(), Fail> {
     Ok(())
 }
 
-/// A font of one glyph with short entries in `loca`.
+/// Returns a font of one glyph with short entries in `loca`.
 fn short_font(alloc: Global) -> Result<Vec<u8>, Fail> {
     let glyph = square(alloc, &[])?;
     let tables: [(Tag, &[u8]); 4] = [

@@ -51,7 +51,7 @@ impl Write for Narrow {
     }
 }
 
-/// What `write!` answers for that many letters, and the writer afterwards.
+/// Returns what `write!` answers for that many letters, and the writer afterwards.
 fn write_letters<L: Ledger, W: Write + Drop>(
     writer: W,
     letters: usize,
@@ -66,7 +66,7 @@ fn write_letters<L: Ledger, W: Write + Drop>(
     (result, sink.into_inner())
 }
 
-/// What a read of at most four bytes gives, and what a write of all of them gives.
+/// Returns what a read of at most four bytes gives, and what a write of all of them gives.
 fn copy_some<L: Ledger, M: Ledger>(
     bytes: &[u8],
     into: Vec<u8>,
@@ -150,7 +150,7 @@ fn reads_all(rt: HostRuntime) -> Result<(), Fail> {
     Ok(())
 }
 
-/// All bytes of the steps, read ahead.
+/// Returns all bytes of the steps, read ahead.
 fn read_steps_ahead<L: Ledger>(alloc: Global, steps: Steps<'_>, blank: Blank) -> Option<Vec<u8>>
     requires name { blank.name ≡ L.name }
     requires parts { blank.parts ≡ L.parts }
@@ -181,7 +181,7 @@ fn reads_all_ahead(rt: HostRuntime) -> Result<(), Fail> {
     Ok(())
 }
 
-/// What is ahead once a byte of the steps was read, and the next byte after so many that are ahead.
+/// Returns what is ahead once a byte of the steps was read, and the next byte after so many that are ahead.
 fn look_ahead<L: Ledger>(
     alloc: Global,
     steps: Steps<'_>,

@@ -8,7 +8,7 @@ use std::test::Fail;
 /// The words of a check of one glyph program.
 const BARE: [&str; 7] = ["hintcheck", "bare", "0001", "0", "65535", "+7", "B1"];
 
-/// A task is what `BARE` asks for, with this program.
+/// Whether a task is what `BARE` asks for, with this program.
 fn is_bare(task: &Task, with_program: Option<&str>) -> bool {
     match task {
         Task::Bare {
@@ -40,7 +40,7 @@ fn reads_the_words_of_bare_without_a_program(rt: HostRuntime) -> Result<(), Fail
     Ok(())
 }
 
-/// The subcommand of a task, and its texts.
+/// Returns the subcommand of a task, and its texts.
 fn texts(task: &Task) -> (&str, &str, &str) {
     match task {
         Task::Bare { maxp, .. } => ("bare", maxp.as_str(), ""),
@@ -52,7 +52,7 @@ fn texts(task: &Task) -> (&str, &str, &str) {
     }
 }
 
-/// Words ask for the task with these texts.
+/// Whether words ask for the task with these texts.
 fn asks<'a>(alloc: Global, words: &'a [&'a str], want: (&str, &str, &str)) -> bool {
     match read_words(alloc, words) {
         Ok(task) => texts(&task) == want,
@@ -90,7 +90,7 @@ fn reads_words_of_texts(rt: HostRuntime) {
     }
 }
 
-/// The kind of clap's error, where the words are none of the command line.
+/// Returns the kind of clap's error, where the words aren't those of a command line.
 fn refusal<'a>(alloc: Global, words: &'a [&'a str]) -> Option<ErrorKind> {
     match read_words(alloc, words) {
         Err(TaskFault::Words(error)) => Some(error.kind()),
@@ -99,7 +99,7 @@ fn refusal<'a>(alloc: Global, words: &'a [&'a str]) -> Option<ErrorKind> {
     }
 }
 
-/// Words that are none of the command line, and the kind of the error.
+/// Words that aren't those of a command line, and the kind of the error.
 const REFUSED: [(&[&str], ErrorKind); 15] = [
     (
         &["hintcheck", "bare", "00", "1", "2"],

@@ -4,7 +4,7 @@ use hintcheck_words::word_bytes;
 use std::alloc::Global;
 use std::test::Fail;
 
-/// A word spells these bytes.
+/// Whether a word spells these bytes.
 fn spells(alloc: Global, word: &str, bytes: &[u8]) -> bool {
     match word_bytes(alloc, word) {
         Ok(spelled) => spelled.as_slice() == bytes,
@@ -26,7 +26,7 @@ fn refuses_other_letters(rt: HostRuntime) {
     }
 }
 
-/// How many bytes so many zeros spell.
+/// Returns how many bytes so many zeros spell.
 fn spelled(alloc: Global, digits: usize) -> Result<Option<usize>, Fail> {
     let word = "0".repeat(alloc, digits)?;
     Ok(word_bytes(alloc, &word).ok().map(|bytes| bytes.len()))
