@@ -13,7 +13,7 @@ use thiserror::Error;
 /// What the words ask for.
 #[derive(Debug, Drop)]
 pub enum Task {
-    /// Checks one glyph program together with the limits of a `maxp` table, both in hexadecimal digits.
+    /// Checks one glyph program against the limits of a `maxp` table, both in hexadecimal digits.
     Bare {
         maxp: String,
         /// How many entries the control value table has.

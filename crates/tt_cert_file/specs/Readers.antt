@@ -1,7 +1,7 @@
 -- Reading unit by unit. A unit that is incomplete is refused at the input's end, one that breaks a rule at its own first byte.
 use Rattle.std.specs.Prelude.{ℕ, zero, suc, ◌+◌, ◌-◌, ◌^◌, min, Bool, List, [], ◌∷◌, ◌++◌, length, take, drop, Option, Some, None, Result, Ok, Err, nat_lt, if◌then◌else◌}
 
--- where reading is: its place, which stops at the greatest number of 64 bits, and the bytes from there on
+-- how far reading has come: its place, which stops at the greatest number of 64 bits, and the bytes from there on
 pub record Input : Type 0 where
   pub place : ℕ
   pub bytes : List ℕ
