@@ -10,7 +10,7 @@ use Rattle.tt_code.proofs.ProgramLemmas.{no_fault}
 use Rattle.tt_abs.specs.declared.setting.Setting.{Setting}
 use Rattle.tt_abs.specs.Settings.{setting_of}
 use Rattle.tt_abs.specs.StateFlow.{Place}
-use Rattle.tt_cert.specs.Checks.{IsWantOfMemory, Names}
+use Rattle.tt_cert.specs.Checks.{IsOutOfMemory, Names}
 use Rattle.tt_cert.specs.Contents.{Contents, family_of}
 use Rattle.tt_cert.specs.Spots.{spot_of}
 use Rattle.tt_cert.specs.declared.fault.ProgramFault.{ProgramFault}
@@ -44,7 +44,7 @@ has_fault form x family is offset cut at instructions p = no_fault x.bytes is in
 -- the family isn't good for the program
 pub broken_listing : (form : Form) (x : Subject) (s : Setting) (family : Contents) (f : ProgramFault) → IsLookedAt x s
     → Names (IsListingBrokenFirst form (setting_of s) s.start.now family) f
-    → (IsGoodListing form (setting_of s) s.start.now family → IsWantOfMemory f) → IsRefusedBy form x family f
+    → (IsGoodListing form (setting_of s) s.start.now family → IsOutOfMemory f) → IsRefusedBy form x family f
 broken_listing form x s family (fault.OutOfMemory e) looked names exact = tt
 broken_listing form x s family (fault.Refused spot offset r) looked (at, es, eo, first) exact =
     let is = s.main.now in
@@ -63,7 +63,7 @@ broken_listing form x s family (fault.Refused spot offset r) looked (at, es, eo,
 -- the same of what a check returns
 pub broken_result : {T : Type 0} (form : Form) (x : Subject) (s : Setting) (family : Contents) (r : Result T ProgramFault) → IsLookedAt x s
     → IfErr r (Names (IsListingBrokenFirst form (setting_of s) s.start.now family))
-    → (IsGoodListing form (setting_of s) s.start.now family → IfErr r IsWantOfMemory) → IfErr r (IsRefusedBy form x family)
+    → (IsGoodListing form (setting_of s) s.start.now family → IfErr r IsOutOfMemory) → IfErr r (IsRefusedBy form x family)
 broken_result form x s family (Ok y) looked names exact = tt
 broken_result form x s family (Err f) looked names exact = broken_listing form x s family f looked names exact
 

@@ -15,8 +15,8 @@ use Rattle.tt_font.specs.Reading.{GlyphData}
 use Rattle.hintcheck.specs.CertificateFaults.{CountsCheck, Decodes, IsNoFontFault, fault_of_decoding}
 use Rattle.hintcheck.specs.Certificates.{Finding, HasNoSection, IsSectionOf, not_read, of_another, refused_before}
 use Rattle.hintcheck.specs.CheckedFonts.{Finds, IsTold, all_refused}
-use Rattle.hintcheck.specs.declared.certified.CheckFontFault.{CheckFontFault}
-use Rattle.hintcheck.specs.declared.certified.CheckFontFault.TheVariants as check
+use Rattle.hintcheck.specs.declared.font_check.CheckFontFault.{CheckFontFault}
+use Rattle.hintcheck.specs.declared.font_check.CheckFontFault.TheVariants as check
 use Rattle.hintcheck.specs.declared.report.Refused.{Refused}
 
 -- sections

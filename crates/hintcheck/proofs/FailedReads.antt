@@ -28,8 +28,8 @@ use Rattle.hintcheck.specs.CheckedFonts.{IsTold}
 use Rattle.hintcheck.specs.FailedReads.{EndsInCall, EndsInSection, HasRead, IsCutHeader, after_all, in_header, in_section, in_sections}
 use Rattle.hintcheck.specs.SessionStages.{TellsRefusal, read_of}
 use Rattle.hintcheck.specs.Sessions.{AnswersNext, IsFaultAt, IsLast, IsOutcomeBySection, ReadsOn, Stage, Standing, after_font, at_glyph, at_header, cvt_fails, cvt_passes, font_fails, font_passes, glyph_fails, glyph_passes, standing_at, where_it_was}
-use Rattle.hintcheck.specs.declared.certified.CheckFontFault.{CheckFontFault}
-use Rattle.hintcheck.specs.declared.certified.CheckFontFault.TheVariants as check
+use Rattle.hintcheck.specs.declared.font_check.CheckFontFault.{CheckFontFault}
+use Rattle.hintcheck.specs.declared.font_check.CheckFontFault.TheVariants as check
 use Rattle.hintcheck.specs.declared.sections.Progress.{Progress}
 use Rattle.hintcheck.specs.declared.session.Outcome.{Outcome}
 

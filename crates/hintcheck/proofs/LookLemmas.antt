@@ -23,7 +23,7 @@ use Rattle.tt_abs.specs.StateFlow.{AreProgramsShort, FitsLimits, FunctionsFit, P
 use Rattle.tt_abs.specs.States.{state_laws, state_order}
 use Rattle.tt_abs.proofs.FlowOfStates.{state_flow_laws}
 use Rattle.tt_abs.proofs.Soundness.{good_is_safe}
-use Rattle.tt_cert.specs.Checks.{IsWantOfMemory}
+use Rattle.tt_cert.specs.Checks.{IsOutOfMemory}
 use Rattle.tt_cert.specs.Contents.{Contents, HasContext, family_of, frames_at}
 use Rattle.tt_cert.specs.Puts.{number_at}
 use Rattle.tt_cert.specs.Rising.{IsFinished}
@@ -210,7 +210,7 @@ passed_on (Err x) f P is h = subst P (sym is) h
 -- what the finder tells, in a subject's words
 
 abbrev pub IsUnfound : Setting → List (ℕ × ℕ) → ProgramFault → Type 0
-IsUnfound s fs f = IsWantOfMemory f ⊎ (IsNeverEnding f ⊎ NoneIsGood s fs)
+IsUnfound s fs f = IsOutOfMemory f ⊎ (IsNeverEnding f ⊎ NoneIsGood s fs)
 
 no_family_at : (s : Setting) (fs : List (ℕ × ℕ)) (spot : Spot) (offset : ℕ) (r : Reason) → IsUnfound s fs (fault.Refused spot offset r) → IsNoFamily s fs r
 no_family_at s fs spot offset r (inl h) = absurd h

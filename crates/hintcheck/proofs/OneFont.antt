@@ -11,8 +11,8 @@ use Rattle.tt_cert_file.specs.Readers.{Input}
 use Rattle.hintcheck.specs.Certificates.{AreSectionsChecked, Finding, IsChecked, after_header, no_font_section, font_refused, no_cvt_section, cvt_refused, both_passed, no_header, other_number, sections_checked}
 use Rattle.hintcheck.specs.CheckedFonts.{AnswersFinding, Finds}
 use Rattle.hintcheck.specs.Verdicts.{Judgement}
-use Rattle.hintcheck.specs.declared.certified.CheckFontFault.{CheckFontFault}
-use Rattle.hintcheck.specs.declared.certified.CheckFontFault.TheVariants as check
+use Rattle.hintcheck.specs.declared.font_check.CheckFontFault.{CheckFontFault}
+use Rattle.hintcheck.specs.declared.font_check.CheckFontFault.TheVariants as check
 use Rattle.hintcheck.proofs.OneFinding.{one_finding}
 
 -- sums over lists with the same members, each once

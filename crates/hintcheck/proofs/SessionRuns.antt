@@ -22,8 +22,8 @@ use Rattle.hintcheck.specs.Programs.{HasGoodFamily}
 use Rattle.hintcheck.specs.SessionStages.{ListsOutcome}
 use Rattle.hintcheck.specs.Sessions.{AnswersNext, IsFaultAt, IsLast, IsNextFault, IsNothingLeft, IsOutcomeBySection, IsSoundAnswer, IsSoundOutcome, ReadsOn, Stage, Standing, after_font, all_read, already_over, another_number, at_glyph, at_header, at_section, at_start, cvt_ends, cvt_fails, cvt_passes, font_ends, font_fails, font_passes, glyph_fails, glyph_goes_on, glyph_passes, good_cvt, good_font, good_glyph, in_header, last_glyph, more_follows, new_standing, no_cvt, no_font, no_glyph, no_header_read, none_is_left, over, where_it_was}
 use Rattle.hintcheck.specs.Certificates.{no_header, other_number}
-use Rattle.hintcheck.specs.declared.certified.CheckFontFault.{CheckFontFault}
-use Rattle.hintcheck.specs.declared.certified.CheckFontFault.TheVariants as fault
+use Rattle.hintcheck.specs.declared.font_check.CheckFontFault.{CheckFontFault}
+use Rattle.hintcheck.specs.declared.font_check.CheckFontFault.TheVariants as fault
 use Rattle.hintcheck.specs.declared.report.Refused.{Refused}
 use Rattle.hintcheck.specs.declared.session.Outcome.{Outcome}
 use Rattle.hintcheck.proofs.CheckedSections.{all_dropped, dropped, one_more}

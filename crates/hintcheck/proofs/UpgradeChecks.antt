@@ -26,8 +26,8 @@ use Rattle.hintcheck.specs.Certificates.{AreChecked, AreSectionsChecked, Finding
 use Rattle.hintcheck.specs.FontPrograms.{cvt_subject, font_of, font_subject, glyph_subject}
 use Rattle.hintcheck.specs.Programs.{Subject}
 use Rattle.hintcheck.specs.UpgradeFaults.{ComesTo}
-use Rattle.hintcheck.specs.declared.upgrading.UpgradeFault.{UpgradeFault}
-use Rattle.hintcheck.specs.declared.upgrading.UpgradeFault.TheVariants as upgrade
+use Rattle.hintcheck.specs.declared.certificate_upgrade.UpgradeFault.{UpgradeFault}
+use Rattle.hintcheck.specs.declared.certificate_upgrade.UpgradeFault.TheVariants as upgrade
 use Rattle.hintcheck.specs.Upgrades.{AreRead, BeginWith, IsNext, IsUpgradeOf, UpgradesTo, followed, header_in, name_at, no_font, no_header, no_section, none, one_more, section_texts, upgraded}
 use Rattle.hintcheck.proofs.OneFinding.{fails_not, no_answer, none as nothing, one_answer, one_refuses, some_refused}
 

@@ -18,8 +18,8 @@ use Rattle.hintcheck.specs.CheckedFonts.{IsTold}
 use Rattle.hintcheck.specs.FailedReads.{HasReadOld, IsUnbrokenOld}
 use Rattle.hintcheck.specs.UpgradeFaults.{fault_of_new, fault_of_old}
 use Rattle.hintcheck.specs.Upgrades.{AreRead, AreUpgraded, IsNumberOfPrograms, LackSection, name_at, no_header, none, one_more}
-use Rattle.hintcheck.specs.declared.upgrading.UpgradeFault.{UpgradeFault}
-use Rattle.hintcheck.specs.declared.upgrading.UpgradeFault.TheVariants as upgrade
+use Rattle.hintcheck.specs.declared.certificate_upgrade.UpgradeFault.{UpgradeFault}
+use Rattle.hintcheck.specs.declared.certificate_upgrade.UpgradeFault.TheVariants as upgrade
 use Rattle.hintcheck.proofs.FailedReads.{header_is_ten, header_steady, known_front, section_steady}
 use Rattle.hintcheck.proofs.UpgradeSteps.{all_upgraded, section_lacks}
 

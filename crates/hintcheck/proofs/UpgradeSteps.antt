@@ -22,8 +22,8 @@ use Rattle.hintcheck.specs.CertificateTexts.{WritesBeginning, WritesText}
 use Rattle.hintcheck.specs.CheckedFonts.{IsTold, bytes_in}
 use Rattle.hintcheck.specs.UpgradeFaults.{ComesTo, CountsReads, CountsWrites, fault_of_old}
 use Rattle.hintcheck.specs.Upgrades.{AreBegun, AreCertificate, AreRead, AreUpgraded, BeginWith, IsNumberOfPrograms, IsUpgradeBegunOf, IsUpgradeOf, LackSection, UpgradesTo, begun, followed, name_at, no_font, no_header, no_section, none, nothing, one_more, section_texts, upgraded}
-use Rattle.hintcheck.specs.declared.upgrading.UpgradeFault.{UpgradeFault}
-use Rattle.hintcheck.specs.declared.upgrading.UpgradeFault.TheVariants as upgrade
+use Rattle.hintcheck.specs.declared.certificate_upgrade.UpgradeFault.{UpgradeFault}
+use Rattle.hintcheck.specs.declared.certificate_upgrade.UpgradeFault.TheVariants as upgrade
 use Rattle.hintcheck.proofs.TextBeginnings.{begins_nothing, begins_on}
 
 -- the end of the bytes

@@ -6,10 +6,10 @@ use Rattle.tt_cert_file.specs.declared.fault.EncodeFault.{EncodeFault}
 use Rattle.tt_cert_file.specs.declared.fault.EncodeFault.TheVariants as encode
 use Rattle.tt_cert_file.specs.declared.fault.DecodeFault.{DecodeFault}
 use Rattle.tt_cert_file.specs.declared.fault.DecodeFault.TheVariants as decode
-use Rattle.hintcheck.specs.declared.certified.CheckFontFault.{CheckFontFault}
-use Rattle.hintcheck.specs.declared.certified.CheckFontFault.TheVariants as fault
-use Rattle.hintcheck.specs.declared.certifying.FindFontFault.{FindFontFault}
-use Rattle.hintcheck.specs.declared.certifying.FindFontFault.TheVariants as find
+use Rattle.hintcheck.specs.declared.font_check.CheckFontFault.{CheckFontFault}
+use Rattle.hintcheck.specs.declared.font_check.CheckFontFault.TheVariants as fault
+use Rattle.hintcheck.specs.declared.certificate.FindFontFault.{FindFontFault}
+use Rattle.hintcheck.specs.declared.certificate.FindFontFault.TheVariants as find
 use Rattle.hintcheck.specs.Verdicts.{Judgement}
 
 -- What holds of what is read, or of the place that a fault of form names; a failed read and out of memory are unspecified.

@@ -8,7 +8,7 @@ use Rattle.tt_code.specs.declared.reason.Reason.{Reason}
 use Rattle.tt_code.specs.declared.reason.Reason.TheVariants as reason
 use Rattle.tt_abs.specs.declared.state.State.{State}
 use Rattle.tt_abs.specs.StateFlow.{Place}
-use Rattle.tt_cert.specs.Checks.{IsBrokenFirst, IsFillingBrokenFirst, told_offset}
+use Rattle.tt_cert.specs.Checks.{IsBrokenFirst, IsFillingBrokenFirst, saturated_offset}
 use Rattle.tt_cert.specs.Contents.{Contents, family_of}
 use Rattle.tt_cert.specs.Fillings.{HasGoodFilling}
 use Rattle.tt_cert.specs.GoodFamilies.{IsGoodFamily}
@@ -59,7 +59,7 @@ pub data IsBreak (form : Form) (x : Subject) (family : Contents) : Place → ℕ
   no_structure : (instructions : List Instruction) (offset : ℕ) → IsCut x.bytes instructions → IsFault instructions offset
       → IsBreak form x family ([], offset) offset reason.Structure
   not_good : (instructions : List Instruction) (p : Place) (r : Reason) → IsCutInto x instructions
-      → IsListingBrokenFirst form (x.setting instructions) x.functions family p r → IsBreak form x family p (told_offset p.1) r
+      → IsListingBrokenFirst form (x.setting instructions) x.functions family p r → IsBreak form x family p (saturated_offset p.1) r
 
 -- The program is refused: the first break is named with its place, and it doesn't pass.
 pub record IsCheckRefusal (form : Form) (x : Subject) (family : Contents) (r : Refused) : Type 0 where

@@ -11,8 +11,8 @@ use Rattle.hintcheck.specs.Programs.{HasGoodFamily, IsCutInto, Subject}
 use Rattle.hintcheck.specs.Certificates.{Finding, IsCheckRefusal, IsChecked}
 use Rattle.hintcheck.specs.Looks.{IfRefused}
 use Rattle.hintcheck.specs.Verdicts.{Judgement}
-use Rattle.hintcheck.specs.declared.certified.CheckFontFault.{CheckFontFault}
-use Rattle.hintcheck.specs.declared.certified.CheckFontFault.TheVariants as fault
+use Rattle.hintcheck.specs.declared.font_check.CheckFontFault.{CheckFontFault}
+use Rattle.hintcheck.specs.declared.font_check.CheckFontFault.TheVariants as fault
 use Rattle.hintcheck.specs.declared.report.Refused.{Refused}
 use Rattle.tt_cert.specs.Contents.{Contents}
 use Rattle.tt_cert.specs.declared.fault.ProgramFault.{ProgramFault}

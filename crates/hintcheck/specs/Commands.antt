@@ -3,12 +3,12 @@ use Rattle.std.specs.Prelude.{◌≡◌, ◌+◌, ℕ, List, Option, IfSome, Res
 use Rattle.std.specs.Io.KnownBytes.{Consumes, IsAtEnd}
 use Rattle.hintcheck.specs.declared.commands.faults.CommandFault.{CommandFault}
 use Rattle.hintcheck.specs.declared.commands.faults.CommandFault.TheVariants as fault
-use Rattle.hintcheck.specs.declared.certified.CheckFontFault.{CheckFontFault}
-use Rattle.hintcheck.specs.declared.certified.CheckFontFault.TheVariants as check
-use Rattle.hintcheck.specs.declared.certifying.FindFontFault.{FindFontFault}
-use Rattle.hintcheck.specs.declared.certifying.FindFontFault.TheVariants as find
-use Rattle.hintcheck.specs.declared.upgrading.UpgradeFault.{UpgradeFault}
-use Rattle.hintcheck.specs.declared.upgrading.UpgradeFault.TheVariants as upgrading
+use Rattle.hintcheck.specs.declared.font_check.CheckFontFault.{CheckFontFault}
+use Rattle.hintcheck.specs.declared.font_check.CheckFontFault.TheVariants as check
+use Rattle.hintcheck.specs.declared.certificate.FindFontFault.{FindFontFault}
+use Rattle.hintcheck.specs.declared.certificate.FindFontFault.TheVariants as find
+use Rattle.hintcheck.specs.declared.certificate_upgrade.UpgradeFault.{UpgradeFault}
+use Rattle.hintcheck.specs.declared.certificate_upgrade.UpgradeFault.TheVariants as upgrading
 use Rattle.tt_stream.specs.declared.text.PrintFailed.{PrintFailed}
 use Rattle.tt_stream.specs.declared.text.PrintFailed.TheVariants as failed
 use Rattle.tt_stream.specs.declared.reads.ReadFault.{ReadFault}

@@ -10,10 +10,10 @@ use Rattle.hintcheck.specs.Certificates.{Finding, IsChecked}
 use Rattle.hintcheck.specs.CheckedFonts.{IsTold}
 use Rattle.hintcheck.specs.Sessions.{IsFaultAt, IsLast, ReadsOn, Stage, Standing}
 use Rattle.hintcheck.specs.Upgrades.{UpgradesTo}
-use Rattle.hintcheck.specs.declared.certified.CheckFontFault.{CheckFontFault}
-use Rattle.hintcheck.specs.declared.certified.CheckFontFault.TheVariants as fault
-use Rattle.hintcheck.specs.declared.upgrading.UpgradeFault.{UpgradeFault}
-use Rattle.hintcheck.specs.declared.upgrading.UpgradeFault.TheVariants as upgrade
+use Rattle.hintcheck.specs.declared.font_check.CheckFontFault.{CheckFontFault}
+use Rattle.hintcheck.specs.declared.font_check.CheckFontFault.TheVariants as fault
+use Rattle.hintcheck.specs.declared.certificate_upgrade.UpgradeFault.{UpgradeFault}
+use Rattle.hintcheck.specs.declared.certificate_upgrade.UpgradeFault.TheVariants as upgrade
 
 -- what holds of the bytes that were read, of a source that tells its bytes
 abbrev pub OfRead : Option (List ℕ) → Option (List ℕ) → (List ℕ → Type 0) → Type 0

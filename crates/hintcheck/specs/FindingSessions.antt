@@ -14,10 +14,10 @@ use Rattle.hintcheck.specs.CertificateTexts.{IsLeastListing, WritesBeginning}
 use Rattle.hintcheck.specs.FontPrograms.{cvt_subject, font_of, font_subject, glyph_subject}
 use Rattle.hintcheck.specs.Programs.{IsRefusal, Subject}
 use Rattle.hintcheck.specs.Sessions.{IsLast, Stage, Standing, accepted_as, after_font, at_glyph, at_start, over, refused_as}
-use Rattle.hintcheck.specs.declared.certified.CheckFontFault.{CheckFontFault}
-use Rattle.hintcheck.specs.declared.certified.CheckFontFault.TheVariants as fault
-use Rattle.hintcheck.specs.declared.certifying.FindFontFault.{FindFontFault}
-use Rattle.hintcheck.specs.declared.certifying.FindFontFault.TheVariants as find
+use Rattle.hintcheck.specs.declared.font_check.CheckFontFault.{CheckFontFault}
+use Rattle.hintcheck.specs.declared.font_check.CheckFontFault.TheVariants as fault
+use Rattle.hintcheck.specs.declared.certificate.FindFontFault.{FindFontFault}
+use Rattle.hintcheck.specs.declared.certificate.FindFontFault.TheVariants as find
 use Rattle.hintcheck.specs.declared.report.Refused.{Refused}
 use Rattle.hintcheck.specs.declared.session.Outcome.{Outcome}
 

@@ -11,7 +11,7 @@ use Rattle.tt_font.specs.Reading.{FontData, GlyphData}
 use Rattle.hintcheck.specs.FontPrograms.{AreRefused, IsVerdict, glyph_subject, judgement_on}
 use Rattle.hintcheck.specs.Looks.{IsLookedAt}
 use Rattle.hintcheck.specs.Programs.{EndsWith, Subject}
-use Rattle.hintcheck.specs.declared.fonts.Common.{Common}
+use Rattle.hintcheck.specs.declared.font.Common.{Common}
 use Rattle.hintcheck.specs.declared.report.Refused.{Refused}
 
 -- a program is looked at in this setting

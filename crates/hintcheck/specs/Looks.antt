@@ -15,8 +15,8 @@ use Rattle.tt_cert.specs.declared.spot.Spot.{Spot}
 use Rattle.tt_find.specs.Found.{IsLeast}
 use Rattle.hintcheck.specs.Programs.{IsCutInto, Subject, program_at}
 use Rattle.tt_cert_file.specs.declared.name.Name.{Name}
-use Rattle.hintcheck.specs.declared.look.Search.{Search}
-use Rattle.hintcheck.specs.declared.look.Search.TheVariants as search
+use Rattle.hintcheck.specs.declared.program.Search.{Search}
+use Rattle.hintcheck.specs.declared.program.Search.TheVariants as search
 use Rattle.hintcheck.specs.declared.report.Refused.{Refused as AnyRefused}
 
 -- this is the program that is looked at in this setting

@@ -17,8 +17,8 @@ use Rattle.hintcheck.specs.FontLooks.{IsKnownAtEnd}
 use Rattle.hintcheck.specs.FontPrograms.{cvt_subject, font_of, font_subject, glyph_subject}
 use Rattle.hintcheck.specs.Looks.{told_at}
 use Rattle.hintcheck.specs.Sessions.{Stage, after_font, at_glyph, at_start, over, refused_as}
-use Rattle.hintcheck.specs.declared.certified.CheckFontFault.{CheckFontFault}
-use Rattle.hintcheck.specs.declared.certified.CheckFontFault.TheVariants as fault
+use Rattle.hintcheck.specs.declared.font_check.CheckFontFault.{CheckFontFault}
+use Rattle.hintcheck.specs.declared.font_check.CheckFontFault.TheVariants as fault
 use Rattle.hintcheck.specs.declared.sections.Progress.{Progress}
 use Rattle.hintcheck.specs.declared.report.Refused.{Refused}
 use Rattle.hintcheck.specs.declared.session.Met.{Met}

@@ -4,8 +4,8 @@ use Rattle.tt_cert_file.specs.declared.fault.DecodeFault.{DecodeFault}
 use Rattle.tt_cert_file.specs.declared.fault.DecodeFault.TheVariants as decode
 use Rattle.tt_cert_file.specs.declared.fault.EncodeFault.{EncodeFault}
 use Rattle.tt_cert_file.specs.declared.fault.EncodeFault.TheVariants as encode
-use Rattle.hintcheck.specs.declared.upgrading.UpgradeFault.{UpgradeFault}
-use Rattle.hintcheck.specs.declared.upgrading.UpgradeFault.TheVariants as upgrade
+use Rattle.hintcheck.specs.declared.certificate_upgrade.UpgradeFault.{UpgradeFault}
+use Rattle.hintcheck.specs.declared.certificate_upgrade.UpgradeFault.TheVariants as upgrade
 
 -- the fault of an old certificate that can't be read
 abbrev pub fault_of_old : DecodeFault → UpgradeFault

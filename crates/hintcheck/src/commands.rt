@@ -19,14 +19,14 @@ ghost use Rattle.hintcheck.specs.Upgrades.{IsNumberOfPrograms, IsUpgradeOf, Upgr
 
 pub mod faults;
 
-use crate::certified::check_read_font;
-use crate::certifying::find_programs;
-use crate::fonts;
-use crate::fonts::read_font;
-use crate::judge::bare;
-use crate::listing::list_program;
+use crate::font_check::check_read_font;
+use crate::certificate::find_programs;
+use crate::font;
+use crate::font::read_font;
+use crate::bare_program::bare;
+use crate::instruction_list::list_program;
 use crate::report::{Name, Verdict};
-use crate::upgrading::upgrade;
+use crate::certificate_upgrade::upgrade;
 use faults::CommandFault;
 use hintcheck_words::{Task, TaskFault, read_words, word_bytes};
 use std::alloc::{AllocError, Global};
@@ -113,7 +113,7 @@ pub fn verdict_of<S: Source>(alloc: Global, source: &mut S) -> Result<Verdict, C
     ensures none { OnOk result (ReadNoFault (S.remaining source.old) (S.remaining source.new)) }
 {
     let bytes = read_all(alloc, source)?;
-    Ok(fonts::verdict(alloc, &bytes)?)
+    Ok(font::verdict(alloc, &bytes)?)
 }
 
 /// Returns the verdict on all programs of a font, whose bytes are those that are left in the file.

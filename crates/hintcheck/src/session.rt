@@ -12,19 +12,19 @@ ghost use Rattle.hintcheck.specs.FontPrograms.{IsFontInRange};
 ghost use Rattle.hintcheck.specs.Looks.{IsForCertificate};
 ghost use Rattle.hintcheck.specs.Sessions.{AnswersAt, AnswersNext, IsFaultAt, IsForChecking, IsNextFault, IsSoundAnswer, ReadsOn, Stage, accepted_as, after_font, at_glyph, at_start, new_standing, over, standing_at};
 ghost use Rattle.hintcheck.specs.SessionStages.{KeepsFound, KeepsGood, TellsRefusal, fault_of, read_of, stage_of};
-ghost use Rattle.hintcheck.specs.declared.certified.CheckFontFault.{CheckFontFault as AnyFault};
+ghost use Rattle.hintcheck.specs.declared.font_check.CheckFontFault.{CheckFontFault as AnyFault};
 
-mod finding;
+mod find;
 
-use crate::certified::{
+use crate::font_check::{
     CheckFontFault, check_cvt_program, check_font_program, check_glyph_program, read_start,
 };
-use crate::certifying::FindFontFault;
-use crate::fonts::{Common, Ended, cvt_setting};
-use crate::look::{Search, told};
+use crate::certificate::FindFontFault;
+use crate::font::{Common, Ended, cvt_setting};
+use crate::program::{Search, told};
 use crate::report::{Name, Refused};
 use crate::sections::{Progress, next_section};
-use crate::session::finding::find_from;
+use crate::session::find::find_from;
 use std::alloc::{AllocError, Global};
 use std::marker::Model;
 use std::mem;

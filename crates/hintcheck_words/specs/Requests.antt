@@ -93,9 +93,9 @@ asked (task.List font program) = list (string_bytes font) (string_bytes program)
 asked (task.Upgrade old new) = upgrade (string_bytes old) (string_bytes new)
 
 -- memory ran out
-unfoldable pub IsWantOfMemory : TaskFault → Type 0
-IsWantOfMemory (fault.Words error) = ⊥
-IsWantOfMemory (fault.OutOfMemory error) = Unit {0}
+unfoldable pub IsOutOfMemory : TaskFault → Type 0
+IsOutOfMemory (fault.Words error) = ⊥
+IsOutOfMemory (fault.OutOfMemory error) = Unit {0}
 
 -- Of the kinds of faults that clap may report: a task comes only where there is none, words that mean none are reported by one of them, and
 -- out of memory is unspecified.

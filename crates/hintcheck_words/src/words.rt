@@ -3,7 +3,7 @@
 ghost use Rattle.std.specs.Prelude.{◌≡◌, IfErr, IfOk, IfSome, Some, true, false, map, option_map, string_bytes};
 ghost use Rattle.clap.specs.Words.{app_of, found_of, rows_of, rule_of, subcommand_rows_of};
 ghost use Rattle.hintcheck_words.specs.CommandLine.{bare, hintcheck, needed as needed_rule, needed_number as number_rule, of_texts};
-ghost use Rattle.hintcheck_words.specs.Requests.{HasNumber, HasNumbers, IsWantOfMemory, IsReadable, MeetsSubcommand, TellsFault, asked, bare_request, faults_in, is_taken, meaning, met, number_in, optional_in, request_of, text_in};
+ghost use Rattle.hintcheck_words.specs.Requests.{HasNumber, HasNumbers, IsOutOfMemory, IsReadable, MeetsSubcommand, TellsFault, asked, bare_request, faults_in, is_taken, meaning, met, number_in, optional_in, request_of, text_in};
 
 use clap::error::ErrorKind;
 use clap::{Arg, ArgMatches, Command, value_parser};
@@ -236,7 +236,7 @@ fn task_of(alloc: Global, name: &str, values: &ArgMatches<'_>) -> Result<Task, A
 fn matches_of<'a>(alloc: Global, words: &'a [&'a str]) -> Result<ArgMatches<'a>, TaskFault>
     ensures met { IfOk result (λ m. subcommand_rows_of m ≡ met (map (λ w. w.now) words.entry.now)) }
     ensures meets { IfOk result (λ m. MeetsSubcommand (subcommand_rows_of m)) }
-    ensures refused { IfErr result (λ e. is_taken (map (λ w. w.now) words.entry.now) ≡ true → IsWantOfMemory e) }
+    ensures refused { IfErr result (λ e. is_taken (map (λ w. w.now) words.entry.now) ≡ true → IsOutOfMemory e) }
     ensures faults { TellsFault (faults_in (map (λ w. w.now) words.entry.now)) result }
 {
     let command = command_line(alloc)?;
@@ -254,7 +254,7 @@ pub fn read_words<'a>(alloc: Global, words: &'a [&'a str]) -> Result<Task, TaskF
     // The task is the request that the words mean.
     ensures asked { IfOk result (λ t. meaning (map (λ w. w.now) words.entry.now) ≡ Some (asked t)) }
     // Words that the command line takes are refused only when memory runs out.
-    ensures refused { IfErr result (λ e. is_taken (map (λ w. w.now) words.entry.now) ≡ true → IsWantOfMemory e) }
+    ensures refused { IfErr result (λ e. is_taken (map (λ w. w.now) words.entry.now) ≡ true → IsOutOfMemory e) }
     // A task comes only where clap finds no fault in the words; otherwise the fault is one that clap finds, or out of memory.
     ensures faults { TellsFault (faults_in (map (λ w. w.now) words.entry.now)) result }
 {

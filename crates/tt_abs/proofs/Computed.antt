@@ -18,7 +18,7 @@ use Rattle.tt_abs.proofs.Choosing.{some_stack, some_graphics}
 use Rattle.tt_abs.proofs.Bests.{best_along, best_cons}
 use Rattle.tt_abs.proofs.Machines.{May, machine_with, machine_stands, some_area, area_covered, registers_best, transfers_same}
 use Rattle.tt_abs.proofs.Stacks.{with_cells, one_element, two_elements, alone, faults_with, dropped_best}
-use Rattle.tt_abs.proofs.Arithmetic.{Chosen, IsBestOfOne, IsBestOfTwo, CoversTwo, add_best, sub_best, abs_best, neg_best, not_best, eq_best, neq_best, lt_best, gt_best, le_best, ge_best, and_best, or_best}
+use Rattle.tt_abs.proofs.ArithmeticLemmas.{Chosen, IsBestOfOne, IsBestOfTwo, CoversTwo, add_best, sub_best, abs_best, neg_best, not_best, eq_best, neq_best, lt_best, gt_best, le_best, ge_best, and_best, or_best}
 
 covers_one : (c : Cell) (cs : List Cell) (ns : List ℤ) → CoversStack (c ∷ cs) ns → Covers c (taken_at (pos 1) ns 0)
 covers_one c cs [] h = absurd h

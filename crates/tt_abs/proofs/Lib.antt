@@ -11,12 +11,12 @@ pub mod Bests
 pub mod Machines
 pub mod Takes
 pub mod Rows
-pub mod Plain
+pub mod PlainLemmas
 pub mod TableRows
 pub mod Ways
 pub mod Depth
 pub mod Branches
-pub mod Arithmetic
+pub mod ArithmeticLemmas
 pub mod Stacks
 pub mod Shuffles
 pub mod Computed

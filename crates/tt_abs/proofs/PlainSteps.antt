@@ -25,7 +25,7 @@ use Rattle.tt_abs.specs.Taken.{TakesTo}
 use Rattle.tt_abs.specs.Transfers.{tested_cell, take_cell, take_cells, test_cell_uses, plain_cells, leaves_cells, cells_pushed, cells_on, cells}
 use Rattle.tt_abs.proofs.Rows.{is_single as is_one}
 use Rattle.tt_abs.proofs.Takes.{StandsFor, operands_stand}
-use Rattle.tt_abs.proofs.Plain.{then_take_parts, operand_single, at_first, at_later}
+use Rattle.tt_abs.proofs.PlainLemmas.{then_take_parts, operand_single, at_first, at_later}
 
 -- what is taken, and what is left, are the stack again
 taken_joined : (s : Setting) (a : Cells) (os : List Operand) (stack : List Cell) (t : Taking Cell) → take_cells s a os stack ≡ Ok t → t.0 ++ t.1 ≡ stack

@@ -23,7 +23,7 @@ use Rattle.tt_abs.specs.Covers.{Stands, Becomes, TransfersTo}
 use Rattle.tt_abs.specs.Followed.{is_followed, is_followed_instruction}
 use Rattle.tt_abs.specs.Transfers.{Next, plain_cells, pushed_cells, shuffled_cells, computed_cells, does_cells, performs_cells, instruction_of, outcome_on_cells}
 use Rattle.tt_abs.proofs.Rows.{is_readable_line}
-use Rattle.tt_abs.proofs.Plain.{plain_stands}
+use Rattle.tt_abs.proofs.PlainLemmas.{plain_stands}
 use Rattle.tt_abs.proofs.TableRows.{rows_readable}
 use Rattle.tt_abs.proofs.Pushes.{pushes_stand}
 use Rattle.tt_abs.proofs.Shuffles.{shuffled_stands}

@@ -8,7 +8,7 @@ ghost use Rattle.tt_abs.specs.Transfers.{computed_cells, of_one_cell, of_two_cel
 
 use crate::cells::Cell;
 use crate::refusal::Refusal;
-use crate::results;
+use crate::arithmetic;
 use crate::shuffle::cell_under;
 use crate::stack::Stack;
 use tt_code::kinds::Arithmetic;
@@ -30,9 +30,9 @@ fn result_of_one(operation: Arithmetic, cell: Cell) -> Cell
     ensures { result ≡ one_result operation cell }
 {
     match operation {
-        Arithmetic::Abs => results::absolute_value(cell),
-        Arithmetic::Neg => results::negative(cell),
-        _ => results::opposite(cell),
+        Arithmetic::Abs => arithmetic::absolute_value(cell),
+        Arithmetic::Neg => arithmetic::negative(cell),
+        _ => arithmetic::opposite(cell),
     }
 }
 
@@ -41,16 +41,16 @@ fn result_of_two(operation: Arithmetic, second: Cell, top: Cell) -> Cell
     ensures { result ≡ two_results operation second top }
 {
     match operation {
-        Arithmetic::Add => results::sum(second, top),
-        Arithmetic::Sub => results::difference(second, top),
-        Arithmetic::Lt => results::less(second, top),
-        Arithmetic::LtEq => results::at_most(second, top),
-        Arithmetic::Gt => results::less(top, second),
-        Arithmetic::GtEq => results::at_most(top, second),
-        Arithmetic::Eq => results::same(second, top),
-        Arithmetic::Neq => results::different(second, top),
-        Arithmetic::And => results::both(second, top),
-        _ => results::either(second, top),
+        Arithmetic::Add => arithmetic::sum(second, top),
+        Arithmetic::Sub => arithmetic::difference(second, top),
+        Arithmetic::Lt => arithmetic::less(second, top),
+        Arithmetic::LtEq => arithmetic::at_most(second, top),
+        Arithmetic::Gt => arithmetic::less(top, second),
+        Arithmetic::GtEq => arithmetic::at_most(top, second),
+        Arithmetic::Eq => arithmetic::same(second, top),
+        Arithmetic::Neq => arithmetic::different(second, top),
+        Arithmetic::And => arithmetic::both(second, top),
+        _ => arithmetic::either(second, top),
     }
 }
 

@@ -14,7 +14,7 @@ use crate::cells::Cell;
 use crate::moves::{Move, Moves};
 use crate::operands::number;
 use crate::refusal::Refusal;
-use crate::results::is_true;
+use crate::arithmetic::is_true;
 use crate::setting::{Point, Setting, is_index};
 use crate::shuffle::cell_under;
 use crate::state::State;
@@ -298,7 +298,7 @@ fn end_function(setting: &Setting<'_>, point: &Point<'_>, state: &State) -> Resu
 }
 
 /// Carries out a control instruction.
-pub fn lead(
+pub fn execute_control(
     setting: &Setting<'_>,
     point: &Point<'_>,
     state: &mut State,

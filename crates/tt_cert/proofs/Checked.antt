@@ -21,10 +21,10 @@ use Rattle.tt_abs.specs.StateFlow.{Place, GivesState}
 use Rattle.tt_abs.specs.States.{abstract_of, state_order}
 use Rattle.tt_abs.specs.Transfers.{Next, outcome_on_cells}
 use Rattle.tt_abs.proofs.StateParts.{one_state}
-use Rattle.tt_cert.specs.Checks.{AreCovered, AreMet, BreaksAt, IsFirstGap, IsGap, IsMet, IsSoundAt, Names, NamesAt, place_of_next, told_offset, stores, refused, leaves}
+use Rattle.tt_cert.specs.Checks.{AreCovered, AreMet, BreaksAt, IsFirstGap, IsGap, IsMet, IsSoundAt, Names, NamesAt, place_of_next, saturated_offset, stores, refused, leaves}
 use Rattle.tt_cert.specs.GoodFamilies.{IsStoredWithin}
 use Rattle.tt_cert.specs.Spots.{spot_of}
-use Rattle.tt_cert.specs.Walks.{AreMetBy, IsAfter, IsLeftOut, IsMetBy, IsNextState, IsPassed, met_both}
+use Rattle.tt_cert.specs.Cursors.{AreMetBy, IsAfter, IsLeftOut, IsMetBy, IsNextState, IsPassed, met_both}
 use Rattle.tt_cert.specs.declared.fault.ProgramFault.{ProgramFault}
 use Rattle.tt_cert.specs.declared.fault.ProgramFault.TheVariants.{Refused, OutOfMemory}
 use Rattle.tt_cert.specs.declared.meeting.Met.{Met}
@@ -183,7 +183,7 @@ same_states fs ways b i n e =
     let (way, found, same) = map_found (next_by fs b) (ways_of ways) i n e in ap (λ (x : Next). x.state) same
 
 module _ (s : Setting) (family : Place → Option State) (L : Place → Type 0) (p : Place) (a : State) where
-  pub stores_here : (fault : ProgramFault) → fault ≡ Refused (spot_of p.0) (told_offset p.1) Storage → (IsStoredWithin s a → ⊥) → Names (BreaksAt s family L p a) fault
+  pub stores_here : (fault : ProgramFault) → fault ≡ Refused (spot_of p.0) (saturated_offset p.1) Storage → (IsStoredWithin s a → ⊥) → Names (BreaksAt s family L p a) fault
   stores_here fault e above = let N : ProgramFault → Type 0 = λ x. Names (BreaksAt s family L p a) x in subst N (sym e) (p, refl, refl, stores above)
 
   -- at the end only storage indexes are checked
@@ -287,7 +287,7 @@ module _ (s : Setting) (family : Place → Option State) (L : Place → Type 0) 
     )
     broken_here (OutOfMemory error) h = tt
 
-  pub refused_here : IsStoredWithin s a → is_main_end s p.0 p.1 ≡ false → (fault : ProgramFault) (r : Reason) → fault ≡ Refused (spot_of p.0) (told_offset p.1) r
+  pub refused_here : IsStoredWithin s a → is_main_end s p.0 p.1 ≡ false → (fault : ProgramFault) (r : Reason) → fault ≡ Refused (spot_of p.0) (saturated_offset p.1) r
       → outcome_on_cells s p.0 p.1 (abstract_of a) ≡ Err r → Names (BreaksAt s family L p a) fault
   refused_here stored running fault r e h =
       let N : ProgramFault → Type 0 = λ x. Names (BreaksAt s family L p a) x in

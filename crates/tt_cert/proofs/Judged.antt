@@ -16,8 +16,8 @@ use Rattle.tt_abs.proofs.Soundness.{good_is_safe}
 use Rattle.tt_cert.specs.Contents.{Contents, IsFamily, family_of, number_of}
 use Rattle.tt_cert.specs.Fillings.{HasGoodFilling, HasSafeFilling}
 use Rattle.tt_cert.specs.GoodFamilies.{EndsWell, HasFewContexts, IsGoodFamily, IsShortEnough}
-use Rattle.tt_cert.specs.Checks.{AreSound, IsBrokenBy, IsBrokenFirst, IsFilledBy, IsFillingBrokenFirst, IsFirstBreak, IsFirstBreakOnTheWay, IsGap, IsMet, IsSoundAt, IsWantOfMemory, Names, NamesAt, Nowhere, too_long, no_start, no_end, no_way}
-use Rattle.tt_cert.specs.Walks.{IsFoundSound, IsWalkedThrough, MayLeaveOut}
+use Rattle.tt_cert.specs.Checks.{AreSound, IsBrokenBy, IsBrokenFirst, IsFilledBy, IsFillingBrokenFirst, IsFirstBreak, IsFirstBreakOnTheWay, IsGap, IsMet, IsSoundAt, IsOutOfMemory, Names, NamesAt, Nowhere, too_long, no_start, no_end, no_way}
+use Rattle.tt_cert.specs.Cursors.{IsFoundSound, IsWalkedThrough, MayLeaveOut}
 use Rattle.tt_cert.specs.declared.fault.ProgramFault.{ProgramFault}
 use Rattle.tt_cert.specs.declared.fault.ProgramFault.TheVariants.{Refused, OutOfMemory}
 use Rattle.tt_cert.specs.declared.listing.Listing.TheVariants.{Whole, Sparse}
@@ -50,7 +50,7 @@ module _ (s : Setting) (functions : List (ℕ × ℕ)) (v : Contents) (IsFirst :
     not_broken q r (no_end short' start' n) = n ends
     not_broken q r (no_way q' r' short' start' ends' h) = none q' r' h
 
-    only_memory : (fault : ProgramFault) → Names (IsBrokenBy s functions v IsFirst) fault → IsWantOfMemory fault
+    only_memory : (fault : ProgramFault) → Names (IsBrokenBy s functions v IsFirst) fault → IsOutOfMemory fault
     only_memory (Refused spot offset r) (q, e, f, h) = not_broken q r h
     only_memory (OutOfMemory e) h = tt
 
@@ -122,7 +122,7 @@ module _ (s : Setting) (functions : List (ℕ × ℕ)) (v : Contents) (family : 
   sound_here : IsGood state_order (flow_of s functions) (family_of v) → ((p : Place) (a : State) → family_of v p ≡ Some a → IsGoodFamily s functions (family_of v) → IsSoundAt s (family_of v) Nowhere p a)
   sound_here good p a at whole = record { stored = whole.storage p a at; safe = λ r x. good.safe p a r at x; closed = λ q t g. inl (good.closed p a q t at g) }
 
-  pub whole_memory : IsGoodFamily s functions (family_of v) → (fault : ProgramFault) → Names (IsBrokenFirst s functions v) fault → IsWantOfMemory fault
+  pub whole_memory : IsGoodFamily s functions (family_of v) → (fault : ProgramFault) → Names (IsBrokenFirst s functions v) fault → IsOutOfMemory fault
   whole_memory good =
       only_memory s functions v (IsFirstBreak s v) good.short good.good.start good.ends
       (λ q r h. sound_not_broken s (family_of v) Nowhere h.place h.state (sound_here good.good h.place h.state h.here good) q r h.breaks)
@@ -148,7 +148,7 @@ module _ (s : Setting) (functions : List (ℕ × ℕ)) (v : Contents) (family : 
     good_is_safe s range short functions rises found.through.filled (filling_good found).good,
   )
 
-  pub filling_memory : HasGoodFilling s functions (family_of v) → (fault : ProgramFault) → Names (IsFillingBrokenFirst s functions v) fault → IsWantOfMemory fault
+  pub filling_memory : HasGoodFilling s functions (family_of v) → (fault : ProgramFault) → Names (IsFillingBrokenFirst s functions v) fault → IsOutOfMemory fault
   filling_memory (filling, is, good) =
       only_memory s functions v (IsFirstBreakOnTheWay s (Precedes s) v) good.short (start_listed s functions (family_of v) filling is (start_of functions) good.good.start)
       (ends_listed s (family_of v) filling is s.kind good.ends)

@@ -23,12 +23,12 @@ use Rattle.tt_cert.specs.Numbers.{at-number_of, same_frames-decides}
 use Rattle.tt_cert.specs.Places.{IsLess, place_cmp, states_of}
 use Rattle.tt_cert.specs.Puts.{number_at, place_of}
 use Rattle.tt_cert.specs.Checks.{AreToldBefore, BreaksAt, IsFilledBy, IsFirstBreakOnTheWay, IsSoundAt, Names, WasAdded, key_of}
-use Rattle.tt_cert.specs.Walks.{Entry, IsAfter, IsAtPoint, IsCarried, IsComingAfter, IsEntry, IsOnWay, IsPassed, IsRead, IsUnlisted, IsWalkedThrough, IsWalkedTo, MayLeaveOut, to_come}
+use Rattle.tt_cert.specs.Cursors.{Entry, IsAfter, IsAtPoint, IsCarried, IsComingAfter, IsEntry, IsOnWay, IsPassed, IsRead, IsUnlisted, IsWalkedThrough, IsWalkedTo, MayLeaveOut, to_come}
 use Rattle.tt_cert.specs.declared.fault.ProgramFault.{ProgramFault}
 use Rattle.tt_cert.specs.declared.fault.ProgramFault.TheVariants.{Refused, OutOfMemory}
 use Rattle.tt_cert.specs.declared.listing.Listing.{Listing}
 use Rattle.tt_cert.specs.declared.listing.Listing.TheVariants.{Whole, Sparse}
-use Rattle.tt_cert.specs.declared.walk.Walk.{Walk}
+use Rattle.tt_cert.specs.declared.cursor.Cursor.{Cursor}
 use Rattle.tt_cert.proofs.FillingLaws.{some_or_none}
 use Rattle.tt_cert.proofs.KeyOrders.{less_self, less_trans, less_past, less_or_not, less_next, less_on, here_on, not_next, less_from_cmp}
 use Rattle.tt_cert.proofs.Puts.{cases_place, places_apart}
@@ -309,7 +309,7 @@ module _ (s : Setting) (listing : Listing) (v : Contents) (family : IsFamily v) 
   listed_key p a at = at
 
   -- at the start nothing is walked
-  pub nothing_walked : (walk : Walk) (others : List Entry) → v.states ≡ to_come walk.next others → walk.carried ≡ None → IsOnWay s listing v walk others
+  pub nothing_walked : (walk : Cursor) (others : List Entry) → v.states ≡ to_come walk.next others → walk.carried ≡ None → IsOnWay s listing v walk others
   nothing_walked walk others all none = record {
     filled = family_of v;
     reached = (0, 0);
@@ -349,7 +349,7 @@ module _ (s : Setting) (listing : Listing) (v : Contents) (family : IsFamily v) 
       held = walked.held;
     }
 
-  module _ (rises : IsStrictlySortedBy place_cmp (keys_of v.states)) (walk : Walk) (others : List Entry) (way : IsOnWay s listing v walk others) where
+  module _ (rises : IsStrictlySortedBy place_cmp (keys_of v.states)) (walk : Cursor) (others : List Entry) (way : IsOnWay s listing v walk others) where
     -- The walk goes on where a state was carried.
     module _ (o : ℕ) (there : walk.context < length v.contexts) (carried : walk.carried ≡ Some o) (after : IsComingAfter walk.next (walk.context, o)) where
       at_carried_back : (p : Place) (a : State) → way.filled p ≡ Some a → IsLess (key_of v p) (walk.context, o) → IsLess (key_of v p) way.reached
@@ -480,7 +480,7 @@ module _ (s : Setting) (listing : Listing) (v : Contents) (family : IsFamily v) 
                   ap (λ (k : ℕ × ℕ). family_of v (place_of v k.0 k.1)) (λ i. (sym c_is i, sym o_is i)) ∙ family_here in
                   cc
 
-      pub at_listed : (new : Walk) → new.context ≡ x.0 → new.made ≡ x.2.now → others ≡ to_come new.next others' → IsAtPoint s listing v new others' x.1
+      pub at_listed : (new : Cursor) → new.context ≡ x.0 → new.made ≡ x.2.now → others ≡ to_come new.next others' → IsAtPoint s listing v new others' x.1
       at_listed new context made rest =
           record {
             filled = way.filled;
@@ -523,7 +523,7 @@ module _ (s : Setting) (listing : Listing) (v : Contents) (family : IsFamily v) 
           ]
         ]
 
-  module _ (walk : Walk) (others : List Entry) (offset : ℕ) (point : IsAtPoint s listing v walk others offset) (there : walk.context < length v.contexts) where
+  module _ (walk : Cursor) (others : List Entry) (offset : ℕ) (point : IsAtPoint s listing v walk others offset) (there : walk.context < length v.contexts) where
     abbrev pub here_is : Place
     here_is = place_of v walk.context offset
 
@@ -545,7 +545,7 @@ module _ (s : Setting) (listing : Listing) (v : Contents) (family : IsFamily v) 
     )
     first_on_way (OutOfMemory error) h = tt
 
-    module _ (new : Walk) (context : new.context ≡ walk.context) (next : new.next ≡ walk.next)
+    module _ (new : Cursor) (context : new.context ≡ walk.context) (next : new.next ≡ walk.next)
         (passed : IsPassed s (family_of v) (MayLeaveOut listing s here_is) here_is walk.made new.carried new.made) where
       -- a walked place is the point or came before
       walked_or_here : (p : Place) (a : State) → point.filled p ≡ Some a → IsLess (key_of v p) (walk.context, offset + 1) → IsLess (key_of v p) (walk.context, offset) ⊎ ((p ≡ here_is) × (a ≡ walk.made))

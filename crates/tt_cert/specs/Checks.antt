@@ -23,8 +23,8 @@ abbrev pub key_of : Contents → Place → ℕ × ℕ
 key_of contents p = (number_of contents.contexts p.0, p.1)
 
 -- an offset as a number of 32 bits: the largest one stands for those that are above it
-abbrev pub told_offset : ℕ → ℕ
-told_offset offset = min offset 4294967295
+abbrev pub saturated_offset : ℕ → ℕ
+saturated_offset offset = min offset 4294967295
 
 -- no place
 abbrev pub Nowhere : Place → Type 0
@@ -42,12 +42,12 @@ IsGap family MayBeLeftOut q t _ = ⊥
 
 -- the fault names the place and the reason; out of memory is unspecified
 abbrev pub NamesAt : Place → (Reason → Type 0) → ProgramFault → Type 0
-NamesAt p Is (Refused spot offset reason) = (spot ≡ spot_of p.0) × (offset ≡ told_offset p.1) × Is reason
+NamesAt p Is (Refused spot offset reason) = (spot ≡ spot_of p.0) × (offset ≡ saturated_offset p.1) × Is reason
 NamesAt p Is (OutOfMemory e) = Unit {0}
 
 -- the fault names such a place, and the reason
 abbrev pub Names : (Place → Reason → Type 0) → ProgramFault → Type 0
-Names Is (Refused spot offset reason) = (p : Place) × (spot ≡ spot_of p.0) × (offset ≡ told_offset p.1) × Is p reason
+Names Is (Refused spot offset reason) = (p : Place) × (spot ≡ spot_of p.0) × (offset ≡ saturated_offset p.1) × Is p reason
 Names Is (OutOfMemory e) = Unit {0}
 
 -- the place of a next abstract state
@@ -168,6 +168,6 @@ abbrev pub IsFillingBrokenFirst : Setting → List (ℕ × ℕ) → Contents →
 IsFillingBrokenFirst s functions contents = IsBrokenBy s functions contents (IsFirstBreakOnTheWay s (Precedes s) contents)
 
 -- a growth of memory was refused
-abbrev pub IsWantOfMemory : ProgramFault → Type 0
-IsWantOfMemory (Refused spot offset reason) = ⊥
-IsWantOfMemory (OutOfMemory e) = Unit {0}
+abbrev pub IsOutOfMemory : ProgramFault → Type 0
+IsOutOfMemory (Refused spot offset reason) = ⊥
+IsOutOfMemory (OutOfMemory e) = Unit {0}

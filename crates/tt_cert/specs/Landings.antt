@@ -6,7 +6,7 @@ use Rattle.tt_code.specs.declared.reason.Reason.TheVariants.{MissingPoint}
 use Rattle.tt_abs.specs.Moves.{frames_behind, offset_behind}
 use Rattle.tt_abs.specs.StateFlow.{Place}
 use Rattle.tt_abs.specs.declared.moves.Move.{Move}
-use Rattle.tt_cert.specs.Checks.{told_offset}
+use Rattle.tt_cert.specs.Checks.{saturated_offset}
 use Rattle.tt_cert.specs.Contents.{Contents, family_of, frames_at}
 use Rattle.tt_cert.specs.Spots.{spot_of}
 use Rattle.tt_cert.specs.declared.fault.ProgramFault.{ProgramFault}
@@ -38,4 +38,4 @@ IsLanding contexts from place (Beyond context) = (context < from) × (frames_at 
 
 -- the family has no state at the place, and the fault says so
 abbrev pub IsMissing : Contents → Place → ProgramFault → Type 0
-IsMissing contents place fault = (family_of contents place ≡ None) × (fault ≡ Refused (spot_of place.0) (told_offset place.1) MissingPoint)
+IsMissing contents place fault = (family_of contents place ≡ None) × (fault ≡ Refused (spot_of place.0) (saturated_offset place.1) MissingPoint)

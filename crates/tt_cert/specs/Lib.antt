@@ -14,5 +14,5 @@ pub mod Spots
 pub mod Fillings
 pub mod Checks
 pub mod Landings
-pub mod Walks
+pub mod Cursors
 pub mod Ends

@@ -81,7 +81,7 @@ fn missing(spot: Spot, offset: u32) -> ProgramFault
 ///
 /// # Errors
 /// `MissingPoint` where the certificate can have no state: it lacks the context, or can't have such an offset.
-pub(crate) fn reach(
+pub(crate) fn look_up_successor(
     certificate: &Certificate,
     context: u32,
     way: Move,

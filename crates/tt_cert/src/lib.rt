@@ -3,23 +3,23 @@
 
 pub mod builder;
 pub mod certificate;
-pub mod checking;
+pub mod checker;
+mod cursor;
 pub mod fault;
-mod finishing;
+mod finish;
 pub mod joined;
 mod landing;
 mod listing;
 mod meeting;
+mod offset_list;
 mod places;
-mod row;
 pub mod spot;
 mod state_table;
 pub mod states;
-mod walk;
 
 pub use builder::Builder;
 pub use certificate::Certificate;
-pub use checking::{check, check_full, ends_well, is_short, one_good_filling};
+pub use checker::{check, check_full, ends_well, is_short, one_good_filling};
 pub use fault::{ContextFault, JoinFault, ProgramFault, ProgramFault as CheckFault};
 pub use joined::Joined;
 pub use landing::{Landing, landing_of};

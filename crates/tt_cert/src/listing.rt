@@ -4,7 +4,7 @@ ghost use Rattle.std.specs.Prelude.{◌≡◌, ◌↔◌};
 ghost use Rattle.tt_abs.specs.Lines.{EndsAt, Precedes};
 ghost use Rattle.tt_abs.specs.Settings.{frames_of, setting_of};
 ghost use Rattle.tt_abs.specs.StateFlow.{Place};
-ghost use Rattle.tt_cert.specs.Walks.{IsAfter};
+ghost use Rattle.tt_cert.specs.Cursors.{IsAfter};
 
 use tt_abs::{Point, Setting};
 

@@ -1,16 +1,16 @@
 //! How a state is met at the places to which it goes.
 
 ghost use Rattle.std.specs.Prelude.{◌≡◌, ◌<◌, IfErr, IfOk, IsTrue, Some, length};
-ghost use Rattle.tt_cert.specs.Checks.{AreToldBefore, HasNextTurn, IsGap, NamesAt, told_offset};
+ghost use Rattle.tt_cert.specs.Checks.{AreToldBefore, HasNextTurn, IsGap, NamesAt, saturated_offset};
 ghost use Rattle.tt_cert.specs.Contents.{family_of, frames_at};
 ghost use Rattle.tt_cert.specs.Puts.{place_of};
 ghost use Rattle.tt_cert.specs.Spots.{spot_of};
-ghost use Rattle.tt_cert.specs.Walks.{AreMadeMet, IsEntry, IsMadeMet, IsMetBy, IsPastStart, IsUnlisted, IsUnlistedAfter, IsWalk, MayTurn, NamesFirstGapMade, NamesGapMade, calls_of, met_both, place_behind as place_of_move, point_of};
+ghost use Rattle.tt_cert.specs.Cursors.{AreMadeMet, IsEntry, IsMadeMet, IsMetBy, IsPastStart, IsUnlisted, IsUnlistedAfter, IsWalk, MayTurn, NamesFirstGapMade, NamesGapMade, calls_of, met_both, place_behind as place_of_move, point_of};
 
 use crate::certificate::Certificate;
 use crate::fault::ProgramFault;
-use crate::landing::reach;
-use crate::walk::{Walk, is_coming, is_coming_after};
+use crate::landing::look_up_successor;
+use crate::cursor::{Cursor, is_coming, is_coming_after};
 use tt_abs::{Move, Moves, Order, State};
 use tt_code::Reason;
 
@@ -46,7 +46,7 @@ pub(crate) fn fault_in(
     reason: Reason,
 ) -> ProgramFault
     requires { context < length certificate.now.contexts }
-    ensures { result ≡ ProgramFault.Refused (spot_of (frames_at certificate.now.contexts context)) (told_offset offset) reason }
+    ensures { result ≡ ProgramFault.Refused (spot_of (frames_at certificate.now.contexts context)) (saturated_offset offset) reason }
 {
     ProgramFault::Refused {
         spot: certificate.spot(context),
@@ -99,7 +99,7 @@ pub(crate) fn check_covered(
 /// Returns how what was made is met at an offset of the walk's context, where `after` is the one at which it may be left out.
 fn check_offset(
     certificate: &Certificate,
-    walk: &Walk<'_>,
+    walk: &Cursor<'_>,
     offset: u32,
     after: Option<u32>,
 ) -> Result<Met, ProgramFault>
@@ -119,9 +119,9 @@ fn check_offset(
 }
 
 /// Returns how what was made is met at the place to which a move leads from the walk's context.
-fn check_way(
+fn check_successor(
     certificate: &Certificate,
-    walk: &Walk<'_>,
+    walk: &Cursor<'_>,
     way: Move,
     after: Option<u32>,
 ) -> Result<Met, ProgramFault>
@@ -136,7 +136,7 @@ fn check_way(
     if let Move::To(offset) = way {
         return check_offset(certificate, walk, offset, after);
     }
-    match reach(certificate, walk.context, way) {
+    match look_up_successor(certificate, walk.context, way) {
         Ok((context, offset)) => {
             check_covered(certificate, walk.next, context, offset, &walk.made, false)
         }
@@ -146,9 +146,9 @@ fn check_way(
 
 /// Returns how what was made is met at all places to which moves lead from the walk's context. `after` is the offset at which it may be
 /// left out, if there is one.
-pub(crate) fn check_moves(
+pub(crate) fn check_successors(
     certificate: &Certificate,
-    walk: &Walk<'_>,
+    walk: &Cursor<'_>,
     moves: Moves,
     after: Option<u32>,
 ) -> Result<Met, ProgramFault>
@@ -160,13 +160,13 @@ pub(crate) fn check_moves(
     ensures met { IfOk result (AreMadeMet certificate.now walk.now after moves) }
     ensures gap { IfErr result (NamesFirstGapMade certificate.now walk.now after moves) }
 {
-    let mut met = match check_way(certificate, walk, moves.first(), after) {
+    let mut met = match check_successor(certificate, walk, moves.first(), after) {
         Ok(met) => met,
         Err(fault) => return Err(fault),
     };
     let mut index = 1;
     while let Some(way) = moves.get(index) {
-        match check_way(certificate, walk, way, after) {
+        match check_successor(certificate, walk, way, after) {
             Ok(other) => met = met_by_both(met, other),
             Err(fault) => return Err(fault),
         }

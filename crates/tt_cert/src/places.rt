@@ -5,7 +5,7 @@ ghost use Rattle.std.specs.BTreeMap.{insert_entry};
 ghost use Rattle.tt_cert.specs.Places.{place_cmp, states_of};
 ghost use Rattle.tt_cert.specs.PlaceRows.{AddsRows, AreEmptyFrom, ArePlaces, merged, row_of, rows_points, comes_first};
 
-use crate::row::Row;
+use crate::offset_list::OffsetList;
 use std::alloc::{AllocError, Global};
 use std::collections::BTreeMap;
 use std::collections::btree_map::Iter;
@@ -22,7 +22,7 @@ pub type PointKey = (u32, u32);
 #[derive(Drop)]
 pub(crate) struct Places {
     /// For each context the points that came after all others of the context.
-    rows: Vec<Row>,
+    rows: Vec<OffsetList>,
     /// How many rows may hold points. The rows after those are empty, and are kept only for their memory.
     used: usize,
     /// The points that came before a greater offset of their context.
@@ -46,7 +46,7 @@ impl Model for Places {
 ///
 /// # Errors
 /// If memory runs out; then some of the rows may be there.
-fn add_rows(rows: &mut Vec<Row>, context: u32) -> Result<(), AllocError>
+fn add_rows(rows: &mut Vec<OffsetList>, context: u32) -> Result<(), AllocError>
     requires { length rows.old.items ≤ 4294967296 }
     ensures enough { OnOk result (context < length rows.new.items) }
     ensures adds { AddsRows rows.old.items rows.new.items }
@@ -54,7 +54,7 @@ fn add_rows(rows: &mut Vec<Row>, context: u32) -> Result<(), AllocError>
 {
     let alloc = *rows.allocator();
     while rows.len() <= context as usize {
-        rows.push(Row::new(alloc))?;
+        rows.push(OffsetList::new(alloc))?;
     }
     Ok(())
 }
@@ -64,7 +64,7 @@ fn add_rows(rows: &mut Vec<Row>, context: u32) -> Result<(), AllocError>
 /// # Errors
 /// If memory runs out; then the points stay as they are.
 fn put(
-    rows: &mut Vec<Row>,
+    rows: &mut Vec<OffsetList>,
     rest: &mut BTreeMap<PointKey, u32>,
     place: PointKey,
     slot: u32,
@@ -86,7 +86,7 @@ fn put(
 }
 
 /// Empties the first `used` rows, after which all are empty, and keeps the memory of the first `KEPT_ROWS` rows.
-fn clear_rows(rows: &mut Vec<Row>, used: usize)
+fn clear_rows(rows: &mut Vec<OffsetList>, used: usize)
     requires { AreEmptyFrom used rows.old.items }
     ensures empty { (c : ℕ) → row_of rows.new.items c ≡ [] }
     ensures fits { length rows.new.items ≤ 4294967296 }
@@ -137,7 +137,7 @@ impl Places {
     pub(crate) fn iter(&self) -> PlacesIter<'_>
         ensures { result ≡ self.now }
     {
-        let mut rows = RowsIter::new(&self.rows[..self.used]);
+        let mut rows = OffsetListsIter::new(&self.rows[..self.used]);
         let mut rest = self.rest.iter();
         PlacesIter {
             first: rows.take_first(),
@@ -177,16 +177,16 @@ impl Places {
 
 /// The points of rows that are still to come.
 #[derive(Drop)]
-struct RowsIter<'a> {
+struct OffsetListsIter<'a> {
     /// The context of the row.
     context: u32,
     /// The offsets of the row that are still to come, with their slots.
     row: &'a [(u32, u32)],
     /// The rows of the next contexts.
-    rows: &'a [Row],
+    rows: &'a [OffsetList],
 }
 
-impl<'a> Model for RowsIter<'a> {
+impl<'a> Model for OffsetListsIter<'a> {
     ghost use Rattle.std.specs.Prelude.{List, ℕ, suc, ◌+◌, ◌++◌, ◌<◌, length};
     ghost use Rattle.tt_cert.specs.PlaceRows.{row_points, rows_points};
 
@@ -197,19 +197,19 @@ impl<'a> Model for RowsIter<'a> {
     ghost invariant = { λ r. r.context + length r.rows.now < 4294967296 };
 }
 
-impl<'a> RowsIter<'a> {
+impl<'a> OffsetListsIter<'a> {
     /// Returns all points of the rows, the first of which is that of the first context.
-    fn new(rows: &'a [Row]) -> Self
+    fn new(rows: &'a [OffsetList]) -> Self
         requires { length rows.now ≤ 4294967296 }
         ensures { result ≡ rows_points 0 rows.now }
     {
         match rows {
-            [first, rows @ ..] => RowsIter {
+            [first, rows @ ..] => OffsetListsIter {
                 context: 0,
                 row: first.as_slice(),
                 rows,
             },
-            [] => RowsIter {
+            [] => OffsetListsIter {
                 context: 0,
                 row: &[],
                 rows,
@@ -263,7 +263,7 @@ pub(crate) struct PlacesIter<'a> {
     /// The first point of the rows.
     first: Option<(PointKey, u32)>,
     /// The others of the rows.
-    rows: RowsIter<'a>,
+    rows: OffsetListsIter<'a>,
     /// The first point beside the rows.
     other: Option<(PointKey, u32)>,
     /// The others beside the rows.

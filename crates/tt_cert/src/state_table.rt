@@ -48,7 +48,7 @@ impl Model for StateTable {
 ///
 /// # Errors
 /// If memory runs out; then what the slot holds is unspecified.
-fn fill(slots: &mut Vec<State>, number: usize, state: &State) -> Result<(), AllocError>
+fn write_slot(slots: &mut Vec<State>, number: usize, state: &State) -> Result<(), AllocError>
     requires { number ≤ length slots.old.items }
     ensures filled { OnOk result (slice_get slots.new.items number ≡ Some state.now) }
     ensures below { AgreesBelow number slots.old.items slots.new.items }
@@ -157,7 +157,7 @@ impl StateTable {
         if number >= MOST_STATES {
             return Err(JoinFault::OutOfMemory);
         }
-        if let Err(_) = fill(&mut self.slots, number as usize, state) {
+        if let Err(_) = write_slot(&mut self.slots, number as usize, state) {
             return Err(JoinFault::OutOfMemory);
         }
         if let Err(_) = self.places.insert(context, offset, number) {

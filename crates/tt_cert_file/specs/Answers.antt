@@ -92,7 +92,7 @@ IsReadFault fault.Read = Unit {0}
 IsReadFault (fault.OutOfMemory error) = ⊥
 
 -- memory ran out
-abbrev pub IsWantOfMemory : DecodeFault → Type 0
-IsWantOfMemory (fault.Form place) = ⊥
-IsWantOfMemory fault.Read = ⊥
-IsWantOfMemory (fault.OutOfMemory error) = Unit {0}
+abbrev pub IsOutOfMemory : DecodeFault → Type 0
+IsOutOfMemory (fault.Form place) = ⊥
+IsOutOfMemory fault.Read = ⊥
+IsOutOfMemory (fault.OutOfMemory error) = Unit {0}

@@ -7,7 +7,7 @@ ghost use Rattle.tt_cert.specs.Contents.{IsFamily, frames_at};
 ghost use Rattle.tt_cert.specs.Rising.{IsFinished};
 ghost use Rattle.tt_cert.specs.Contexts.{frames_of};
 ghost use Rattle.tt_stream.specs.Reads.{ConsumesBeginning};
-ghost use Rattle.tt_cert_file.specs.Answers.{CountsRead, Gives, IsWantOfMemory, StopsAtEnd, input_at};
+ghost use Rattle.tt_cert_file.specs.Answers.{CountsRead, Gives, IsOutOfMemory, StopsAtEnd, input_at};
 ghost use Rattle.tt_cert_file.specs.Forms.{most_contexts};
 ghost use Rattle.tt_cert_file.specs.Readers.{list_at};
 ghost use Rattle.tt_cert_file.specs.Reading.{context_at, context_count_at, contexts_at};
@@ -90,7 +90,7 @@ fn read_context<S: Source>(
     ensures beginning { ConsumesBeginning (S.remaining source.old) (S.remaining source.new) }
     ensures stopped { IfErr result (StopsAtEnd place (S.remaining source.old) (S.remaining source.new) (context_at before.now)) }
     ensures failures { CountsRead result (S.failures source.old) (S.failures source.new) }
-    ensures memory { IfErr result (λ fault. ¬ IsWantOfMemory fault) }
+    ensures memory { IfErr result (λ fault. ¬ IsOutOfMemory fault) }
 {
     let (parent, at) = read_word(source, place)?;
     let (call, at) = read_long(source, at)?;
@@ -117,7 +117,7 @@ fn read_count<S: Source>(source: &mut S, place: u64, form: Form) -> Result<(u16,
     ensures beginning { ConsumesBeginning (S.remaining source.old) (S.remaining source.new) }
     ensures stopped { IfErr result (StopsAtEnd place (S.remaining source.old) (S.remaining source.new) (context_count_at form)) }
     ensures failures { CountsRead result (S.failures source.old) (S.failures source.new) }
-    ensures memory { IfErr result (λ fault. ¬ IsWantOfMemory fault) }
+    ensures memory { IfErr result (λ fault. ¬ IsOutOfMemory fault) }
 {
     let (count, at) = read_word(source, place)?;
     if count > form.most_contexts() {

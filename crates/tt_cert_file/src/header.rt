@@ -4,7 +4,7 @@ ghost use Rattle.std.specs.Prelude.{◌≡◌, ℕ, IfErr, OnErr, OnOk};
 ghost use Rattle.std.specs.Io.KnownBytes.{Appends, IsAtEnd, Keeps};
 ghost use Rattle.tt_stream.specs.Reads.{ConsumesBeginning};
 ghost use Rattle.tt_stream.specs.Streams.{AppendsBeginning};
-ghost use Rattle.tt_cert_file.specs.Answers.{CountsRead, CountsWrite, Gives, GivesHeader, IsMore, IsWantOfMemory, StopsAtEnd, input_at};
+ghost use Rattle.tt_cert_file.specs.Answers.{CountsRead, CountsWrite, Gives, GivesHeader, IsMore, IsOutOfMemory, StopsAtEnd, input_at};
 ghost use Rattle.tt_cert_file.specs.Reading.{form_at, header_at, magic_at};
 ghost use Rattle.tt_cert_file.specs.Text.{header_text};
 
@@ -23,7 +23,7 @@ fn read_magic<S: Source>(source: &mut S, place: u64) -> Result<(u32, u64), Decod
     ensures beginning { ConsumesBeginning (S.remaining source.old) (S.remaining source.new) }
     ensures stopped { IfErr result (StopsAtEnd place (S.remaining source.old) (S.remaining source.new) magic_at) }
     ensures failures { CountsRead result (S.failures source.old) (S.failures source.new) }
-    ensures memory { IfErr result (λ fault. ¬ IsWantOfMemory fault) }
+    ensures memory { IfErr result (λ fault. ¬ IsOutOfMemory fault) }
 {
     let (magic, at) = read_long(source, place)?;
     if magic != MAGIC {
@@ -39,7 +39,7 @@ fn read_form<S: Source>(source: &mut S, place: u64) -> Result<(Form, u64), Decod
     ensures beginning { ConsumesBeginning (S.remaining source.old) (S.remaining source.new) }
     ensures stopped { IfErr result (StopsAtEnd place (S.remaining source.old) (S.remaining source.new) form_at) }
     ensures failures { CountsRead result (S.failures source.old) (S.failures source.new) }
-    ensures memory { IfErr result (λ fault. ¬ IsWantOfMemory fault) }
+    ensures memory { IfErr result (λ fault. ¬ IsOutOfMemory fault) }
 {
     let (number, at) = read_word(source, place)?;
     match Form::with_number(number) {
@@ -55,7 +55,7 @@ fn read_header_at<S: Source>(source: &mut S, place: u64) -> Result<((Form, u32),
     ensures beginning { ConsumesBeginning (S.remaining source.old) (S.remaining source.new) }
     ensures stopped { IfErr result (StopsAtEnd place (S.remaining source.old) (S.remaining source.new) header_at) }
     ensures failures { CountsRead result (S.failures source.old) (S.failures source.new) }
-    ensures memory { IfErr result (λ fault. ¬ IsWantOfMemory fault) }
+    ensures memory { IfErr result (λ fault. ¬ IsOutOfMemory fault) }
 {
     let (_magic, at) = read_magic(source, place)?;
     let (form, at) = read_form(source, at)?;
@@ -74,7 +74,7 @@ pub fn read_header<S: Source>(source: &mut S) -> Result<(Form, u32), DecodeFault
     // Where a read failed, no field that was read whole breaks a rule.
     ensures whole_fields { IfErr result (StopsAtEnd 0 (S.remaining source.old) (S.remaining source.new) header_at) }
     ensures failures { CountsRead result (S.failures source.old) (S.failures source.new) }
-    ensures memory { IfErr result (λ fault. ¬ IsWantOfMemory fault) }
+    ensures memory { IfErr result (λ fault. ¬ IsOutOfMemory fault) }
 {
     let (header, _after) = read_header_at(source, 0)?;
     Ok(header)
@@ -90,7 +90,7 @@ pub fn read_end<S: Source>(source: &mut S, place: u64) -> Result<(), DecodeFault
     ensures unread { IfErr result (λ fault. fault ≡ DecodeFault.Read → Keeps (S.remaining source.old) (S.remaining source.new)) }
     ensures beginning { ConsumesBeginning (S.remaining source.old) (S.remaining source.new) }
     ensures failures { CountsRead result (S.failures source.old) (S.failures source.new) }
-    ensures memory { IfErr result (λ fault. ¬ IsWantOfMemory fault) }
+    ensures memory { IfErr result (λ fault. ¬ IsOutOfMemory fault) }
 {
     let mut byte = [0u8; 1];
     if read_full(source, &mut byte)? > 0 {

@@ -5,7 +5,7 @@ ghost use Rattle.std.specs.Io.KnownBytes.{Keeps};
 ghost use Rattle.tt_abs.specs.Entries.{Rises};
 ghost use Rattle.tt_stream.specs.Reads.{ConsumesBeginning, ConsumesFewer};
 ghost use Rattle.tt_stream.specs.Streams.{CountsFailure};
-ghost use Rattle.tt_cert_file.specs.Answers.{CountsRead, Gives, IsReadFault, IsWantOfMemory, StopsAtEnd, input_at};
+ghost use Rattle.tt_cert_file.specs.Answers.{CountsRead, Gives, IsReadFault, IsOutOfMemory, StopsAtEnd, input_at};
 ghost use Rattle.tt_cert_file.specs.Blocks.{AreKept, FillsOn, FillsRest, ReadsBlock, ReadsCells, ReadsMoreCells, ReadsRest, Takes, TakesCells, TakesSomeCells, cells_at};
 ghost use Rattle.tt_cert_file.specs.Readers.{list_at};
 ghost use Rattle.tt_cert_file.specs.Reading.{cell_at, function_at, functions_at, stack_at, storage_at, stored_at};
@@ -521,7 +521,7 @@ fn read_stored<S: Source>(
     ensures beginning { ConsumesBeginning (S.remaining source.old) (S.remaining source.new) }
     ensures stopped { IfErr result (StopsAtEnd place (S.remaining source.old) (S.remaining source.new) (stored_at before.now)) }
     ensures failures { CountsRead result (S.failures source.old) (S.failures source.new) }
-    ensures memory { IfErr result (λ fault. ¬ IsWantOfMemory fault) }
+    ensures memory { IfErr result (λ fault. ¬ IsOutOfMemory fault) }
 {
     let ((index, number), after) = read_pair(source, place)?;
     if let Some(last) = before.last()

@@ -4,7 +4,7 @@ ghost use Rattle.std.specs.Prelude.{◌≡◌, ◌≤◌, [], ◌∷◌, ◌++�
 ghost use Rattle.tt_abs.specs.Entries.{Rises};
 ghost use Rattle.tt_abs.specs.States.{state_order};
 ghost use Rattle.tt_stream.specs.Reads.{ConsumesBeginning};
-ghost use Rattle.tt_cert_file.specs.Answers.{CountsRead, Gives, IsWantOfMemory, StopsAtEnd, input_at};
+ghost use Rattle.tt_cert_file.specs.Answers.{CountsRead, Gives, IsOutOfMemory, StopsAtEnd, input_at};
 ghost use Rattle.tt_cert_file.specs.Blocks.{AreKept};
 ghost use Rattle.tt_cert_file.specs.Readers.{list_at};
 ghost use Rattle.tt_cert_file.specs.Reading.{entry_after, entry_at, place_at, state_at, state_from, states_at};
@@ -144,7 +144,7 @@ fn read_place<S: Source>(
     ensures beginning { ConsumesBeginning (S.remaining source.old) (S.remaining source.new) }
     ensures stopped { IfErr result (StopsAtEnd place (S.remaining source.old) (S.remaining source.new) (place_at contexts last)) }
     ensures failures { CountsRead result (S.failures source.old) (S.failures source.new) }
-    ensures memory { IfErr result (λ fault. ¬ IsWantOfMemory fault) }
+    ensures memory { IfErr result (λ fault. ¬ IsOutOfMemory fault) }
 {
     let ((context, offset), after) = read_pair(source, place)?;
     let at = (u32::from(context), offset);

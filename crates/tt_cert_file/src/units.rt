@@ -2,7 +2,7 @@
 
 ghost use Rattle.std.specs.Prelude.{◌≡◌, ℕ, List, Option, IfErr};
 ghost use Rattle.tt_stream.specs.Reads.{ConsumesBeginning};
-ghost use Rattle.tt_cert_file.specs.Answers.{CountsRead, Gives, IsWantOfMemory, StopsAtEnd, input_at};
+ghost use Rattle.tt_cert_file.specs.Answers.{CountsRead, Gives, IsOutOfMemory, StopsAtEnd, input_at};
 ghost use Rattle.tt_cert_file.specs.Readers.{unit};
 ghost use Rattle.tt_cert_file.specs.Reading.{cell_at, graphics_at, long_at, name_at, pair_at, pair_from, word_at, zone_at};
 
@@ -23,7 +23,7 @@ fn fetch_unit<S: Source, const N: usize>(
     ensures beginning { ConsumesBeginning (S.remaining source.old) (S.remaining source.new) }
     ensures stopped { IfErr result (StopsAtEnd place (S.remaining source.old) (S.remaining source.new) (unit N)) }
     ensures failures { CountsRead result (S.failures source.old) (S.failures source.new) }
-    ensures memory { IfErr result (λ fault. ¬ IsWantOfMemory fault) }
+    ensures memory { IfErr result (λ fault. ¬ IsOutOfMemory fault) }
 {
     let mut bytes = [0u8; N];
     let count = read_full(source, &mut bytes)?;
@@ -44,7 +44,7 @@ fn read_unit<S: Source, const N: usize>(
     ensures beginning { ConsumesBeginning (S.remaining source.old) (S.remaining source.new) }
     ensures stopped { IfErr result (StopsAtEnd place (S.remaining source.old) (S.remaining source.new) (unit N)) }
     ensures failures { CountsRead result (S.failures source.old) (S.failures source.new) }
-    ensures memory { IfErr result (λ fault. ¬ IsWantOfMemory fault) }
+    ensures memory { IfErr result (λ fault. ¬ IsOutOfMemory fault) }
 {
     let Some(front) = source.ahead().first_chunk::<N>() else {
         return fetch_unit(source, place);
@@ -61,7 +61,7 @@ pub(crate) fn read_word<S: Source>(source: &mut S, place: u64) -> Result<(u16, u
     ensures beginning { ConsumesBeginning (S.remaining source.old) (S.remaining source.new) }
     ensures stopped { IfErr result (StopsAtEnd place (S.remaining source.old) (S.remaining source.new) word_at) }
     ensures failures { CountsRead result (S.failures source.old) (S.failures source.new) }
-    ensures memory { IfErr result (λ fault. ¬ IsWantOfMemory fault) }
+    ensures memory { IfErr result (λ fault. ¬ IsOutOfMemory fault) }
 {
     let (unit, after) = read_unit::<S, 2>(source, place)?;
     Ok((u16::from_be_bytes(unit), after))
@@ -74,7 +74,7 @@ pub(crate) fn read_long<S: Source>(source: &mut S, place: u64) -> Result<(u32, u
     ensures beginning { ConsumesBeginning (S.remaining source.old) (S.remaining source.new) }
     ensures stopped { IfErr result (StopsAtEnd place (S.remaining source.old) (S.remaining source.new) long_at) }
     ensures failures { CountsRead result (S.failures source.old) (S.failures source.new) }
-    ensures memory { IfErr result (λ fault. ¬ IsWantOfMemory fault) }
+    ensures memory { IfErr result (λ fault. ¬ IsOutOfMemory fault) }
 {
     let (unit, after) = read_unit::<S, 4>(source, place)?;
     Ok((u32::from_be_bytes(unit), after))
@@ -100,7 +100,7 @@ pub(crate) fn read_pair<S: Source>(
     ensures beginning { ConsumesBeginning (S.remaining source.old) (S.remaining source.new) }
     ensures stopped { IfErr result (StopsAtEnd place (S.remaining source.old) (S.remaining source.new) pair_at) }
     ensures failures { CountsRead result (S.failures source.old) (S.failures source.new) }
-    ensures memory { IfErr result (λ fault. ¬ IsWantOfMemory fault) }
+    ensures memory { IfErr result (λ fault. ¬ IsOutOfMemory fault) }
 {
     let (unit, after) = read_unit::<S, 6>(source, place)?;
     Ok((pair_of(unit), after))
@@ -113,7 +113,7 @@ pub(crate) fn read_name<S: Source>(source: &mut S, place: u64) -> Result<(Name, 
     ensures beginning { ConsumesBeginning (S.remaining source.old) (S.remaining source.new) }
     ensures stopped { IfErr result (StopsAtEnd place (S.remaining source.old) (S.remaining source.new) name_at) }
     ensures failures { CountsRead result (S.failures source.old) (S.failures source.new) }
-    ensures memory { IfErr result (λ fault. ¬ IsWantOfMemory fault) }
+    ensures memory { IfErr result (λ fault. ¬ IsOutOfMemory fault) }
 {
     let (unit, after) = read_unit::<S, 3>(source, place)?;
     let [kind, high, low] = unit;
@@ -133,7 +133,7 @@ pub(crate) fn read_cell<S: Source>(source: &mut S, place: u64) -> Result<(Cell, 
     ensures beginning { ConsumesBeginning (S.remaining source.old) (S.remaining source.new) }
     ensures stopped { IfErr result (StopsAtEnd place (S.remaining source.old) (S.remaining source.new) cell_at) }
     ensures failures { CountsRead result (S.failures source.old) (S.failures source.new) }
-    ensures memory { IfErr result (λ fault. ¬ IsWantOfMemory fault) }
+    ensures memory { IfErr result (λ fault. ¬ IsOutOfMemory fault) }
 {
     let (unit, after) = read_unit::<S, 1>(source, place)?;
     let [tag] = unit;
@@ -154,7 +154,7 @@ fn read_zone<S: Source>(source: &mut S, place: u64) -> Result<(ZoneCell, u64), D
     ensures beginning { ConsumesBeginning (S.remaining source.old) (S.remaining source.new) }
     ensures stopped { IfErr result (StopsAtEnd place (S.remaining source.old) (S.remaining source.new) zone_at) }
     ensures failures { CountsRead result (S.failures source.old) (S.failures source.new) }
-    ensures memory { IfErr result (λ fault. ¬ IsWantOfMemory fault) }
+    ensures memory { IfErr result (λ fault. ¬ IsOutOfMemory fault) }
 {
     let (unit, after) = read_unit::<S, 1>(source, place)?;
     let [byte] = unit;
@@ -176,7 +176,7 @@ pub(crate) fn read_graphics<S: Source>(
     ensures beginning { ConsumesBeginning (S.remaining source.old) (S.remaining source.new) }
     ensures stopped { IfErr result (StopsAtEnd place (S.remaining source.old) (S.remaining source.new) graphics_at) }
     ensures failures { CountsRead result (S.failures source.old) (S.failures source.new) }
-    ensures memory { IfErr result (λ fault. ¬ IsWantOfMemory fault) }
+    ensures memory { IfErr result (λ fault. ¬ IsOutOfMemory fault) }
 {
     let (rp0, at) = read_cell(source, place)?;
     let (rp1, at) = read_cell(source, at)?;

@@ -2,9 +2,9 @@
 //! definitions.
 #![tactic(auto)]
 
-mod cutting;
 pub mod fault;
 pub mod instr;
+mod instruction_length;
 pub mod kinds;
 pub mod laws;
 pub mod limits;

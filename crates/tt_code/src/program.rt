@@ -8,7 +8,7 @@ ghost use Rattle.tt_code.specs.Grammar.{GoesTo, IsBodyAt, IsFault, IsStructured,
 ghost use Rattle.tt_code.specs.Slots.{IsKept, IsReading, Opens, kept};
 ghost use Rattle.tt_code.specs.Structure.{body_at as body_on_cut, leads, word};
 
-use crate::cutting::{first_uncut, front_length};
+use crate::instruction_length::{first_uncut, front_length};
 use crate::fault::CodeFault;
 use crate::instr::Instr;
 use crate::machine::Body;

@@ -15,7 +15,7 @@ use Rattle.tt_abs.specs.StateFlow.{FitsLimits, GivesState, Place, flow_of, heigh
 use Rattle.tt_abs.specs.States.{state_laws, state_order}
 use Rattle.tt_abs.proofs.FunctionBodies.{derived_bodies}
 use Rattle.tt_abs.proofs.LineLaws.{precedes_one, precedes_rises}
-use Rattle.tt_cert.specs.Checks.{IsWantOfMemory, key_of}
+use Rattle.tt_cert.specs.Checks.{IsOutOfMemory, key_of}
 use Rattle.tt_cert.specs.Contents.{HasContext, family_of, number_of}
 use Rattle.tt_cert.specs.Fillings.{IsFilling}
 use Rattle.tt_cert.specs.GoodFamilies.{EndsWell, HasEnd, HasFewContexts, IsGoodFamily, IsShortEnough}
@@ -60,15 +60,15 @@ module _ (s : Setting) (functions : List (ℕ × ℕ)) (laws : HasLaws s functio
   never_both mine other derived ends lacks = lacks.endless (end_below s.kind mine other derived lacks.good ends)
 
   -- nothing waits
-  module _ (table : Table) (whole : IsWhole s functions table) (none : table.waiting ≡ []) where
+  module _ (table : Table) (whole : IsWhole s functions table) (none : table.worklist ≡ []) where
     abbrev filled : Place → Option State
     filled = whole.filled
 
     derived_here : (p : Place) (a : State) → filled p ≡ Some a → IsDerived s functions p a
     derived_here = whole.kept.sound.derived
 
-    free : (p : Place) → IsAmong table.builder table.waiting p ⊎ ⊥ → ⊥
-    free p m = elim m [ inr never ↦ never | inl hit ↦ none_waiting table.waiting _ none hit ]
+    free : (p : Place) → IsAmong table.builder table.worklist p ⊎ ⊥ → ⊥
+    free p m = elim m [ inr never ↦ never | inl hit ↦ none_waiting table.worklist _ none hit ]
 
     pub good_left : IsGood state_order (flow_of s functions) filled
     good_left =
@@ -221,7 +221,7 @@ module _ (s : Setting) (functions : List (ℕ × ℕ)) (laws : HasLaws s functio
             points = whole.points;
             exact = whole.counted.exact;
             at_least = whole.counted.least;
-            at_most = visits_at_most s (height_of s) (family_of table.builder) filled (λ p. IsAmong table.builder table.waiting p ⊎ ⊥) whole.visits whole.points (table.changes + table.passes)
+            at_most = visits_at_most s (height_of s) (family_of table.builder) filled (λ p. IsAmong table.builder table.worklist p ⊎ ⊥) whole.visits whole.points (table.changes + table.passes)
                 whole.visited whole.counted;
           })
 
@@ -277,7 +277,7 @@ module _ (s : Setting) (functions : List (ℕ × ℕ)) (laws : HasLaws s functio
   none_or_endless p r (too_many q h) = inr (λ family short good few. none_where_many h.contexts h.derived h.many family good few)
   none_or_endless p r (never_ends family h) = inl refl
 
-  pub none_good_from : (fault : ProgramFault) → NamesPlace (IsJustified s functions) fault → IsWantOfMemory fault ⊎ IsNeverEnding fault ⊎ NoneIsGood s functions
+  pub none_good_from : (fault : ProgramFault) → NamesPlace (IsJustified s functions) fault → IsOutOfMemory fault ⊎ IsNeverEnding fault ⊎ NoneIsGood s functions
   none_good_from (Refused spot offset r) (p, e, f, h) = elim (none_or_endless p r h) [ inl ends ↦ inr (inl ends) | inr none ↦ inr (inr none) ]
   none_good_from (OutOfMemory e) h = inl tt
 
@@ -287,7 +287,7 @@ module _ (s : Setting) (functions : List (ℕ × ℕ)) (laws : HasLaws s functio
   lacks_short CvtProgram family endless = tt
   lacks_short (GlyphProgram points contours) family endless = absurd (endless tt)
 
-  pub never_ends_from : (family : Place → Option State) → LacksEnd s functions family → (fault : ProgramFault) → NamesPlace (IsJustified s functions) fault → IsWantOfMemory fault ⊎ IsNeverEnding fault
+  pub never_ends_from : (family : Place → Option State) → LacksEnd s functions family → (fault : ProgramFault) → NamesPlace (IsJustified s functions) fault → IsOutOfMemory fault ⊎ IsNeverEnding fault
   never_ends_from family lacks fault h = elim (none_good_from fault h) [
     | inl memory ↦ inl memory
     | inr (inl ends) ↦ inr ends

@@ -16,15 +16,15 @@ use Rattle.tt_cert.specs.Contents.{AddsContext, Contents, HasContext, IsFamily, 
 use Rattle.tt_cert.specs.Places.{states_of}
 use Rattle.tt_cert.specs.Puts.{place_of}
 use Rattle.tt_cert.specs.Spots.{spot_of}
-use Rattle.tt_cert.specs.Checks.{IsWantOfMemory}
+use Rattle.tt_cert.specs.Checks.{IsOutOfMemory}
 use Rattle.tt_cert.specs.declared.fault.ContextFault.{ContextFault}
 use Rattle.tt_cert.specs.declared.fault.ContextFault.TheVariants.{TooManyContexts as TooMany, OutOfMemory as NoMemory}
 use Rattle.tt_cert.specs.declared.fault.ProgramFault.{ProgramFault}
 use Rattle.tt_cert.specs.declared.fault.ProgramFault.TheVariants.{Refused, OutOfMemory}
 use Rattle.tt_find.specs.Found.{IsJustified, NamesPlace}
 use Rattle.tt_find.specs.Tables.{ComesFrom, IsCountable, HasLaws, IsJustAfter, IsLeading, IsLeadingAt, IsLeadingOn, IsLeadingTo, IsOnWay, IsStored, IsWalk, IsWhole, TellsSource, calls_of, here_of, place_behind, place_over, places_from}
-use Rattle.tt_find.specs.declared.source.Source.{Source}
-use Rattle.tt_find.specs.declared.source.Source.TheVariants.{JustBefore, Elsewhere}
+use Rattle.tt_find.specs.declared.origin.Origin.{Origin}
+use Rattle.tt_find.specs.declared.origin.Origin.TheVariants.{JustBefore, Elsewhere}
 use Rattle.tt_find.specs.declared.table.Table.{Table}
 use Rattle.tt_find.specs.declared.walk.Walk.{Walk}
 use Rattle.tt_find.proofs.Points.{frames_stay}
@@ -49,7 +49,7 @@ pub comes_before : (s : Setting) (p q : Place) → Precedes s p q → ComesFrom 
 comes_before s p q just = ((λ _. just), (λ away _. let no_such : JustBefore ≡ Elsewhere = away in cc))
 
 -- from where a state comes to a place
-pub comes_by : (s : Setting) (v : Contents) (c off number next : ℕ) (after : Option ℕ) (source : Source) → IsFamily v → c < length v.contexts → number < length v.contexts
+pub comes_by : (s : Setting) (v : Contents) (c off number next : ℕ) (after : Option ℕ) (source : Origin) → IsFamily v → c < length v.contexts → number < length v.contexts
     → IsJustAfter s (place_of v c off) after → TellsSource c number after next source → ComesFrom s (place_of v c off) (place_of v number next) source
 comes_by s v c off number next after source family lt there is tells = (
   (λ before.
@@ -71,18 +71,18 @@ module _ (s : Setting) (functions : List (ℕ × ℕ)) (laws : HasLaws s functio
   ranged_on table p a way = (derived_is state_order (flow_of s functions) (height_of s) laws.flow p a (way.sound.kept.sound.derived p a way.here)).in_range
 
   -- the state was put at the only place
-  pub whole_put : (old new : Table) (p : Place) (c off : ℕ) (t : State) (source : Source) → IsLeading s functions old p (place_of old.builder c off ∷ []) t → c < length old.builder.contexts
+  pub whole_put : (old new : Table) (p : Place) (c off : ℕ) (t : State) (source : Origin) → IsLeading s functions old p (place_of old.builder c off ∷ []) t → c < length old.builder.contexts
       → IsStored old new c off t source → ComesFrom s p (place_of old.builder c off) source → IsWhole s functions new
   whole_put old new p c off t source leading lt stored comes =
       leading_ends s functions laws new p t (leading_put s functions laws old new p c off t [] source leading lt stored comes)
 
   -- the fault that tells of a context too many
-  pub not_entered : (p : Place) (fault : ContextFault) (result : ProgramFault) → (fault ≡ TooMany → result ≡ Refused (spot_of p.0) p.1 TooManyContexts) → (fault ≡ NoMemory → IsWantOfMemory result)
+  pub not_entered : (p : Place) (fault : ContextFault) (result : ProgramFault) → (fault ≡ TooMany → result ≡ Refused (spot_of p.0) p.1 TooManyContexts) → (fault ≡ NoMemory → IsOutOfMemory result)
       → (fault ≡ TooMany → IsJustified s functions p TooManyContexts) → NamesPlace (IsJustified s functions) result
   not_entered p TooMany result full memory just = names_at (IsJustified s functions) p TooManyContexts result (full refl) (just refl)
   not_entered p NoMemory result full memory just = no_memory result (memory refl)
     where
-      no_memory : (result : ProgramFault) → IsWantOfMemory result → NamesPlace (IsJustified s functions) result
+      no_memory : (result : ProgramFault) → IsOutOfMemory result → NamesPlace (IsJustified s functions) result
       no_memory (Refused spot offset r) never = absurd never
       no_memory (OutOfMemory e) h = tt
 
@@ -162,7 +162,7 @@ module _ (s : Setting) (functions : List (ℕ × ℕ)) (laws : HasLaws s functio
       record { leading = subst L same to.leading; just_after = to.just_after; goes_over = λ n e. let one : next ≡ n = cc in at ∙ ap Some one; walks = to.walks }
 
   -- it has the state now
-  pub put : (old new : Table) (walk walk' : Walk) (off : ℕ) (after : Option ℕ) (ways : Moves) (index : ℕ) (over : Option ℕ) (number next : ℕ) (source : Source)
+  pub put : (old new : Table) (walk walk' : Walk) (off : ℕ) (after : Option ℕ) (ways : Moves) (index : ℕ) (over : Option ℕ) (number next : ℕ) (source : Origin)
       → IsLeadingTo s functions old walk off after ways index over number next → IsStored old new number next walk.state source → TellsSource walk.context number after next source
       → IsWalk new.builder walk' → walk'.context ≡ walk.context → walk'.state ≡ walk.state → IsLeadingOn s functions new walk' off after ways index over
   put old new walk walk' off after ways index over number next source to stored tells is context state =

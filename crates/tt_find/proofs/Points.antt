@@ -97,29 +97,29 @@ module _ (v v' : Contents) (frames : List Frame) (number : ℕ) (adds : AddsCont
 
 module _ (o : Order State) (f : Flow Place State) where
   -- a point is taken out of those that wait
-  pub table_popped : OrderLaws o → (v : Contents) (waiting waiting' : List (ℕ × ℕ)) (filled : Place → Option State) (MayLead : Place → Place → Type 0) (c off : ℕ)
-      → IsTable o f v waiting filled MayLead (λ _. ⊥) (λ _ _ _. ⊥) → waiting ≡ (c, off) ∷ waiting'
-      → IsTable o f v waiting' filled MayLead (λ p. p ≡ place_of v c off) (λ _ _ _. ⊥)
-  table_popped order v waiting waiting' filled MayLead c off table is = record {
+  pub table_popped : OrderLaws o → (v : Contents) (worklist worklist' : List (ℕ × ℕ)) (filled : Place → Option State) (MayLead : Place → Place → Type 0) (c off : ℕ)
+      → IsTable o f v worklist filled MayLead (λ _. ⊥) (λ _ _ _. ⊥) → worklist ≡ (c, off) ∷ worklist'
+      → IsTable o f v worklist' filled MayLead (λ p. p ≡ place_of v c off) (λ _ _ _. ⊥)
+  table_popped order v worklist worklist' filled MayLead c off table is = record {
     family = table.family;
     entered = table.entered;
     held = λ a b m. table.held a b (stays (a, b) m);
-    sound = sound_moved o order f filled MayLead MayLead (λ p. IsAmong v waiting p ⊎ ⊥) (λ p. IsAmong v waiting' p ⊎ (p ≡ place_of v c off)) (λ _ _ _. ⊥) table.sound (λ p q m. m)
+    sound = sound_moved o order f filled MayLead MayLead (λ p. IsAmong v worklist p ⊎ ⊥) (λ p. IsAmong v worklist' p ⊎ (p ≡ place_of v c off)) (λ _ _ _. ⊥) table.sound (λ p q m. m)
         (λ p m. elim m [ inl hit ↦ was p hit | inr never ↦ absurd never ]);
   }
     where
-      has_at : (k : ℕ × ℕ) → has_point waiting k ≡ has_point ((c, off) ∷ waiting') k
+      has_at : (k : ℕ × ℕ) → has_point worklist k ≡ has_point ((c, off) ∷ worklist') k
       has_at k = ap (λ (x : List (ℕ × ℕ)). has_point x k) is
 
-      stays : (k : ℕ × ℕ) → has_point waiting' k ≡ true → has_point waiting k ≡ true
+      stays : (k : ℕ × ℕ) → has_point worklist' k ≡ true → has_point worklist k ≡ true
       stays k m = elim (cases_place k (c, off)) [
-        | inl same ↦ ap (has_point waiting) same ∙ has_at (c, off) ∙ point_here (c, off) waiting'
-        | inr apart ↦ has_at k ∙ point_behind (c, off) k waiting' apart ∙ m
+        | inl same ↦ ap (has_point worklist) same ∙ has_at (c, off) ∙ point_here (c, off) worklist'
+        | inr apart ↦ has_at k ∙ point_behind (c, off) k worklist' apart ∙ m
       ]
 
-      was : (p : Place) → IsAmong v waiting p → IsAmong v waiting' p ⊎ (p ≡ place_of v c off)
+      was : (p : Place) → IsAmong v worklist p → IsAmong v worklist' p ⊎ (p ≡ place_of v c off)
       was p hit = elim (cases_place (key_of v p) (c, off)) [
-        | inr apart ↦ inl (sym (point_behind (c, off) (key_of v p) waiting' apart) ∙ sym (has_at (key_of v p)) ∙ hit)
+        | inr apart ↦ inl (sym (point_behind (c, off) (key_of v p) worklist' apart) ∙ sym (has_at (key_of v p)) ∙ hit)
         | inl same ↦
             let n : number_of v.contexts p.0 ≡ c = ap (λ (x : ℕ × ℕ). x.0) same in
             let b : p.1 ≡ off = ap (λ (x : ℕ × ℕ). x.1) same in
@@ -129,31 +129,31 @@ module _ (o : Order State) (f : Flow Place State) where
       ]
 
   -- the point was carried on
-  pub table_opened : OrderLaws o → (v : Contents) (waiting : List (ℕ × ℕ)) (filled : Place → Option State) (MayLead : Place → Place → Type 0) (q : Place) (s : State) (Rest : Place → Place → State → Type 0)
-      → IsTable o f v waiting filled MayLead (λ p. p ≡ q) (λ _ _ _. ⊥) → filled q ≡ Some s → ((r : Reason) → f.Refuses q s r → ⊥)
+  pub table_opened : OrderLaws o → (v : Contents) (worklist : List (ℕ × ℕ)) (filled : Place → Option State) (MayLead : Place → Place → Type 0) (q : Place) (s : State) (Rest : Place → Place → State → Type 0)
+      → IsTable o f v worklist filled MayLead (λ p. p ≡ q) (λ _ _ _. ⊥) → filled q ≡ Some s → ((r : Reason) → f.Refuses q s r → ⊥)
       → ((p : Place) (t : State) → f.Gives q s p t → Rest q p t) → ((r p : Place) (t : State) → Rest r p t → f.Gives q s p t)
-      → IsTable o f v waiting filled MayLead (λ _. ⊥) Rest
-  table_opened order v waiting filled MayLead q s Rest table at free gives back = record {
+      → IsTable o f v worklist filled MayLead (λ _. ⊥) Rest
+  table_opened order v worklist filled MayLead q s Rest table at free gives back = record {
     family = table.family;
     entered = table.entered;
     held = table.held;
-    sound = sound_opened o order f same_or_apart filled MayLead (λ p. IsAmong v waiting p ⊎ (p ≡ q)) (λ p. IsAmong v waiting p ⊎ ⊥) Rest q s table.sound at free gives back
+    sound = sound_opened o order f same_or_apart filled MayLead (λ p. IsAmong v worklist p ⊎ (p ≡ q)) (λ p. IsAmong v worklist p ⊎ ⊥) Rest q s table.sound at free gives back
         (λ p apart m. elim m [ inl hit ↦ inl hit | inr same ↦ absurd (apart same) ]);
   }
 
   -- a context may have been added
-  pub table_grown : OrderLaws o → (v v' : Contents) (waiting : List (ℕ × ℕ)) (filled : Place → Option State) (MayLead MayLead' : Place → Place → Type 0) (Rest : Place → Place → State → Type 0)
-      (frames : List Frame) (number off : ℕ) (t : State) → IsTable o f v waiting filled MayLead (λ _. ⊥) Rest → AddsContext v.contexts v'.contexts frames number → v'.states ≡ v.states
+  pub table_grown : OrderLaws o → (v v' : Contents) (worklist : List (ℕ × ℕ)) (filled : Place → Option State) (MayLead MayLead' : Place → Place → Type 0) (Rest : Place → Place → State → Type 0)
+      (frames : List Frame) (number off : ℕ) (t : State) → IsTable o f v worklist filled MayLead (λ _. ⊥) Rest → AddsContext v.contexts v'.contexts frames number → v'.states ≡ v.states
       → IsFamily v' → Derived o f (frames, off) t → ((p q : Place) → MayLead p q → MayLead' p q)
-      → IsTable o f v' waiting filled MayLead' (λ _. ⊥) Rest
-  table_grown order v v' waiting filled MayLead MayLead' Rest frames number off t table adds states family' d leads = record {
+      → IsTable o f v' worklist filled MayLead' (λ _. ⊥) Rest
+  table_grown order v v' worklist filled MayLead MayLead' Rest frames number off t table adds states family' d leads = record {
     family = family';
     entered = entered;
     held = λ c b m. let (a, at) = table.held c b m in (a, ap (λ x. states_of x (c, b)) states ∙ at);
-    sound = sound_moved o order f filled MayLead MayLead' (λ p. IsAmong v waiting p ⊎ ⊥) (λ p. IsAmong v' waiting p ⊎ ⊥) Rest table.sound leads (λ p m. elim m [
+    sound = sound_moved o order f filled MayLead MayLead' (λ p. IsAmong v worklist p ⊎ ⊥) (λ p. IsAmong v' worklist p ⊎ ⊥) Rest table.sound leads (λ p m. elim m [
       | inl hit ↦
           let (a, at) = table.held (number_of v.contexts p.0) p.1 hit in
-          inl (ap (has_point waiting) (key_kept v v' frames number adds states p (table.family.held (number_of v.contexts p.0) p.1 a at)) ∙ hit)
+          inl (ap (has_point worklist) (key_kept v v' frames number adds states p (table.family.held (number_of v.contexts p.0) p.1 a at)) ∙ hit)
       | inr never ↦ absurd never
     ]);
   }
@@ -184,20 +184,20 @@ module _ (o : Order State) (f : Flow Place State) where
               ]
 
   -- what waits after a put
-  module _ (v v' : Contents) (waiting waiting' : List (ℕ × ℕ)) (c off : ℕ) (changed : Bool) (same : v'.contexts ≡ v.contexts) (marks : WaitsMore waiting waiting' (c, off) changed)
+  module _ (v v' : Contents) (worklist worklist' : List (ℕ × ℕ)) (c off : ℕ) (changed : Bool) (same : v'.contexts ≡ v.contexts) (marks : WaitsMore worklist worklist' (c, off) changed)
       (family : IsFamily v) (lt : c < length v.contexts) where
     key_same : (p : Place) → ◌≡◌ {A = ℕ × ℕ} (key_of v' p) (key_of v p)
     key_same p = λ i. (number_of (same i) p.0, p.1)
 
-    pub waits_on : (p : Place) → IsAmong v waiting p → IsAmong v' waiting' p
-    waits_on p hit = ap (has_point waiting') (key_same p) ∙ marks.more (key_of v p) hit
+    pub waits_on : (p : Place) → IsAmong v worklist p → IsAmong v' worklist' p
+    waits_on p hit = ap (has_point worklist') (key_same p) ∙ marks.more (key_of v p) hit
 
-    pub waits_here : changed ≡ true → IsAmong v' waiting' (place_of v c off)
-    waits_here is = ap (has_point waiting') (key_same (place_of v c off) ∙ (λ i. (number_at v c family lt i, off))) ∙ marks.here is
+    pub waits_here : changed ≡ true → IsAmong v' worklist' (place_of v c off)
+    waits_here is = ap (has_point worklist') (key_same (place_of v c off) ∙ (λ i. (number_at v c family lt i, off))) ∙ marks.here is
 
-    pub waits_back : ((a b : ℕ) → has_point waiting (a, b) ≡ true → a < length v.contexts) → (p : Place) → IsAmong v' waiting' p
-        → IsAmong v waiting p ⊎ ((p ≡ place_of v c off) × (changed ≡ true))
-    waits_back held p hit = elim (marks.back (key_of v p) (ap (has_point waiting') (sym (key_same p)) ∙ hit)) [
+    pub waits_back : ((a b : ℕ) → has_point worklist (a, b) ≡ true → a < length v.contexts) → (p : Place) → IsAmong v' worklist' p
+        → IsAmong v worklist p ⊎ ((p ≡ place_of v c off) × (changed ≡ true))
+    waits_back held p hit = elim (marks.back (key_of v p) (ap (has_point worklist') (sym (key_same p)) ∙ hit)) [
       | inl old ↦ inl old
       | inr (here, is) ↦
           let n : number_of v.contexts p.0 ≡ c = ap (λ (x : ℕ × ℕ). x.0) here in
@@ -207,24 +207,24 @@ module _ (o : Order State) (f : Flow Place State) where
     ]
 
   -- the first of what is still to be put was put
-  pub table_put : OrderLaws o → (v v' : Contents) (waiting waiting' : List (ℕ × ℕ)) (filled filled' : Place → Option State) (MayLead MayLead' : Place → Place → Type 0) (c off : ℕ) (t : State) (changed : Bool)
+  pub table_put : OrderLaws o → (v v' : Contents) (worklist worklist' : List (ℕ × ℕ)) (filled filled' : Place → Option State) (MayLead MayLead' : Place → Place → Type 0) (c off : ℕ) (t : State) (changed : Bool)
       (Rest Rest' : Place → Place → State → Type 0)
-      → IsTable o f v waiting filled MayLead (λ _. ⊥) Rest → c < length v.contexts → PutsAt o (family_of v) (family_of v') (place_of v c off) t changed
-      → PutsAt o filled filled' (place_of v c off) t changed → v'.contexts ≡ v.contexts → IsFamily v' → WaitsMore waiting waiting' (c, off) changed → Derived o f (place_of v c off) t
+      → IsTable o f v worklist filled MayLead (λ _. ⊥) Rest → c < length v.contexts → PutsAt o (family_of v) (family_of v') (place_of v c off) t changed
+      → PutsAt o filled filled' (place_of v c off) t changed → v'.contexts ≡ v.contexts → IsFamily v' → WaitsMore worklist worklist' (c, off) changed → Derived o f (place_of v c off) t
       → ((p r : Place) (s : State) → Rest p r s → Rest' p r s ⊎ ((r ≡ place_of v c off) × (s ≡ t) × MayLead' p (place_of v c off)))
       → ((p r : Place) (s : State) → Rest' p r s → Rest p r s) → ((p r : Place) → MayLead p r → MayLead' p r)
-      → IsTable o f v' waiting' filled' MayLead' (λ _. ⊥) Rest'
-  table_put order v v' waiting waiting' filled filled' MayLead MayLead' c off t changed Rest Rest' table lt put fills same family marks d fewer back leads =
+      → IsTable o f v' worklist' filled' MayLead' (λ _. ⊥) Rest'
+  table_put order v v' worklist worklist' filled filled' MayLead MayLead' c off t changed Rest Rest' table lt put fills same family marks d fewer back leads =
       let long = ap length same in
       let E : List (List Frame) → Type 0 = λ x. (i : ℕ) → i < length x → (a : ℕ) × (s : State) × Derived o f (frames_at x i, a) s in
       record {
         family = family;
         entered = subst E (sym same) table.entered;
         held = held;
-        sound = sound_put o order f same_or_apart filled filled' MayLead MayLead' (λ p. IsAmong v waiting p ⊎ ⊥) (λ p. IsAmong v' waiting' p ⊎ ⊥) Rest Rest' (place_of v c off) t changed
+        sound = sound_put o order f same_or_apart filled filled' MayLead MayLead' (λ p. IsAmong v worklist p ⊎ ⊥) (λ p. IsAmong v' worklist' p ⊎ ⊥) Rest Rest' (place_of v c off) t changed
             table.sound fills d fewer back leads
-            (λ p m. elim m [ inl hit ↦ inl (waits_on v v' waiting waiting' c off changed same marks table.family lt p hit) | inr never ↦ absurd never ])
-            (λ is. inl (waits_here v v' waiting waiting' c off changed same marks table.family lt is));
+            (λ p m. elim m [ inl hit ↦ inl (waits_on v v' worklist worklist' c off changed same marks table.family lt p hit) | inr never ↦ absurd never ])
+            (λ is. inl (waits_here v v' worklist worklist' c off changed same marks table.family lt is));
       }
     where
       there : (x y : Option State) → PutGives o x t y changed → (a : State) × (y ≡ Some a)
@@ -245,7 +245,7 @@ module _ (o : Order State) (f : Flow Place State) where
             | inr apart ↦ (s, sym moved ∙ put.elsewhere (place_of v a b) apart ∙ family_at v a b table.family lt' ∙ at)
           ]
 
-      held : (a b : ℕ) → has_point waiting' (a, b) ≡ true → (s : State) × (states_of v'.states (a, b) ≡ Some s)
+      held : (a b : ℕ) → has_point worklist' (a, b) ≡ true → (s : State) × (states_of v'.states (a, b) ≡ Some s)
       held a b m = elim (marks.back (a, b) m) [
         | inl old ↦ let (s, at) = table.held a b old in rises a b s at
         | inr (new, _) ↦

@@ -11,7 +11,7 @@ use Rattle.tt_abs.specs.States.{start_of, state_laws, state_order}
 use Rattle.tt_cert.specs.Contents.{family_of, frames_at, number_of}
 use Rattle.tt_cert.specs.Places.{PutGives, PutsAt, has_point, states_of}
 use Rattle.tt_cert.specs.Puts.{number_at, place_of}
-use Rattle.tt_find.specs.declared.source.Source.TheVariants.{Elsewhere}
+use Rattle.tt_find.specs.declared.origin.Origin.TheVariants.{Elsewhere}
 use Rattle.tt_find.specs.declared.table.Table.{Table}
 use Rattle.tt_find.specs.Found.{IsDerived}
 use Rattle.tt_find.specs.Tables.{ArePoints, AreKept, AreVisits, HasLaws, IsAmong, IsEmptyTable, IsListed, IsStored, IsWhole, IsWithinBudget}
@@ -84,16 +84,16 @@ module _ (s : Setting) (functions : List (ℕ × ℕ)) (laws : HasLaws s functio
   some_context : 0 < length old.builder.contexts
   some_context = empty.family.some
 
-  waits : IsAmong new.builder new.waiting Q
-  waits = waits_here state_order (flow_of s functions) old.builder new.builder old.waiting new.waiting 0 0 stored.put.changed stored.put.contexts stored.put.waiting empty.family some_context news.0
+  waits : IsAmong new.builder new.worklist Q
+  waits = waits_here state_order (flow_of s functions) old.builder new.builder old.worklist new.worklist 0 0 stored.put.changed stored.put.contexts stored.put.worklist empty.family some_context news.0
 
-  none_waits : (a b : ℕ) → has_point old.waiting (a, b) ≡ true → ⊥
-  none_waits a b hit = none_waiting old.waiting (a, b) empty.waiting hit
+  none_waits : (a b : ℕ) → has_point old.worklist (a, b) ≡ true → ⊥
+  none_waits a b hit = none_waiting old.worklist (a, b) empty.worklist hit
 
-  back : (p : Place) → IsAmong new.builder new.waiting p → p ≡ Q
-  back p hit = elim (waits_back state_order (flow_of s functions) old.builder new.builder old.waiting new.waiting 0 0 stored.put.changed stored.put.contexts stored.put.waiting empty.family some_context
+  back : (p : Place) → IsAmong new.builder new.worklist p → p ≡ Q
+  back p hit = elim (waits_back state_order (flow_of s functions) old.builder new.builder old.worklist new.worklist 0 0 stored.put.changed stored.put.contexts stored.put.worklist empty.family some_context
       (λ a b m. absurd (none_waits a b m)) p hit) [
-        | inl old' ↦ absurd (none_waiting old.waiting _ empty.waiting old')
+        | inl old' ↦ absurd (none_waiting old.worklist _ empty.worklist old')
         | inr now ↦ now.0
       ]
 
@@ -103,11 +103,11 @@ module _ (s : Setting) (functions : List (ℕ × ℕ)) (laws : HasLaws s functio
       let both : ◌≡◌ {A = Place × State} (([], 0), start_of functions) (Q, t) = λ i. (sym at_start i, sym start i) in
       subst D both started
 
-  waits_all : (p : Place) (a : State) → filled p ≡ Some a → (IsAmong new.builder new.waiting p ⊎ ⊥ → ⊥) → ⊥
-  waits_all p a at free = let (same, _) = is_start p a at in let W : Place → Type 0 = λ x. IsAmong new.builder new.waiting x in free (inl (subst W (sym same) waits))
+  waits_all : (p : Place) (a : State) → filled p ≡ Some a → (IsAmong new.builder new.worklist p ⊎ ⊥ → ⊥) → ⊥
+  waits_all p a at free = let (same, _) = is_start p a at in let W : Place → Type 0 = λ x. IsAmong new.builder new.worklist x in free (inl (subst W (sym same) waits))
 
-  held : (a b : ℕ) → has_point new.waiting (a, b) ≡ true → (u : State) × (states_of new.builder.states (a, b) ≡ Some u)
-  held a b hit = elim (stored.put.waiting.back (a, b) hit) [
+  held : (a b : ℕ) → has_point new.worklist (a, b) ≡ true → (u : State) × (states_of new.builder.states (a, b) ≡ Some u)
+  held a b hit = elim (stored.put.worklist.back (a, b) hit) [
     | inl old' ↦ absurd (none_waits a b old')
     | inr (now, _) ↦
         let long = ap length stored.put.contexts in
@@ -166,7 +166,7 @@ module _ (s : Setting) (functions : List (ℕ × ℕ)) (laws : HasLaws s functio
         budget = subst B (sym (stored.put.changes ∙ ap (λ n. n + cond stored.put.changed 1 0) empty.changes))
             (budget_start state_order state_laws (height_of s) old.builder new.builder t stored.put.changed empty.states low stored.put.put stored.put.sums);
         visits = one_more (λ _. 0) Q;
-        visited = visits_changed s (height_of s) (family_of old.builder) (family_of new.builder) (family_of old.builder) filled (λ _. ⊥) (λ p. IsAmong new.builder new.waiting p ⊎ ⊥) (λ _. 0) Q t
+        visited = visits_changed s (height_of s) (family_of old.builder) (family_of new.builder) (family_of old.builder) filled (λ _. ⊥) (λ p. IsAmong new.builder new.worklist p ⊎ ⊥) (λ _. 0) Q t
             (no_visits s (height_of s) (family_of old.builder) blank) (subst P news.0 stored.put.put) refl (slot_here (family_of old.builder) Q slot)
             (λ p apart. slot_elsewhere (family_of old.builder) Q slot p apart) low (λ a at. absurd (let no_such : None ≡ Some a = sym (blank Q) ∙ at in cc))
             (λ p w. elim w [ inl hit ↦ inr (back p hit) | inr never ↦ absurd never ]);

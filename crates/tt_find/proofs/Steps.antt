@@ -28,7 +28,7 @@ use Rattle.tt_cert.specs.declared.fault.ProgramFault.TheVariants.{Refused, OutOf
 use Rattle.tt_find.specs.Marks.{SetsMark, mark_of}
 use Rattle.tt_find.specs.declared.marks.Mark.TheVariants.{Kept, Passed}
 use Rattle.tt_find.specs.declared.marks.Marks.{Marks}
-use Rattle.tt_find.specs.declared.source.Source.{Source}
+use Rattle.tt_find.specs.declared.origin.Origin.{Origin}
 use Rattle.tt_find.specs.declared.stop.Stop.{Stop}
 use Rattle.tt_find.specs.declared.stop.Stop.TheVariants.{Fault, Met}
 use Rattle.tt_find.specs.declared.table.Table.{Table}
@@ -58,11 +58,11 @@ names_at Is p r fault e h = let N : ProgramFault → Type 0 = λ x. NamesPlace I
 
 pub risen_on : (a b c : Table) → HasRisen a b → HasRisen b c → HasRisen a c
 risen_on a b c h k =
-    let m = h.waiting in
-    let m' = k.waiting in
+    let m = h.worklist in
+    let m' = k.worklist in
     let u = h.changes in
     let u' = k.changes in
-    record { waiting = omega arith; changes = omega arith }
+    record { worklist = omega arith; changes = omega arith }
 
 -- what is put of two ways
 pends_swap : (q r : Place) (qs : List Place) (t : State) (p : Place) (u : State) → Pends (q ∷ r ∷ qs) t p u → Pends (r ∷ q ∷ qs) t p u
@@ -74,11 +74,11 @@ pends_swap q r qs t p u h = elim h [
 module _ (s : Setting) (functions : List (ℕ × ℕ)) (laws : HasLaws s functions) where
   -- The first of the points that wait is taken out.
 
-  module _ (table : Table) (c off : ℕ) (rest : List (ℕ × ℕ)) (whole : IsWhole s functions table) (is : table.waiting ≡ (c, off) ∷ rest) where
-    has_at : (k : ℕ × ℕ) → has_point table.waiting k ≡ has_point ((c, off) ∷ rest) k
+  module _ (table : Table) (c off : ℕ) (rest : List (ℕ × ℕ)) (whole : IsWhole s functions table) (is : table.worklist ≡ (c, off) ∷ rest) where
+    has_at : (k : ℕ × ℕ) → has_point table.worklist k ≡ has_point ((c, off) ∷ rest) k
     has_at k = ap (λ (x : List (ℕ × ℕ)). has_point x k) is
 
-    waited : has_point table.waiting (c, off) ≡ true
+    waited : has_point table.worklist (c, off) ≡ true
     waited = has_at (c, off) ∙ point_here (c, off) rest
 
     pub held_first : (a : State) × (states_of table.builder.states (c, off) ≡ Some a)
@@ -87,32 +87,32 @@ module _ (s : Setting) (functions : List (ℕ × ℕ)) (laws : HasLaws s functio
     pub there_first : c < length table.builder.contexts
     there_first = let (a, at) = held_first in whole.kept.family.held c off a at
 
-    waited_there : IsAmong table.builder table.waiting (place_of table.builder c off)
-    waited_there = ap (has_point table.waiting) (λ i. (number_at table.builder c whole.kept.family there_first i, off)) ∙ waited
+    waited_there : IsAmong table.builder table.worklist (place_of table.builder c off)
+    waited_there = ap (has_point table.worklist) (λ i. (number_at table.builder c whole.kept.family there_first i, off)) ∙ waited
 
-    waited_still : (k : ℕ × ℕ) → has_point rest k ≡ true → has_point table.waiting k ≡ true
+    waited_still : (k : ℕ × ℕ) → has_point rest k ≡ true → has_point table.worklist k ≡ true
     waited_still k m = elim (cases_place k (c, off)) [
-      | inl same ↦ ap (has_point table.waiting) same ∙ waited
+      | inl same ↦ ap (has_point table.worklist) same ∙ waited
       | inr other ↦ has_at k ∙ point_behind (c, off) k rest other ∙ m
     ]
 
-    waited_before : (q : Place) → IsAmong table.builder rest q ⊎ (q ≡ place_of table.builder c off) → IsAmong table.builder table.waiting q ⊎ ⊥
+    waited_before : (q : Place) → IsAmong table.builder rest q ⊎ (q ≡ place_of table.builder c off) → IsAmong table.builder table.worklist q ⊎ ⊥
     waited_before q w = elim w [
       | inl hit ↦ inl (waited_still (key_of table.builder q) hit)
-      | inr same ↦ let W : Place → Type 0 = λ x. IsAmong table.builder table.waiting x in inl (subst W (sym same) waited_there)
+      | inr same ↦ let W : Place → Type 0 = λ x. IsAmong table.builder table.worklist x in inl (subst W (sym same) waited_there)
     ]
 
-    pub popped_left : has_point rest (c, off) ≡ false → IsPopped s functions (record table { waiting = rest }) c off
+    pub popped_left : has_point rest (c, off) ≡ false → IsPopped s functions (record table { worklist = rest }) c off
     popped_left first = record {
       sound = record {
         filled = whole.filled;
-        kept = table_popped state_order (flow_of s functions) state_laws table.builder table.waiting rest whole.filled (MayLead s table.builder table.spare.keys) c off whole.kept is;
+        kept = table_popped state_order (flow_of s functions) state_laws table.builder table.worklist rest whole.filled (MayLead s table.builder table.spare.keys) c off whole.kept is;
         marks = whole.marks;
         start = whole.start;
         needed = whole.needed;
         budget = whole.budget;
         visits = whole.visits;
-        visited = visits_same s (height_of s) (family_of table.builder) (family_of table.builder) whole.filled whole.filled (λ q. IsAmong table.builder table.waiting q ⊎ ⊥)
+        visited = visits_same s (height_of s) (family_of table.builder) (family_of table.builder) whole.filled whole.filled (λ q. IsAmong table.builder table.worklist q ⊎ ⊥)
             (λ q. IsAmong table.builder rest q ⊎ (q ≡ place_of table.builder c off)) whole.visits whole.visited (λ _. refl) (λ _. refl) waited_before;
         points = whole.points;
         counted = whole.counted;
@@ -132,7 +132,7 @@ module _ (s : Setting) (functions : List (ℕ × ℕ)) (laws : HasLaws s functio
         sound = popped.sound;
         here = kept_state table.marks (family_of table.builder) popped.sound.filled (place_of table.builder c off) a popped.sound.marks (family_at table.builder c off family lt ∙ at);
         apart = λ hit.
-            let no_such : true ≡ false = sym hit ∙ ap (has_point table.waiting) (λ i. (number_at table.builder c family lt i, off)) ∙ popped.apart in
+            let no_such : true ≡ false = sym hit ∙ ap (has_point table.worklist) (λ i. (number_at table.builder c family lt i, off)) ∙ popped.apart in
             cc;
       }
 
@@ -144,15 +144,15 @@ module _ (s : Setting) (functions : List (ℕ × ℕ)) (laws : HasLaws s functio
       let sound = way.sound in
       record {
         filled = sound.filled;
-        kept = table_opened state_order (flow_of s functions) state_laws table.builder table.waiting sound.filled (MayLead s table.builder table.spare.keys) p a (λ _ _ _. ⊥) sound.kept way.here
+        kept = table_opened state_order (flow_of s functions) state_laws table.builder table.worklist sound.filled (MayLead s table.builder table.spare.keys) p a (λ _ _ _. ⊥) sound.kept way.here
             (end_safe s p a ends) (λ q t g. (end_gives s p a ends q t).1 g) (λ _ _ _ never. absurd never);
         marks = sound.marks;
         start = sound.start;
         needed = sound.needed;
         budget = sound.budget;
         visits = sound.visits;
-        visited = visits_same s (height_of s) (family_of table.builder) (family_of table.builder) sound.filled sound.filled (λ q. IsAmong table.builder table.waiting q ⊎ (q ≡ p))
-            (λ q. IsAmong table.builder table.waiting q ⊎ ⊥) sound.visits sound.visited (λ _. refl) (λ _. refl) (λ q w. elim w [ inl hit ↦ inl hit | inr never ↦ absurd never ]);
+        visited = visits_same s (height_of s) (family_of table.builder) (family_of table.builder) sound.filled sound.filled (λ q. IsAmong table.builder table.worklist q ⊎ (q ≡ p))
+            (λ q. IsAmong table.builder table.worklist q ⊎ ⊥) sound.visits sound.visited (λ _. refl) (λ _. refl) (λ q w. elim w [ inl hit ↦ inl hit | inr never ↦ absurd never ]);
         points = sound.points;
         counted = sound.counted;
       }
@@ -169,15 +169,15 @@ module _ (s : Setting) (functions : List (ℕ × ℕ)) (laws : HasLaws s functio
         gives = λ q u h. (give q u).0 h;
         sound = record {
           filled = sound.filled;
-          kept = table_opened state_order (flow_of s functions) state_laws table.builder table.waiting sound.filled (MayLead s table.builder table.spare.keys) p a (PendsFrom p (places_from p.0 ways 0) t)
+          kept = table_opened state_order (flow_of s functions) state_laws table.builder table.worklist sound.filled (MayLead s table.builder table.spare.keys) p a (PendsFrom p (places_from p.0 ways 0) t)
               sound.kept way.here (ways_safe s p a ways t on.running on.result on.in_range) (λ q u g. (refl, (give q u).1 g)) (λ r q u h. (give q u).0 h.1);
           marks = sound.marks;
           start = sound.start;
           needed = sound.needed;
           budget = sound.budget;
           visits = sound.visits;
-          visited = visits_same s (height_of s) (family_of table.builder) (family_of table.builder) sound.filled sound.filled (λ q. IsAmong table.builder table.waiting q ⊎ (q ≡ p))
-              (λ q. IsAmong table.builder table.waiting q ⊎ ⊥) sound.visits sound.visited (λ _. refl) (λ _. refl) (λ q w. elim w [ inl hit ↦ inl hit | inr never ↦ absurd never ]);
+          visited = visits_same s (height_of s) (family_of table.builder) (family_of table.builder) sound.filled sound.filled (λ q. IsAmong table.builder table.worklist q ⊎ (q ≡ p))
+              (λ q. IsAmong table.builder table.worklist q ⊎ ⊥) sound.visits sound.visited (λ _. refl) (λ _. refl) (λ q w. elim w [ inl hit ↦ inl hit | inr never ↦ absurd never ]);
           points = sound.points;
           counted = sound.counted;
         };
@@ -252,7 +252,7 @@ module _ (s : Setting) (functions : List (ℕ × ℕ)) (laws : HasLaws s functio
 
   -- The state was put at the first of the places.
 
-  module _ (old new : Table) (p : Place) (c off : ℕ) (t : State) (qs : List Place) (source : Source) (leading : IsLeading s functions old p (place_of old.builder c off ∷ qs) t)
+  module _ (old new : Table) (p : Place) (c off : ℕ) (t : State) (qs : List Place) (source : Origin) (leading : IsLeading s functions old p (place_of old.builder c off ∷ qs) t)
       (lt : c < length old.builder.contexts) (stored : IsStored old new c off t source) (comes : ComesFrom s p (place_of old.builder c off) source) where
     abbrev Q : Place
     Q = place_of old.builder c off
@@ -287,15 +287,15 @@ module _ (s : Setting) (functions : List (ℕ × ℕ)) (laws : HasLaws s functio
         let both : ◌≡◌ {A = Option State × Option State} (family_of old.builder Q, slot) (filled Q, filled' Q) = λ i. (kept_q i, sym filled_here i) in
         record { here = subst G both stored.put.put.here; elsewhere = filled_else }
 
-    back : (r : Place) → IsAmong new.builder new.waiting r → IsAmong old.builder old.waiting r ⊎ ((r ≡ Q) × (stored.put.changed ≡ true))
-    back = waits_back state_order (flow_of s functions) old.builder new.builder old.waiting new.waiting c off stored.put.changed stored.put.contexts stored.put.waiting family_v lt
+    back : (r : Place) → IsAmong new.builder new.worklist r → IsAmong old.builder old.worklist r ⊎ ((r ≡ Q) × (stored.put.changed ≡ true))
+    back = waits_back state_order (flow_of s functions) old.builder new.builder old.worklist new.worklist c off stored.put.changed stored.put.contexts stored.put.worklist family_v lt
         (λ a b m. let (x, at) = leading.sound.kept.held a b m in family_v.held a b x at)
 
-    on : (r : Place) → IsAmong old.builder old.waiting r → IsAmong new.builder new.waiting r
-    on = waits_on state_order (flow_of s functions) old.builder new.builder old.waiting new.waiting c off stored.put.changed stored.put.contexts stored.put.waiting family_v lt
+    on : (r : Place) → IsAmong old.builder old.worklist r → IsAmong new.builder new.worklist r
+    on = waits_on state_order (flow_of s functions) old.builder new.builder old.worklist new.worklist c off stored.put.changed stored.put.contexts stored.put.worklist family_v lt
 
-    on_here : stored.put.changed ≡ true → IsAmong new.builder new.waiting Q
-    on_here = waits_here state_order (flow_of s functions) old.builder new.builder old.waiting new.waiting c off stored.put.changed stored.put.contexts stored.put.waiting family_v lt
+    on_here : stored.put.changed ≡ true → IsAmong new.builder new.worklist Q
+    on_here = waits_here state_order (flow_of s functions) old.builder new.builder old.worklist new.worklist c off stored.put.changed stored.put.contexts stored.put.worklist family_v lt
 
     leads : (a b : Place) → MayLead s old.builder old.spare.keys a b → MayLead s new.builder new.spare.keys a b
     leads a b may = elim may [
@@ -325,9 +325,9 @@ module _ (s : Setting) (functions : List (ℕ × ℕ)) (laws : HasLaws s functio
               }))
         ]
 
-    kept_now : IsTable state_order (flow_of s functions) new.builder new.waiting filled' (MayLead s new.builder new.spare.keys) (λ _. ⊥) (PendsFrom p qs t)
-    kept_now = table_put state_order (flow_of s functions) state_laws old.builder new.builder old.waiting new.waiting filled filled' (MayLead s old.builder old.spare.keys) (MayLead s new.builder new.spare.keys)
-        c off t stored.put.changed (PendsFrom p (Q ∷ qs) t) (PendsFrom p qs t) leading.sound.kept lt stored.put.put fills stored.put.contexts stored.put.family stored.put.waiting derived_q
+    kept_now : IsTable state_order (flow_of s functions) new.builder new.worklist filled' (MayLead s new.builder new.spare.keys) (λ _. ⊥) (PendsFrom p qs t)
+    kept_now = table_put state_order (flow_of s functions) state_laws old.builder new.builder old.worklist new.worklist filled filled' (MayLead s old.builder old.spare.keys) (MayLead s new.builder new.spare.keys)
+        c off t stored.put.changed (PendsFrom p (Q ∷ qs) t) (PendsFrom p qs t) leading.sound.kept lt stored.put.put fills stored.put.contexts stored.put.family stored.put.worklist derived_q
         (λ a r u h. elim h.1 [
           | inl now ↦ let M : Place → Type 0 = λ x. MayLead s new.builder new.spare.keys x Q in inr (now.0, now.1, subst M (sym h.0) leads_here)
           | inr later ↦ inl (h.0, later)
@@ -343,9 +343,9 @@ module _ (s : Setting) (functions : List (ℕ × ℕ)) (laws : HasLaws s functio
         (leading.sound.kept.sound.derived r a (kept_state old.marks (family_of old.builder) filled r a leading.sound.marks at))).in_range
 
     -- with new counts of visits
-    made : (visits : Place → ℕ) (points : List Place) → AreVisits s (height_of s) (family_of new.builder) filled' (λ r. IsAmong new.builder new.waiting r ⊎ ⊥) visits
+    made : (visits : Place → ℕ) (points : List Place) → AreVisits s (height_of s) (family_of new.builder) filled' (λ r. IsAmong new.builder new.worklist r ⊎ ⊥) visits
         → ArePoints filled' visits points (new.changes + new.passes) → ((r : Place) → Precedes s p r → family_of new.builder r ≡ None → visits r + 1 ≤ visits p)
-        → (IsAmong new.builder new.waiting p → (r : Place) → Precedes s p r → family_of new.builder r ≡ None → visits r + 2 ≤ visits p) → IsLeading s functions new p qs t
+        → (IsAmong new.builder new.worklist p → (r : Place) → Precedes s p r → family_of new.builder r ≡ None → visits r + 2 ≤ visits p) → IsLeading s functions new p qs t
     made visits points visited counted ahead twice = record {
       state = leading.state;
       derived = leading.derived;
@@ -364,7 +364,7 @@ module _ (s : Setting) (functions : List (ℕ × ℕ)) (laws : HasLaws s functio
         counted = counted;
       };
       here = λ free.
-          stays state_order state_laws (flow_of s functions) same_or_apart filled filled' (λ r. IsAmong new.builder new.waiting r) Q t stored.put.changed fills on_here p free
+          stays state_order state_laws (flow_of s functions) same_or_apart filled filled' (λ r. IsAmong new.builder new.worklist r) Q t stored.put.changed fills on_here p free
           ∙ leading.here (λ hit. free (on p hit));
       ahead = ahead;
       twice = twice;
@@ -384,7 +384,7 @@ module _ (s : Setting) (functions : List (ℕ × ℕ)) (laws : HasLaws s functio
         let gone : (r : Place) → family_of new.builder r ≡ None → r ≢ Q =
         λ r none same. absurd (let no_such : Some u ≡ None = sym at ∙ ap (family_of new.builder) (sym same) ∙ none in cc) in
         made (one_more visits Q) points
-        (visits_changed s (height_of s) (family_of old.builder) (family_of new.builder) filled filled' (λ r. IsAmong old.builder old.waiting r ⊎ ⊥) (λ r. IsAmong new.builder new.waiting r ⊎ ⊥) visits Q t
+        (visits_changed s (height_of s) (family_of old.builder) (family_of new.builder) filled filled' (λ r. IsAmong old.builder old.worklist r ⊎ ⊥) (λ r. IsAmong new.builder new.worklist r ⊎ ⊥) visits Q t
         leading.sound.visited (subst P is stored.put.put) kept_q filled_here filled_else low (ranged Q)
         (λ r w. elim w [ inl hit ↦ elim (back r hit) [ inl old' ↦ inl (inl old') | inr now ↦ inr now.0 ] | inr never ↦ absurd never ]))
         (subst A count counted)
@@ -420,7 +420,7 @@ module _ (s : Setting) (functions : List (ℕ × ℕ)) (laws : HasLaws s functio
         let count : old.changes + old.passes ≡ new.changes + new.passes = omega arith in
         let A : ℕ → Type 0 = λ n. ArePoints filled' visits leading.sound.points n in
         made visits leading.sound.points
-        (visits_same s (height_of s) (family_of old.builder) (family_of new.builder) filled filled' (λ r. IsAmong old.builder old.waiting r ⊎ ⊥) (λ r. IsAmong new.builder new.waiting r ⊎ ⊥) visits
+        (visits_same s (height_of s) (family_of old.builder) (family_of new.builder) filled filled' (λ r. IsAmong old.builder old.worklist r ⊎ ⊥) (λ r. IsAmong new.builder new.worklist r ⊎ ⊥) visits
         leading.sound.visited (stored_is kept) (filled_is kept)
         (λ r w. elim w [ inl hit ↦ elim (back r hit) [ inl old' ↦ inl old' | inr now ↦ absurd (not_changed is now.1) ] | inr never ↦ absurd never ]))
         (subst A count (points_same filled filled' visits leading.sound.points (old.changes + old.passes) leading.sound.counted (filled_is kept)))
@@ -485,7 +485,7 @@ module _ (s : Setting) (functions : List (ℕ × ℕ)) (laws : HasLaws s functio
       | inr listed ↦ absurd (let no_such : None ≡ Some listed.state = sym gone ∙ listed.kept in cc)
     ]
 
-    not_waiting : IsAmong old.builder old.waiting O → ⊥
+    not_waiting : IsAmong old.builder old.worklist O → ⊥
     not_waiting hit =
         let (a, at) = leading.sound.kept.held (number_of old.builder.contexts O.0) off hit in
         let no_such : None ≡ Some a = sym gone ∙ at in cc
@@ -503,8 +503,8 @@ module _ (s : Setting) (functions : List (ℕ × ℕ)) (laws : HasLaws s functio
               family = leading.sound.kept.family;
               entered = leading.sound.kept.entered;
               held = leading.sound.kept.held;
-              sound = sound_passed state_order state_laws (flow_of s functions) same_or_apart over over' (MayLead s old.builder old.spare.keys) (λ r. IsAmong old.builder old.waiting r ⊎ ⊥)
-                  (λ r. IsAmong old.builder old.waiting r ⊎ (r ≡ O)) (PendsFrom p (O ∷ []) t) p O leading.state t leading.sound.kept.sound here elsewhere derived_over
+              sound = sound_passed state_order state_laws (flow_of s functions) same_or_apart over over' (MayLead s old.builder old.spare.keys) (λ r. IsAmong old.builder old.worklist r ⊎ ⊥)
+                  (λ r. IsAmong old.builder old.worklist r ⊎ (r ≡ O)) (PendsFrom p (O ∷ []) t) p O leading.state t leading.sound.kept.sound here elsewhere derived_over
                   (λ r x u h. elim h.1 [ inl now ↦ (h.0, now.0, now.1) | inr never ↦ absurd never ]) (inl just) only (leading.gives O t (inl (refl, refl)))
                   (λ u v g g'. laws.flow.one_at p leading.state O u v g g') not_entry (λ free. leading.here (λ hit. free (inl hit)))
                   (λ r w. elim w [ inl hit ↦ inl hit | inr never ↦ absurd never ]) (inr refl);
@@ -514,7 +514,7 @@ module _ (s : Setting) (functions : List (ℕ × ℕ)) (laws : HasLaws s functio
             needed = leading.sound.needed;
             budget = leading.sound.budget;
             visits = one_more leading.sound.visits O;
-            visited = visits_passed s (height_of s) (family_of old.builder) over over' (λ r. IsAmong old.builder old.waiting r ⊎ ⊥) (λ r. IsAmong old.builder old.waiting r ⊎ (r ≡ O))
+            visited = visits_passed s (height_of s) (family_of old.builder) over over' (λ r. IsAmong old.builder old.worklist r ⊎ ⊥) (λ r. IsAmong old.builder old.worklist r ⊎ (r ≡ O))
                 leading.sound.visits p O t leading.sound.visited gone here elsewhere just (leading.ahead O just gone)
                 (λ w. elim w [ inl hit ↦ leading.twice hit O just gone | inr never ↦ absurd never ])
                 (λ r w. elim w [ inl hit ↦ inl (inl hit) | inr same ↦ inr same ]);
@@ -538,18 +538,18 @@ module _ (s : Setting) (functions : List (ℕ × ℕ)) (laws : HasLaws s functio
     same_family : (r : Place) → family_of v' r ≡ family_of table.builder r
     same_family = family_kept table.builder v' frames number adds states family_old family'
 
-    waits_later : (r : Place) → IsAmong table.builder table.waiting r → IsAmong v' table.waiting r
+    waits_later : (r : Place) → IsAmong table.builder table.worklist r → IsAmong v' table.worklist r
     waits_later r hit =
         let (a, at) = leading.sound.kept.held (number_of table.builder.contexts r.0) r.1 hit in
-        ap (has_point table.waiting) (key_kept table.builder v' frames number adds states r (family_old.held (number_of table.builder.contexts r.0) r.1 a at)) ∙ hit
+        ap (has_point table.worklist) (key_kept table.builder v' frames number adds states r (family_old.held (number_of table.builder.contexts r.0) r.1 a at)) ∙ hit
 
-    waits_before : (r : Place) → IsAmong v' table.waiting r → IsAmong table.builder table.waiting r
+    waits_before : (r : Place) → IsAmong v' table.worklist r → IsAmong table.builder table.worklist r
     waits_before r hit =
         let (a, at) = leading.sound.kept.held (number_of v'.contexts r.0) r.1 hit in
         let old : number_of v'.contexts r.0 < length table.builder.contexts = family_old.held (number_of v'.contexts r.0) r.1 a at in
         let (stay, there) = frames_stay table.builder.contexts v'.contexts frames number (number_of v'.contexts r.0) adds old in
         let most = number_of-place table.builder.contexts r.0 (number_of v'.contexts r.0) old (sym stay ∙ at-number_of v'.contexts r.0 there) in
-        ap (has_point table.waiting) (sym (key_kept table.builder v' frames number adds states r (omega arith))) ∙ hit
+        ap (has_point table.worklist) (sym (key_kept table.builder v' frames number adds states r (omega arith))) ∙ hit
 
     pub leading_grown : IsLeading s functions (record table { builder = v' }) p ((frames, off) ∷ qs) t
     leading_grown = record {
@@ -558,7 +558,7 @@ module _ (s : Setting) (functions : List (ℕ × ℕ)) (laws : HasLaws s functio
       gives = leading.gives;
       sound = record {
         filled = leading.sound.filled;
-        kept = table_grown state_order (flow_of s functions) state_laws table.builder v' table.waiting leading.sound.filled (MayLead s table.builder table.spare.keys) (MayLead s v' table.spare.keys)
+        kept = table_grown state_order (flow_of s functions) state_laws table.builder v' table.worklist leading.sound.filled (MayLead s table.builder table.spare.keys) (MayLead s v' table.spare.keys)
             (PendsFrom p ((frames, off) ∷ qs) t) frames number off t leading.sound.kept adds states family' (leading.sound.kept.sound.rest_derived p (frames, off) t (refl, inl (refl, refl)))
             (λ a b may. elim may [ inl just ↦ inl just | inr listed ↦ inr (listed_grown table.builder v' table.spare.keys frames number family_old family' adds states b listed) ]);
         marks = record {
@@ -570,8 +570,8 @@ module _ (s : Setting) (functions : List (ℕ × ℕ)) (laws : HasLaws s functio
         needed = λ r listed. leading.sound.needed r (listed_before table.builder v' table.spare.keys frames number family_old family' adds states r listed);
         budget = budget_same state_order state_laws (height_of s) table.builder v' table.changes states leading.sound.budget;
         visits = leading.sound.visits;
-        visited = visits_same s (height_of s) (family_of table.builder) (family_of v') leading.sound.filled leading.sound.filled (λ r. IsAmong table.builder table.waiting r ⊎ ⊥)
-            (λ r. IsAmong v' table.waiting r ⊎ ⊥) leading.sound.visits leading.sound.visited same_family (λ _. refl)
+        visited = visits_same s (height_of s) (family_of table.builder) (family_of v') leading.sound.filled leading.sound.filled (λ r. IsAmong table.builder table.worklist r ⊎ ⊥)
+            (λ r. IsAmong v' table.worklist r ⊎ ⊥) leading.sound.visits leading.sound.visited same_family (λ _. refl)
             (λ r w. elim w [ inl hit ↦ inl (waits_before r hit) | inr never ↦ absurd never ]);
         points = leading.sound.points;
         counted = leading.sound.counted;
@@ -678,7 +678,7 @@ module _ (s : Setting) (functions : List (ℕ × ℕ)) (laws : HasLaws s functio
       })
 
 -- a put, after the point's offset was marked
-pub stored_from : (old middle new last : Table) (c off : ℕ) (t : State) (source : Source) (marks : Marks) → middle ≡ record old { marks = marks } → IsPut middle new c off t → KeepsRest middle new
+pub stored_from : (old middle new last : Table) (c off : ℕ) (t : State) (source : Origin) (marks : Marks) → middle ≡ record old { marks = marks } → IsPut middle new c off t → KeepsRest middle new
     → mark_of old.marks (spot_of (frames_at old.builder.contexts c)) off ≢ Passed → SetsMark old.marks marks (spot_of (frames_at old.builder.contexts c)) off Kept
     → SparesAt new.spare.keys last.spare.keys (c, off) (family_of old.builder (place_of old.builder c off)) source → last ≡ record new { spare = last.spare }
     → IsStored old last c off t source
@@ -693,9 +693,9 @@ stored_from old middle new last c off t source marks is put rest fresh sets spar
         sums = from.sums;
         contexts = from.contexts;
         family = from.family;
-        waiting = from.waiting;
+        worklist = from.worklist;
         changes = from.changes;
-        risen = record { waiting = from.risen.waiting; changes = from.risen.changes };
+        risen = record { worklist = from.risen.worklist; changes = from.risen.changes };
       };
       fresh = fresh;
       marks = let M : Marks → Type 0 = λ x. SetsMark old.marks x (spot_of (frames_at old.builder.contexts c)) off Kept in subst M (sym kept.marks) sets;

@@ -14,7 +14,7 @@ use Rattle.std.proofs.lemmas.List.Folds.{list_any_none}
 use Rattle.std.proofs.lemmas.Map.Views.{All-insert_key}
 use Rattle.tt_cert.specs.Places.{has_point, place_cmp}
 use Rattle.tt_cert.proofs.Puts.{cases_place, places_apart}
-use Rattle.tt_find.specs.Waiting.{AreInOrder, waiting_of}
+use Rattle.tt_find.specs.Worklist.{AreInOrder, waiting_of}
 use Rattle.tt_find.specs.Tables.{WaitsMore}
 
 place_total : IsTotalOrder place_cmp

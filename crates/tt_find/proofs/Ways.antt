@@ -59,8 +59,8 @@ module _ (s : Setting) (p : Place) (a : State) where
           in_range = subst R (sym same) in_range;
         }
 
-    waiting : (q : Place) (u : State) → GivesState s p a q u → Pends (places_from p.0 ways 0) t q u
-    waiting q u g =
+    worklist : (q : Place) (u : State) → GivesState s p a q u → Pends (places_from p.0 ways 0) t q u
+    worklist q u g =
         let ok : Ok g.nexts ≡ Ok (nexts_of p.0 ways (abstract_of t)) = sym g.result ∙ result in
         let same : g.nexts ≡ nexts_of p.0 ways (abstract_of t) = cc in
         let found : slice_get (nexts_of p.0 ways (abstract_of t)) g.index ≡ Some g.next = ap (λ (ns : List Next). slice_get ns g.index) (sym same) ∙ g.found in
@@ -71,4 +71,4 @@ module _ (s : Setting) (p : Place) (a : State) where
         subst W both (pends_at p.0 (ways_of ways) t g.index g.next found)
 
     pub ways_give : (q : Place) (u : State) → Pends (places_from p.0 ways 0) t q u ↔ GivesState s p a q u
-    ways_give q u = (given q u, waiting q u)
+    ways_give q u = (given q u, worklist q u)

@@ -8,7 +8,7 @@ use Rattle.tt_code.specs.declared.reason.Reason.TheVariants.{DepthMismatch}
 use Rattle.tt_abs.specs.declared.moves.Move.{Move}
 use Rattle.tt_abs.specs.declared.moves.Moves.{Moves}
 use Rattle.tt_abs.specs.declared.state.State.{State}
-use Rattle.tt_abs.specs.declared.stepping.Stepped.{Stepped}
+use Rattle.tt_abs.specs.declared.instruction.Stepped.{Stepped}
 use Rattle.tt_abs.specs.Families.{CoversAt, Derived}
 use Rattle.tt_abs.specs.Flows.{Flow, FlowLaws}
 use Rattle.tt_abs.specs.Lines.{EndsAt, Precedes}
@@ -24,13 +24,13 @@ use Rattle.tt_cert.specs.Places.{PutsAt, has_point, states_of}
 use Rattle.tt_cert.specs.Puts.{Reweighs, place_of}
 use Rattle.tt_cert.specs.Spots.{spot_of}
 use Rattle.tt_cert.specs.declared.spot.Spot.{Spot}
-use Rattle.tt_cert.specs.Walks.{IsAfter}
+use Rattle.tt_cert.specs.Cursors.{IsAfter}
 use Rattle.tt_find.specs.Found.{ArePointsOf, IsDerived, IsNeeded}
 use Rattle.tt_find.specs.Marks.{SetsMark, mark_at, mark_of}
 use Rattle.tt_find.specs.declared.marks.Mark.TheVariants.{Free, Kept, Passed}
 use Rattle.tt_find.specs.declared.marks.Marks.{Marks}
-use Rattle.tt_find.specs.declared.source.Source.{Source}
-use Rattle.tt_find.specs.declared.source.Source.TheVariants.{JustBefore, Elsewhere}
+use Rattle.tt_find.specs.declared.origin.Origin.{Origin}
+use Rattle.tt_find.specs.declared.origin.Origin.TheVariants.{JustBefore, Elsewhere}
 use Rattle.tt_find.specs.declared.table.Table.{Table}
 use Rattle.tt_find.specs.declared.walk.Walk.{Walk}
 
@@ -50,12 +50,12 @@ IsAmong contents points p = has_point points (key_of contents p) ≡ true
 
 -- Each context was entered with a derived state; each point that waits has a state; the family is sound. Here: a place that is being carried
 -- on.
-pub record IsTable (o : Order State) (f : Flow Place State) (contents : Contents) (waiting : List (ℕ × ℕ)) (filled : Place → Option State) (MayLead : Place → Place → Type 0)
+pub record IsTable (o : Order State) (f : Flow Place State) (contents : Contents) (worklist : List (ℕ × ℕ)) (filled : Place → Option State) (MayLead : Place → Place → Type 0)
     (Here : Place → Type 0) (Rest : Place → Place → State → Type 0) : Type 0 where
   pub family : IsFamily contents
   pub entered : (i : ℕ) → i < length contents.contexts → (offset : ℕ) × (a : State) × Derived o f (frames_at contents.contexts i, offset) a
-  pub held : (c offset : ℕ) → has_point waiting (c, offset) ≡ true → (a : State) × (states_of contents.states (c, offset) ≡ Some a)
-  pub sound : IsSoundFamily o f filled MayLead (λ p. IsAmong contents waiting p ⊎ Here p) Rest
+  pub held : (c offset : ℕ) → has_point worklist (c, offset) ≡ true → (a : State) × (states_of contents.states (c, offset) ≡ Some a)
+  pub sound : IsSoundFamily o f filled MayLead (λ p. IsAmong contents worklist p ⊎ Here p) Rest
 
 -- The kept states are those of the filled family at the places of this mark; at those that were passed none is kept, and nothing came to the
 -- others.
@@ -111,7 +111,7 @@ pub record IsEmptyTable (table : Table) : Type 0 where
   pub contexts : table.builder.contexts ≡ [] ∷ []
   pub states : table.builder.states ≡ []
   pub family : IsFamily table.builder
-  pub waiting : table.waiting ≡ []
+  pub worklist : table.worklist ≡ []
   pub spare : table.spare.keys ≡ []
   pub changes : table.changes ≡ 0
   pub passes : table.passes ≡ 0
@@ -119,13 +119,13 @@ pub record IsEmptyTable (table : Table) : Type 0 where
 -- The finder's table, for a program that starts with these functions. The filled family has the kept states, and those that were passed.
 pub record IsSound (s : Setting) (functions : List (ℕ × ℕ)) (table : Table) (Here : Place → Type 0) (Rest : Place → Place → State → Type 0) : Type 0 where
   pub filled : Place → Option State
-  pub kept : IsTable state_order (flow_of s functions) table.builder table.waiting filled (MayLead s table.builder table.spare.keys) Here Rest
+  pub kept : IsTable state_order (flow_of s functions) table.builder table.worklist filled (MayLead s table.builder table.spare.keys) Here Rest
   pub marks : AreKept table.marks (family_of table.builder) filled
   pub start : IsListed table.builder table.spare.keys ([], 0)
   pub needed : AreNeeded s functions table.builder table.spare.keys
   pub budget : IsWithinBudget state_order (height_of s) table.builder table.changes
   pub visits : Place → ℕ
-  pub visited : AreVisits s (height_of s) (family_of table.builder) filled (λ p. IsAmong table.builder table.waiting p ⊎ Here p) visits
+  pub visited : AreVisits s (height_of s) (family_of table.builder) filled (λ p. IsAmong table.builder table.worklist p ⊎ Here p) visits
   pub points : List Place
   pub counted : ArePoints filled visits points (table.changes + table.passes)
 
@@ -136,7 +136,7 @@ IsWhole s functions table = IsSound s functions table (λ _. ⊥) (λ _ _ _. ⊥
 -- The table is whole and no point waits; the program isn't too long, and comes to its end where it must; this many updates were made.
 pub record IsFound (s : Setting) (functions : List (ℕ × ℕ)) (table : Table) (updates : ℕ) : Type 0 where
   pub whole : IsWhole s functions table
-  pub none : table.waiting ≡ []
+  pub none : table.worklist ≡ []
   pub short : IsShortEnough s s.kind
   pub ends : EndsWell s s.kind (family_of table.builder)
   pub count : updates ≡ table.changes + table.passes
@@ -145,7 +145,7 @@ pub record IsFound (s : Setting) (functions : List (ℕ × ℕ)) (table : Table)
 pub record IsOnWay (s : Setting) (functions : List (ℕ × ℕ)) (table : Table) (p : Place) (a : State) : Type 0 where
   pub sound : IsSound s functions table (λ q. q ≡ p) (λ _ _ _. ⊥)
   pub here : sound.filled p ≡ Some a
-  pub apart : IsAmong table.builder table.waiting p → ⊥
+  pub apart : IsAmong table.builder table.worklist p → ⊥
 
 -- the walk is on the way at this offset, or there is nothing to be carried on
 abbrev pub GoesOn : Setting → List (ℕ × ℕ) → Table → Walk → Option ℕ → Type 0
@@ -154,7 +154,7 @@ GoesOn s functions table walk (Some offset) = IsOnWay s functions table (place_o
 
 -- for each point that waits from then on there was a change
 pub record HasRisen (old new : Table) : Type 0 where
-  pub waiting : length new.waiting + old.changes ≤ length old.waiting + new.changes
+  pub worklist : length new.worklist + old.changes ≤ length old.worklist + new.changes
   pub changes : old.changes ≤ new.changes
 
 -- what waited still waits, and where there was a change this point does; nothing else waits
@@ -170,7 +170,7 @@ pub record IsPut (old new : Table) (context offset : ℕ) (state : State) : Type
   pub sums : Reweighs old.builder new.builder (place_of old.builder context offset)
   pub contexts : new.builder.contexts ≡ old.builder.contexts
   pub family : IsFamily new.builder
-  pub waiting : WaitsMore old.waiting new.waiting (context, offset) changed
+  pub worklist : WaitsMore old.worklist new.worklist (context, offset) changed
   pub changes : new.changes ≡ old.changes + cond changed 1 0
   pub risen : HasRisen old new
 
@@ -182,14 +182,14 @@ pub record KeepsRest (old new : Table) : Type 0 where
 
 -- What is spare after a state came to a point: from elsewhere, the point no longer is; from just before, it is where it had no state, and
 -- otherwise as it was.
-pub record SparesAt (old new : List (ℕ × ℕ)) (point : ℕ × ℕ) (was : Option State) (source : Source) : Type 0 where
+pub record SparesAt (old new : List (ℕ × ℕ)) (point : ℕ × ℕ) (was : Option State) (source : Origin) : Type 0 where
   pub elsewhere : (q : ℕ × ℕ) → q ≢ point → has_point new q ≡ has_point old q
   pub listed : source ≡ Elsewhere → has_point new point ≡ false
   pub spared : source ≡ JustBefore → was ≡ None → has_point new point ≡ true
   pub same : source ≡ JustBefore → (was ≡ None → ⊥) → has_point new point ≡ has_point old point
 
 -- the state was put at the point, where states are kept from then on, and none has passed
-pub record IsStored (old new : Table) (context offset : ℕ) (state : State) (source : Source) : Type 0 where
+pub record IsStored (old new : Table) (context offset : ℕ) (state : State) (source : Origin) : Type 0 where
   pub put : IsPut old new context offset state
   pub fresh : mark_of old.marks (spot_of (frames_at old.builder.contexts context)) offset ≢ Passed
   pub marks : SetsMark old.marks new.marks (spot_of (frames_at old.builder.contexts context)) offset Kept
@@ -256,27 +256,27 @@ pub record IsLeading (s : Setting) (functions : List (ℕ × ℕ)) (table : Tabl
   pub derived : IsDerived s functions p state
   pub gives : (q : Place) (u : State) → Pends qs t q u → GivesState s p state q u
   pub sound : IsSound s functions table (λ _. ⊥) (PendsFrom p qs t)
-  pub here : (IsAmong table.builder table.waiting p → ⊥) → sound.filled p ≡ Some state
+  pub here : (IsAmong table.builder table.worklist p → ⊥) → sound.filled p ≡ Some state
   pub ahead : (q : Place) → Precedes s p q → family_of table.builder q ≡ None → sound.visits q + 1 ≤ sound.visits p
-  pub twice : IsAmong table.builder table.waiting p → (q : Place) → Precedes s p q → family_of table.builder q ≡ None → sound.visits q + 2 ≤ sound.visits p
+  pub twice : IsAmong table.builder table.worklist p → (q : Place) → Precedes s p q → family_of table.builder q ≡ None → sound.visits q + 2 ≤ sound.visits p
 
 -- the point, which has a state, was taken from those that wait
 pub record IsPopped (s : Setting) (functions : List (ℕ × ℕ)) (table : Table) (context offset : ℕ) : Type 0 where
   pub sound : IsSound s functions table (λ q. q ≡ place_of table.builder context offset) (λ _ _ _. ⊥)
   pub state : State
   pub kept : states_of table.builder.states (context, offset) ≡ Some state
-  pub apart : has_point table.waiting (context, offset) ≡ false
+  pub apart : has_point table.worklist (context, offset) ≡ false
 
 -- where an instruction ends, if only this one leads there as to the place just after it
 abbrev pub IsJustAfter : Setting → Place → Option ℕ → Type 0
 IsJustAfter s p after = (q : Place) → IsAfter p.0 after q ↔ Precedes s p q
 
 -- the state comes from just before exactly where it stays in the context and comes to that offset
-abbrev pub TellsSource : ℕ → ℕ → Option ℕ → ℕ → Source → Type 0
+abbrev pub TellsSource : ℕ → ℕ → Option ℕ → ℕ → Origin → Type 0
 TellsSource here context after next source = (source ≡ JustBefore) ↔ ((context ≡ here) × (after ≡ Some next))
 
 -- the state comes to the second place from just before, or from elsewhere
-abbrev pub ComesFrom : Setting → Place → Place → Source → Type 0
+abbrev pub ComesFrom : Setting → Place → Place → Origin → Type 0
 ComesFrom s p q source = (source ≡ JustBefore → Precedes s p q) × (source ≡ Elsewhere → Precedes s p q → ⊥)
 
 -- the place of an offset of the walk's context

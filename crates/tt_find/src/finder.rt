@@ -5,13 +5,13 @@ ghost use Rattle.tt_abs.specs.declared.state.State.{State as AnyState};
 ghost use Rattle.tt_abs.specs.Entries.{Rises};
 ghost use Rattle.tt_abs.specs.Settings.{setting_of};
 ghost use Rattle.tt_abs.specs.StateFlow.{FunctionsFit, Place};
-ghost use Rattle.tt_cert.specs.Checks.{IsWantOfMemory};
+ghost use Rattle.tt_cert.specs.Checks.{IsOutOfMemory};
 ghost use Rattle.tt_cert.specs.Contents.{family_of};
 ghost use Rattle.tt_find.specs.Found.{AreLeastContexts, HasLeastFilling, IsJustified, IsNeverEnding, LacksEnd, NamesPlace, NamesStop, NeedsAll, NoneIsGood};
 ghost use Rattle.tt_find.specs.Tables.{HasLaws, IsEmptyTable, IsFound, IsWhole};
 
 use crate::run::{run, store};
-use crate::source::Source;
+use crate::origin::Origin;
 use crate::stop::Stop;
 use crate::table::Table;
 use crate::walk::Walk;
@@ -49,20 +49,20 @@ fn has_laws(setting: &Setting<'_>)
 ///
 /// # Errors
 /// As the run from each point.
-fn fill(alloc: Global, table: &mut Table, setting: &Setting<'_>) -> Result<(), Stop>
+fn run_to_fixpoint(alloc: Global, table: &mut Table, setting: &Setting<'_>) -> Result<(), Stop>
     requires rises { Rises setting.now.start.now }
     requires laws { HasLaws (setting_of setting.now) setting.now.start.now }
     requires empty { IsEmptyTable table.old }
     ensures whole { IfOk result (λ _. IsWhole (setting_of setting.now) setting.now.start.now table.new) }
-    ensures none { IfOk result (λ _. table.new.waiting ≡ []) }
+    ensures none { IfOk result (λ _. table.new.worklist ≡ []) }
     ensures stops { IfErr result (NamesStop (IsJustified (setting_of setting.now) setting.now.start.now) table.old.marks.everywhere) }
 {
     let mut walk = Walk::start(alloc, setting.start)?;
     table.builder.is_family();
-    if let Err(stop) = store(table, &mut walk, 0, 0, Source::Elsewhere) {
+    if let Err(stop) = store(table, &mut walk, 0, 0, Origin::Elsewhere) {
         return Err(stop);
     }
-    while let Some((context, offset)) = table.waiting.pop_first() {
+    while let Some((context, offset)) = table.worklist.pop_first() {
         if let Err(stop) = run(table, &mut walk, setting, context, offset) {
             return Err(stop);
         }
@@ -74,17 +74,17 @@ fn fill(alloc: Global, table: &mut Table, setting: &Setting<'_>) -> Result<(), S
 ///
 /// # Errors
 /// As `find` refuses what comes on the way.
-fn fill_anew(alloc: Global, table: &mut Table, setting: &Setting<'_>) -> Result<(), ProgramFault>
+fn restart_to_fixpoint(alloc: Global, table: &mut Table, setting: &Setting<'_>) -> Result<(), ProgramFault>
     requires rises { Rises setting.now.start.now }
     requires laws { HasLaws (setting_of setting.now) setting.now.start.now }
     ensures whole { IfOk result (λ _. IsWhole (setting_of setting.now) setting.now.start.now table.new) }
-    ensures none { IfOk result (λ _. table.new.waiting ≡ []) }
+    ensures none { IfOk result (λ _. table.new.worklist ≡ []) }
     ensures justified { IfErr result (NamesPlace (IsJustified (setting_of setting.now) setting.now.start.now)) }
 {
     table.marks.begin(setting)?;
     for _ in 0..STARTS {
         table.clear();
-        match fill(alloc, table, setting) {
+        match run_to_fixpoint(alloc, table, setting) {
             Ok(()) => return Ok(()),
             Err(Stop::Fault(fault)) => return Err(fault),
             Err(Stop::Met) => {}
@@ -92,7 +92,7 @@ fn fill_anew(alloc: Global, table: &mut Table, setting: &Setting<'_>) -> Result<
     }
     table.clear();
     table.marks.everywhere = true;
-    match fill(alloc, table, setting) {
+    match run_to_fixpoint(alloc, table, setting) {
         Ok(()) => Ok(()),
         Err(Stop::Fault(fault)) => Err(fault),
         Err(Stop::Met) => unreachable!(),
@@ -114,7 +114,7 @@ fn refused_in_main(offset: u32, reason: Reason) -> ProgramFault
 ///
 /// # Errors
 /// As `find`.
-fn fill_whole(alloc: Global, table: &mut Table, setting: &Setting<'_>) -> Result<u64, ProgramFault>
+fn find_fixpoint(alloc: Global, table: &mut Table, setting: &Setting<'_>) -> Result<u64, ProgramFault>
     requires rises { Rises setting.now.start.now }
     requires fits { FunctionsFit (setting_of setting.now) setting.now.start.now }
     ensures laws { HasLaws (setting_of setting.now) setting.now.start.now }
@@ -126,7 +126,7 @@ fn fill_whole(alloc: Global, table: &mut Table, setting: &Setting<'_>) -> Result
         let most = u32::from(setting.limits.program_size);
         return Err(refused_in_main(most, Reason::ProgramTooLong));
     }
-    if let Err(fault) = fill_anew(alloc, table, setting) {
+    if let Err(fault) = restart_to_fixpoint(alloc, table, setting) {
         return Err(fault);
     }
     if !ends_well(setting, &table.builder) {
@@ -173,11 +173,11 @@ impl Finder {
         ensures filling { IfOk result (λ found. HasLeastFilling (setting_of setting.now) setting.now.start.now found.updates (family_of found.certificate)) }
         ensures contexts { IfOk result (λ found. AreLeastContexts (setting_of setting.now) setting.now.start.now found.certificate.contexts) }
         ensures justified { IfErr result (NamesPlace (IsJustified (setting_of setting.now) setting.now.start.now)) }
-        ensures none_good { IfErr result (λ fault. IsWantOfMemory fault ⊎ IsNeverEnding fault ⊎ NoneIsGood (setting_of setting.now) setting.now.start.now) }
+        ensures none_good { IfErr result (λ fault. IsOutOfMemory fault ⊎ IsNeverEnding fault ⊎ NoneIsGood (setting_of setting.now) setting.now.start.now) }
         ensures never_ends { (family : Place → Option AnyState) → LacksEnd (setting_of setting.now) setting.now.start.now family
-            → IfOk result (λ _. ⊥) × IfErr result (λ fault. IsWantOfMemory fault ⊎ IsNeverEnding fault) }
+            → IfOk result (λ _. ⊥) × IfErr result (λ fault. IsOutOfMemory fault ⊎ IsNeverEnding fault) }
     {
-        let updates = match fill_whole(alloc, &mut self.table, setting) {
+        let updates = match find_fixpoint(alloc, &mut self.table, setting) {
             Ok(updates) => updates,
             Err(fault) => return Err(fault),
         };
@@ -207,11 +207,11 @@ impl Finder {
         ensures contexts { IfOk result (λ found. AreLeastContexts (setting_of setting.now) setting.now.start.now found.certificate.contexts) }
         ensures needed { IfOk result (λ found. NeedsAll (setting_of setting.now) setting.now.start.now (family_of found.certificate)) }
         ensures justified { IfErr result (NamesPlace (IsJustified (setting_of setting.now) setting.now.start.now)) }
-        ensures none_good { IfErr result (λ fault. IsWantOfMemory fault ⊎ IsNeverEnding fault ⊎ NoneIsGood (setting_of setting.now) setting.now.start.now) }
+        ensures none_good { IfErr result (λ fault. IsOutOfMemory fault ⊎ IsNeverEnding fault ⊎ NoneIsGood (setting_of setting.now) setting.now.start.now) }
         ensures never_ends { (family : Place → Option AnyState) → LacksEnd (setting_of setting.now) setting.now.start.now family
-            → IfOk result (λ _. ⊥) × IfErr result (λ fault. IsWantOfMemory fault ⊎ IsNeverEnding fault) }
+            → IfOk result (λ _. ⊥) × IfErr result (λ fault. IsOutOfMemory fault ⊎ IsNeverEnding fault) }
     {
-        let updates = match fill_whole(alloc, &mut self.table, setting) {
+        let updates = match find_fixpoint(alloc, &mut self.table, setting) {
             Ok(updates) => updates,
             Err(fault) => return Err(fault),
         };
@@ -241,9 +241,9 @@ pub fn find(alloc: Global, setting: &Setting<'_>) -> Result<Found, ProgramFault>
     ensures contexts { IfOk result (λ found. AreLeastContexts (setting_of setting.now) setting.now.start.now found.certificate.contexts) }
     ensures needed { IfOk result (λ found. NeedsAll (setting_of setting.now) setting.now.start.now (family_of found.certificate)) }
     ensures justified { IfErr result (NamesPlace (IsJustified (setting_of setting.now) setting.now.start.now)) }
-    ensures none_good { IfErr result (λ fault. IsWantOfMemory fault ⊎ IsNeverEnding fault ⊎ NoneIsGood (setting_of setting.now) setting.now.start.now) }
+    ensures none_good { IfErr result (λ fault. IsOutOfMemory fault ⊎ IsNeverEnding fault ⊎ NoneIsGood (setting_of setting.now) setting.now.start.now) }
     ensures never_ends { (family : Place → Option AnyState) → LacksEnd (setting_of setting.now) setting.now.start.now family
-        → IfOk result (λ _. ⊥) × IfErr result (λ fault. IsWantOfMemory fault ⊎ IsNeverEnding fault) }
+        → IfOk result (λ _. ⊥) × IfErr result (λ fault. IsOutOfMemory fault ⊎ IsNeverEnding fault) }
 {
     let mut finder = Finder::new(alloc);
     finder.find_needed(alloc, setting)

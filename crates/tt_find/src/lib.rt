@@ -3,12 +3,12 @@
 
 pub mod finder;
 mod marks;
-mod reaching;
+mod origin;
 mod run;
-mod source;
 mod stop;
+mod successor;
 mod table;
-mod waiting;
 mod walk;
+mod worklist;
 
 pub use finder::{Finder, Found, find};

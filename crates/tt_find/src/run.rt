@@ -5,15 +5,15 @@ ghost use Rattle.tt_abs.specs.Lines.{EndsAt, Precedes};
 ghost use Rattle.tt_abs.specs.Settings.{frames_of, setting_of};
 ghost use Rattle.tt_abs.specs.StateFlow.{Place};
 ghost use Rattle.tt_abs.specs.States.{state_order};
-ghost use Rattle.tt_cert.specs.Checks.{IsWantOfMemory};
+ghost use Rattle.tt_cert.specs.Checks.{IsOutOfMemory};
 ghost use Rattle.tt_cert.specs.Contents.{family_of, frames_at};
 ghost use Rattle.tt_cert.specs.Puts.{place_of};
 ghost use Rattle.tt_cert.specs.Spots.{spot_of};
 ghost use Rattle.tt_find.specs.Found.{IsJustified, NamesPlace, NamesStop};
 ghost use Rattle.tt_find.specs.Tables.{GoesOn, HasLaws, HasRisen, IsApart, IsCarried, IsJustAfter, IsLeadingAt, IsOnWay, IsPopped, IsRefusedAt, IsStored, IsWalk, IsWhole, TellsSource, calls_of, here_of, places_from};
 
-use crate::reaching::reach;
-use crate::source::Source;
+use crate::successor::resolve_successor;
+use crate::origin::Origin;
 use crate::stop::Stop;
 use crate::table::{Table, refused_at};
 use crate::walk::Walk;
@@ -23,7 +23,7 @@ use tt_cert::{Builder, ContextFault, ProgramFault, added_after};
 use tt_code::Reason;
 
 /// Returns where the state at an offset of the walk's context leads; the walk then holds what it leads there. None at the main program's end.
-fn carried(
+fn step_state(
     builder: &Builder,
     walk: &mut Walk,
     setting: &Setting<'_>,
@@ -31,7 +31,7 @@ fn carried(
 ) -> Result<Option<Stepped>, ProgramFault>
     requires walk { IsWalk builder.now walk.old }
     requires in_range { state_order.InRange walk.old.state }
-    ensures carried { IfOk result (λ step. IsCarried (setting_of setting.now) (here_of builder.now walk.old offset) walk.old.state step walk.new.state) }
+    ensures stepped { IfOk result (λ step. IsCarried (setting_of setting.now) (here_of builder.now walk.old offset) walk.old.state step walk.new.state) }
     ensures walk { IfOk result (λ _. IsWalk builder.now walk.new) }
     ensures context { IfOk result (λ _. walk.new.context ≡ walk.old.context) }
     ensures refused { IfErr result (NamesPlace (IsRefusedAt (setting_of setting.now) (here_of builder.now walk.old offset) walk.old.state)) }
@@ -52,12 +52,12 @@ fn carried(
 }
 
 /// Returns from where a state comes to an offset of a context, if it leads there: from one in which an instruction ends at `after`.
-fn source_of(here: u32, context: u32, after: Option<u32>, next: u32) -> Source
+fn source_of(here: u32, context: u32, after: Option<u32>, next: u32) -> Origin
     ensures { TellsSource here context after next result }
 {
     match after {
-        Some(after) if after == next && context == here => Source::JustBefore,
-        _ => Source::Elsewhere,
+        Some(after) if after == next && context == here => Origin::JustBefore,
+        _ => Origin::Elsewhere,
     }
 }
 
@@ -70,7 +70,7 @@ pub(crate) fn store(
     walk: &mut Walk,
     context: u32,
     offset: u32,
-    source: Source,
+    source: Origin,
 ) -> Result<(), Stop>
     requires there { context < length table.old.builder.contexts }
     requires in_range { state_order.InRange walk.old.state }
@@ -97,17 +97,17 @@ pub(crate) fn store(
 }
 
 /// Whether the walk's state may go over an offset to which it comes from there.
-fn goes_over(table: &Table, walk: &Walk, source: Source, next: u32) -> bool
-    ensures { IsTrue result → source ≡ Source.JustBefore }
+fn goes_over(table: &Table, walk: &Walk, source: Origin, next: u32) -> bool
+    ensures { IsTrue result → source ≡ Origin.JustBefore }
 {
     match source {
-        Source::JustBefore => table.may_pass(walk.context, walk.spot, next),
-        Source::Elsewhere => false,
+        Origin::JustBefore => table.may_pass(walk.context, walk.spot, next),
+        Origin::Elsewhere => false,
     }
 }
 
 /// Leads the state that an instruction left to the offset just after it: over it where states aren't kept there. Then it returns that offset.
-fn lead_over(
+fn step_over(
     table: &mut Table,
     walk: &mut Walk,
     setting: &Setting<'_>,
@@ -132,7 +132,7 @@ fn lead_over(
         }
         return Ok(Some(next));
     }
-    if let Err(stop) = store(table, walk, context, next, Source::JustBefore) {
+    if let Err(stop) = store(table, walk, context, next, Origin::JustBefore) {
         return Err(stop);
     }
     Ok(None)
@@ -142,7 +142,7 @@ fn lead_over(
 fn not_entered(builder: &Builder, context: u32, offset: u32, fault: ContextFault) -> ProgramFault
     requires { context < length builder.now.contexts }
     ensures full { fault ≡ ContextFault.TooManyContexts → result ≡ ProgramFault.Refused (spot_of (frames_at builder.now.contexts context)) offset Reason.TooManyContexts }
-    ensures memory { fault ≡ ContextFault.OutOfMemory → IsWantOfMemory result }
+    ensures memory { fault ≡ ContextFault.OutOfMemory → IsOutOfMemory result }
 {
     match fault {
         ContextFault::TooManyContexts => {
@@ -154,7 +154,7 @@ fn not_entered(builder: &Builder, context: u32, offset: u32, fault: ContextFault
 
 /// Leads the state that an instruction left to each place where its ways lead, one after the other, except for the one over which it goes last.
 /// Returns that one's offset.
-fn lead_away(
+fn store_successors(
     table: &mut Table,
     walk: &mut Walk,
     setting: &Setting<'_>,
@@ -177,7 +177,7 @@ fn lead_away(
     let mut over = None;
     let mut index = 0;
     while let Some(way) = ways.get(index) {
-        let (context, next) = match reach(&mut table.builder, here, way) {
+        let (context, next) = match resolve_successor(&mut table.builder, here, way) {
             Ok(place) => place,
             Err(fault) => {
                 return Err(Stop::Fault(not_entered(&table.builder, here, offset, fault)));
@@ -192,7 +192,7 @@ fn lead_away(
         index += 1;
     }
     match over {
-        Some(next) => lead_over(table, walk, setting, offset, next),
+        Some(next) => step_over(table, walk, setting, offset, next),
         None => Ok(None),
     }
 }
@@ -202,7 +202,7 @@ fn lead_away(
 /// # Errors
 /// `Fault` with `Refused`, if the state is refused there, or enters one context too many; or for two states of different depths, where they
 /// meet; or with `OutOfMemory`. `Met` where a state is to be kept at an offset over which states went.
-fn step_on(
+fn step_point(
     table: &mut Table,
     walk: &mut Walk,
     setting: &Setting<'_>,
@@ -218,7 +218,7 @@ fn step_on(
     ensures stops { IfErr result (NamesStop (IsJustified (setting_of setting.now) setting.now.start.now) table.old.marks.everywhere) }
     ensures everywhere { IfOk result (λ _. table.new.marks.everywhere ≡ table.old.marks.everywhere) }
 {
-    let step = match carried(&table.builder, walk, setting, offset) {
+    let step = match step_state(&table.builder, walk, setting, offset) {
         Ok(Some(step)) => step,
         Ok(None) => return Ok(None),
         Err(fault) => return Err(Stop::Fault(fault)),
@@ -228,7 +228,7 @@ fn step_on(
         offset,
     };
     let after = added_after(setting, &point, step.end);
-    lead_away(table, walk, setting, offset, after, step.moves)
+    store_successors(table, walk, setting, offset, after, step.moves)
 }
 
 /// Carries on the state at a point, in place as far as possible.
@@ -256,7 +256,7 @@ pub(crate) fn run(
         return Ok(());
     }
     let mut at = offset;
-    while let Some(next) = step_on(table, walk, setting, at)? {
+    while let Some(next) = step_point(table, walk, setting, at)? {
         at = next;
     }
     Ok(())

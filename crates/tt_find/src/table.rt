@@ -13,8 +13,8 @@ ghost use Rattle.tt_find.specs.Tables.{IsApart, IsEmptyTable, IsPassed, IsPut, K
 ghost use Rattle.tt_find.specs.Marks.{mark_of};
 
 use crate::marks::{Mark, Marks};
-use crate::source::Source;
-use crate::waiting::Waiting;
+use crate::origin::Origin;
+use crate::worklist::Worklist;
 use std::alloc::{AllocError, Global};
 use std::collections::BTreeSet;
 use tt_abs::State;
@@ -27,7 +27,7 @@ pub(crate) struct Table {
     /// The states that are kept.
     pub builder: Builder,
     /// The points whose state is new or has changed, each as its context's number and its offset.
-    pub waiting: Waiting,
+    pub worklist: Worklist,
     /// The points with kept states to which states came only from just before.
     pub spare: BTreeSet<PointKey>,
     /// At which offsets states are kept.
@@ -62,7 +62,7 @@ impl Table {
     {
         Table {
             builder: Builder::new(alloc),
-            waiting: Waiting::new(alloc),
+            worklist: Worklist::new(alloc),
             spare: BTreeSet::new(alloc),
             marks: Marks::new(alloc),
             changes: 0,
@@ -76,7 +76,7 @@ impl Table {
         ensures marks { self.new.marks ≡ self.old.marks }
     {
         self.builder.clear();
-        self.waiting.clear();
+        self.worklist.clear();
         self.spare.clear();
         self.changes = 0;
         self.passes = 0;
@@ -112,7 +112,7 @@ impl Table {
         if !joined.is_change() {
             return Ok(joined);
         }
-        if let Err(_) = self.waiting.insert((context, offset)) {
+        if let Err(_) = self.worklist.insert((context, offset)) {
             return Err(ProgramFault::OutOfMemory(AllocError));
         }
         self.changes += 1;
@@ -127,17 +127,17 @@ impl Table {
         &mut self,
         context: u32,
         offset: u32,
-        source: Source,
+        source: Origin,
         joined: Joined,
     ) -> Result<(), AllocError>
         ensures spare { IfOk result (λ _. (was : Option StateValue) → TellsNew joined was → SparesAt self.old.spare.keys self.new.spare.keys (context, offset) was source) }
         ensures rest { IfOk result (λ _. self.new ≡ record self.old { spare = self.new.spare }) }
     {
         match source {
-            Source::Elsewhere => {
+            Origin::Elsewhere => {
                 self.spare.remove(&(context, offset));
             }
-            Source::JustBefore => {
+            Origin::JustBefore => {
                 if let Joined::New = joined {
                     self.spare.insert((context, offset))?;
                 }
@@ -153,7 +153,7 @@ impl Table {
     {
         match self.marks.at(spot, offset) {
             Mark::Kept => false,
-            _ => !self.waiting.has_before((context, offset)),
+            _ => !self.worklist.has_before((context, offset)),
         }
     }
 

@@ -6,26 +6,26 @@ use Rattle.tt_font.specs.declared.fault.FontFault.{FontFault}
 use Rattle.tt_font.specs.declared.fault.FontFault.TheVariants as faults
 use Rattle.tt_font.specs.declared.tag.Tag.{Tag}
 use Rattle.tt_font.specs.declared.tag.Tag.TheVariants.{Cvt, Fpgm, Glyf, Head, Loca, Maxp, Prep}
-use Rattle.tt_font.specs.Conditions.{Condition, IsWantOfMemory, directory_fault, ends_before, first, loca_fault, maxp_fault, maxp_is_short, misplaced_entry, missing, no_maxp_version, no_sfnt, optional_table_fault, outside, table_fault, unknown_format, unless}
+use Rattle.tt_font.specs.Conditions.{Condition, IsOutOfMemory, directory_fault, ends_before, first, loca_fault, maxp_fault, maxp_is_short, misplaced_entry, missing, no_maxp_version, no_sfnt, optional_table_fault, outside, table_fault, unknown_format, unless}
 use Rattle.tt_font.specs.Directory.{record_count, table}
 use Rattle.tt_font.specs.Files.{font_glyph_count}
 use Rattle.tt_font.specs.FileFaults.{program_most, tables_fault}
 use Rattle.tt_font.specs.Locations.{loca_format}
 
 abbrev NeverMemory : Condition → Type 0
-NeverMemory c = (fault : FontFault) → c ≡ Some fault → IsWantOfMemory fault → ⊥
+NeverMemory c = (fault : FontFault) → c ≡ Some fault → IsOutOfMemory fault → ⊥
 
 first_never : (cs : List Condition) → AllByRecursion NeverMemory cs → NeverMemory (first cs)
 first_never [] all fault e wants = absurd cc
 first_never (None ∷ cs) all fault e wants = first_never cs all.1 fault e wants
 first_never (Some f ∷ cs) all fault e wants = all.0 fault e wants
 
-some_never : (f : FontFault) → (IsWantOfMemory f → ⊥) → NeverMemory (Some f)
+some_never : (f : FontFault) → (IsOutOfMemory f → ⊥) → NeverMemory (Some f)
 some_never f other fault e wants =
     let same : fault ≡ f = cc in
-    other (subst IsWantOfMemory same wants)
+    other (subst IsOutOfMemory same wants)
 
-unless_never : (test : Bool) (f : FontFault) → (IsWantOfMemory f → ⊥) → NeverMemory (unless test f)
+unless_never : (test : Bool) (f : FontFault) → (IsOutOfMemory f → ⊥) → NeverMemory (unless test f)
 unless_never true f other fault e wants = absurd cc
 unless_never false f other fault e wants = some_never f other fault e wants
 

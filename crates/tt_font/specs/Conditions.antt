@@ -34,9 +34,9 @@ TestsWithMemory condition answer =
     MatchResult answer (λ _. condition ≡ None) (λ fault. fault ≢ faults.OutOfMemory alloc_error → condition ≡ Some fault)
 
 -- memory ran out
-abbrev pub IsWantOfMemory : FontFault → Type 0
-IsWantOfMemory (faults.OutOfMemory error) = Unit {0}
-IsWantOfMemory _ = ⊥
+abbrev pub IsOutOfMemory : FontFault → Type 0
+IsOutOfMemory (faults.OutOfMemory error) = Unit {0}
+IsOutOfMemory _ = ⊥
 
 -- ---- the directory
 

@@ -67,7 +67,7 @@ impl<'a> Model for Font<'a> {
 impl<'a> Font<'a> {
     ghost use Rattle.std.specs.Prelude.{◌≡◌, None, IfErr, IfOk, length, slice_get};
     ghost use Rattle.std.specs.Option.{option_map};
-    ghost use Rattle.tt_font.specs.Conditions.{IsWantOfMemory, TestsWithMemory};
+    ghost use Rattle.tt_font.specs.Conditions.{IsOutOfMemory, TestsWithMemory};
     ghost use Rattle.tt_font.specs.FileFaults.{font_fault, tables_fault};
     ghost use Rattle.tt_font.specs.Reading.{Reads, ReadsComponents};
     ghost use Rattle.tt_font.specs.GlyphParts.{glyph_data};
@@ -91,7 +91,7 @@ impl<'a> Font<'a> {
         ensures fault { TestsWithMemory (font_fault bytes.now) result }
         ensures reads { IfOk result (λ font. Reads bytes.now font) }
         ensures components { IfOk result (λ font. ReadsComponents bytes.now font) }
-        ensures memory { IfErr result (λ fault. IsWantOfMemory fault → tables_fault bytes.now ≡ None) }
+        ensures memory { IfErr result (λ fault. IsOutOfMemory fault → tables_fault bytes.now ≡ None) }
     {
         let tables = Tables::read(bytes)?;
         let mut component_reads = 0;

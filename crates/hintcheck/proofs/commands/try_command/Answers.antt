@@ -1,11 +1,11 @@
 use Rattle.std.proofs.lemmas.Result.{IfErr-weaker, IfOk-weaker, on_ok_weaker}
-use Rattle.hintcheck_words.specs.Requests.{IsWantOfMemory, asked}
+use Rattle.hintcheck_words.specs.Requests.{IsOutOfMemory, asked}
 use Rattle.hintcheck.specs.CommandFaults.{no_memory, not_taken, of_request}
 use Rattle.hintcheck.proofs.FaultLemmas.{unprinted}
 use Rattle.hintcheck.proofs.commands.try_command.Goals as goal
 
 pub returns-in_ok-write-in-Err-Words-clause-safe : goal.returns-in_ok-write-in-Err-Words-clause-safe
-unfolding IsWantOfMemory
+unfolding IsOutOfMemory
 returns-in_ok-write-in-Err-Words-clause-safe g c = λ zero taken. absurd (rw c.in-Err-Words.field-0-is at (c.in-Err-Words.ensures.refused taken))
 
 pub returns-in-Ok-clause-safe : goal.returns-in-Ok-clause-safe
@@ -20,23 +20,23 @@ returns-in-Ok-clause-none g c =
     on_ok_weaker c.do_task.result (λ none taken. record { request = asked c.in-Ok.task; meant = c.in-Ok.ensures.asked; none = none }) c.do_task.ensures.none
 
 pub returns-then-use_stderr-clause-faults : goal.returns-then-use_stderr-clause-faults
-unfolding IsWantOfMemory
+unfolding IsOutOfMemory
 returns-then-use_stderr-clause-faults g c = not_taken _ (λ taken. rw c.in-Err-Words.field-0-is at (c.in-Err-Words.ensures.refused taken)) tt
 
 pub returns-in_err-write-in-Err-Words-clause-faults : goal.returns-in_err-write-in-Err-Words-clause-faults
-unfolding IsWantOfMemory
+unfolding IsOutOfMemory
 returns-in_err-write-in-Err-Words-clause-faults g c =
     unprinted _ c.in_err-write-in-Err-Words.field-0.0 c.from_residual.result (λ taken. rw c.in-Err-Words.field-0-is at (c.in-Err-Words.ensures.refused taken)) c.from_residual.ensures.1
 
 pub returns-in_ok-write-in-Err-Words-clause-none : goal.returns-in_ok-write-in-Err-Words-clause-none
-unfolding IsWantOfMemory
+unfolding IsOutOfMemory
 returns-in_ok-write-in-Err-Words-clause-none g c = λ taken. absurd (rw c.in-Err-Words.field-0-is at (c.in-Err-Words.ensures.refused taken))
 
 pub returns-in-Err-OutOfMemory-clause-faults : goal.returns-in-Err-OutOfMemory-clause-faults
 returns-in-Err-OutOfMemory-clause-faults g c = no_memory
 
 pub returns-in_ok-write-in-Err-Words-clause-printed : goal.returns-in_ok-write-in-Err-Words-clause-printed
-unfolding IsWantOfMemory
+unfolding IsOutOfMemory
 returns-in_ok-write-in-Err-Words-clause-printed g c = λ taken. absurd (rw c.in-Err-Words.field-0-is at (c.in-Err-Words.ensures.refused taken))
 
 pub returns-in-Ok-clause-printed : goal.returns-in-Ok-clause-printed

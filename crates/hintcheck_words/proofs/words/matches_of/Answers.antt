@@ -1,6 +1,6 @@
 use Rattle.std.proofs.Common.{rules, ◌∙◌}
 use Rattle.clap.specs.Words.{subcommand_rows_of}
-use Rattle.hintcheck_words.specs.Requests.{IsWantOfMemory}
+use Rattle.hintcheck_words.specs.Requests.{IsOutOfMemory}
 use Rattle.clap.specs.Words.{App}
 use Rattle.clap.proofs.CallerLemmas.{subcommand_required}
 use Rattle.clap.proofs.SimpleLemmas.{plain_fields}
@@ -12,7 +12,7 @@ use Rattle.hintcheck_words.proofs.Meanings.{met_is, rows_met, takes_is}
 use Rattle.hintcheck_words.proofs.words.matches_of.Goals as goal
 
 pub returns-in_err-command-clause-refused : goal.returns-in_err-command-clause-refused
-unfolding IsWantOfMemory
+unfolding IsOutOfMemory
 returns-in_err-command-clause-refused c = search rules
 
 pub returns-in-Ok-clause-met : goal.returns-in-Ok-clause-met
@@ -30,11 +30,11 @@ returns-in-Ok-clause-meets c =
     subst MeetsSubcommand (sym p.1) (meets_one _ p.0.0 p.0.1 faultless (sym is_met ∙ p.1))
 
 pub returns-in-OutOfMemory-clause-refused : goal.returns-in-OutOfMemory-clause-refused
-unfolding IsWantOfMemory
+unfolding IsOutOfMemory
 returns-in-OutOfMemory-clause-refused c = λ taken. tt
 
 pub returns-clause-refused : goal.returns-clause-refused
-unfolding IsWantOfMemory
+unfolding IsOutOfMemory
 returns-clause-refused c = λ taken. c.in_default.not-OutOfMemory (c.kind.ensures ∙ c.in-Err.ensures.passes (takes_is _ _ c.in_ok-command.ensures taken))
 
 pub returns-in-Ok-clause-faults : goal.returns-in-Ok-clause-faults

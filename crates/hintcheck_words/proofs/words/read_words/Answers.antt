@@ -1,6 +1,6 @@
 use Rattle.std.proofs.Common.{rules, ◌∙◌, sym}
 use Rattle.clap.specs.Words.{found_of, rows_of}
-use Rattle.hintcheck_words.specs.Requests.{IsWantOfMemory}
+use Rattle.hintcheck_words.specs.Requests.{IsOutOfMemory}
 use Rattle.hintcheck_words.proofs.Meanings.{is_readable, means, subcommand_is}
 use Rattle.hintcheck_words.proofs.words.read_words.Goals as goal
 
@@ -11,7 +11,7 @@ task_of-requires c =
     is_readable _ _ c.in_ok-matches.ensures.meets is
 
 pub returns-in_err-task_of-in-Some-clause-refused : goal.returns-in_err-task_of-in-Some-clause-refused
-unfolding IsWantOfMemory
+unfolding IsOutOfMemory
 returns-in_err-task_of-in-Some-clause-refused c = search rules
 
 pub returns-clause-asked : goal.returns-clause-asked

@@ -15,6 +15,6 @@ loop-next-init c =
       way = subst W (sym (c.in_ok-take.ensures.context ∙ c.in_ok-go_to.ensures.context))
           (way_begins s fs c.requires.laws table c.args.context c.args.offset c.take.new.self.state c.requires.popped (c.in_ok-take.ensures.some c.if-not-branch.false));
       walk = c.in_ok-take.ensures.walk;
-      risen = record { waiting = omega arith; changes = omega arith };
+      risen = record { worklist = omega arith; changes = omega arith };
       everywhere = refl;
     }

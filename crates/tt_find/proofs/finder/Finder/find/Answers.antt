@@ -7,18 +7,18 @@ use Rattle.tt_find.proofs.finder.Finder.find.Goals as goal
 
 pub returns-in-Err-clause-none_good : goal.returns-in-Err-clause-none_good
 returns-in-Err-clause-none_good c =
-    none_good_from (setting_of c.args.setting.now) c.args.setting.now.start.now c.fill_whole.ensures.laws c.in-Err.fault c.in-Err.ensures.justified
+    none_good_from (setting_of c.args.setting.now) c.args.setting.now.start.now c.find_fixpoint.ensures.laws c.in-Err.fault c.in-Err.ensures.justified
 
 pub returns-in-Err-clause-never_ends : goal.returns-in-Err-clause-never_ends
 returns-in-Err-clause-never_ends c = λ family lacks.
-    (tt, never_ends_from (setting_of c.args.setting.now) c.args.setting.now.start.now c.fill_whole.ensures.laws family lacks c.in-Err.fault c.in-Err.ensures.justified)
+    (tt, never_ends_from (setting_of c.args.setting.now) c.args.setting.now.start.now c.find_fixpoint.ensures.laws family lacks c.in-Err.fault c.in-Err.ensures.justified)
 
 pub returns-in-Ok-finish-clause-filling : goal.returns-in-Ok-finish-clause-filling
 returns-in-Ok-finish-clause-filling c =
     let s = setting_of c.args.setting.now in
     let fs = c.args.setting.now.start.now in
-    let laws = c.fill_whole.ensures.laws in
-    let table = c.fill_whole.new.table in
+    let laws = c.find_fixpoint.ensures.laws in
+    let table = c.find_fixpoint.new.table in
     let found = c.in-Ok.ensures.found in
     let family = family_of c.in-Ok-finish.certificate in
     let S : Contents → Type 0 = λ x. SameContents x c.in-Ok-finish.certificate in
@@ -31,10 +31,10 @@ returns-in-Ok-finish-clause-contexts c =
     let found = c.in-Ok.ensures.found in
     let S : Contents → Type 0 = λ x. SameContents x c.in-Ok-finish.certificate in
     let same = subst S c.replace-builder.ensures.value c.in-Ok-finish.ensures.same in
-    contexts_left (setting_of c.args.setting.now) c.args.setting.now.start.now c.fill_whole.ensures.laws c.fill_whole.new.table found.whole found.none c.in-Ok-finish.certificate.contexts
+    contexts_left (setting_of c.args.setting.now) c.args.setting.now.start.now c.find_fixpoint.ensures.laws c.find_fixpoint.new.table found.whole found.none c.in-Ok-finish.certificate.contexts
     (λ frames. (same.contexts frames).1)
 
 pub returns-in-Ok-finish-clause-never_ends : goal.returns-in-Ok-finish-clause-never_ends
 returns-in-Ok-finish-clause-never_ends c = λ family lacks.
     let found = c.in-Ok.ensures.found in
-    (never_both_left (setting_of c.args.setting.now) c.args.setting.now.start.now c.fill_whole.ensures.laws c.fill_whole.new.table found.whole found.none family found.ends lacks, tt)
+    (never_both_left (setting_of c.args.setting.now) c.args.setting.now.start.now c.find_fixpoint.ensures.laws c.find_fixpoint.new.table found.whole found.none family found.ends lacks, tt)

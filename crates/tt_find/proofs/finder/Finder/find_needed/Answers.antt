@@ -7,21 +7,21 @@ use Rattle.tt_find.proofs.finder.Finder.find_needed.Goals as goal
 
 pub returns-in-Err-clause-none_good : goal.returns-in-Err-clause-none_good
 returns-in-Err-clause-none_good c =
-    none_good_from (setting_of c.args.setting.now) c.args.setting.now.start.now c.fill_whole.ensures.laws c.in-Err.fault c.in-Err.ensures.justified
+    none_good_from (setting_of c.args.setting.now) c.args.setting.now.start.now c.find_fixpoint.ensures.laws c.in-Err.fault c.in-Err.ensures.justified
 
 pub returns-in-Err-clause-never_ends : goal.returns-in-Err-clause-never_ends
 returns-in-Err-clause-never_ends c = λ family lacks.
-    (tt, never_ends_from (setting_of c.args.setting.now) c.args.setting.now.start.now c.fill_whole.ensures.laws family lacks c.in-Err.fault c.in-Err.ensures.justified)
+    (tt, never_ends_from (setting_of c.args.setting.now) c.args.setting.now.start.now c.find_fixpoint.ensures.laws family lacks c.in-Err.fault c.in-Err.ensures.justified)
 
 pub returns-in-Ok-finish_without-clause-filling : goal.returns-in-Ok-finish_without-clause-filling
 returns-in-Ok-finish_without-clause-filling c =
     let s = setting_of c.args.setting.now in
     let fs = c.args.setting.now.start.now in
-    let laws = c.fill_whole.ensures.laws in
-    let table = c.fill_whole.new.table in
+    let laws = c.find_fixpoint.ensures.laws in
+    let table = c.find_fixpoint.new.table in
     let found = c.in-Ok.ensures.found in
     let family = family_of c.in-Ok-finish_without.certificate in
-    let W : Contents → Type 0 = λ x. SameWithout x c.in-Ok-finish_without.certificate c.fill_whole.new.table.spare.keys in
+    let W : Contents → Type 0 = λ x. SameWithout x c.in-Ok-finish_without.certificate c.find_fixpoint.new.table.spare.keys in
     let without = subst W c.replace-builder.ensures.value c.in-Ok-finish_without.ensures.same in
     let same = without.family in
     found_left s fs laws table found.whole found.none family c.in-Ok.updates (keeps_without s fs laws table found.whole found.none family same)
@@ -29,21 +29,21 @@ returns-in-Ok-finish_without-clause-filling c =
 
 pub returns-in-Ok-finish_without-clause-contexts : goal.returns-in-Ok-finish_without-clause-contexts
 returns-in-Ok-finish_without-clause-contexts c =
-    let W : Contents → Type 0 = λ x. SameWithout x c.in-Ok-finish_without.certificate c.fill_whole.new.table.spare.keys in
+    let W : Contents → Type 0 = λ x. SameWithout x c.in-Ok-finish_without.certificate c.find_fixpoint.new.table.spare.keys in
     let without = subst W c.replace-builder.ensures.value c.in-Ok-finish_without.ensures.same in
     let found = c.in-Ok.ensures.found in
-    contexts_left (setting_of c.args.setting.now) c.args.setting.now.start.now c.fill_whole.ensures.laws c.fill_whole.new.table found.whole found.none c.in-Ok-finish_without.certificate.contexts
+    contexts_left (setting_of c.args.setting.now) c.args.setting.now.start.now c.find_fixpoint.ensures.laws c.find_fixpoint.new.table found.whole found.none c.in-Ok-finish_without.certificate.contexts
     (λ frames. (without.contexts frames).1)
 
 pub returns-in-Ok-finish_without-clause-needed : goal.returns-in-Ok-finish_without-clause-needed
 returns-in-Ok-finish_without-clause-needed c =
     let s = setting_of c.args.setting.now in
     let fs = c.args.setting.now.start.now in
-    let laws = c.fill_whole.ensures.laws in
-    let table = c.fill_whole.new.table in
+    let laws = c.find_fixpoint.ensures.laws in
+    let table = c.find_fixpoint.new.table in
     let found = c.in-Ok.ensures.found in
     let family = family_of c.in-Ok-finish_without.certificate in
-    let W : Contents → Type 0 = λ x. SameWithout x c.in-Ok-finish_without.certificate c.fill_whole.new.table.spare.keys in
+    let W : Contents → Type 0 = λ x. SameWithout x c.in-Ok-finish_without.certificate c.find_fixpoint.new.table.spare.keys in
     let without = subst W c.replace-builder.ensures.value c.in-Ok-finish_without.ensures.same in
     let same = without.family in
     needed_left s fs laws table found.whole found.none family c.in-Ok.updates (keeps_without s fs laws table found.whole found.none family same)
@@ -52,4 +52,4 @@ returns-in-Ok-finish_without-clause-needed c =
 pub returns-in-Ok-finish_without-clause-never_ends : goal.returns-in-Ok-finish_without-clause-never_ends
 returns-in-Ok-finish_without-clause-never_ends c = λ family lacks.
     let found = c.in-Ok.ensures.found in
-    (never_both_left (setting_of c.args.setting.now) c.args.setting.now.start.now c.fill_whole.ensures.laws c.fill_whole.new.table found.whole found.none family found.ends lacks, tt)
+    (never_both_left (setting_of c.args.setting.now) c.args.setting.now.start.now c.find_fixpoint.ensures.laws c.find_fixpoint.new.table found.whole found.none family found.ends lacks, tt)

@@ -15,10 +15,10 @@ returns-clause-put c =
       sums = c.in-Ok.ensures.sums;
       contexts = c.in-Ok.ensures.contexts;
       family = c.in-Ok.ensures.family;
-      waiting = waiting_inserted c.args.self.now.waiting c.insert.new.self (c.args.context, c.args.offset) (is_change c.in-Ok.joined) is c.in_default.ensures.ok;
+      worklist = waiting_inserted c.args.self.now.worklist c.insert.new.self (c.args.context, c.args.offset) (is_change c.in-Ok.joined) is c.in_default.ensures.ok;
       changes = ap (λ n. c.args.self.now.changes + n) (sym one);
       risen = record {
-        waiting = let l = length-insert_key c.args.self.now.waiting (c.args.context, c.args.offset) in let e = ap length c.in_default.ensures.ok in omega arith;
+        worklist = let l = length-insert_key c.args.self.now.worklist (c.args.context, c.args.offset) in let e = ap length c.in_default.ensures.ok in omega arith;
         changes = omega arith;
       };
     }

@@ -1,0 +1,5 @@
+use Rattle.hintcheck.specs.FontLooks.{AreRefusedBelow, font_in}
+use Rattle.hintcheck.proofs.font.refused_glyphs.Given as goal
+
+abbrev pub invariant-loop-id : goal.invariant-loop-id
+invariant-loop-id l = AreRefusedBelow (font_in l.common) l.common.functions.now l.font.glyphs l.id l.refused.items

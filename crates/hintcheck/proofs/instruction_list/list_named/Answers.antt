@@ -1,0 +1,36 @@
+-- proofs/listing/list_named/Answers.antt
+use Rattle.std.specs.Prelude.{codes}
+use Rattle.std.specs.Io.KnownBytes.{Appends}
+use Rattle.std.proofs.Common.{ℕ, List, [], ◌++◌, refl, subst}
+use Rattle.tt_font.specs.Reading.{no_glyph}
+use Rattle.hintcheck.specs.FontPrograms.{font_of, glyph_subject, one_glyph_font}
+use Rattle.hintcheck.specs.Programs.{IsRefusal, Subject}
+use Rattle.tt_cert.specs.Checks.{IsOutOfMemory}
+use Rattle.tt_cert.specs.declared.fault.ProgramFault.{ProgramFault}
+use Rattle.hintcheck.specs.Looks.{IfRefused, told_at}
+use Rattle.hintcheck.specs.Texts.{refused_text}
+use Rattle.hintcheck.specs.declared.report.Refused.{Refused}
+use Rattle.hintcheck.proofs.ListingLemmas.{tells_unlisted}
+use Rattle.hintcheck.proofs.instruction_list.list_named.Goals as goal
+
+-- a program of these bytes in some font
+in_some_font : List ℕ → Subject
+in_some_font bytes = record (glyph_subject (font_of (one_glyph_font [] 0 no_glyph) [] []) [] 0 no_glyph) { bytes = bytes }
+
+pub returns-in_ok-print_program-in-Ok-clause-listed : goal.returns-in_ok-print_program-in-Ok-clause-listed
+unfolding in_some_font
+returns-in_ok-print_program-in-Ok-clause-listed g c = λ zero.
+    let cut = c.in-Ok.ensures.cut (in_some_font c.args.named.bytes.now) refl in
+    record { instructions = c.in-Ok.program; is_cut = cut.is_cut; structured = cut.structured; written = c.in_ok-print_program-in-Ok.ensures.written }
+
+pub returns-in_ok-writeln-in-Err-Refused-clause-told : goal.returns-in_ok-writeln-in-Err-Refused-clause-told
+unfolding in_some_font
+returns-in_ok-writeln-in-Err-Refused-clause-told g c = λ one.
+    let e = c.in-Err-Refused in
+    let x = in_some_font c.args.named.bytes.now in
+    let F : ProgramFault → Type 0 = λ f. IfRefused x.name f (IsRefusal x) in
+    let W : Refused → Type 0 = λ r. Appends (g.O.Sink.contents c.args.out.now) (g.O.Sink.contents c.writeln.new.self) (refused_text r ++ codes "\n") in
+    tells_unlisted x c.args.named.name (told_at x.name e.field-0-0 e.offset e.reason) (g.O.Sink.contents c.args.out.now) (g.O.Sink.contents c.writeln.new.self)
+    (subst F e.field-0-is (e.ensures.refused x refl))
+    (λ is cut structured. subst IsOutOfMemory e.field-0-is (e.ensures.only is cut structured))
+    (subst W c.refused_at-refused.ensures c.in_ok-writeln-in-Err-Refused.ensures.written)

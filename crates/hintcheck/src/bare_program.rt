@@ -1,0 +1,101 @@
+//! The verdict on one program.
+
+ghost use Rattle.std.specs.Prelude.{◌≡◌, ◌≤◌, ◌<◌, ◌^◌, ◌⊎◌, ◌↔◌, [], All, IfErr, IfOk, None, OnOk, length};
+ghost use Rattle.hintcheck.specs.FontPrograms.{IsSafeGlyph, font_of, glyph_subject, one_glyph_font};
+ghost use Rattle.hintcheck.specs.Judging.{IsJudged, IsMemory, font_around};
+ghost use Rattle.hintcheck.specs.Programs.{HasGoodFamily, IsRefusal};
+ghost use Rattle.tt_code.specs.Faults.{IsMemory as IsMemoryAlone};
+ghost use Rattle.tt_font.specs.Reading.{GlyphData};
+ghost use Rattle.tt_font.specs.Conditions.{maxp_fault};
+ghost use Rattle.tt_font.specs.GlyphParts.{glyph_data};
+
+use crate::font::{Common, judge_glyph};
+use crate::program::{Search, list_refused};
+use crate::report::{Name, Refused, Verdict};
+use std::alloc::{AllocError, Global};
+use tt_abs::Setting;
+use tt_code::{CodeFault, Limits, Program};
+use tt_find::Finder;
+use tt_font::{FontFault, GlyphPart, read_maxp};
+
+/// Returns the error of a fault that isn't the program's.
+fn memory_error(fault: CodeFault) -> AllocError
+    requires { IsMemoryAlone fault }
+{
+    match fault {
+        CodeFault::OutOfMemory(error) => error,
+        CodeFault::CannotCut(_) => unreachable!(),
+        CodeFault::Structure(_) => unreachable!(),
+    }
+}
+
+/// Returns the program without instructions.
+fn empty_program(alloc: Global) -> Result<Program<'static>, AllocError>
+    ensures { IfOk result (λ program. program ≡ []) }
+{
+    match Program::cut(alloc, &[]) {
+        Ok(program) => Ok(program),
+        // No instruction passes the end of an empty program, and its structure is right.
+        Err(fault) => Err(memory_error(fault)),
+    }
+}
+
+/// Returns the refused ones of the only program, that of the glyph `g0` in a font whose font program and CVT program are empty.
+fn refused_programs(
+    alloc: Global,
+    limits: Limits,
+    cvt: u16,
+    glyph: &GlyphPart<'_>,
+) -> Result<Vec<Refused>, AllocError>
+    requires { length glyph.now.program.now < 2 ^ 31 }
+    ensures { IfOk result (λ refused. IsJudged (glyph_subject (font_around limits cvt) [] 0 (glyph_data glyph.now)) refused.items) }
+{
+    let empty = empty_program(alloc)?;
+    let font_setting = Setting::for_font_program(limits, u32::from(cvt), &empty);
+    let common = Common {
+        setting: font_setting.for_cvt_program(&empty, &[]),
+        functions: &[],
+    };
+    let mut finder = Finder::new(alloc);
+    let mut refused = Vec::new(alloc);
+    match judge_glyph(alloc, &mut finder, &common, glyph, Search::Verdict) {
+        Ok(()) => {}
+        Err(fault) => list_refused(&mut refused, Name::Glyph(0), fault)?,
+    }
+    Ok(refused)
+}
+
+/// Returns the verdict on one glyph program, `g0`, of at most 65,535 bytes, in a font whose font program and CVT program are empty:
+/// against the limits of a `maxp` table, a number of control values, and a glyph's numbers of points, without the four
+/// phantom points, and contours.
+///
+/// # Errors
+/// The faults of `read_maxp`; `OutOfMemory`.
+pub fn bare(
+    alloc: Global,
+    maxp: &[u8],
+    cvt: u16,
+    points: u16,
+    contours: u16,
+    program: &[u8],
+) -> Result<Verdict, FontFault>
+    requires { length program.now ≤ 65535 }
+    ensures accepted { let glyph : GlyphData = record { points = points; contours = contours; program = program.now } in
+        IfOk result (λ v. v.refused ≡ [] → IsSafeGlyph (font_of (one_glyph_font maxp.now cvt glyph) [] []) glyph) }
+    ensures exact { let glyph : GlyphData = record { points = points; contours = contours; program = program.now } in
+        IfOk result (λ v. v.refused ≡ [] ↔ HasGoodFamily (glyph_subject (font_of (one_glyph_font maxp.now cvt glyph) [] []) [] 0 glyph)) }
+    ensures refused { let glyph : GlyphData = record { points = points; contours = contours; program = program.now } in
+        IfOk result (λ v. All (IsRefusal (glyph_subject (font_of (one_glyph_font maxp.now cvt glyph) [] []) [] 0 glyph)) v.refused) }
+    ensures one { IfOk result (λ v. (v.programs ≡ 1) × (length v.refused ≤ 1)) }
+    ensures fields { OnOk result (maxp_fault maxp.now ≡ None) }
+    ensures faults { IfErr result (λ e. (maxp_fault maxp.now ≡ Some e) ⊎ (IsMemory e × (maxp_fault maxp.now ≡ None))) }
+{
+    let limits = read_maxp(maxp)?;
+    let glyph = GlyphPart {
+        points,
+        contours,
+        program,
+    };
+    let refused = refused_programs(alloc, limits, cvt, &glyph)?;
+    Ok(Verdict::new(1, refused))
+}

@@ -1,0 +1,162 @@
+//! The certificate of a font: found, and written where no program is refused.
+
+ghost use Rattle.std.specs.Prelude.{◌≡◌, [], IfErr, IfOk, OnErr, OnOk};
+ghost use Rattle.tt_font.specs.FileFaults.{font_fault};
+ghost use Rattle.tt_font.specs.Reading.{FontData, Reads};
+ghost use Rattle.hintcheck.specs.CertificateFaults.{CountsFind, IsNoFaultOfFont, TestsInFind, WritesNothing};
+ghost use Rattle.hintcheck.specs.CertificateTexts.{IsPassingCertificate, WritesBeginning, WritesText};
+ghost use Rattle.hintcheck.specs.FindingSessions.{BeginsCertificate, IsCertificateBegun};
+ghost use Rattle.hintcheck.specs.FontLooks.{AreAllRefused};
+ghost use Rattle.hintcheck.specs.FontPrograms.{IsFontInRange, IsSafeFont, IsVerdict};
+ghost use Rattle.hintcheck.specs.SessionStages.{AreSectionsFrom, AreSomeSections};
+ghost use Rattle.hintcheck.specs.Sessions.{at_start};
+
+use crate::font::{read_font, refused_programs};
+use crate::program::Search;
+use crate::report::Verdict;
+use crate::session::Session;
+use std::alloc::{AllocError, Global};
+use thiserror::Error;
+use tt_cert_file::{EncodeFault, encode, write_header};
+use tt_find::Finder;
+use tt_font::{Font, FontFault};
+use tt_stream::Sink;
+
+/// Why a font's certificate isn't found or written.
+#[derive(Debug, Drop, Error)]
+pub enum FindFontFault {
+    /// The font's own fault.
+    #[error(transparent)]
+    Font(FontFault),
+    /// The certificate can't be written.
+    #[error("write")]
+    Write,
+    /// Memory ran out.
+    #[error("out of memory")]
+    OutOfMemory(AllocError),
+}
+
+impl From<FontFault> for FindFontFault {
+    ghost use Rattle.std.specs.Prelude.{◌≡◌};
+    ghost use Rattle.hintcheck.specs.declared.certificate.FindFontFault.TheVariants.{Font};
+
+    ghost from_gives = { λ font fault. fault ≡ Font font };
+
+    fn from(font: FontFault) -> FindFontFault {
+        FindFontFault::Font(font)
+    }
+}
+
+impl From<AllocError> for FindFontFault {
+    ghost use Rattle.std.specs.Prelude.{◌≡◌};
+    ghost use Rattle.hintcheck.specs.declared.certificate.FindFontFault.TheVariants.{OutOfMemory};
+
+    ghost from_gives = { λ error fault. fault ≡ OutOfMemory error };
+
+    fn from(error: AllocError) -> FindFontFault {
+        FindFontFault::OutOfMemory(error)
+    }
+}
+
+impl From<EncodeFault> for FindFontFault {
+    ghost use Rattle.std.specs.Prelude.{◌≡◌};
+    ghost use Rattle.hintcheck.specs.CertificateFaults.{fault_of_encoding};
+
+    ghost from_gives = { λ encode fault. fault ≡ fault_of_encoding encode };
+
+    fn from(fault: EncodeFault) -> FindFontFault {
+        match fault {
+            EncodeFault::Write => FindFontFault::Write,
+            EncodeFault::OutOfMemory(error) => FindFontFault::OutOfMemory(error),
+        }
+    }
+}
+
+/// Writes the sections of a font's programs, none of which is refused. Each program's family is found once more, so that one is held at a time.
+fn write_sections<W: Sink>(
+    alloc: Global,
+    font: &Font<'_>,
+    sink: &mut W,
+) -> Result<(), FindFontFault>
+    requires range { IsFontInRange font.now }
+    requires accepted { AreAllRefused font.now [] }
+    ensures written { OnOk result (WritesText (W.contents sink.old) (W.contents sink.new) (AreSectionsFrom font.now at_start)) }
+    ensures begun { OnErr result (WritesBeginning (W.contents sink.old) (W.contents sink.new) (AreSomeSections font.now)) }
+    ensures failures { CountsFind result (W.failures sink.old) (W.failures sink.new) }
+    ensures font { IfErr result IsNoFaultOfFont }
+{
+    let mut session = Session::new(font);
+    let mut finder = Finder::new(alloc);
+    while let Some((outcome, found)) = session.look_next(alloc, &mut finder, Search::Writing)? {
+        // No program was refused at the first look, so none is now.
+        let found = found.unwrap();
+        found.certificate.is_in_order();
+        encode(alloc, outcome.program, &found.certificate, sink)?;
+        finder.take_back(found.certificate);
+    }
+    Ok(())
+}
+
+/// Writes the certificate of a font of which no program is refused.
+fn write_certificate<W: Sink>(
+    alloc: Global,
+    font: &Font<'_>,
+    sink: &mut W,
+) -> Result<(), FindFontFault>
+    requires range { IsFontInRange font.now }
+    requires accepted { AreAllRefused font.now [] }
+    ensures written { OnOk result (WritesText (W.contents sink.old) (W.contents sink.new) (IsPassingCertificate font.now)) }
+    ensures begun { OnErr result (WritesBeginning (W.contents sink.old) (W.contents sink.new) (IsCertificateBegun font.now)) }
+    ensures failures { CountsFind result (W.failures sink.old) (W.failures sink.new) }
+    ensures font { IfErr result IsNoFaultOfFont }
+{
+    write_header(u32::from(font.glyph_count()) + 2, sink)?;
+    write_sections(alloc, font, sink)
+}
+
+/// Returns the verdict on the programs of a font that was read, whose certificate is written where no program is refused.
+pub(crate) fn find_programs<W: Sink>(
+    alloc: Global,
+    font: &Font<'_>,
+    sink: &mut W,
+) -> Result<Verdict, FindFontFault>
+    requires { IsFontInRange font.now }
+    ensures exact { IfOk result (λ v. IsVerdict font.now v) }
+    ensures written { IfOk result (λ v. v.refused ≡ [] → WritesText (W.contents sink.old) (W.contents sink.new) (IsPassingCertificate font.now)) }
+    ensures begun { OnErr result (WritesBeginning (W.contents sink.old) (W.contents sink.new) (IsCertificateBegun font.now)) }
+    ensures unwritten { IfOk result (λ v. WritesNothing (W.contents sink.old) (W.contents sink.new) v) }
+    ensures failures { CountsFind result (W.failures sink.old) (W.failures sink.new) }
+    ensures font { IfErr result IsNoFaultOfFont }
+{
+    let refused = refused_programs(alloc, font, Search::BeforeWriting)?;
+    if refused.is_empty() {
+        write_certificate(alloc, font, sink)?;
+    }
+    Ok(Verdict::new(u32::from(font.glyph_count()) + 2, refused))
+}
+
+/// Returns the verdict on the programs of a font file, as `verdict` gives it. Where no program is refused, the font's certificate is written to the
+/// sink: the family that was found for each program, without the states that can be left out. Where one is, nothing is written.
+///
+/// # Errors
+/// The faults of `Font::read`; `Write` exactly where a write failed; `OutOfMemory`. With the last two a beginning of the certificate was written,
+/// perhaps an empty one.
+pub fn find_font<W: Sink>(
+    alloc: Global,
+    font: &[u8],
+    sink: &mut W,
+) -> Result<Verdict, FindFontFault>
+    ensures exact { IfOk result (λ v. (d : FontData) × Reads font.now d × IsVerdict d v × (v.refused ≡ [] → IsSafeFont d)) }
+    // Where no program is refused, what is appended is the certificate of the least families, and the check of the font by it refuses nothing.
+    ensures written { IfOk result (λ v. v.refused ≡ []
+        → (d : FontData) × Reads font.now d × WritesText (W.contents sink.old) (W.contents sink.new) (IsPassingCertificate d)) }
+    ensures unwritten { IfOk result (λ v. WritesNothing (W.contents sink.old) (W.contents sink.new) v) }
+    // After a fault a beginning of the certificate was written: of the header and of the sections that were made.
+    ensures begun { OnErr result (BeginsCertificate font.now (W.contents sink.old) (W.contents sink.new)) }
+    ensures failures { CountsFind result (W.failures sink.old) (W.failures sink.new) }
+    // A fault of the font is the first one of its bytes, unless memory ran out; any other answer means that they have none.
+    ensures faults { TestsInFind (font_fault font.now) result }
+{
+    let read = read_font(alloc, font)?;
+    find_programs(alloc, &read, sink)
+}

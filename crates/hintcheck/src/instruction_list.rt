@@ -1,0 +1,222 @@
+//! The instructions of one program of a font, a line for each.
+
+ghost use Rattle.std.specs.Prelude.{◌≡◌, ◌≢◌, ◌↔◌, ℕ, ◌++◌, ◌<◌, ◌≤◌, ◌^◌, List, IfErr, IfNone, IfOk, IfSome, IsTrue, OnOk, Some, length, option_map};
+ghost use Rattle.std.specs.Fmt.{decimal};
+ghost use Rattle.std.specs.Io.KnownBytes.{Appends};
+ghost use Rattle.std.specs.List.{AllByRecursion};
+ghost use Rattle.tt_code.specs.Cut.{IsInstruction};
+ghost use Rattle.tt_stream.specs.Streams.{CountsPrintFailure};
+ghost use Rattle.hintcheck.specs.CommandFaults.{IsFaultOfLines, IsFaultOfListing};
+ghost use Rattle.hintcheck.specs.Commands.{TellsFailure};
+ghost use Rattle.hintcheck.specs.Listing.{CannotBeListed, HoldListedProgram, HoldNoSuchProgram, HoldToldProgram, HoldUnlistedProgram, IsListed, IsOf16Bits, IsPlain, Names, TellsUnlisted, last_line, line_of, lines_of, program_in, refused_in, shown_name};
+ghost use Rattle.tt_cert_file.specs.Names.{text_of};
+
+use crate::commands::faults::CommandFault;
+use crate::program::cut;
+use crate::report::{Name, Place, Refused};
+use std::alloc::{AllocError, Global};
+use std::fmt;
+use tt_cert::ProgramFault;
+use tt_code::{Instr, Program, Reason, name};
+use tt_font::Font;
+use tt_stream::{PrintFailed, Sink};
+
+/// The exit status where the program is listed.
+const LISTED: u8 = 0;
+
+/// The exit status where the program can't be cut or isn't structured.
+const UNLISTED: u8 = 1;
+
+/// Whether the text has no sign in front, and no zero there except as its only digit.
+fn is_plain(text: &[u8]) -> bool
+    ensures { IsTrue result ↔ IsPlain text.now }
+{
+    match text {
+        [b'+', ..] => false,
+        [b'0', ..] => text.len() == 1,
+        _ => true,
+    }
+}
+
+/// Returns the number that the text is in decimal digits, with no sign and no needless zero in front.
+fn read_number(text: &str) -> Option<u16>
+    ensures read { IfSome result (λ number. text.now ≡ decimal number) }
+    ensures each { (number : ℕ) → number < 2 ^ 16 → text.now ≡ decimal number → result ≡ Some number }
+{
+    if !is_plain(text.as_bytes()) {
+        return None;
+    }
+    text.parse::<u16>().ok()
+}
+
+/// Returns the program's name that the word is, as names are printed.
+fn read_name(word: &str) -> Option<Name>
+    ensures read { IfSome result (λ name. word.now ≡ text_of name) }
+    ensures each { (name : Name) → IsOf16Bits name → word.now ≡ text_of name → result ≡ Some name }
+{
+    match word {
+        "f" => Some(Name::Font),
+        "p" => Some(Name::Cvt),
+        _ => Some(Name::Glyph(read_number(word.strip_prefix("g")?)?)),
+    }
+}
+
+/// Returns the bytes of the font's program of this name, if the font has it.
+fn program_of<'a>(font: &Font<'a>, name: Name) -> Option<&'a [u8]>
+    ensures { option_map (λ program. program.now) result ≡ program_in font.now name }
+{
+    match name {
+        Name::Font => Some(font.fpgm()),
+        Name::Cvt => Some(font.prep()),
+        Name::Glyph(id) => font.glyph(id).map(|glyph| glyph.program),
+    }
+}
+
+/// A program of a font.
+#[derive(Clone, Copy)]
+struct Named<'a> {
+    name: Name,
+    bytes: &'a [u8],
+}
+
+/// Returns the font's program whose name the word is, if there is one.
+fn named_program<'a>(font: &Font<'a>, word: &str) -> Option<Named<'a>>
+    requires { length font.now.glyphs < 2 ^ 16 }
+    ensures there { IfSome result (λ named. Names word.now font.now named.bytes.now) }
+    ensures text { IfSome result (λ named. word.now ≡ text_of named.name) }
+    ensures program { IfSome result (λ named. program_in font.now named.name ≡ Some named.bytes.now) }
+    ensures none { IfNone result ((program : List ℕ) → Names word.now font.now program → ⊥) }
+{
+    let name = read_name(word)?;
+    let bytes = program_of(font, name)?;
+    Some(Named { name, bytes })
+}
+
+/// Bytes, two hexadecimal digits for each.
+#[derive(Drop)]
+struct Digits<'a>(&'a [u8]);
+
+impl fmt::Display for Digits<'_> {
+    ghost use Rattle.std.specs.Prelude.{Some};
+    ghost use Rattle.hintcheck.specs.Listing.{hex_digits};
+
+    ghost output = { λ digits. Some (hex_digits digits.0.now) };
+
+    fn fmt<W: fmt::Write>(&self, f: &mut fmt::Formatter<W>) -> fmt::Result {
+        for &byte in self.0 {
+            write!(f, "{byte:02x}")?;
+        }
+        Ok(())
+    }
+}
+
+/// Returns the name of the instruction's code, `?` where it has none.
+fn name_of(instruction: &Instr<'_>) -> &'static str
+    ensures { result.now ≡ shown_name instruction.now }
+{
+    match name(instruction.code()) {
+        Some(name) => name,
+        None => "?",
+    }
+}
+
+/// Prints an instruction's line: its offset, its bytes and its name.
+fn print_instruction<O: Sink>(
+    out: &mut O,
+    offset: u32,
+    instruction: &Instr<'_>,
+) -> Result<(), PrintFailed>
+    ensures written { OnOk result (Appends (O.contents out.old) (O.contents out.new) (line_of offset instruction.now)) }
+    ensures failures { CountsPrintFailure result (O.failures out.old) (O.failures out.new) }
+{
+    let digits = Digits(instruction.bytes());
+    let name = name_of(instruction);
+    writeln!(out, "{offset}: {digits} {name}")
+}
+
+/// Prints the line after those of the instructions.
+fn print_last_line<O: Sink>(out: &mut O, program: &Program<'_>) -> Result<(), PrintFailed>
+    ensures written { OnOk result (Appends (O.contents out.old) (O.contents out.new) (last_line program.now)) }
+    ensures failures { CountsPrintFailure result (O.failures out.old) (O.failures out.new) }
+{
+    let length = program.len();
+    writeln!(out, "end: {length}")
+}
+
+/// Prints a line for each instruction, one after the other, and a last line with the program's length.
+fn print_program<O: Sink>(out: &mut O, program: &Program<'_>) -> Result<(), PrintFailed>
+    requires { AllByRecursion IsInstruction program.now }
+    ensures written { OnOk result (Appends (O.contents out.old) (O.contents out.new) (lines_of 0 program.now ++ last_line program.now)) }
+    ensures failures { CountsPrintFailure result (O.failures out.old) (O.failures out.new) }
+{
+    let _length = program.len();
+    let mut offset = 0;
+    while let Some(instruction) = program.at(offset) {
+        print_instruction(out, offset, &instruction)?;
+        offset += instruction.len();
+    }
+    print_last_line(out, program)
+}
+
+/// Returns the program of this name, refused at this offset of its own.
+fn refused_at(program: Name, offset: u32, reason: Reason) -> Refused
+    ensures { result ≡ refused_in program offset reason }
+{
+    Refused {
+        program,
+        place: Place { program, offset },
+        reason,
+    }
+}
+
+/// Lists the program, or prints the line of its refusal, and returns the exit status.
+fn list_named<O: Sink>(alloc: Global, named: Named<'_>, out: &mut O) -> Result<u8, CommandFault>
+    requires { length named.bytes.now < 2 ^ 31 }
+    ensures status { IfOk result (λ status. status ≤ 1) }
+    ensures listed { IfOk result (λ status. status ≡ 0 → IsListed named.entry.bytes.now (O.contents out.old) (O.contents out.new)) }
+    ensures unlisted { IfOk result (λ status. status ≡ 1 → CannotBeListed named.entry.bytes.now) }
+    ensures told { IfOk result (λ status. status ≡ 1 → TellsUnlisted named.entry.name named.entry.bytes.now (O.contents out.old) (O.contents out.new)) }
+    ensures named { result ≢ Err CommandFault.ProgramWord }
+    ensures failures { TellsFailure result (O.failures out.old) (O.failures out.new) }
+    ensures faults { IfErr result IsFaultOfLines }
+{
+    match cut(alloc, named.bytes) {
+        Ok(program) => {
+            print_program(out, &program)?;
+            Ok(LISTED)
+        }
+        Err(ProgramFault::Refused { offset, reason, .. }) => {
+            let refused = refused_at(named.name, offset, reason);
+            writeln!(out, "{refused}")?;
+            Ok(UNLISTED)
+        }
+        Err(ProgramFault::OutOfMemory(AllocError)) => Err(CommandFault::OutOfMemory),
+    }
+}
+
+/// Lists the program of the font in these bytes whose name the word is, and returns the exit status: 0 listed, 1 where the program can't
+/// be cut or isn't structured, which one line reports. Printing takes no memory.
+///
+/// # Errors
+/// The faults of `Font::read`; `ProgramWord` where the word is the name of none of the font's programs; `Write` exactly where a write to
+/// `out` failed; `OutOfMemory`.
+pub fn list_program<O: Sink>(
+    alloc: Global,
+    font: &[u8],
+    word: &str,
+    out: &mut O,
+) -> Result<u8, CommandFault>
+    ensures status { IfOk result (λ status. status ≤ 1) }
+    ensures listed { IfOk result (λ status. status ≡ 0 → HoldListedProgram font.now word.now (O.contents out.old) (O.contents out.new)) }
+    ensures unlisted { IfOk result (λ status. status ≡ 1 → HoldUnlistedProgram font.now word.now) }
+    ensures told { IfOk result (λ status. status ≡ 1 → HoldToldProgram font.now word.now (O.contents out.old) (O.contents out.new)) }
+    ensures unnamed { result ≡ Err CommandFault.ProgramWord → HoldNoSuchProgram font.now word.now }
+    ensures failures { TellsFailure result (O.failures out.old) (O.failures out.new) }
+    ensures faults { IfErr result (IsFaultOfListing font.now word.now) }
+{
+    let font = Font::read(alloc, font)?;
+    match named_program(&font, word) {
+        Some(named) => list_named(alloc, named, out),
+        None => Err(CommandFault::ProgramWord),
+    }
+}

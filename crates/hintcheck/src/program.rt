@@ -1,0 +1,193 @@
+//! The look at one program: it is cut, a family of abstract states is found for it, and the check of that family decides.
+
+ghost use Rattle.std.specs.Prelude.{◌≡◌, ◌⊎◌, ℕ, ◌<◌, ◌^◌, List, IfErr, IfOk, OnOk, length};
+ghost use Rattle.tt_code.specs.Cut.{Instruction, IsCut};
+ghost use Rattle.tt_code.specs.Grammar.{IsStructured};
+ghost use Rattle.tt_code.specs.Settings.{GlyphProgram};
+ghost use Rattle.tt_abs.specs.Entries.{Rises};
+ghost use Rattle.tt_abs.specs.Settings.{setting_of};
+ghost use Rattle.tt_abs.specs.StateFlow.{FunctionsFit};
+ghost use Rattle.tt_cert.specs.Checks.{IsOutOfMemory};
+ghost use Rattle.tt_cert.specs.Contents.{Contents, family_of};
+ghost use Rattle.tt_cert.specs.Fillings.{HasGoodFilling};
+ghost use Rattle.tt_cert_file.specs.declared.form.Form.{Form};
+ghost use Rattle.tt_find.specs.Found.{AreLeastContexts, HasLeastFilling, IsJustified, IsNeverEnding, NamesPlace, NeedsAll, NoneIsGood};
+ghost use Rattle.hintcheck.specs.CheckedFonts.{IsRefusedBy};
+ghost use Rattle.hintcheck.specs.FindingSessions.{IsFoundFor};
+ghost use Rattle.hintcheck.specs.Programs.{HasGoodFamily, IsCutInto, IsRefusal, Subject, program_at as program_at_spot};
+ghost use Rattle.hintcheck.specs.Looks.{IfRefused, IsAccepted, IsForCertificate, IsListed, IsLookedAt, told_at};
+
+use crate::report::{Name, Place, Refused};
+use std::alloc::{AllocError, Global};
+use tt_abs::Setting;
+use tt_cert::{ProgramFault, Spot, check};
+use tt_code::{CodeFault, Program, Reason};
+use tt_find::{Finder, Found};
+
+/// Returns the program in which a place is that is reached from a program of this name.
+fn program_at(name: Name, spot: Spot) -> Name
+    ensures { result ≡ program_at_spot name spot }
+{
+    match spot {
+        Spot::Main => name,
+        Spot::Font => Name::Font,
+        Spot::Prep => Name::Cvt,
+    }
+}
+
+/// Returns what is reported of the program of this name that is refused at an offset.
+pub(crate) fn told(name: Name, spot: Spot, offset: u32, reason: Reason) -> Refused
+    ensures { result ≡ told_at name spot offset reason }
+{
+    Refused {
+        program: name,
+        place: Place {
+            program: program_at(name, spot),
+            offset,
+        },
+        reason,
+    }
+}
+
+/// Adds the program of this name, which the fault refuses, to the list of the refused ones.
+///
+/// # Errors
+/// If the fault is out of memory, which refuses nothing; if the list doesn't grow.
+pub(crate) fn list_refused(
+    refused: &mut Vec<Refused>,
+    name: Name,
+    fault: ProgramFault,
+) -> Result<(), AllocError>
+    ensures { OnOk result (IsListed name fault refused.old.items refused.new.items) }
+{
+    match fault {
+        ProgramFault::Refused {
+            spot,
+            offset,
+            reason,
+        } => {
+            refused.push(told(name, spot, offset, reason))?;
+            Ok(())
+        }
+        ProgramFault::OutOfMemory(error) => Err(error),
+    }
+}
+
+/// Returns the fault of a program that is refused at this offset of its own.
+fn refused_at(offset: u32, reason: Reason) -> ProgramFault
+    ensures { result ≡ ProgramFault.Refused Spot.Main offset reason }
+{
+    ProgramFault::Refused {
+        spot: Spot::Main,
+        offset,
+        reason,
+    }
+}
+
+/// Cuts the bytes of a program, at most 2^31 - 1, into its instructions.
+///
+/// # Errors
+/// `Refused` where they can't be cut or their structure is wrong; `OutOfMemory`.
+pub(crate) fn cut<'a>(alloc: Global, bytes: &'a [u8]) -> Result<Program<'a>, ProgramFault>
+    requires { length bytes.now < 2 ^ 31 }
+    ensures cut { (x : Subject) → x.bytes ≡ bytes.entry.now → IfOk result (λ program. IsCutInto x program) }
+    ensures refused { (x : Subject) → x.bytes ≡ bytes.entry.now → IfErr result (λ fault. IfRefused x.name fault (IsRefusal x)) }
+    ensures none_good { (x : Subject) → x.bytes ≡ bytes.entry.now → IfErr result (λ fault. IfRefused x.name fault (λ _. HasGoodFamily x → ⊥)) }
+    ensures uncut { (x : Subject) (form : Form) (family : Contents) → x.bytes ≡ bytes.entry.now → IfErr result (IsRefusedBy form x family) }
+    ensures only { (instructions : List Instruction) → IsCut bytes.entry.now instructions → IsStructured instructions → IfErr result IsOutOfMemory }
+{
+    match Program::cut(alloc, bytes) {
+        Ok(program) => Ok(program),
+        Err(CodeFault::CannotCut(offset)) => Err(refused_at(offset, Reason::CannotCut)),
+        Err(CodeFault::Structure(offset)) => Err(refused_at(offset, Reason::Structure)),
+        Err(CodeFault::OutOfMemory(error)) => Err(ProgramFault::OutOfMemory(error)),
+    }
+}
+
+/// Returns what is found for a program, if the check accepts it; where it doesn't, the finder has its memory.
+fn checked(
+    alloc: Global,
+    finder: &mut Finder,
+    setting: &Setting<'_>,
+    found: Found,
+) -> Result<Found, ProgramFault>
+    requires { Rises setting.now.start.now }
+    ensures same { IfOk result (λ accepted. accepted ≡ found) }
+    // The check accepts it: this relies on no promise of the finder's.
+    ensures good { OnOk result (HasGoodFilling (setting_of setting.now) setting.now.start.now (family_of found.certificate)) }
+    ensures exact { HasGoodFilling (setting_of setting.now) setting.now.start.now (family_of found.certificate) → IfErr result IsOutOfMemory }
+{
+    match check(alloc, setting, &found.certificate) {
+        Ok(()) => Ok(found),
+        Err(fault) => {
+            finder.take_back(found.certificate);
+            Err(fault)
+        }
+    }
+}
+
+/// What a program is looked at for.
+#[derive(Clone, Copy)]
+pub(crate) enum Search {
+    /// Only for the verdict, by a family that is checked.
+    Verdict,
+    /// For its certificate, which lists no state that could be left out, and is checked.
+    Certificate,
+    /// For whether a certificate of the font can be written. Nothing is checked: that the family has a good filling is the finder's promise.
+    BeforeWriting,
+    /// For its certificate, as it is written. Nothing is checked: that the family has a good filling is the finder's promise.
+    Writing,
+}
+
+/// Finds the family of abstract states of the program of this setting, with no state that could be left out where it is for a certificate.
+///
+/// # Errors
+/// As `Finder::find`.
+fn find(
+    alloc: Global,
+    finder: &mut Finder,
+    setting: &Setting<'_>,
+    search: Search,
+) -> Result<Found, ProgramFault>
+    requires rises { Rises setting.now.start.now }
+    requires fits { FunctionsFit (setting_of setting.now) setting.now.start.now }
+    ensures filling { IfOk result (λ found. HasLeastFilling (setting_of setting.now) setting.now.start.now found.updates (family_of found.certificate)) }
+    ensures contexts { IfOk result (λ found. AreLeastContexts (setting_of setting.now) setting.now.start.now found.certificate.contexts) }
+    ensures needed { IsForCertificate search
+        → IfOk result (λ found. NeedsAll (setting_of setting.now) setting.now.start.now (family_of found.certificate)) }
+    ensures justified { IfErr result (NamesPlace (IsJustified (setting_of setting.now) setting.now.start.now)) }
+    ensures none_good { IfErr result (λ fault. IsOutOfMemory fault ⊎ IsNeverEnding fault ⊎ NoneIsGood (setting_of setting.now) setting.now.start.now) }
+{
+    match search {
+        Search::Verdict | Search::BeforeWriting => finder.find(alloc, setting),
+        Search::Certificate | Search::Writing => finder.find_needed(alloc, setting),
+    }
+}
+
+/// Looks at the program of this setting, whose family of abstract states is found and then, where that is asked, checked. A family that is
+/// found passes the check. What is found has the finder's memory, which `Finder::take_back` gives back; where the program is refused, the finder
+/// keeps it.
+///
+/// # Errors
+/// `Refused` where no family is found; `OutOfMemory`.
+pub(crate) fn find_and_check(
+    alloc: Global,
+    finder: &mut Finder,
+    setting: &Setting<'_>,
+    search: Search,
+) -> Result<Found, ProgramFault>
+    requires rises { Rises setting.now.start.now }
+    requires fits { FunctionsFit (setting_of setting.now) setting.now.start.now }
+    ensures accepted { (x : Subject) → IsLookedAt x setting.now → IfOk result (λ found. IsAccepted x setting.now.main.now (family_of found.certificate)) }
+    ensures found { IsForCertificate search → (x : Subject) → IsLookedAt x setting.now → IfOk result (IsFoundFor x setting.now.main.now) }
+    ensures refused { (x : Subject) → IsLookedAt x setting.now → IfErr result (λ fault. IfRefused x.name fault (IsRefusal x)) }
+    ensures none_good { (x : Subject) (points contours : ℕ) → IsLookedAt x setting.now → (setting_of setting.now).kind ≡ GlyphProgram points contours
+        → IfErr result (λ fault. IfRefused x.name fault (λ _. HasGoodFamily x → ⊥)) }
+{
+    setting.is_within();
+    let found = find(alloc, finder, setting, search)?;
+    match search {
+        Search::BeforeWriting | Search::Writing => Ok(found),
+        Search::Verdict | Search::Certificate => checked(alloc, finder, setting, found),
+    }
+}

@@ -1,0 +1,201 @@
+//! What is found for the programs of a font, one a call.
+
+ghost use Rattle.std.specs.Prelude.{◌+◌, ◌<◌, IfOk, Some, length};
+ghost use Rattle.tt_abs.specs.Entries.{Rises};
+ghost use Rattle.tt_abs.specs.StateFlow.{FunctionsFit};
+ghost use Rattle.tt_code.specs.Fonts.{font_setting};
+ghost use Rattle.hintcheck.specs.FindingSessions.{IsFoundAnswer};
+ghost use Rattle.hintcheck.specs.FontLooks.{IsKnownAtEnd};
+ghost use Rattle.hintcheck.specs.FontPrograms.{IsFontInRange, font_of, font_subject};
+ghost use Rattle.hintcheck.specs.Looks.{IsForCertificate};
+ghost use Rattle.hintcheck.specs.Sessions.{after_font, at_glyph, at_start};
+ghost use Rattle.hintcheck.specs.SessionStages.{KeepsKnown, TellsOutcome, stage_of};
+
+use super::{Kept, Outcome, accepted};
+use crate::font::{
+    Common, Ended, cvt_setting, find_cvt_program, find_font_program, find_glyph_program,
+};
+use crate::program::{Search, told};
+use crate::report::Name;
+use std::alloc::{AllocError, Global};
+use std::mem;
+use tt_cert::ProgramFault;
+use tt_find::{Finder, Found};
+use tt_font::Font;
+
+/// The answer of a call, and what the session keeps then.
+#[derive(Drop)]
+struct Step<'a> {
+    answer: Option<(Outcome, Option<Found>)>,
+    kept: Kept<'a>,
+}
+
+/// Returns the outcome of a program that the fault refuses.
+///
+/// # Errors
+/// If memory ran out, which refuses nothing.
+fn refused(program: Name, fault: ProgramFault) -> Result<Outcome, AllocError>
+    ensures { TellsOutcome program fault result }
+{
+    match fault {
+        ProgramFault::Refused {
+            spot,
+            offset,
+            reason,
+        } => Ok(Outcome {
+            program,
+            refused: Some(told(program, spot, offset, reason)),
+        }),
+        ProgramFault::OutOfMemory(error) => Err(error),
+    }
+}
+
+/// Returns the font program's outcome.
+fn find_first<'a>(
+    alloc: Global,
+    finder: &mut Finder,
+    font: &Font<'a>,
+    search: Search,
+) -> Result<Step<'a>, AllocError>
+    requires range { IsFontInRange font.now }
+    requires search { IsForCertificate search }
+    ensures { IfOk result (λ step. IsFoundAnswer font.now at_start step.answer (stage_of step.kept)) }
+{
+    match find_font_program(alloc, finder, font, search) {
+        Ok((fpgm, found)) => Ok(Step {
+            answer: Some((accepted(Name::Font), Some(found))),
+            kept: Kept::AfterFont(fpgm),
+        }),
+        Err(fault) => Ok(Step {
+            answer: Some((refused(Name::Font, fault)?, None)),
+            kept: Kept::Over,
+        }),
+    }
+}
+
+/// Returns the CVT program's outcome, in a font with this font program.
+fn find_second<'a>(
+    alloc: Global,
+    finder: &mut Finder,
+    font: &Font<'a>,
+    fpgm: Ended<'a>,
+    search: Search,
+) -> Result<Step<'a>, AllocError>
+    requires range { IsFontInRange font.now }
+    requires search { IsForCertificate search }
+    requires known { IsKnownAtEnd (font_subject font.now) fpgm.program fpgm.functions.items }
+    ensures { IfOk result (λ step. IsFoundAnswer font.now (after_font fpgm.entry.program fpgm.entry.functions.items) step.answer (stage_of step.kept)) }
+{
+    match find_cvt_program(alloc, finder, font, &fpgm, search) {
+        Ok((prep, found)) => Ok(Step {
+            answer: Some((accepted(Name::Cvt), Some(found))),
+            kept: Kept::Glyphs(fpgm, prep, 0),
+        }),
+        Err(fault) => Ok(Step {
+            answer: Some((refused(Name::Cvt, fault)?, None)),
+            kept: Kept::Over,
+        }),
+    }
+}
+
+/// Returns the outcome of a glyph program, in a font with these programs.
+fn find_glyph(
+    alloc: Global,
+    finder: &mut Finder,
+    font: &Font<'_>,
+    fpgm: &Ended<'_>,
+    prep: &Ended<'_>,
+    id: u16,
+    search: Search,
+) -> Result<(Outcome, Option<Found>), AllocError>
+    requires range { IsFontInRange font.now }
+    requires search { IsForCertificate search }
+    requires rises { Rises prep.now.functions.items }
+    requires fits { FunctionsFit (font_setting (font_of font.now fpgm.now.program prep.now.program)) prep.now.functions.items }
+    requires there { id < length font.now.glyphs }
+    ensures { IfOk result (λ answer. IsFoundAnswer font.now (at_glyph fpgm.now.program prep.now.program prep.now.functions.items id) (Some answer)
+        (at_glyph fpgm.now.program prep.now.program prep.now.functions.items (id + 1))) }
+{
+    let glyph = font.glyph(id).unwrap();
+    let common = Common {
+        setting: cvt_setting(font, fpgm, &prep.program),
+        functions: &prep.functions,
+    };
+    match find_glyph_program(alloc, finder, &common, &glyph, search) {
+        Ok(found) => Ok((accepted(Name::Glyph(id)), Some(found))),
+        Err(fault) => Ok((refused(Name::Glyph(id), fault)?, None)),
+    }
+}
+
+/// Returns the next glyph program's outcome, or that there is none after the last one.
+fn find_third<'a>(
+    alloc: Global,
+    finder: &mut Finder,
+    font: &Font<'a>,
+    fpgm: Ended<'a>,
+    prep: Ended<'a>,
+    id: u16,
+    search: Search,
+) -> Result<Step<'a>, AllocError>
+    requires range { IsFontInRange font.now }
+    requires search { IsForCertificate search }
+    requires known { KeepsKnown font.now (at_glyph fpgm.program prep.program prep.functions.items id) }
+    ensures { IfOk result (λ step. IsFoundAnswer font.now (at_glyph fpgm.entry.program prep.entry.program prep.entry.functions.items id) step.answer (stage_of step.kept)) }
+{
+    if id == font.glyph_count() {
+        return Ok(Step {
+            answer: None,
+            kept: Kept::Over,
+        });
+    }
+    let answer = find_glyph(alloc, finder, font, &fpgm, &prep, id, search)?;
+    Ok(Step {
+        answer: Some(answer),
+        kept: Kept::Glyphs(fpgm, prep, id + 1),
+    })
+}
+
+/// Returns what a call of a session that keeps this comes to.
+fn find_on<'a>(
+    alloc: Global,
+    finder: &mut Finder,
+    font: &Font<'a>,
+    kept: Kept<'a>,
+    search: Search,
+) -> Result<Step<'a>, AllocError>
+    requires range { IsFontInRange font.now }
+    requires search { IsForCertificate search }
+    requires known { KeepsKnown font.now (stage_of kept) }
+    ensures { IfOk result (λ step. IsFoundAnswer font.now (stage_of kept.entry) step.answer (stage_of step.kept)) }
+{
+    match kept {
+        Kept::Start => find_first(alloc, finder, font, search),
+        Kept::AfterFont(fpgm) => find_second(alloc, finder, font, fpgm, search),
+        Kept::Glyphs(fpgm, prep, id) => find_third(alloc, finder, font, fpgm, prep, id, search),
+        Kept::Over => Ok(Step {
+            answer: None,
+            kept: Kept::Over,
+        }),
+    }
+}
+
+/// Returns what a call of a session that keeps this comes to, and what it keeps then.
+pub(super) fn find_from<'a>(
+    alloc: Global,
+    finder: &mut Finder,
+    font: &Font<'a>,
+    kept: &mut Kept<'a>,
+    search: Search,
+) -> Result<Option<(Outcome, Option<Found>)>, AllocError>
+    requires range { IsFontInRange font.now }
+    requires search { IsForCertificate search }
+    requires known { KeepsKnown font.now (stage_of kept.old) }
+    ensures found { IfOk result (λ answer. IsFoundAnswer font.now (stage_of kept.old) answer (stage_of kept.new)) }
+    ensures known { KeepsKnown font.now (stage_of kept.new) }
+{
+    let now = mem::replace(kept, Kept::Over);
+    let step = find_on(alloc, finder, font, now, search)?;
+    let Step { answer, kept: next } = step;
+    *kept = next;
+    Ok(answer)
+}

@@ -1,0 +1,123 @@
+//! What an instruction makes of an abstract state.
+
+ghost use Rattle.std.specs.Prelude.{◌≡◌, ◌+◌, ◌<◌, ◌^◌, ◌∷◌, [], Err, IfErr, IfOk, List, Ok, OnOk, Some, length, suc, true, ℕ};
+ghost use Rattle.tt_code.specs.Settings.{starts_in_body};
+ghost use Rattle.tt_code.specs.Table.{effect_of};
+ghost use Rattle.tt_abs.specs.Moves.{ForReason, IsRefusedFor, LeadsBy, nexts_of, outcome_at};
+ghost use Rattle.tt_abs.specs.Lines.{EndsAt};
+ghost use Rattle.tt_abs.specs.Settings.{frames_of, setting_of};
+ghost use Rattle.tt_abs.specs.States.{abstract_of, state_order};
+ghost use Rattle.tt_abs.specs.Transfers.{does_cells, instruction_of};
+
+use crate::compute::compute;
+use crate::control::execute_control;
+use crate::plain::execute_plain;
+use crate::moves::{Move, Moves};
+use crate::push::push_data;
+use crate::refusal::Refusal;
+use crate::setting::{Point, Setting, body_of, is_same_body};
+use crate::shuffle::shuffle;
+use crate::state::State;
+use tt_code::kinds::Effect;
+use tt_code::{Instr, Reason, entry};
+
+/// Carries out an instruction by the kind of its effect; the depth afterwards is tested elsewhere.
+fn dispatch(
+    setting: &Setting<'_>,
+    point: &Point<'_>,
+    state: &mut State,
+    instr: &Instr<'_>,
+) -> Result<Moves, Refusal>
+    requires { point.now.offset + length instr.now < 2 ^ 31 }
+    ensures ok { IfOk result (λ m. (code : ℕ) (rest : List ℕ) → instr.now ≡ code ∷ rest → does_cells (setting_of setting.now) (frames_of point.now) point.now.offset (abstract_of state.old) (effect_of code) rest (point.now.offset + suc (length rest)) ≡ Ok (nexts_of (frames_of point.now) m (abstract_of state.new))) }
+    ensures refused { IfErr result (λ e. ForReason e (λ r. (code : ℕ) (rest : List ℕ) → instr.now ≡ code ∷ rest → does_cells (setting_of setting.now) (frames_of point.now) point.now.offset (abstract_of state.old) (effect_of code) rest (point.now.offset + suc (length rest)) ≡ Err r)) }
+{
+    match entry(instr.code()) {
+        Effect::NoEntry => return Err(Refusal::Refused(Reason::Opcode)),
+        Effect::Plain(line) => execute_plain(setting, state, line)?,
+        Effect::Push(push) => push_data(&mut state.stack, *push, instr.data())?,
+        Effect::Stack(operation) => shuffle(&mut state.stack, *operation)?,
+        Effect::Arithmetic(operation) => compute(&mut state.stack, *operation)?,
+        Effect::Control(operation) => return execute_control(setting, point, state, *operation),
+    }
+    Ok(Moves::One(Move::To(point.offset + instr.len())))
+}
+
+/// Carries out the instruction that starts at a point, in the point's body, and returns where the program goes on.
+fn execute(
+    setting: &Setting<'_>,
+    point: &Point<'_>,
+    state: &mut State,
+    instr: &Instr<'_>,
+) -> Result<Moves, Refusal>
+    requires short { point.now.offset + length instr.now < 2 ^ 31 }
+    requires found { instruction_of (setting_of setting.now) (frames_of point.now) point.now.offset ≡ Some instr.now }
+    ensures ok { IfOk result (λ m. LeadsBy point.now (outcome_at setting.now point.now state.old) m state.new) }
+    ensures refused { IfErr result (IsRefusedFor (outcome_at setting.now point.now state.old)) }
+    ensures in_range { state_order.InRange state.old → IfOk result (λ _. state_order.InRange state.new) }
+{
+    setting.is_within();
+    prove!(u32::from(instr.code()) < 256);
+    let moves = dispatch(setting, point, state, instr)?;
+    if state.stack.len() > usize::from(setting.limits.stack) {
+        return Err(Refusal::Refused(Reason::Overflow));
+    }
+    state.rises();
+    Ok(moves)
+}
+
+/// Carries out the instruction at a point on a state that the caller owns, and returns where the program goes on. After a
+/// refusal the state's content is unspecified.
+///
+/// # Errors
+/// `Refused` with the reason of the first test of the instruction that fails; `OutOfMemory`.
+pub fn step(setting: &Setting<'_>, point: &Point<'_>, state: &mut State) -> Result<Moves, Refusal>
+    requires { starts_in_body (setting_of setting.now) (frames_of point.now) point.now.offset ≡ true }
+    ensures ok { IfOk result (λ m. LeadsBy point.now (outcome_at setting.now point.now state.old) m state.new) }
+    ensures refused { IfErr result (IsRefusedFor (outcome_at setting.now point.now state.old)) }
+    ensures in_range { state_order.InRange state.old → IfOk result (λ _. state_order.InRange state.new) }
+{
+    let program = setting.program(point);
+    let Some(instr) = program.at(point.offset) else {
+        return Err(Refusal::Refused(Reason::Target));
+    };
+    prove!(point.offset < program.len());
+    execute(setting, point, state, &instr)
+}
+
+/// Where a program goes on from an instruction, and where the instruction ends.
+#[derive(Clone, Copy)]
+pub struct Stepped {
+    pub moves: Moves,
+    /// The offset just after the instruction.
+    pub end: u32,
+}
+
+/// Carries out the instruction at a point, as `step` does, if an instruction of the point's body starts there. After a refusal the
+/// state's content is unspecified.
+///
+/// # Errors
+/// `Refused` with `Target` where none starts there, and otherwise as `step` refuses; `OutOfMemory`.
+pub fn step_at(
+    setting: &Setting<'_>,
+    point: &Point<'_>,
+    state: &mut State,
+) -> Result<Stepped, Refusal>
+    ensures ok { IfOk result (λ step. LeadsBy point.now (outcome_at setting.now point.now state.old) step.moves state.new) }
+    ensures end { IfOk result (λ step. EndsAt (setting_of setting.now) (frames_of point.now, point.now.offset) step.end) }
+    ensures refused { IfErr result (IsRefusedFor (outcome_at setting.now point.now state.old)) }
+    ensures in_range { state_order.InRange state.old → IfOk result (λ _. state_order.InRange state.new) }
+{
+    let program = setting.program(point);
+    let Some((instr, body)) = program.found_at(point.offset) else {
+        return Err(Refusal::Refused(Reason::Target));
+    };
+    if !is_same_body(body_of(point), body) {
+        return Err(Refusal::Refused(Reason::Target));
+    }
+    prove!(point.offset < program.len());
+    prove!(instr.len() > 0);
+    let moves = execute(setting, point, state, &instr)?;
+    let end = point.offset + instr.len();
+    Ok(Stepped { moves, end })
+}

@@ -1,0 +1,15 @@
+use Rattle.std.proofs.Common.{◌≡◌, ◌-◌}
+use Rattle.tt_abs.specs.Settings.{setting_of}
+use Rattle.tt_find.specs.Tables.{HasRisen, IsLeadingOn}
+use Rattle.tt_find.proofs.run.store_successors.Given as goal
+
+abbrev pub invariant-loop-way : goal.invariant-loop-way
+invariant-loop-way l = record {
+  on : IsLeadingOn (setting_of l.setting) l.setting.start.now l.table l.walk l.offset l.after l.ways l.index l.over;
+  here : l.walk.context ≡ l.here;
+  risen : HasRisen l.initial.table l.table;
+  everywhere : l.table.marks.everywhere ≡ l.initial.table.marks.everywhere;
+}
+
+abbrev pub decreases-loop-way : goal.decreases-loop-way
+decreases-loop-way l = 2 - l.index
