@@ -77,11 +77,20 @@ glyphs_from font known n gs rs (refused m x xs r qs is rest) e k g at = absurd c
 least_from_start : (d : FontData) (v : Judgement) → IsVerdict d v → v.refused ≡ [] → AreLeastFrom d at_start
 least_from_start d v (verdict.font_refused r is) e = absurd cc
 least_from_start d v (verdict.cvt_refused f functions r ends is) e = absurd cc
-least_from_start d v (looked_at_all f p functions known rs font cvt glyphs) e =
-    (f, functions, font, (p, known, cvt, λ id g at.
-    let N : ℕ → Type 0 = λ n. HasLeastFamily (glyph_subject (font_of d f p) known n g) in
-    let same : 0 + id ≡ id = omega arith in
-    subst N same (glyphs_from (font_of d f p) known 0 d.glyphs rs glyphs e id g at)))
+least_from_start d v (looked_at_all f p functions known rs font cvt glyphs) e = (
+  f,
+  functions,
+  font,
+  (
+    p,
+    known,
+    cvt,
+    λ id g at.
+        let N : ℕ → Type 0 = λ n. HasLeastFamily (glyph_subject (font_of d f p) known n g) in
+        let same : 0 + id ≡ id = omega arith in
+        subst N same (glyphs_from (font_of d f p) known 0 d.glyphs rs glyphs e id g at),
+  ),
+)
 
 pub none_refused_at_start : (d : FontData) → AreAllRefused d [] → AreLeastFrom d at_start
 none_refused_at_start d all = least_from_start d (judgement_on d []) all refl

@@ -19,14 +19,14 @@ ghost use Rattle.hintcheck.specs.Upgrades.{IsNumberOfPrograms, IsUpgradeOf, Upgr
 
 pub mod faults;
 
-use crate::font_check::check_read_font;
+use crate::bare_program::bare;
 use crate::certificate::find_programs;
+use crate::certificate_upgrade::upgrade;
 use crate::font;
 use crate::font::read_font;
-use crate::bare_program::bare;
+use crate::font_check::check_read_font;
 use crate::instruction_list::list_program;
 use crate::report::{Name, Verdict};
-use crate::certificate_upgrade::upgrade;
 use faults::CommandFault;
 use hintcheck_words::{Task, TaskFault, read_words, word_bytes};
 use std::alloc::{AllocError, Global};

@@ -16,11 +16,11 @@ ghost use Rattle.hintcheck.specs.declared.font_check.CheckFontFault.{CheckFontFa
 
 mod find;
 
+use crate::certificate::FindFontFault;
+use crate::font::{Common, Ended, cvt_setting};
 use crate::font_check::{
     CheckFontFault, check_cvt_program, check_font_program, check_glyph_program, read_start,
 };
-use crate::certificate::FindFontFault;
-use crate::font::{Common, Ended, cvt_setting};
 use crate::program::{Search, told};
 use crate::report::{Name, Refused};
 use crate::sections::{Progress, next_section};

@@ -6,9 +6,9 @@ ghost use Rattle.tt_abs.specs.Computes.{one_result, two_results};
 ghost use Rattle.tt_abs.specs.Steps.{RefusesStack, Restacks, takes_one};
 ghost use Rattle.tt_abs.specs.Transfers.{computed_cells, of_one_cell, of_two_cells};
 
+use crate::arithmetic;
 use crate::cells::Cell;
 use crate::refusal::Refusal;
-use crate::arithmetic;
 use crate::shuffle::cell_under;
 use crate::stack::Stack;
 use tt_code::kinds::Arithmetic;

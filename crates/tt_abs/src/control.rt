@@ -10,11 +10,11 @@ ghost use Rattle.tt_abs.specs.Steps.{Leads, LeadsNowhere, holds_when};
 ghost use Rattle.tt_abs.specs.Transfers.{called_cell, enters_cells, if_ways, is_running as runs_already, jump_target as target_of_jump, jumps_by, jumps_if_cells, loops_cells};
 ghost use Rattle.tt_abs.specs.declared.cells.Cell.{Cell as AnyCell};
 
+use crate::arithmetic::is_true;
 use crate::cells::Cell;
 use crate::moves::{Move, Moves};
 use crate::operands::number;
 use crate::refusal::Refusal;
-use crate::arithmetic::is_true;
 use crate::setting::{Point, Setting, is_index};
 use crate::shuffle::cell_under;
 use crate::state::State;

@@ -11,8 +11,8 @@ ghost use Rattle.tt_abs.specs.Transfers.{does_cells, instruction_of};
 
 use crate::compute::compute;
 use crate::control::execute_control;
-use crate::plain::execute_plain;
 use crate::moves::{Move, Moves};
+use crate::plain::execute_plain;
 use crate::push::push_data;
 use crate::refusal::Refusal;
 use crate::setting::{Point, Setting, body_of, is_same_body};

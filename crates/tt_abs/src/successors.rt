@@ -8,11 +8,11 @@ ghost use Rattle.tt_abs.specs.Moves.{ForReason, IsRefusedFor, LeadsBy, nexts_of,
 ghost use Rattle.tt_abs.specs.Settings.{frames_of, setting_of};
 ghost use Rattle.tt_abs.specs.States.{abstract_of, state_order};
 
+use crate::instruction::step;
 use crate::moves::Moves;
 use crate::refusal::Refusal;
 use crate::setting::{Point, Setting};
 use crate::state::State;
-use crate::instruction::step;
 
 /// Where a program goes on, and what is known of the machine's state there.
 #[derive(Drop)]

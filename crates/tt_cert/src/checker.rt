@@ -17,12 +17,12 @@ ghost use Rattle.tt_cert.specs.Cursors.{AreToCome, AreUnlisted, IsAfter, IsFound
 
 use crate::builder::Builder;
 use crate::certificate::Certificate;
+use crate::cursor::Cursor;
 use crate::fault::ProgramFault;
 use crate::listing::{Listing, added_after};
 use crate::meeting::{Met, check_covered, check_successors, fault_in};
 use crate::spot::Spot;
 use crate::states::States;
-use crate::cursor::Cursor;
 use std::alloc::Global;
 use tt_abs::{Kind, Point, Refusal, Setting, step_at};
 use tt_code::Reason;

@@ -8,9 +8,9 @@ ghost use Rattle.tt_cert.specs.Spots.{spot_of};
 ghost use Rattle.tt_cert.specs.Cursors.{AreMadeMet, IsEntry, IsMadeMet, IsMetBy, IsPastStart, IsUnlisted, IsUnlistedAfter, IsWalk, MayTurn, NamesFirstGapMade, NamesGapMade, calls_of, met_both, place_behind as place_of_move, point_of};
 
 use crate::certificate::Certificate;
+use crate::cursor::{Cursor, is_coming, is_coming_after};
 use crate::fault::ProgramFault;
 use crate::landing::look_up_successor;
-use crate::cursor::{Cursor, is_coming, is_coming_after};
 use tt_abs::{Move, Moves, Order, State};
 use tt_code::Reason;
 

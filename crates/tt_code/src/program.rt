@@ -8,9 +8,9 @@ ghost use Rattle.tt_code.specs.Grammar.{GoesTo, IsBodyAt, IsFault, IsStructured,
 ghost use Rattle.tt_code.specs.Slots.{IsKept, IsReading, Opens, kept};
 ghost use Rattle.tt_code.specs.Structure.{body_at as body_on_cut, leads, word};
 
-use crate::instruction_length::{first_uncut, front_length};
 use crate::fault::CodeFault;
 use crate::instr::Instr;
+use crate::instruction_length::{first_uncut, front_length};
 use crate::machine::Body;
 use crate::reading::Reading;
 use crate::slot::{Slot, start_at, target_of};

@@ -10,8 +10,8 @@ ghost use Rattle.tt_cert.specs.Contents.{family_of};
 ghost use Rattle.tt_find.specs.Found.{AreLeastContexts, HasLeastFilling, IsJustified, IsNeverEnding, LacksEnd, NamesPlace, NamesStop, NeedsAll, NoneIsGood};
 ghost use Rattle.tt_find.specs.Tables.{HasLaws, IsEmptyTable, IsFound, IsWhole};
 
-use crate::run::{run, store};
 use crate::origin::Origin;
+use crate::run::{run, store};
 use crate::stop::Stop;
 use crate::table::Table;
 use crate::walk::Walk;
@@ -74,7 +74,11 @@ fn run_to_fixpoint(alloc: Global, table: &mut Table, setting: &Setting<'_>) -> R
 ///
 /// # Errors
 /// As `find` refuses what comes on the way.
-fn restart_to_fixpoint(alloc: Global, table: &mut Table, setting: &Setting<'_>) -> Result<(), ProgramFault>
+fn restart_to_fixpoint(
+    alloc: Global,
+    table: &mut Table,
+    setting: &Setting<'_>,
+) -> Result<(), ProgramFault>
     requires rises { Rises setting.now.start.now }
     requires laws { HasLaws (setting_of setting.now) setting.now.start.now }
     ensures whole { IfOk result (λ _. IsWhole (setting_of setting.now) setting.now.start.now table.new) }
@@ -114,7 +118,11 @@ fn refused_in_main(offset: u32, reason: Reason) -> ProgramFault
 ///
 /// # Errors
 /// As `find`.
-fn find_fixpoint(alloc: Global, table: &mut Table, setting: &Setting<'_>) -> Result<u64, ProgramFault>
+fn find_fixpoint(
+    alloc: Global,
+    table: &mut Table,
+    setting: &Setting<'_>,
+) -> Result<u64, ProgramFault>
     requires rises { Rises setting.now.start.now }
     requires fits { FunctionsFit (setting_of setting.now) setting.now.start.now }
     ensures laws { HasLaws (setting_of setting.now) setting.now.start.now }

@@ -3,9 +3,9 @@
 ghost use Rattle.std.specs.Prelude.{◌≡◌};
 ghost use Rattle.hintcheck.specs.Commands.{IsNoWriteFault, fault_of_word, status_of};
 
-use crate::font_check::CheckFontFault;
 use crate::certificate::FindFontFault;
 use crate::certificate_upgrade::UpgradeFault;
+use crate::font_check::CheckFontFault;
 use hintcheck_words::{TaskFault, WordFault};
 use std::alloc::AllocError;
 use std::fmt;

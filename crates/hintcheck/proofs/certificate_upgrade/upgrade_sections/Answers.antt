@@ -103,7 +103,7 @@ returns-in_err-upgrade_section-clause-stopped g c =
     let before = c.loop-number.invariant in
     let at = c.loop-number.progress.place in
     let H : Form → Type 0 = λ f. HasReadOld (left c.loop-number.source) (left c.upgrade_section.new.source)
-        (λ front. HasNoSection f (input_at at (Some front)) (name_at c.loop-number.number) (place_after at (length front))) c.in_err-upgrade_section.field-0.0 in
+    (λ front. HasNoSection f (input_at at (Some front)) (name_at c.loop-number.number) (place_after at (length front))) c.in_err-upgrade_section.field-0.0 in
     rw (p.1, p.2) (lack_after form c.loop-number.number c.args.count c.args.progress.now.place at (left c.args.source.now) (left c.loop-number.source) (left c.upgrade_section.new.source)
     (contents c.args.sink.now) (contents c.loop-number.sink) c.in_err-upgrade_section.field-0.0 c.loop-number-test.true before.told
     (subst H before.form c.in_err-upgrade_section.ensures.stopped))
