@@ -1,5 +1,5 @@
 -- Where no program of a font was refused at the first look, none is at the second.
-use Rattle.std.proofs.Common.{◌≡◌, true, ℕ, zero, suc, ◌+◌, arith, List, [], ◌∷◌, Option, Some, None, refl, sym, ◌∙◌, ap, subst}
+use Rattle.std.proofs.Common.{◌≡◌, true, ℕ, zero, suc, ◌+◌, arith, List, [], Option, Some, refl, sym, ◌∙◌, ap, subst}
 use Rattle.std.specs.Prelude.{is_some, slice_get}
 use Rattle.tt_code.specs.Cut.{Instruction, size}
 use Rattle.tt_code.specs.Fonts.{Font}
@@ -8,7 +8,7 @@ use Rattle.tt_abs.specs.States.{state_laws, state_order}
 use Rattle.tt_abs.specs.StateFlow.{Place}
 use Rattle.tt_find.specs.declared.finder.Found.{Found}
 use Rattle.tt_font.specs.Reading.{FontData, GlyphData}
-use Rattle.hintcheck.specs.FindingSessions.{IsFoundAnswer, IsFoundToEnd, IsOutcomeByFinding, cvt_found, cvt_refused, font_found, font_refused, glyph_found, glyph_refused}
+use Rattle.hintcheck.specs.FindingSessions.{IsFoundAnswer, IsOutcomeByFinding, cvt_found, cvt_refused, font_found, font_refused, glyph_found, glyph_refused}
 use Rattle.hintcheck.specs.FontLooks.{AreAllRefused}
 use Rattle.hintcheck.specs.FontPrograms.{AreRefused, IsVerdict, accepted, all_looked_at, cvt_subject, font_of, font_subject, glyph_subject, judgement_on, looked_at_all, refused}
 use Rattle.hintcheck.specs.FontPrograms as verdict

@@ -1,5 +1,5 @@
 -- What was read of a certificate before a read failed: no unit that was read whole is at fault.
-use Rattle.std.specs.Prelude.{◌≡◌, ℕ, ◌+◌, List, [], Option, Some, None, length, Result, Ok, Err, IfErr}
+use Rattle.std.specs.Prelude.{◌≡◌, ℕ, List, [], Option, Some, None, length, Result, Ok, Err}
 use Rattle.std.specs.Io.KnownBytes.{Consumes}
 use Rattle.tt_cert_file.specs.Answers.{input_at}
 use Rattle.tt_cert_file.specs.Readers.{Input, place_after}
