@@ -22,11 +22,11 @@ TOP = pathlib.Path(__file__).resolve().parent.parent
 TICKS = os.sysconf("SC_CLK_TCK")
 
 
-def name_of(process, room, number):
-    """The crate and the kind of work of a process of the prover, or None for any other process: one of the gate of this number is in the
-    room, or in a folder for an edit that has the number in its name."""
+def name_of(process, room):
+    """The crate and the kind of work of a process of the prover, or None for any other process: one of the gate is in the
+    room, or in a folder for an edit."""
     folder = os.readlink(process / "cwd")
-    is_edit = folder.startswith(f"{tempfile.gettempdir()}/rt-edit-{number}-")
+    is_edit = folder.startswith(f"{tempfile.gettempdir()}/rt-edit")
     if not is_edit and not folder.startswith(room):
         return None
     words = (process / "cmdline").read_bytes().decode(errors="replace").split("\0")
@@ -43,11 +43,11 @@ def seconds_of(process):
     return (int(fields[11]) + int(fields[12])) / TICKS
 
 
-def look(seen, room, number):
+def look(seen, room):
     """Notes what each process of the prover has taken so far."""
     for process in pathlib.Path("/proc").glob("[0-9]*"):
         try:
-            name = name_of(process, room, number)
+            name = name_of(process, room)
             if name:
                 seen[process.name, name] = seconds_of(process)
         except OSError:
@@ -69,7 +69,7 @@ def main():
         begun = time.time()
         gate = subprocess.Popen(gate_command(), cwd=f"{room}/clone", stdout=log, stderr=subprocess.STDOUT)
         while gate.poll() is None:
-            look(seen, room, gate.pid)
+            look(seen, room)
             time.sleep(1)
     used = resource.getrusage(resource.RUSAGE_CHILDREN)
     table = collections.defaultdict(lambda: collections.defaultdict(float))
