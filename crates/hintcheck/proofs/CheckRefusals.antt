@@ -20,7 +20,7 @@ use Rattle.tt_cert_file.specs.declared.form.Form.{Form}
 use Rattle.tt_cert_file.specs.declared.form.Form.TheVariants.{Two, Three, Four}
 use Rattle.hintcheck.specs.Certificates.{IsBreak, IsCheckRefusal, IsGoodListing, IsListingBrokenFirst, Passes, PassesToEnd, not_good}
 use Rattle.hintcheck.specs.CheckedFonts.{IsRefusedBy}
-use Rattle.hintcheck.specs.Looks.{IsLookedAt, told_at}
+use Rattle.hintcheck.specs.ProgramVerdicts.{IsLookedAt, told_at}
 use Rattle.hintcheck.specs.Programs.{Subject, program_at}
 use Rattle.hintcheck.proofs.LookLemmas.{known_cut, of_subject}
 

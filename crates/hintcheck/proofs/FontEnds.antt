@@ -19,9 +19,9 @@ use Rattle.tt_font.specs.Reading.{FontData}
 use Rattle.tt_cert.specs.Contents.{family_of}
 use Rattle.tt_find.specs.declared.finder.Found.{Found}
 use Rattle.hintcheck.specs.FindingSessions.{IsFoundFor, IsFoundToEnd}
-use Rattle.hintcheck.specs.FontLooks.{AreAllRefused, ComesToEnd, IsKnownAtEnd}
+use Rattle.hintcheck.specs.FontVerdicts.{AreAllRefused, ComesToEnd, IsKnownAtEnd}
 use Rattle.hintcheck.specs.FontPrograms.{cvt_refused, cvt_subject, font_refused, font_subject}
-use Rattle.hintcheck.specs.Looks.{IfRefused, IsAccepted, IsListed, IsLookedAt, told_at}
+use Rattle.hintcheck.specs.ProgramVerdicts.{IfRefused, IsAccepted, IsListed, IsLookedAt, told_at}
 use Rattle.hintcheck.specs.CheckedFonts.{IsGoodAtEnd}
 use Rattle.hintcheck.specs.Programs.{EndsWith, HasGoodFamily, HasLeastFamily, IsCutInto, IsRefusal, Subject}
 use Rattle.hintcheck.proofs.LookLemmas.{looked_at, of_subject}

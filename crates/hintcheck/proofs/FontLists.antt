@@ -8,10 +8,10 @@ use Rattle.tt_code.specs.Fonts.{Font}
 use Rattle.tt_font.specs.GlyphParts.{glyph_data}
 use Rattle.tt_font.specs.Reading.{GlyphData}
 use Rattle.tt_font.specs.declared.glyph_part.GlyphPart.{GlyphPart}
-use Rattle.hintcheck.specs.FontLooks.{AreRefusedBelow}
+use Rattle.hintcheck.specs.FontVerdicts.{AreRefusedBelow}
 use Rattle.hintcheck.specs.FontPrograms.{AreRefused, accepted, all_looked_at, glyph_subject, refused}
 use Rattle.hintcheck.specs.Programs.{HasLeastFamily, IsRefusal}
-use Rattle.hintcheck.specs.Looks.{IfRefused, IsListed, told_at}
+use Rattle.hintcheck.specs.ProgramVerdicts.{IfRefused, IsListed, told_at}
 use Rattle.tt_cert_file.specs.declared.name.Name.TheVariants as name
 use Rattle.hintcheck.specs.declared.report.Refused.{Refused}
 use Rattle.tt_cert.specs.declared.fault.ProgramFault.{ProgramFault}

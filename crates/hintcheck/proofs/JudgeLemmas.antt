@@ -7,8 +7,8 @@ use Rattle.tt_abs.specs.Settings.{programs_of}
 use Rattle.tt_abs.specs.declared.setting.Setting.{Setting}
 use Rattle.tt_cert.specs.declared.fault.ProgramFault.{ProgramFault}
 use Rattle.tt_cert.specs.declared.fault.ProgramFault.TheVariants as fault
-use Rattle.hintcheck.specs.Judging.{IsJudged, font_around}
-use Rattle.hintcheck.specs.Looks.{IfRefused, IsListed}
+use Rattle.hintcheck.specs.BarePrograms.{IsJudged, font_around}
+use Rattle.hintcheck.specs.ProgramVerdicts.{IfRefused, IsListed}
 use Rattle.hintcheck.specs.Programs.{HasGoodFamily, HasLeastFamily, IsRefusal, Subject}
 use Rattle.hintcheck.specs.declared.report.Refused.{Refused}
 

@@ -37,7 +37,7 @@ use Rattle.tt_find.specs.Found.{AreLeastContexts, HasLeastFilling, IsJustified, 
 use Rattle.tt_find.specs.declared.finder.Found.{Found}
 use Rattle.hintcheck.specs.FindingSessions.{IsFoundFor}
 use Rattle.hintcheck.specs.Programs.{HasGoodFamily, HasLeastFamily, IsCause, IsCutInto, IsRefusal, Subject, no_family, program_at}
-use Rattle.hintcheck.specs.Looks.{IfRefused, IsAccepted, IsLookedAt, told_at}
+use Rattle.hintcheck.specs.ProgramVerdicts.{IfRefused, IsAccepted, IsLookedAt, told_at}
 use Rattle.tt_cert_file.specs.Rules.{AreCallsInTurn}
 use Rattle.tt_cert_file.specs.declared.name.Name.{Name}
 use Rattle.hintcheck.specs.declared.report.Refused.{Refused as AnyRefused}

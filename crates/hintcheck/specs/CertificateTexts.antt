@@ -17,7 +17,7 @@ use Rattle.tt_font.specs.Reading.{FontData, GlyphData}
 use Rattle.tt_stream.specs.Streams.{AppendsBeginning}
 use Rattle.hintcheck.specs.Certificates.{IsChecked}
 use Rattle.hintcheck.specs.FontPrograms.{cvt_subject, font_of, font_subject, glyph_subject}
-use Rattle.hintcheck.specs.Looks.{IsAccepted}
+use Rattle.hintcheck.specs.ProgramVerdicts.{IsAccepted}
 use Rattle.hintcheck.specs.Programs.{Subject}
 
 -- what is asked of the family of a program with these instructions

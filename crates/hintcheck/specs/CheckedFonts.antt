@@ -9,7 +9,7 @@ use Rattle.tt_font.specs.Reading.{FontData, GlyphData}
 use Rattle.hintcheck.specs.FontPrograms.{cvt_subject, font_of, font_subject, glyph_subject, judgement_on}
 use Rattle.hintcheck.specs.Programs.{HasGoodFamily, IsCutInto, Subject}
 use Rattle.hintcheck.specs.Certificates.{Finding, IsCheckRefusal, IsChecked}
-use Rattle.hintcheck.specs.Looks.{IfRefused}
+use Rattle.hintcheck.specs.ProgramVerdicts.{IfRefused}
 use Rattle.hintcheck.specs.Verdicts.{Judgement}
 use Rattle.hintcheck.specs.declared.font_check.CheckFontFault.{CheckFontFault}
 use Rattle.hintcheck.specs.declared.font_check.CheckFontFault.TheVariants as fault

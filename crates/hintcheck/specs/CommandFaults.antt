@@ -7,7 +7,7 @@ use Rattle.tt_font.specs.declared.fault.FontFault.TheVariants.{OutOfMemory}
 use Rattle.hintcheck_words.specs.HexWords.{IsHexWord, Spells}
 use Rattle.hintcheck_words.specs.Requests.{Request, bare, check, find, is_taken, list, meaning, upgrade, verdict}
 use Rattle.hintcheck.specs.Commands.{ReadsToEnd, status_of}
-use Rattle.hintcheck.specs.Judging.{IsMemory}
+use Rattle.hintcheck.specs.BarePrograms.{IsMemory}
 use Rattle.hintcheck.specs.Listing.{HoldNoSuchProgram}
 use Rattle.hintcheck.specs.declared.commands.faults.CommandFault.{CommandFault}
 use Rattle.hintcheck.specs.declared.commands.faults.CommandFault.TheVariants as fault

@@ -2,9 +2,9 @@ pub mod Verdicts
 pub mod Texts
 pub mod Programs
 pub mod FontPrograms
-pub mod Looks
-pub mod FontLooks
-pub mod Judging
+pub mod ProgramVerdicts
+pub mod FontVerdicts
+pub mod BarePrograms
 pub mod Listing
 pub mod Commands
 pub mod MeansSafe

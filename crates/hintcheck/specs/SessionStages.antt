@@ -13,16 +13,16 @@ use Rattle.tt_font.specs.Reading.{FontData, GlyphData}
 use Rattle.hintcheck.specs.CertificateTexts.{IsEndedText, IsGlyphText, IsReadableListing}
 use Rattle.hintcheck.specs.CheckedFonts.{IsGoodAtEnd}
 use Rattle.hintcheck.specs.FindingSessions.{AreFirstSections}
-use Rattle.hintcheck.specs.FontLooks.{IsKnownAtEnd}
+use Rattle.hintcheck.specs.FontVerdicts.{IsKnownAtEnd}
 use Rattle.hintcheck.specs.FontPrograms.{cvt_subject, font_of, font_subject, glyph_subject}
-use Rattle.hintcheck.specs.Looks.{told_at}
+use Rattle.hintcheck.specs.ProgramVerdicts.{told_at}
 use Rattle.hintcheck.specs.Sessions.{Stage, after_font, at_glyph, at_start, over, refused_as}
 use Rattle.hintcheck.specs.declared.font_check.CheckFontFault.{CheckFontFault}
 use Rattle.hintcheck.specs.declared.font_check.CheckFontFault.TheVariants as fault
 use Rattle.hintcheck.specs.declared.sections.Progress.{Progress}
 use Rattle.hintcheck.specs.declared.report.Refused.{Refused}
-use Rattle.hintcheck.specs.declared.session.Met.{Met}
-use Rattle.hintcheck.specs.declared.session.Met.TheVariants as met
+use Rattle.hintcheck.specs.declared.session.SessionFault.{SessionFault}
+use Rattle.hintcheck.specs.declared.session.SessionFault.TheVariants as met
 use Rattle.hintcheck.specs.declared.session.Outcome.{Outcome}
 use Rattle.hintcheck.specs.declared.session.Kept.{Kept}
 use Rattle.hintcheck.specs.declared.session.Kept.TheVariants as kept
@@ -40,12 +40,12 @@ read_of None = None
 read_of (Some p) = Some (p.form, p.place)
 
 -- the fault that each call returns
-abbrev pub fault_of : Met → CheckFontFault
+abbrev pub fault_of : SessionFault → CheckFontFault
 fault_of (met.Form place) = fault.Form place
 fault_of met.Read = fault.Read
 fault_of met.OutOfMemory = fault.OutOfMemory alloc_error
 
-abbrev pub fault_in : Option Met → Option CheckFontFault
+abbrev pub fault_in : Option SessionFault → Option CheckFontFault
 fault_in None = None
 fault_in (Some m) = Some (fault_of m)
 

@@ -2,7 +2,7 @@
 
 ghost use Rattle.std.specs.Prelude.{◌≡◌, ◌≤◌, ◌<◌, ◌^◌, ◌⊎◌, ◌↔◌, [], All, IfErr, IfOk, None, OnOk, length};
 ghost use Rattle.hintcheck.specs.FontPrograms.{IsSafeGlyph, font_of, glyph_subject, one_glyph_font};
-ghost use Rattle.hintcheck.specs.Judging.{IsJudged, IsMemory, font_around};
+ghost use Rattle.hintcheck.specs.BarePrograms.{IsJudged, IsMemory, font_around};
 ghost use Rattle.hintcheck.specs.Programs.{HasGoodFamily, IsRefusal};
 ghost use Rattle.tt_code.specs.Faults.{IsMemory as IsMemoryAlone};
 ghost use Rattle.tt_font.specs.Reading.{GlyphData};

@@ -11,9 +11,9 @@ ghost use Rattle.tt_font.specs.FileFaults.{font_fault};
 ghost use Rattle.tt_font.specs.GlyphParts.{glyph_data};
 ghost use Rattle.tt_font.specs.Reading.{FontData, Reads};
 ghost use Rattle.hintcheck.specs.FindingSessions.{IsFoundFor, IsFoundToEnd};
-ghost use Rattle.hintcheck.specs.FontLooks.{AreAllRefused, ComesToEnd, IsKnownAtEnd, IsOfSubject, font_in, subject_in};
+ghost use Rattle.hintcheck.specs.FontVerdicts.{AreAllRefused, ComesToEnd, IsKnownAtEnd, IsOfSubject, font_in, subject_in};
 ghost use Rattle.hintcheck.specs.FontPrograms.{AreRefused, IsFontInRange, IsSafeFont, IsVerdict, cvt_subject, font_of, font_subject};
-ghost use Rattle.hintcheck.specs.Looks.{IfRefused, IsForCertificate, IsListed, IsLookedAt};
+ghost use Rattle.hintcheck.specs.ProgramVerdicts.{IfRefused, IsForCertificate, IsListed, IsLookedAt};
 ghost use Rattle.hintcheck.specs.Programs.{HasGoodFamily, HasLeastFamily, IsRefusal, Subject};
 
 use crate::program::{Search, cut, find_and_check, list_refused};

@@ -16,9 +16,9 @@ ghost use Rattle.hintcheck.specs.CertificateFaults.{CountsCheck, IsNoFontFault, 
 ghost use Rattle.hintcheck.specs.Certificates.{IsChecked, IsGoodListing, IsListingBrokenFirst, Passes, PassesToEnd};
 ghost use Rattle.hintcheck.specs.CheckedFonts.{AnswersFinding, Finds, HasGoodFamilies, IsGoodAtEnd, IsRefusedBy, IsTold, bytes_in};
 ghost use Rattle.hintcheck.specs.FailedReads.{HasRead, IsCutHeader, IsUnbroken, IsUnbrokenFor};
-ghost use Rattle.hintcheck.specs.FontLooks.{ComesToEnd, IsOfSubject, subject_in};
+ghost use Rattle.hintcheck.specs.FontVerdicts.{ComesToEnd, IsOfSubject, subject_in};
 ghost use Rattle.hintcheck.specs.FontPrograms.{IsFontInRange, IsSafeFont, cvt_subject, font_subject};
-ghost use Rattle.hintcheck.specs.Looks.{IsLookedAt};
+ghost use Rattle.hintcheck.specs.ProgramVerdicts.{IsLookedAt};
 ghost use Rattle.hintcheck.specs.Programs.{HasGoodFamily, Subject};
 ghost use Rattle.hintcheck.specs.SessionStages.{HasHeader, ListsOutcome};
 ghost use Rattle.hintcheck.specs.Sessions.{IsHeaderFault};

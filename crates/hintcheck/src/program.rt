@@ -15,7 +15,7 @@ ghost use Rattle.tt_find.specs.Found.{AreLeastContexts, HasLeastFilling, IsJusti
 ghost use Rattle.hintcheck.specs.CheckedFonts.{IsRefusedBy};
 ghost use Rattle.hintcheck.specs.FindingSessions.{IsFoundFor};
 ghost use Rattle.hintcheck.specs.Programs.{HasGoodFamily, IsCutInto, IsRefusal, Subject, program_at as program_at_spot};
-ghost use Rattle.hintcheck.specs.Looks.{IfRefused, IsAccepted, IsForCertificate, IsListed, IsLookedAt, told_at};
+ghost use Rattle.hintcheck.specs.ProgramVerdicts.{IfRefused, IsAccepted, IsForCertificate, IsListed, IsLookedAt, told_at};
 
 use crate::report::{Name, Place, Refused};
 use std::alloc::{AllocError, Global};

@@ -9,7 +9,7 @@ ghost use Rattle.hintcheck.specs.CheckedFonts.{Finds, IsTold};
 ghost use Rattle.hintcheck.specs.FailedReads.{EndsInCall, EndsInSection, HasRead};
 ghost use Rattle.hintcheck.specs.FindingSessions.{IsForFinding, IsFoundAnswer, out_of_memory, out_of_memory_here};
 ghost use Rattle.hintcheck.specs.FontPrograms.{IsFontInRange};
-ghost use Rattle.hintcheck.specs.Looks.{IsForCertificate};
+ghost use Rattle.hintcheck.specs.ProgramVerdicts.{IsForCertificate};
 ghost use Rattle.hintcheck.specs.Sessions.{AnswersAt, AnswersNext, IsFaultAt, IsForChecking, IsNextFault, IsSoundAnswer, ReadsOn, Stage, accepted_as, after_font, at_glyph, at_start, new_standing, over, standing_at};
 ghost use Rattle.hintcheck.specs.SessionStages.{KeepsFound, KeepsGood, TellsRefusal, fault_of, read_of, stage_of};
 ghost use Rattle.hintcheck.specs.declared.font_check.CheckFontFault.{CheckFontFault as AnyFault};
@@ -43,22 +43,22 @@ pub struct Outcome {
 
 /// The fault that a session met.
 #[derive(Clone, Copy)]
-enum Met {
+enum SessionFault {
     Form(u64),
     Read,
     OutOfMemory,
 }
 
-impl Met {
+impl SessionFault {
     /// Returns the fault of a call, which isn't the font's.
     fn of(fault: &CheckFontFault) -> Self
         requires { IsNoFontFault fault.now }
         ensures { fault_of result ≡ fault.now }
     {
         match fault {
-            CheckFontFault::Form(place) => Met::Form(*place),
-            CheckFontFault::Read => Met::Read,
-            CheckFontFault::OutOfMemory(_) | CheckFontFault::Font(_) => Met::OutOfMemory,
+            CheckFontFault::Form(place) => SessionFault::Form(*place),
+            CheckFontFault::Read => SessionFault::Read,
+            CheckFontFault::OutOfMemory(_) | CheckFontFault::Font(_) => SessionFault::OutOfMemory,
         }
     }
 
@@ -67,9 +67,9 @@ impl Met {
         ensures { result ≡ fault_of self }
     {
         match self {
-            Met::Form(place) => CheckFontFault::Form(place),
-            Met::Read => CheckFontFault::Read,
-            Met::OutOfMemory => CheckFontFault::OutOfMemory(AllocError),
+            SessionFault::Form(place) => CheckFontFault::Form(place),
+            SessionFault::Read => CheckFontFault::Read,
+            SessionFault::OutOfMemory => CheckFontFault::OutOfMemory(AllocError),
         }
     }
 }
@@ -101,7 +101,7 @@ impl Kept<'_> {
 
 /// The answer of a call, and what the session keeps then.
 #[derive(Drop)]
-struct Step<'a> {
+struct CheckedStep<'a> {
     answer: Option<Outcome>,
     kept: Kept<'a>,
 }
@@ -142,7 +142,7 @@ fn check_first<'a, S: Source>(
     font: &Font<'a>,
     source: &mut S,
     progress: &mut Progress,
-) -> Result<Step<'a>, CheckFontFault>
+) -> Result<CheckedStep<'a>, CheckFontFault>
     requires { IsFontInRange font.now }
     ensures sound { IfOk result (λ step. IsSoundAnswer font.now at_start step.answer (stage_of step.kept)) }
     ensures exact { IsTold (S.remaining source.old) → Finds result
@@ -158,12 +158,12 @@ fn check_first<'a, S: Source>(
 {
     let certificate = next_section(alloc, source, progress, Name::Font)?;
     match check_font_program(alloc, font, &certificate, progress.form) {
-        Ok(fpgm) => Ok(Step {
+        Ok(fpgm) => Ok(CheckedStep {
             answer: Some(accepted(Name::Font)),
             kept: Kept::AfterFont(fpgm),
         }),
         Err(fault) => match refused(Name::Font, fault) {
-            Ok(outcome) => Ok(Step {
+            Ok(outcome) => Ok(CheckedStep {
                 answer: Some(outcome),
                 kept: Kept::Over,
             }),
@@ -179,7 +179,7 @@ fn check_second<'a, S: Source>(
     fpgm: Ended<'a>,
     source: &mut S,
     progress: &mut Progress,
-) -> Result<Step<'a>, CheckFontFault>
+) -> Result<CheckedStep<'a>, CheckFontFault>
     requires range { IsFontInRange font.now }
     requires rises { Rises fpgm.functions.items }
     ensures sound { IfOk result (λ step. IsSoundAnswer font.now (after_font fpgm.entry.program fpgm.entry.functions.items) step.answer (stage_of step.kept)) }
@@ -196,12 +196,12 @@ fn check_second<'a, S: Source>(
 {
     let certificate = next_section(alloc, source, progress, Name::Cvt)?;
     match check_cvt_program(alloc, font, &fpgm, &certificate, progress.form) {
-        Ok(prep) => Ok(Step {
+        Ok(prep) => Ok(CheckedStep {
             answer: Some(accepted(Name::Cvt)),
             kept: Kept::Glyphs(fpgm, prep, 0),
         }),
         Err(fault) => match refused(Name::Cvt, fault) {
-            Ok(outcome) => Ok(Step {
+            Ok(outcome) => Ok(CheckedStep {
                 answer: Some(outcome),
                 kept: Kept::Over,
             }),
@@ -259,7 +259,7 @@ fn check_third<'a, S: Source>(
     id: u16,
     source: &mut S,
     progress: &mut Progress,
-) -> Result<Step<'a>, CheckFontFault>
+) -> Result<CheckedStep<'a>, CheckFontFault>
     requires range { IsFontInRange font.now }
     requires good { KeepsGood font.now (at_glyph fpgm.program prep.program prep.functions.items id) }
     ensures sound { IfOk result (λ step. IsSoundAnswer font.now (at_glyph fpgm.entry.program prep.entry.program prep.entry.functions.items id) step.answer (stage_of step.kept)) }
@@ -276,13 +276,13 @@ fn check_third<'a, S: Source>(
 {
     if id == font.glyph_count() {
         read_end(source, progress.place)?;
-        return Ok(Step {
+        return Ok(CheckedStep {
             answer: None,
             kept: Kept::Over,
         });
     }
     let outcome = check_glyph(alloc, font, &fpgm, &prep, id, source, progress)?;
-    Ok(Step {
+    Ok(CheckedStep {
         answer: Some(outcome),
         kept: Kept::Glyphs(fpgm, prep, id + 1),
     })
@@ -295,7 +295,7 @@ fn check_on<'a, S: Source>(
     kept: Kept<'a>,
     source: &mut S,
     progress: &mut Progress,
-) -> Result<Step<'a>, CheckFontFault>
+) -> Result<CheckedStep<'a>, CheckFontFault>
     requires range { IsFontInRange font.now }
     requires good { KeepsGood font.now (stage_of kept) }
     ensures sound { IfOk result (λ step. IsSoundAnswer font.now (stage_of kept.entry) step.answer (stage_of step.kept)) }
@@ -316,7 +316,7 @@ fn check_on<'a, S: Source>(
         Kept::Glyphs(fpgm, prep, id) => {
             check_third(alloc, font, fpgm, prep, id, source, progress)
         }
-        Kept::Over => Ok(Step {
+        Kept::Over => Ok(CheckedStep {
             answer: None,
             kept: Kept::Over,
         }),
@@ -370,7 +370,7 @@ fn check_from<'a, S: Source>(
     let mut progress = progress_of(font, *read, source)?;
     let now = mem::replace(kept, Kept::Over);
     let step = check_on(alloc, font, now, source, &mut progress)?;
-    let Step { answer, kept: next } = step;
+    let CheckedStep { answer, kept: next } = step;
     *kept = next;
     *read = Some(progress);
     Ok(answer)
@@ -383,7 +383,7 @@ pub struct Session<'a> {
     font: &'a Font<'a>,
     kept: Kept<'a>,
     progress: Option<Progress>,
-    met: Option<Met>,
+    met: Option<SessionFault>,
 }
 
 impl<'a> Model for Session<'a> {
@@ -452,7 +452,7 @@ impl<'a> Session<'a> {
         }
         let answer = check_from(alloc, self.font, &mut self.kept, &mut self.progress, source);
         if let Err(fault) = &answer {
-            self.met = Some(Met::of(fault));
+            self.met = Some(SessionFault::of(fault));
         }
         answer
     }
@@ -485,7 +485,7 @@ impl<'a> Session<'a> {
         }
         let answer = find_from(alloc, finder, self.font, &mut self.kept, search);
         if answer.is_err() {
-            self.met = Some(Met::OutOfMemory);
+            self.met = Some(SessionFault::OutOfMemory);
         }
         Ok(answer?)
     }

@@ -1,6 +1,6 @@
 //! Tests of `tt_abs`: lists of entries, stacks, abstract states and instructions with known outcomes.
 
-mod entries;
+mod sorted_map;
 mod instructions;
 mod joins;
 mod samples;

@@ -9,7 +9,7 @@ use Rattle.tt_code.specs.Structure.{after_fdef, body_at}
 use Rattle.tt_code.specs.declared.machine.Body.{Body}
 use Rattle.tt_code.specs.declared.machine.Body.TheVariants as body
 use Rattle.tt_code.specs.declared.machine.Frame.{Frame}
-use Rattle.tt_code.specs.declared.word.Word.TheVariants.{Fdef}
+use Rattle.tt_code.specs.declared.block_keyword.BlockKeyword.TheVariants.{Fdef}
 use Rattle.tt_code.proofs.DefinitionLemmas.{definition_in_main}
 use Rattle.tt_code.proofs.LookupLemmas.{goes_stands}
 use Rattle.tt_code.proofs.StructureLaws.{leads_iff_goes}

@@ -12,7 +12,7 @@ use Rattle.tt_code.specs.States.{is_below, is_true}
 use Rattle.tt_code.specs.Operands.{top}
 use Rattle.tt_code.specs.Changes.{natural}
 use Rattle.tt_code.specs.Control.{may_define, body_named}
-use Rattle.tt_code.specs.declared.word.Word.{Word}
+use Rattle.tt_code.specs.declared.block_keyword.BlockKeyword.{BlockKeyword}
 use Rattle.tt_code.specs.declared.machine.Body.{Body}
 use Rattle.tt_code.specs.declared.machine.Body.TheVariants as body
 use Rattle.tt_code.specs.declared.machine.Frame.{Frame}
@@ -42,7 +42,7 @@ within_more : (low high : ℕ) (o : Option ℕ) → low ≤ high → IsWithin lo
 within_more low high None le h = tt
 within_more low high (Some n) le h = omega (arith, h)
 
-end_within : (opener : Word) (is : List Instruction) (offset inside : ℕ) → IsWithin (offset + size is) (behind_end opener is offset inside)
+end_within : (opener : BlockKeyword) (is : List Instruction) (offset inside : ℕ) → IsWithin (offset + size is) (behind_end opener is offset inside)
 end_within opener [] offset inside = tt
 end_within opener (i ∷ is) offset inside = go (still_open opener (word i) inside) (λ more. end_within opener is (offset + length i) more)
   where
@@ -51,7 +51,7 @@ end_within opener (i ∷ is) offset inside = go (still_open opener (word i) insi
     go None h = omega arith
     go (Some more) h = within_more (offset + length i + size is) (offset + (length i + size is)) (behind_end opener is (offset + length i) more) (omega arith) (h more)
 
-leads_within : (start : ℕ) (opener : Word) (is : List Instruction) (offset : ℕ) → IsWithin (start + size is) (leads_from start opener is offset)
+leads_within : (start : ℕ) (opener : BlockKeyword) (is : List Instruction) (offset : ℕ) → IsWithin (start + size is) (leads_from start opener is offset)
 leads_within start opener [] offset = tt
 leads_within start opener (i ∷ is) offset = go (nat_eq start offset) (is_word opener (word i)) (leads_within (start + length i) opener is offset)
   where

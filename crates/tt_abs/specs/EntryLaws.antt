@@ -112,7 +112,7 @@ entry_laws IsInRange = record {
   left_strict = λ a b ra rb. entries-same a b ra.rises rb.rises;
 }
 
--- Entries kept by a test.
+-- SortedMap kept by a test.
 
 keep_step : {X : Type 0} (P : X → Type 0) (x : X) (rest : List X) (b : Bool) → P x → AllByRecursion P rest → AllByRecursion P (cond b (x ∷ rest) rest)
 keep_step P x rest true h ih = (h, ih)

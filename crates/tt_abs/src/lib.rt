@@ -2,12 +2,11 @@
 #![tactic(auto)]
 
 mod arithmetic;
+mod cell_codes;
 pub mod cells;
 mod changes;
-mod codes;
 mod compute;
 mod control;
-pub mod entries;
 pub mod graphics;
 mod instruction;
 pub mod laws;
@@ -20,17 +19,18 @@ pub mod refusal;
 mod registers;
 pub mod setting;
 mod shuffle;
+pub mod sorted_map;
 pub mod stack;
 pub mod state;
 mod successors;
 
 pub use cells::{Cell, ZoneCell};
-pub use entries::{Entries, EntryValue};
 pub use instruction::{Stepped, step, step_at};
 pub use moves::{Move, Moves};
 pub use order::{AbsFault, Order};
 pub use refusal::Refusal;
 pub use setting::{Kind, Point, Setting};
+pub use sorted_map::{EntryValue, SortedMap};
 pub use stack::{Stack, StackCells};
 pub use state::State;
 pub use successors::{Successors, transfer};

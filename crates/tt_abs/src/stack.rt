@@ -10,11 +10,11 @@ ghost use Rattle.tt_abs.specs.Orders.{IsLeastAbove};
 ghost use Rattle.tt_abs.specs.Codes.{kept_cells};
 ghost use Rattle.tt_abs.specs.Stacks.{IsLeastCell, StackBelow, StackInRange, cell_at, first, stack_order};
 
-use crate::cells::Cell;
-use crate::codes::{
+use crate::cell_codes::{
     Codes, INLINE_CELLS, append_bytes, append_cells, append_codes, are_below, are_equal, cell_of,
     code_of, join_codes, joined,
 };
+use crate::cells::Cell;
 use crate::order::{AbsFault, Order};
 use smallvec::SmallVec;
 use std::alloc::{AllocError, Global};

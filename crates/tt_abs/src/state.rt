@@ -1,9 +1,9 @@
 //! Abstract states: what is known of a hint machine's state.
 
 use crate::cells::{Cell, ZoneCell};
-use crate::entries::Entries;
 use crate::graphics::{is_same_graphics, joined_graphics};
 use crate::order::{AbsFault, Order};
+use crate::sorted_map::SortedMap;
 use crate::stack::{Stack, StackCells};
 use std::alloc::{AllocError, Global};
 use tt_code::Graphics;
@@ -15,9 +15,9 @@ pub struct State {
     pub(crate) stack: Stack,
     pub(crate) graphics: Graphics<Cell, ZoneCell>,
     /// The functions that are known, each with its body.
-    pub(crate) functions: Entries<u32>,
+    pub(crate) functions: SortedMap<u32>,
     /// The storage cells that are known, each with its number.
-    pub(crate) storage: Entries<i32>,
+    pub(crate) storage: SortedMap<i32>,
 }
 
 /// The graphics state with which every program starts.
@@ -51,8 +51,8 @@ impl State {
         Ok(State {
             stack: Stack::new(alloc),
             graphics: DEFAULT,
-            functions: Entries::from_slice(alloc, functions)?,
-            storage: Entries::new(alloc),
+            functions: SortedMap::from_slice(alloc, functions)?,
+            storage: SortedMap::new(alloc),
         })
     }
 

@@ -27,8 +27,8 @@ use Rattle.tt_cert.specs.Spots.{spot_of}
 use Rattle.tt_cert.specs.Cursors.{AreMetBy, IsAfter, IsLeftOut, IsMetBy, IsNextState, IsPassed, met_both}
 use Rattle.tt_cert.specs.declared.fault.ProgramFault.{ProgramFault}
 use Rattle.tt_cert.specs.declared.fault.ProgramFault.TheVariants.{Refused, OutOfMemory}
-use Rattle.tt_cert.specs.declared.meeting.Met.{Met}
-use Rattle.tt_cert.specs.declared.meeting.Met.TheVariants as met
+use Rattle.tt_cert.specs.declared.meeting.Coverage.{Coverage}
+use Rattle.tt_cert.specs.declared.meeting.Coverage.TheVariants as met
 
 pub ok_map : {T E : Type 0} (r : Result T E) (P Q : T → Type 0) → ((x : T) → P x → Q x) → IfOk r P → IfOk r Q
 ok_map (Ok x) P Q f p = f x p
@@ -41,7 +41,7 @@ err_map (Err e) P Q f p = f e p
 -- How a state is met at one place.
 
 -- where what may be left out is said of the same places in other words
-pub met_by_same : (family : Place → Option State) (L L' : Type 0) (next : Option (ℕ × ℕ × Bor State)) (q : Place) (t : State) → (L → L') → (m : Met) → IsMetBy family L next q t m
+pub met_by_same : (family : Place → Option State) (L L' : Type 0) (next : Option (ℕ × ℕ × Bor State)) (q : Place) (t : State) → (L → L') → (m : Coverage) → IsMetBy family L next q t m
     → IsMetBy family L' next q t m
 met_by_same family L L' next q t f met.Next h = h
 met_by_same family L L' next q t f met.Listed h = h
@@ -70,7 +70,7 @@ leads_elsewhere [] Return after other forward (same, is) = let lt = forward 0 is
 leads_elsewhere (f ∷ fs) Return after other forward (same, is) = let long = ap length same in omega arith
 
 -- where no state may be left out, in other words for the same place
-module _ (family : Place → Option State) (L : Type 0) (next : Option (ℕ × ℕ × Bor State)) (q q' : Place) (t : State) (r : Result Met ProgramFault) (same : q ≡ q') where
+module _ (family : Place → Option State) (L : Type 0) (next : Option (ℕ × ℕ × Bor State)) (q q' : Place) (t : State) (r : Result Coverage ProgramFault) (same : q ≡ q') where
   pub elsewhere_met : IfOk r (IsMetBy family (IsTrue false) next q t) → IfOk r (IsMetBy family L next q' t)
   elsewhere_met h =
       let A : Place → Type 0 = λ x. IfOk r (IsMetBy family L next x t) in
@@ -90,10 +90,10 @@ below_none (x ∷ xs) (suc k) zero n none e = omega arith
 below_none (x ∷ xs) (suc k) (suc i) n none e = let lt = below_none xs k i n none e in omega arith
 
 module _ (family : Place → Option State) (fs : List Frame) (after : Option ℕ) (next : Option (ℕ × ℕ × Bor State)) (t : State) where
-  abbrev IsMetAt : Place → Met → Type 0
+  abbrev IsMetAt : Place → Coverage → Type 0
   IsMetAt q m = IsMetBy family (IsAfter fs after q) next q t m
 
-  is_met : (q : Place) (m : Met) → IsMetAt q m → IsMet family (IsAfter fs after q) q t
+  is_met : (q : Place) (m : Coverage) → IsMetAt q m → IsMet family (IsAfter fs after q) q t
   is_met q met.Next (covered, same) = inl covered
   is_met q met.Listed covered = inl covered
   is_met q met.Added (none, may) = inr (none, may)
@@ -109,7 +109,7 @@ module _ (family : Place → Option State) (fs : List Frame) (after : Option ℕ
   IsMetThere n = IsMet family (IsAfter fs after (place_of_next n)) (place_of_next n) t
 
   -- how a state is met at these places
-  abbrev pub AreMetBelow : List Next → ℕ → Met → Type 0
+  abbrev pub AreMetBelow : List Next → ℕ → Coverage → Type 0
   AreMetBelow ns k met.Next = AreAllBelow IsCoveredAt ns k × IsNextState next t
   AreMetBelow ns k met.Listed = AreAllBelow IsCoveredAt ns k
   AreMetBelow ns k met.Added = AreAllBelow IsMetThere ns k × IsLeftOut family fs after ns
@@ -127,7 +127,7 @@ module _ (family : Place → Option State) (fs : List Frame) (after : Option ℕ
     added_now : IsMetAt (place_of_next n) met.Added → AreAllBelow IsMetThere ns k → AreMetBelow ns (k + 1) met.Added
     added_now (none, may) before = (one_more IsMetThere (inr (none, may)) before, record { index = k; next = n; found = at; just_after = may; none = none })
 
-    pub met_more : (j m : Met) → AreMetBelow ns k j → IsMetAt (place_of_next n) m → AreMetBelow ns (k + 1) (met_both j m)
+    pub met_more : (j m : Coverage) → AreMetBelow ns k j → IsMetAt (place_of_next n) m → AreMetBelow ns (k + 1) (met_both j m)
     met_more met.Added m (before, left) here = (one_more IsMetThere (is_met (place_of_next n) m here) before, left)
     met_more met.Next met.Added (covered, same) here = added_now here (λ i x lt e. inl (covered i x lt e))
     met_more met.Listed met.Added covered here = added_now here (λ i x lt e. inl (covered i x lt e))
@@ -149,18 +149,18 @@ module _ (family : Place → Option State) (fs : List Frame) (after : Option ℕ
   pub none_all_below : (ns : List Next) → AreAllBelow IsMetThere ns 0
   none_all_below = none_below IsMetThere
 
-  pub met_first : (ns : List Next) (n : Next) → slice_get ns 0 ≡ Some n → (m : Met) → IsMetAt (place_of_next n) m → AreMetBelow ns 1 m
+  pub met_first : (ns : List Next) (n : Next) → slice_get ns 0 ≡ Some n → (m : Coverage) → IsMetAt (place_of_next n) m → AreMetBelow ns 1 m
   met_first ns n at met.Next (covered, same) = (one_more ns 0 n at IsCoveredAt covered (none_below IsCoveredAt ns), same)
   met_first ns n at met.Listed covered = one_more ns 0 n at IsCoveredAt covered (none_below IsCoveredAt ns)
   met_first ns n at met.Added here = added_now ns 0 n at here (none_below IsMetThere ns)
 
-  pub met_below : (ns : List Next) (k : ℕ) (m : Met) → AreMetBelow ns k m → AreAllBelow IsMetThere ns k
+  pub met_below : (ns : List Next) (k : ℕ) (m : Coverage) → AreMetBelow ns k m → AreAllBelow IsMetThere ns k
   met_below ns k met.Next (covered, same) = λ i n lt e. inl (covered i n lt e)
   met_below ns k met.Listed covered = λ i n lt e. inl (covered i n lt e)
   met_below ns k met.Added (before, left) = before
 
   -- after the last of them
-  pub met_all : (ns : List Next) (k : ℕ) → slice_get ns k ≡ None → (m : Met) → AreMetBelow ns k m → AreMetBy family fs after next ns t m
+  pub met_all : (ns : List Next) (k : ℕ) → slice_get ns k ≡ None → (m : Coverage) → AreMetBelow ns k m → AreMetBy family fs after next ns t m
   met_all ns k none met.Next (covered, same) = ((λ i n e. covered i n (below_none ns k i n none e) e), same)
   met_all ns k none met.Listed covered = λ i n e. covered i n (below_none ns k i n none e) e
   met_all ns k none met.Added (before, left) = ((λ i n e. before i n (below_none ns k i n none e) e), left)
@@ -257,7 +257,7 @@ module _ (s : Setting) (family : Place → Option State) (L : Place → Type 0) 
           record { gives = gives; none = none; may = may };
     }
 
-    pub passed_here : (next : Option (ℕ × ℕ × Bor State)) (m : Met) (carried : Option ℕ) → ((m ≡ met.Added → ⊥) → carried ≡ None) → (m ≡ met.Added → carried ≡ after)
+    pub passed_here : (next : Option (ℕ × ℕ × Bor State)) (m : Coverage) (carried : Option ℕ) → ((m ≡ met.Added → ⊥) → carried ≡ None) → (m ≡ met.Added → carried ≡ after)
         → AreMetBy family p.0 after next (nexts_of p.0 ways (abstract_of t)) t m → IsPassed s family L p a carried t
     passed_here next met.Next carried none is (covered, same) = passed_covered carried (none (λ e. cc)) covered
     passed_here next met.Listed carried none is covered = passed_covered carried (none (λ e. cc)) covered

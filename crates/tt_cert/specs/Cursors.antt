@@ -25,8 +25,8 @@ use Rattle.tt_cert.specs.Checks.{AreCovered, AreMet, BreaksAt, HasNextTurn, IsBr
 use Rattle.tt_cert.specs.declared.fault.ProgramFault.{ProgramFault}
 use Rattle.tt_cert.specs.declared.listing.Listing.{Listing}
 use Rattle.tt_cert.specs.declared.listing.Listing.TheVariants.{Whole, Sparse}
-use Rattle.tt_cert.specs.declared.meeting.Met.{Met}
-use Rattle.tt_cert.specs.declared.meeting.Met.TheVariants as met
+use Rattle.tt_cert.specs.declared.meeting.Coverage.{Coverage}
+use Rattle.tt_cert.specs.declared.meeting.Coverage.TheVariants as met
 use Rattle.tt_cert.specs.declared.cursor.Cursor.{Cursor}
 
 -- from which place to which a state may be left out: from none, or from each to the one just after it
@@ -77,13 +77,13 @@ pub record AreToCome (contents : Contents) (next : Option (ℕ × ℕ × Bor Sta
 
 -- How a state is met at a place to which it goes: by the state that comes next, which is the same one; by one that covers it; or by none,
 -- where none needs to be.
-abbrev pub IsMetBy : (Place → Option State) → Type 0 → Option (ℕ × ℕ × Bor State) → Place → State → Met → Type 0
+abbrev pub IsMetBy : (Place → Option State) → Type 0 → Option (ℕ × ℕ × Bor State) → Place → State → Coverage → Type 0
 IsMetBy family MayBeLeftOut next q t met.Next = CoversAt state_order family q t × IsNextState next t
 IsMetBy family MayBeLeftOut next q t met.Listed = CoversAt state_order family q t
 IsMetBy family MayBeLeftOut next q t met.Added = (family q ≡ None) × MayBeLeftOut
 
 -- one answer for two: that a state is added comes before all, otherwise how the first is met
-abbrev pub met_both : Met → Met → Met
+abbrev pub met_both : Coverage → Coverage → Coverage
 met_both met.Added other = met.Added
 met_both met.Next met.Added = met.Added
 met_both met.Listed met.Added = met.Added
@@ -103,7 +103,7 @@ pub record IsLeftOut (family : Place → Option State) (fs : List Frame) (after 
   pub none : family (place_of_next next) ≡ None
 
 -- how a state is met at all places that come next
-abbrev pub AreMetBy : (Place → Option State) → List Frame → Option ℕ → Option (ℕ × ℕ × Bor State) → List Next → State → Met → Type 0
+abbrev pub AreMetBy : (Place → Option State) → List Frame → Option ℕ → Option (ℕ × ℕ × Bor State) → List Next → State → Coverage → Type 0
 AreMetBy family fs after next nexts t met.Next = AreCovered family nexts t × IsNextState next t
 AreMetBy family fs after next nexts t met.Listed = AreCovered family nexts t
 AreMetBy family fs after next nexts t met.Added = AreMet family (IsAfter fs after) nexts t × IsLeftOut family fs after nexts
@@ -201,7 +201,7 @@ abbrev pub nexts_made : Contents → Cursor → Moves → List Next
 nexts_made contents walk moves = nexts_of (calls_of contents walk) moves (abstract_of walk.made)
 
 -- how what was made is met at a place, where it may be left out if that is at the offset `after`
-abbrev pub IsMadeMet : Contents → Cursor → Option ℕ → Place → Met → Type 0
+abbrev pub IsMadeMet : Contents → Cursor → Option ℕ → Place → Coverage → Type 0
 IsMadeMet contents walk after q = IsMetBy (family_of contents) (IsAfter (calls_of contents walk) after q) walk.next q walk.made
 
 -- the fault names the place, at which what was made isn't met
@@ -213,7 +213,7 @@ abbrev pub MayTurn : List Frame → Moves → Type 0
 MayTurn fs moves = (i : ℕ) → slice_get (ways_of moves) i ≡ Some NextTurn → HasNextTurn fs
 
 -- how what was made is met at all places to which moves lead
-abbrev pub AreMadeMet : Contents → Cursor → Option ℕ → Moves → Met → Type 0
+abbrev pub AreMadeMet : Contents → Cursor → Option ℕ → Moves → Coverage → Type 0
 AreMadeMet contents walk after moves = AreMetBy (family_of contents) (calls_of contents walk) after walk.next (nexts_made contents walk moves) walk.made
 
 -- the fault names the first of them at which it isn't

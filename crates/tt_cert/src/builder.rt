@@ -21,7 +21,7 @@ ghost use Rattle.tt_cert.specs.Spots.{spot_of};
 use crate::fault::{ContextFault, JoinFault};
 use crate::joined::Joined;
 use crate::spot::Spot;
-use crate::state_table::StateTable;
+use crate::state_store::StateStore;
 use crate::states::States;
 use std::alloc::{AllocError, Global};
 use std::collections::BTreeMap;
@@ -41,7 +41,7 @@ pub struct Builder {
     /// The number of each context except for the empty one, by parent, call, body, turn and count.
     index: BTreeMap<ContextKey, u32>,
     /// The states by context and offset.
-    states: StateTable,
+    states: StateStore,
 }
 
 impl Model for Builder {
@@ -117,7 +117,7 @@ impl Builder {
         Builder {
             entries: Vec::new(alloc),
             index: BTreeMap::new(alloc),
-            states: StateTable::new(alloc),
+            states: StateStore::new(alloc),
         }
     }
 

@@ -20,7 +20,7 @@ use crate::certificate::Certificate;
 use crate::cursor::Cursor;
 use crate::fault::ProgramFault;
 use crate::listing::{Listing, added_after};
-use crate::meeting::{Met, check_covered, check_successors, fault_in};
+use crate::meeting::{Coverage, check_covered, check_successors, fault_in};
 use crate::spot::Spot;
 use crate::states::States;
 use std::alloc::Global;
@@ -76,7 +76,7 @@ fn check_start(certificate: &Certificate, walk: &mut Cursor<'_>) -> Result<(), P
 {
     certificate.is_in_order();
     match check_covered(certificate, walk.next, 0, 0, &walk.made, false) {
-        Ok(Met::Next) => walk.is_next = true,
+        Ok(Coverage::Next) => walk.is_next = true,
         Ok(_) => {}
         Err(fault) => return Err(fault),
     }
@@ -140,9 +140,9 @@ fn check_point(
     };
     let after = left_out_after(setting, listing, &point, step.end);
     match check_successors(certificate, walk, step.moves, after) {
-        Ok(Met::Next) => walk.is_next = true,
-        Ok(Met::Listed) => {}
-        Ok(Met::Added) => walk.carried = after,
+        Ok(Coverage::Next) => walk.is_next = true,
+        Ok(Coverage::Listed) => {}
+        Ok(Coverage::Added) => walk.carried = after,
         Err(fault) => return Err(fault),
     }
     Ok(())

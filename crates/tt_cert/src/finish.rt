@@ -9,7 +9,7 @@ ghost use Rattle.tt_cert.specs.Rising.{AreMoved, IsFinished, SameContents, SameW
 use crate::builder::Builder;
 use crate::certificate::Certificate;
 use crate::fault::{ContextFault, JoinFault};
-use crate::places::PointKey;
+use crate::slot_index::PointKey;
 use std::alloc::AllocError;
 use std::collections::BTreeSet;
 

@@ -8,7 +8,7 @@ ghost use Rattle.tt_cert.specs.Landings.{IsLanding, IsMissing, IsPointOf, IsTurn
 use crate::builder::Builder;
 use crate::certificate::Certificate;
 use crate::fault::ProgramFault;
-use crate::places::PointKey;
+use crate::slot_index::PointKey;
 use crate::spot::Spot;
 use tt_abs::Move;
 use tt_abs::setting::body_offset;

@@ -12,9 +12,9 @@ mod landing;
 mod listing;
 mod meeting;
 mod offset_list;
-mod places;
+mod slot_index;
 pub mod spot;
-mod state_table;
+mod state_store;
 pub mod states;
 
 pub use builder::Builder;

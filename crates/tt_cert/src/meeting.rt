@@ -16,7 +16,7 @@ use tt_code::Reason;
 
 /// How a state is met at a place to which it goes.
 #[derive(Clone, Copy)]
-pub(crate) enum Met {
+pub(crate) enum Coverage {
     /// By the very state that comes next in the walk, which is the same.
     Next,
     /// By a state of the certificate that covers it.
@@ -26,13 +26,13 @@ pub(crate) enum Met {
 }
 
 /// Returns one answer for two: that the state is added comes before all, otherwise how the first is met.
-fn met_by_both(first: Met, second: Met) -> Met
+fn met_by_both(first: Coverage, second: Coverage) -> Coverage
     ensures { result ≡ met_both first second }
 {
     match first {
-        Met::Added => Met::Added,
+        Coverage::Added => Coverage::Added,
         _ => match second {
-            Met::Added => Met::Added,
+            Coverage::Added => Coverage::Added,
             _ => first,
         },
     }
@@ -64,7 +64,7 @@ pub(crate) fn check_covered(
     offset: u32,
     state: &State,
     may_be_left_out: bool,
-) -> Result<Met, ProgramFault>
+) -> Result<Coverage, ProgramFault>
     requires there { context < length certificate.now.contexts }
     requires next { IsEntry certificate.now next }
     requires unlisted { IsTrue may_be_left_out → IsUnlisted certificate.now next context offset }
@@ -73,22 +73,22 @@ pub(crate) fn check_covered(
 {
     certificate.is_in_order();
     if may_be_left_out && is_coming_after(next, context, offset) {
-        return Ok(Met::Added);
+        return Ok(Coverage::Added);
     }
     if is_coming(next, context, offset, state) {
-        return Ok(Met::Next);
+        return Ok(Coverage::Next);
     }
     match certificate.state(context, offset) {
         None => {
             if may_be_left_out {
-                Ok(Met::Added)
+                Ok(Coverage::Added)
             } else {
                 Err(fault_in(certificate, context, offset, Reason::MissingPoint))
             }
         }
         Some(above) => {
             if state.below(above) {
-                Ok(Met::Listed)
+                Ok(Coverage::Listed)
             } else {
                 Err(fault_in(certificate, context, offset, Reason::NotCovered))
             }
@@ -102,7 +102,7 @@ fn check_offset(
     walk: &Cursor<'_>,
     offset: u32,
     after: Option<u32>,
-) -> Result<Met, ProgramFault>
+) -> Result<Coverage, ProgramFault>
     requires walk { IsWalk certificate.now walk.now }
     requires unlisted { IsUnlistedAfter certificate.now walk.now after }
     ensures met { IfOk result (IsMetBy (family_of certificate.now) (after ≡ Some offset) walk.now.next (point_of certificate.now walk.now offset) walk.now.made) }
@@ -124,7 +124,7 @@ fn check_successor(
     walk: &Cursor<'_>,
     way: Move,
     after: Option<u32>,
-) -> Result<Met, ProgramFault>
+) -> Result<Coverage, ProgramFault>
     requires walk { IsWalk certificate.now walk.now }
     requires told { AreToldBefore certificate.now walk.now.context }
     requires turn { way ≡ Move.NextTurn → HasNextTurn (calls_of certificate.now walk.now) }
@@ -151,7 +151,7 @@ pub(crate) fn check_successors(
     walk: &Cursor<'_>,
     moves: Moves,
     after: Option<u32>,
-) -> Result<Met, ProgramFault>
+) -> Result<Coverage, ProgramFault>
     requires walk { IsWalk certificate.now walk.now }
     requires told { AreToldBefore certificate.now walk.now.context }
     requires turn { MayTurn (calls_of certificate.now walk.now) moves }

@@ -2,7 +2,7 @@
 
 ghost use Rattle.std.specs.Prelude.{◌≡◌, ◌∷◌, None, [], IfSome};
 
-use crate::places::PlacesIter;
+use crate::slot_index::PlacesIter;
 use std::marker::Model;
 use tt_abs::State;
 

@@ -3,14 +3,14 @@ use Rattle.std.proofs.Common.{◌≡◌, ◌⊎◌, inl, inr, ℕ, zero, suc, �
 use Rattle.std.specs.Option.{IfSome, IfNone}
 use Rattle.std.specs.List.{AllByRecursion}
 use Rattle.std.proofs.lemmas.List.{append-nil}
-use Rattle.tt_code.specs.declared.word.Word.{Word}
-use Rattle.tt_code.specs.declared.word.Word.TheVariants.{If, Else, Eif, Fdef, Idef, Endf, Other}
+use Rattle.tt_code.specs.declared.block_keyword.BlockKeyword.{BlockKeyword}
+use Rattle.tt_code.specs.declared.block_keyword.BlockKeyword.TheVariants.{If, Else, Eif, Fdef, Idef, Endf, Other}
 use Rattle.tt_code.specs.declared.nest.Open.{Open}
 use Rattle.tt_code.specs.declared.nest.Open.TheVariants.{InIf, InElse, InFunction, InInstruction}
 use Rattle.tt_code.specs.declared.machine.Body.{Body}
 use Rattle.tt_code.specs.declared.machine.Body.TheVariants as body
 use Rattle.tt_code.specs.Cut.{Instruction, IsInstruction, size}
-use Rattle.tt_code.specs.Structure.{word}
+use Rattle.tt_code.specs.Structure.{keyword}
 use Rattle.tt_code.specs.Grammar.{IsList, none, definition, begins_definition, Ends, GoesTo, StandsAt, InDefinition, IsBodyAt, IsStructured}
 use Rattle.tt_code.specs.Pass.{within, step, steps, body_of, place, closed, Head, Opened, Leaves}
 use Rattle.tt_code.specs.Slots.{body_found, Opens, IsOpenAt, IsTable}
@@ -20,7 +20,7 @@ use Rattle.tt_code.proofs.SlotLemmas.{each_split, GoesTo-append, Linked, Table-s
 use Rattle.tt_code.proofs.LookupLemmas.{goes_same, same_place}
 
 -- the instructions that begin definitions
-abbrev pub Defines : Word → Type 0
+abbrev pub Defines : BlockKeyword → Type 0
 Defines w = (w ≡ Fdef) ⊎ (w ≡ Idef)
 
 -- o is open
@@ -28,7 +28,7 @@ abbrev pub In : Open → List Open → Type 0
 In o [] = ⊥
 In o (x ∷ s) = (x ≡ o) ⊎ In o s
 
-abbrev pub word_for : Open → Word
+abbrev pub word_for : Open → BlockKeyword
 word_for (InIf k) = If
 word_for (InElse k) = Else
 word_for (InFunction k) = Fdef
@@ -46,7 +46,7 @@ at_place k (x ∷ s) (inr h) = let r = at_place k s h in (r.0, inr r.1, r.2)
 
 -- The instruction that opened o is where o says.
 abbrev pub Opener : Open → List Instruction → Type 0
-Opener o p = (a : List Instruction) × (d : Instruction) × (b : List Instruction) × (p ≡ a ++ (d ∷ b)) × (size a ≡ place o) × (word d ≡ word_for o)
+Opener o p = (a : List Instruction) × (d : Instruction) × (b : List Instruction) × (p ≡ a ++ (d ∷ b)) × (size a ≡ place o) × (keyword d ≡ word_for o)
 
 head_opener : (o : Open) (inside : Bool) (outer head inner p : List Instruction) → Head o inside (size outer) head → p ≡ outer ++ (head ++ inner) → Opener o p
 head_opener (InIf k) inside outer head inner p (i, hi, hk, eh) e = (outer, i, inner, e ∙ ap (λ x. outer ++ (x ++ inner)) eh, sym hk, hi)
@@ -71,7 +71,7 @@ opened_at o (x ∷ s) p (outer, head, inner, below, h, l, e) (inl i) =
 opened_at o (x ∷ s) p (outer, head, inner, below, h, l, e) (inr i) =
     subst (λ y. Opener o y) (sym e) (opener_append o outer (head ++ inner) (opened_at o s outer below i))
 
-not_definition : (w : Word) → Defines w → (w ≡ If) ⊎ (w ≡ Else) → ⊥
+not_definition : (w : BlockKeyword) → Defines w → (w ≡ If) ⊎ (w ≡ Else) → ⊥
 not_definition w (inl h) (inl e) = cc
 not_definition w (inl h) (inr e) = cc
 not_definition w (inr h) (inl e) = cc
@@ -106,7 +106,7 @@ body_from (InFunction k ∷ s) = inr (InFunction k, inl refl, inl refl, refl)
 body_from (InInstruction k ∷ s) = inr (InInstruction k, inl refl, inr refl, refl)
 
 -- What is open after a step was open before it, or is the step's own.
-step_came : (w : Word) (n k : ℕ) (s t : List Open) → step w n s ≡ Some t → IsOpenAt k t → IsOpenAt k s ⊎ (n ≡ k)
+step_came : (w : BlockKeyword) (n k : ℕ) (s t : List Open) → step w n s ≡ Some t → IsOpenAt k t → IsOpenAt k s ⊎ (n ≡ k)
 step_came Other n k s t e o = let q : t ≡ s = cc in inl (subst (λ x. IsOpenAt k x) q o)
 step_came If n k s t e o = let q : t ≡ InIf n ∷ s = cc in elim (top k (InIf n) s (subst (λ x. IsOpenAt k x) q o)) [ inl h ↦ inr h | inr h ↦ inl h ]
   where
@@ -140,10 +140,10 @@ step_came Endf n k (InFunction j ∷ s) t e o = let q : t ≡ s = cc in inl (inr
 step_came Endf n k (InInstruction j ∷ s) t e o = let q : t ≡ s = cc in inl (inr (subst (λ x. IsOpenAt k x) q o))
 
 -- the first step of several
-pub first_step : (i : Instruction) (b : List Instruction) (n : ℕ) (s t : List Open) → steps (i ∷ b) n s ≡ Some t → (u : List Open) × (step (word i) n s ≡ Some u) × (steps b (n + length i) u ≡ Some t)
-first_step i b n s t e = go (step (word i) n s) refl
+pub first_step : (i : Instruction) (b : List Instruction) (n : ℕ) (s t : List Open) → steps (i ∷ b) n s ≡ Some t → (u : List Open) × (step (keyword i) n s ≡ Some u) × (steps b (n + length i) u ≡ Some t)
+first_step i b n s t e = go (step (keyword i) n s) refl
   where
-    go : (r : Option (List Open)) → step (word i) n s ≡ r → (u : List Open) × (step (word i) n s ≡ Some u) × (steps b (n + length i) u ≡ Some t)
+    go : (r : Option (List Open)) → step (keyword i) n s ≡ r → (u : List Open) × (step (keyword i) n s ≡ Some u) × (steps b (n + length i) u ≡ Some t)
     go None q = let z : steps (i ∷ b) n s ≡ None = rw q refl in absurd (cc)
     go (Some u) q = let z : steps (i ∷ b) n s ≡ steps b (n + length i) u = rw q refl in (u, q, sym z ∙ e)
 
@@ -152,7 +152,7 @@ opens_after [] n k s t e o = let q : t ≡ s = cc in inl (subst (λ x. IsOpenAt 
 opens_after (i ∷ z) n k s t e o =
     let f = first_step i z n s t e in
     elim (opens_after z (n + length i) k f.0 t f.2 o) [
-      | inl h ↦ elim (step_came (word i) n k s f.0 f.1 h) [ inl g ↦ inl g | inr g ↦ inr (omega arith) ]
+      | inl h ↦ elim (step_came (keyword i) n k s f.0 f.1 h) [ inl g ↦ inl g | inr g ↦ inr (omega arith) ]
       | inr h ↦ inr (omega arith)
     ]
 
@@ -165,7 +165,7 @@ table_of [] a s t in_body goes each leaves table e =
     (subst (λ x. Leaves x t) (sym n) (subst (λ y. Leaves a y) q leaves), (in_body, goes, subst (λ x. IsTable x t in_body goes) (sym n) (subst (λ y. IsTable a y in_body goes) q table)))
 table_of (i ∷ b) a s t in_body goes each leaves table e =
     let f = first_step i b (size a) s t e in
-    let now = linking (closed (word i) s) (size a + length i) goes in
+    let now = linking (closed (keyword i) s) (size a + length i) goes in
     let some = some_bytes i (each_split a b i each) in
     let long = before_long (length i) some in
     let next = Table-step a s f.0 i in_body goes now.0 long.0 (each_front a (i ∷ b) each) leaves table f.1 long.1 now.1 in
@@ -198,7 +198,7 @@ longer (i ∷ x) y (j ∷ u) v e l h =
     (r.0, cc, r.2)
 
 -- where a definition ends, what it opened is closed
-closed_by_end : (k t : ℕ) (o : Open) (before inner z a : List Instruction) (d e : Instruction) (s0 s : List Open) → Defines (word d) → IsList true inner → word e ≡ Endf →
+closed_by_end : (k t : ℕ) (o : Open) (before inner z a : List Instruction) (d e : Instruction) (s0 s : List Open) → Defines (keyword d) → IsList true inner → keyword e ≡ Endf →
     steps before 0 [] ≡ Some s0 → Leaves before s0 → AllByRecursion IsInstruction before → a ≡ (before ++ (d ∷ (inner ++ (e ∷ [])))) ++ z → steps a 0 [] ≡ Some s →
     size before ≡ k → 0 < length d → IsOpenAt k s → ⊥
 closed_by_end k t o before inner z a d e s0 s hd li he hs leaves each shape run start long still =
@@ -207,8 +207,8 @@ closed_by_end k t o before inner z a d e s0 s hd li he hs leaves each shape run 
     ap (λ x. steps x 0 []) (shape ∙ append_assoc before item z) ∙ steps-append before (item ++ z) 0 [] ∙ rw (hs, zero-add) refl in
     let started : steps (d ∷ ((inner ++ (e ∷ [])) ++ z)) (size before) s0 ≡ Some s = sym one ∙ run in
     let first = first_step d ((inner ++ (e ∷ [])) ++ z) (size before) s0 s started in
-    let outside : within s0 ≡ false = definition_outside (word d) (size before) s0 first.0 hd first.1 in
-    let through : steps (item ++ z) (size before) s0 ≡ steps z (size before + size item) s0 = steps_list (definition e (defined_by (word d) hd) li he none) s0 (size before) z outside in
+    let outside : within s0 ≡ false = definition_outside (keyword d) (size before) s0 first.0 hd first.1 in
+    let through : steps (item ++ z) (size before) s0 ≡ steps z (size before + size item) s0 = steps_list (definition e (defined_by (keyword d) hd) li he none) s0 (size before) z outside in
     elim (opens_after z (size before + size item) k s0 s (sym through ∙ started) still) [
       | inl h ↦
           let at = at_place k s0 h in
@@ -217,7 +217,7 @@ closed_by_end k t o before inner z a d e s0 s hd li he hs leaves each shape run 
       | inr h ↦ omega arith
     ]
   where
-    definition_outside : (w : Word) (n : ℕ) (s t : List Open) → Defines w → step w n s ≡ Some t → within s ≡ false
+    definition_outside : (w : BlockKeyword) (n : ℕ) (s t : List Open) → Defines w → step w n s ≡ Some t → within s ≡ false
     definition_outside w n s t (inl h) e = let f : step Fdef n s ≡ Some t = rw h at e in (within-false (within s) (InFunction n) s t f).0
     definition_outside w n s t (inr h) e = let f : step Idef n s ≡ Some t = rw h at e in (within-false (within s) (InInstruction n) s t f).0
 
@@ -251,7 +251,7 @@ same_open (InInstruction j) (InElse k) h e = cc
 same_open (InInstruction j) (InFunction k) h e = cc
 same_open (InInstruction j) (InInstruction k) h e = ap InInstruction e
 
-definition_opens : (w : Word) → Defines w → Opens w
+definition_opens : (w : BlockKeyword) → Defines w → Opens w
 definition_opens w (inl h) = rw h tt
 definition_opens w (inr h) = rw h tt
 
@@ -291,21 +291,21 @@ in_definition_body is a b i k t o s each whole run g at def low high =
           let x = at_place (size g.before) s u in
           let op = opened_at x.0 s a tab.0.opened x.1 in
           let p = same_place g.before z.0 op.0 op.2 g.i op.1 oka2 (sym z.1 ∙ op.3) (sym x.2 ∙ sym op.4) in
-          let words : word_for x.0 ≡ word_for o = sym op.5 ∙ ap word (sym p.1) ∙ g.opens in
+          let words : word_for x.0 ≡ word_for o = sym op.5 ∙ ap keyword (sym p.1) ∙ g.opens in
           let one : x.0 ≡ o = same_open x.0 o words (x.2 ∙ g.from ∙ sym at) in
           in_body o s a tab.0.opened (subst (λ y. In y s) one x.1) def
     ]
   where
-    goes_within : (w : Word) (p : List Instruction) (k t : ℕ) → GoesTo w p k t → t ≤ size p
+    goes_within : (w : BlockKeyword) (p : List Instruction) (k t : ℕ) → GoesTo w p k t → t ≤ size p
     goes_within w p k t g =
         let l = ap size g.whole ∙ size-append g.before (g.i ∷ (g.inner ++ (g.e ∷ g.after))) in
         omega (arith, size-append g.inner (g.e ∷ g.after), g.target)
 
-definition_behind : (w : Word) → Defines w → begins_definition w ≡ true
+definition_behind : (w : BlockKeyword) → Defines w → begins_definition w ≡ true
 definition_behind w (inl h) = rw h refl
 definition_behind w (inr h) = rw h refl
 
-definition_ends : (w u : Word) → Defines w → Ends w u → u ≡ Endf
+definition_ends : (w u : BlockKeyword) → Defines w → Ends w u → u ≡ Endf
 definition_ends w u (inl h) e = let f : Ends Fdef u = subst (λ w. Ends w u) h e in f
 definition_ends w u (inr h) e = let f : Ends Idef u = subst (λ w. Ends w u) h e in f
 
@@ -352,14 +352,14 @@ open_definition is a b i o s in_body goes each table whole run open_in def =
         let okb = each_front g.before (g.i ∷ (g.inner ++ (g.e ∷ g.after))) okg in
         let before = table_of g.before [] [] row.0 [] [] okb Leaves-start Table-start row.1 in
         closed_by_end (place o) t o g.before g.inner z.0 a g.i g.e row.0 s (subst Defines (sym g.opens) def)
-        (subst (λ x. IsList x g.inner) (definition_behind (word_for o) def) g.nested) (definition_ends (word_for o) (word g.e) def g.ends)
+        (subst (λ x. IsList x g.inner) (definition_behind (word_for o) def) g.nested) (definition_ends (word_for o) (keyword g.e) def g.ends)
         row.1 before.0 okb z.1 run g.from (some_bytes g.i (each_split g.before (g.inner ++ (g.e ∷ g.after)) g.i okg)) (in_place o s open_in)
 
-    found : (t : ℕ) → ((w : Word) × GoesTo w is (size op.0) t) → (t : ℕ) × GoesTo (word_for o) is (place o) t × (place o < size a) × (size a < t)
+    found : (t : ℕ) → ((w : BlockKeyword) × GoesTo w is (size op.0) t) → (t : ℕ) × GoesTo (word_for o) is (place o) t × (place o < size a) × (size a < t)
     found t g =
         let okg : AllByRecursion IsInstruction (op.0 ++ (op.1 ∷ (op.2 ++ (i ∷ b)))) = subst (λ x. AllByRecursion IsInstruction x) placed each in
         let p = same_place op.0 (op.2 ++ (i ∷ b)) g.1.before (g.1.inner ++ (g.1.e ∷ g.1.after)) op.1 g.1.i okg (sym placed ∙ g.1.whole) (sym g.1.from) in
-        let words : g.0 ≡ word_for o = sym g.1.opens ∙ ap word (sym p.1) ∙ op.5 in
+        let words : g.0 ≡ word_for o = sym g.1.opens ∙ ap keyword (sym p.1) ∙ op.5 in
         let goes : GoesTo (word_for o) is (place o) t = subst (λ k. GoesTo (word_for o) is k t) op.4 (subst (λ w. GoesTo w is (size op.0) t) words g.1) in
         elim (order (size a) t) [ inl h ↦ (t, goes, low, h) | inr h ↦ absurd (high t goes h) ]
 

@@ -1,7 +1,7 @@
 -- Laws of cuts and of structure.
 use Rattle.std.proofs.Common.{◌≡◌, ◌⊎◌, inl, inr, ℕ, ◌+◌, List, [], ◌∷◌, ◌++◌, length, sym, ◌∙◌, ap, arith, append_assoc, subst, refl}
 use Rattle.std.specs.List.{AllByRecursion}
-use Rattle.tt_code.specs.declared.word.Word.{Word}
+use Rattle.tt_code.specs.declared.block_keyword.BlockKeyword.{BlockKeyword}
 use Rattle.tt_code.specs.Cut.{Instruction, IsInstruction, size, CannotBeCut}
 use Rattle.tt_code.specs.Grammar.{CanGoOn, IsStructured, IsFault, GoesTo, StandsAt}
 use Rattle.tt_code.proofs.CutLemmas.{size-append, size_more}
@@ -62,7 +62,7 @@ next_stands is k i s = go s.after s.whole
     )
 
 -- Where control goes there is an instruction, or the program ends.
-pub target_stands : (is : List Instruction) (w : Word) (k t : ℕ) → GoesTo w is k t → ((j : Instruction) × StandsAt is t j) ⊎ (t ≡ size is)
+pub target_stands : (is : List Instruction) (w : BlockKeyword) (k t : ℕ) → GoesTo w is k t → ((j : Instruction) × StandsAt is t j) ⊎ (t ≡ size is)
 target_stands is w k t g =
     let before = g.before ++ (g.i ∷ g.inner) in
     let s : StandsAt is (size before) g.e = record { before = before; after = g.after; whole = g.whole ∙ sym (append_assoc g.before (g.i ∷ g.inner) (g.e ∷ g.after)); offset = refl } in

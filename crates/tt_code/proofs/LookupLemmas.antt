@@ -2,11 +2,11 @@
 use Rattle.std.proofs.Common.{◌≡◌, ◌⊎◌, inl, inr, ℕ, List, [], ◌∷◌, ◌++◌, length, refl, sym, ◌∙◌, ap, arith, subst, Option, Some, None, false, zero-add}
 use Rattle.std.specs.Option.{IfSome, IfNone}
 use Rattle.std.specs.List.{AllByRecursion}
-use Rattle.tt_code.specs.declared.word.Word.{Word}
-use Rattle.tt_code.specs.declared.word.Word.TheVariants.{If, Else, Eif, Fdef, Idef, Endf, Other}
+use Rattle.tt_code.specs.declared.block_keyword.BlockKeyword.{BlockKeyword}
+use Rattle.tt_code.specs.declared.block_keyword.BlockKeyword.TheVariants.{If, Else, Eif, Fdef, Idef, Endf, Other}
 use Rattle.tt_code.specs.declared.machine.Body.{Body}
 use Rattle.tt_code.specs.Cut.{Instruction, IsInstruction, size}
-use Rattle.tt_code.specs.Structure.{word}
+use Rattle.tt_code.specs.Structure.{keyword}
 use Rattle.tt_code.specs.Grammar.{IsList, Ends, GoesTo, StandsAt}
 use Rattle.tt_code.specs.Pass.{step, steps}
 use Rattle.tt_code.specs.Slots.{target_found, Opens, IsTable}
@@ -49,8 +49,8 @@ compare (a ∷ x) z (b ∷ y) v e d h =
       ]
     ]
 
--- a word that ends a list is nowhere a list by itself
-ends_stuck : (w u : Word) (k : ℕ) → Ends w u → step u k [] ≡ None
+-- a keyword that ends a list is nowhere a list by itself
+ends_stuck : (w u : BlockKeyword) (k : ℕ) → Ends w u → step u k [] ≡ None
 ends_stuck If u k (inl h) = rw h refl
 ends_stuck If u k (inr h) = rw h refl
 ends_stuck Else u k h = rw h refl
@@ -60,7 +60,7 @@ ends_stuck Eif u k h = absurd h
 ends_stuck Endf u k h = absurd h
 ends_stuck Other u k h = absurd h
 
-pub ends_opens : (w u : Word) → Ends w u → Opens w
+pub ends_opens : (w u : BlockKeyword) → Ends w u → Opens w
 ends_opens If u h = tt
 ends_opens Else u h = tt
 ends_opens Fdef u h = tt
@@ -70,14 +70,14 @@ ends_opens Endf u h = absurd h
 ends_opens Other u h = absurd h
 
 -- No list goes on after a list with what ends one.
-no_list_longer : (w : Word) (x y r : List Instruction) (e : Instruction) → IsList false x → IsList false y → Ends w (word e) → y ≡ x ++ (e ∷ r) → ⊥
+no_list_longer : (w : BlockKeyword) (x y r : List Instruction) (e : Instruction) → IsList false x → IsList false y → Ends w (keyword e) → y ≡ x ++ (e ∷ r) → ⊥
 no_list_longer w x y r e lx ly h q =
     let whole : steps (x ++ (e ∷ r)) 0 [] ≡ Some [] = ap (λ y. steps y 0 []) (sym q) ∙ whole_steps ly in
-    let none : steps (x ++ (e ∷ r)) 0 [] ≡ None = steps-append x (e ∷ r) 0 [] ∙ rw (whole_steps lx, zero-add, ends_stuck w (word e) (size x) h) refl in
+    let none : steps (x ++ (e ∷ r)) 0 [] ≡ None = steps-append x (e ∷ r) 0 [] ∙ rw (whole_steps lx, zero-add, ends_stuck w (keyword e) (size x) h) refl in
     cc
 
 -- An instruction leads to one place.
-pub goes_same : (is : List Instruction) (w v : Word) (k s t : ℕ) → AllByRecursion IsInstruction is → GoesTo w is k s → GoesTo v is k t → s ≡ t
+pub goes_same : (is : List Instruction) (w v : BlockKeyword) (k s t : ℕ) → AllByRecursion IsInstruction is → GoesTo w is k s → GoesTo v is k t → s ≡ t
 goes_same is w v k s t each g h =
     let ok : AllByRecursion IsInstruction (g.before ++ (g.i ∷ (g.inner ++ (g.e ∷ g.after)))) = subst (λ x. AllByRecursion IsInstruction x) g.whole each in
     let p = same_place g.before (g.inner ++ (g.e ∷ g.after)) h.before (h.inner ++ (h.e ∷ h.after)) g.i h.i ok (sym g.whole ∙ h.whole) (g.from ∙ sym h.from) in
@@ -100,41 +100,41 @@ one_stands is k i j each s t =
     let same : Some i ≡ Some j = sym (stands_found is k i (each_bytes is each) s) ∙ stands_found is k j (each_bytes is each) t in cc
 
 -- an instruction that leads on is at its offset
-pub goes_stands : (w : Word) (is : List Instruction) (k t : ℕ) (g : GoesTo w is k t) → StandsAt is k g.i
+pub goes_stands : (w : BlockKeyword) (is : List Instruction) (k t : ℕ) (g : GoesTo w is k t) → StandsAt is k g.i
 goes_stands w is k t g = record { before = g.before; after = g.inner ++ (g.e ∷ g.after); whole = g.whole; offset = g.from }
 
 -- the target that is kept of an instruction is where it goes
 pub goes_found : (is : List Instruction) (in_body : List (Option Body)) (goes : List (Option ℕ)) (k t : ℕ) (i : Instruction) → AllByRecursion IsInstruction is →
-    IsTable is [] in_body goes → StandsAt is k i → target_found goes k ≡ Some t → GoesTo (word i) is k t
+    IsTable is [] in_body goes → StandsAt is k i → target_found goes k ≡ Some t → GoesTo (keyword i) is k t
 goes_found is in_body goes k t i each table stands at =
     let g = table.target_right k t at in
     let same : g.1.i ≡ i = one_stands is k g.1.i i each (goes_stands g.0 is k t g.1) stands in
-    subst (λ w. GoesTo w is k t) (sym g.1.opens ∙ ap word same) g.1
+    subst (λ w. GoesTo w is k t) (sym g.1.opens ∙ ap keyword same) g.1
 
 -- an opening instruction has its target
 pub goes_there : (is : List Instruction) (in_body : List (Option Body)) (goes : List (Option ℕ)) (k : ℕ) (i : Instruction) → IsTable is [] in_body goes → StandsAt is k i →
-    Opens (word i) → (t : ℕ) × (target_found goes k ≡ Some t)
+    Opens (keyword i) → (t : ℕ) × (target_found goes k ≡ Some t)
 goes_there is in_body goes k i table stands o =
     elim (table.target_there stands.before i stands.after stands.whole o) [
       | inl u ↦ (u.0, subst (λ x. target_found goes x ≡ Some u.0) stands.offset u.1)
       | inr u ↦ absurd u
     ]
 
-pub goes_only : (is : List Instruction) (in_body : List (Option Body)) (goes : List (Option ℕ)) (k t : ℕ) (w : Word) → AllByRecursion IsInstruction is →
+pub goes_only : (is : List Instruction) (in_body : List (Option Body)) (goes : List (Option ℕ)) (k t : ℕ) (w : BlockKeyword) → AllByRecursion IsInstruction is →
     IsTable is [] in_body goes → GoesTo w is k t → target_found goes k ≡ Some t
 goes_only is in_body goes k t w each table g =
-    let r = goes_there is in_body goes k g.i table (goes_stands w is k t g) (subst Opens (sym g.opens) (ends_opens w (word g.e) g.ends)) in
+    let r = goes_there is in_body goes k g.i table (goes_stands w is k t g) (subst Opens (sym g.opens) (ends_opens w (keyword g.e) g.ends)) in
     let h = table.target_right k r.0 r.1 in
     r.1 ∙ ap Some (goes_same is h.0 w k r.0 t each h.1 g)
 
 -- what a target that was looked up says
-pub target_found_is : (is : List Instruction) (in_body : List (Option Body)) (goes : List (Option ℕ)) (k : ℕ) (i : Instruction) (w : Word) (r : Option ℕ) → AllByRecursion IsInstruction is →
-    IsTable is [] in_body goes → StandsAt is k i → word i ≡ w → r ≡ target_found goes k → IfSome r (GoesTo w is k)
+pub target_found_is : (is : List Instruction) (in_body : List (Option Body)) (goes : List (Option ℕ)) (k : ℕ) (i : Instruction) (w : BlockKeyword) (r : Option ℕ) → AllByRecursion IsInstruction is →
+    IsTable is [] in_body goes → StandsAt is k i → keyword i ≡ w → r ≡ target_found goes k → IfSome r (GoesTo w is k)
 target_found_is is in_body goes k i w None each table stands same e = tt
 target_found_is is in_body goes k i w (Some t) each table stands same e = subst (λ w. GoesTo w is k t) same (goes_found is in_body goes k t i each table stands (sym e))
 
-pub target_none_is : (is : List Instruction) (in_body : List (Option Body)) (goes : List (Option ℕ)) (k : ℕ) (w : Word) (r : Option ℕ) → IsTable is [] in_body goes → Opens w →
-    r ≡ target_found goes k → IfNone r ((i : Instruction) → StandsAt is k i → word i ≡ w → ⊥)
+pub target_none_is : (is : List Instruction) (in_body : List (Option Body)) (goes : List (Option ℕ)) (k : ℕ) (w : BlockKeyword) (r : Option ℕ) → IsTable is [] in_body goes → Opens w →
+    r ≡ target_found goes k → IfNone r ((i : Instruction) → StandsAt is k i → keyword i ≡ w → ⊥)
 target_none_is is in_body goes k w None table o e = λ i stands same.
     let t = goes_there is in_body goes k i table stands (subst Opens (sym same) o) in
     let wrong : None ≡ Some t.0 = e ∙ t.1 in cc

@@ -1,8 +1,8 @@
 -- The grammar, read from the left with what is open.
 use Rattle.std.proofs.Common.{◌≡◌, ◌⊎◌, inl, inr, ℕ, ◌+◌, List, [], ◌∷◌, ◌++◌, length, refl, sym, ◌∙◌, ap, arith, add-zero, zero-add, append_assoc, Bool, true, false, Some, None, if◌then◌else◌, subst}
 use Rattle.std.proofs.lemmas.List.{append-nil}
-use Rattle.tt_code.specs.declared.word.Word.{Word}
-use Rattle.tt_code.specs.declared.word.Word.TheVariants.{If, Else, Eif, Fdef, Idef, Endf, Other}
+use Rattle.tt_code.specs.declared.block_keyword.BlockKeyword.{BlockKeyword}
+use Rattle.tt_code.specs.declared.block_keyword.BlockKeyword.TheVariants.{If, Else, Eif, Fdef, Idef, Endf, Other}
 use Rattle.tt_code.specs.declared.nest.Open.{Open}
 use Rattle.tt_code.specs.declared.nest.Open.TheVariants.{InIf, InElse, InFunction, InInstruction}
 use Rattle.tt_code.specs.Table.{effect_of}
@@ -10,14 +10,14 @@ use Rattle.tt_code.specs.Cut.{Instruction, IsInstruction, size}
 use Rattle.tt_code.specs.Pass.{inside_of, within, step, follow, steps, body_of, body_after, Head, Opened, Leaves}
 use Rattle.tt_code.specs.declared.machine.Body.TheVariants as body
 use Rattle.tt_code.proofs.CutLemmas.{size-append}
-use Rattle.tt_code.specs.Structure.{word}
+use Rattle.tt_code.specs.Structure.{keyword}
 use Rattle.tt_code.specs.Grammar.{IsDefinition, IsList, none, plain, if_eif, if_else_eif, definition, IsStructured, CanGoOn}
 
-pub steps_one : (i : Instruction) (is : List Instruction) (k : ℕ) (s t : List Open) → step (word i) k s ≡ Some t → steps (i ∷ is) k s ≡ steps is (k + length i) t
+pub steps_one : (i : Instruction) (is : List Instruction) (k : ℕ) (s t : List Open) → step (keyword i) k s ≡ Some t → steps (i ∷ is) k s ≡ steps is (k + length i) t
 steps_one i is k s t h = rw h refl
 
 -- the instructions that begin definitions
-pub defines : (w : Word) → IsDefinition w → (w ≡ Fdef) ⊎ (w ≡ Idef)
+pub defines : (w : BlockKeyword) → IsDefinition w → (w ≡ Fdef) ⊎ (w ≡ Idef)
 defines Fdef h = inl refl
 defines Idef h = inr refl
 defines If h = absurd h
@@ -26,7 +26,7 @@ defines Eif h = absurd h
 defines Endf h = absurd h
 defines Other h = absurd h
 
-pub defined_by : (w : Word) → (w ≡ Fdef) ⊎ (w ≡ Idef) → IsDefinition w
+pub defined_by : (w : BlockKeyword) → (w ≡ Fdef) ⊎ (w ≡ Idef) → IsDefinition w
 defined_by w (inl h) = rw h tt
 defined_by w (inr h) = rw h tt
 
@@ -53,7 +53,7 @@ steps_list (if_else_eif {i = i} {yes = a} l {otherwise = b} e {rest = r} hi la h
     ∙ ap (λ n. steps rest n s) (omega (arith, size-append a (l ∷ (b ++ (e ∷ r))), size-append b (e ∷ r)))
 steps_list (definition {d = d} {defined = a} e {rest = r} hd la he lr) s k rest w =
     ap (λ x. steps (d ∷ x) k s) (append_assoc a (e ∷ r) rest)
-    ∙ elim (defines (word d) hd) [
+    ∙ elim (defines (keyword d) hd) [
       | inl hf ↦
           steps_one d (a ++ (e ∷ (r ++ rest))) k s (InFunction k ∷ s) (rw (hf, w) refl)
           ∙ steps_list la (InFunction k ∷ s) (k + length d) (e ∷ (r ++ rest)) refl
@@ -87,14 +87,14 @@ pub Opened-open : (o : Open) (s : List Open) (p head : List Instruction) → Ope
 Opened-open o s p head below h = (p, head, [], below, h, none, ap (λ x. p ++ x) (sym (append-nil head)))
 
 -- the words that close
-abbrev pub Closes : Word → Open → Type 0
+abbrev pub Closes : BlockKeyword → Open → Type 0
 Closes w (InIf k) = w ≡ Eif
 Closes w (InElse k) = w ≡ Eif
 Closes w (InFunction k) = w ≡ Endf
 Closes w (InInstruction k) = w ≡ Endf
 
 -- what was opened, with what closes it, is an item
-pub Head-close : (o : Open) (inside : Bool) (at : ℕ) (head inner : List Instruction) (e : Instruction) → Head o inside at head → IsList (inside_of o inside) inner → Closes (word e) o → IsList inside (head ++ (inner ++ (e ∷ [])))
+pub Head-close : (o : Open) (inside : Bool) (at : ℕ) (head inner : List Instruction) (e : Instruction) → Head o inside at head → IsList (inside_of o inside) inner → Closes (keyword e) o → IsList inside (head ++ (inner ++ (e ∷ [])))
 Head-close (InIf k) inside at head inner e (i, hi, hk, eq) l c =
     subst (λ x. IsList inside (x ++ (inner ++ (e ∷ [])))) (sym eq) (if_eif e hi l c none)
 Head-close (InElse k) inside at head inner e (i, a, m, hi, la, hm, hk, eq) l c =
@@ -102,18 +102,18 @@ Head-close (InElse k) inside at head inner e (i, a, m, hi, la, hm, hk, eq) l c =
     (subst (λ x. IsList inside (i ∷ x)) (sym (append_assoc a (m ∷ []) (inner ++ (e ∷ [])))) (if_else_eif m e hi la hm l c none))
 Head-close (InFunction k) inside at head inner e (d, hd, hf, hk, eq) l c =
     subst (λ x. IsList inside (x ++ (inner ++ (e ∷ [])))) (sym eq)
-    (subst (λ b. IsList b (d ∷ (inner ++ (e ∷ [])))) (sym hf) (definition e (defined_by (word d) (inl hd)) l c none))
+    (subst (λ b. IsList b (d ∷ (inner ++ (e ∷ [])))) (sym hf) (definition e (defined_by (keyword d) (inl hd)) l c none))
 Head-close (InInstruction k) inside at head inner e (d, hd, hf, hk, eq) l c =
     subst (λ x. IsList inside (x ++ (inner ++ (e ∷ [])))) (sym eq)
-    (subst (λ b. IsList b (d ∷ (inner ++ (e ∷ [])))) (sym hf) (definition e (defined_by (word d) (inr hd)) l c none))
+    (subst (λ b. IsList b (d ∷ (inner ++ (e ∷ [])))) (sym hf) (definition e (defined_by (keyword d) (inr hd)) l c none))
 
-pub Opened-close : (o : Open) (s : List Open) (p : List Instruction) (e : Instruction) → Opened (o ∷ s) p → Closes (word e) o → Opened s (p ++ (e ∷ []))
+pub Opened-close : (o : Open) (s : List Open) (p : List Instruction) (e : Instruction) → Opened (o ∷ s) p → Closes (keyword e) o → Opened s (p ++ (e ∷ []))
 Opened-close o s p e (outer, head, inner, below, h, l, eq) c =
     let item = Head-close o (within s) (size outer) head inner e h l c in
     subst (λ x. Opened s x) (sym (ap (λ x. x ++ (e ∷ [])) eq ∙ append_assoc outer (head ++ inner) (e ∷ []) ∙ ap (λ x. outer ++ x) (append_assoc head inner (e ∷ []))))
     (Opened-extend s outer (head ++ (inner ++ (e ∷ []))) below item)
 
-pub Opened-else : (k : ℕ) (s : List Open) (p : List Instruction) (l : Instruction) → Opened (InIf k ∷ s) p → word l ≡ Else → Opened (InElse (size p) ∷ s) (p ++ (l ∷ []))
+pub Opened-else : (k : ℕ) (s : List Open) (p : List Instruction) (l : Instruction) → Opened (InIf k ∷ s) p → keyword l ≡ Else → Opened (InElse (size p) ∷ s) (p ++ (l ∷ []))
 Opened-else k s p l (outer, head, inner, below, (i, hi, hk, eh), m, eq) hl =
     let shape : p ≡ outer ++ (i ∷ inner) = eq ∙ ap (λ x. outer ++ (x ++ inner)) eh in (
       outer,
@@ -128,7 +128,7 @@ Opened-else k s p l (outer, head, inner, below, (i, hi, hk, eh), m, eq) hl =
 pub steps-append : (is js : List Instruction) (k : ℕ) (s : List Open) → steps (is ++ js) k s ≡ follow (steps is k s) (λ t. steps js (k + size is) t)
 steps-append [] js k s = rw add-zero refl
 steps-append (i ∷ is) js k s =
-    elim (step (word i) k s) as (λ o. follow o (λ t. steps (is ++ js) (k + length i) t) ≡ follow (follow o (λ t. steps is (k + length i) t)) (λ t. steps js (k + (length i + size is)) t)) [
+    elim (step (keyword i) k s) as (λ o. follow o (λ t. steps (is ++ js) (k + length i) t) ≡ follow (follow o (λ t. steps is (k + length i) t)) (λ t. steps js (k + (length i + size is)) t)) [
       | None ↦ refl
       | Some t ↦ steps-append is js (k + length i) t ∙ ap (λ n. follow (steps is (k + length i) t) (λ u. steps js n u)) (omega arith)
     ]
@@ -140,7 +140,7 @@ pub within-false : (b : Bool) (o : Open) (s t : List Open) → (if b then None e
 within-false true o s t h = cc
 within-false false o s t h = (refl, cc)
 
-Opened-step : (w : Word) (s t : List Open) (p : List Instruction) (i : Instruction) → Opened s p → word i ≡ w → step w (size p) s ≡ Some t → Opened t (p ++ (i ∷ []))
+Opened-step : (w : BlockKeyword) (s t : List Open) (p : List Instruction) (i : Instruction) → Opened s p → keyword i ≡ w → step w (size p) s ≡ Some t → Opened t (p ++ (i ∷ []))
 Opened-step Other s t p i h hw e = let q : s ≡ t = cc in subst (λ x. Opened x (p ++ (i ∷ []))) q (Opened-extend s p (i ∷ []) h (plain hw none))
 Opened-step If s t p i h hw e = let q : InIf (size p) ∷ s ≡ t = cc in subst (λ x. Opened x (p ++ (i ∷ []))) q (Opened-open (InIf (size p)) s p (i ∷ []) h (i, hw, refl, refl))
 Opened-step Else [] t p i h hw e = cc
@@ -165,9 +165,9 @@ Opened-step Endf (InElse k ∷ s) t p i h hw e = cc
 Opened-step Endf (InFunction k ∷ s) t p i h hw e = let q : s ≡ t = cc in subst (λ x. Opened x (p ++ (i ∷ []))) q (Opened-close (InFunction k) s p i h hw)
 Opened-step Endf (InInstruction k ∷ s) t p i h hw e = let q : s ≡ t = cc in subst (λ x. Opened x (p ++ (i ∷ []))) q (Opened-close (InInstruction k) s p i h hw)
 
-pub Leaves-step : (p : List Instruction) (s t : List Open) (i : Instruction) → Leaves p s → step (word i) (size p) s ≡ Some t → Leaves (p ++ (i ∷ [])) t
+pub Leaves-step : (p : List Instruction) (s t : List Open) (i : Instruction) → Leaves p s → step (keyword i) (size p) s ≡ Some t → Leaves (p ++ (i ∷ [])) t
 Leaves-step p s t i h e = record {
-  opened = Opened-step (word i) s t p i h.opened refl e;
+  opened = Opened-step (keyword i) s t p i h.opened refl e;
   stepped = steps-append p (i ∷ []) 0 [] ∙ rw (h.stepped, zero-add, e) refl;
 }
 
@@ -178,8 +178,8 @@ closing (InElse k) = 0x59 ∷ []
 closing (InFunction k) = 0x2d ∷ []
 closing (InInstruction k) = 0x2d ∷ []
 
-closing-closes : (o : Open) → Closes (word (closing o)) o
-unfolding closing word
+closing-closes : (o : Open) → Closes (keyword (closing o)) o
+unfolding closing keyword
 closing-closes (InIf k) = refl
 closing-closes (InElse k) = refl
 closing-closes (InFunction k) = refl
@@ -202,7 +202,7 @@ goes_on (o ∷ s) p h =
 pub whole_steps : {is : List Instruction} → IsList false is → steps is 0 [] ≡ Some []
 whole_steps {is} h = ap (λ x. steps x 0 []) (sym (append-nil is)) ∙ steps_list h [] 0 [] refl
 
-pub cannot_go_on : (p : List Instruction) (s : List Open) (i : Instruction) → Leaves p s → step (word i) (size p) s ≡ None → CanGoOn (p ++ (i ∷ [])) → ⊥
+pub cannot_go_on : (p : List Instruction) (s : List Open) (i : Instruction) → Leaves p s → step (keyword i) (size p) s ≡ None → CanGoOn (p ++ (i ∷ [])) → ⊥
 cannot_go_on p s i h e (rest, ok, l) =
     let whole = whole_steps l in
     let first = steps-append (p ++ (i ∷ [])) rest 0 [] in
@@ -236,8 +236,8 @@ within_main (InElse k ∷ s) h = within_main s h
 within_main (InFunction k ∷ s) h = cc
 within_main (InInstruction k ∷ s) h = cc
 
--- the body after a word
-pub body_step : (w : Word) (k : ℕ) (s t : List Open) (p : List Instruction) → Opened s p → step w k s ≡ Some t → body_after (body_of s) w k ≡ body_of t
+-- the body after a keyword
+pub body_step : (w : BlockKeyword) (k : ℕ) (s t : List Open) (p : List Instruction) → Opened s p → step w k s ≡ Some t → body_after (body_of s) w k ≡ body_of t
 body_step Other k s t p h e = cc
 body_step If k s t p h e = let q : InIf k ∷ s ≡ t = cc in ap body_of q
 body_step Else k [] t p h e = cc

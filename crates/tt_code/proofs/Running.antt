@@ -5,7 +5,7 @@ use Rattle.std.specs.Prelude.{ℤ, pos, negsuc, true, false, map, option_map, na
 use Rattle.tt_code.specs.Refusals.{Tested}
 use Rattle.tt_code.specs.Table.{effect_of, name_of}
 use Rattle.tt_code.specs.Cut.{Instruction, data_length, instruction_at}
-use Rattle.tt_code.specs.Structure.{word, after_if, after_else, after_fdef, body_at}
+use Rattle.tt_code.specs.Structure.{keyword, after_if, after_else, after_fdef, body_at}
 use Rattle.tt_code.specs.Settings.{Setting, Kind, FontProgram, CvtProgram, GlyphProgram, ZoneNumber, One, CVT_BODIES}
 use Rattle.tt_code.specs.States.{Machine, default_graphics}
 use Rattle.tt_code.specs.Runs.{outcome, is_at_end, left_by}
@@ -38,7 +38,7 @@ pub data Ending : Type 0 where
 
 -- where a run comes to after at most so many steps, with this number taken where any may be pushed
 unfoldable pub run : ℤ → ℕ → Setting → Machine → Ending
-unfolding outcome effect_of word
+unfolding outcome effect_of keyword
 run any zero s m = Running m
 run any (suc n) s m =
     let more = run any n s in
@@ -176,7 +176,7 @@ abbrev pub before : Graphics ℤ ZoneNumber → List ℤ → Machine
 before g stack = record (start []) { stack = stack; registers = record (start []).registers { graphics = g } }
 
 unfoldable pub performed : Limits → Graphics ℤ ZoneNumber → List ℤ → ℕ → Tested Seen
-unfolding outcome effect_of word
+unfolding outcome effect_of keyword
 performed limits g stack code = elim (outcome (alone limits code) (before g stack)) [
   | Ok o ↦ Ok (seen (left_by o (λ i. pos 7)))
   | Err r ↦ Err r
@@ -272,19 +272,19 @@ each_is_named names =
 -- Structure, by offsets.
 
 unfoldable pub if_leads : List ℕ → ℕ → Option ℕ
-unfolding cut_within word
+unfolding cut_within keyword
 if_leads bytes offset = after_if (cut_of bytes) offset
 
 unfoldable pub else_leads : List ℕ → ℕ → Option ℕ
-unfolding cut_within word
+unfolding cut_within keyword
 else_leads bytes offset = after_else (cut_of bytes) offset
 
 unfoldable pub definition_leads : List ℕ → ℕ → Option ℕ
-unfolding cut_within word
+unfolding cut_within keyword
 definition_leads bytes offset = after_fdef (cut_of bytes) offset
 
 unfoldable pub body_of_offset : List ℕ → ℕ → Option Body
-unfolding cut_within word
+unfolding cut_within keyword
 body_of_offset bytes offset = body_at (cut_of bytes) offset
 
 unfoldable pub instruction_of_offset : List ℕ → ℕ → Option Instruction
@@ -293,7 +293,7 @@ instruction_of_offset bytes offset = instruction_at (cut_of bytes) offset
 
 -- the fault of a font program that is at an offset, with the empty stack
 unfoldable pub fault_at : List ℕ → List Frame → ℕ → Option Reason
-unfolding outcome cut_within word
+unfolding outcome cut_within keyword
 fault_at bytes frames offset =
     elim (outcome (font_setting (font_of usual_limits bytes [])) (record (start []) { frames = frames; offset = offset })) [
       | Ok o ↦ None

@@ -4,13 +4,13 @@ use Rattle.std.specs.List.{AllByRecursion}
 use Rattle.std.proofs.Common.{length-append}
 use Rattle.std.proofs.lemmas.List.{length-set, length-replicate, length-map, map-append, map-set, take_all}
 use Rattle.std.proofs.Math.Seq.{map-set_same}
-use Rattle.tt_code.specs.declared.word.Word.{Word}
-use Rattle.tt_code.specs.declared.word.Word.TheVariants.{If, Else, Eif, Fdef, Idef, Endf, Other}
+use Rattle.tt_code.specs.declared.block_keyword.BlockKeyword.{BlockKeyword}
+use Rattle.tt_code.specs.declared.block_keyword.BlockKeyword.TheVariants.{If, Else, Eif, Fdef, Idef, Endf, Other}
 use Rattle.tt_code.specs.declared.nest.Open.{Open}
 use Rattle.tt_code.specs.declared.nest.Open.TheVariants.{InIf, InElse, InFunction, InInstruction}
 use Rattle.tt_code.specs.declared.slot.Slot.{Slot}
 use Rattle.tt_code.specs.Cut.{Instruction, IsInstruction, size}
-use Rattle.tt_code.specs.Structure.{word, word_of}
+use Rattle.tt_code.specs.Structure.{keyword, word_of}
 use Rattle.tt_code.specs.Grammar.{CanGoOn, IsList, none, plain, if_eif, if_else_eif, definition, Ends, begins_definition, GoesTo}
 use Rattle.tt_code.specs.Pass.{within, step, body_of, body_after, closed, Opened, Leaves}
 use Rattle.tt_code.specs.declared.machine.Body.{Body}
@@ -87,7 +87,7 @@ set_keeps (x ∷ xs) (suc c) zero v t h = (t, h)
 set_keeps (x ∷ xs) (suc c) (suc k) v t h = set_keeps xs c k v t h
 
 -- An instruction that leads on leads on in a longer program too.
-pub GoesTo-append : (w : Word) (p q : List Instruction) (k t : ℕ) → GoesTo w p k t → GoesTo w (p ++ q) k t
+pub GoesTo-append : (w : BlockKeyword) (p q : List Instruction) (k t : ℕ) → GoesTo w p k t → GoesTo w (p ++ q) k t
 GoesTo-append w p q k t g = record {
   before = g.before;
   i = g.i;
@@ -107,9 +107,9 @@ pub each_split : (a b : List Instruction) (i : Instruction) → AllByRecursion I
 each_split [] b i h = h.0
 each_split (x ∷ a) b i h = each_split a b i h.1
 
--- what a closing word closes
+-- what a closing keyword closes
 closed_if : (k : ℕ) (s : List Open) (p : List Instruction) (j : Instruction) → AllByRecursion IsInstruction p → Opened (InIf k ∷ s) p →
-    (word j ≡ Else) ⊎ (word j ≡ Eif) → GoesTo If (p ++ (j ∷ [])) k (size p + length j) × (k < size p)
+    (keyword j ≡ Else) ⊎ (keyword j ≡ Eif) → GoesTo If (p ++ (j ∷ [])) k (size p + length j) × (k < size p)
 closed_if k s p j each (outer, head, inner, below, (i, hi, hk, eh), l, eq) w =
     let shape : p ≡ outer ++ (i ∷ inner) = eq ∙ ap (λ x. outer ++ (x ++ inner)) eh in
     let long : size p ≡ size outer + (length i + size inner) = ap size shape ∙ size-append outer (i ∷ inner) in
@@ -132,7 +132,7 @@ closed_if k s p j each (outer, head, inner, below, (i, hi, hk, eh), l, eq) w =
     )
 
 closed_else : (k : ℕ) (s : List Open) (p : List Instruction) (j : Instruction) → AllByRecursion IsInstruction p → Opened (InElse k ∷ s) p →
-    word j ≡ Eif → GoesTo Else (p ++ (j ∷ [])) k (size p + length j) × (k < size p)
+    keyword j ≡ Eif → GoesTo Else (p ++ (j ∷ [])) k (size p + length j) × (k < size p)
 closed_else k s p j each (outer, head, inner, below, (i, a, m, hi, la, hm, hk, eh), l, eq) w =
     let shape : p ≡ (outer ++ (i ∷ a)) ++ (m ∷ inner) =
     eq ∙ ap (λ x. outer ++ (x ++ inner)) eh ∙ ap (λ x. outer ++ (i ∷ x)) (append_assoc a (m ∷ []) inner) ∙ sym (append_assoc outer (i ∷ a) (m ∷ inner)) in
@@ -156,8 +156,8 @@ closed_else k s p j each (outer, head, inner, below, (i, a, m, hi, la, hm, hk, e
       omega arith,
     )
 
-closed_definition : (o : Open) (w : Word) (k : ℕ) (outer inner p : List Instruction) (d j : Instruction) → AllByRecursion IsInstruction p → p ≡ outer ++ (d ∷ inner) →
-    word d ≡ w → IsList (begins_definition w) inner → Ends w (word j) → k ≡ size outer → GoesTo w (p ++ (j ∷ [])) k (size p + length j) × (k < size p)
+closed_definition : (o : Open) (w : BlockKeyword) (k : ℕ) (outer inner p : List Instruction) (d j : Instruction) → AllByRecursion IsInstruction p → p ≡ outer ++ (d ∷ inner) →
+    keyword d ≡ w → IsList (begins_definition w) inner → Ends w (keyword j) → k ≡ size outer → GoesTo w (p ++ (j ∷ [])) k (size p + length j) × (k < size p)
 closed_definition o w k outer inner p d j each shape hd l e hk =
     let long : size p ≡ size outer + (length d + size inner) = ap size shape ∙ size-append outer (d ∷ inner) in
     let ok : AllByRecursion IsInstruction (outer ++ (d ∷ inner)) = subst (λ x. AllByRecursion IsInstruction x) shape each in
@@ -179,9 +179,9 @@ closed_definition o w k outer inner p d j each shape hd l e hk =
     )
 
 abbrev pub Led : List Instruction → Instruction → ℕ → Type 0
-Led p j c = (w : Word) × GoesTo w (p ++ (j ∷ [])) c (size p + length j) × (c < size p)
+Led p j c = (w : BlockKeyword) × GoesTo w (p ++ (j ∷ [])) c (size p + length j) × (c < size p)
 
-pub closed_goes : (w : Word) (s t : List Open) (p : List Instruction) (j : Instruction) (c : ℕ) → AllByRecursion IsInstruction p → Opened s p → word j ≡ w →
+pub closed_goes : (w : BlockKeyword) (s t : List Open) (p : List Instruction) (j : Instruction) (c : ℕ) → AllByRecursion IsInstruction p → Opened s p → keyword j ≡ w →
     step w (size p) s ≡ Some t → closed w s ≡ Some c → Led p j c
 closed_goes Else (InIf k ∷ s) t p j c each h hw st cl =
     let q : k ≡ c = cc in subst (λ c. Led p j c) q (let r = closed_if k s p j each h (inl hw) in (If, r.0, r.1))
@@ -213,7 +213,7 @@ closed_goes Idef s t p j c each h hw st cl = cc
 closed_goes Other s t p j c each h hw st cl = cc
 
 -- What was open stays open or is closed.
-pub step_open : (w : Word) (k m : ℕ) (s t : List Open) → step w k s ≡ Some t → IsOpenAt m s → (closed w s ≡ Some m) ⊎ IsOpenAt m t
+pub step_open : (w : BlockKeyword) (k m : ℕ) (s t : List Open) → step w k s ≡ Some t → IsOpenAt m s → (closed w s ≡ Some m) ⊎ IsOpenAt m t
 step_open Other k m s t e o = let q : s ≡ t = cc in inr (subst (λ x. IsOpenAt m x) q o)
 step_open If k m s t e o = let q : InIf k ∷ s ≡ t = cc in inr (subst (λ x. IsOpenAt m x) q (inr o))
 step_open Else k m [] t e o = cc
@@ -239,8 +239,8 @@ step_open Endf k m (InFunction j ∷ s) t e (inr h) = let q : s ≡ t = cc in in
 step_open Endf k m (InInstruction j ∷ s) t e (inl h) = inl (ap Some h)
 step_open Endf k m (InInstruction j ∷ s) t e (inr h) = let q : s ≡ t = cc in inr (subst (λ x. IsOpenAt m x) q h)
 
--- A word that leads on is open after itself.
-pub step_opens : (w : Word) (k : ℕ) (s t : List Open) → step w k s ≡ Some t → Opens w → IsOpenAt k t
+-- A keyword that leads on is open after itself.
+pub step_opens : (w : BlockKeyword) (k : ℕ) (s t : List Open) → step w k s ≡ Some t → Opens w → IsOpenAt k t
 step_opens If k s t e h = let q : InIf k ∷ s ≡ t = cc in subst (λ x. IsOpenAt k x) q (inl refl)
 step_opens Else k [] t e h = cc
 step_opens Else k (InIf j ∷ s) t e h = let q : InElse k ∷ s ≡ t = cc in subst (λ x. IsOpenAt k x) q (inl refl)
@@ -253,7 +253,7 @@ step_opens Eif k s t e h = absurd h
 step_opens Endf k s t e h = absurd h
 step_opens Other k s t e h = absurd h
 
--- the targets, after a closing word has led one on
+-- the targets, after a closing keyword has led one on
 abbrev pub Linked : Option ℕ → ℕ → List (Option ℕ) → List (Option ℕ) → Type 0
 Linked None to old now = now ≡ old
 Linked (Some c) to old now = now ≡ set old c (Some to)
@@ -294,13 +294,13 @@ Table-start = record {
 }
 
 pub Table-step : (p : List Instruction) (s t : List Open) (j : Instruction) (in_body : List (Option Body)) (goes now : List (Option ℕ)) (m : ℕ) →
-    AllByRecursion IsInstruction p → Leaves p s → IsTable p s in_body goes → step (word j) (size p) s ≡ Some t → suc m ≡ length j →
-    Linked (closed (word j) s) (size p + length j) goes now →
+    AllByRecursion IsInstruction p → Leaves p s → IsTable p s in_body goes → step (keyword j) (size p) s ≡ Some t → suc m ≡ length j →
+    Linked (closed (keyword j) s) (size p + length j) goes now →
     IsTable (p ++ (j ∷ [])) t (in_body ++ (Some (body_of s) ∷ replicate m None)) (now ++ replicate (length j) None)
 Table-step p s t j in_body goes now m each leaves table st hm linked =
     record {
       bodies_long = length-append in_body (Some (body_of s) ∷ replicate m None) ∙ omega (arith, table.bodies_long, length-replicate {A = Option Body} m None, size_more p j);
-      targets_long = length-append now (replicate (length j) None) ∙ omega (arith, table.targets_long, length-replicate {A = Option ℕ} (length j) None, size_more p j, linked_long (closed (word j) s) to goes now linked);
+      targets_long = length-append now (replicate (length j) None) ∙ omega (arith, table.targets_long, length-replicate {A = Option ℕ} (length j) None, size_more p j, linked_long (closed (keyword j) s) to goes now linked);
       rows = λ a i b e. elim (snoc_split p a b i j e) [
         | inl r ↦ (s, rw r.0 leaves.stepped, rw (r.0, ← table.bodies_long) (at_seam in_body (replicate m None) (Some (body_of s))))
         | inr r ↦ let row = table.rows a i r.0 r.1 in (row.0, row.1, found_append in_body (Some (body_of s) ∷ replicate m None) (size a) _ row.2)
@@ -309,18 +309,18 @@ Table-step p s t j in_body goes now m each leaves table st hm linked =
         | inl r ↦ let o = table.starts k b r in (o.0, o.1, o.2 ++ (j ∷ []), ap (λ x. x ++ (j ∷ [])) o.3 ∙ append_assoc o.0 (o.1 ∷ o.2) (j ∷ []), o.4)
         | inr r ↦ (p, j, [], refl, sym (r ∙ table.bodies_long))
       ];
-      target_right = λ k u e. elim (linked_from (closed (word j) s) to goes now k u linked (found_none now (length j) k u e)) [
+      target_right = λ k u e. elim (linked_from (closed (keyword j) s) to goes now k u linked (found_none now (length j) k u e)) [
         | inl r ↦ let g = table.target_right k u r in (g.0, GoesTo-append g.0 p (j ∷ []) k u g.1)
-        | inr r ↦ let g = closed_goes (word j) s t p j k each leaves.opened refl st r.0 in (g.0, subst (λ x. GoesTo g.0 (p ++ (j ∷ [])) k x) (sym r.1) g.1)
+        | inr r ↦ let g = closed_goes (keyword j) s t p j k each leaves.opened refl st r.0 in (g.0, subst (λ x. GoesTo g.0 (p ++ (j ∷ [])) k x) (sym r.1) g.1)
       ];
       target_there = λ a i b e o. elim (snoc_split p a b i j e) [
-        | inl r ↦ inr (rw r.0 (step_opens (word j) (size p) s t st (subst (λ x. Opens (word x)) r.1 o)))
+        | inl r ↦ inr (rw r.0 (step_opens (keyword j) (size p) s t st (subst (λ x. Opens (keyword x)) r.1 o)))
         | inr r ↦ elim (table.target_there a i r.0 r.1 o) [
-          | inl u ↦ let v = linked_keeps (closed (word j) s) to goes now (size a) u.0 linked u.1 in inl (v.0, found_append now (replicate (length j) None) (size a) v.0 v.1)
-          | inr u ↦ elim (step_open (word j) (size p) (size a) s t st u) [
+          | inl u ↦ let v = linked_keeps (closed (keyword j) s) to goes now (size a) u.0 linked u.1 in inl (v.0, found_append now (replicate (length j) None) (size a) v.0 v.1)
+          | inr u ↦ elim (step_open (keyword j) (size p) (size a) s t st u) [
             | inl q ↦
-                let g = closed_goes (word j) s t p j (size a) each leaves.opened refl st q in
-                let v = linked_there (closed (word j) s) to (size a) goes now linked q (omega (arith, g.2, table.targets_long)) in
+                let g = closed_goes (keyword j) s t p j (size a) each leaves.opened refl st q in
+                let v = linked_there (closed (keyword j) s) to (size a) goes now linked q (omega (arith, g.2, table.targets_long)) in
                 inl (v.0, found_append now (replicate (length j) None) (size a) v.0 v.1)
             | inr q ↦ inr q
           ]
@@ -331,8 +331,8 @@ Table-step p s t j in_body goes now m each leaves table st hm linked =
     to : ℕ
     to = size p + length j
 
-pub word_is : (i : Instruction) (w : Word) → 0 < length i → w ≡ word_of (slice_index i 0) → word i ≡ w
-unfolding word
+pub word_is : (i : Instruction) (w : BlockKeyword) → 0 < length i → w ≡ word_of (slice_index i 0) → keyword i ≡ w
+unfolding keyword
 word_is [] w h e = absurd (omega arith)
 word_is (code ∷ rest) w h e = sym e
 
@@ -340,12 +340,12 @@ word_is (code ∷ rest) w h e = sym e
 pub read_size : (p : List Instruction) (s : List Open) (b : Body) (slots : List Slot) → IsRead p s b slots → length slots ≡ size p
 read_size p s b slots r = sym (length-map slots body_in) ∙ r.table.bodies_long
 
-pub read_refused : (p : List Instruction) (k : ℕ) (s : List Open) (b : Body) (slots : List Slot) (j : Instruction) (w : Word) →
+pub read_refused : (p : List Instruction) (k : ℕ) (s : List Open) (b : Body) (slots : List Slot) (j : Instruction) (w : BlockKeyword) →
     IsRead p s b slots → length slots ≡ k → IsInstruction j → w ≡ word_of (slice_index j 0) → step w k s ≡ None → CanGoOn (p ++ (j ∷ [])) → ⊥
 read_refused p k s b slots j w r hk hj hw st =
     cannot_go_on p s j r.leaves (rw (word_is j w (some_bytes j hj) hw, sym (read_size p s b slots r) ∙ hk) st)
 
-pub read_closed : (p : List Instruction) (k : ℕ) (s t : List Open) (b : Body) (slots : List Slot) (j : Instruction) (w : Word) (c : ℕ) →
+pub read_closed : (p : List Instruction) (k : ℕ) (s t : List Open) (b : Body) (slots : List Slot) (j : Instruction) (w : BlockKeyword) (c : ℕ) →
     IsRead p s b slots → length slots ≡ k → IsInstruction j → w ≡ word_of (slice_index j 0) → step w k s ≡ Some t → closed w s ≡ Some c → c < length slots
 read_closed p k s t b slots j w c r hk hj hw st cl =
     let long = read_size p s b slots r in
@@ -356,7 +356,7 @@ read_closed p k s t b slots j w c r hk hj hw st cl =
 abbrev pub retarget : Slot → ℕ → Slot
 retarget slot to = record { target = to; first = slot.first; length = slot.length; kind = slot.kind }
 
--- the slots, after a closing word has led one on
+-- the slots, after a closing keyword has led one on
 abbrev pub Targeted : Option ℕ → ℕ → List Slot → List Slot → Type 0
 Targeted None to old now = now ≡ old
 Targeted (Some c) to old now = now ≡ set old c (retarget (get_or old c inside) to)
@@ -394,7 +394,7 @@ map-replicate f (suc n) a = ap (λ xs. f a ∷ xs) (map-replicate f n a)
 map-grown : {B : Type 0} (f : Slot → B) (mid : List Slot) (slot : Slot) (m : ℕ) → map f (mid ++ (slot ∷ replicate m inside)) ≡ map f mid ++ (f slot ∷ replicate m (f inside))
 map-grown f mid slot m = map-append f mid (slot ∷ replicate m inside) ∙ ap (λ xs. map f mid ++ (f slot ∷ xs)) (map-replicate f m inside)
 
-pub read_more : (p : List Instruction) (k : ℕ) (s t : List Open) (b b' : Body) (slots mid now : List Slot) (slot : Slot) (j : Instruction) (w : Word) →
+pub read_more : (p : List Instruction) (k : ℕ) (s t : List Open) (b b' : Body) (slots mid now : List Slot) (slot : Slot) (j : Instruction) (w : BlockKeyword) →
     IsRead p s b slots → length slots ≡ k → IsInstruction j → w ≡ word_of (slice_index j 0) → step w k s ≡ Some t →
     Targeted (closed w s) (k + length j) slots mid → b' ≡ body_after b w k →
     slot.length ≡ length j → body_in slot ≡ Some b → target_in slot ≡ None →
@@ -403,10 +403,10 @@ pub read_more : (p : List Instruction) (k : ℕ) (s t : List Open) (b b' : Body)
 read_more p k s t b b' slots mid now slot j w r hk hj hw st moved hb slot_length slot_body slot_target hn =
     let some = some_bytes j hj in
     let here : size p ≡ k = sym (read_size p s b slots r) ∙ hk in
-    let is : word j ≡ w = word_is j w some hw in
-    let step_is : step (word j) (size p) s ≡ Some t = rw (is, here) st in
+    let is : keyword j ≡ w = word_is j w some hw in
+    let step_is : step (keyword j) (size p) s ≡ Some t = rw (is, here) st in
     let linked : Linked (closed w s) (k + length j) (targets slots) (targets mid) = targeted_linked (closed w s) (k + length j) slots mid (omega arith) moved in
-    let linked_is : Linked (closed (word j) s) (size p + length j) (targets slots) (targets mid) = rw (is, here) linked in
+    let linked_is : Linked (closed (keyword j) s) (size p + length j) (targets slots) (targets mid) = rw (is, here) linked in
     let count : suc (length j - 1) ≡ length j = omega arith in
     let table = Table-step p s t j (bodies slots) (targets slots) (targets mid) (length j - 1) r.each r.leaves r.table step_is count linked_is in
     let bodies_are : bodies now ≡ bodies slots ++ (Some (body_of s) ∷ replicate (length j - 1) None) =

@@ -6,10 +6,10 @@ use Rattle.std.proofs.lemmas.Bool.{eqb-true, eq-eqb, ne_eqb}
 use Rattle.tt_code.specs.Cut.{Instruction, IsInstruction, size}
 use Rattle.tt_code.specs.Table.{effect_of}
 use Rattle.tt_code.specs.Slots.{Opens}
-use Rattle.tt_code.specs.Structure.{word, word_of, body_behind, body_from, body_at}
+use Rattle.tt_code.specs.Structure.{keyword, word_of, body_behind, body_from, body_at}
 use Rattle.tt_code.specs.Grammar.{IsDefinition, IsList, none, plain, if_eif, if_else_eif, definition, IsStructured, StandsAt, Ends, begins_definition, GoesTo, InDefinition, IsBodyAt}
-use Rattle.tt_code.specs.declared.word.Word.{Word}
-use Rattle.tt_code.specs.declared.word.Word.TheVariants.{If, Else, Eif, Fdef, Idef, Endf, Other}
+use Rattle.tt_code.specs.declared.block_keyword.BlockKeyword.{BlockKeyword}
+use Rattle.tt_code.specs.declared.block_keyword.BlockKeyword.TheVariants.{If, Else, Eif, Fdef, Idef, Endf, Other}
 use Rattle.tt_code.specs.declared.machine.Body.{Body}
 use Rattle.tt_code.specs.declared.machine.Body.TheVariants as body
 use Rattle.tt_code.proofs.CutLemmas.{size-append}
@@ -17,7 +17,7 @@ use Rattle.tt_code.proofs.StructureLaws.{HasBytes, each_bytes, each_before, each
 
 -- FDEF and IDEF have no operands.
 
-one_of : (b : Bool) (x y : Word) → IsDefinition (if b then x else y) → ((b ≡ true) × IsDefinition x) ⊎ IsDefinition y
+one_of : (b : Bool) (x y : BlockKeyword) → IsDefinition (if b then x else y) → ((b ≡ true) × IsDefinition x) ⊎ IsDefinition y
 one_of true x y d = inl (refl, d)
 one_of false x y d = inr d
 
@@ -47,8 +47,8 @@ idef_alone : (rest : List ℕ) → IsInstruction (0x89 ∷ rest) → length rest
 unfolding effect_of
 idef_alone rest h = let e : Some 0 ≡ Some (length rest) = h in cc
 
-pub definition_length : (i : Instruction) → IsInstruction i → IsDefinition (word i) → length i ≡ 1
-unfolding word
+pub definition_length : (i : Instruction) → IsInstruction i → IsDefinition (keyword i) → length i ≡ 1
+unfolding keyword
 definition_length [] h d = absurd h
 definition_length (code ∷ rest) h d = elim (definition_code code d) [
   | inl e ↦ let n = fdef_alone rest (subst (λ c. IsInstruction (c ∷ rest)) e h) in omega arith
@@ -57,19 +57,19 @@ definition_length (code ∷ rest) h d = elim (definition_code code d) [
 
 -- FDEF, IDEF and ENDF begin and end bodies, and nothing else does.
 
-abbrev pub KeepsBody : Word → Type 0
+abbrev pub KeepsBody : BlockKeyword → Type 0
 KeepsBody Fdef = ⊥
 KeepsBody Idef = ⊥
 KeepsBody Endf = ⊥
 KeepsBody _ = Unit {0}
 
 abbrev pub Keeps : Instruction → Type 0
-Keeps i = KeepsBody (word i)
+Keeps i = KeepsBody (keyword i)
 
-keeps_word : (i : Instruction) (w : Word) → word i ≡ w → KeepsBody w → Keeps i
+keeps_word : (i : Instruction) (w : BlockKeyword) → keyword i ≡ w → KeepsBody w → Keeps i
 keeps_word i w h k = subst KeepsBody (sym h) k
 
-kept_body : (here : Body) (w : Word) (next : ℕ) → KeepsBody w → body_behind here w next ≡ here
+kept_body : (here : Body) (w : BlockKeyword) (next : ℕ) → KeepsBody w → body_behind here w next ≡ here
 kept_body here If next k = refl
 kept_body here Else next k = refl
 kept_body here Eif next k = refl
@@ -94,16 +94,16 @@ list_keeps (definition e hd ld he lr) t = cc
 -- the body after the beginning of a program
 abbrev pub body_after : Body → ℕ → List Instruction → Body
 body_after here start [] = here
-body_after here start (i ∷ is) = body_after (body_behind here (word i) (start + length i)) (start + length i) is
+body_after here start (i ∷ is) = body_after (body_behind here (keyword i) (start + length i)) (start + length i) is
 
 after_kept : (is : List Instruction) (here : Body) (start : ℕ) → AllByRecursion Keeps is → body_after here start is ≡ here
 after_kept [] here start k = refl
-after_kept (i ∷ is) here start k = after_kept is (body_behind here (word i) (start + length i)) (start + length i) k.1 ∙ kept_body here (word i) (start + length i) k.0
+after_kept (i ∷ is) here start k = after_kept is (body_behind here (keyword i) (start + length i)) (start + length i) k.1 ∙ kept_body here (keyword i) (start + length i) k.0
 
 after_joined : (is js : List Instruction) (here : Body) (start : ℕ) → body_after here start (is ++ js) ≡ body_after (body_after here start is) (start + size is) js
 after_joined [] js here start = ap (λ n. body_after here n js) (omega arith)
 after_joined (i ∷ is) js here start =
-    let behind : Body = body_behind here (word i) (start + length i) in
+    let behind : Body = body_behind here (keyword i) (start + length i) in
     after_joined is js behind (start + length i) ∙ ap (λ n. body_after (body_after behind (start + length i) is) n js) (omega arith)
 
 body_there : (before : List Instruction) (i : Instruction) (rest : List Instruction) (here : Body) (start at : ℕ) → AllByRecursion HasBytes before → start + size before ≡ at
@@ -114,7 +114,7 @@ body_there [] i rest here start at each from =
 body_there (b ∷ before) i rest here start at each from =
     let some : 0 < length b = each.0 in
     let test : nat_eq start at ≡ false = ne_eqb start at (λ q. let bad : ⊥ = omega arith in bad) in
-    rw test (body_there before i rest (body_behind here (word b) (start + length b)) (start + length b) at each.1 (omega arith))
+    rw test (body_there before i rest (body_behind here (keyword b) (start + length b)) (start + length b) at each.1 (omega arith))
 
 -- the instruction whose body was found
 record HasBody (here : Body) (is : List Instruction) (start at : ℕ) (b : Body) : Type 0 where
@@ -132,23 +132,23 @@ body_found (i ∷ is) here start at b h = elim (taken (nat_eq start at) _ _ (Som
       let there : start ≡ at = eqb-true start at found.0 in
       record { before = []; i = i; rest = is; whole = refl; from = omega arith; is_body = (let e = found.1 in cc) }
   | inr behind ↦
-      let f = body_found is (body_behind here (word i) (start + length i)) (start + length i) at b behind.1 in
+      let f = body_found is (body_behind here (keyword i) (start + length i)) (start + length i) at b behind.1 in
       record { before = i ∷ f.before; i = f.i; rest = f.rest; whole = ap (λ x. i ∷ x) f.whole; from = omega (arith, f.from); is_body = f.is_body }
 ]
 
 -- What is in a definition has its body.
 
 -- the beginning of a program up to a place in a definition: the definition's beginning, and a part of what it defines
-record Reaches (opener : Word) (from : ℕ) (before : List Instruction) : Type 0 where
+record Reaches (opener : BlockKeyword) (from : ℕ) (before : List Instruction) : Type 0 where
   outer : List Instruction
   d : Instruction
   part : List Instruction
   whole : before ≡ outer ++ (d ∷ part)
-  opens : word d ≡ opener
+  opens : keyword d ≡ opener
   starts : size outer ≡ from
   keeps : AllByRecursion Keeps part
 
-is_inside : (opener : Word) → IsDefinition opener → begins_definition opener ≡ true
+is_inside : (opener : BlockKeyword) → IsDefinition opener → begins_definition opener ≡ true
 is_inside Fdef d = refl
 is_inside Idef d = refl
 is_inside If d = absurd d
@@ -157,7 +157,7 @@ is_inside Eif d = absurd d
 is_inside Endf d = absurd d
 is_inside Other d = absurd d
 
-reaches : {opener : Word} {is : List Instruction} {from at to : ℕ} {i : Instruction} → IsDefinition opener → (s : StandsAt is at i) → GoesTo opener is from to → from < at → at < to
+reaches : {opener : BlockKeyword} {is : List Instruction} {from at to : ℕ} {i : Instruction} → IsDefinition opener → (s : StandsAt is at i) → GoesTo opener is from to → from < at → at < to
     → Reaches opener from s.before
 reaches {opener} {i = i} d s g low high = elim (place s.before i s.after g.before g.i (g.inner ++ (g.e ∷ g.after)) (sym s.whole ∙ g.whole)) [
   | earlier part p r ↦ record {
@@ -184,7 +184,7 @@ reaches {opener} {i = i} d s g low high = elim (place s.before i s.after g.befor
           absurd (omega (arith, s.offset, g.from, g.target, ap size p, size-append g.before (g.i ∷ part), ap size q, size-append g.inner (g.e ∷ between)))
     ]
 
-begun_body : (here : Body) (opener : Word) (first : ℕ) → IsDefinition opener → body_behind here opener first ≡ body_behind body.Main opener first
+begun_body : (here : Body) (opener : BlockKeyword) (first : ℕ) → IsDefinition opener → body_behind here opener first ≡ body_behind body.Main opener first
 begun_body here Fdef first d = refl
 begun_body here Idef first d = refl
 begun_body here If first d = absurd d
@@ -193,14 +193,14 @@ begun_body here Eif first d = absurd d
 begun_body here Endf first d = absurd d
 begun_body here Other first d = absurd d
 
-reached_body : (opener : Word) (from : ℕ) (before : List Instruction) → IsDefinition opener → (r : Reaches opener from before)
+reached_body : (opener : BlockKeyword) (from : ℕ) (before : List Instruction) → IsDefinition opener → (r : Reaches opener from before)
     → body_after body.Main 0 before ≡ body_behind body.Main opener (from + length r.d)
 reached_body opener from before d r =
     let outside : Body = body_after body.Main 0 r.outer in
     let first : ℕ = (0 + size r.outer) + length r.d in
     ap (λ x. body_after body.Main 0 x) r.whole
     ∙ after_joined r.outer (r.d ∷ r.part) body.Main 0
-    ∙ after_kept r.part (body_behind outside (word r.d) first) first r.keeps
+    ∙ after_kept r.part (body_behind outside (keyword r.d) first) first r.keeps
     ∙ ap (λ w. body_behind outside w first) r.opens
     ∙ begun_body outside opener first d
     ∙ ap (λ n. body_behind body.Main opener n) (omega (arith, r.starts))
@@ -214,7 +214,7 @@ each_parted : {is : List Instruction} (outer : List Instruction) (d : Instructio
     → AllByRecursion IsInstruction (d ∷ rest)
 each_parted outer d rest each e = each_behind IsInstruction outer (d ∷ rest) (subst (λ x. AllByRecursion IsInstruction x) e each)
 
-definition_body : {opener : Word} {is : List Instruction} {from at : ℕ} {i : Instruction} → AllByRecursion IsInstruction is → IsDefinition opener → (s : StandsAt is at i)
+definition_body : {opener : BlockKeyword} {is : List Instruction} {from at : ℕ} {i : Instruction} → AllByRecursion IsInstruction is → IsDefinition opener → (s : StandsAt is at i)
     → InDefinition opener is from at → body_after body.Main 0 s.before ≡ body_behind body.Main opener (from + 1)
 definition_body {opener} {is} {from} {i = i} each d s (to, g, low, high) =
     let r = reaches d s g low high in
@@ -223,7 +223,7 @@ definition_body {opener} {is} {from} {i = i} each d s (to, g, low, high) =
 
 -- What has the body of a definition is in that definition.
 
-last_word : (here : Body) (opener w : Word) (k n : ℕ) → IsDefinition opener → body_behind here w k ≡ body_behind body.Main opener n
+last_word : (here : Body) (opener w : BlockKeyword) (k n : ℕ) → IsDefinition opener → body_behind here w k ≡ body_behind body.Main opener n
     → ((here ≡ body_behind body.Main opener n) × KeepsBody w) ⊎ ((w ≡ opener) × (k ≡ n))
 last_word here opener If k n d h = inl (h, tt)
 last_word here opener Else k n d h = inl (h, tt)
@@ -242,21 +242,21 @@ last_word here Endf w k n d h = absurd d
 last_word here Other w k n d h = absurd d
 
 -- the last of FDEF, IDEF and ENDF in a beginning, after which the body begins
-record Begun (opener : Word) (is : List Instruction) (start first : ℕ) : Type 0 where
+record Begun (opener : BlockKeyword) (is : List Instruction) (start first : ℕ) : Type 0 where
   outer : List Instruction
   d : Instruction
   part : List Instruction
   whole : is ≡ outer ++ (d ∷ part)
-  opens : word d ≡ opener
+  opens : keyword d ≡ opener
   begins : (start + size outer) + length d ≡ first
   keeps : AllByRecursion Keeps part
 
-last_definition : (is : List Instruction) (here : Body) (start n : ℕ) (opener : Word) → IsDefinition opener → body_after here start is ≡ body_behind body.Main opener n
+last_definition : (is : List Instruction) (here : Body) (start n : ℕ) (opener : BlockKeyword) → IsDefinition opener → body_after here start is ≡ body_behind body.Main opener n
     → ((here ≡ body_behind body.Main opener n) × AllByRecursion Keeps is) ⊎ Begun opener is start n
 last_definition [] here start n opener d h = inl (h, tt)
 last_definition (i ∷ is) here start n opener d h =
-    elim (last_definition is (body_behind here (word i) (start + length i)) (start + length i) n opener d h) [
-      | inl kept ↦ elim (last_word here opener (word i) (start + length i) n d kept.0) [
+    elim (last_definition is (body_behind here (keyword i) (start + length i)) (start + length i) n opener d h) [
+      | inl kept ↦ elim (last_word here opener (keyword i) (start + length i) n d kept.0) [
         | inl before ↦ inl (before.0, (before.1, kept.1))
         | inr this ↦ inr (record { outer = []; d = i; part = is; whole = refl; opens = this.0; begins = omega (arith, this.1); keeps = kept.1 })
       ]
@@ -271,7 +271,7 @@ last_definition (i ∷ is) here start n opener d h =
       })
     ]
 
-not_main : (opener : Word) (n : ℕ) → IsDefinition opener → body.Main ≡ body_behind body.Main opener n → ⊥
+not_main : (opener : BlockKeyword) (n : ℕ) → IsDefinition opener → body.Main ≡ body_behind body.Main opener n → ⊥
 not_main Fdef n d h = cc
 not_main Idef n d h = cc
 not_main If n d h = d
@@ -280,7 +280,7 @@ not_main Eif n d h = d
 not_main Endf n d h = d
 not_main Other n d h = d
 
-definition_opens : (opener : Word) → IsDefinition opener → Opens opener
+definition_opens : (opener : BlockKeyword) → IsDefinition opener → Opens opener
 definition_opens Fdef d = tt
 definition_opens Idef d = tt
 definition_opens If d = absurd d
@@ -290,7 +290,7 @@ definition_opens Endf d = absurd d
 definition_opens Other d = absurd d
 
 -- what ends a definition ends the body
-ends_body : (opener w : Word) → IsDefinition opener → Ends opener w → KeepsBody w → ⊥
+ends_body : (opener w : BlockKeyword) → IsDefinition opener → Ends opener w → KeepsBody w → ⊥
 ends_body Fdef w d e k = subst KeepsBody e k
 ends_body Idef w d e k = subst KeepsBody e k
 ends_body If w d e k = d
@@ -299,7 +299,7 @@ ends_body Eif w d e k = d
 ends_body Endf w d e k = d
 ends_body Other w d e k = d
 
-begun_definition : {opener : Word} {is : List Instruction} {at first : ℕ} {i : Instruction} → IsStructured is → AllByRecursion IsInstruction is → IsDefinition opener → (s : StandsAt is at i)
+begun_definition : {opener : BlockKeyword} {is : List Instruction} {at first : ℕ} {i : Instruction} → IsStructured is → AllByRecursion IsInstruction is → IsDefinition opener → (s : StandsAt is at i)
     → Begun opener s.before 0 first → (from : ℕ) × (first ≡ from + 1) × InDefinition opener is from at
 begun_definition {opener} {is} {at} {first} {i} structured each d s b = (
   size b.outer,
@@ -338,10 +338,10 @@ begun_definition {opener} {is} {at} {first} {i} structured each d s b = (
       | same p r t ↦ omega (arith, end_bytes, ap size p)
       | later between p r ↦
           let kept = each_behind Keeps closed.inner (closed.e ∷ between) (subst (λ x. AllByRecursion Keeps x) p b.keeps) in
-          absurd (ends_body opener (word closed.e) d closed.ends kept.0)
+          absurd (ends_body opener (keyword closed.e) d closed.ends kept.0)
     ]
 
-body_definition : {opener : Word} {is : List Instruction} {at first : ℕ} {i : Instruction} → IsStructured is → AllByRecursion IsInstruction is → IsDefinition opener → (s : StandsAt is at i)
+body_definition : {opener : BlockKeyword} {is : List Instruction} {at first : ℕ} {i : Instruction} → IsStructured is → AllByRecursion IsInstruction is → IsDefinition opener → (s : StandsAt is at i)
     → body_after body.Main 0 s.before ≡ body_behind body.Main opener first → (from : ℕ) × (first ≡ from + 1) × InDefinition opener is from at
 body_definition {opener} {first = first} structured each d s h = elim (last_definition s.before body.Main 0 first opener d h) [
   | inl outside ↦ absurd (not_main opener first d outside.0)

@@ -5,14 +5,14 @@
 use Rattle.std.specs.Prelude.{◌≡◌, ◌⊎◌, ℕ, ◌+◌, ◌<◌, List, [], ◌∷◌, ◌++◌, Bool, true, false, length}
 use Rattle.std.specs.List.{AllByRecursion}
 use Rattle.tt_code.specs.Cut.{Instruction, IsInstruction, size}
-use Rattle.tt_code.specs.Structure.{word}
-use Rattle.tt_code.specs.declared.word.Word.{Word}
-use Rattle.tt_code.specs.declared.word.Word.TheVariants.{If, Else, Eif, Fdef, Idef, Endf, Other}
+use Rattle.tt_code.specs.Structure.{keyword}
+use Rattle.tt_code.specs.declared.block_keyword.BlockKeyword.{BlockKeyword}
+use Rattle.tt_code.specs.declared.block_keyword.BlockKeyword.TheVariants.{If, Else, Eif, Fdef, Idef, Endf, Other}
 use Rattle.tt_code.specs.declared.machine.Body.{Body}
 use Rattle.tt_code.specs.declared.machine.Body.TheVariants as body
 
 -- FDEF and IDEF begin definitions
-abbrev pub IsDefinition : Word → Type 0
+abbrev pub IsDefinition : BlockKeyword → Type 0
 IsDefinition Fdef = Unit {0}
 IsDefinition Idef = Unit {0}
 IsDefinition _ = ⊥
@@ -22,14 +22,14 @@ IsDefinition _ = ⊥
 pub data IsList : (inside : Bool) → List Instruction → Type 0 where
   none : {inside : Bool} → IsList inside []
   plain : {inside : Bool} {i : Instruction} {rest : List Instruction} →
-      word i ≡ Other → IsList inside rest → IsList inside (i ∷ rest)
+      keyword i ≡ Other → IsList inside rest → IsList inside (i ∷ rest)
   if_eif : {inside : Bool} {i : Instruction} {yes : List Instruction} (e : Instruction) {rest : List Instruction} →
-      word i ≡ If → IsList inside yes → word e ≡ Eif → IsList inside rest → IsList inside (i ∷ (yes ++ (e ∷ rest)))
+      keyword i ≡ If → IsList inside yes → keyword e ≡ Eif → IsList inside rest → IsList inside (i ∷ (yes ++ (e ∷ rest)))
   if_else_eif : {inside : Bool} {i : Instruction} {yes : List Instruction} (l : Instruction) {otherwise : List Instruction} (e : Instruction) {rest : List Instruction} →
-      word i ≡ If → IsList inside yes → word l ≡ Else → IsList inside otherwise → word e ≡ Eif → IsList inside rest
+      keyword i ≡ If → IsList inside yes → keyword l ≡ Else → IsList inside otherwise → keyword e ≡ Eif → IsList inside rest
       → IsList inside (i ∷ (yes ++ (l ∷ (otherwise ++ (e ∷ rest)))))
   definition : {d : Instruction} {defined : List Instruction} (e : Instruction) {rest : List Instruction} →
-      IsDefinition (word d) → IsList true defined → word e ≡ Endf → IsList false rest → IsList false (d ∷ (defined ++ (e ∷ rest)))
+      IsDefinition (keyword d) → IsList true defined → keyword e ≡ Endf → IsList false rest → IsList false (d ∷ (defined ++ (e ∷ rest)))
 
 -- a program is structured if it is a list outside all definitions
 abbrev pub IsStructured : List Instruction → Type 0
@@ -69,7 +69,7 @@ pub record StandsAt (is : List Instruction) (at : ℕ) (i : Instruction) : Type 
 -- Partners. An opening instruction is followed by a list, and then by what ends it: an IF by its ELSE or its EIF, an ELSE by
 -- its EIF, an FDEF or IDEF by its ENDF. Control goes to just after that one, and what a definition defines is what is between.
 
-abbrev pub Ends : Word → Word → Type 0
+abbrev pub Ends : BlockKeyword → BlockKeyword → Type 0
 Ends If w = (w ≡ Else) ⊎ (w ≡ Eif)
 Ends Else w = w ≡ Eif
 Ends Fdef w = w ≡ Endf
@@ -79,21 +79,21 @@ Ends Endf w = ⊥
 Ends Other w = ⊥
 
 -- what follows an FDEF or IDEF is inside a definition; a list that is inside one is a list outside too
-abbrev pub begins_definition : Word → Bool
+abbrev pub begins_definition : BlockKeyword → Bool
 begins_definition Fdef = true
 begins_definition Idef = true
 begins_definition _ = false
 
-pub record GoesTo (opener : Word) (is : List Instruction) (at to : ℕ) : Type 0 where
+pub record GoesTo (opener : BlockKeyword) (is : List Instruction) (at to : ℕ) : Type 0 where
   pub before : List Instruction
   pub i : Instruction
   pub inner : List Instruction
   pub e : Instruction
   pub after : List Instruction
   pub whole : is ≡ before ++ (i ∷ (inner ++ (e ∷ after)))
-  pub opens : word i ≡ opener
+  pub opens : keyword i ≡ opener
   pub nested : IsList (begins_definition opener) inner
-  pub ends : Ends opener (word e)
+  pub ends : Ends opener (keyword e)
   pub from : size before ≡ at
   pub target : size before + (length i + (size inner + length e)) ≡ to
 
@@ -101,7 +101,7 @@ pub record GoesTo (opener : Word) (is : List Instruction) (at to : ℕ) : Type 0
 -- the main program's.
 
 -- the offset is in the definition that begins at another
-abbrev pub InDefinition : Word → List Instruction → ℕ → ℕ → Type 0
+abbrev pub InDefinition : BlockKeyword → List Instruction → ℕ → ℕ → Type 0
 InDefinition opener is from at = (to : ℕ) × GoesTo opener is from to × (from < at) × (at < to)
 
 abbrev pub IsBodyAt : List Instruction → ℕ → Body → Type 0

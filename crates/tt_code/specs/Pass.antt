@@ -1,17 +1,17 @@
 -- The one pass from the left that the code makes: what is open after an instruction, and the body. (Representation: no public
 -- clause cites it.)
 use Rattle.std.specs.Prelude.{◌≡◌, ℕ, ◌+◌, List, [], ◌∷◌, ◌++◌, length, Bool, true, false, Option, Some, None, if◌then◌else◌}
-use Rattle.tt_code.specs.declared.word.Word.{Word}
-use Rattle.tt_code.specs.declared.word.Word.TheVariants.{If, Else, Eif, Fdef, Idef, Endf, Other}
+use Rattle.tt_code.specs.declared.block_keyword.BlockKeyword.{BlockKeyword}
+use Rattle.tt_code.specs.declared.block_keyword.BlockKeyword.TheVariants.{If, Else, Eif, Fdef, Idef, Endf, Other}
 use Rattle.tt_code.specs.declared.nest.Open.{Open}
 use Rattle.tt_code.specs.declared.nest.Open.TheVariants.{InIf, InElse, InFunction, InInstruction}
 use Rattle.tt_code.specs.declared.machine.Body.{Body}
 use Rattle.tt_code.specs.declared.machine.Body.TheVariants as body
-use Rattle.tt_code.specs.declared.nest.Turn.{Turn}
-use Rattle.tt_code.specs.declared.nest.Turn.TheVariants.{Refused, Passed, Closed}
+use Rattle.tt_code.specs.declared.nest.Nesting.{Nesting}
+use Rattle.tt_code.specs.declared.nest.Nesting.TheVariants.{Refused, Passed, Closed}
 use Rattle.tt_code.specs.Cut.{Instruction, size}
 use Rattle.tt_code.specs.Grammar.{IsList}
-use Rattle.tt_code.specs.Structure.{word}
+use Rattle.tt_code.specs.Structure.{keyword}
 
 -- whether what follows an opening is inside a definition
 abbrev pub inside_of : Open → Bool → Bool
@@ -24,8 +24,8 @@ abbrev pub within : List Open → Bool
 within [] = false
 within (o ∷ s) = inside_of o (within s)
 
--- what is open after a word at offset k, the innermost first, or nothing where the word isn't allowed there
-abbrev pub step : Word → ℕ → List Open → Option (List Open)
+-- what is open after a keyword at offset k, the innermost first, or nothing where the keyword isn't allowed there
+abbrev pub step : BlockKeyword → ℕ → List Open → Option (List Open)
 step Other k s = Some s
 step If k s = Some (InIf k ∷ s)
 step Else k (InIf j ∷ s) = Some (InElse k ∷ s)
@@ -45,7 +45,7 @@ follow None f = None
 
 abbrev pub steps : List Instruction → ℕ → List Open → Option (List Open)
 steps [] k s = Some s
-steps (i ∷ is) k s = follow (step (word i) k s) (λ t. steps is (k + length i) t)
+steps (i ∷ is) k s = follow (step (keyword i) k s) (λ t. steps is (k + length i) t)
 
 -- the offset that an opening keeps
 abbrev pub place : Open → ℕ
@@ -54,14 +54,14 @@ place (InElse k) = k
 place (InFunction k) = k
 place (InInstruction k) = k
 
--- the offset of the instruction that leads to just after this word, where there is one
-abbrev pub closed : Word → List Open → Option ℕ
+-- the offset of the instruction that leads to just after this keyword, where there is one
+abbrev pub closed : BlockKeyword → List Open → Option ℕ
 closed Else (o ∷ s) = Some (place o)
 closed Eif (o ∷ s) = Some (place o)
 closed Endf (o ∷ s) = Some (place o)
 closed _ _ = None
 
-abbrev pub Turns : Turn → Word → ℕ → List Open → List Open → Type 0
+abbrev pub Turns : Nesting → BlockKeyword → ℕ → List Open → List Open → Type 0
 Turns Refused w k s t = step w k s ≡ None
 Turns Passed w k s t = (step w k s ≡ Some t) × (closed w s ≡ None)
 Turns (Closed at) w k s t = (step w k s ≡ Some t) × (closed w s ≡ Some at)
@@ -73,7 +73,7 @@ body_of (InElse k ∷ s) = body_of s
 body_of (InFunction k ∷ s) = body.Function (k + 1)
 body_of (InInstruction k ∷ s) = body.Instruction (k + 1)
 
-abbrev pub body_after : Body → Word → ℕ → Body
+abbrev pub body_after : Body → BlockKeyword → ℕ → Body
 body_after b Fdef k = body.Function (k + 1)
 body_after b Idef k = body.Instruction (k + 1)
 body_after b Endf k = body.Main
@@ -81,12 +81,12 @@ body_after b _ k = b
 
 -- the instructions from the one that opened o, at this offset, to the last one that o names
 abbrev pub Head : Open → Bool → ℕ → List Instruction → Type 0
-Head (InIf k) inside at head = (i : Instruction) × (word i ≡ If) × (k ≡ at) × (head ≡ i ∷ [])
+Head (InIf k) inside at head = (i : Instruction) × (keyword i ≡ If) × (k ≡ at) × (head ≡ i ∷ [])
 Head (InElse k) inside at head =
     (i : Instruction) × (a : List Instruction) × (l : Instruction) ×
-    (word i ≡ If) × IsList inside a × (word l ≡ Else) × (k ≡ (at + length i) + size a) × (head ≡ i ∷ (a ++ (l ∷ [])))
-Head (InFunction k) inside at head = (d : Instruction) × (word d ≡ Fdef) × (inside ≡ false) × (k ≡ at) × (head ≡ d ∷ [])
-Head (InInstruction k) inside at head = (d : Instruction) × (word d ≡ Idef) × (inside ≡ false) × (k ≡ at) × (head ≡ d ∷ [])
+    (keyword i ≡ If) × IsList inside a × (keyword l ≡ Else) × (k ≡ (at + length i) + size a) × (head ≡ i ∷ (a ++ (l ∷ [])))
+Head (InFunction k) inside at head = (d : Instruction) × (keyword d ≡ Fdef) × (inside ≡ false) × (k ≡ at) × (head ≡ d ∷ [])
+Head (InInstruction k) inside at head = (d : Instruction) × (keyword d ≡ Idef) × (inside ≡ false) × (k ≡ at) × (head ≡ d ∷ [])
 
 -- p is lists with an opening between each two
 abbrev pub Opened : List Open → List Instruction → Type 0

@@ -2,18 +2,18 @@
 -- slots say of the instructions read so far and of what they leave open. (Representation: no public clause cites it.)
 use Rattle.std.specs.Prelude.{reverse, ◌≡◌, ◌⊎◌, ℕ, zero, suc, List, [], ◌∷◌, ◌++◌, map, length, Option, Some, None, slice_index_or, nat_eq, if◌then◌else◌}
 use Rattle.std.specs.List.{AllByRecursion}
-use Rattle.tt_code.specs.declared.word.Word.{Word}
-use Rattle.tt_code.specs.declared.word.Word.TheVariants.{If, Else, Eif, Fdef, Idef, Endf, Other}
+use Rattle.tt_code.specs.declared.block_keyword.BlockKeyword.{BlockKeyword}
+use Rattle.tt_code.specs.declared.block_keyword.BlockKeyword.TheVariants.{If, Else, Eif, Fdef, Idef, Endf, Other}
 use Rattle.tt_code.specs.declared.machine.Body.{Body}
 use Rattle.tt_code.specs.declared.machine.Body.TheVariants as body
 use Rattle.tt_code.specs.declared.nest.Open.{Open}
-use Rattle.tt_code.specs.declared.slot.Kind.{Kind}
-use Rattle.tt_code.specs.declared.slot.Kind.TheVariants as kind
+use Rattle.tt_code.specs.declared.slot.BodyKind.{BodyKind}
+use Rattle.tt_code.specs.declared.slot.BodyKind.TheVariants as kind
 use Rattle.tt_code.specs.declared.slot.Slot.{Slot}
 use Rattle.tt_code.specs.declared.reading.Reading.{Reading}
 use Rattle.tt_code.specs.Cut.{Instruction, IsInstruction, size}
 use Rattle.tt_code.specs.Grammar.{GoesTo, IsStructured}
-use Rattle.tt_code.specs.Structure.{word}
+use Rattle.tt_code.specs.Structure.{keyword}
 use Rattle.tt_code.specs.Laid.{IsLaid, laid, pieces}
 use Rattle.tt_code.specs.Pass.{steps, body_of, place, Leaves}
 
@@ -22,7 +22,7 @@ abbrev pub inside : Slot
 inside = record { target = 0; first = 0; length = 0; kind = kind.Main }
 
 -- the body that a kind and an offset name
-abbrev pub named : Kind → ℕ → Body
+abbrev pub named : BodyKind → ℕ → Body
 named kind.Main first = body.Main
 named kind.Function first = body.Function first
 named kind.Instruction first = body.Instruction first
@@ -52,7 +52,7 @@ body_found found k = slice_index_or found k None
 abbrev pub target_found : List (Option ℕ) → ℕ → Option ℕ
 target_found found k = slice_index_or found k None
 
-abbrev pub Opens : Word → Type 0
+abbrev pub Opens : BlockKeyword → Type 0
 Opens If = Unit {0}
 Opens Else = Unit {0}
 Opens Fdef = Unit {0}
@@ -74,8 +74,8 @@ pub record IsTable (p : List Instruction) (s : List Open) (in_body : List (Optio
       (t : List Open) × (steps a 0 [] ≡ Some t) × (body_found in_body (size a) ≡ Some (body_of t))
   pub starts : (k : ℕ) (b : Body) → body_found in_body k ≡ Some b →
       (a : List Instruction) × (i : Instruction) × (b : List Instruction) × (p ≡ a ++ (i ∷ b)) × (size a ≡ k)
-  pub target_right : (k t : ℕ) → target_found goes k ≡ Some t → (w : Word) × GoesTo w p k t
-  pub target_there : (a : List Instruction) (i : Instruction) (b : List Instruction) → p ≡ a ++ (i ∷ b) → Opens (word i) →
+  pub target_right : (k t : ℕ) → target_found goes k ≡ Some t → (w : BlockKeyword) × GoesTo w p k t
+  pub target_there : (a : List Instruction) (i : Instruction) (b : List Instruction) → p ≡ a ++ (i ∷ b) → Opens (keyword i) →
       ((t : ℕ) × (target_found goes (size a) ≡ Some t)) ⊎ IsOpenAt (size a) s
 
 -- what is kept of the instructions that were read, what is open with the innermost first

@@ -3,13 +3,13 @@
 -- IDEF and ENDF.)
 use Rattle.std.specs.Prelude.{ℕ, zero, suc, ◌+◌, List, [], ◌∷◌, Option, None, Some, Bool, true, false, length, nat_eq, if◌then◌else◌}
 use Rattle.tt_code.specs.Cut.{Instruction}
-use Rattle.tt_code.specs.declared.word.Word.{Word}
-use Rattle.tt_code.specs.declared.word.Word.TheVariants.{If, Else, Eif, Fdef, Idef, Endf, Other}
+use Rattle.tt_code.specs.declared.block_keyword.BlockKeyword.{BlockKeyword}
+use Rattle.tt_code.specs.declared.block_keyword.BlockKeyword.TheVariants.{If, Else, Eif, Fdef, Idef, Endf, Other}
 use Rattle.tt_code.specs.declared.machine.Body.{Body}
 use Rattle.tt_code.specs.declared.machine.Body.TheVariants as body
 
 -- what an instruction is for a program's structure, by its code
-abbrev pub word_of : ℕ → Word
+abbrev pub word_of : ℕ → BlockKeyword
 word_of code =
     if nat_eq code 0x58 then If
     else if nat_eq code 0x1b then Else
@@ -19,23 +19,23 @@ word_of code =
     else if nat_eq code 0x2d then Endf
     else Other
 
-unfoldable pub word : Instruction → Word
-word [] = Other
-word (code ∷ rest) = word_of code
+unfoldable pub keyword : Instruction → BlockKeyword
+keyword [] = Other
+keyword (code ∷ rest) = word_of code
 
-abbrev pub is_word : Word → Word → Bool
-is_word If If = true
-is_word Else Else = true
-is_word Eif Eif = true
-is_word Fdef Fdef = true
-is_word Idef Idef = true
-is_word Endf Endf = true
-is_word Other Other = true
-is_word _ _ = false
+abbrev pub is_keyword : BlockKeyword → BlockKeyword → Bool
+is_keyword If If = true
+is_keyword Else Else = true
+is_keyword Eif Eif = true
+is_keyword Fdef Fdef = true
+is_keyword Idef Idef = true
+is_keyword Endf Endf = true
+is_keyword Other Other = true
+is_keyword _ _ = false
 
 -- Looking for the instruction that ends what an opening one began, while so many IFs are open inside: None where this is
 -- it, else how many are open after it. An IF ends at its ELSE or EIF, an ELSE at its EIF, a definition at its ENDF.
-abbrev pub still_open : Word → Word → ℕ → Option ℕ
+abbrev pub still_open : BlockKeyword → BlockKeyword → ℕ → Option ℕ
 still_open If If inside = Some (suc inside)
 still_open If Else zero = None
 still_open If Else (suc inside) = Some (suc inside)
@@ -50,22 +50,22 @@ still_open _ Endf inside = None
 still_open _ _ inside = Some inside
 
 -- the offset after the end of what the opening instruction began, in the instructions from an offset on
-abbrev pub behind_end : Word → List Instruction → ℕ → ℕ → Option ℕ
+abbrev pub behind_end : BlockKeyword → List Instruction → ℕ → ℕ → Option ℕ
 behind_end opener [] offset inside = None
-behind_end opener (i ∷ is) offset inside = elim (still_open opener (word i) inside) [
+behind_end opener (i ∷ is) offset inside = elim (still_open opener (keyword i) inside) [
   | None ↦ Some (offset + length i)
   | Some more ↦ behind_end opener is (offset + length i) more
 ]
 
 -- where the opening instruction at an offset leads, in the instructions from another offset on
-abbrev pub leads_from : ℕ → Word → List Instruction → ℕ → Option ℕ
+abbrev pub leads_from : ℕ → BlockKeyword → List Instruction → ℕ → Option ℕ
 leads_from start opener [] offset = None
 leads_from start opener (i ∷ is) offset =
     if nat_eq start offset
-    then (if is_word opener (word i) then behind_end opener is (start + length i) 0 else None)
+    then (if is_keyword opener (keyword i) then behind_end opener is (start + length i) 0 else None)
     else leads_from (start + length i) opener is offset
 
-abbrev pub leads : Word → List Instruction → ℕ → Option ℕ
+abbrev pub leads : BlockKeyword → List Instruction → ℕ → Option ℕ
 leads opener is offset = leads_from 0 opener is offset
 
 -- where an IF goes on 0: to just after its ELSE, or without one just after its EIF
@@ -81,7 +81,7 @@ abbrev pub after_fdef : List Instruction → ℕ → Option ℕ
 after_fdef = leads Fdef
 
 -- the body of what follows an instruction of a body, where the instruction ends at an offset
-abbrev pub body_behind : Body → Word → ℕ → Body
+abbrev pub body_behind : Body → BlockKeyword → ℕ → Body
 body_behind here Fdef next = body.Function next
 body_behind here Idef next = body.Instruction next
 body_behind here Endf next = body.Main
@@ -92,7 +92,7 @@ abbrev pub body_from : Body → ℕ → List Instruction → ℕ → Option Body
 body_from here start [] offset = None
 body_from here start (i ∷ is) offset =
     if nat_eq start offset then Some here
-    else body_from (body_behind here (word i) (start + length i)) (start + length i) is offset
+    else body_from (body_behind here (keyword i) (start + length i)) (start + length i) is offset
 
 -- the body of the instruction that starts at the offset
 abbrev pub body_at : List Instruction → ℕ → Option Body

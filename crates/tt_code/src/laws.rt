@@ -4,9 +4,9 @@ ghost use Rattle.std.specs.Prelude.{◌≡◌, ◌⊎◌, ◌↔◌, ℕ, ◌+�
 ghost use Rattle.std.specs.List.{AllByRecursion};
 ghost use Rattle.tt_code.specs.Cut.{CannotBeCut, Instruction, IsCut, IsInstruction, instruction_at, size};
 ghost use Rattle.tt_code.specs.Grammar.{Ends, GoesTo, IsBodyAt, IsFault, IsStructured, StandsAt};
-ghost use Rattle.tt_code.specs.Structure.{after_else, after_fdef, after_if, body_at, leads, word};
+ghost use Rattle.tt_code.specs.Structure.{after_else, after_fdef, after_if, body_at, leads, keyword};
 ghost use Rattle.tt_code.specs.declared.machine.Body.{Body};
-ghost use Rattle.tt_code.specs.declared.word.Word.{Word};
+ghost use Rattle.tt_code.specs.declared.block_keyword.BlockKeyword.{BlockKeyword};
 
 /// States that a program has at most one cut.
 pub fn one_cut()
@@ -30,12 +30,12 @@ pub fn structured_without_fault()
 
 /// States that an instruction that opens something leads to one place.
 pub fn one_target()
-    ensures { (bytes : List ℕ) (is : List Instruction) (opener other : Word) (offset s t : ℕ) → IsCut bytes is → GoesTo opener is offset s → GoesTo other is offset t → s ≡ t }
+    ensures { (bytes : List ℕ) (is : List Instruction) (opener other : BlockKeyword) (offset s t : ℕ) → IsCut bytes is → GoesTo opener is offset s → GoesTo other is offset t → s ≡ t }
 {}
 
 /// States that by the grammar each instruction of a structured program that opens something leads somewhere.
 pub fn each_target()
-    ensures { (bytes : List ℕ) (is : List Instruction) (offset : ℕ) (i : Instruction) (e : Word) → IsCut bytes is → IsStructured is → StandsAt is offset i → Ends (word i) e → (to : ℕ) × GoesTo (word i) is offset to }
+    ensures { (bytes : List ℕ) (is : List Instruction) (offset : ℕ) (i : Instruction) (e : BlockKeyword) → IsCut bytes is → IsStructured is → StandsAt is offset i → Ends (keyword i) e → (to : ℕ) × GoesTo (keyword i) is offset to }
 {}
 
 /// States that there is one instruction at an offset.
@@ -60,7 +60,7 @@ pub fn next_stands()
 
 /// States that where control goes there is an instruction, or the program ends.
 pub fn target_stands()
-    ensures { (is : List Instruction) (opener : Word) (offset to : ℕ) → GoesTo opener is offset to → ((j : Instruction) × StandsAt is to j) ⊎ (to ≡ size is) }
+    ensures { (is : List Instruction) (opener : BlockKeyword) (offset to : ℕ) → GoesTo opener is offset to → ((j : Instruction) × StandsAt is to j) ⊎ (to ≡ size is) }
 {}
 
 /// States that the instruction that is found at an offset is the one that is there.
@@ -72,25 +72,25 @@ pub fn instructions_are_found()
 /// States that in a structured program IF, ELSE, FDEF and IDEF lead to just after the instruction that ends what they begin.
 pub fn partners_are_found()
     ensures of_if { (is : List Instruction) (at to : ℕ) → IsStructured is → AllByRecursion IsInstruction is →
-        ((after_if is at ≡ Some to) ↔ GoesTo Word.If is at to) }
+        ((after_if is at ≡ Some to) ↔ GoesTo BlockKeyword.If is at to) }
     ensures of_else { (is : List Instruction) (at to : ℕ) → IsStructured is → AllByRecursion IsInstruction is →
-        ((after_else is at ≡ Some to) ↔ GoesTo Word.Else is at to) }
+        ((after_else is at ≡ Some to) ↔ GoesTo BlockKeyword.Else is at to) }
     ensures of_fdef { (is : List Instruction) (at to : ℕ) → IsStructured is → AllByRecursion IsInstruction is →
-        ((after_fdef is at ≡ Some to) ↔ GoesTo Word.Fdef is at to) }
+        ((after_fdef is at ≡ Some to) ↔ GoesTo BlockKeyword.Fdef is at to) }
     ensures of_idef { (is : List Instruction) (at to : ℕ) → IsStructured is → AllByRecursion IsInstruction is →
-        ((leads Word.Idef is at ≡ Some to) ↔ GoesTo Word.Idef is at to) }
+        ((leads BlockKeyword.Idef is at ≡ Some to) ↔ GoesTo BlockKeyword.Idef is at to) }
 {}
 
 /// States that in a structured program it is found where each IF, ELSE, FDEF and IDEF leads.
 pub fn partners_are_there()
     ensures of_if { (is : List Instruction) (at : ℕ) (i : Instruction) → IsStructured is → AllByRecursion IsInstruction is →
-        StandsAt is at i → word i ≡ Word.If → (to : ℕ) × (after_if is at ≡ Some to) }
+        StandsAt is at i → keyword i ≡ BlockKeyword.If → (to : ℕ) × (after_if is at ≡ Some to) }
     ensures of_else { (is : List Instruction) (at : ℕ) (i : Instruction) → IsStructured is → AllByRecursion IsInstruction is →
-        StandsAt is at i → word i ≡ Word.Else → (to : ℕ) × (after_else is at ≡ Some to) }
+        StandsAt is at i → keyword i ≡ BlockKeyword.Else → (to : ℕ) × (after_else is at ≡ Some to) }
     ensures of_fdef { (is : List Instruction) (at : ℕ) (i : Instruction) → IsStructured is → AllByRecursion IsInstruction is →
-        StandsAt is at i → word i ≡ Word.Fdef → (to : ℕ) × (after_fdef is at ≡ Some to) }
+        StandsAt is at i → keyword i ≡ BlockKeyword.Fdef → (to : ℕ) × (after_fdef is at ≡ Some to) }
     ensures of_idef { (is : List Instruction) (at : ℕ) (i : Instruction) → IsStructured is → AllByRecursion IsInstruction is →
-        StandsAt is at i → word i ≡ Word.Idef → (to : ℕ) × (leads Word.Idef is at ≡ Some to) }
+        StandsAt is at i → keyword i ≡ BlockKeyword.Idef → (to : ℕ) × (leads BlockKeyword.Idef is at ≡ Some to) }
 {}
 
 /// States that a body is found for each instruction, and that in a structured program it is the one to which the instruction belongs.
@@ -106,5 +106,5 @@ pub fn bodies_are_found()
 /// States that in a structured program each FDEF is in the main program.
 pub fn definitions_stand_in_main()
     ensures { (is : List Instruction) (at : ℕ) (i : Instruction) → IsStructured is → AllByRecursion IsInstruction is →
-        StandsAt is at i → word i ≡ Word.Fdef → body_at is at ≡ Some Body.Main }
+        StandsAt is at i → keyword i ≡ BlockKeyword.Fdef → body_at is at ≡ Some Body.Main }
 {}

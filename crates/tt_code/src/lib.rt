@@ -2,6 +2,7 @@
 //! definitions.
 #![tactic(auto)]
 
+pub mod block_keyword;
 pub mod fault;
 pub mod instr;
 mod instruction_length;
@@ -15,7 +16,6 @@ mod reading;
 pub mod reason;
 mod slot;
 pub mod table;
-pub mod word;
 
 pub use fault::CodeFault;
 pub use instr::Instr;

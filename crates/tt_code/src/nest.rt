@@ -4,8 +4,8 @@
 ghost use Rattle.std.specs.Prelude.{◌≡◌, ◌<◌, ◌-◌, ◌^◌, IfOk, reverse};
 ghost use Rattle.tt_code.specs.Pass.{Turns, body_of, body_after};
 
+use crate::block_keyword::BlockKeyword;
 use crate::machine::Body;
-use crate::word::Word;
 use std::alloc::AllocError;
 
 /// What is open, with the offset of the instruction that opened it: an IF without an ELSE so far, an ELSE, or the definition
@@ -20,7 +20,7 @@ pub enum Open {
 
 /// What an instruction does to the things that are open.
 #[derive(Clone, Copy)]
-pub enum Turn {
+pub enum Nesting {
     /// It isn't allowed here.
     Refused,
     /// It closes nothing.
@@ -32,60 +32,60 @@ pub enum Turn {
 /// Adds an instruction at an offset, in a body, to what is open, the innermost last.
 pub fn take_turn(
     stack: &mut Vec<Open>,
-    word: Word,
+    keyword: BlockKeyword,
     offset: u32,
     body: Body,
-) -> Result<Turn, AllocError>
+) -> Result<Nesting, AllocError>
     requires { body ≡ body_of (reverse stack.old.items) }
-    ensures { IfOk result (λ t. Turns t word offset (reverse stack.old.items) (reverse stack.new.items)) }
+    ensures { IfOk result (λ t. Turns t keyword offset (reverse stack.old.items) (reverse stack.new.items)) }
 {
-    match word {
-        Word::Other => Ok(Turn::Passed),
-        Word::If => {
+    match keyword {
+        BlockKeyword::Other => Ok(Nesting::Passed),
+        BlockKeyword::If => {
             stack.push(Open::InIf(offset))?;
-            Ok(Turn::Passed)
+            Ok(Nesting::Passed)
         }
-        Word::Else => match stack.pop() {
+        BlockKeyword::Else => match stack.pop() {
             Some(Open::InIf(at)) => {
                 stack.push(Open::InElse(offset))?;
-                Ok(Turn::Closed(at))
+                Ok(Nesting::Closed(at))
             }
-            _ => Ok(Turn::Refused),
+            _ => Ok(Nesting::Refused),
         },
-        Word::Eif => match stack.pop() {
-            Some(Open::InIf(at) | Open::InElse(at)) => Ok(Turn::Closed(at)),
-            _ => Ok(Turn::Refused),
+        BlockKeyword::Eif => match stack.pop() {
+            Some(Open::InIf(at) | Open::InElse(at)) => Ok(Nesting::Closed(at)),
+            _ => Ok(Nesting::Refused),
         },
-        Word::Fdef => match body {
+        BlockKeyword::Fdef => match body {
             Body::Main => {
                 stack.push(Open::InFunction(offset))?;
-                Ok(Turn::Passed)
+                Ok(Nesting::Passed)
             }
-            _ => Ok(Turn::Refused),
+            _ => Ok(Nesting::Refused),
         },
-        Word::Idef => match body {
+        BlockKeyword::Idef => match body {
             Body::Main => {
                 stack.push(Open::InInstruction(offset))?;
-                Ok(Turn::Passed)
+                Ok(Nesting::Passed)
             }
-            _ => Ok(Turn::Refused),
+            _ => Ok(Nesting::Refused),
         },
-        Word::Endf => match stack.pop() {
-            Some(Open::InFunction(at) | Open::InInstruction(at)) => Ok(Turn::Closed(at)),
-            _ => Ok(Turn::Refused),
+        BlockKeyword::Endf => match stack.pop() {
+            Some(Open::InFunction(at) | Open::InInstruction(at)) => Ok(Nesting::Closed(at)),
+            _ => Ok(Nesting::Refused),
         },
     }
 }
 
 /// Returns the body after an instruction at an offset.
-pub fn next_body(body: Body, word: Word, offset: u32) -> Body
+pub fn next_body(body: Body, keyword: BlockKeyword, offset: u32) -> Body
     requires { offset < 2 ^ 32 - 1 }
-    ensures { result ≡ body_after body word offset }
+    ensures { result ≡ body_after body keyword offset }
 {
-    match word {
-        Word::Fdef => Body::Function(offset + 1),
-        Word::Idef => Body::Instruction(offset + 1),
-        Word::Endf => Body::Main,
+    match keyword {
+        BlockKeyword::Fdef => Body::Function(offset + 1),
+        BlockKeyword::Idef => Body::Instruction(offset + 1),
+        BlockKeyword::Endf => Body::Main,
         _ => body,
     }
 }

@@ -6,15 +6,15 @@ ghost use Rattle.tt_code.specs.Cut.{CannotBeCut, Instruction, IsCut, instruction
 ghost use Rattle.tt_code.specs.Faults.{IsMemory, IsMisnested};
 ghost use Rattle.tt_code.specs.Grammar.{GoesTo, IsBodyAt, IsFault, IsStructured, StandsAt};
 ghost use Rattle.tt_code.specs.Slots.{IsKept, IsReading, Opens, kept};
-ghost use Rattle.tt_code.specs.Structure.{body_at as body_on_cut, leads, word};
+ghost use Rattle.tt_code.specs.Structure.{body_at as body_on_cut, leads, keyword};
 
+use crate::block_keyword::{BlockKeyword, keyword_of_code};
 use crate::fault::CodeFault;
 use crate::instr::Instr;
 use crate::instruction_length::{first_uncut, front_length};
 use crate::machine::Body;
 use crate::reading::Reading;
 use crate::slot::{Slot, start_at, target_of};
-use crate::word::{Word, word_of_code};
 use std::alloc::Global;
 use std::marker::Model;
 
@@ -115,15 +115,15 @@ impl<'a> Program<'a> {
     }
 
     /// Returns where the slots say that control goes after what the opening instruction at the offset opens, if one starts there.
-    fn look_up(&self, opener: Word, offset: u32) -> Option<u32>
+    fn look_up(&self, opener: BlockKeyword, offset: u32) -> Option<u32>
         requires { Opens opener }
         ensures found { IfSome result (GoesTo opener self.now offset) }
         ensures only { (to : ℕ) → GoesTo opener self.now offset to → result ≡ Some to }
-        ensures none { IfNone result ((i : Instruction) → StandsAt self.now offset i → word i ≡ opener → ⊥) }
+        ensures none { IfNone result ((i : Instruction) → StandsAt self.now offset i → keyword i ≡ opener → ⊥) }
     {
         let target = target_of(&self.slots, offset)?;
         let instruction = self.at(offset)?;
-        if word_of_code(instruction.code()) == opener {
+        if keyword_of_code(instruction.code()) == opener {
             Some(target)
         } else {
             None
@@ -131,12 +131,12 @@ impl<'a> Program<'a> {
     }
 
     /// Returns where control goes after what the opening instruction at the offset opens, if one starts there.
-    fn goes(&self, opener: Word, offset: u32) -> Option<u32>
+    fn goes(&self, opener: BlockKeyword, offset: u32) -> Option<u32>
         requires { Opens opener }
         ensures value { result ≡ leads opener self.now offset }
         ensures found { IfSome result (GoesTo opener self.now offset) }
         ensures only { (to : ℕ) → GoesTo opener self.now offset to → result ≡ Some to }
-        ensures none { IfNone result ((i : Instruction) → StandsAt self.now offset i → word i ≡ opener → ⊥) }
+        ensures none { IfNone result ((i : Instruction) → StandsAt self.now offset i → keyword i ≡ opener → ⊥) }
     {
         // The slots' invariant holds where they are read: the proof of `value` needs it here.
         let _slots = &self.slots;
@@ -146,34 +146,34 @@ impl<'a> Program<'a> {
     /// Returns where the IF at the offset goes on 0: to just after its ELSE, or without one just after its EIF (Apple TrueType
     /// Reference Manual, IF). None where no IF starts at the offset.
     pub fn after_if(&self, offset: u32) -> Option<u32>
-        ensures value { result ≡ leads Word.If self.now offset }
-        ensures found { IfSome result (GoesTo Word.If self.now offset) }
-        ensures only { (to : ℕ) → GoesTo Word.If self.now offset to → result ≡ Some to }
-        ensures none { IfNone result ((i : Instruction) → StandsAt self.now offset i → word i ≡ Word.If → ⊥) }
+        ensures value { result ≡ leads BlockKeyword.If self.now offset }
+        ensures found { IfSome result (GoesTo BlockKeyword.If self.now offset) }
+        ensures only { (to : ℕ) → GoesTo BlockKeyword.If self.now offset to → result ≡ Some to }
+        ensures none { IfNone result ((i : Instruction) → StandsAt self.now offset i → keyword i ≡ BlockKeyword.If → ⊥) }
     {
-        self.goes(Word::If, offset)
+        self.goes(BlockKeyword::If, offset)
     }
 
     /// Returns where the ELSE at the offset goes when it is reached: to just after its EIF (Apple TrueType Reference Manual, ELSE).
     /// None where no ELSE starts at the offset.
     pub fn after_else(&self, offset: u32) -> Option<u32>
-        ensures value { result ≡ leads Word.Else self.now offset }
-        ensures found { IfSome result (GoesTo Word.Else self.now offset) }
-        ensures only { (to : ℕ) → GoesTo Word.Else self.now offset to → result ≡ Some to }
-        ensures none { IfNone result ((i : Instruction) → StandsAt self.now offset i → word i ≡ Word.Else → ⊥) }
+        ensures value { result ≡ leads BlockKeyword.Else self.now offset }
+        ensures found { IfSome result (GoesTo BlockKeyword.Else self.now offset) }
+        ensures only { (to : ℕ) → GoesTo BlockKeyword.Else self.now offset to → result ≡ Some to }
+        ensures none { IfNone result ((i : Instruction) → StandsAt self.now offset i → keyword i ≡ BlockKeyword.Else → ⊥) }
     {
-        self.goes(Word::Else, offset)
+        self.goes(BlockKeyword::Else, offset)
     }
 
     /// Returns where the FDEF at the offset goes: to just after its ENDF (Apple TrueType Reference Manual, FDEF). None where no FDEF
     /// starts at the offset.
     pub fn after_fdef(&self, offset: u32) -> Option<u32>
-        ensures value { result ≡ leads Word.Fdef self.now offset }
-        ensures found { IfSome result (GoesTo Word.Fdef self.now offset) }
-        ensures only { (to : ℕ) → GoesTo Word.Fdef self.now offset to → result ≡ Some to }
-        ensures none { IfNone result ((i : Instruction) → StandsAt self.now offset i → word i ≡ Word.Fdef → ⊥) }
+        ensures value { result ≡ leads BlockKeyword.Fdef self.now offset }
+        ensures found { IfSome result (GoesTo BlockKeyword.Fdef self.now offset) }
+        ensures only { (to : ℕ) → GoesTo BlockKeyword.Fdef self.now offset to → result ≡ Some to }
+        ensures none { IfNone result ((i : Instruction) → StandsAt self.now offset i → keyword i ≡ BlockKeyword.Fdef → ⊥) }
     {
-        self.goes(Word::Fdef, offset)
+        self.goes(BlockKeyword::Fdef, offset)
     }
 
     /// Returns the body of the instruction that starts at the offset, if one does.

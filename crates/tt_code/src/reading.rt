@@ -6,10 +6,10 @@ ghost use Rattle.std.specs.Vec.{vec_capacity};
 ghost use Rattle.tt_code.specs.Cut.{Instruction, IsInstruction};
 ghost use Rattle.tt_code.specs.Grammar.{CanGoOn};
 
+use crate::block_keyword::keyword_of_code;
 use crate::machine::Body;
-use crate::nest::{Open, Turn, next_body, take_turn};
+use crate::nest::{Nesting, Open, next_body, take_turn};
 use crate::slot::Slot;
-use crate::word::word_of_code;
 use std::alloc::{AllocError, Global};
 
 /// What is kept while a program is read.
@@ -49,14 +49,14 @@ impl Reading {
     {
         let offset = self.slots.len() as u32;
         let end = offset + instruction.len() as u32;
-        let word = word_of_code(instruction[0]);
+        let keyword = keyword_of_code(instruction[0]);
         let slot = Slot::start(instruction.len() as u16, self.body);
-        match take_turn(&mut self.stack, word, offset, self.body)? {
-            Turn::Refused => return Ok(false),
-            Turn::Passed => {}
-            Turn::Closed(opener) => self.slots[opener as usize].target = end,
+        match take_turn(&mut self.stack, keyword, offset, self.body)? {
+            Nesting::Refused => return Ok(false),
+            Nesting::Passed => {}
+            Nesting::Closed(opener) => self.slots[opener as usize].target = end,
         }
-        self.body = next_body(self.body, word, offset);
+        self.body = next_body(self.body, keyword, offset);
         self.slots.push(slot)?;
         self.slots.resize(end as usize, Slot::inside())?;
         Ok(true)

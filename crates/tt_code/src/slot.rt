@@ -7,7 +7,7 @@ use crate::machine::Body;
 
 /// The kind of body that an instruction belongs to.
 #[derive(Clone, Copy)]
-pub enum Kind {
+pub enum BodyKind {
     Main,
     Function,
     Instruction,
@@ -23,7 +23,7 @@ pub struct Slot {
     /// How many bytes the instruction has; 0 where none starts.
     pub length: u16,
     /// The kind of its body.
-    pub kind: Kind,
+    pub kind: BodyKind,
 }
 
 const _: () = prove!(size_of::<Slot>() == 12);
@@ -37,7 +37,7 @@ impl Slot {
             target: 0,
             first: 0,
             length: 0,
-            kind: Kind::Main,
+            kind: BodyKind::Main,
         }
     }
 
@@ -49,9 +49,9 @@ impl Slot {
         ensures target { target_in result ≡ None }
     {
         let (kind, first) = match body {
-            Body::Main => (Kind::Main, 0),
-            Body::Function(first) => (Kind::Function, first),
-            Body::Instruction(first) => (Kind::Instruction, first),
+            Body::Main => (BodyKind::Main, 0),
+            Body::Function(first) => (BodyKind::Function, first),
+            Body::Instruction(first) => (BodyKind::Instruction, first),
         };
         Slot {
             target: 0,
@@ -69,9 +69,9 @@ impl Slot {
             return None;
         }
         Some(match self.kind {
-            Kind::Main => Body::Main,
-            Kind::Function => Body::Function(self.first),
-            Kind::Instruction => Body::Instruction(self.first),
+            BodyKind::Main => Body::Main,
+            BodyKind::Function => Body::Function(self.first),
+            BodyKind::Instruction => Body::Instruction(self.first),
         })
     }
 

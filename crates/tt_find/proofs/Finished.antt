@@ -1,4 +1,4 @@
--- What the finder's last table tells, and what its refusals tell of all families.
+-- What the finder's last solver tells, and what its refusals tell of all families.
 use Rattle.std.specs.Prelude.{◌≡◌, ◌⊎◌, ℕ, zero, suc, ◌+◌, ◌<◌, cond, Option, Some, None, List, [], length}
 use Rattle.std.proofs.Common.{refl, sym, ◌∙◌, ap, subst, arith, inl, inr}
 use Rattle.std.proofs.lemmas.Bool.{cases_Bool}
@@ -25,7 +25,7 @@ use Rattle.tt_cert.specs.Rising.{family_without}
 use Rattle.tt_cert.proofs.FillingLaws.{ends_kept, ends_listed, some_or_none}
 use Rattle.tt_cert.specs.declared.fault.ProgramFault.{ProgramFault}
 use Rattle.tt_cert.specs.declared.fault.ProgramFault.TheVariants.{Refused, OutOfMemory}
-use Rattle.tt_find.specs.declared.table.Table.{Table}
+use Rattle.tt_find.specs.declared.solver.Solver.{Solver}
 use Rattle.tt_find.specs.Found.{AreDerivedContexts, AreLeastContexts, HasLeastFilling, KeepsBodies, IsDerived, IsJustified, IsLeast, IsNeverEnding, LacksEnd, NamesPlace, NeedsAll, NoneIsGood, too_long, refused, apart, too_many, never_ends}
 use Rattle.tt_find.specs.Tables.{HasLaws, IsAmong, IsListed, IsWhole, MayLead}
 use Rattle.tt_find.proofs.Many.{few_from_all}
@@ -60,20 +60,20 @@ module _ (s : Setting) (functions : List (ℕ × ℕ)) (laws : HasLaws s functio
   never_both mine other derived ends lacks = lacks.endless (end_below s.kind mine other derived lacks.good ends)
 
   -- nothing waits
-  module _ (table : Table) (whole : IsWhole s functions table) (none : table.worklist ≡ []) where
+  module _ (solver : Solver) (whole : IsWhole s functions solver) (none : solver.worklist ≡ []) where
     abbrev filled : Place → Option State
     filled = whole.filled
 
     derived_here : (p : Place) (a : State) → filled p ≡ Some a → IsDerived s functions p a
     derived_here = whole.kept.sound.derived
 
-    free : (p : Place) → IsAmong table.builder table.worklist p ⊎ ⊥ → ⊥
-    free p m = elim m [ inr never ↦ never | inl hit ↦ none_waiting table.worklist _ none hit ]
+    free : (p : Place) → IsAmong solver.builder solver.worklist p ⊎ ⊥ → ⊥
+    free p m = elim m [ inr never ↦ never | inl hit ↦ none_waiting solver.worklist _ none hit ]
 
     pub good_left : IsGood state_order (flow_of s functions) filled
     good_left =
         let sound = whole.kept.sound in
-        good_from_sound state_order state_laws (flow_of s functions) same_or_apart range_of filled (MayLead s table.builder table.spare.keys) (record {
+        good_from_sound state_order state_laws (flow_of s functions) same_or_apart range_of filled (MayLead s solver.builder solver.spare.keys) (record {
           derived = sound.derived;
           rest_derived = sound.rest_derived;
           start = sound.start;
@@ -88,7 +88,7 @@ module _ (s : Setting) (functions : List (ℕ × ℕ)) (laws : HasLaws s functio
     }
 
     abbrev IsUnlisted : Place → Type 0
-    IsUnlisted q = IsListed table.builder table.spare.keys q → ⊥
+    IsUnlisted q = IsListed solver.builder solver.spare.keys q → ⊥
 
     -- to a place that isn't listed only the one just before leads
     leads_just : (p : Place) (a : State) (q : Place) (t : State) → filled p ≡ Some a → GivesState s p a q t → IsUnlisted q → Precedes s p q
@@ -119,10 +119,10 @@ module _ (s : Setting) (functions : List (ℕ × ℕ)) (laws : HasLaws s functio
         (p, x, u, at, gives, least.least u gives.in_range below (subst B state below'))
 
     -- a family of kept states that has all that are listed
-    pub filling_left : (family : Place → Option State) → ((p : Place) (a : State) → family p ≡ Some a → family_of table.builder p ≡ Some a)
-        → ((q : Place) → IsListed table.builder table.spare.keys q → (a : State) × (family q ≡ Some a)) → IsFilling s family filled
+    pub filling_left : (family : Place → Option State) → ((p : Place) (a : State) → family p ≡ Some a → family_of solver.builder p ≡ Some a)
+        → ((q : Place) → IsListed solver.builder solver.spare.keys q → (a : State) × (family q ≡ Some a)) → IsFilling s family filled
     filling_left family keeps lists = record {
-      keeps = λ p a at. kept_state table.marks (family_of table.builder) filled p a whole.marks (keeps p a at);
+      keeps = λ p a at. kept_state solver.marks (family_of solver.builder) filled p a whole.marks (keeps p a at);
       added = λ q t at none.
           let gone : IsUnlisted q = λ listed. let (b, is) = lists q listed in absurd (let no_such : None ≡ Some b = sym none ∙ is in cc) in
           let (p, a, u, at', gives, below) = led_once q t (derived_here q t at) gone in
@@ -143,11 +143,11 @@ module _ (s : Setting) (functions : List (ℕ × ℕ)) (laws : HasLaws s functio
           };
     }
 
-    filling_all : IsFilling s (family_of table.builder) filled
-    filling_all = filling_left (family_of table.builder) (λ p a at. at) (λ q listed. (listed.state, listed.kept))
+    filling_all : IsFilling s (family_of solver.builder) filled
+    filling_all = filling_left (family_of solver.builder) (λ p a at. at) (λ q listed. (listed.state, listed.kept))
 
-    -- each context of the table, in whatever order they are, is one of every good family
-    pub contexts_left : (contexts : List (List Frame)) → ((frames : List Frame) → HasContext contexts frames → HasContext table.builder.contexts frames)
+    -- each context of the solver, in whatever order they are, is one of every good family
+    pub contexts_left : (contexts : List (List Frame)) → ((frames : List Frame) → HasContext contexts frames → HasContext solver.builder.contexts frames)
         → AreLeastContexts s functions contexts
     contexts_left contexts back = record {
       derived = entered;
@@ -161,31 +161,31 @@ module _ (s : Setting) (functions : List (ℕ × ℕ)) (laws : HasLaws s functio
         entered : (frames : List Frame) → HasContext contexts frames → (offset : ℕ) × (a : State) × IsDerived s functions (frames, offset) a
         entered frames has =
             let there = back frames has in
-            let (offset, a, d) = whole.kept.entered (number_of table.builder.contexts frames) there in
-            (offset, a, subst (λ (fs : List Frame). IsDerived s functions (fs, offset) a) (at-number_of table.builder.contexts frames there) d)
+            let (offset, a, d) = whole.kept.entered (number_of solver.builder.contexts frames) there in
+            (offset, a, subst (λ (fs : List Frame). IsDerived s functions (fs, offset) a) (at-number_of solver.builder.contexts frames there) d)
 
     bodies_left : KeepsBodies s functions filled
     bodies_left programs bodies p a at = derived_bodies s programs functions laws.short bodies p a (derived_here p a at)
 
-    -- each place with a state is in a context of the table
-    has_context : (k : ℕ) (p : Place) (a : State) → p.1 < k → filled p ≡ Some a → HasContext table.builder.contexts p.0
+    -- each place with a state is in a context of the solver
+    has_context : (k : ℕ) (p : Place) (a : State) → p.1 < k → filled p ≡ Some a → HasContext solver.builder.contexts p.0
     has_context zero p a lt at = absurd (omega arith)
-    has_context (suc k) p a lt at = elim (some_or_none (family_of table.builder p)) [
-      | inl (b, kept) ↦ has_number table.builder p b whole.kept.family kept
+    has_context (suc k) p a lt at = elim (some_or_none (family_of solver.builder p)) [
+      | inl (b, kept) ↦ has_number solver.builder p b whole.kept.family kept
       | inr gone ↦
           let add = filling_all.added p a at gone in
           let rise = precedes_rises s add.before p add.just_before in
-          let H : List Frame → Type 0 = λ x. HasContext table.builder.contexts x in
+          let H : List Frame → Type 0 = λ x. HasContext solver.builder.contexts x in
           subst H (sym add.just_before.calls) (has_context k add.before add.state (omega arith) add.there)
     ]
 
     few_left : HasFewContexts filled
-    few_left = (table.builder.contexts, whole.kept.family.few, λ p a at. has_context (p.1 + 1) p a (omega arith) at)
+    few_left = (solver.builder.contexts, whole.kept.family.few, λ p a at. has_context (p.1 + 1) p a (omega arith) at)
 
-    ends_left : EndsWell s s.kind (family_of table.builder) → EndsWell s s.kind filled
-    ends_left ends = ends_kept s (Precedes s) (λ p q h. h) (family_of table.builder) filled filling_all.keeps s.kind ends
+    ends_left : EndsWell s s.kind (family_of solver.builder) → EndsWell s s.kind filled
+    ends_left ends = ends_kept s (Precedes s) (λ p q h. h) (family_of solver.builder) filled filling_all.keeps s.kind ends
 
-    pub good_whole : IsShortEnough s s.kind → EndsWell s s.kind (family_of table.builder) → IsGoodFamily s functions filled
+    pub good_whole : IsShortEnough s s.kind → EndsWell s s.kind (family_of solver.builder) → IsGoodFamily s functions filled
     good_whole short ends = record {
       short = short;
       good = good_left;
@@ -194,21 +194,21 @@ module _ (s : Setting) (functions : List (ℕ × ℕ)) (laws : HasLaws s functio
       few = few_left;
     }
 
-    pub lacks_end : (EndsWell s s.kind (family_of table.builder) → ⊥) → LacksEnd s functions filled
+    pub lacks_end : (EndsWell s s.kind (family_of solver.builder) → ⊥) → LacksEnd s functions filled
     lacks_end endless = record {
       derived = derived_here;
       good = good_left;
       few = few_left;
-      endless = λ ends. endless (ends_listed s (family_of table.builder) filled filling_all s.kind ends);
+      endless = λ ends. endless (ends_listed s (family_of solver.builder) filled filling_all s.kind ends);
     }
 
-    pub never_both_left : (other : Place → Option State) → EndsWell s s.kind (family_of table.builder) → LacksEnd s functions other → ⊥
+    pub never_both_left : (other : Place → Option State) → EndsWell s s.kind (family_of solver.builder) → LacksEnd s functions other → ⊥
     never_both_left other ends lacks = never_both filled other derived_here (ends_left ends) lacks
 
     -- what is found
-    module _ (family : Place → Option State) (updates : ℕ) (keeps : (p : Place) (a : State) → family p ≡ Some a → family_of table.builder p ≡ Some a)
-        (lists : (q : Place) → IsListed table.builder table.spare.keys q → (a : State) × (family q ≡ Some a)) (short : IsShortEnough s s.kind) (ends : EndsWell s s.kind (family_of table.builder)) where
-      pub found_left : updates ≡ table.changes + table.passes → HasLeastFilling s functions updates family
+    module _ (family : Place → Option State) (updates : ℕ) (keeps : (p : Place) (a : State) → family p ≡ Some a → family_of solver.builder p ≡ Some a)
+        (lists : (q : Place) → IsListed solver.builder solver.spare.keys q → (a : State) × (family q ≡ Some a)) (short : IsShortEnough s s.kind) (ends : EndsWell s s.kind (family_of solver.builder)) where
+      pub found_left : updates ≡ solver.changes + solver.passes → HasLeastFilling s functions updates family
       found_left count =
           let F : ℕ → Type 0 = λ n. HasLeastFilling s functions n family in
           subst F (sym count) (record {
@@ -221,43 +221,43 @@ module _ (s : Setting) (functions : List (ℕ × ℕ)) (laws : HasLaws s functio
             points = whole.points;
             exact = whole.counted.exact;
             at_least = whole.counted.least;
-            at_most = visits_at_most s (height_of s) (family_of table.builder) filled (λ p. IsAmong table.builder table.worklist p ⊎ ⊥) whole.visits whole.points (table.changes + table.passes)
+            at_most = visits_at_most s (height_of s) (family_of solver.builder) filled (λ p. IsAmong solver.builder solver.worklist p ⊎ ⊥) whole.visits whole.points (solver.changes + solver.passes)
                 whole.visited whole.counted;
           })
 
-      pub needed_left : ((q : Place) (a : State) → family q ≡ Some a → IsListed table.builder table.spare.keys q) → NeedsAll s functions family
+      pub needed_left : ((q : Place) (a : State) → family q ≡ Some a → IsListed solver.builder solver.spare.keys q) → NeedsAll s functions family
       needed_left listed =
           needs_all s functions laws family filled (filling_left family keeps lists) (good_whole short ends) derived_here (λ q a at. whole.needed q (listed q a at))
 
     -- a certificate's family, with the spare states or without
-    pub keeps_same : (family : Place → Option State) → ((p : Place) → family p ≡ family_of table.builder p) → (p : Place) (a : State) → family p ≡ Some a → family_of table.builder p ≡ Some a
+    pub keeps_same : (family : Place → Option State) → ((p : Place) → family p ≡ family_of solver.builder p) → (p : Place) (a : State) → family p ≡ Some a → family_of solver.builder p ≡ Some a
     keeps_same family same p a at = sym (same p) ∙ at
 
-    pub lists_same : (family : Place → Option State) → ((p : Place) → family p ≡ family_of table.builder p) → (q : Place) → IsListed table.builder table.spare.keys q
+    pub lists_same : (family : Place → Option State) → ((p : Place) → family p ≡ family_of solver.builder p) → (q : Place) → IsListed solver.builder solver.spare.keys q
         → (a : State) × (family q ≡ Some a)
     lists_same family same q listed = (listed.state, same q ∙ listed.kept)
 
-    pub listed_without : (family : Place → Option State) → ((p : Place) → family p ≡ family_without table.builder table.spare.keys p) → (q : Place) (a : State) → family q ≡ Some a
-        → IsListed table.builder table.spare.keys q
-    listed_without family same q a at = elim (cases_Bool (has_point table.spare.keys (key_of table.builder q))) [
-      | inl spare ↦ absurd (let no_such : None ≡ Some a = sym (same q ∙ ap (λ b. cond b None (family_of table.builder q)) spare) ∙ at in cc)
+    pub listed_without : (family : Place → Option State) → ((p : Place) → family p ≡ family_without solver.builder solver.spare.keys p) → (q : Place) (a : State) → family q ≡ Some a
+        → IsListed solver.builder solver.spare.keys q
+    listed_without family same q a at = elim (cases_Bool (has_point solver.spare.keys (key_of solver.builder q))) [
+      | inl spare ↦ absurd (let no_such : None ≡ Some a = sym (same q ∙ ap (λ b. cond b None (family_of solver.builder q)) spare) ∙ at in cc)
       | inr not_spare ↦ record {
         state = a;
-        kept = sym (same q ∙ ap (λ b. cond b None (family_of table.builder q)) not_spare) ∙ at;
+        kept = sym (same q ∙ ap (λ b. cond b None (family_of solver.builder q)) not_spare) ∙ at;
         not_spare = not_spare;
       }
     ]
 
-    pub keeps_without : (family : Place → Option State) → ((p : Place) → family p ≡ family_without table.builder table.spare.keys p) → (p : Place) (a : State) → family p ≡ Some a
-        → family_of table.builder p ≡ Some a
+    pub keeps_without : (family : Place → Option State) → ((p : Place) → family p ≡ family_without solver.builder solver.spare.keys p) → (p : Place) (a : State) → family p ≡ Some a
+        → family_of solver.builder p ≡ Some a
     keeps_without family same p a at =
         let listed = listed_without family same p a at in
-        let both : family_of table.builder p ≡ family p = sym (same p ∙ ap (λ b. cond b None (family_of table.builder p)) listed.not_spare) in
+        let both : family_of solver.builder p ≡ family p = sym (same p ∙ ap (λ b. cond b None (family_of solver.builder p)) listed.not_spare) in
         both ∙ at
 
-    pub lists_without : (family : Place → Option State) → ((p : Place) → family p ≡ family_without table.builder table.spare.keys p) → (q : Place) → IsListed table.builder table.spare.keys q
+    pub lists_without : (family : Place → Option State) → ((p : Place) → family p ≡ family_without solver.builder solver.spare.keys p) → (q : Place) → IsListed solver.builder solver.spare.keys q
         → (a : State) × (family q ≡ Some a)
-    lists_without family same q listed = (listed.state, same q ∙ ap (λ b. cond b None (family_of table.builder q)) listed.not_spare ∙ listed.kept)
+    lists_without family same q listed = (listed.state, same q ∙ ap (λ b. cond b None (family_of solver.builder q)) listed.not_spare ∙ listed.kept)
 
   -- a family with few contexts isn't good where too many are derived
   none_where_many : (contexts : List (List Frame)) → AreDerivedContexts s functions contexts → 65535 < length contexts → (family : Place → Option State)

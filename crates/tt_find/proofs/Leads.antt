@@ -25,7 +25,7 @@ use Rattle.tt_find.specs.Found.{IsJustified, NamesPlace}
 use Rattle.tt_find.specs.Tables.{ComesFrom, IsCountable, HasLaws, IsJustAfter, IsLeading, IsLeadingAt, IsLeadingOn, IsLeadingTo, IsOnWay, IsStored, IsWalk, IsWhole, TellsSource, calls_of, here_of, place_behind, place_over, places_from}
 use Rattle.tt_find.specs.declared.origin.Origin.{Origin}
 use Rattle.tt_find.specs.declared.origin.Origin.TheVariants.{JustBefore, Elsewhere}
-use Rattle.tt_find.specs.declared.table.Table.{Table}
+use Rattle.tt_find.specs.declared.solver.Solver.{Solver}
 use Rattle.tt_find.specs.declared.walk.Walk.{Walk}
 use Rattle.tt_find.proofs.Points.{frames_stay}
 use Rattle.tt_find.proofs.Steps.{countable_left, leading_ends, leading_grown, leading_put, leading_swap, names_at, too_many_left}
@@ -63,15 +63,15 @@ comes_by s v c off number next after source family lt there is tells = (
 )
 
 module _ (s : Setting) (functions : List (ℕ × ℕ)) (laws : HasLaws s functions) where
-  pub ranged_to : (table : Table) (p q : Place) (t : State) (qs : List Place) → IsLeading s functions table p (q ∷ qs) t → state_order.InRange t
-  ranged_to table p q t qs leading =
+  pub ranged_to : (solver : Solver) (p q : Place) (t : State) (qs : List Place) → IsLeading s functions solver p (q ∷ qs) t → state_order.InRange t
+  ranged_to solver p q t qs leading =
       (derived_is state_order (flow_of s functions) (height_of s) laws.flow q t (leading.sound.kept.sound.rest_derived p q t (refl, inl (refl, refl)))).in_range
 
-  pub ranged_on : (table : Table) (p : Place) (a : State) → IsOnWay s functions table p a → state_order.InRange a
-  ranged_on table p a way = (derived_is state_order (flow_of s functions) (height_of s) laws.flow p a (way.sound.kept.sound.derived p a way.here)).in_range
+  pub ranged_on : (solver : Solver) (p : Place) (a : State) → IsOnWay s functions solver p a → state_order.InRange a
+  ranged_on solver p a way = (derived_is state_order (flow_of s functions) (height_of s) laws.flow p a (way.sound.kept.sound.derived p a way.here)).in_range
 
   -- the state was put at the only place
-  pub whole_put : (old new : Table) (p : Place) (c off : ℕ) (t : State) (source : Origin) → IsLeading s functions old p (place_of old.builder c off ∷ []) t → c < length old.builder.contexts
+  pub whole_put : (old new : Solver) (p : Place) (c off : ℕ) (t : State) (source : Origin) → IsLeading s functions old p (place_of old.builder c off ∷ []) t → c < length old.builder.contexts
       → IsStored old new c off t source → ComesFrom s p (place_of old.builder c off) source → IsWhole s functions new
   whole_put old new p c off t source leading lt stored comes =
       leading_ends s functions laws new p t (leading_put s functions laws old new p c off t [] source leading lt stored comes)
@@ -89,24 +89,24 @@ module _ (s : Setting) (functions : List (ℕ × ℕ)) (laws : HasLaws s functio
   -- The state is led to one place after the other.
 
   -- the place of the next way comes first
-  way_first : (table : Table) (p : Place) (fs : List Frame) (ways : Moves) (index : ℕ) (over : Option ℕ) (way : Move) (t : State) → slice_get (ways_of ways) index ≡ Some way
-      → IsLeading s functions table p (place_over fs over ++ places_from fs ways index) t
-      → IsLeading s functions table p (place_behind fs way ∷ place_over fs over ++ places_from fs ways (index + 1)) t
-  way_first table p fs ways index None way t e leading =
-      let L : List Place → Type 0 = λ x. IsLeading s functions table p x t in
+  way_first : (solver : Solver) (p : Place) (fs : List Frame) (ways : Moves) (index : ℕ) (over : Option ℕ) (way : Move) (t : State) → slice_get (ways_of ways) index ≡ Some way
+      → IsLeading s functions solver p (place_over fs over ++ places_from fs ways index) t
+      → IsLeading s functions solver p (place_behind fs way ∷ place_over fs over ++ places_from fs ways (index + 1)) t
+  way_first solver p fs ways index None way t e leading =
+      let L : List Place → Type 0 = λ x. IsLeading s functions solver p x t in
       subst L (ap (map (place_behind fs)) (drop_found (ways_of ways) index way e)) leading
-  way_first table p fs ways index (Some o) way t e leading =
-      let L : List Place → Type 0 = λ x. IsLeading s functions table p ((fs, o) ∷ x) t in
-      leading_swap s functions laws table p (fs, o) (place_behind fs way) (places_from fs ways (index + 1)) t
+  way_first solver p fs ways index (Some o) way t e leading =
+      let L : List Place → Type 0 = λ x. IsLeading s functions solver p ((fs, o) ∷ x) t in
+      leading_swap s functions laws solver p (fs, o) (place_behind fs way) (places_from fs ways (index + 1)) t
       (subst L (ap (map (place_behind fs)) (drop_found (ways_of ways) index way e)) leading)
 
   -- its context may be new
-  module _ (table : Table) (walk : Walk) (off : ℕ) (after : Option ℕ) (ways : Moves) (index : ℕ) (over : Option ℕ) (v' : Contents) (way : Move) (number next : ℕ)
-      (on : IsLeadingOn s functions table walk off after ways index over) (found : slice_get (ways_of ways) index ≡ Some way)
-      (adds : AddsContext table.builder.contexts v'.contexts (frames_behind (calls_of table walk) way) number)
-      (offset : next ≡ offset_behind (calls_of table walk) way) (states : v'.states ≡ table.builder.states) (family' : IsFamily v') where
-    stay : (frames_at v'.contexts walk.context ≡ calls_of table walk) × (walk.context < length v'.contexts)
-    stay = frames_stay table.builder.contexts v'.contexts (frames_behind (calls_of table walk) way) number walk.context adds on.walks.there
+  module _ (solver : Solver) (walk : Walk) (off : ℕ) (after : Option ℕ) (ways : Moves) (index : ℕ) (over : Option ℕ) (v' : Contents) (way : Move) (number next : ℕ)
+      (on : IsLeadingOn s functions solver walk off after ways index over) (found : slice_get (ways_of ways) index ≡ Some way)
+      (adds : AddsContext solver.builder.contexts v'.contexts (frames_behind (calls_of solver walk) way) number)
+      (offset : next ≡ offset_behind (calls_of solver walk) way) (states : v'.states ≡ solver.builder.states) (family' : IsFamily v') where
+    stay : (frames_at v'.contexts walk.context ≡ calls_of solver walk) × (walk.context < length v'.contexts)
+    stay = frames_stay solver.builder.contexts v'.contexts (frames_behind (calls_of solver walk) way) number walk.context adds on.walks.there
 
     pub walk_still : IsWalk v' walk
     walk_still = record {
@@ -116,53 +116,53 @@ module _ (s : Setting) (functions : List (ℕ × ℕ)) (laws : HasLaws s functio
       known = λ a b known. ap (λ x. states_of x (a, b)) states ∙ on.walks.known a b known;
     }
 
-    pub reached : IsLeadingTo s functions (record table { builder = v' }) walk off after ways (index + 1) over number next
+    pub reached : IsLeadingTo s functions (record solver { builder = v' }) walk off after ways (index + 1) over number next
     reached =
-        let fs = calls_of table walk in
+        let fs = calls_of solver walk in
         let qs = place_over fs over ++ places_from fs ways (index + 1) in
-        let grown = leading_grown s functions laws table v' (fs, off) (frames_behind fs way) number (offset_behind fs way) walk.state qs
-        (way_first table (fs, off) fs ways index over way walk.state found on.leading) adds states family' in
+        let grown = leading_grown s functions laws solver v' (fs, off) (frames_behind fs way) number (offset_behind fs way) walk.state qs
+        (way_first solver (fs, off) fs ways index over way walk.state found on.leading) adds states family' in
         let L : List Frame × Place → Type 0 =
-        λ x. IsLeading s functions (record table { builder = v' }) (x.0, off) (x.1 ∷ place_over x.0 over ++ places_from x.0 ways (index + 1)) walk.state in
+        λ x. IsLeading s functions (record solver { builder = v' }) (x.0, off) (x.1 ∷ place_over x.0 over ++ places_from x.0 ways (index + 1)) walk.state in
         let both : ◌≡◌ {A = List Frame × Place} (fs, place_behind fs way) (frames_at v'.contexts walk.context, place_of v' number next) = λ i. (sym stay.0 i, (sym adds.at i, sym offset i)) in
         let A : List Frame → Type 0 = λ x. IsJustAfter s (x, off) after in
         record { leading = subst L both grown; there = adds.there; just_after = subst A (sym stay.0) on.just_after; goes_over = on.goes_over; walks = walk_still }
 
   -- the same where the walk's context has this number
-  module _ (table : Table) (walk : Walk) (off : ℕ) (after : Option ℕ) (ways : Moves) (index : ℕ) (over : Option ℕ) (way : Move) (here : ℕ) (same : walk.context ≡ here)
-      (on : IsLeadingOn s functions table walk off after ways index over) (found : slice_get (ways_of ways) index ≡ Some way) where
-    pub reached_from : (v' : Contents) (number next : ℕ) → AddsContext table.builder.contexts v'.contexts (frames_behind (frames_at table.builder.contexts here) way) number
-        → next ≡ offset_behind (frames_at table.builder.contexts here) way → v'.states ≡ table.builder.states → IsFamily v'
-        → IsLeadingTo s functions (record table { builder = v' }) walk off after ways (index + 1) over number next
+  module _ (solver : Solver) (walk : Walk) (off : ℕ) (after : Option ℕ) (ways : Moves) (index : ℕ) (over : Option ℕ) (way : Move) (here : ℕ) (same : walk.context ≡ here)
+      (on : IsLeadingOn s functions solver walk off after ways index over) (found : slice_get (ways_of ways) index ≡ Some way) where
+    pub reached_from : (v' : Contents) (number next : ℕ) → AddsContext solver.builder.contexts v'.contexts (frames_behind (frames_at solver.builder.contexts here) way) number
+        → next ≡ offset_behind (frames_at solver.builder.contexts here) way → v'.states ≡ solver.builder.states → IsFamily v'
+        → IsLeadingTo s functions (record solver { builder = v' }) walk off after ways (index + 1) over number next
     reached_from v' number next adds offset states family' =
-        let A : ℕ → Type 0 = λ n. AddsContext table.builder.contexts v'.contexts (frames_behind (frames_at table.builder.contexts n) way) number in
-        let O : ℕ → Type 0 = λ n. next ≡ offset_behind (frames_at table.builder.contexts n) way in
-        reached table walk off after ways index over v' way number next on found (subst A (sym same) adds) (subst O (sym same) offset) states family'
+        let A : ℕ → Type 0 = λ n. AddsContext solver.builder.contexts v'.contexts (frames_behind (frames_at solver.builder.contexts n) way) number in
+        let O : ℕ → Type 0 = λ n. next ≡ offset_behind (frames_at solver.builder.contexts n) way in
+        reached solver walk off after ways index over v' way number next on found (subst A (sym same) adds) (subst O (sym same) offset) states family'
 
-    pub countable_on : IsCountable table.builder.contexts here
+    pub countable_on : IsCountable solver.builder.contexts here
     countable_on =
-        let C : ℕ → Type 0 = λ n. IsCountable table.builder.contexts n in
-        subst C same (countable_left s functions laws table walk.context _ _ on.leading.sound on.walks.there)
+        let C : ℕ → Type 0 = λ n. IsCountable solver.builder.contexts n in
+        subst C same (countable_left s functions laws solver walk.context _ _ on.leading.sound on.walks.there)
 
     -- there is one context too many
-    pub too_many_on : (HasContext table.builder.contexts (frames_behind (frames_at table.builder.contexts here) way) → ⊥) → length table.builder.contexts ≡ 65535
-        → IsJustified s functions (frames_at table.builder.contexts here, off) TooManyContexts
+    pub too_many_on : (HasContext solver.builder.contexts (frames_behind (frames_at solver.builder.contexts here) way) → ⊥) → length solver.builder.contexts ≡ 65535
+        → IsJustified s functions (frames_at solver.builder.contexts here, off) TooManyContexts
     too_many_on absent full =
-        let fs = calls_of table walk in
+        let fs = calls_of solver walk in
         let qs = place_over fs over ++ places_from fs ways (index + 1) in
-        let H : ℕ → Type 0 = λ n. HasContext table.builder.contexts (frames_behind (frames_at table.builder.contexts n) way) → ⊥ in
-        let J : ℕ → Type 0 = λ n. IsJustified s functions (frames_at table.builder.contexts n, off) TooManyContexts in
-        subst J same (too_many_left s functions laws table (fs, off) (place_behind fs way) walk.state qs (way_first table (fs, off) fs ways index over way walk.state found on.leading) (subst H (sym same) absent) full)
+        let H : ℕ → Type 0 = λ n. HasContext solver.builder.contexts (frames_behind (frames_at solver.builder.contexts n) way) → ⊥ in
+        let J : ℕ → Type 0 = λ n. IsJustified s functions (frames_at solver.builder.contexts n, off) TooManyContexts in
+        subst J same (too_many_left s functions laws solver (fs, off) (place_behind fs way) walk.state qs (way_first solver (fs, off) fs ways index over way walk.state found on.leading) (subst H (sym same) absent) full)
 
   -- over it the state goes last
-  pub held : (table : Table) (walk : Walk) (off : ℕ) (after : Option ℕ) (ways : Moves) (index number next : ℕ) → IsLeadingTo s functions table walk off after ways index None number next
-      → number ≡ walk.context → after ≡ Some next → IsLeadingOn s functions table walk off after ways index (Some next)
-  held table walk off after ways index number next to same at =
-      let L : ℕ → Type 0 = λ x. IsLeadingAt s functions table walk off (place_of table.builder x next ∷ places_from (calls_of table walk) ways index) in
+  pub held : (solver : Solver) (walk : Walk) (off : ℕ) (after : Option ℕ) (ways : Moves) (index number next : ℕ) → IsLeadingTo s functions solver walk off after ways index None number next
+      → number ≡ walk.context → after ≡ Some next → IsLeadingOn s functions solver walk off after ways index (Some next)
+  held solver walk off after ways index number next to same at =
+      let L : ℕ → Type 0 = λ x. IsLeadingAt s functions solver walk off (place_of solver.builder x next ∷ places_from (calls_of solver walk) ways index) in
       record { leading = subst L same to.leading; just_after = to.just_after; goes_over = λ n e. let one : next ≡ n = cc in at ∙ ap Some one; walks = to.walks }
 
   -- it has the state now
-  pub put : (old new : Table) (walk walk' : Walk) (off : ℕ) (after : Option ℕ) (ways : Moves) (index : ℕ) (over : Option ℕ) (number next : ℕ) (source : Origin)
+  pub put : (old new : Solver) (walk walk' : Walk) (off : ℕ) (after : Option ℕ) (ways : Moves) (index : ℕ) (over : Option ℕ) (number next : ℕ) (source : Origin)
       → IsLeadingTo s functions old walk off after ways index over number next → IsStored old new number next walk.state source → TellsSource walk.context number after next source
       → IsWalk new.builder walk' → walk'.context ≡ walk.context → walk'.state ≡ walk.state → IsLeadingOn s functions new walk' off after ways index over
   put old new walk walk' off after ways index over number next source to stored tells is context state =
@@ -178,20 +178,20 @@ module _ (s : Setting) (functions : List (ℕ × ℕ)) (laws : HasLaws s functio
       record { leading = subst L all led; just_after = subst A both to.just_after; goes_over = to.goes_over; walks = is }
 
   -- after the last of them
-  pub none_over : (table : Table) (walk : Walk) (off : ℕ) (after : Option ℕ) (ways : Moves) (index : ℕ) (over : Option ℕ) → IsLeadingOn s functions table walk off after ways index over
-      → slice_get (ways_of ways) index ≡ None → over ≡ None → IsWhole s functions table
-  none_over table walk off after ways index over on none is =
-      let L : Option ℕ × List Move → Type 0 = λ x. IsLeadingAt s functions table walk off (place_over (calls_of table walk) x.0 ++ map (place_behind (calls_of table walk)) x.1) in
+  pub none_over : (solver : Solver) (walk : Walk) (off : ℕ) (after : Option ℕ) (ways : Moves) (index : ℕ) (over : Option ℕ) → IsLeadingOn s functions solver walk off after ways index over
+      → slice_get (ways_of ways) index ≡ None → over ≡ None → IsWhole s functions solver
+  none_over solver walk off after ways index over on none is =
+      let L : Option ℕ × List Move → Type 0 = λ x. IsLeadingAt s functions solver walk off (place_over (calls_of solver walk) x.0 ++ map (place_behind (calls_of solver walk)) x.1) in
       let both : ◌≡◌ {A = Option ℕ × List Move} (over, drop index (ways_of ways)) (None, []) = λ i. (is i, drop_none (ways_of ways) index none i) in
-      leading_ends s functions laws table (here_of table.builder walk off) walk.state (subst L both on.leading)
+      leading_ends s functions laws solver (here_of solver.builder walk off) walk.state (subst L both on.leading)
 
-  pub last_over : (table : Table) (walk : Walk) (off : ℕ) (after : Option ℕ) (ways : Moves) (index : ℕ) (over : Option ℕ) (next : ℕ) → IsLeadingOn s functions table walk off after ways index over
-      → slice_get (ways_of ways) index ≡ None → over ≡ Some next → IsLeadingAt s functions table walk off (here_of table.builder walk next ∷ [])
-  last_over table walk off after ways index over next on none is =
-      let L : Option ℕ × List Move → Type 0 = λ x. IsLeadingAt s functions table walk off (place_over (calls_of table walk) x.0 ++ map (place_behind (calls_of table walk)) x.1) in
+  pub last_over : (solver : Solver) (walk : Walk) (off : ℕ) (after : Option ℕ) (ways : Moves) (index : ℕ) (over : Option ℕ) (next : ℕ) → IsLeadingOn s functions solver walk off after ways index over
+      → slice_get (ways_of ways) index ≡ None → over ≡ Some next → IsLeadingAt s functions solver walk off (here_of solver.builder walk next ∷ [])
+  last_over solver walk off after ways index over next on none is =
+      let L : Option ℕ × List Move → Type 0 = λ x. IsLeadingAt s functions solver walk off (place_over (calls_of solver walk) x.0 ++ map (place_behind (calls_of solver walk)) x.1) in
       let both : ◌≡◌ {A = Option ℕ × List Move} (over, drop index (ways_of ways)) (Some next, []) = λ i. (is i, drop_none (ways_of ways) index none i) in
       subst L both on.leading
 
-  pub just_over : (table : Table) (walk : Walk) (off : ℕ) (after : Option ℕ) (ways : Moves) (index : ℕ) (over : Option ℕ) (next : ℕ) → IsLeadingOn s functions table walk off after ways index over
-      → over ≡ Some next → Precedes s (here_of table.builder walk off) (here_of table.builder walk next)
-  just_over table walk off after ways index over next on is = (on.just_after (here_of table.builder walk next)).0 (refl, on.goes_over next is)
+  pub just_over : (solver : Solver) (walk : Walk) (off : ℕ) (after : Option ℕ) (ways : Moves) (index : ℕ) (over : Option ℕ) (next : ℕ) → IsLeadingOn s functions solver walk off after ways index over
+      → over ≡ Some next → Precedes s (here_of solver.builder walk off) (here_of solver.builder walk next)
+  just_over solver walk off after ways index over next on is = (on.just_after (here_of solver.builder walk next)).0 (refl, on.goes_over next is)

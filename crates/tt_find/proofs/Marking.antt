@@ -13,7 +13,7 @@ use Rattle.tt_find.specs.Marks.{SetsMark, list_of, mark_at, mark_of}
 use Rattle.tt_find.specs.Tables.{AreKept}
 use Rattle.tt_find.specs.declared.marks.Mark.{Mark}
 use Rattle.tt_find.specs.declared.marks.Mark.TheVariants.{Free, Kept, Passed}
-use Rattle.tt_find.specs.declared.marks.Marks.{Marks}
+use Rattle.tt_find.specs.declared.marks.Marks.{OffsetMarks}
 use Rattle.tt_find.proofs.Points.{same_or_apart, slot_elsewhere, slot_here, with_slot}
 
 cases_spot : (a b : Spot) → (a ≡ b) ⊎ (a ≢ b)
@@ -43,7 +43,7 @@ cases_mark Free = inl refl
 cases_mark Passed = inr (inl refl)
 cases_mark Kept = inr (inr refl)
 
-module _ (old new : Marks) (q : Place) (mark : Mark) (sets : SetsMark old new (spot_of q.0) q.1 mark) where
+module _ (old new : OffsetMarks) (q : Place) (mark : Mark) (sets : SetsMark old new (spot_of q.0) q.1 mark) where
   marked_here : (p : Place) → (spot_of p.0 ≡ spot_of q.0) × (p.1 ≡ q.1) → mark_at new p ≡ mark
   marked_here p (spot, offset) = (λ i. mark_of new (spot i) (offset i)) ∙ sets.here
 
@@ -54,7 +54,7 @@ module _ (old new : Marks) (q : Place) (mark : Mark) (sets : SetsMark old new (s
   as_before p apart = sets.elsewhere (spot_of p.0) p.1 apart
 
 -- the state at a place that wasn't passed is the kept one
-pub kept_here : (marks : Marks) (stored filled : Place → Option State) (q : Place) → AreKept marks stored filled → mark_at marks q ≢ Passed → stored q ≡ filled q
+pub kept_here : (marks : OffsetMarks) (stored filled : Place → Option State) (q : Place) → AreKept marks stored filled → mark_at marks q ≢ Passed → stored q ≡ filled q
 kept_here marks stored filled q kept fresh = elim (cases_mark (mark_at marks q)) [
   | inl free ↦ let (a, b) = kept.free q free in a ∙ sym b
   | inr (inl passed) ↦ absurd (fresh passed)
@@ -62,12 +62,12 @@ kept_here marks stored filled q kept fresh = elim (cases_mark (mark_at marks q))
 ]
 
 -- a kept state is that of the filled family
-pub kept_state : (marks : Marks) (stored filled : Place → Option State) (q : Place) (a : State) → AreKept marks stored filled → stored q ≡ Some a → filled q ≡ Some a
+pub kept_state : (marks : OffsetMarks) (stored filled : Place → Option State) (q : Place) (a : State) → AreKept marks stored filled → stored q ≡ Some a → filled q ≡ Some a
 kept_state marks stored filled q a kept at =
     sym (kept_here marks stored filled q kept (λ passed. let no_such : None ≡ Some a = sym (kept.passed q passed) ∙ at in cc)) ∙ at
 
 -- where states aren't kept there is none
-pub none_kept : (marks : Marks) (stored filled : Place → Option State) (q : Place) → AreKept marks stored filled → mark_at marks q ≢ Kept → stored q ≡ None
+pub none_kept : (marks : OffsetMarks) (stored filled : Place → Option State) (q : Place) → AreKept marks stored filled → mark_at marks q ≢ Kept → stored q ≡ None
 none_kept marks stored filled q kept fresh = elim (cases_mark (mark_at marks q)) [
   | inl free ↦ (kept.free q free).0
   | inr (inl passed) ↦ kept.passed q passed
@@ -75,7 +75,7 @@ none_kept marks stored filled q kept fresh = elim (cases_mark (mark_at marks q))
 ]
 
 -- a state was put at a place at which states are kept from then on
-pub kept_put : (old new : Marks) (stored stored' filled : Place → Option State) (q : Place) → AreKept old stored filled → SetsMark old new (spot_of q.0) q.1 Kept
+pub kept_put : (old new : OffsetMarks) (stored stored' filled : Place → Option State) (q : Place) → AreKept old stored filled → SetsMark old new (spot_of q.0) q.1 Kept
     → mark_at old q ≢ Passed → ((p : Place) → p ≢ q → stored' p ≡ stored p) → AreKept new stored' (with_slot filled q (stored' q))
 kept_put old new stored stored' filled q kept sets fresh elsewhere = record {
   kept = λ p is. elim (same_or_apart p q) [
@@ -102,7 +102,7 @@ kept_put old new stored stored' filled q kept sets fresh elsewhere = record {
     ]
 
 -- a state went over a place at which states aren't kept
-pub kept_passed : (old new : Marks) (stored filled : Place → Option State) (q : Place) (slot : Option State) → AreKept old stored filled → SetsMark old new (spot_of q.0) q.1 Passed
+pub kept_passed : (old new : OffsetMarks) (stored filled : Place → Option State) (q : Place) (slot : Option State) → AreKept old stored filled → SetsMark old new (spot_of q.0) q.1 Passed
     → mark_at old q ≢ Kept → AreKept new stored (with_slot filled q slot)
 kept_passed old new stored filled q slot kept sets fresh = record {
   kept = λ p is. elim (cases_at (spot_of q.0) q.1 p) [
@@ -126,7 +126,7 @@ kept_passed old new stored filled q slot kept sets fresh = record {
 
 -- an offset of a program's list is marked
 
-not_everywhere : (marks : Marks) (spot : Spot) (offset : ℕ) → mark_of marks spot offset ≢ Kept → (marks.everywhere ≡ false) × (offset < length (list_of marks spot))
+not_everywhere : (marks : OffsetMarks) (spot : Spot) (offset : ℕ) → mark_of marks spot offset ≢ Kept → (marks.everywhere ≡ false) × (offset < length (list_of marks spot))
 not_everywhere marks spot offset fresh = (is, lt)
   where
     is : marks.everywhere ≡ false
@@ -141,7 +141,7 @@ not_everywhere marks spot offset fresh = (is, lt)
       | inr past ↦ absurd (fresh (ap (λ b. cond b Kept (slice_index_or (list_of marks spot) offset Kept)) is ∙ get_or_past (list_of marks spot) offset Kept past))
     ]
 
-sets_from : (old new : Marks) (spot : Spot) (offset : ℕ) (mark : Mark) → mark_of old spot offset ≢ Kept → new.everywhere ≡ old.everywhere
+sets_from : (old new : OffsetMarks) (spot : Spot) (offset : ℕ) (mark : Mark) → mark_of old spot offset ≢ Kept → new.everywhere ≡ old.everywhere
     → list_of new spot ≡ slice_set (list_of old spot) offset mark → ((other : Spot) → other ≢ spot → list_of new other ≡ list_of old other) → SetsMark old new spot offset mark
 sets_from old new spot offset mark fresh same here others =
     let (is, lt) = not_everywhere old spot offset fresh in
@@ -164,7 +164,7 @@ sets_from old new spot offset mark fresh same here others =
           ap (λ x. slice_index_or x at Kept) there ∙ get_or-set_other (list_of old other) offset at mark Kept (λ e. distinct (is, e))
     ]
 
-pub sets_main : (old : Marks) (spot : Spot) (offset : ℕ) (mark : Mark) → spot ≡ Main → mark_of old spot offset ≢ Kept
+pub sets_main : (old : OffsetMarks) (spot : Spot) (offset : ℕ) (mark : Mark) → spot ≡ Main → mark_of old spot offset ≢ Kept
     → SetsMark old (record old { main = with_item old.main offset mark }) spot offset mark
 sets_main old spot offset mark is fresh = sets_from old (record old { main = with_item old.main offset mark }) spot offset mark fresh refl
     (ap (list_of (record old { main = with_item old.main offset mark })) is ∙ ap (λ x. slice_set (list_of old x) offset mark) (sym is)) others
@@ -174,7 +174,7 @@ sets_main old spot offset mark is fresh = sets_from old (record old { main = wit
     others Font apart = refl
     others Prep apart = refl
 
-pub sets_font : (old : Marks) (spot : Spot) (offset : ℕ) (mark : Mark) → spot ≡ Font → mark_of old spot offset ≢ Kept
+pub sets_font : (old : OffsetMarks) (spot : Spot) (offset : ℕ) (mark : Mark) → spot ≡ Font → mark_of old spot offset ≢ Kept
     → SetsMark old (record old { font = with_item old.font offset mark }) spot offset mark
 sets_font old spot offset mark is fresh = sets_from old (record old { font = with_item old.font offset mark }) spot offset mark fresh refl
     (ap (list_of (record old { font = with_item old.font offset mark })) is ∙ ap (λ x. slice_set (list_of old x) offset mark) (sym is)) others
@@ -184,7 +184,7 @@ sets_font old spot offset mark is fresh = sets_from old (record old { font = wit
     others Font apart = absurd (apart (sym is))
     others Prep apart = refl
 
-pub sets_prep : (old : Marks) (spot : Spot) (offset : ℕ) (mark : Mark) → spot ≡ Prep → mark_of old spot offset ≢ Kept
+pub sets_prep : (old : OffsetMarks) (spot : Spot) (offset : ℕ) (mark : Mark) → spot ≡ Prep → mark_of old spot offset ≢ Kept
     → SetsMark old (record old { prep = with_item old.prep offset mark }) spot offset mark
 sets_prep old spot offset mark is fresh = sets_from old (record old { prep = with_item old.prep offset mark }) spot offset mark fresh refl
     (ap (list_of (record old { prep = with_item old.prep offset mark })) is ∙ ap (λ x. slice_set (list_of old x) offset mark) (sym is)) others

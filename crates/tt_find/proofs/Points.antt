@@ -100,11 +100,11 @@ module _ (o : Order State) (f : Flow Place State) where
   pub table_popped : OrderLaws o → (v : Contents) (worklist worklist' : List (ℕ × ℕ)) (filled : Place → Option State) (MayLead : Place → Place → Type 0) (c off : ℕ)
       → IsTable o f v worklist filled MayLead (λ _. ⊥) (λ _ _ _. ⊥) → worklist ≡ (c, off) ∷ worklist'
       → IsTable o f v worklist' filled MayLead (λ p. p ≡ place_of v c off) (λ _ _ _. ⊥)
-  table_popped order v worklist worklist' filled MayLead c off table is = record {
-    family = table.family;
-    entered = table.entered;
-    held = λ a b m. table.held a b (stays (a, b) m);
-    sound = sound_moved o order f filled MayLead MayLead (λ p. IsAmong v worklist p ⊎ ⊥) (λ p. IsAmong v worklist' p ⊎ (p ≡ place_of v c off)) (λ _ _ _. ⊥) table.sound (λ p q m. m)
+  table_popped order v worklist worklist' filled MayLead c off solver is = record {
+    family = solver.family;
+    entered = solver.entered;
+    held = λ a b m. solver.held a b (stays (a, b) m);
+    sound = sound_moved o order f filled MayLead MayLead (λ p. IsAmong v worklist p ⊎ ⊥) (λ p. IsAmong v worklist' p ⊎ (p ≡ place_of v c off)) (λ _ _ _. ⊥) solver.sound (λ p q m. m)
         (λ p m. elim m [ inl hit ↦ was p hit | inr never ↦ absurd never ]);
   }
     where
@@ -123,8 +123,8 @@ module _ (o : Order State) (f : Flow Place State) where
         | inl same ↦
             let n : number_of v.contexts p.0 ≡ c = ap (λ (x : ℕ × ℕ). x.0) same in
             let b : p.1 ≡ off = ap (λ (x : ℕ × ℕ). x.1) same in
-            let (a, at) = table.held (number_of v.contexts p.0) p.1 hit in
-            let frames : p.0 ≡ frames_at v.contexts c = sym (at-number_of v.contexts p.0 (table.family.held (number_of v.contexts p.0) p.1 a at)) ∙ ap (frames_at v.contexts) n in
+            let (a, at) = solver.held (number_of v.contexts p.0) p.1 hit in
+            let frames : p.0 ≡ frames_at v.contexts c = sym (at-number_of v.contexts p.0 (solver.family.held (number_of v.contexts p.0) p.1 a at)) ∙ ap (frames_at v.contexts) n in
             inr (λ i. (frames i, b i))
       ]
 
@@ -133,11 +133,11 @@ module _ (o : Order State) (f : Flow Place State) where
       → IsTable o f v worklist filled MayLead (λ p. p ≡ q) (λ _ _ _. ⊥) → filled q ≡ Some s → ((r : Reason) → f.Refuses q s r → ⊥)
       → ((p : Place) (t : State) → f.Gives q s p t → Rest q p t) → ((r p : Place) (t : State) → Rest r p t → f.Gives q s p t)
       → IsTable o f v worklist filled MayLead (λ _. ⊥) Rest
-  table_opened order v worklist filled MayLead q s Rest table at free gives back = record {
-    family = table.family;
-    entered = table.entered;
-    held = table.held;
-    sound = sound_opened o order f same_or_apart filled MayLead (λ p. IsAmong v worklist p ⊎ (p ≡ q)) (λ p. IsAmong v worklist p ⊎ ⊥) Rest q s table.sound at free gives back
+  table_opened order v worklist filled MayLead q s Rest solver at free gives back = record {
+    family = solver.family;
+    entered = solver.entered;
+    held = solver.held;
+    sound = sound_opened o order f same_or_apart filled MayLead (λ p. IsAmong v worklist p ⊎ (p ≡ q)) (λ p. IsAmong v worklist p ⊎ ⊥) Rest q s solver.sound at free gives back
         (λ p apart m. elim m [ inl hit ↦ inl hit | inr same ↦ absurd (apart same) ]);
   }
 
@@ -146,14 +146,14 @@ module _ (o : Order State) (f : Flow Place State) where
       (frames : List Frame) (number off : ℕ) (t : State) → IsTable o f v worklist filled MayLead (λ _. ⊥) Rest → AddsContext v.contexts v'.contexts frames number → v'.states ≡ v.states
       → IsFamily v' → Derived o f (frames, off) t → ((p q : Place) → MayLead p q → MayLead' p q)
       → IsTable o f v' worklist filled MayLead' (λ _. ⊥) Rest
-  table_grown order v v' worklist filled MayLead MayLead' Rest frames number off t table adds states family' d leads = record {
+  table_grown order v v' worklist filled MayLead MayLead' Rest frames number off t solver adds states family' d leads = record {
     family = family';
     entered = entered;
-    held = λ c b m. let (a, at) = table.held c b m in (a, ap (λ x. states_of x (c, b)) states ∙ at);
-    sound = sound_moved o order f filled MayLead MayLead' (λ p. IsAmong v worklist p ⊎ ⊥) (λ p. IsAmong v' worklist p ⊎ ⊥) Rest table.sound leads (λ p m. elim m [
+    held = λ c b m. let (a, at) = solver.held c b m in (a, ap (λ x. states_of x (c, b)) states ∙ at);
+    sound = sound_moved o order f filled MayLead MayLead' (λ p. IsAmong v worklist p ⊎ ⊥) (λ p. IsAmong v' worklist p ⊎ ⊥) Rest solver.sound leads (λ p m. elim m [
       | inl hit ↦
-          let (a, at) = table.held (number_of v.contexts p.0) p.1 hit in
-          inl (ap (has_point worklist) (key_kept v v' frames number adds states p (table.family.held (number_of v.contexts p.0) p.1 a at)) ∙ hit)
+          let (a, at) = solver.held (number_of v.contexts p.0) p.1 hit in
+          inl (ap (has_point worklist) (key_kept v v' frames number adds states p (solver.family.held (number_of v.contexts p.0) p.1 a at)) ∙ hit)
       | inr never ↦ absurd never
     ]);
   }
@@ -162,7 +162,7 @@ module _ (o : Order State) (f : Flow Place State) where
       entered i lt = elim adds.how [
         | inl same ↦
             let E : List (List Frame) → Type 0 = λ x. i < length x → (offset : ℕ) × (a : State) × Derived o f (frames_at x i, offset) a in
-            subst E (sym same.1) (table.entered i) lt
+            subst E (sym same.1) (solver.entered i) lt
         | inr new ↦
             let E : List (List Frame) → Type 0 = λ x. i < length x → (offset : ℕ) × (a : State) × Derived o f (frames_at x i, offset) a in
             subst E (sym new.2) (appended i) lt
@@ -173,7 +173,7 @@ module _ (o : Order State) (f : Flow Place State) where
               let long = length-append v.contexts (frames ∷ []) in
               elim (cases_lt i (length v.contexts)) [
                 | inl old ↦
-                    let (a, s, da) = table.entered i old in
+                    let (a, s, da) = solver.entered i old in
                     let D : List Frame → Type 0 = λ x. Derived o f (x, a) s in
                     (a, s, subst D (sym (get_or-append v.contexts (frames ∷ []) [] i old)) da)
                 | inr last ↦
@@ -214,17 +214,17 @@ module _ (o : Order State) (f : Flow Place State) where
       → ((p r : Place) (s : State) → Rest p r s → Rest' p r s ⊎ ((r ≡ place_of v c off) × (s ≡ t) × MayLead' p (place_of v c off)))
       → ((p r : Place) (s : State) → Rest' p r s → Rest p r s) → ((p r : Place) → MayLead p r → MayLead' p r)
       → IsTable o f v' worklist' filled' MayLead' (λ _. ⊥) Rest'
-  table_put order v v' worklist worklist' filled filled' MayLead MayLead' c off t changed Rest Rest' table lt put fills same family marks d fewer back leads =
+  table_put order v v' worklist worklist' filled filled' MayLead MayLead' c off t changed Rest Rest' solver lt put fills same family marks d fewer back leads =
       let long = ap length same in
       let E : List (List Frame) → Type 0 = λ x. (i : ℕ) → i < length x → (a : ℕ) × (s : State) × Derived o f (frames_at x i, a) s in
       record {
         family = family;
-        entered = subst E (sym same) table.entered;
+        entered = subst E (sym same) solver.entered;
         held = held;
         sound = sound_put o order f same_or_apart filled filled' MayLead MayLead' (λ p. IsAmong v worklist p ⊎ ⊥) (λ p. IsAmong v' worklist' p ⊎ ⊥) Rest Rest' (place_of v c off) t changed
-            table.sound fills d fewer back leads
-            (λ p m. elim m [ inl hit ↦ inl (waits_on v v' worklist worklist' c off changed same marks table.family lt p hit) | inr never ↦ absurd never ])
-            (λ is. inl (waits_here v v' worklist worklist' c off changed same marks table.family lt is));
+            solver.sound fills d fewer back leads
+            (λ p m. elim m [ inl hit ↦ inl (waits_on v v' worklist worklist' c off changed same marks solver.family lt p hit) | inr never ↦ absurd never ])
+            (λ is. inl (waits_here v v' worklist worklist' c off changed same marks solver.family lt is));
       }
     where
       there : (x y : Option State) → PutGives o x t y changed → (a : State) × (y ≡ Some a)
@@ -235,19 +235,19 @@ module _ (o : Order State) (f : Flow Place State) where
 
       rises : (a b : ℕ) (s : State) → states_of v.states (a, b) ≡ Some s → (u : State) × (states_of v'.states (a, b) ≡ Some u)
       rises a b s at =
-          let lt' = table.family.held a b s at in
+          let lt' = solver.family.held a b s at in
           let moved : family_of v' (place_of v a b) ≡ states_of v'.states (a, b) =
           let long' = ap length same in (λ i. family_of v' (frames_at (sym same i) a, b)) ∙ family_at v' a b family (omega arith) in
           elim (same_or_apart (place_of v a b) (place_of v c off)) [
             | inl here ↦
                 let (u, is) = there (family_of v (place_of v c off)) (family_of v' (place_of v c off)) put.here in
                 (u, sym moved ∙ ap (family_of v') here ∙ is)
-            | inr apart ↦ (s, sym moved ∙ put.elsewhere (place_of v a b) apart ∙ family_at v a b table.family lt' ∙ at)
+            | inr apart ↦ (s, sym moved ∙ put.elsewhere (place_of v a b) apart ∙ family_at v a b solver.family lt' ∙ at)
           ]
 
       held : (a b : ℕ) → has_point worklist' (a, b) ≡ true → (s : State) × (states_of v'.states (a, b) ≡ Some s)
       held a b m = elim (marks.back (a, b) m) [
-        | inl old ↦ let (s, at) = table.held a b old in rises a b s at
+        | inl old ↦ let (s, at) = solver.held a b old in rises a b s at
         | inr (new, _) ↦
             let moved : family_of v' (place_of v c off) ≡ states_of v'.states (c, off) =
             let long' = ap length same in (λ i. family_of v' (frames_at (sym same i) c, off)) ∙ family_at v' c off family (omega arith) in

@@ -1,4 +1,4 @@
--- The finder's first table.
+-- The finder's first solver.
 use Rattle.std.specs.Prelude.{◌≡◌, ◌≢◌, ◌⊎◌, ℕ, ◌+◌, ◌<◌, Bool, true, cond, Option, Some, None, List, [], length}
 use Rattle.std.proofs.Common.{refl, sym, ◌∙◌, ap, subst, arith, inl, inr}
 use Rattle.tt_code.specs.Settings.{Setting}
@@ -12,7 +12,7 @@ use Rattle.tt_cert.specs.Contents.{family_of, frames_at, number_of}
 use Rattle.tt_cert.specs.Places.{PutGives, PutsAt, has_point, states_of}
 use Rattle.tt_cert.specs.Puts.{number_at, place_of}
 use Rattle.tt_find.specs.declared.origin.Origin.TheVariants.{Elsewhere}
-use Rattle.tt_find.specs.declared.table.Table.{Table}
+use Rattle.tt_find.specs.declared.solver.Solver.{Solver}
 use Rattle.tt_find.specs.Found.{IsDerived}
 use Rattle.tt_find.specs.Tables.{ArePoints, AreKept, AreVisits, HasLaws, IsAmong, IsEmptyTable, IsListed, IsStored, IsWhole, IsWithinBudget}
 use Rattle.tt_find.proofs.Budget.{budget_start}
@@ -45,7 +45,7 @@ no_points family blank = record {
   most = omega arith;
 }
 
-module _ (s : Setting) (functions : List (ℕ × ℕ)) (laws : HasLaws s functions) (old new : Table) (t : State) (start : t ≡ start_of functions) (empty : IsEmptyTable old) (stored : IsStored old new 0 0 t Elsewhere) where
+module _ (s : Setting) (functions : List (ℕ × ℕ)) (laws : HasLaws s functions) (old new : Solver) (t : State) (start : t ≡ start_of functions) (empty : IsEmptyTable old) (stored : IsStored old new 0 0 t Elsewhere) where
   abbrev Q : Place
   Q = place_of old.builder 0 0
 

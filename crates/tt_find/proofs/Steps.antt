@@ -1,4 +1,4 @@
--- What the steps of a run leave of the finder's table, and what justifies its refusals.
+-- What the steps of a run leave of the finder's solver, and what justifies its refusals.
 use Rattle.std.specs.Prelude.{◌≡◌, ◌≢◌, ◌⊎◌, ℕ, ◌+◌, ◌≤◌, ◌<◌, Bool, true, false, cond, Option, Some, None, List, [], ◌∷◌, ◌++◌, length}
 use Rattle.std.specs.BTreeSet.{BTreeSet}
 use Rattle.std.proofs.Common.{refl, sym, ◌∙◌, ap, subst, arith, inl, inr, length-append}
@@ -27,11 +27,11 @@ use Rattle.tt_cert.specs.declared.fault.ProgramFault.{ProgramFault}
 use Rattle.tt_cert.specs.declared.fault.ProgramFault.TheVariants.{Refused, OutOfMemory}
 use Rattle.tt_find.specs.Marks.{SetsMark, mark_of}
 use Rattle.tt_find.specs.declared.marks.Mark.TheVariants.{Kept, Passed}
-use Rattle.tt_find.specs.declared.marks.Marks.{Marks}
+use Rattle.tt_find.specs.declared.marks.Marks.{OffsetMarks}
 use Rattle.tt_find.specs.declared.origin.Origin.{Origin}
 use Rattle.tt_find.specs.declared.stop.Stop.{Stop}
-use Rattle.tt_find.specs.declared.stop.Stop.TheVariants.{Fault, Met}
-use Rattle.tt_find.specs.declared.table.Table.{Table}
+use Rattle.tt_find.specs.declared.stop.Stop.TheVariants.{Fault, Restart}
+use Rattle.tt_find.specs.declared.solver.Solver.{Solver}
 use Rattle.tt_find.specs.Found.{AreDerivedContexts, IsDerived, IsJustified, IsNeeded, NamesPlace, NamesStop, refused, apart, too_many}
 use Rattle.tt_find.specs.Tables.{ArePoints, AreVisits, ComesFrom, HasLaws, HasRisen, IsAmong, IsApart, IsCarriedOn, IsCountable, IsLeading, IsListed, IsOnWay, IsPassed, IsPopped, IsPut, IsRefusedAt, IsSound, IsStored, IsTable, IsWhole, IsWithinBudget, KeepsRest, MayLead, Pends, PendsFrom, SparesAt, places_from}
 use Rattle.tt_find.proofs.Budget.{budget_put, budget_same, room_for, updates_fit}
@@ -50,13 +50,13 @@ names_map A B turn (OutOfMemory e) h = tt
 pub stop_map : (A B : Place → Reason → Type 0) (everywhere everywhere' : Bool) → everywhere ≡ everywhere' → ((p : Place) (r : Reason) → A p r → B p r) → (stop : Stop)
     → NamesStop A everywhere stop → NamesStop B everywhere' stop
 stop_map A B everywhere everywhere' same turn (Fault fault) h = names_map A B turn fault h
-stop_map A B everywhere everywhere' same turn Met h = sym same ∙ h
+stop_map A B everywhere everywhere' same turn Restart h = sym same ∙ h
 
 -- a fault that is at a place
 pub names_at : (Is : Place → Reason → Type 0) (p : Place) (r : Reason) (fault : ProgramFault) → fault ≡ Refused (spot_of p.0) p.1 r → Is p r → NamesPlace Is fault
 names_at Is p r fault e h = let N : ProgramFault → Type 0 = λ x. NamesPlace Is x in subst N (sym e) (p, refl, refl, h)
 
-pub risen_on : (a b c : Table) → HasRisen a b → HasRisen b c → HasRisen a c
+pub risen_on : (a b c : Solver) → HasRisen a b → HasRisen b c → HasRisen a c
 risen_on a b c h k =
     let m = h.worklist in
     let m' = k.worklist in
@@ -74,46 +74,46 @@ pends_swap q r qs t p u h = elim h [
 module _ (s : Setting) (functions : List (ℕ × ℕ)) (laws : HasLaws s functions) where
   -- The first of the points that wait is taken out.
 
-  module _ (table : Table) (c off : ℕ) (rest : List (ℕ × ℕ)) (whole : IsWhole s functions table) (is : table.worklist ≡ (c, off) ∷ rest) where
-    has_at : (k : ℕ × ℕ) → has_point table.worklist k ≡ has_point ((c, off) ∷ rest) k
+  module _ (solver : Solver) (c off : ℕ) (rest : List (ℕ × ℕ)) (whole : IsWhole s functions solver) (is : solver.worklist ≡ (c, off) ∷ rest) where
+    has_at : (k : ℕ × ℕ) → has_point solver.worklist k ≡ has_point ((c, off) ∷ rest) k
     has_at k = ap (λ (x : List (ℕ × ℕ)). has_point x k) is
 
-    waited : has_point table.worklist (c, off) ≡ true
+    waited : has_point solver.worklist (c, off) ≡ true
     waited = has_at (c, off) ∙ point_here (c, off) rest
 
-    pub held_first : (a : State) × (states_of table.builder.states (c, off) ≡ Some a)
+    pub held_first : (a : State) × (states_of solver.builder.states (c, off) ≡ Some a)
     held_first = whole.kept.held c off waited
 
-    pub there_first : c < length table.builder.contexts
+    pub there_first : c < length solver.builder.contexts
     there_first = let (a, at) = held_first in whole.kept.family.held c off a at
 
-    waited_there : IsAmong table.builder table.worklist (place_of table.builder c off)
-    waited_there = ap (has_point table.worklist) (λ i. (number_at table.builder c whole.kept.family there_first i, off)) ∙ waited
+    waited_there : IsAmong solver.builder solver.worklist (place_of solver.builder c off)
+    waited_there = ap (has_point solver.worklist) (λ i. (number_at solver.builder c whole.kept.family there_first i, off)) ∙ waited
 
-    waited_still : (k : ℕ × ℕ) → has_point rest k ≡ true → has_point table.worklist k ≡ true
+    waited_still : (k : ℕ × ℕ) → has_point rest k ≡ true → has_point solver.worklist k ≡ true
     waited_still k m = elim (cases_place k (c, off)) [
-      | inl same ↦ ap (has_point table.worklist) same ∙ waited
+      | inl same ↦ ap (has_point solver.worklist) same ∙ waited
       | inr other ↦ has_at k ∙ point_behind (c, off) k rest other ∙ m
     ]
 
-    waited_before : (q : Place) → IsAmong table.builder rest q ⊎ (q ≡ place_of table.builder c off) → IsAmong table.builder table.worklist q ⊎ ⊥
+    waited_before : (q : Place) → IsAmong solver.builder rest q ⊎ (q ≡ place_of solver.builder c off) → IsAmong solver.builder solver.worklist q ⊎ ⊥
     waited_before q w = elim w [
-      | inl hit ↦ inl (waited_still (key_of table.builder q) hit)
-      | inr same ↦ let W : Place → Type 0 = λ x. IsAmong table.builder table.worklist x in inl (subst W (sym same) waited_there)
+      | inl hit ↦ inl (waited_still (key_of solver.builder q) hit)
+      | inr same ↦ let W : Place → Type 0 = λ x. IsAmong solver.builder solver.worklist x in inl (subst W (sym same) waited_there)
     ]
 
-    pub popped_left : has_point rest (c, off) ≡ false → IsPopped s functions (record table { worklist = rest }) c off
+    pub popped_left : has_point rest (c, off) ≡ false → IsPopped s functions (record solver { worklist = rest }) c off
     popped_left first = record {
       sound = record {
         filled = whole.filled;
-        kept = table_popped state_order (flow_of s functions) state_laws table.builder table.worklist rest whole.filled (MayLead s table.builder table.spare.keys) c off whole.kept is;
+        kept = table_popped state_order (flow_of s functions) state_laws solver.builder solver.worklist rest whole.filled (MayLead s solver.builder solver.spare.keys) c off whole.kept is;
         marks = whole.marks;
         start = whole.start;
         needed = whole.needed;
         budget = whole.budget;
         visits = whole.visits;
-        visited = visits_same s (height_of s) (family_of table.builder) (family_of table.builder) whole.filled whole.filled (λ q. IsAmong table.builder table.worklist q ⊎ ⊥)
-            (λ q. IsAmong table.builder rest q ⊎ (q ≡ place_of table.builder c off)) whole.visits whole.visited (λ _. refl) (λ _. refl) waited_before;
+        visited = visits_same s (height_of s) (family_of solver.builder) (family_of solver.builder) whole.filled whole.filled (λ q. IsAmong solver.builder solver.worklist q ⊎ ⊥)
+            (λ q. IsAmong solver.builder rest q ⊎ (q ≡ place_of solver.builder c off)) whole.visits whole.visited (λ _. refl) (λ _. refl) waited_before;
         points = whole.points;
         counted = whole.counted;
       };
@@ -123,44 +123,44 @@ module _ (s : Setting) (functions : List (ℕ × ℕ)) (laws : HasLaws s functio
     }
 
   -- its state is carried on from there
-  pub way_begins : (table : Table) (c off : ℕ) (a : State) → IsPopped s functions table c off → states_of table.builder.states (c, off) ≡ Some a
-      → IsOnWay s functions table (place_of table.builder c off) a
-  way_begins table c off a popped at =
+  pub way_begins : (solver : Solver) (c off : ℕ) (a : State) → IsPopped s functions solver c off → states_of solver.builder.states (c, off) ≡ Some a
+      → IsOnWay s functions solver (place_of solver.builder c off) a
+  way_begins solver c off a popped at =
       let family = popped.sound.kept.family in
-      let lt : c < length table.builder.contexts = family.held c off a at in
+      let lt : c < length solver.builder.contexts = family.held c off a at in
       record {
         sound = popped.sound;
-        here = kept_state table.marks (family_of table.builder) popped.sound.filled (place_of table.builder c off) a popped.sound.marks (family_at table.builder c off family lt ∙ at);
+        here = kept_state solver.marks (family_of solver.builder) popped.sound.filled (place_of solver.builder c off) a popped.sound.marks (family_at solver.builder c off family lt ∙ at);
         apart = λ hit.
-            let no_such : true ≡ false = sym hit ∙ ap (has_point table.worklist) (λ i. (number_at table.builder c family lt i, off)) ∙ popped.apart in
+            let no_such : true ≡ false = sym hit ∙ ap (has_point solver.worklist) (λ i. (number_at solver.builder c family lt i, off)) ∙ popped.apart in
             cc;
       }
 
   -- The state on the way is carried on.
 
   -- it is at the main program's end
-  pub way_ends : (table : Table) (p : Place) (a : State) → IsOnWay s functions table p a → is_main_end s p.0 p.1 ≡ true → IsWhole s functions table
-  way_ends table p a way ends =
+  pub way_ends : (solver : Solver) (p : Place) (a : State) → IsOnWay s functions solver p a → is_main_end s p.0 p.1 ≡ true → IsWhole s functions solver
+  way_ends solver p a way ends =
       let sound = way.sound in
       record {
         filled = sound.filled;
-        kept = table_opened state_order (flow_of s functions) state_laws table.builder table.worklist sound.filled (MayLead s table.builder table.spare.keys) p a (λ _ _ _. ⊥) sound.kept way.here
+        kept = table_opened state_order (flow_of s functions) state_laws solver.builder solver.worklist sound.filled (MayLead s solver.builder solver.spare.keys) p a (λ _ _ _. ⊥) sound.kept way.here
             (end_safe s p a ends) (λ q t g. (end_gives s p a ends q t).1 g) (λ _ _ _ never. absurd never);
         marks = sound.marks;
         start = sound.start;
         needed = sound.needed;
         budget = sound.budget;
         visits = sound.visits;
-        visited = visits_same s (height_of s) (family_of table.builder) (family_of table.builder) sound.filled sound.filled (λ q. IsAmong table.builder table.worklist q ⊎ (q ≡ p))
-            (λ q. IsAmong table.builder table.worklist q ⊎ ⊥) sound.visits sound.visited (λ _. refl) (λ _. refl) (λ q w. elim w [ inl hit ↦ inl hit | inr never ↦ absurd never ]);
+        visited = visits_same s (height_of s) (family_of solver.builder) (family_of solver.builder) sound.filled sound.filled (λ q. IsAmong solver.builder solver.worklist q ⊎ (q ≡ p))
+            (λ q. IsAmong solver.builder solver.worklist q ⊎ ⊥) sound.visits sound.visited (λ _. refl) (λ _. refl) (λ q w. elim w [ inl hit ↦ inl hit | inr never ↦ absurd never ]);
         points = sound.points;
         counted = sound.counted;
       }
 
   -- it leads on
-  pub way_leads : (table : Table) (p : Place) (a : State) (ways : Moves) (end : ℕ) (t : State) → IsOnWay s functions table p a → IsCarriedOn s p a ways end t
-      → IsLeading s functions table p (places_from p.0 ways 0) t
-  way_leads table p a ways end t way on =
+  pub way_leads : (solver : Solver) (p : Place) (a : State) (ways : Moves) (end : ℕ) (t : State) → IsOnWay s functions solver p a → IsCarriedOn s p a ways end t
+      → IsLeading s functions solver p (places_from p.0 ways 0) t
+  way_leads solver p a ways end t way on =
       let sound = way.sound in
       let give = ways_give s p a ways t on.running on.result on.in_range in
       record {
@@ -169,15 +169,15 @@ module _ (s : Setting) (functions : List (ℕ × ℕ)) (laws : HasLaws s functio
         gives = λ q u h. (give q u).0 h;
         sound = record {
           filled = sound.filled;
-          kept = table_opened state_order (flow_of s functions) state_laws table.builder table.worklist sound.filled (MayLead s table.builder table.spare.keys) p a (PendsFrom p (places_from p.0 ways 0) t)
+          kept = table_opened state_order (flow_of s functions) state_laws solver.builder solver.worklist sound.filled (MayLead s solver.builder solver.spare.keys) p a (PendsFrom p (places_from p.0 ways 0) t)
               sound.kept way.here (ways_safe s p a ways t on.running on.result on.in_range) (λ q u g. (refl, (give q u).1 g)) (λ r q u h. (give q u).0 h.1);
           marks = sound.marks;
           start = sound.start;
           needed = sound.needed;
           budget = sound.budget;
           visits = sound.visits;
-          visited = visits_same s (height_of s) (family_of table.builder) (family_of table.builder) sound.filled sound.filled (λ q. IsAmong table.builder table.worklist q ⊎ (q ≡ p))
-              (λ q. IsAmong table.builder table.worklist q ⊎ ⊥) sound.visits sound.visited (λ _. refl) (λ _. refl) (λ q w. elim w [ inl hit ↦ inl hit | inr never ↦ absurd never ]);
+          visited = visits_same s (height_of s) (family_of solver.builder) (family_of solver.builder) sound.filled sound.filled (λ q. IsAmong solver.builder solver.worklist q ⊎ (q ≡ p))
+              (λ q. IsAmong solver.builder solver.worklist q ⊎ ⊥) sound.visits sound.visited (λ _. refl) (λ _. refl) (λ q w. elim w [ inl hit ↦ inl hit | inr never ↦ absurd never ]);
           points = sound.points;
           counted = sound.counted;
         };
@@ -187,8 +187,8 @@ module _ (s : Setting) (functions : List (ℕ × ℕ)) (laws : HasLaws s functio
       }
 
   -- nothing is left to be put
-  pub leading_ends : (table : Table) (p : Place) (t : State) → IsLeading s functions table p [] t → IsWhole s functions table
-  leading_ends table p t leading =
+  pub leading_ends : (solver : Solver) (p : Place) (t : State) → IsLeading s functions solver p [] t → IsWhole s functions solver
+  leading_ends solver p t leading =
       let sound = leading.sound in
       record {
         filled = sound.filled;
@@ -215,8 +215,8 @@ module _ (s : Setting) (functions : List (ℕ × ℕ)) (laws : HasLaws s functio
       }
 
   -- the other of two ways may come first
-  pub leading_swap : (table : Table) (p q r : Place) (qs : List Place) (t : State) → IsLeading s functions table p (q ∷ r ∷ qs) t → IsLeading s functions table p (r ∷ q ∷ qs) t
-  leading_swap table p q r qs t leading =
+  pub leading_swap : (solver : Solver) (p q r : Place) (qs : List Place) (t : State) → IsLeading s functions solver p (q ∷ r ∷ qs) t → IsLeading s functions solver p (r ∷ q ∷ qs) t
+  leading_swap solver p q r qs t leading =
       let sound = leading.sound in
       record {
         state = leading.state;
@@ -252,7 +252,7 @@ module _ (s : Setting) (functions : List (ℕ × ℕ)) (laws : HasLaws s functio
 
   -- The state was put at the first of the places.
 
-  module _ (old new : Table) (p : Place) (c off : ℕ) (t : State) (qs : List Place) (source : Origin) (leading : IsLeading s functions old p (place_of old.builder c off ∷ qs) t)
+  module _ (old new : Solver) (p : Place) (c off : ℕ) (t : State) (qs : List Place) (source : Origin) (leading : IsLeading s functions old p (place_of old.builder c off ∷ qs) t)
       (lt : c < length old.builder.contexts) (stored : IsStored old new c off t source) (comes : ComesFrom s p (place_of old.builder c off) source) where
     abbrev Q : Place
     Q = place_of old.builder c off
@@ -450,7 +450,7 @@ module _ (s : Setting) (functions : List (ℕ × ℕ)) (laws : HasLaws s functio
 
   -- The state goes over the place just after.
 
-  module _ (old new : Table) (p : Place) (c off : ℕ) (t : State) (leading : IsLeading s functions old p (place_of old.builder c off ∷ []) t)
+  module _ (old new : Solver) (p : Place) (c off : ℕ) (t : State) (leading : IsLeading s functions old p (place_of old.builder c off ∷ []) t)
       (lt : c < length old.builder.contexts) (passed : IsPassed old new (spot_of (frames_at old.builder.contexts c)) off) (just : Precedes s p (place_of old.builder c off)) where
     abbrev O : Place
     O = place_of old.builder c off
@@ -461,8 +461,8 @@ module _ (s : Setting) (functions : List (ℕ × ℕ)) (laws : HasLaws s functio
     abbrev over' : Place → Option State
     over' = with_slot leading.sound.filled (place_of old.builder c off) (Some t)
 
-    abbrev table : Table
-    table = record old { marks = new.marks; passes = new.passes }
+    abbrev solver : Solver
+    solver = record old { marks = new.marks; passes = new.passes }
 
     gone : family_of old.builder O ≡ None
     gone = none_kept old.marks (family_of old.builder) over O leading.sound.marks passed.fresh
@@ -490,7 +490,7 @@ module _ (s : Setting) (functions : List (ℕ × ℕ)) (laws : HasLaws s functio
         let (a, at) = leading.sound.kept.held (number_of old.builder.contexts O.0) off hit in
         let no_such : None ≡ Some a = sym gone ∙ at in cc
 
-    passed_here : IsOnWay s functions table O t
+    passed_here : IsOnWay s functions solver O t
     passed_here =
         let (points, counted) = points_more over over' leading.sound.visits leading.sound.points (old.changes + old.passes) O t leading.sound.counted here elsewhere in
         let passes = passed.passes in
@@ -526,52 +526,52 @@ module _ (s : Setting) (functions : List (ℕ × ℕ)) (laws : HasLaws s functio
         }
 
     pub leading_passed : IsOnWay s functions new (place_of new.builder c off) t
-    leading_passed = let W : Table → Type 0 = λ x. IsOnWay s functions x (place_of x.builder c off) t in subst W (sym passed.same) passed_here
+    leading_passed = let W : Solver → Type 0 = λ x. IsOnWay s functions x (place_of x.builder c off) t in subst W (sym passed.same) passed_here
 
   -- One more context may be there.
 
-  module _ (table : Table) (v' : Contents) (p : Place) (frames : List Frame) (number off : ℕ) (t : State) (qs : List Place) (leading : IsLeading s functions table p ((frames, off) ∷ qs) t)
-      (adds : AddsContext table.builder.contexts v'.contexts frames number) (states : v'.states ≡ table.builder.states) (family' : IsFamily v') where
-    family_old : IsFamily table.builder
+  module _ (solver : Solver) (v' : Contents) (p : Place) (frames : List Frame) (number off : ℕ) (t : State) (qs : List Place) (leading : IsLeading s functions solver p ((frames, off) ∷ qs) t)
+      (adds : AddsContext solver.builder.contexts v'.contexts frames number) (states : v'.states ≡ solver.builder.states) (family' : IsFamily v') where
+    family_old : IsFamily solver.builder
     family_old = leading.sound.kept.family
 
-    same_family : (r : Place) → family_of v' r ≡ family_of table.builder r
-    same_family = family_kept table.builder v' frames number adds states family_old family'
+    same_family : (r : Place) → family_of v' r ≡ family_of solver.builder r
+    same_family = family_kept solver.builder v' frames number adds states family_old family'
 
-    waits_later : (r : Place) → IsAmong table.builder table.worklist r → IsAmong v' table.worklist r
+    waits_later : (r : Place) → IsAmong solver.builder solver.worklist r → IsAmong v' solver.worklist r
     waits_later r hit =
-        let (a, at) = leading.sound.kept.held (number_of table.builder.contexts r.0) r.1 hit in
-        ap (has_point table.worklist) (key_kept table.builder v' frames number adds states r (family_old.held (number_of table.builder.contexts r.0) r.1 a at)) ∙ hit
+        let (a, at) = leading.sound.kept.held (number_of solver.builder.contexts r.0) r.1 hit in
+        ap (has_point solver.worklist) (key_kept solver.builder v' frames number adds states r (family_old.held (number_of solver.builder.contexts r.0) r.1 a at)) ∙ hit
 
-    waits_before : (r : Place) → IsAmong v' table.worklist r → IsAmong table.builder table.worklist r
+    waits_before : (r : Place) → IsAmong v' solver.worklist r → IsAmong solver.builder solver.worklist r
     waits_before r hit =
         let (a, at) = leading.sound.kept.held (number_of v'.contexts r.0) r.1 hit in
-        let old : number_of v'.contexts r.0 < length table.builder.contexts = family_old.held (number_of v'.contexts r.0) r.1 a at in
-        let (stay, there) = frames_stay table.builder.contexts v'.contexts frames number (number_of v'.contexts r.0) adds old in
-        let most = number_of-place table.builder.contexts r.0 (number_of v'.contexts r.0) old (sym stay ∙ at-number_of v'.contexts r.0 there) in
-        ap (has_point table.worklist) (sym (key_kept table.builder v' frames number adds states r (omega arith))) ∙ hit
+        let old : number_of v'.contexts r.0 < length solver.builder.contexts = family_old.held (number_of v'.contexts r.0) r.1 a at in
+        let (stay, there) = frames_stay solver.builder.contexts v'.contexts frames number (number_of v'.contexts r.0) adds old in
+        let most = number_of-place solver.builder.contexts r.0 (number_of v'.contexts r.0) old (sym stay ∙ at-number_of v'.contexts r.0 there) in
+        ap (has_point solver.worklist) (sym (key_kept solver.builder v' frames number adds states r (omega arith))) ∙ hit
 
-    pub leading_grown : IsLeading s functions (record table { builder = v' }) p ((frames, off) ∷ qs) t
+    pub leading_grown : IsLeading s functions (record solver { builder = v' }) p ((frames, off) ∷ qs) t
     leading_grown = record {
       state = leading.state;
       derived = leading.derived;
       gives = leading.gives;
       sound = record {
         filled = leading.sound.filled;
-        kept = table_grown state_order (flow_of s functions) state_laws table.builder v' table.worklist leading.sound.filled (MayLead s table.builder table.spare.keys) (MayLead s v' table.spare.keys)
+        kept = table_grown state_order (flow_of s functions) state_laws solver.builder v' solver.worklist leading.sound.filled (MayLead s solver.builder solver.spare.keys) (MayLead s v' solver.spare.keys)
             (PendsFrom p ((frames, off) ∷ qs) t) frames number off t leading.sound.kept adds states family' (leading.sound.kept.sound.rest_derived p (frames, off) t (refl, inl (refl, refl)))
-            (λ a b may. elim may [ inl just ↦ inl just | inr listed ↦ inr (listed_grown table.builder v' table.spare.keys frames number family_old family' adds states b listed) ]);
+            (λ a b may. elim may [ inl just ↦ inl just | inr listed ↦ inr (listed_grown solver.builder v' solver.spare.keys frames number family_old family' adds states b listed) ]);
         marks = record {
           kept = λ r is. same_family r ∙ leading.sound.marks.kept r is;
           passed = λ r is. same_family r ∙ leading.sound.marks.passed r is;
           free = λ r is. let (a, b) = leading.sound.marks.free r is in (same_family r ∙ a, b);
         };
-        start = listed_grown table.builder v' table.spare.keys frames number family_old family' adds states ([], 0) leading.sound.start;
-        needed = λ r listed. leading.sound.needed r (listed_before table.builder v' table.spare.keys frames number family_old family' adds states r listed);
-        budget = budget_same state_order state_laws (height_of s) table.builder v' table.changes states leading.sound.budget;
+        start = listed_grown solver.builder v' solver.spare.keys frames number family_old family' adds states ([], 0) leading.sound.start;
+        needed = λ r listed. leading.sound.needed r (listed_before solver.builder v' solver.spare.keys frames number family_old family' adds states r listed);
+        budget = budget_same state_order state_laws (height_of s) solver.builder v' solver.changes states leading.sound.budget;
         visits = leading.sound.visits;
-        visited = visits_same s (height_of s) (family_of table.builder) (family_of v') leading.sound.filled leading.sound.filled (λ r. IsAmong table.builder table.worklist r ⊎ ⊥)
-            (λ r. IsAmong v' table.worklist r ⊎ ⊥) leading.sound.visits leading.sound.visited same_family (λ _. refl)
+        visited = visits_same s (height_of s) (family_of solver.builder) (family_of v') leading.sound.filled leading.sound.filled (λ r. IsAmong solver.builder solver.worklist r ⊎ ⊥)
+            (λ r. IsAmong v' solver.worklist r ⊎ ⊥) leading.sound.visits leading.sound.visited same_family (λ _. refl)
             (λ r w. elim w [ inl hit ↦ inl (waits_before r hit) | inr never ↦ absurd never ]);
         points = leading.sound.points;
         counted = leading.sound.counted;
@@ -583,15 +583,15 @@ module _ (s : Setting) (functions : List (ℕ × ℕ)) (laws : HasLaws s functio
 
   -- What the finder's numbers are.
 
-  pub room_left : (table : Table) (Here : Place → Type 0) (Rest : Place → Place → State → Type 0) → IsSound s functions table Here Rest → table.changes < 18446744073709551615
-  room_left table Here Rest sound = room_for (height_of s) table.changes laws.height (updates_fit state_order state_laws (height_of s) table.builder table.changes sound.kept.family sound.budget)
+  pub room_left : (solver : Solver) (Here : Place → Type 0) (Rest : Place → Place → State → Type 0) → IsSound s functions solver Here Rest → solver.changes < 18446744073709551615
+  room_left solver Here Rest sound = room_for (height_of s) solver.changes laws.height (updates_fit state_order state_laws (height_of s) solver.builder solver.changes sound.kept.family sound.budget)
 
   -- the numbers of each context's last call are small
-  pub countable_left : (table : Table) (c : ℕ) (Here : Place → Type 0) (Rest : Place → Place → State → Type 0) → IsSound s functions table Here Rest → c < length table.builder.contexts
-      → IsCountable table.builder.contexts c
-  countable_left table c Here Rest sound lt f fs at =
+  pub countable_left : (solver : Solver) (c : ℕ) (Here : Place → Type 0) (Rest : Place → Place → State → Type 0) → IsSound s functions solver Here Rest → c < length solver.builder.contexts
+      → IsCountable solver.builder.contexts c
+  countable_left solver c Here Rest sound lt f fs at =
       let (off, a, d) = sound.kept.entered c lt in
-      let point : IsPlace (frames_at table.builder.contexts c, off) = (derived_is state_order (flow_of s functions) (height_of s) laws.flow (frames_at table.builder.contexts c, off) a d).point in
+      let point : IsPlace (frames_at solver.builder.contexts c, off) = (derived_is state_order (flow_of s functions) (height_of s) laws.flow (frames_at solver.builder.contexts c, off) a d).point in
       let P : List Frame → Type 0 = λ x. IsPlace (x, off) in
       let there : IsPlace (f ∷ fs, off) = subst P at point in
       let frame = there.frames.each.0 in
@@ -611,20 +611,20 @@ module _ (s : Setting) (functions : List (ℕ × ℕ)) (laws : HasLaws s functio
       subst J (sym x.place) (refused p a r derived x.refused)) fault h
 
   -- two derived states that differ in depth
-  pub apart_left : (table : Table) (p at : Place) (t : State) (qs : List Place) → IsLeading s functions table p (at ∷ qs) t → (q : Place) (r : Reason) → IsApart (family_of table.builder) at t q r
+  pub apart_left : (solver : Solver) (p at : Place) (t : State) (qs : List Place) → IsLeading s functions solver p (at ∷ qs) t → (q : Place) (r : Reason) → IsApart (family_of solver.builder) at t q r
       → IsJustified s functions q r
-  apart_left table p at t qs leading q r x =
+  apart_left solver p at t qs leading q r x =
       let J : Place × Reason → Type 0 = λ y. IsJustified s functions y.0 y.1 in
       let both : ◌≡◌ {A = Place × Reason} (at, DepthMismatch) (q, r) = λ i. (sym x.place i, sym x.reason i) in
-      let there = kept_state table.marks (family_of table.builder) leading.sound.filled at x.state leading.sound.marks x.found in
+      let there = kept_state solver.marks (family_of solver.builder) leading.sound.filled at x.state leading.sound.marks x.found in
       subst J both (apart at x.state t (leading.sound.kept.sound.derived at x.state there) (leading.sound.kept.sound.rest_derived p at t (refl, inl (refl, refl))) x.apart)
 
   -- one context too many
-  derived_contexts : (table : Table) (p q : Place) (t : State) (qs : List Place) → IsLeading s functions table p (q ∷ qs) t → (HasContext table.builder.contexts q.0 → ⊥)
-      → AreDerivedContexts s functions (table.builder.contexts ++ q.0 ∷ [])
-  derived_contexts table p q t qs leading absent =
+  derived_contexts : (solver : Solver) (p q : Place) (t : State) (qs : List Place) → IsLeading s functions solver p (q ∷ qs) t → (HasContext solver.builder.contexts q.0 → ⊥)
+      → AreDerivedContexts s functions (solver.builder.contexts ++ q.0 ∷ [])
+  derived_contexts solver p q t qs leading absent =
       let sound = leading.sound in
-      let xs = table.builder.contexts in
+      let xs = solver.builder.contexts in
       let y : List Frame = q.0 in
       let d = sound.kept.sound.rest_derived p q t (refl, inl (refl, refl)) in
       let long = length-append xs (y ∷ []) in
@@ -659,15 +659,15 @@ module _ (s : Setting) (functions : List (ℕ × ℕ)) (laws : HasLaws s functio
         ];
       }
 
-  pub too_many_left : (table : Table) (p q : Place) (t : State) (qs : List Place) → IsLeading s functions table p (q ∷ qs) t → (HasContext table.builder.contexts q.0 → ⊥) → length table.builder.contexts ≡ 65535
+  pub too_many_left : (solver : Solver) (p q : Place) (t : State) (qs : List Place) → IsLeading s functions solver p (q ∷ qs) t → (HasContext solver.builder.contexts q.0 → ⊥) → length solver.builder.contexts ≡ 65535
       → IsJustified s functions p TooManyContexts
-  too_many_left table p q t qs leading absent full =
-      let xs = table.builder.contexts in
+  too_many_left solver p q t qs leading absent full =
+      let xs = solver.builder.contexts in
       let long = length-append xs (q.0 ∷ []) in
       let last : frames_at (xs ++ q.0 ∷ []) (length xs) ≡ q.0 = get_or-append_seam xs q.0 [] [] in
       too_many p (record {
         contexts = xs ++ q.0 ∷ [];
-        derived = derived_contexts table p q t qs leading absent;
+        derived = derived_contexts solver p q t qs leading absent;
         many = omega arith;
         state = leading.state;
         here = leading.derived;
@@ -678,14 +678,14 @@ module _ (s : Setting) (functions : List (ℕ × ℕ)) (laws : HasLaws s functio
       })
 
 -- a put, after the point's offset was marked
-pub stored_from : (old middle new last : Table) (c off : ℕ) (t : State) (source : Origin) (marks : Marks) → middle ≡ record old { marks = marks } → IsPut middle new c off t → KeepsRest middle new
+pub stored_from : (old middle new last : Solver) (c off : ℕ) (t : State) (source : Origin) (marks : OffsetMarks) → middle ≡ record old { marks = marks } → IsPut middle new c off t → KeepsRest middle new
     → mark_of old.marks (spot_of (frames_at old.builder.contexts c)) off ≢ Passed → SetsMark old.marks marks (spot_of (frames_at old.builder.contexts c)) off Kept
     → SparesAt new.spare.keys last.spare.keys (c, off) (family_of old.builder (place_of old.builder c off)) source → last ≡ record new { spare = last.spare }
     → IsStored old last c off t source
 stored_from old middle new last c off t source marks is put rest fresh sets spares same =
-    let from : IsPut (record old { marks = marks }) new c off t = let P : Table → Type 0 = λ x. IsPut x new c off t in subst P is put in
-    let kept : KeepsRest (record old { marks = marks }) new = let P : Table → Type 0 = λ x. KeepsRest x new in subst P is rest in
-    let S : Table → Type 0 = λ x. IsStored old x c off t source in
+    let from : IsPut (record old { marks = marks }) new c off t = let P : Solver → Type 0 = λ x. IsPut x new c off t in subst P is put in
+    let kept : KeepsRest (record old { marks = marks }) new = let P : Solver → Type 0 = λ x. KeepsRest x new in subst P is rest in
+    let S : Solver → Type 0 = λ x. IsStored old x c off t source in
     subst S (sym same) (record {
       put = record {
         changed = from.changed;

@@ -21,7 +21,7 @@ use Rattle.tt_cert.specs.Spots.{spot_of}
 use Rattle.tt_cert.specs.declared.fault.ProgramFault.{ProgramFault}
 use Rattle.tt_cert.specs.declared.fault.ProgramFault.TheVariants.{Refused, OutOfMemory}
 use Rattle.tt_find.specs.declared.stop.Stop.{Stop}
-use Rattle.tt_find.specs.declared.stop.Stop.TheVariants.{Fault, Met}
+use Rattle.tt_find.specs.declared.stop.Stop.TheVariants.{Fault, Restart}
 
 -- the state is derived at the place, in a program that starts with these functions
 abbrev pub IsDerived : Setting → List (ℕ × ℕ) → Place → State → Type 0
@@ -148,7 +148,7 @@ NamesPlace Is (OutOfMemory e) = Unit {0}
 -- a state came where states had passed; where states are kept everywhere this can't be
 abbrev pub NamesStop : (Place → Reason → Type 0) → Bool → Stop → Type 0
 NamesStop Is everywhere (Fault fault) = NamesPlace Is fault
-NamesStop Is everywhere Met = everywhere ≡ false
+NamesStop Is everywhere Restart = everywhere ≡ false
 
 -- the end isn't reached
 abbrev pub IsNeverEnding : ProgramFault → Type 0

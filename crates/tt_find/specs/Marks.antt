@@ -6,7 +6,7 @@ use Rattle.tt_cert.specs.declared.spot.Spot.{Spot}
 use Rattle.tt_cert.specs.declared.spot.Spot.TheVariants.{Main, Font, Prep}
 use Rattle.tt_find.specs.declared.marks.Mark.{Mark}
 use Rattle.tt_find.specs.declared.marks.Mark.TheVariants.{Kept}
-use Rattle.tt_find.specs.declared.marks.Marks.{Marks}
+use Rattle.tt_find.specs.declared.marks.Marks.{OffsetMarks}
 
 -- the list of a program
 abbrev pub list_of : Marks → Spot → List Mark
@@ -23,7 +23,7 @@ abbrev pub mark_at : Marks → Place → Mark
 mark_at marks p = mark_of marks (spot_of p.0) p.1
 
 -- the offset has this mark from then on, and every other offset has the same as before
-pub record SetsMark (old new : Marks) (spot : Spot) (offset : ℕ) (mark : Mark) : Type 0 where
+pub record SetsMark (old new : OffsetMarks) (spot : Spot) (offset : ℕ) (mark : Mark) : Type 0 where
   pub here : mark_of new spot offset ≡ mark
   pub elsewhere : (other : Spot) (at : ℕ) → ((other ≡ spot) × (at ≡ offset) → ⊥) → mark_of new other at ≡ mark_of old other at
   pub everywhere : new.everywhere ≡ old.everywhere

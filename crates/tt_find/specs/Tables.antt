@@ -28,10 +28,10 @@ use Rattle.tt_cert.specs.Cursors.{IsAfter}
 use Rattle.tt_find.specs.Found.{ArePointsOf, IsDerived, IsNeeded}
 use Rattle.tt_find.specs.Marks.{SetsMark, mark_at, mark_of}
 use Rattle.tt_find.specs.declared.marks.Mark.TheVariants.{Free, Kept, Passed}
-use Rattle.tt_find.specs.declared.marks.Marks.{Marks}
+use Rattle.tt_find.specs.declared.marks.Marks.{OffsetMarks}
 use Rattle.tt_find.specs.declared.origin.Origin.{Origin}
 use Rattle.tt_find.specs.declared.origin.Origin.TheVariants.{JustBefore, Elsewhere}
-use Rattle.tt_find.specs.declared.table.Table.{Table}
+use Rattle.tt_find.specs.declared.solver.Solver.{Solver}
 use Rattle.tt_find.specs.declared.walk.Walk.{Walk}
 
 -- Each value is derived, as is each that is still to be put; the start is covered; what doesn't wait isn't refused, and what it gives is
@@ -59,7 +59,7 @@ pub record IsTable (o : Order State) (f : Flow Place State) (contents : Contents
 
 -- The kept states are those of the filled family at the places of this mark; at those that were passed none is kept, and nothing came to the
 -- others.
-pub record AreKept (marks : Marks) (stored filled : Place → Option State) : Type 0 where
+pub record AreKept (marks : OffsetMarks) (stored filled : Place → Option State) : Type 0 where
   pub kept : (p : Place) → mark_at marks p ≡ Kept → stored p ≡ filled p
   pub passed : (p : Place) → mark_at marks p ≡ Passed → stored p ≡ None
   pub free : (p : Place) → mark_at marks p ≡ Free → (stored p ≡ None) × (filled p ≡ None)
@@ -107,53 +107,53 @@ pub record HasLaws (s : Setting) (functions : List (ℕ × ℕ)) : Type 0 where
   pub short : AreProgramsShort s
 
 -- only the empty context, without a state, and no update
-pub record IsEmptyTable (table : Table) : Type 0 where
-  pub contexts : table.builder.contexts ≡ [] ∷ []
-  pub states : table.builder.states ≡ []
-  pub family : IsFamily table.builder
-  pub worklist : table.worklist ≡ []
-  pub spare : table.spare.keys ≡ []
-  pub changes : table.changes ≡ 0
-  pub passes : table.passes ≡ 0
+pub record IsEmptyTable (solver : Solver) : Type 0 where
+  pub contexts : solver.builder.contexts ≡ [] ∷ []
+  pub states : solver.builder.states ≡ []
+  pub family : IsFamily solver.builder
+  pub worklist : solver.worklist ≡ []
+  pub spare : solver.spare.keys ≡ []
+  pub changes : solver.changes ≡ 0
+  pub passes : solver.passes ≡ 0
 
--- The finder's table, for a program that starts with these functions. The filled family has the kept states, and those that were passed.
-pub record IsSound (s : Setting) (functions : List (ℕ × ℕ)) (table : Table) (Here : Place → Type 0) (Rest : Place → Place → State → Type 0) : Type 0 where
+-- The finder's solver, for a program that starts with these functions. The filled family has the kept states, and those that were passed.
+pub record IsSound (s : Setting) (functions : List (ℕ × ℕ)) (solver : Solver) (Here : Place → Type 0) (Rest : Place → Place → State → Type 0) : Type 0 where
   pub filled : Place → Option State
-  pub kept : IsTable state_order (flow_of s functions) table.builder table.worklist filled (MayLead s table.builder table.spare.keys) Here Rest
-  pub marks : AreKept table.marks (family_of table.builder) filled
-  pub start : IsListed table.builder table.spare.keys ([], 0)
-  pub needed : AreNeeded s functions table.builder table.spare.keys
-  pub budget : IsWithinBudget state_order (height_of s) table.builder table.changes
+  pub kept : IsTable state_order (flow_of s functions) solver.builder solver.worklist filled (MayLead s solver.builder solver.spare.keys) Here Rest
+  pub marks : AreKept solver.marks (family_of solver.builder) filled
+  pub start : IsListed solver.builder solver.spare.keys ([], 0)
+  pub needed : AreNeeded s functions solver.builder solver.spare.keys
+  pub budget : IsWithinBudget state_order (height_of s) solver.builder solver.changes
   pub visits : Place → ℕ
-  pub visited : AreVisits s (height_of s) (family_of table.builder) filled (λ p. IsAmong table.builder table.worklist p ⊎ Here p) visits
+  pub visited : AreVisits s (height_of s) (family_of solver.builder) filled (λ p. IsAmong solver.builder solver.worklist p ⊎ Here p) visits
   pub points : List Place
-  pub counted : ArePoints filled visits points (table.changes + table.passes)
+  pub counted : ArePoints filled visits points (solver.changes + solver.passes)
 
 -- no point is being carried on, and nothing is still to be put
-abbrev pub IsWhole : Setting → List (ℕ × ℕ) → Table → Type 0
-IsWhole s functions table = IsSound s functions table (λ _. ⊥) (λ _ _ _. ⊥)
+abbrev pub IsWhole : Setting → List (ℕ × ℕ) → Solver → Type 0
+IsWhole s functions solver = IsSound s functions solver (λ _. ⊥) (λ _ _ _. ⊥)
 
--- The table is whole and no point waits; the program isn't too long, and comes to its end where it must; this many updates were made.
-pub record IsFound (s : Setting) (functions : List (ℕ × ℕ)) (table : Table) (updates : ℕ) : Type 0 where
-  pub whole : IsWhole s functions table
-  pub none : table.worklist ≡ []
+-- The solver is whole and no point waits; the program isn't too long, and comes to its end where it must; this many updates were made.
+pub record IsFound (s : Setting) (functions : List (ℕ × ℕ)) (solver : Solver) (updates : ℕ) : Type 0 where
+  pub whole : IsWhole s functions solver
+  pub none : solver.worklist ≡ []
   pub short : IsShortEnough s s.kind
-  pub ends : EndsWell s s.kind (family_of table.builder)
-  pub count : updates ≡ table.changes + table.passes
+  pub ends : EndsWell s s.kind (family_of solver.builder)
+  pub count : updates ≡ solver.changes + solver.passes
 
 -- this state is being carried on from its place
-pub record IsOnWay (s : Setting) (functions : List (ℕ × ℕ)) (table : Table) (p : Place) (a : State) : Type 0 where
-  pub sound : IsSound s functions table (λ q. q ≡ p) (λ _ _ _. ⊥)
+pub record IsOnWay (s : Setting) (functions : List (ℕ × ℕ)) (solver : Solver) (p : Place) (a : State) : Type 0 where
+  pub sound : IsSound s functions solver (λ q. q ≡ p) (λ _ _ _. ⊥)
   pub here : sound.filled p ≡ Some a
-  pub apart : IsAmong table.builder table.worklist p → ⊥
+  pub apart : IsAmong solver.builder solver.worklist p → ⊥
 
 -- the walk is on the way at this offset, or there is nothing to be carried on
-abbrev pub GoesOn : Setting → List (ℕ × ℕ) → Table → Walk → Option ℕ → Type 0
-GoesOn s functions table walk None = IsWhole s functions table
-GoesOn s functions table walk (Some offset) = IsOnWay s functions table (place_of table.builder walk.context offset) walk.state
+abbrev pub GoesOn : Setting → List (ℕ × ℕ) → Solver → Walk → Option ℕ → Type 0
+GoesOn s functions solver walk None = IsWhole s functions solver
+GoesOn s functions solver walk (Some offset) = IsOnWay s functions solver (place_of solver.builder walk.context offset) walk.state
 
 -- for each point that waits from then on there was a change
-pub record HasRisen (old new : Table) : Type 0 where
+pub record HasRisen (old new : Solver) : Type 0 where
   pub worklist : length new.worklist + old.changes ≤ length old.worklist + new.changes
   pub changes : old.changes ≤ new.changes
 
@@ -164,7 +164,7 @@ pub record WaitsMore (old new : List (ℕ × ℕ)) (point : ℕ × ℕ) (changed
   pub back : (q : ℕ × ℕ) → has_point new q ≡ true → (has_point old q ≡ true) ⊎ ((q ≡ point) × (changed ≡ true))
 
 -- the state was put at the point; if it was new there or made a change, the point waits, and one change was counted
-pub record IsPut (old new : Table) (context offset : ℕ) (state : State) : Type 0 where
+pub record IsPut (old new : Solver) (context offset : ℕ) (state : State) : Type 0 where
   pub changed : Bool
   pub put : PutsAt state_order (family_of old.builder) (family_of new.builder) (place_of old.builder context offset) state changed
   pub sums : Reweighs old.builder new.builder (place_of old.builder context offset)
@@ -175,7 +175,7 @@ pub record IsPut (old new : Table) (context offset : ℕ) (state : State) : Type
   pub risen : HasRisen old new
 
 -- the other fields are as before
-pub record KeepsRest (old new : Table) : Type 0 where
+pub record KeepsRest (old new : Solver) : Type 0 where
   pub spare : new.spare ≡ old.spare
   pub marks : new.marks ≡ old.marks
   pub passes : new.passes ≡ old.passes
@@ -189,7 +189,7 @@ pub record SparesAt (old new : List (ℕ × ℕ)) (point : ℕ × ℕ) (was : Op
   pub same : source ≡ JustBefore → (was ≡ None → ⊥) → has_point new point ≡ has_point old point
 
 -- the state was put at the point, where states are kept from then on, and none has passed
-pub record IsStored (old new : Table) (context offset : ℕ) (state : State) (source : Origin) : Type 0 where
+pub record IsStored (old new : Solver) (context offset : ℕ) (state : State) (source : Origin) : Type 0 where
   pub put : IsPut old new context offset state
   pub fresh : mark_of old.marks (spot_of (frames_at old.builder.contexts context)) offset ≢ Passed
   pub marks : SetsMark old.marks new.marks (spot_of (frames_at old.builder.contexts context)) offset Kept
@@ -197,7 +197,7 @@ pub record IsStored (old new : Table) (context offset : ℕ) (state : State) (so
   pub passes : new.passes ≡ old.passes
 
 -- a state goes over an offset at which states aren't kept
-pub record IsPassed (old new : Table) (spot : Spot) (offset : ℕ) : Type 0 where
+pub record IsPassed (old new : Solver) (spot : Spot) (offset : ℕ) : Type 0 where
   pub fresh : mark_of old.marks spot offset ≢ Kept
   pub marks : SetsMark old.marks new.marks spot offset Passed
   pub passes : new.passes ≡ old.passes + 1
@@ -251,21 +251,21 @@ IsCarried s p state None t = is_main_end s p.0 p.1 ≡ true
 IsCarried s p state (Some step) t = IsCarriedOn s p state step.moves step.end t
 
 -- a derived state at the place leads to these places, with this state left; all else is settled
-pub record IsLeading (s : Setting) (functions : List (ℕ × ℕ)) (table : Table) (p : Place) (qs : List Place) (t : State) : Type 0 where
+pub record IsLeading (s : Setting) (functions : List (ℕ × ℕ)) (solver : Solver) (p : Place) (qs : List Place) (t : State) : Type 0 where
   pub state : State
   pub derived : IsDerived s functions p state
   pub gives : (q : Place) (u : State) → Pends qs t q u → GivesState s p state q u
-  pub sound : IsSound s functions table (λ _. ⊥) (PendsFrom p qs t)
-  pub here : (IsAmong table.builder table.worklist p → ⊥) → sound.filled p ≡ Some state
-  pub ahead : (q : Place) → Precedes s p q → family_of table.builder q ≡ None → sound.visits q + 1 ≤ sound.visits p
-  pub twice : IsAmong table.builder table.worklist p → (q : Place) → Precedes s p q → family_of table.builder q ≡ None → sound.visits q + 2 ≤ sound.visits p
+  pub sound : IsSound s functions solver (λ _. ⊥) (PendsFrom p qs t)
+  pub here : (IsAmong solver.builder solver.worklist p → ⊥) → sound.filled p ≡ Some state
+  pub ahead : (q : Place) → Precedes s p q → family_of solver.builder q ≡ None → sound.visits q + 1 ≤ sound.visits p
+  pub twice : IsAmong solver.builder solver.worklist p → (q : Place) → Precedes s p q → family_of solver.builder q ≡ None → sound.visits q + 2 ≤ sound.visits p
 
 -- the point, which has a state, was taken from those that wait
-pub record IsPopped (s : Setting) (functions : List (ℕ × ℕ)) (table : Table) (context offset : ℕ) : Type 0 where
-  pub sound : IsSound s functions table (λ q. q ≡ place_of table.builder context offset) (λ _ _ _. ⊥)
+pub record IsPopped (s : Setting) (functions : List (ℕ × ℕ)) (solver : Solver) (context offset : ℕ) : Type 0 where
+  pub sound : IsSound s functions solver (λ q. q ≡ place_of solver.builder context offset) (λ _ _ _. ⊥)
   pub state : State
-  pub kept : states_of table.builder.states (context, offset) ≡ Some state
-  pub apart : has_point table.worklist (context, offset) ≡ false
+  pub kept : states_of solver.builder.states (context, offset) ≡ Some state
+  pub apart : has_point solver.worklist (context, offset) ≡ false
 
 -- where an instruction ends, if only this one leads there as to the place just after it
 abbrev pub IsJustAfter : Setting → Place → Option ℕ → Type 0
@@ -291,27 +291,27 @@ pub record IsWalk (contents : Contents) (walk : Walk) : Type 0 where
   pub known : (c offset : ℕ) → walk.known ≡ Some (c, offset) → states_of contents.states (c, offset) ≡ Some walk.state
 
 -- the walk's calls, the innermost first
-abbrev pub calls_of : Table → Walk → List Frame
-calls_of table walk = frames_at table.builder.contexts walk.context
+abbrev pub calls_of : Solver → Walk → List Frame
+calls_of solver walk = frames_at solver.builder.contexts walk.context
 
 -- what is still to be done at an offset of the walk's context: the state is led to these places
-abbrev pub IsLeadingAt : Setting → List (ℕ × ℕ) → Table → Walk → ℕ → List Place → Type 0
-IsLeadingAt s functions table walk offset qs = IsLeading s functions table (here_of table.builder walk offset) qs walk.state
+abbrev pub IsLeadingAt : Setting → List (ℕ × ℕ) → Solver → Walk → ℕ → List Place → Type 0
+IsLeadingAt s functions solver walk offset qs = IsLeading s functions solver (here_of solver.builder walk offset) qs walk.state
 
 -- The state is still to be led to where the ways lead from this number on, and over the last of its places.
-pub record IsLeadingOn (s : Setting) (functions : List (ℕ × ℕ)) (table : Table) (walk : Walk) (offset : ℕ) (after : Option ℕ) (ways : Moves) (index : ℕ) (over : Option ℕ) : Type 0 where
-  pub leading : IsLeadingAt s functions table walk offset (place_over (calls_of table walk) over ++ places_from (calls_of table walk) ways index)
-  pub just_after : IsJustAfter s (here_of table.builder walk offset) after
+pub record IsLeadingOn (s : Setting) (functions : List (ℕ × ℕ)) (solver : Solver) (walk : Walk) (offset : ℕ) (after : Option ℕ) (ways : Moves) (index : ℕ) (over : Option ℕ) : Type 0 where
+  pub leading : IsLeadingAt s functions solver walk offset (place_over (calls_of solver walk) over ++ places_from (calls_of solver walk) ways index)
+  pub just_after : IsJustAfter s (here_of solver.builder walk offset) after
   pub goes_over : (at : ℕ) → over ≡ Some at → after ≡ Some at
-  pub walks : IsWalk table.builder walk
+  pub walks : IsWalk solver.builder walk
 
 -- The same, and before that it is led to an offset of the context of this number.
-pub record IsLeadingTo (s : Setting) (functions : List (ℕ × ℕ)) (table : Table) (walk : Walk) (offset : ℕ) (after : Option ℕ) (ways : Moves) (index : ℕ) (over : Option ℕ) (number next : ℕ) : Type 0 where
-  pub leading : IsLeadingAt s functions table walk offset (place_of table.builder number next ∷ place_over (calls_of table walk) over ++ places_from (calls_of table walk) ways index)
-  pub there : number < length table.builder.contexts
-  pub just_after : IsJustAfter s (here_of table.builder walk offset) after
+pub record IsLeadingTo (s : Setting) (functions : List (ℕ × ℕ)) (solver : Solver) (walk : Walk) (offset : ℕ) (after : Option ℕ) (ways : Moves) (index : ℕ) (over : Option ℕ) (number next : ℕ) : Type 0 where
+  pub leading : IsLeadingAt s functions solver walk offset (place_of solver.builder number next ∷ place_over (calls_of solver walk) over ++ places_from (calls_of solver walk) ways index)
+  pub there : number < length solver.builder.contexts
+  pub just_after : IsJustAfter s (here_of solver.builder walk offset) after
   pub goes_over : (at : ℕ) → over ≡ Some at → after ≡ Some at
-  pub walks : IsWalk table.builder walk
+  pub walks : IsWalk solver.builder walk
 
 -- the context's last call returns to an offset of 32 bits, and its next turn is a number of 32 bits
 abbrev pub IsCountable : List (List Frame) → ℕ → Type 0

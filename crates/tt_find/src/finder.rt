@@ -13,7 +13,7 @@ ghost use Rattle.tt_find.specs.Tables.{HasLaws, IsEmptyTable, IsFound, IsWhole};
 use crate::origin::Origin;
 use crate::run::{run, store};
 use crate::stop::Stop;
-use crate::table::Table;
+use crate::solver::Solver;
 use crate::walk::Walk;
 use std::alloc::{AllocError, Global};
 use std::mem;
@@ -45,61 +45,61 @@ fn has_laws(setting: &Setting<'_>)
     prove!(u32::from(setting.limits.storage) < 1 << 16);
 }
 
-/// Fills an empty table, from the start on, until no point waits.
+/// Fills an empty solver, from the start on, until no point waits.
 ///
 /// # Errors
 /// As the run from each point.
-fn run_to_fixpoint(alloc: Global, table: &mut Table, setting: &Setting<'_>) -> Result<(), Stop>
+fn run_to_fixpoint(alloc: Global, solver: &mut Solver, setting: &Setting<'_>) -> Result<(), Stop>
     requires rises { Rises setting.now.start.now }
     requires laws { HasLaws (setting_of setting.now) setting.now.start.now }
-    requires empty { IsEmptyTable table.old }
-    ensures whole { IfOk result (λ _. IsWhole (setting_of setting.now) setting.now.start.now table.new) }
-    ensures none { IfOk result (λ _. table.new.worklist ≡ []) }
-    ensures stops { IfErr result (NamesStop (IsJustified (setting_of setting.now) setting.now.start.now) table.old.marks.everywhere) }
+    requires empty { IsEmptyTable solver.old }
+    ensures whole { IfOk result (λ _. IsWhole (setting_of setting.now) setting.now.start.now solver.new) }
+    ensures none { IfOk result (λ _. solver.new.worklist ≡ []) }
+    ensures stops { IfErr result (NamesStop (IsJustified (setting_of setting.now) setting.now.start.now) solver.old.marks.everywhere) }
 {
     let mut walk = Walk::start(alloc, setting.start)?;
-    table.builder.is_family();
-    if let Err(stop) = store(table, &mut walk, 0, 0, Origin::Elsewhere) {
+    solver.builder.is_family();
+    if let Err(stop) = store(solver, &mut walk, 0, 0, Origin::Elsewhere) {
         return Err(stop);
     }
-    while let Some((context, offset)) = table.worklist.pop_first() {
-        if let Err(stop) = run(table, &mut walk, setting, context, offset) {
+    while let Some((context, offset)) = solver.worklist.pop_first() {
+        if let Err(stop) = run(solver, &mut walk, setting, context, offset) {
             return Err(stop);
         }
     }
     Ok(())
 }
 
-/// Fills a table anew, with states kept at the points where ways were found to meet, until no two ways meet elsewhere.
+/// Fills a solver anew, with states kept at the points where ways were found to meet, until no two ways meet elsewhere.
 ///
 /// # Errors
 /// As `find` refuses what comes on the way.
 fn restart_to_fixpoint(
     alloc: Global,
-    table: &mut Table,
+    solver: &mut Solver,
     setting: &Setting<'_>,
 ) -> Result<(), ProgramFault>
     requires rises { Rises setting.now.start.now }
     requires laws { HasLaws (setting_of setting.now) setting.now.start.now }
-    ensures whole { IfOk result (λ _. IsWhole (setting_of setting.now) setting.now.start.now table.new) }
-    ensures none { IfOk result (λ _. table.new.worklist ≡ []) }
+    ensures whole { IfOk result (λ _. IsWhole (setting_of setting.now) setting.now.start.now solver.new) }
+    ensures none { IfOk result (λ _. solver.new.worklist ≡ []) }
     ensures justified { IfErr result (NamesPlace (IsJustified (setting_of setting.now) setting.now.start.now)) }
 {
-    table.marks.begin(setting)?;
+    solver.marks.begin(setting)?;
     for _ in 0..STARTS {
-        table.clear();
-        match run_to_fixpoint(alloc, table, setting) {
+        solver.clear();
+        match run_to_fixpoint(alloc, solver, setting) {
             Ok(()) => return Ok(()),
             Err(Stop::Fault(fault)) => return Err(fault),
-            Err(Stop::Met) => {}
+            Err(Stop::Restart) => {}
         }
     }
-    table.clear();
-    table.marks.everywhere = true;
-    match run_to_fixpoint(alloc, table, setting) {
+    solver.clear();
+    solver.marks.everywhere = true;
+    match run_to_fixpoint(alloc, solver, setting) {
         Ok(()) => Ok(()),
         Err(Stop::Fault(fault)) => Err(fault),
-        Err(Stop::Met) => unreachable!(),
+        Err(Stop::Restart) => unreachable!(),
     }
 }
 
@@ -114,19 +114,19 @@ fn refused_in_main(offset: u32, reason: Reason) -> ProgramFault
     }
 }
 
-/// Fills a table with the least good family, and returns how many updates that took.
+/// Fills a solver with the least good family, and returns how many updates that took.
 ///
 /// # Errors
 /// As `find`.
 fn find_fixpoint(
     alloc: Global,
-    table: &mut Table,
+    solver: &mut Solver,
     setting: &Setting<'_>,
 ) -> Result<u64, ProgramFault>
     requires rises { Rises setting.now.start.now }
     requires fits { FunctionsFit (setting_of setting.now) setting.now.start.now }
     ensures laws { HasLaws (setting_of setting.now) setting.now.start.now }
-    ensures found { IfOk result (IsFound (setting_of setting.now) setting.now.start.now table.new) }
+    ensures found { IfOk result (IsFound (setting_of setting.now) setting.now.start.now solver.new) }
     ensures justified { IfErr result (NamesPlace (IsJustified (setting_of setting.now) setting.now.start.now)) }
 {
     has_laws(setting);
@@ -134,13 +134,13 @@ fn find_fixpoint(
         let most = u32::from(setting.limits.program_size);
         return Err(refused_in_main(most, Reason::ProgramTooLong));
     }
-    if let Err(fault) = restart_to_fixpoint(alloc, table, setting) {
+    if let Err(fault) = restart_to_fixpoint(alloc, solver, setting) {
         return Err(fault);
     }
-    if !ends_well(setting, &table.builder) {
+    if !ends_well(setting, &solver.builder) {
         return Err(refused_in_main(0, Reason::NeverEnds));
     }
-    match table.changes.checked_add(table.passes) {
+    match solver.changes.checked_add(solver.passes) {
         Some(updates) => Ok(updates),
         None => Err(ProgramFault::OutOfMemory(AllocError)),
     }
@@ -149,25 +149,25 @@ fn find_fixpoint(
 /// The memory of a finder, which one program after another uses.
 #[derive(Drop)]
 pub struct Finder {
-    table: Table,
+    solver: Solver,
 }
 
 impl Finder {
     /// Makes a finder without memory.
     pub fn new(alloc: Global) -> Finder
-        ensures { IsEmptyTable result.table }
+        ensures { IsEmptyTable result.solver }
     {
         Finder {
-            table: Table::new(alloc),
+            solver: Solver::new(alloc),
         }
     }
 
     /// Takes back the memory of a certificate, in place of the states that the finder has.
     pub fn take_back(&mut self, certificate: Certificate)
-        ensures contexts { self.new.table.builder.contexts ≡ [] ∷ [] }
-        ensures states { self.new.table.builder.states ≡ [] }
+        ensures contexts { self.new.solver.builder.contexts ≡ [] ∷ [] }
+        ensures states { self.new.solver.builder.states ≡ [] }
     {
-        self.table.builder = certificate.into_builder();
+        self.solver.builder = certificate.into_builder();
     }
 
     /// Returns the least family as `find` finds it, with the states that it has kept besides those that a filling needs. Its certificate has the
@@ -185,11 +185,11 @@ impl Finder {
         ensures never_ends { (family : Place → Option AnyState) → LacksEnd (setting_of setting.now) setting.now.start.now family
             → IfOk result (λ _. ⊥) × IfErr result (λ fault. IsOutOfMemory fault ⊎ IsNeverEnding fault) }
     {
-        let updates = match find_fixpoint(alloc, &mut self.table, setting) {
+        let updates = match find_fixpoint(alloc, &mut self.solver, setting) {
             Ok(updates) => updates,
             Err(fault) => return Err(fault),
         };
-        let builder = mem::replace(&mut self.table.builder, Builder::new(alloc));
+        let builder = mem::replace(&mut self.solver.builder, Builder::new(alloc));
         match builder.finish() {
             Ok(certificate) => Ok(Found {
                 certificate,
@@ -219,12 +219,12 @@ impl Finder {
         ensures never_ends { (family : Place → Option AnyState) → LacksEnd (setting_of setting.now) setting.now.start.now family
             → IfOk result (λ _. ⊥) × IfErr result (λ fault. IsOutOfMemory fault ⊎ IsNeverEnding fault) }
     {
-        let updates = match find_fixpoint(alloc, &mut self.table, setting) {
+        let updates = match find_fixpoint(alloc, &mut self.solver, setting) {
             Ok(updates) => updates,
             Err(fault) => return Err(fault),
         };
-        let builder = mem::replace(&mut self.table.builder, Builder::new(alloc));
-        match builder.finish_without(&self.table.spare) {
+        let builder = mem::replace(&mut self.solver.builder, Builder::new(alloc));
+        match builder.finish_without(&self.solver.spare) {
             Ok(certificate) => Ok(Found {
                 certificate,
                 updates,

@@ -7,7 +7,7 @@ mod origin;
 mod run;
 mod stop;
 mod successor;
-mod table;
+mod solver;
 mod walk;
 mod worklist;
 

@@ -21,7 +21,7 @@ pub(crate) enum Mark {
 /// At which offsets of the three programs states are kept: those at which ways meet. Which they are is found on the way, and is remembered for
 /// the next program, which may call the same functions. After the end of a list states are kept.
 #[derive(Drop)]
-pub(crate) struct Marks {
+pub(crate) struct OffsetMarks {
     /// Whether states are kept at all offsets, whatever the lists tell.
     pub everywhere: bool,
     main: Vec<Mark>,
@@ -49,10 +49,10 @@ fn fit(marks: &mut Vec<Mark>, length: u32) -> Result<(), AllocError> {
     Ok(())
 }
 
-impl Marks {
+impl OffsetMarks {
     /// Makes marks by which states are kept everywhere.
-    pub(crate) fn new(alloc: Global) -> Marks {
-        Marks {
+    pub(crate) fn new(alloc: Global) -> OffsetMarks {
+        OffsetMarks {
             everywhere: true,
             main: Vec::new(alloc),
             font: Vec::new(alloc),

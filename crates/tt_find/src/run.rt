@@ -15,7 +15,7 @@ ghost use Rattle.tt_find.specs.Tables.{GoesOn, HasLaws, HasRisen, IsApart, IsCar
 use crate::origin::Origin;
 use crate::stop::Stop;
 use crate::successor::resolve_successor;
-use crate::table::{Table, refused_at};
+use crate::solver::{Solver, refused_at};
 use crate::walk::Walk;
 use std::alloc::AllocError;
 use tt_abs::{Moves, Point, Refusal, Setting, Stepped, step_at};
@@ -64,75 +64,75 @@ fn source_of(here: u32, context: u32, after: Option<u32>, next: u32) -> Origin
 /// Puts the walk's state at a point. From then on states are kept there.
 ///
 /// # Errors
-/// `Fault` with `Refused` for a state of another depth, at the point, or with `OutOfMemory`; `Met` where states went over that offset.
+/// `Fault` with `Refused` for a state of another depth, at the point, or with `OutOfMemory`; `Restart` where states went over that offset.
 pub(crate) fn store(
-    table: &mut Table,
+    solver: &mut Solver,
     walk: &mut Walk,
     context: u32,
     offset: u32,
     source: Origin,
 ) -> Result<(), Stop>
-    requires there { context < length table.old.builder.contexts }
+    requires there { context < length solver.old.builder.contexts }
     requires in_range { state_order.InRange walk.old.state }
-    requires room { table.old.changes < 18446744073709551615 }
-    requires walk { IsWalk table.old.builder walk.old }
-    ensures stored { IfOk result (λ _. IsStored table.old table.new context offset walk.old.state source) }
-    ensures stops { IfErr result (NamesStop (IsApart (family_of table.old.builder) (place_of table.old.builder context offset) walk.old.state) table.old.marks.everywhere) }
+    requires room { solver.old.changes < 18446744073709551615 }
+    requires walk { IsWalk solver.old.builder walk.old }
+    ensures stored { IfOk result (λ _. IsStored solver.old solver.new context offset walk.old.state source) }
+    ensures stops { IfErr result (NamesStop (IsApart (family_of solver.old.builder) (place_of solver.old.builder context offset) walk.old.state) solver.old.marks.everywhere) }
     ensures state { IfOk result (λ _. walk.new.state ≡ walk.old.state) }
     ensures context { IfOk result (λ _. walk.new.context ≡ walk.old.context) }
-    ensures walk { IfOk result (λ _. IsWalk table.new.builder walk.new) }
+    ensures walk { IfOk result (λ _. IsWalk solver.new.builder walk.new) }
 {
-    let spot = table.builder.spot(context);
-    if !table.marks.keep(spot, offset) {
-        return Err(Stop::Met);
+    let spot = solver.builder.spot(context);
+    if !solver.marks.keep(spot, offset) {
+        return Err(Stop::Restart);
     }
-    let joined = match walk.put(table, context, offset) {
+    let joined = match walk.put(solver, context, offset) {
         Ok(joined) => joined,
         Err(fault) => return Err(Stop::Fault(fault)),
     };
-    if let Err(error) = table.note(context, offset, source, joined) {
+    if let Err(error) = solver.note(context, offset, source, joined) {
         return Err(Stop::Fault(ProgramFault::OutOfMemory(error)));
     }
     Ok(())
 }
 
 /// Whether the walk's state may go over an offset to which it comes from there.
-fn goes_over(table: &Table, walk: &Walk, source: Origin, next: u32) -> bool
+fn goes_over(solver: &Solver, walk: &Walk, source: Origin, next: u32) -> bool
     ensures { IsTrue result → source ≡ Origin.JustBefore }
 {
     match source {
-        Origin::JustBefore => table.may_pass(walk.context, walk.spot, next),
+        Origin::JustBefore => solver.may_pass(walk.context, walk.spot, next),
         Origin::Elsewhere => false,
     }
 }
 
 /// Leads the state that an instruction left to the offset just after it: over it where states aren't kept there. Then it returns that offset.
 fn step_over(
-    table: &mut Table,
+    solver: &mut Solver,
     walk: &mut Walk,
     setting: &Setting<'_>,
     offset: u32,
     next: u32,
 ) -> Result<Option<u32>, Stop>
     requires laws { HasLaws (setting_of setting.now) setting.now.start.now }
-    requires walk { IsWalk table.old.builder walk.old }
-    requires just { Precedes (setting_of setting.now) (here_of table.old.builder walk.old offset) (here_of table.old.builder walk.old next) }
-    requires leading { IsLeadingAt (setting_of setting.now) setting.now.start.now table.old walk.old offset (here_of table.old.builder walk.old next ∷ []) }
-    ensures goes { IfOk result (λ onward. GoesOn (setting_of setting.now) setting.now.start.now table.new walk.new onward) }
+    requires walk { IsWalk solver.old.builder walk.old }
+    requires just { Precedes (setting_of setting.now) (here_of solver.old.builder walk.old offset) (here_of solver.old.builder walk.old next) }
+    requires leading { IsLeadingAt (setting_of setting.now) setting.now.start.now solver.old walk.old offset (here_of solver.old.builder walk.old next ∷ []) }
+    ensures goes { IfOk result (λ onward. GoesOn (setting_of setting.now) setting.now.start.now solver.new walk.new onward) }
     ensures further { IfOk result (λ onward. IfSome onward (λ at. offset < at)) }
-    ensures risen { IfOk result (λ _. HasRisen table.old table.new) }
-    ensures walk { IfOk result (λ _. IsWalk table.new.builder walk.new) }
-    ensures stops { IfErr result (NamesStop (IsJustified (setting_of setting.now) setting.now.start.now) table.old.marks.everywhere) }
-    ensures everywhere { IfOk result (λ _. table.new.marks.everywhere ≡ table.old.marks.everywhere) }
+    ensures risen { IfOk result (λ _. HasRisen solver.old solver.new) }
+    ensures walk { IfOk result (λ _. IsWalk solver.new.builder walk.new) }
+    ensures stops { IfErr result (NamesStop (IsJustified (setting_of setting.now) setting.now.start.now) solver.old.marks.everywhere) }
+    ensures everywhere { IfOk result (λ _. solver.new.marks.everywhere ≡ solver.old.marks.everywhere) }
 {
     let context = walk.context;
-    if table.may_pass(context, walk.spot, next) {
-        if let Err(error) = table.pass(walk.spot, next) {
+    if solver.may_pass(context, walk.spot, next) {
+        if let Err(error) = solver.pass(walk.spot, next) {
             return Err(Stop::Fault(ProgramFault::OutOfMemory(error)));
         }
         return Ok(Some(next));
     }
-    if let Err(stop) = store(table, walk, context, next, Origin::JustBefore) {
+    if let Err(stop) = store(solver, walk, context, next, Origin::JustBefore) {
         return Err(stop);
     }
     Ok(None)
@@ -155,7 +155,7 @@ fn not_entered(builder: &Builder, context: u32, offset: u32, fault: ContextFault
 /// Leads the state that an instruction left to each place where its ways lead, one after the other, except for the one over which it goes last.
 /// Returns that one's offset.
 fn store_successors(
-    table: &mut Table,
+    solver: &mut Solver,
     walk: &mut Walk,
     setting: &Setting<'_>,
     offset: u32,
@@ -163,36 +163,36 @@ fn store_successors(
     ways: Moves,
 ) -> Result<Option<u32>, Stop>
     requires laws { HasLaws (setting_of setting.now) setting.now.start.now }
-    requires walk { IsWalk table.old.builder walk.old }
-    requires after { IsJustAfter (setting_of setting.now) (here_of table.old.builder walk.old offset) after }
-    requires leading { IsLeadingAt (setting_of setting.now) setting.now.start.now table.old walk.old offset (places_from (calls_of table.old walk.old) ways 0) }
-    ensures goes { IfOk result (λ onward. GoesOn (setting_of setting.now) setting.now.start.now table.new walk.new onward) }
+    requires walk { IsWalk solver.old.builder walk.old }
+    requires after { IsJustAfter (setting_of setting.now) (here_of solver.old.builder walk.old offset) after }
+    requires leading { IsLeadingAt (setting_of setting.now) setting.now.start.now solver.old walk.old offset (places_from (calls_of solver.old walk.old) ways 0) }
+    ensures goes { IfOk result (λ onward. GoesOn (setting_of setting.now) setting.now.start.now solver.new walk.new onward) }
     ensures further { IfOk result (λ onward. IfSome onward (λ at. offset < at)) }
-    ensures risen { IfOk result (λ _. HasRisen table.old table.new) }
-    ensures walk { IfOk result (λ _. IsWalk table.new.builder walk.new) }
-    ensures stops { IfErr result (NamesStop (IsJustified (setting_of setting.now) setting.now.start.now) table.old.marks.everywhere) }
-    ensures everywhere { IfOk result (λ _. table.new.marks.everywhere ≡ table.old.marks.everywhere) }
+    ensures risen { IfOk result (λ _. HasRisen solver.old solver.new) }
+    ensures walk { IfOk result (λ _. IsWalk solver.new.builder walk.new) }
+    ensures stops { IfErr result (NamesStop (IsJustified (setting_of setting.now) setting.now.start.now) solver.old.marks.everywhere) }
+    ensures everywhere { IfOk result (λ _. solver.new.marks.everywhere ≡ solver.old.marks.everywhere) }
 {
     let here = walk.context;
     let mut over = None;
     let mut index = 0;
     while let Some(way) = ways.get(index) {
-        let (context, next) = match resolve_successor(&mut table.builder, here, way) {
+        let (context, next) = match resolve_successor(&mut solver.builder, here, way) {
             Ok(place) => place,
             Err(fault) => {
-                return Err(Stop::Fault(not_entered(&table.builder, here, offset, fault)));
+                return Err(Stop::Fault(not_entered(&solver.builder, here, offset, fault)));
             }
         };
         let source = source_of(here, context, after, next);
-        if over.is_none() && goes_over(table, walk, source, next) {
+        if over.is_none() && goes_over(solver, walk, source, next) {
             over = Some(next);
-        } else if let Err(stop) = store(table, walk, context, next, source) {
+        } else if let Err(stop) = store(solver, walk, context, next, source) {
             return Err(stop);
         }
         index += 1;
     }
     match over {
-        Some(next) => step_over(table, walk, setting, offset, next),
+        Some(next) => step_over(solver, walk, setting, offset, next),
         None => Ok(None),
     }
 }
@@ -201,24 +201,24 @@ fn store_successors(
 ///
 /// # Errors
 /// `Fault` with `Refused`, if the state is refused there, or enters one context too many; or for two states of different depths, where they
-/// meet; or with `OutOfMemory`. `Met` where a state is to be kept at an offset over which states went.
+/// meet; or with `OutOfMemory`. `Restart` where a state is to be kept at an offset over which states went.
 fn step_point(
-    table: &mut Table,
+    solver: &mut Solver,
     walk: &mut Walk,
     setting: &Setting<'_>,
     offset: u32,
 ) -> Result<Option<u32>, Stop>
     requires laws { HasLaws (setting_of setting.now) setting.now.start.now }
-    requires walk { IsWalk table.old.builder walk.old }
-    requires way { IsOnWay (setting_of setting.now) setting.now.start.now table.old (here_of table.old.builder walk.old offset) walk.old.state }
-    ensures goes { IfOk result (λ onward. GoesOn (setting_of setting.now) setting.now.start.now table.new walk.new onward) }
+    requires walk { IsWalk solver.old.builder walk.old }
+    requires way { IsOnWay (setting_of setting.now) setting.now.start.now solver.old (here_of solver.old.builder walk.old offset) walk.old.state }
+    ensures goes { IfOk result (λ onward. GoesOn (setting_of setting.now) setting.now.start.now solver.new walk.new onward) }
     ensures further { IfOk result (λ onward. IfSome onward (λ at. offset < at)) }
-    ensures risen { IfOk result (λ _. HasRisen table.old table.new) }
-    ensures walk { IfOk result (λ _. IsWalk table.new.builder walk.new) }
-    ensures stops { IfErr result (NamesStop (IsJustified (setting_of setting.now) setting.now.start.now) table.old.marks.everywhere) }
-    ensures everywhere { IfOk result (λ _. table.new.marks.everywhere ≡ table.old.marks.everywhere) }
+    ensures risen { IfOk result (λ _. HasRisen solver.old solver.new) }
+    ensures walk { IfOk result (λ _. IsWalk solver.new.builder walk.new) }
+    ensures stops { IfErr result (NamesStop (IsJustified (setting_of setting.now) setting.now.start.now) solver.old.marks.everywhere) }
+    ensures everywhere { IfOk result (λ _. solver.new.marks.everywhere ≡ solver.old.marks.everywhere) }
 {
-    let step = match step_state(&table.builder, walk, setting, offset) {
+    let step = match step_state(&solver.builder, walk, setting, offset) {
         Ok(Some(step)) => step,
         Ok(None) => return Ok(None),
         Err(fault) => return Err(Stop::Fault(fault)),
@@ -228,7 +228,7 @@ fn step_point(
         offset,
     };
     let after = added_after(setting, &point, step.end);
-    store_successors(table, walk, setting, offset, after, step.moves)
+    store_successors(solver, walk, setting, offset, after, step.moves)
 }
 
 /// Carries on the state at a point, in place as far as possible.
@@ -236,27 +236,27 @@ fn step_point(
 /// # Errors
 /// As for each instruction on the way.
 pub(crate) fn run(
-    table: &mut Table,
+    solver: &mut Solver,
     walk: &mut Walk,
     setting: &Setting<'_>,
     context: u32,
     offset: u32,
 ) -> Result<(), Stop>
     requires laws { HasLaws (setting_of setting.now) setting.now.start.now }
-    requires walk { IsWalk table.old.builder walk.old }
-    requires popped { IsPopped (setting_of setting.now) setting.now.start.now table.old context offset }
-    ensures whole { IfOk result (λ _. IsWhole (setting_of setting.now) setting.now.start.now table.new) }
-    ensures risen { IfOk result (λ _. HasRisen table.old table.new) }
-    ensures walk { IfOk result (λ _. IsWalk table.new.builder walk.new) }
-    ensures stops { IfErr result (NamesStop (IsJustified (setting_of setting.now) setting.now.start.now) table.old.marks.everywhere) }
-    ensures everywhere { IfOk result (λ _. table.new.marks.everywhere ≡ table.old.marks.everywhere) }
+    requires walk { IsWalk solver.old.builder walk.old }
+    requires popped { IsPopped (setting_of setting.now) setting.now.start.now solver.old context offset }
+    ensures whole { IfOk result (λ _. IsWhole (setting_of setting.now) setting.now.start.now solver.new) }
+    ensures risen { IfOk result (λ _. HasRisen solver.old solver.new) }
+    ensures walk { IfOk result (λ _. IsWalk solver.new.builder walk.new) }
+    ensures stops { IfErr result (NamesStop (IsJustified (setting_of setting.now) setting.now.start.now) solver.old.marks.everywhere) }
+    ensures everywhere { IfOk result (λ _. solver.new.marks.everywhere ≡ solver.old.marks.everywhere) }
 {
-    walk.go_to(&table.builder, context)?;
-    if !walk.take(&table.builder, context, offset)? {
+    walk.go_to(&solver.builder, context)?;
+    if !walk.take(&solver.builder, context, offset)? {
         return Ok(());
     }
     let mut at = offset;
-    while let Some(next) = step_point(table, walk, setting, at)? {
+    while let Some(next) = step_point(solver, walk, setting, at)? {
         at = next;
     }
     Ok(())

@@ -9,7 +9,7 @@ pub(crate) enum Stop {
     /// No family is found.
     Fault(ProgramFault),
     /// A state is to be kept at an offset over which states have gone. There states are kept from then on, and the finder starts again.
-    Met,
+    Restart,
 }
 
 impl From<ProgramFault> for Stop {

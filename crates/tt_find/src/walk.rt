@@ -10,7 +10,7 @@ ghost use Rattle.tt_cert.specs.Puts.{place_of};
 ghost use Rattle.tt_find.specs.Found.{NamesPlace};
 ghost use Rattle.tt_find.specs.Tables.{IsApart, IsPut, IsWalk, KeepsRest};
 
-use crate::table::Table;
+use crate::solver::Solver;
 use std::alloc::{AllocError, Global};
 use tt_abs::State;
 use tt_cert::{Builder, Joined, PointKey, ProgramFault, Spot};
@@ -103,30 +103,30 @@ impl Walk {
         }
     }
 
-    /// Puts the state at a point, as `Table::put` does. A point that is new has this state from then on.
+    /// Puts the state at a point, as `Solver::put` does. A point that is new has this state from then on.
     ///
     /// # Errors
-    /// As `Table::put`.
+    /// As `Solver::put`.
     pub(crate) fn put(
         &mut self,
-        table: &mut Table,
+        solver: &mut Solver,
         context: u32,
         offset: u32,
     ) -> Result<Joined, ProgramFault>
-        requires there { context < length table.old.builder.contexts }
+        requires there { context < length solver.old.builder.contexts }
         requires in_range { state_order.InRange self.old.state }
-        requires room { table.old.changes < 18446744073709551615 }
-        requires walk { IsWalk table.old.builder self.old }
-        ensures put { IfOk result (λ _. IsPut table.old table.new context offset self.old.state) }
-        ensures rest { IfOk result (λ _. KeepsRest table.old table.new) }
-        ensures tells { IfOk result (λ joined. TellsNew joined (family_of table.old.builder (place_of table.old.builder context offset))) }
-        ensures apart { IfErr result (NamesPlace (IsApart (family_of table.old.builder) (place_of table.old.builder context offset) self.old.state)) }
+        requires room { solver.old.changes < 18446744073709551615 }
+        requires walk { IsWalk solver.old.builder self.old }
+        ensures put { IfOk result (λ _. IsPut solver.old solver.new context offset self.old.state) }
+        ensures rest { IfOk result (λ _. KeepsRest solver.old solver.new) }
+        ensures tells { IfOk result (λ joined. TellsNew joined (family_of solver.old.builder (place_of solver.old.builder context offset))) }
+        ensures apart { IfErr result (NamesPlace (IsApart (family_of solver.old.builder) (place_of solver.old.builder context offset) self.old.state)) }
         ensures state { self.new.state ≡ self.old.state }
         ensures context { self.new.context ≡ self.old.context }
-        ensures walk { IfOk result (λ _. IsWalk table.new.builder self.new) }
+        ensures walk { IfOk result (λ _. IsWalk solver.new.builder self.new) }
     {
-        table.builder.is_family();
-        let joined = match table.put(context, offset, &self.state) {
+        solver.builder.is_family();
+        let joined = match solver.put(context, offset, &self.state) {
             Ok(joined) => joined,
             Err(fault) => return Err(fault),
         };

@@ -5,9 +5,9 @@ ghost use Rattle.tt_abs.specs.Entries.{Rises};
 ghost use Rattle.tt_abs.specs.StateFlow.{FunctionsFit};
 ghost use Rattle.tt_code.specs.Fonts.{font_setting};
 ghost use Rattle.hintcheck.specs.FindingSessions.{IsFoundAnswer};
-ghost use Rattle.hintcheck.specs.FontLooks.{IsKnownAtEnd};
+ghost use Rattle.hintcheck.specs.FontVerdicts.{IsKnownAtEnd};
 ghost use Rattle.hintcheck.specs.FontPrograms.{IsFontInRange, font_of, font_subject};
-ghost use Rattle.hintcheck.specs.Looks.{IsForCertificate};
+ghost use Rattle.hintcheck.specs.ProgramVerdicts.{IsForCertificate};
 ghost use Rattle.hintcheck.specs.Sessions.{after_font, at_glyph, at_start};
 ghost use Rattle.hintcheck.specs.SessionStages.{KeepsKnown, TellsOutcome, stage_of};
 
@@ -25,7 +25,7 @@ use tt_font::Font;
 
 /// The answer of a call, and what the session keeps then.
 #[derive(Drop)]
-struct Step<'a> {
+struct FoundStep<'a> {
     answer: Option<(Outcome, Option<Found>)>,
     kept: Kept<'a>,
 }
@@ -56,17 +56,17 @@ fn find_first<'a>(
     finder: &mut Finder,
     font: &Font<'a>,
     search: Search,
-) -> Result<Step<'a>, AllocError>
+) -> Result<FoundStep<'a>, AllocError>
     requires range { IsFontInRange font.now }
     requires search { IsForCertificate search }
     ensures { IfOk result (λ step. IsFoundAnswer font.now at_start step.answer (stage_of step.kept)) }
 {
     match find_font_program(alloc, finder, font, search) {
-        Ok((fpgm, found)) => Ok(Step {
+        Ok((fpgm, found)) => Ok(FoundStep {
             answer: Some((accepted(Name::Font), Some(found))),
             kept: Kept::AfterFont(fpgm),
         }),
-        Err(fault) => Ok(Step {
+        Err(fault) => Ok(FoundStep {
             answer: Some((refused(Name::Font, fault)?, None)),
             kept: Kept::Over,
         }),
@@ -80,18 +80,18 @@ fn find_second<'a>(
     font: &Font<'a>,
     fpgm: Ended<'a>,
     search: Search,
-) -> Result<Step<'a>, AllocError>
+) -> Result<FoundStep<'a>, AllocError>
     requires range { IsFontInRange font.now }
     requires search { IsForCertificate search }
     requires known { IsKnownAtEnd (font_subject font.now) fpgm.program fpgm.functions.items }
     ensures { IfOk result (λ step. IsFoundAnswer font.now (after_font fpgm.entry.program fpgm.entry.functions.items) step.answer (stage_of step.kept)) }
 {
     match find_cvt_program(alloc, finder, font, &fpgm, search) {
-        Ok((prep, found)) => Ok(Step {
+        Ok((prep, found)) => Ok(FoundStep {
             answer: Some((accepted(Name::Cvt), Some(found))),
             kept: Kept::Glyphs(fpgm, prep, 0),
         }),
-        Err(fault) => Ok(Step {
+        Err(fault) => Ok(FoundStep {
             answer: Some((refused(Name::Cvt, fault)?, None)),
             kept: Kept::Over,
         }),
@@ -136,20 +136,20 @@ fn find_third<'a>(
     prep: Ended<'a>,
     id: u16,
     search: Search,
-) -> Result<Step<'a>, AllocError>
+) -> Result<FoundStep<'a>, AllocError>
     requires range { IsFontInRange font.now }
     requires search { IsForCertificate search }
     requires known { KeepsKnown font.now (at_glyph fpgm.program prep.program prep.functions.items id) }
     ensures { IfOk result (λ step. IsFoundAnswer font.now (at_glyph fpgm.entry.program prep.entry.program prep.entry.functions.items id) step.answer (stage_of step.kept)) }
 {
     if id == font.glyph_count() {
-        return Ok(Step {
+        return Ok(FoundStep {
             answer: None,
             kept: Kept::Over,
         });
     }
     let answer = find_glyph(alloc, finder, font, &fpgm, &prep, id, search)?;
-    Ok(Step {
+    Ok(FoundStep {
         answer: Some(answer),
         kept: Kept::Glyphs(fpgm, prep, id + 1),
     })
@@ -162,7 +162,7 @@ fn find_on<'a>(
     font: &Font<'a>,
     kept: Kept<'a>,
     search: Search,
-) -> Result<Step<'a>, AllocError>
+) -> Result<FoundStep<'a>, AllocError>
     requires range { IsFontInRange font.now }
     requires search { IsForCertificate search }
     requires known { KeepsKnown font.now (stage_of kept) }
@@ -172,7 +172,7 @@ fn find_on<'a>(
         Kept::Start => find_first(alloc, finder, font, search),
         Kept::AfterFont(fpgm) => find_second(alloc, finder, font, fpgm, search),
         Kept::Glyphs(fpgm, prep, id) => find_third(alloc, finder, font, fpgm, prep, id, search),
-        Kept::Over => Ok(Step {
+        Kept::Over => Ok(FoundStep {
             answer: None,
             kept: Kept::Over,
         }),
@@ -195,7 +195,7 @@ pub(super) fn find_from<'a>(
 {
     let now = mem::replace(kept, Kept::Over);
     let step = find_on(alloc, finder, font, now, search)?;
-    let Step { answer, kept: next } = step;
+    let FoundStep { answer, kept: next } = step;
     *kept = next;
     Ok(answer)
 }

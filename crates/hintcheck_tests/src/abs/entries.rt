@@ -2,7 +2,7 @@
 
 use crate::abs::samples::join_twice;
 use std::alloc::{AllocError, Global};
-use tt_abs::{Entries, Order};
+use tt_abs::{SortedMap, Order};
 
 /// A change of a list of functions with their bodies.
 #[derive(Clone, Copy)]
@@ -12,7 +12,7 @@ enum Change {
 }
 
 /// Makes these changes, one after the other.
-fn make_changes(functions: &mut Entries<u32>, changes: &[Change]) -> Result<(), AllocError> {
+fn make_changes(functions: &mut SortedMap<u32>, changes: &[Change]) -> Result<(), AllocError> {
     for change in changes {
         match *change {
             Change::Put(number, body) => functions.put(number, body)?,
@@ -23,8 +23,8 @@ fn make_changes(functions: &mut Entries<u32>, changes: &[Change]) -> Result<(), 
 }
 
 /// Returns what an empty list becomes by these changes; nothing where memory ran out.
-fn list_after(alloc: Global, changes: &[Change]) -> Option<Entries<u32>> {
-    let mut functions = Entries::new(alloc);
+fn list_after(alloc: Global, changes: &[Change]) -> Option<SortedMap<u32>> {
+    let mut functions = SortedMap::new(alloc);
     make_changes(&mut functions, changes).ok()?;
     Some(functions)
 }
@@ -60,7 +60,7 @@ const MADE: [Made<'static>; 2] = [
 const THREE: [Change; 3] = [Change::Put(5, 40), Change::Put(1, 10), Change::Put(3, 20)];
 
 /// Whether a list holds what it should hold.
-fn holds(functions: &Entries<u32>, made: &Made<'_>) -> bool {
+fn holds(functions: &SortedMap<u32>, made: &Made<'_>) -> bool {
     functions.as_slice() == made.entries && [functions.get(3), functions.get(4)] == made.found
 }
 
@@ -95,8 +95,8 @@ fn copies(rt: HostRuntime) {
 
 /// Whether two lists of storage cells, of which one number differs, are joined to the number that they share; nothing where memory ran out.
 fn is_joined(alloc: Global) -> Option<bool> {
-    let mut storage: Entries<i32> = Entries::from_slice(alloc, &[(1, -7), (2, 5)]).ok()?;
-    let other = Entries::from_slice(alloc, &[(1, -7), (2, 6)]).ok()?;
+    let mut storage: SortedMap<i32> = SortedMap::from_slice(alloc, &[(1, -7), (2, 5)]).ok()?;
+    let other = SortedMap::from_slice(alloc, &[(1, -7), (2, 6)]).ok()?;
     let is_below = storage.below(&other);
     let changed = join_twice(&mut storage, &other);
     let is_shared = storage.as_slice() == [(1, -7)].as_slice();

@@ -4,7 +4,7 @@ use Rattle.tt_code.specs.declared.limits.Limits.{Limits}
 use Rattle.tt_font.specs.Maxp.{limits_of}
 use Rattle.tt_font.specs.Reading.{GlyphData}
 use Rattle.hintcheck.specs.FontPrograms.{glyph_subject}
-use Rattle.hintcheck.specs.Judging.{IsJudged, font_around}
+use Rattle.hintcheck.specs.BarePrograms.{IsJudged, font_around}
 use Rattle.hintcheck.specs.Verdicts.{Judgement}
 use Rattle.hintcheck.proofs.FontSafety.{only_glyph_is_safe}
 use Rattle.hintcheck.proofs.JudgeLemmas.{least_where_none}

@@ -3,8 +3,8 @@ use Rattle.tt_abs.specs.Settings.{programs_of}
 use Rattle.tt_code.specs.Fonts.{Font}
 use Rattle.tt_font.specs.GlyphParts.{glyph_data}
 use Rattle.hintcheck.specs.FontPrograms.{glyph_subject}
-use Rattle.hintcheck.specs.Judging.{IsJudged, font_around}
-use Rattle.hintcheck.specs.Looks.{IsListed}
+use Rattle.hintcheck.specs.BarePrograms.{IsJudged, font_around}
+use Rattle.hintcheck.specs.ProgramVerdicts.{IsListed}
 use Rattle.hintcheck.specs.Programs.{HasLeastFamily, Subject}
 use Rattle.tt_cert_file.specs.declared.name.Name.TheVariants as name
 use Rattle.hintcheck.specs.declared.report.Refused.{Refused}

@@ -1,9 +1,9 @@
 use Rattle.std.proofs.Common.{List, sym, subst}
 use Rattle.tt_code.specs.Cut.{Instruction}
 use Rattle.hintcheck.specs.FindingSessions.{IsFoundToEnd}
-use Rattle.hintcheck.specs.FontLooks.{IsKnownAtEnd}
+use Rattle.hintcheck.specs.FontVerdicts.{IsKnownAtEnd}
 use Rattle.hintcheck.specs.FontPrograms.{cvt_subject}
-use Rattle.hintcheck.specs.Looks.{IfRefused}
+use Rattle.hintcheck.specs.ProgramVerdicts.{IfRefused}
 use Rattle.hintcheck.specs.Programs.{IsRefusal}
 use Rattle.hintcheck.proofs.LookLemmas.{looked_at, passed_on}
 use Rattle.hintcheck.proofs.font.find_cvt_program.Goals as goal

@@ -3,8 +3,8 @@ use Rattle.std.proofs.lemmas.Result.{IfOk-weaker}
 use Rattle.tt_code.specs.Settings.{Setting}
 use Rattle.tt_cert.specs.Contents.{family_of}
 use Rattle.tt_font.specs.GlyphParts.{glyph_data}
-use Rattle.hintcheck.specs.FontLooks.{subject_in}
-use Rattle.hintcheck.specs.Looks.{IfRefused}
+use Rattle.hintcheck.specs.FontVerdicts.{subject_in}
+use Rattle.hintcheck.specs.ProgramVerdicts.{IfRefused}
 use Rattle.hintcheck.specs.Programs.{HasGoodFamily}
 use Rattle.hintcheck.proofs.FontEnds.{least_of}
 use Rattle.hintcheck.proofs.LookLemmas.{looked_at, passed_on}

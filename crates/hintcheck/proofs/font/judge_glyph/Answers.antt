@@ -2,8 +2,8 @@ use Rattle.std.proofs.Common.{sym}
 use Rattle.std.proofs.lemmas.Bool.{eqb-true}
 use Rattle.std.proofs.lemmas.List.{nil_from_length}
 use Rattle.tt_font.specs.GlyphParts.{glyph_data}
-use Rattle.hintcheck.specs.FontLooks.{font_in, subject_in}
-use Rattle.hintcheck.specs.Looks.{IfRefused}
+use Rattle.hintcheck.specs.FontVerdicts.{font_in, subject_in}
+use Rattle.hintcheck.specs.ProgramVerdicts.{IfRefused}
 use Rattle.hintcheck.specs.Programs.{HasGoodFamily}
 use Rattle.hintcheck.proofs.EmptyPrograms.{least_without_instructions}
 use Rattle.hintcheck.proofs.LookLemmas.{passed_on}

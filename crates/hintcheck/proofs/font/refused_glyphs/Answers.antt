@@ -1,8 +1,8 @@
 use Rattle.std.specs.Option.{option_map}
 use Rattle.std.proofs.Common.{◌≡◌, ◌+◌, List, ℕ, sym, ◌∙◌, ap, subst, arith, length}
 use Rattle.tt_font.specs.GlyphParts.{glyph_data}
-use Rattle.hintcheck.specs.FontLooks.{AreRefusedBelow, font_in}
-use Rattle.hintcheck.specs.Looks.{IsListed}
+use Rattle.hintcheck.specs.FontVerdicts.{AreRefusedBelow, font_in}
+use Rattle.hintcheck.specs.ProgramVerdicts.{IsListed}
 use Rattle.tt_cert_file.specs.declared.name.Name.TheVariants as name
 use Rattle.hintcheck.specs.declared.report.Refused.{Refused}
 use Rattle.hintcheck.proofs.FontLists.{accepted_next, all_below, glyph_there, listed_next}

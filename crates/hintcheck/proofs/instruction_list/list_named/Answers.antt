@@ -7,7 +7,7 @@ use Rattle.hintcheck.specs.FontPrograms.{font_of, glyph_subject, one_glyph_font}
 use Rattle.hintcheck.specs.Programs.{IsRefusal, Subject}
 use Rattle.tt_cert.specs.Checks.{IsOutOfMemory}
 use Rattle.tt_cert.specs.declared.fault.ProgramFault.{ProgramFault}
-use Rattle.hintcheck.specs.Looks.{IfRefused, told_at}
+use Rattle.hintcheck.specs.ProgramVerdicts.{IfRefused, told_at}
 use Rattle.hintcheck.specs.Texts.{refused_text}
 use Rattle.hintcheck.specs.declared.report.Refused.{Refused}
 use Rattle.hintcheck.proofs.ListingLemmas.{tells_unlisted}

@@ -1,7 +1,7 @@
 use Rattle.tt_abs.specs.Settings.{setting_of}
 use Rattle.tt_cert.specs.Contents.{family_of}
 use Rattle.hintcheck.specs.FindingSessions.{IsFoundFor}
-use Rattle.hintcheck.specs.Looks.{IfRefused, IsAccepted}
+use Rattle.hintcheck.specs.ProgramVerdicts.{IfRefused, IsAccepted}
 use Rattle.hintcheck.specs.Programs.{HasGoodFamily, IsRefusal}
 use Rattle.hintcheck.proofs.LookLemmas.{HasFlow, accepted_found, found_for, found_refusal, glyph_without_good, passed_on, still_found}
 use Rattle.hintcheck.proofs.program.find_and_check.Goals as goal

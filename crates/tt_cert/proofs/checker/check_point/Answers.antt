@@ -14,7 +14,7 @@ use Rattle.tt_cert.specs.Puts.{place_of}
 use Rattle.tt_cert.specs.Spots.{spot_of}
 use Rattle.tt_cert.specs.Cursors.{IsAfter, MayLeaveOut}
 use Rattle.tt_cert.specs.declared.fault.ProgramFault.TheVariants.{Refused}
-use Rattle.tt_cert.specs.declared.meeting.Met.TheVariants as met
+use Rattle.tt_cert.specs.declared.meeting.Coverage.TheVariants as met
 use Rattle.tt_cert.proofs.Checked.{broken_here, frames_back, outcome_moved, passed_at_end, passed_here, refusal_moved, refused_here, stores_here}
 use Rattle.tt_cert.proofs.StoredCells.{stored_above, stored_within}
 use Rattle.tt_cert.proofs.Turns.{turn_left}

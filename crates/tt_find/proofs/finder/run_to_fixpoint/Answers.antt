@@ -9,7 +9,7 @@ use Rattle.tt_find.proofs.finder.run_to_fixpoint.Goals as goal
 
 pub loop-context-init : goal.loop-context-init
 loop-context-init c = record {
-  whole = whole_start (setting_of c.args.setting.now) c.args.setting.now.start.now c.requires.laws c.args.table.now c.store.new.table c.in_ok-walk.walk.state c.in_ok-walk.ensures.state
+  whole = whole_start (setting_of c.args.setting.now) c.args.setting.now.start.now c.requires.laws c.args.solver.now c.store.new.solver c.in_ok-walk.walk.state c.in_ok-walk.ensures.state
       c.requires.empty c.in_default.ensures.stored;
   walk = c.in_default.ensures.walk;
   everywhere = refl;
@@ -17,13 +17,13 @@ loop-context-init c = record {
 
 pub run-requires-clause-popped : goal.run-requires-clause-popped
 run-requires-clause-popped c =
-    popped_left (setting_of c.args.setting.now) c.args.setting.now.start.now c.requires.laws c.loop-context.table c.in-Some.context c.in-Some.offset c.pop_first.new.self
+    popped_left (setting_of c.args.setting.now) c.args.setting.now.start.now c.requires.laws c.loop-context.solver c.in-Some.context c.in-Some.offset c.pop_first.new.self
     c.loop-context.invariant.whole c.in-Some.ensures.some c.in-Some.ensures.apart
 
 pub loop-context-smaller : goal.loop-context-smaller
 loop-context-smaller c =
     let h = height_of (setting_of c.args.setting.now) in
     let whole = c.in_default-run.ensures.whole in
-    let fit = updates_fit state_order state_laws h c.run.new.table.builder c.run.new.table.changes whole.kept.family whole.budget in
-    let one : length c.pop_first.new.self + 1 ≡ length c.loop-context.table.worklist = let e = ap length c.in-Some.ensures.some in omega arith in
-    measure_falls h c.loop-context.table.changes c.run.new.table.changes _ _ _ fit one c.in_default-run.ensures.risen.worklist c.in_default-run.ensures.risen.changes
+    let fit = updates_fit state_order state_laws h c.run.new.solver.builder c.run.new.solver.changes whole.kept.family whole.budget in
+    let one : length c.pop_first.new.self + 1 ≡ length c.loop-context.solver.worklist = let e = ap length c.in-Some.ensures.some in omega arith in
+    measure_falls h c.loop-context.solver.changes c.run.new.solver.changes _ _ _ fit one c.in_default-run.ensures.risen.worklist c.in_default-run.ensures.risen.changes

@@ -6,10 +6,10 @@ use Rattle.tt_find.proofs.finder.run_to_fixpoint.Given as goal
 
 abbrev pub invariant-loop-context : goal.invariant-loop-context
 invariant-loop-context l = record {
-  whole : IsWhole (setting_of l.setting) l.setting.start.now l.table;
-  walk : IsWalk l.table.builder l.walk;
-  everywhere : l.table.marks.everywhere ≡ l.initial.table.marks.everywhere;
+  whole : IsWhole (setting_of l.setting) l.setting.start.now l.solver;
+  walk : IsWalk l.solver.builder l.walk;
+  everywhere : l.solver.marks.everywhere ≡ l.initial.solver.marks.everywhere;
 }
 
 abbrev pub decreases-loop-context : goal.decreases-loop-context
-decreases-loop-context l = 2 * (4294967295 * (1 + height_of (setting_of l.setting)) - l.table.changes) + length l.table.worklist
+decreases-loop-context l = 2 * (4294967295 * (1 + height_of (setting_of l.setting)) - l.solver.changes) + length l.solver.worklist

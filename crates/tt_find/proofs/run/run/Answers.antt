@@ -9,11 +9,11 @@ pub loop-next-init : goal.loop-next-init
 loop-next-init c =
     let s = setting_of c.args.setting.now in
     let fs = c.args.setting.now.start.now in
-    let table = c.args.table.now in
-    let W : ℕ → Type 0 = λ x. IsOnWay s fs table (place_of table.builder x c.args.offset) c.take.new.self.state in
+    let solver = c.args.solver.now in
+    let W : ℕ → Type 0 = λ x. IsOnWay s fs solver (place_of solver.builder x c.args.offset) c.take.new.self.state in
     record {
       way = subst W (sym (c.in_ok-take.ensures.context ∙ c.in_ok-go_to.ensures.context))
-          (way_begins s fs c.requires.laws table c.args.context c.args.offset c.take.new.self.state c.requires.popped (c.in_ok-take.ensures.some c.if-not-branch.false));
+          (way_begins s fs c.requires.laws solver c.args.context c.args.offset c.take.new.self.state c.requires.popped (c.in_ok-take.ensures.some c.if-not-branch.false));
       walk = c.in_ok-take.ensures.walk;
       risen = record { worklist = omega arith; changes = omega arith };
       everywhere = refl;

@@ -5,10 +5,10 @@ use Rattle.tt_find.proofs.run.run.Given as goal
 
 abbrev pub invariant-loop-next : goal.invariant-loop-next
 invariant-loop-next l = record {
-  way : IsOnWay (setting_of l.setting) l.setting.start.now l.table (here_of l.table.builder l.walk l.at) l.walk.state;
-  walk : IsWalk l.table.builder l.walk;
-  risen : HasRisen l.initial.table l.table;
-  everywhere : l.table.marks.everywhere ≡ l.initial.table.marks.everywhere;
+  way : IsOnWay (setting_of l.setting) l.setting.start.now l.solver (here_of l.solver.builder l.walk l.at) l.walk.state;
+  walk : IsWalk l.solver.builder l.walk;
+  risen : HasRisen l.initial.solver l.solver;
+  everywhere : l.solver.marks.everywhere ≡ l.initial.solver.marks.everywhere;
 }
 
 abbrev pub decreases-loop-next : goal.decreases-loop-next

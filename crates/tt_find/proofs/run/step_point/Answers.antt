@@ -11,19 +11,19 @@ use Rattle.tt_find.proofs.run.step_point.Goals as goal
 
 pub step_state-requires-clause-in_range : goal.step_state-requires-clause-in_range
 step_state-requires-clause-in_range c =
-    ranged_on (setting_of c.args.setting.now) c.args.setting.now.start.now c.requires.laws c.args.table.now (place_of c.args.table.now.builder c.args.walk.now.context c.args.offset) c.args.walk.now.state
+    ranged_on (setting_of c.args.setting.now) c.args.setting.now.start.now c.requires.laws c.args.solver.now (place_of c.args.solver.now.builder c.args.walk.now.context c.args.offset) c.args.walk.now.state
     c.requires.way
 
 pub returns-in-Ok-None-clause-goes : goal.returns-in-Ok-None-clause-goes
 returns-in-Ok-None-clause-goes c =
     let s = setting_of c.args.setting.now in
-    let p = place_of c.args.table.now.builder c.args.walk.now.context c.args.offset in
+    let p = place_of c.args.solver.now.builder c.args.walk.now.context c.args.offset in
     let C : Option Stepped → Type 0 = λ x. IsCarried s p c.args.walk.now.state x c.step_state.new.walk.state in
-    way_ends s c.args.setting.now.start.now c.requires.laws c.args.table.now p c.args.walk.now.state c.requires.way (subst C c.in-Ok-None.field-0-is c.in-Ok-None.ensures.stepped)
+    way_ends s c.args.setting.now.start.now c.requires.laws c.args.solver.now p c.args.walk.now.state c.requires.way (subst C c.in-Ok-None.field-0-is c.in-Ok-None.ensures.stepped)
 
 pub returns-in-Err-clause-stops : goal.returns-in-Err-clause-stops
 returns-in-Err-clause-stops c =
-    let p = place_of c.args.table.now.builder c.args.walk.now.context c.args.offset in
+    let p = place_of c.args.solver.now.builder c.args.walk.now.context c.args.offset in
     refused_left (setting_of c.args.setting.now) c.args.setting.now.start.now c.requires.laws p c.args.walk.now.state
     (c.requires.way.sound.kept.sound.derived p c.args.walk.now.state c.requires.way.here) c.in-Err.fault c.in-Err.ensures.refused
 
@@ -31,10 +31,10 @@ pub store_successors-requires-clause-leading : goal.store_successors-requires-cl
 store_successors-requires-clause-leading c =
     let s = setting_of c.args.setting.now in
     let fs = c.args.setting.now.start.now in
-    let table = c.args.table.now in
-    let p = place_of table.builder c.args.walk.now.context c.args.offset in
+    let solver = c.args.solver.now in
+    let p = place_of solver.builder c.args.walk.now.context c.args.offset in
     let t = c.step_state.new.walk.state in
     let C : Option Stepped → Type 0 = λ x. IsCarried s p c.args.walk.now.state x t in
     let on = subst C c.in-Ok-Some.field-0-is c.in-Ok-Some.ensures.stepped in
-    let L : ℕ → Type 0 = λ x. IsLeading s fs table (place_of table.builder x c.args.offset) (places_from (frames_at table.builder.contexts x) c.in-Ok-Some.step.moves 0) t in
-    subst L (sym c.in-Ok-Some.ensures.context) (way_leads s fs c.requires.laws table p c.args.walk.now.state c.in-Ok-Some.step.moves c.in-Ok-Some.step.end t c.requires.way on)
+    let L : ℕ → Type 0 = λ x. IsLeading s fs solver (place_of solver.builder x c.args.offset) (places_from (frames_at solver.builder.contexts x) c.in-Ok-Some.step.moves 0) t in
+    subst L (sym c.in-Ok-Some.ensures.context) (way_leads s fs c.requires.laws solver p c.args.walk.now.state c.in-Ok-Some.step.moves c.in-Ok-Some.step.end t c.requires.way on)

@@ -9,7 +9,7 @@ use Rattle.tt_cert.specs.Spots.{spot_of}
 use Rattle.tt_cert.specs.declared.fault.ProgramFault.TheVariants.{Refused}
 use Rattle.tt_find.specs.Found.{IsJustified}
 use Rattle.tt_find.specs.Tables.{HasRisen, IsApart, IsLeadingOn, IsLeadingTo, TellsSource, calls_of, here_of, place_over, places_from}
-use Rattle.tt_find.specs.declared.table.Table.{Table}
+use Rattle.tt_find.specs.declared.solver.Solver.{Solver}
 use Rattle.tt_find.specs.declared.walk.Walk.{Walk}
 use Rattle.tt_find.proofs.Leads.{countable_on, held, just_over, last_over, none_over, not_entered, put, ranged_to, reached_from, too_many_on}
 use Rattle.tt_find.proofs.Steps.{apart_left, risen_on, stop_map}
@@ -18,20 +18,20 @@ use Rattle.tt_find.proofs.run.store_successors.Goals.{then-is_none+then-goes_ove
 
 pub resolve_successor-requires-clause-countable : goal.resolve_successor-requires-clause-countable
 resolve_successor-requires-clause-countable c =
-    countable_on (setting_of c.args.setting.now) c.args.setting.now.start.now c.requires.laws c.loop-way.table c.loop-way.walk c.args.offset c.args.after c.args.ways c.loop-way.index c.loop-way.over
+    countable_on (setting_of c.args.setting.now) c.args.setting.now.start.now c.requires.laws c.loop-way.solver c.loop-way.walk c.args.offset c.args.after c.args.ways c.loop-way.index c.loop-way.over
     c.in-Some.way c.args.walk.now.context c.loop-way.invariant.here c.loop-way.invariant.on (sym c.in-Some.ensures)
 
 pub returns-in-Err-clause-stops : goal.returns-in-Err-clause-stops
 returns-in-Err-clause-stops c =
     let s = setting_of c.args.setting.now in
     let fs = c.args.setting.now.start.now in
-    let table = c.loop-way.table in
+    let solver = c.loop-way.solver in
     let here = c.args.walk.now.context in
-    not_entered s fs c.requires.laws (frames_at table.builder.contexts here, c.args.offset) c.in-Err.fault c.not_entered.result
+    not_entered s fs c.requires.laws (frames_at solver.builder.contexts here, c.args.offset) c.in-Err.fault c.not_entered.result
     (λ is. c.not_entered.ensures.full is ∙ ap (λ (v : Contents). Refused (spot_of (frames_at v.contexts here)) c.args.offset TooManyContexts) c.in-Err.ensures.kept) c.not_entered.ensures.memory
     (λ is.
     let (absent, full) = c.in-Err.ensures.full (ap Err is) in
-    too_many_on s fs c.requires.laws table c.loop-way.walk c.args.offset c.args.after c.args.ways c.loop-way.index c.loop-way.over c.in-Some.way here c.loop-way.invariant.here
+    too_many_on s fs c.requires.laws solver c.loop-way.walk c.args.offset c.args.after c.args.ways c.loop-way.index c.loop-way.over c.in-Some.way here c.loop-way.invariant.here
     c.loop-way.invariant.on (sym c.in-Some.ensures) absent full)
 
 pub store-requires-clause-in_range : goal.store-requires-clause-in_range
@@ -39,18 +39,18 @@ store-requires-clause-in_range c =
     let s = setting_of c.args.setting.now in
     let fs = c.args.setting.now.start.now in
     let v = c.resolve_successor.new.builder in
-    let table : Table = record c.loop-way.table { builder = v } in
+    let solver : Solver = record c.loop-way.solver { builder = v } in
     let walk = c.loop-way.walk in
-    let to = reached_from s fs c.requires.laws c.loop-way.table walk c.args.offset c.args.after c.args.ways c.loop-way.index c.loop-way.over c.in-Some.way c.args.walk.now.context c.loop-way.invariant.here
+    let to = reached_from s fs c.requires.laws c.loop-way.solver walk c.args.offset c.args.after c.args.ways c.loop-way.index c.loop-way.over c.in-Some.way c.args.walk.now.context c.loop-way.invariant.here
     c.loop-way.invariant.on (sym c.in-Some.ensures) v c.in-Ok.place.0 c.in-Ok.place.1 c.in-Ok.ensures.added c.in-Ok.ensures.offset c.in-Ok.ensures.states c.in-Ok.ensures.family in
-    ranged_to s fs c.requires.laws table (here_of v walk c.args.offset) (place_of v c.in-Ok.place.0 c.in-Ok.place.1) walk.state
-    (place_over (calls_of table walk) c.loop-way.over ++ places_from (calls_of table walk) c.args.ways (c.loop-way.index + 1)) to.leading
+    ranged_to s fs c.requires.laws solver (here_of v walk c.args.offset) (place_of v c.in-Ok.place.0 c.in-Ok.place.1) walk.state
+    (place_over (calls_of solver walk) c.loop-way.over ++ places_from (calls_of solver walk) c.args.ways (c.loop-way.index + 1)) to.leading
 
 pub store-requires-clause-walk : goal.store-requires-clause-walk
 store-requires-clause-walk c =
     let s = setting_of c.args.setting.now in
     let fs = c.args.setting.now.start.now in
-    (reached_from s fs c.requires.laws c.loop-way.table c.loop-way.walk c.args.offset c.args.after c.args.ways c.loop-way.index c.loop-way.over c.in-Some.way c.args.walk.now.context c.loop-way.invariant.here
+    (reached_from s fs c.requires.laws c.loop-way.solver c.loop-way.walk c.args.offset c.args.after c.args.ways c.loop-way.index c.loop-way.over c.in-Some.way c.args.walk.now.context c.loop-way.invariant.here
     c.loop-way.invariant.on (sym c.in-Some.ensures) c.resolve_successor.new.builder c.in-Ok.place.0 c.in-Ok.place.1 c.in-Ok.ensures.added c.in-Ok.ensures.offset c.in-Ok.ensures.states c.in-Ok.ensures.family).walks
 
 pub returns-in-Err-store-clause-stops : goal.returns-in-Err-store-clause-stops
@@ -58,13 +58,13 @@ returns-in-Err-store-clause-stops c =
     let s = setting_of c.args.setting.now in
     let fs = c.args.setting.now.start.now in
     let v = c.resolve_successor.new.builder in
-    let table : Table = record c.loop-way.table { builder = v } in
+    let solver : Solver = record c.loop-way.solver { builder = v } in
     let walk = c.loop-way.walk in
-    let to = reached_from s fs c.requires.laws c.loop-way.table walk c.args.offset c.args.after c.args.ways c.loop-way.index c.loop-way.over c.in-Some.way c.args.walk.now.context c.loop-way.invariant.here
+    let to = reached_from s fs c.requires.laws c.loop-way.solver walk c.args.offset c.args.after c.args.ways c.loop-way.index c.loop-way.over c.in-Some.way c.args.walk.now.context c.loop-way.invariant.here
     c.loop-way.invariant.on (sym c.in-Some.ensures) v c.in-Ok.place.0 c.in-Ok.place.1 c.in-Ok.ensures.added c.in-Ok.ensures.offset c.in-Ok.ensures.states c.in-Ok.ensures.family in
     let q = place_of v c.in-Ok.place.0 c.in-Ok.place.1 in
-    stop_map (IsApart (family_of v) q walk.state) (IsJustified s fs) table.marks.everywhere c.args.table.now.marks.everywhere c.loop-way.invariant.everywhere
-    (apart_left s fs c.requires.laws table (here_of v walk c.args.offset) q walk.state (place_over (calls_of table walk) c.loop-way.over ++ places_from (calls_of table walk) c.args.ways (c.loop-way.index + 1))
+    stop_map (IsApart (family_of v) q walk.state) (IsJustified s fs) solver.marks.everywhere c.args.solver.now.marks.everywhere c.loop-way.invariant.everywhere
+    (apart_left s fs c.requires.laws solver (here_of v walk c.args.offset) q walk.state (place_over (calls_of solver walk) c.loop-way.over ++ places_from (calls_of solver walk) c.args.ways (c.loop-way.index + 1))
     to.leading) c.in-Err-store.stop c.in-Err-store.ensures.stops
 
 none_of : (o : Option ℕ) → is_some o ≡ false → o ≡ None
@@ -84,58 +84,58 @@ loop-way-preserved c =
     let s = setting_of c.args.setting.now in
     let fs = c.args.setting.now.start.now in
     let v = c.resolve_successor.new.builder in
-    let table : Table = record c.loop-way.table { builder = v } in
+    let solver : Solver = record c.loop-way.solver { builder = v } in
     let walk = c.loop-way.walk in
     let number = c.in-Ok.place.0 in
     let next = c.in-Ok.place.1 in
     let on = c.loop-way.invariant in
-    let to = reached_from s fs c.requires.laws c.loop-way.table walk c.args.offset c.args.after c.args.ways c.loop-way.index c.loop-way.over c.in-Some.way c.args.walk.now.context on.here
+    let to = reached_from s fs c.requires.laws c.loop-way.solver walk c.args.offset c.args.after c.args.ways c.loop-way.index c.loop-way.over c.in-Some.way c.args.walk.now.context on.here
     on.on (sym c.in-Some.ensures) v number next c.in-Ok.ensures.added c.in-Ok.ensures.offset c.in-Ok.ensures.states c.in-Ok.ensures.family in
     elim c.if-is_none.branch [
       | then-is_none+then-goes_over w ↦
           let none : c.loop-way.over ≡ None = none_of c.loop-way.over w.if-is_none.ensures in
           let (same, at) = c.source_of-source.ensures.0 (w.goes_over.ensures w.if-goes_over.true) in
-          let T : Option ℕ → Type 0 = λ o. IsLeadingTo s fs table walk c.args.offset c.args.after c.args.ways (c.loop-way.index + 1) o number next in
-          let later = held s fs c.requires.laws table walk c.args.offset c.args.after c.args.ways (c.loop-way.index + 1) number next (subst T none to) (same ∙ sym on.here) at in
-          let P : Table × Walk × Option ℕ → Type 0 = λ x. IsLeadingOn s fs x.0 x.1 c.args.offset c.args.after c.args.ways (c.loop-way.index + 1) x.2 in
-          let all : ◌≡◌ {A = Table × Walk × Option ℕ} (table, walk, Some next) (c.if-is_none.table, c.if-is_none.walk, c.if-is_none.over) =
-          λ i. (sym w.table-is i, sym w.walk-is i, sym w.over-is i) in
-          let R : Table → Type 0 = λ x. HasRisen c.args.table.now x in
+          let T : Option ℕ → Type 0 = λ o. IsLeadingTo s fs solver walk c.args.offset c.args.after c.args.ways (c.loop-way.index + 1) o number next in
+          let later = held s fs c.requires.laws solver walk c.args.offset c.args.after c.args.ways (c.loop-way.index + 1) number next (subst T none to) (same ∙ sym on.here) at in
+          let P : Solver × Walk × Option ℕ → Type 0 = λ x. IsLeadingOn s fs x.0 x.1 c.args.offset c.args.after c.args.ways (c.loop-way.index + 1) x.2 in
+          let all : ◌≡◌ {A = Solver × Walk × Option ℕ} (solver, walk, Some next) (c.if-is_none.solver, c.if-is_none.walk, c.if-is_none.over) =
+          λ i. (sym w.solver-is i, sym w.walk-is i, sym w.over-is i) in
+          let R : Solver → Type 0 = λ x. HasRisen c.args.solver.now x in
           record {
             on = subst P all later;
             here = ap (λ (x : Walk). x.context) w.walk-is ∙ on.here;
-            risen = subst R (sym w.table-is) (record { worklist = on.risen.worklist; changes = on.risen.changes });
-            everywhere = ap (λ (x : Table). x.marks.everywhere) w.table-is ∙ on.everywhere;
+            risen = subst R (sym w.solver-is) (record { worklist = on.risen.worklist; changes = on.risen.changes });
+            everywhere = ap (λ (x : Solver). x.marks.everywhere) w.solver-is ∙ on.everywhere;
           }
       | else-is_none+in_default-store w ↦
           let stored = w.in_default-store.ensures.stored in
           let S : ℕ → Type 0 = λ n. TellsSource n number c.args.after next c.source_of-source.result in
-          let later = put s fs c.requires.laws table w.store.new.table walk w.store.new.walk c.args.offset c.args.after c.args.ways (c.loop-way.index + 1) c.loop-way.over number next
+          let later = put s fs c.requires.laws solver w.store.new.solver walk w.store.new.walk c.args.offset c.args.after c.args.ways (c.loop-way.index + 1) c.loop-way.over number next
           c.source_of-source.result to stored (subst S (sym on.here) c.source_of-source.ensures) w.in_default-store.ensures.walk w.in_default-store.ensures.context w.in_default-store.ensures.state in
-          let P : Table × Walk × Option ℕ → Type 0 = λ x. IsLeadingOn s fs x.0 x.1 c.args.offset c.args.after c.args.ways (c.loop-way.index + 1) x.2 in
-          let all : ◌≡◌ {A = Table × Walk × Option ℕ} (w.store.new.table, w.store.new.walk, c.loop-way.over) (c.if-is_none.table, c.if-is_none.walk, c.if-is_none.over) =
-          λ i. (sym w.table-is i, sym w.walk-is i, sym w.over-is i) in
-          let R : Table → Type 0 = λ x. HasRisen c.args.table.now x in
-          let before : HasRisen c.args.table.now table = record { worklist = on.risen.worklist; changes = on.risen.changes } in
+          let P : Solver × Walk × Option ℕ → Type 0 = λ x. IsLeadingOn s fs x.0 x.1 c.args.offset c.args.after c.args.ways (c.loop-way.index + 1) x.2 in
+          let all : ◌≡◌ {A = Solver × Walk × Option ℕ} (w.store.new.solver, w.store.new.walk, c.loop-way.over) (c.if-is_none.solver, c.if-is_none.walk, c.if-is_none.over) =
+          λ i. (sym w.solver-is i, sym w.walk-is i, sym w.over-is i) in
+          let R : Solver → Type 0 = λ x. HasRisen c.args.solver.now x in
+          let before : HasRisen c.args.solver.now solver = record { worklist = on.risen.worklist; changes = on.risen.changes } in
           record {
             on = subst P all later;
             here = ap (λ (x : Walk). x.context) w.walk-is ∙ w.in_default-store.ensures.context ∙ on.here;
-            risen = subst R (sym w.table-is) (risen_on c.args.table.now table w.store.new.table before stored.put.risen);
-            everywhere = ap (λ (x : Table). x.marks.everywhere) w.table-is ∙ stored.marks.everywhere ∙ on.everywhere;
+            risen = subst R (sym w.solver-is) (risen_on c.args.solver.now solver w.store.new.solver before stored.put.risen);
+            everywhere = ap (λ (x : Solver). x.marks.everywhere) w.solver-is ∙ stored.marks.everywhere ∙ on.everywhere;
           }
     ]
 
 pub step_over-requires-clause-just : goal.step_over-requires-clause-just
 step_over-requires-clause-just c =
-    just_over (setting_of c.args.setting.now) c.args.setting.now.start.now c.requires.laws c.loop-way.table c.loop-way.walk c.args.offset c.args.after c.args.ways c.loop-way.index c.loop-way.over
+    just_over (setting_of c.args.setting.now) c.args.setting.now.start.now c.requires.laws c.loop-way.solver c.loop-way.walk c.args.offset c.args.after c.args.ways c.loop-way.index c.loop-way.over
     c.in-Some-over.next c.loop-way.invariant.on c.in-Some-over.is
 
 pub step_over-requires-clause-leading : goal.step_over-requires-clause-leading
 step_over-requires-clause-leading c =
-    last_over (setting_of c.args.setting.now) c.args.setting.now.start.now c.requires.laws c.loop-way.table c.loop-way.walk c.args.offset c.args.after c.args.ways c.loop-way.index c.loop-way.over
+    last_over (setting_of c.args.setting.now) c.args.setting.now.start.now c.requires.laws c.loop-way.solver c.loop-way.walk c.args.offset c.args.after c.args.ways c.loop-way.index c.loop-way.over
     c.in-Some-over.next c.loop-way.invariant.on (sym c.in_default.ensures) c.in-Some-over.is
 
 pub returns-in-None-clause-goes : goal.returns-in-None-clause-goes
 returns-in-None-clause-goes c =
-    none_over (setting_of c.args.setting.now) c.args.setting.now.start.now c.requires.laws c.loop-way.table c.loop-way.walk c.args.offset c.args.after c.args.ways c.loop-way.index c.loop-way.over
+    none_over (setting_of c.args.setting.now) c.args.setting.now.start.now c.requires.laws c.loop-way.solver c.loop-way.walk c.args.offset c.args.after c.args.ways c.loop-way.index c.loop-way.over
     c.loop-way.invariant.on (sym c.in_default.ensures) c.in-None.is

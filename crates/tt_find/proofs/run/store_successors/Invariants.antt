@@ -5,10 +5,10 @@ use Rattle.tt_find.proofs.run.store_successors.Given as goal
 
 abbrev pub invariant-loop-way : goal.invariant-loop-way
 invariant-loop-way l = record {
-  on : IsLeadingOn (setting_of l.setting) l.setting.start.now l.table l.walk l.offset l.after l.ways l.index l.over;
+  on : IsLeadingOn (setting_of l.setting) l.setting.start.now l.solver l.walk l.offset l.after l.ways l.index l.over;
   here : l.walk.context ≡ l.here;
-  risen : HasRisen l.initial.table l.table;
-  everywhere : l.table.marks.everywhere ≡ l.initial.table.marks.everywhere;
+  risen : HasRisen l.initial.solver l.solver;
+  everywhere : l.solver.marks.everywhere ≡ l.initial.solver.marks.everywhere;
 }
 
 abbrev pub decreases-loop-way : goal.decreases-loop-way

@@ -18,21 +18,21 @@ returns-in-Ok-finish_without-clause-filling c =
     let s = setting_of c.args.setting.now in
     let fs = c.args.setting.now.start.now in
     let laws = c.find_fixpoint.ensures.laws in
-    let table = c.find_fixpoint.new.table in
+    let solver = c.find_fixpoint.new.solver in
     let found = c.in-Ok.ensures.found in
     let family = family_of c.in-Ok-finish_without.certificate in
-    let W : Contents → Type 0 = λ x. SameWithout x c.in-Ok-finish_without.certificate c.find_fixpoint.new.table.spare.keys in
+    let W : Contents → Type 0 = λ x. SameWithout x c.in-Ok-finish_without.certificate c.find_fixpoint.new.solver.spare.keys in
     let without = subst W c.replace-builder.ensures.value c.in-Ok-finish_without.ensures.same in
     let same = without.family in
-    found_left s fs laws table found.whole found.none family c.in-Ok.updates (keeps_without s fs laws table found.whole found.none family same)
-    (lists_without s fs laws table found.whole found.none family same) found.short found.ends found.count
+    found_left s fs laws solver found.whole found.none family c.in-Ok.updates (keeps_without s fs laws solver found.whole found.none family same)
+    (lists_without s fs laws solver found.whole found.none family same) found.short found.ends found.count
 
 pub returns-in-Ok-finish_without-clause-contexts : goal.returns-in-Ok-finish_without-clause-contexts
 returns-in-Ok-finish_without-clause-contexts c =
-    let W : Contents → Type 0 = λ x. SameWithout x c.in-Ok-finish_without.certificate c.find_fixpoint.new.table.spare.keys in
+    let W : Contents → Type 0 = λ x. SameWithout x c.in-Ok-finish_without.certificate c.find_fixpoint.new.solver.spare.keys in
     let without = subst W c.replace-builder.ensures.value c.in-Ok-finish_without.ensures.same in
     let found = c.in-Ok.ensures.found in
-    contexts_left (setting_of c.args.setting.now) c.args.setting.now.start.now c.find_fixpoint.ensures.laws c.find_fixpoint.new.table found.whole found.none c.in-Ok-finish_without.certificate.contexts
+    contexts_left (setting_of c.args.setting.now) c.args.setting.now.start.now c.find_fixpoint.ensures.laws c.find_fixpoint.new.solver found.whole found.none c.in-Ok-finish_without.certificate.contexts
     (λ frames. (without.contexts frames).1)
 
 pub returns-in-Ok-finish_without-clause-needed : goal.returns-in-Ok-finish_without-clause-needed
@@ -40,16 +40,16 @@ returns-in-Ok-finish_without-clause-needed c =
     let s = setting_of c.args.setting.now in
     let fs = c.args.setting.now.start.now in
     let laws = c.find_fixpoint.ensures.laws in
-    let table = c.find_fixpoint.new.table in
+    let solver = c.find_fixpoint.new.solver in
     let found = c.in-Ok.ensures.found in
     let family = family_of c.in-Ok-finish_without.certificate in
-    let W : Contents → Type 0 = λ x. SameWithout x c.in-Ok-finish_without.certificate c.find_fixpoint.new.table.spare.keys in
+    let W : Contents → Type 0 = λ x. SameWithout x c.in-Ok-finish_without.certificate c.find_fixpoint.new.solver.spare.keys in
     let without = subst W c.replace-builder.ensures.value c.in-Ok-finish_without.ensures.same in
     let same = without.family in
-    needed_left s fs laws table found.whole found.none family c.in-Ok.updates (keeps_without s fs laws table found.whole found.none family same)
-    (lists_without s fs laws table found.whole found.none family same) found.short found.ends (listed_without s fs laws table found.whole found.none family same)
+    needed_left s fs laws solver found.whole found.none family c.in-Ok.updates (keeps_without s fs laws solver found.whole found.none family same)
+    (lists_without s fs laws solver found.whole found.none family same) found.short found.ends (listed_without s fs laws solver found.whole found.none family same)
 
 pub returns-in-Ok-finish_without-clause-never_ends : goal.returns-in-Ok-finish_without-clause-never_ends
 returns-in-Ok-finish_without-clause-never_ends c = λ family lacks.
     let found = c.in-Ok.ensures.found in
-    (never_both_left (setting_of c.args.setting.now) c.args.setting.now.start.now c.find_fixpoint.ensures.laws c.find_fixpoint.new.table found.whole found.none family found.ends lacks, tt)
+    (never_both_left (setting_of c.args.setting.now) c.args.setting.now.start.now c.find_fixpoint.ensures.laws c.find_fixpoint.new.solver found.whole found.none family found.ends lacks, tt)

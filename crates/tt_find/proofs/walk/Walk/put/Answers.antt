@@ -22,6 +22,6 @@ returns-else-is_at-clause-walk c =
           let there : c.args.self.now.known ≡ Some (c.args.context, c.args.offset) = is ∙ ap Some e in
           let no_such : true ≡ false = sym (c.is_at.ensures.1 there) ∙ c.if-is_at.false in
           cc in
-          put_elsewhere state_order c.args.table.now.builder c.put.new.self.builder c.args.context c.args.offset c.args.self.now.state put.changed c.requires.there put.put put.contexts put.family
+          put_elsewhere state_order c.args.solver.now.builder c.put.new.self.builder c.args.context c.args.offset c.args.self.now.state put.changed c.requires.there put.put put.contexts put.family
           c.is_family.ensures a b c.args.self.now.state apart (c.requires.walk.known a b is);
     }

@@ -1,0 +1,172 @@
+//! The family so far, and what is still to be carried on.
+
+ghost use Rattle.std.specs.Prelude.{◌≡◌, ◌≢◌, ◌<◌, IfOk, IfErr, IsTrue, OnOk, Option, Some, length};
+ghost use Rattle.tt_abs.specs.States.{state_order};
+ghost use Rattle.tt_abs.specs.declared.state.State.{State as StateValue};
+ghost use Rattle.tt_cert.specs.Contents.{family_of, frames_at};
+ghost use Rattle.tt_cert.specs.Joins.{TellsNew};
+ghost use Rattle.tt_cert.specs.Places.{states_of};
+ghost use Rattle.tt_cert.specs.Puts.{place_of};
+ghost use Rattle.tt_cert.specs.Spots.{spot_of};
+ghost use Rattle.tt_find.specs.Found.{NamesPlace};
+ghost use Rattle.tt_find.specs.Tables.{IsApart, IsEmptyTable, IsPassed, IsPut, KeepsRest, SparesAt};
+ghost use Rattle.tt_find.specs.Marks.{mark_of};
+
+use crate::marks::{Mark, OffsetMarks};
+use crate::origin::Origin;
+use crate::worklist::Worklist;
+use std::alloc::{AllocError, Global};
+use std::collections::BTreeSet;
+use tt_abs::State;
+use tt_cert::{Builder, JoinFault, Joined, PointKey, ProgramFault, Spot};
+use tt_code::Reason;
+
+/// The family so far. Its states are kept at the points where ways meet; those in between are made again on the way.
+#[derive(Drop)]
+pub(crate) struct Solver {
+    /// The states that are kept.
+    pub builder: Builder,
+    /// The points whose state is new or has changed, each as its context's number and its offset.
+    pub worklist: Worklist,
+    /// The points with kept states to which states came only from just before.
+    pub spare: BTreeSet<PointKey>,
+    /// At which offsets states are kept.
+    pub marks: OffsetMarks,
+    /// How often a kept state was new or changed.
+    pub changes: u64,
+    /// How often a state went over a point.
+    pub passes: u64,
+}
+
+/// Returns the fault that names a point for this reason.
+pub(crate) fn refused_at(
+    builder: &Builder,
+    context: u32,
+    offset: u32,
+    reason: Reason,
+) -> ProgramFault
+    requires { context < length builder.now.contexts }
+    ensures { result ≡ ProgramFault.Refused (spot_of (frames_at builder.now.contexts context)) offset reason }
+{
+    ProgramFault::Refused {
+        spot: builder.spot(context),
+        offset,
+        reason,
+    }
+}
+
+impl Solver {
+    /// Makes a solver without states.
+    pub(crate) fn new(alloc: Global) -> Solver
+        ensures { IsEmptyTable result }
+    {
+        Solver {
+            builder: Builder::new(alloc),
+            worklist: Worklist::new(alloc),
+            spare: BTreeSet::new(alloc),
+            marks: OffsetMarks::new(alloc),
+            changes: 0,
+            passes: 0,
+        }
+    }
+
+    /// Removes all states and all contexts except for the empty one, and keeps their memory and the marks.
+    pub(crate) fn clear(&mut self)
+        ensures empty { IsEmptyTable self.new }
+        ensures marks { self.new.marks ≡ self.old.marks }
+    {
+        self.builder.clear();
+        self.worklist.clear();
+        self.spare.clear();
+        self.changes = 0;
+        self.passes = 0;
+    }
+
+    /// Puts a state at a point, and returns what that makes of the one there. If it is another one than before, the point waits, and
+    /// one change is counted.
+    ///
+    /// # Errors
+    /// `Refused` for a state of another depth, at the point; `OutOfMemory`.
+    pub(crate) fn put(
+        &mut self,
+        context: u32,
+        offset: u32,
+        state: &State,
+    ) -> Result<Joined, ProgramFault>
+        requires there { context < length self.old.builder.contexts }
+        requires in_range { state_order.InRange state.now }
+        requires room { self.old.changes < 18446744073709551615 }
+        ensures put { IfOk result (λ _. IsPut self.old self.new context offset state.now) }
+        ensures rest { IfOk result (λ _. KeepsRest self.old self.new) }
+        ensures new { IfOk result (λ joined. joined ≡ Joined.New → states_of self.new.builder.states (context, offset) ≡ Some state.now) }
+        ensures tells { IfOk result (λ joined. TellsNew joined (family_of self.old.builder (place_of self.old.builder context offset))) }
+        ensures apart { IfErr result (NamesPlace (IsApart (family_of self.old.builder) (place_of self.old.builder context offset) state.now)) }
+    {
+        let joined = match self.builder.join_state(context, offset, state) {
+            Ok(joined) => joined,
+            Err(JoinFault::DepthMismatch) => {
+                return Err(refused_at(&self.builder, context, offset, Reason::DepthMismatch));
+            }
+            Err(JoinFault::OutOfMemory) => return Err(ProgramFault::OutOfMemory(AllocError)),
+        };
+        if !joined.is_change() {
+            return Ok(joined);
+        }
+        if let Err(_) = self.worklist.insert((context, offset)) {
+            return Err(ProgramFault::OutOfMemory(AllocError));
+        }
+        self.changes += 1;
+        Ok(joined)
+    }
+
+    /// Notes from where a state came to a point, and whether that is new.
+    ///
+    /// # Errors
+    /// If memory runs out.
+    pub(crate) fn note(
+        &mut self,
+        context: u32,
+        offset: u32,
+        source: Origin,
+        joined: Joined,
+    ) -> Result<(), AllocError>
+        ensures spare { IfOk result (λ _. (was : Option StateValue) → TellsNew joined was → SparesAt self.old.spare.keys self.new.spare.keys (context, offset) was source) }
+        ensures rest { IfOk result (λ _. self.new ≡ record self.old { spare = self.new.spare }) }
+    {
+        match source {
+            Origin::Elsewhere => {
+                self.spare.remove(&(context, offset));
+            }
+            Origin::JustBefore => {
+                if let Joined::New = joined {
+                    self.spare.insert((context, offset))?;
+                }
+            }
+        }
+        Ok(())
+    }
+
+    /// Whether a state may go over a point where this context's program has this offset: not where states are kept, and not where a point before it
+    /// waits.
+    pub(crate) fn may_pass(&self, context: u32, spot: Spot, offset: u32) -> bool
+        ensures { IsTrue result → mark_of self.now.marks spot offset ≢ Mark.Kept }
+    {
+        match self.marks.at(spot, offset) {
+            Mark::Kept => false,
+            _ => !self.worklist.has_before((context, offset)),
+        }
+    }
+
+    /// Counts a state that goes over an offset at which states aren't kept.
+    ///
+    /// # Errors
+    /// If this can't be counted any more.
+    pub(crate) fn pass(&mut self, spot: Spot, offset: u32) -> Result<(), AllocError>
+        requires { mark_of self.old.marks spot offset ≢ Mark.Kept }
+        ensures { OnOk result (IsPassed self.old self.new spot offset) }
+    {
+        self.passes = self.passes.checked_add(1).ok_or(AllocError)?;
+        self.marks.pass(spot, offset);
+        Ok(())
+    }
+}
