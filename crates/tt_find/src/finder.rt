@@ -12,8 +12,8 @@ ghost use Rattle.tt_find.specs.Tables.{HasLaws, IsEmptyTable, IsFound, IsWhole};
 
 use crate::origin::Origin;
 use crate::run::{run, store};
-use crate::stop::Stop;
 use crate::solver::Solver;
+use crate::stop::Stop;
 use crate::walk::Walk;
 use std::alloc::{AllocError, Global};
 use std::mem;

@@ -13,9 +13,9 @@ ghost use Rattle.tt_find.specs.Found.{IsJustified, NamesPlace, NamesStop};
 ghost use Rattle.tt_find.specs.Tables.{GoesOn, HasLaws, HasRisen, IsApart, IsCarried, IsJustAfter, IsLeadingAt, IsOnWay, IsPopped, IsRefusedAt, IsStored, IsWalk, IsWhole, TellsSource, calls_of, here_of, places_from};
 
 use crate::origin::Origin;
+use crate::solver::{Solver, refused_at};
 use crate::stop::Stop;
 use crate::successor::resolve_successor;
-use crate::solver::{Solver, refused_at};
 use crate::walk::Walk;
 use std::alloc::AllocError;
 use tt_abs::{Moves, Point, Refusal, Setting, Stepped, step_at};
