@@ -2,9 +2,9 @@
 -- that they make. (Apple TrueType Reference Manual, "Managing the flow of control", IF, ELSE and EIF; "Defining and using
 -- functions and instructions", FDEF, IDEF and ENDF.) A program is given as the list of its instructions, and an offset is
 -- the size of the instructions before it.
-use Rattle.std.specs.Prelude.{◌≡◌, ◌⊎◌, ℕ, ◌+◌, ◌<◌, List, [], ◌∷◌, ◌++◌, Bool, true, false, length}
+use Rattle.std.specs.Prelude.{◌≡◌, ◌⊎◌, ◌↔◌, ℕ, ◌+◌, ◌<◌, List, [], ◌∷◌, ◌++◌, Option, Some, Bool, true, false, length}
 use Rattle.std.specs.List.{AllByRecursion}
-use Rattle.tt_code.specs.Cut.{Instruction, IsInstruction, size}
+use Rattle.tt_code.specs.Cut.{Instruction, IsCut, IsInstruction, size}
 use Rattle.tt_code.specs.Structure.{keyword}
 use Rattle.tt_code.specs.declared.block_keyword.BlockKeyword.{BlockKeyword}
 use Rattle.tt_code.specs.declared.block_keyword.BlockKeyword.TheVariants.{If, Else, Eif, Fdef, Idef, Endf, Other}
@@ -59,12 +59,28 @@ pub record OpenAtEnd (is : List Instruction) (at : ℕ) : Type 0 where
 abbrev pub IsFault : List Instruction → ℕ → Type 0
 IsFault is at = BreaksAt is at ⊎ OpenAtEnd is at
 
+-- the bytes can be cut, and this is the fault of their structure
+abbrev pub HasFault : List ℕ → ℕ → Type 0
+HasFault bytes at = (is : List Instruction) × IsCut bytes is × IsFault is at
+
 -- the instruction at an offset
 pub record StandsAt (is : List Instruction) (at : ℕ) (i : Instruction) : Type 0 where
   pub before : List Instruction
   pub after : List Instruction
   pub whole : is ≡ before ++ (i ∷ after)
   pub offset : size before ≡ at
+
+-- no instruction starts at the offset
+abbrev pub NoneStandsAt : List Instruction → ℕ → Type 0
+NoneStandsAt is at = (i : Instruction) → StandsAt is at i → ⊥
+
+-- no instruction with this keyword starts at the offset
+abbrev pub NoKeywordAt : BlockKeyword → List Instruction → ℕ → Type 0
+NoKeywordAt opener is at = (i : Instruction) → StandsAt is at i → keyword i ≡ opener → ⊥
+
+-- at the offset there is an instruction, or the program ends
+abbrev pub IsStartOrEnd : List Instruction → ℕ → Type 0
+IsStartOrEnd is at = ((i : Instruction) × StandsAt is at i) ⊎ (at ≡ size is)
 
 -- Partners. An opening instruction is followed by a list, and then by what ends it: an IF by its ELSE or its EIF, an ELSE by
 -- its EIF, an FDEF or IDEF by its ENDF. Control goes to just after that one, and what a definition defines is what is between.
@@ -96,6 +112,19 @@ pub record GoesTo (opener : BlockKeyword) (is : List Instruction) (at to : ℕ) 
   pub ends : Ends opener (keyword e)
   pub from : size before ≡ at
   pub target : size before + (length i + (size inner + length e)) ≡ to
+
+-- in structured programs a function finds where each instruction with this keyword goes, and nothing else
+abbrev pub FindsTargets : BlockKeyword → (List Instruction → ℕ → Option ℕ) → Type 0
+FindsTargets opener find =
+    (is : List Instruction) (at to : ℕ) → IsStructured is → AllByRecursion IsInstruction is →
+    ((find is at ≡ Some to) ↔ GoesTo opener is at to)
+
+-- in structured programs a function finds a place for each instruction with this keyword
+abbrev pub FindsEachTarget : BlockKeyword → (List Instruction → ℕ → Option ℕ) → Type 0
+FindsEachTarget opener find =
+    (is : List Instruction) (at : ℕ) (i : Instruction) → IsStructured is →
+    AllByRecursion IsInstruction is → StandsAt is at i → keyword i ≡ opener →
+    (to : ℕ) × (find is at ≡ Some to)
 
 -- Bodies. What follows an FDEF up to and including its ENDF is the body of a function; after an IDEF it is of none. All else is
 -- the main program's.

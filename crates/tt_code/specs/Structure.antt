@@ -9,8 +9,8 @@ use Rattle.tt_code.specs.declared.machine.Body.{Body}
 use Rattle.tt_code.specs.declared.machine.Body.TheVariants as body
 
 -- what an instruction is for a program's structure, by its code
-abbrev pub word_of : ℕ → BlockKeyword
-word_of code =
+abbrev pub keyword_of : ℕ → BlockKeyword
+keyword_of code =
     if nat_eq code 0x58 then If
     else if nat_eq code 0x1b then Else
     else if nat_eq code 0x59 then Eif
@@ -21,7 +21,7 @@ word_of code =
 
 unfoldable pub keyword : Instruction → BlockKeyword
 keyword [] = Other
-keyword (code ∷ rest) = word_of code
+keyword (code ∷ rest) = keyword_of code
 
 abbrev pub is_keyword : BlockKeyword → BlockKeyword → Bool
 is_keyword If If = true

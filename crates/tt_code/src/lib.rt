@@ -1,5 +1,5 @@
-//! The instruction set of TrueType hint programs as data, programs cut into instructions, and the hint machine's
-//! definitions.
+//! The instruction set of TrueType hint programs as data, programs cut into instructions, and the
+//! hint machine's definitions.
 #![tactic(auto)]
 
 pub mod block_keyword;

@@ -6,7 +6,8 @@ ghost use Rattle.tt_code.specs.Refusals.{number_of, reason_text};
 use std::error::Error;
 use std::fmt;
 
-/// Why a program is refused. Each reason has a number, and its text is what the command prints after the number.
+/// Why a program is refused. Each reason has a number, and its text is what the command prints
+/// after the number.
 #[derive(Clone, Copy, Debug, PartialEq, Eq, Drop)]
 pub enum Reason {
     CannotCut = 20,
