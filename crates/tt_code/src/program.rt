@@ -1,5 +1,6 @@
-//! Programs cut into their instructions, and their structure (Apple TrueType Reference Manual, "The
-//! TrueType instruction set").
+//! Programs cut into their instructions, and their structure (Apple TrueType Reference Manual,
+//! "Instructions", "Managing the flow of control", "Defining and using functions and
+//! instructions").
 
 ghost use Rattle.std.specs.Prelude.{◌≡◌, ℕ, ◌+◌, ◌^◌, ◌<◌, ◌≤◌, ◌⊎◌, List, length, Err, Some, IfOk, IfErr, IfSome, IfNone, option_map};
 ghost use Rattle.std.specs.List.{AllByRecursion};
@@ -201,7 +202,8 @@ impl<'a> Program<'a> {
     /// Returns the instruction that starts at the offset, with its body, if one does: what `at` and
     /// `body_at` return, by one look-up.
     pub fn found_at(&self, offset: u32) -> Option<(Instr<'a>, Body)>
-        ensures instruction { option_map (λ found. found.0) result ≡ instruction_at self.now offset }
+        ensures instruction { option_map (λ found. found.0) result ≡
+            instruction_at self.now offset }
         ensures body { option_map (λ found. found.1) result ≡ body_on_cut self.now offset }
         ensures within { IfSome result (λ found. offset + length found.0 ≤ size self.now) }
         ensures found { IfSome result (λ found.

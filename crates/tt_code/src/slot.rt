@@ -1,4 +1,6 @@
-//! What is kept of each byte of a program.
+//! What is kept of each byte of a program: of an instruction that starts there, its length, body and
+//! target (Apple TrueType Reference Manual, "Managing the flow of control", "Defining and using
+//! functions and instructions").
 
 ghost use Rattle.std.specs.Prelude.{◌≡◌, ◌<◌, Some, None, IfNone, IfSome, option_map, slice_index};
 ghost use Rattle.tt_code.specs.Slots.{bodies, body_found, body_in, inside, lengths, target_found, target_in, targets};

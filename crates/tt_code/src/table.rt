@@ -975,19 +975,12 @@ fn names() -> &'static [&'static str; 256]
     &NAMES
 }
 
-/// Returns the code's entry of the table, which is the same as what `effect` returns.
+/// Returns what the instructions of a code take, test, change and push (Apple TrueType Reference
+/// Manual, "The TrueType instruction set").
 pub fn entry(code: u8) -> &'static Effect
     ensures { view result.now ≡ effect_of code }
 {
     &effects()[code as usize]
-}
-
-/// Returns what the instructions of a code take, test, change and push (Apple TrueType Reference
-/// Manual, "The TrueType instruction set").
-pub fn effect(code: u8) -> Effect
-    ensures { view result ≡ effect_of code }
-{
-    *entry(code)
 }
 
 /// Returns the code's name in the printed instruction set; a code without an entry has none.
