@@ -1,6 +1,6 @@
 //! Why bytes aren't a program: an instruction passes their end (Apple TrueType Reference Manual,
-//! "Instructions"), or their structure is wrong ("Managing the flow of control", "Defining and using
-//! functions and instructions").
+//! "Instructions"), or their structure is wrong ("Managing the flow of control", "Defining and
+//! using functions and instructions").
 
 use std::alloc::AllocError;
 use thiserror::Error;

@@ -1,5 +1,5 @@
-//! Why a program is refused: its bytes, or a test of one of its instructions (Apple TrueType Reference
-//! Manual, "The TrueType instruction set"). The numbers and texts are this product's own.
+//! Why a program is refused: its bytes, or a test of one of its instructions (Apple TrueType
+//! Reference Manual, "The TrueType instruction set"). The numbers and texts are this product's own.
 
 ghost use Rattle.std.specs.Prelude.{◌≡◌};
 ghost use Rattle.tt_code.specs.Refusals.{number_of, reason_text};

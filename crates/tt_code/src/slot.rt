@@ -1,5 +1,5 @@
-//! What is kept of each byte of a program: of an instruction that starts there, its length, body and
-//! target (Apple TrueType Reference Manual, "Managing the flow of control", "Defining and using
+//! What is kept of each byte of a program: of an instruction that starts there, its length, body
+//! and target (Apple TrueType Reference Manual, "Managing the flow of control", "Defining and using
 //! functions and instructions").
 
 ghost use Rattle.std.specs.Prelude.{◌≡◌, ◌<◌, Some, None, IfNone, IfSome, option_map, slice_index};
