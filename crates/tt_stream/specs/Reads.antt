@@ -6,6 +6,10 @@ use Rattle.tt_stream.specs.Streams.{CountsFailure}
 use Rattle.tt_stream.specs.declared.reads.ReadFault.{ReadFault}
 use Rattle.tt_stream.specs.declared.reads.ReadFault.TheVariants as fault
 
+-- these are all known bytes, and they were read
+abbrev pub ConsumesAll : Option (List ℕ) → Option (List ℕ) → List ℕ → Type 0
+ConsumesAll old new bytes = Consumes old new bytes × IsAtEnd new
+
 -- some beginning of the known bytes was read
 pub record ConsumesBeginning (old new : Option (List ℕ)) : Type 0 where
   pub bytes : List ℕ
