@@ -108,8 +108,8 @@ IsOutOfMemory (fault.Words error) = ⊥
 IsOutOfMemory (fault.OutOfMemory error) = Unit {0}
 
 -- words that the command line takes are refused only where memory runs out
-abbrev pub IsRefusal : List Text → TaskFault → Type 0
-IsRefusal words e = is_taken words ≡ true → IsOutOfMemory e
+abbrev pub IsMemoryIfTaken : List Text → TaskFault → Type 0
+IsMemoryIfTaken words e = is_taken words ≡ true → IsOutOfMemory e
 
 -- Of the kinds of faults that clap may report: a task comes only where there is none, words that mean none are reported by one of them, and
 -- out of memory is unspecified.

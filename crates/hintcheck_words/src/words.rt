@@ -3,7 +3,7 @@
 ghost use Rattle.std.specs.Prelude.{◌≡◌, IfErr, IfOk, Some, false, map, option_map, string_bytes};
 ghost use Rattle.clap.specs.Words.{app_of, rule_of, subcommand_rows_of};
 ghost use Rattle.hintcheck_words.specs.CommandLine.{bare, hintcheck, needed as needed_rule, needed_number as number_rule, of_texts};
-ghost use Rattle.hintcheck_words.specs.Requests.{HasNumber, HasNumbers, IsReadable, IsRefusal, MeetsSubcommand, TellsFault, asked, bare_request, faults_in, meaning, met, number_in, optional_in, request_of, rows_in, text_in, texts_of};
+ghost use Rattle.hintcheck_words.specs.Requests.{HasNumber, HasNumbers, IsReadable, IsMemoryIfTaken, MeetsSubcommand, TellsFault, asked, bare_request, faults_in, meaning, met, number_in, optional_in, request_of, rows_in, text_in, texts_of};
 
 use clap::error::ErrorKind;
 use clap::{Arg, ArgMatches, Command, value_parser};
@@ -276,7 +276,7 @@ fn task_of(alloc: Global, name: &str, values: &ArgMatches<'_>) -> Result<Task, A
 fn matches_of<'a>(alloc: Global, words: &'a [&'a str]) -> Result<ArgMatches<'a>, TaskFault>
     ensures met { IfOk result (λ m. subcommand_rows_of m ≡ met (texts_of words.entry.now)) }
     ensures meets { IfOk result (λ m. MeetsSubcommand (subcommand_rows_of m)) }
-    ensures refused { IfErr result (IsRefusal (texts_of words.entry.now)) }
+    ensures refused { IfErr result (IsMemoryIfTaken (texts_of words.entry.now)) }
     ensures faults { TellsFault (faults_in (texts_of words.entry.now)) result }
 {
     let command = command_line(alloc)?;
@@ -297,7 +297,7 @@ pub fn read_words<'a>(alloc: Global, words: &'a [&'a str]) -> Result<Task, TaskF
     // The task is the request that the words mean.
     ensures asked { IfOk result (λ t. meaning (texts_of words.entry.now) ≡ Some (asked t)) }
     // Words that the command line takes are refused only when memory runs out.
-    ensures refused { IfErr result (IsRefusal (texts_of words.entry.now)) }
+    ensures refused { IfErr result (IsMemoryIfTaken (texts_of words.entry.now)) }
     // A task comes only where clap finds no fault in the words; otherwise the fault is one that
     // clap finds, or out of memory.
     ensures faults { TellsFault (faults_in (texts_of words.entry.now)) result }
