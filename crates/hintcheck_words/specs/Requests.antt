@@ -29,7 +29,8 @@ pub data Request : Type 0 where
   list : Text → Text → Request
   upgrade : Text → Text → Request
 
--- the first text that an argument got, the number that it spells, and the text of one that may be left out
+-- the first text that an argument got, the number that it spells, and the text of one that may be
+-- left out
 abbrev pub text_in : List Row → Text → Text
 text_in rows id = unwrap_or (first_of id rows) []
 
@@ -111,8 +112,8 @@ IsOutOfMemory (fault.OutOfMemory error) = Unit {0}
 abbrev pub IsMemoryIfTaken : List Text → TaskFault → Type 0
 IsMemoryIfTaken words e = is_taken words ≡ true → IsOutOfMemory e
 
--- Of the kinds of faults that clap may report: a task comes only where there is none, words that mean none are reported by one of them, and
--- out of memory is unspecified.
+-- Of the kinds of faults that clap may report: a task comes only where there is none, words that
+-- mean none are reported by one of them, and out of memory is unspecified.
 abbrev pub TellsFault : {T : Type 0} → Kinds → Result T TaskFault → Type 0
 TellsFault kinds (Ok task) = kinds ≡ []
 TellsFault kinds (Err (fault.Words error)) = IsAmong (kind_of error) kinds

@@ -1,4 +1,5 @@
--- What reading to the end, or filling a buffer, does to known bytes, and to a count of failed reads.
+-- What reading to the end, or filling a buffer, does to known bytes, and to a count of failed
+-- reads.
 use Rattle.std.specs.Prelude.{◌≡◌, ◌+◌, ◌<◌, ℕ, List, [], Option, Result, Ok, Err, MatchResult, length, take}
 use Rattle.std.specs.Io.KnownBytes.{Consumes, IsAtEnd}
 use Rattle.tt_stream.specs.declared.ReadFailed.{ReadFailed}
