@@ -86,7 +86,7 @@ Opened-extend (o ∷ s) p a (outer, head, inner, below, h, l, e) m =
 pub Opened-open : (o : Open) (s : List Open) (p head : List Instruction) → Opened s p → Head o (within s) (size p) head → Opened (o ∷ s) (p ++ head)
 Opened-open o s p head below h = (p, head, [], below, h, none, ap (λ x. p ++ x) (sym (append-nil head)))
 
--- the words that close
+-- the keywords that close
 abbrev pub Closes : BlockKeyword → Open → Type 0
 Closes w (InIf k) = w ≡ Eif
 Closes w (InElse k) = w ≡ Eif

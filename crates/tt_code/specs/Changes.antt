@@ -1,5 +1,5 @@
--- What an instruction of a plain line changes and pushes, once its operands are taken and its tests passed. (Apple TrueType
--- Reference Manual, "The TrueType instruction set".)
+-- What an instruction of a plain line changes and pushes, once its operands are taken and its tests
+-- passed. (Apple TrueType Reference Manual, "The TrueType instruction set".)
 use Rattle.std.specs.Prelude.{ℕ, zero, suc, ℤ, pos, negsuc, List, [], ◌∷◌, Ok, nat_eq, if◌then◌else◌}
 use Rattle.tt_code.specs.Refusals.{Tested, ◌>>=◌}
 use Rattle.tt_code.specs.Table.{Lists}
@@ -62,7 +62,8 @@ abbrev pub values_pushed : List ℤ → (ℕ → ℤ) → List Pushed → List V
 values_pushed taken area [] = []
 values_pushed taken area (p ∷ ps) = value_pushed taken area p ∷ values_pushed taken area ps
 
--- A plain line: its operands are taken, its reference points tested, and then it changes and pushes.
+-- A plain line: its operands are taken, its reference points tested, and then it changes and
+-- pushes.
 abbrev pub plain : Setting → Machine → Lists → Tested Outcome
 plain s m line = do
   t ← take_operands s m.registers.graphics line.operands m.stack

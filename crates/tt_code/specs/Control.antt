@@ -1,5 +1,5 @@
--- The instructions that lead elsewhere, and functions. (Apple TrueType Reference Manual, "Managing the flow of control" and
--- "Defining and using functions and instructions".)
+-- The instructions that lead elsewhere, and functions. (Apple TrueType Reference Manual, "Managing
+-- the flow of control" and "Defining and using functions and instructions".)
 use Rattle.std.specs.Prelude.{ℕ, zero, suc, ◌+◌, ℤ, pos, negsuc, ◌+ℤ◌, List, [], ◌∷◌, Option, None, Some, Ok, Err, Bool, true, false, not, length, nat_eq, nat_lt, nat_le, if◌then◌else◌}
 use Rattle.tt_code.specs.Refusals.{Tested, ◌>>=◌, holds_or, some_or}
 use Rattle.tt_code.specs.Structure.{after_if, after_else, after_fdef}
@@ -16,7 +16,8 @@ use Rattle.tt_code.specs.declared.kinds.Control.TheVariants.{If, Else, Jump, Jum
 abbrev pub goes_to : Machine → List ℤ → ℕ → Outcome
 goes_to m stack offset = leaves (at_offset m offset) stack []
 
--- A jump counts from its own position, without a limit of 32 bits. The depth is tested before the target (own).
+-- A jump counts from its own position, without a limit of 32 bits. The depth is tested before the
+-- target (own).
 abbrev pub jumps : Setting → Machine → ℤ → List ℤ → Tested Outcome
 jumps s m by stack = do
   deep ← holds_or (nat_le (length stack) s.limits.stack) reason.Overflow

@@ -1,5 +1,5 @@
--- How the code keeps the table: an array with an effect and one with a name for each code. (Representation: what they
--- say of the table.)
+-- How the code keeps the table: an array with an effect and one with a name for each code.
+-- (Representation: what they say of the table.)
 use Rattle.std.specs.Prelude.{ℕ, zero, suc, ◌+◌, List, [], ◌∷◌, Option, None, Some}
 use denote.Ref.{Bor}
 use Rattle.tt_code.specs.Table.{Meaning, NoEntry, Plain, Pushes, Stack, Computes, Controls}

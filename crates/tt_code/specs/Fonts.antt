@@ -1,6 +1,7 @@
--- The programs of a font and where their runs start: the font program with no function defined, the CVT program with the
--- functions that the font program has at its end, each glyph program with those that the CVT program has at its end. (OpenType
--- specification, `fpgm`, `prep` and `glyf`; Apple TrueType Reference Manual, "Instructing fonts".)
+-- The programs of a font and where their runs start: the font program with no function defined, the
+-- CVT program with the functions that the font program has at its end, each glyph program with
+-- those that the CVT program has at its end. (OpenType specification, `fpgm`, `prep` and `glyf`;
+-- Apple TrueType Reference Manual, "Instructing fonts".)
 use Rattle.std.specs.Prelude.{◌≡◌, ℕ, List, [], true}
 use Rattle.tt_code.specs.Cut.{Instruction}
 use Rattle.tt_code.specs.Settings.{Setting, FontProgram, CvtProgram, GlyphProgram}

@@ -1,5 +1,5 @@
--- How the code keeps a cut: a length for each byte, at the first byte of an instruction the instruction's, at others 0.
--- (Representation: no public clause cites it.)
+-- How the code keeps a cut: a length for each byte, at the first byte of an instruction the
+-- instruction's, at others 0. (Representation: no public clause cites it.)
 use Rattle.std.specs.Prelude.{◌≡◌, ℕ, zero, suc, ◌-◌, ◌<◌, ◌^◌, List, [], ◌∷◌, ◌++◌, length, take, drop, replicate}
 use Rattle.tt_code.specs.Cut.{Instruction, IsInstruction, IsCut}
 

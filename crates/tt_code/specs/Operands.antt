@@ -1,6 +1,6 @@
--- Taking operands from the stack and testing them, one at a time and in the table's order: the first test that fails decides
--- the reason. (Apple TrueType Reference Manual, "The TrueType instruction set", the operands of each instruction. Own: that
--- order, and the reasons.)
+-- Taking operands from the stack and testing them, one at a time and in the table's order: the
+-- first test that fails decides the reason. (Apple TrueType Reference Manual, "The TrueType
+-- instruction set", the operands of each instruction. Own: that order, and the reasons.)
 use Rattle.std.specs.Prelude.{ℕ, zero, suc, ℤ, pos, negsuc, List, [], ◌∷◌, ◌++◌, is_some, Ok, Err, Bool, ◌&&◌}
 use Rattle.tt_code.specs.Refusals.{Tested, ◌>>=◌, holds_or}
 use Rattle.tt_code.specs.Settings.{Setting, ZoneNumber, One, zone_size, contours_in, zone_named}
@@ -14,7 +14,8 @@ use Rattle.tt_code.specs.declared.kinds.Operand.{Operand}
 use Rattle.tt_code.specs.declared.kinds.Operand.TheVariants as operand
 use Rattle.tt_code.specs.declared.kinds.Use.{Use}
 
--- The elements that are taken, the first taken first, and the stack below them. (These forms read no element.)
+-- The elements that are taken, the first taken first, and the stack below them. (These forms read
+-- no element.)
 
 abbrev pub Taking : Type 0 → Type 0
 Taking N = List N × List N
@@ -75,7 +76,8 @@ is_point s g (In p) z = is_below z (zone_size s (pointer p g))
 is_point s g (Both p q) z = is_below z (zone_size s (pointer p g)) && is_below z (zone_size s (pointer q g))
 is_point s g (GlyphAnd p) z = is_below z (zone_size s One) && is_below z (zone_size s (pointer p g))
 
--- An operand. Where the loop number says how many, it is tested before the first one; 0 takes none (own).
+-- An operand. Where the loop number says how many, it is tested before the first one; 0 takes none
+-- (own).
 abbrev pub take_operand : Setting → Graphics ℤ ZoneNumber → Operand → List ℤ → Tested (Taking ℤ)
 take_operand s g operand.Number stack = take_one stack
 take_operand s g (operand.Point within) stack = tested (is_point s g within) reason.Point stack

@@ -1,5 +1,5 @@
--- The one pass from the left that the code makes: what is open after an instruction, and the body. (Representation: no public
--- clause cites it.)
+-- The one pass from the left that the code makes: what is open after an instruction, and the body.
+-- (Representation: no public clause cites it.)
 use Rattle.std.specs.Prelude.{◌≡◌, ℕ, ◌+◌, List, [], ◌∷◌, ◌++◌, length, Bool, true, false, Option, Some, None, if◌then◌else◌}
 use Rattle.tt_code.specs.declared.block_keyword.BlockKeyword.{BlockKeyword}
 use Rattle.tt_code.specs.declared.block_keyword.BlockKeyword.TheVariants.{If, Else, Eif, Fdef, Idef, Endf, Other}
@@ -24,7 +24,8 @@ abbrev pub within : List Open → Bool
 within [] = false
 within (o ∷ s) = inside_of o (within s)
 
--- what is open after a keyword at offset k, the innermost first, or nothing where the keyword isn't allowed there
+-- what is open after a keyword at offset k, the innermost first, or nothing where the keyword isn't
+-- allowed there
 abbrev pub step : BlockKeyword → ℕ → List Open → Option (List Open)
 step Other k s = Some s
 step If k s = Some (InIf k ∷ s)

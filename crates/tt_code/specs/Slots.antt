@@ -1,5 +1,6 @@
--- How the code keeps a program: a slot for each byte, at the first byte of an instruction the instruction's. And what the
--- slots say of the instructions read so far and of what they leave open. (Representation: no public clause cites it.)
+-- How the code keeps a program: a slot for each byte, at the first byte of an instruction the
+-- instruction's. And what the slots say of the instructions read so far and of what they leave
+-- open. (Representation: no public clause cites it.)
 use Rattle.std.specs.Prelude.{reverse, ◌≡◌, ◌⊎◌, ℕ, zero, suc, List, [], ◌∷◌, ◌++◌, map, length, Option, Some, None, slice_index_or, nat_eq, if◌then◌else◌}
 use Rattle.std.specs.List.{AllByRecursion}
 use Rattle.tt_code.specs.declared.block_keyword.BlockKeyword.{BlockKeyword}
@@ -65,8 +66,9 @@ abbrev pub IsOpenAt : ℕ → List Open → Type 0
 IsOpenAt k [] = ⊥
 IsOpenAt k (o ∷ s) = (place o ≡ k) ⊎ IsOpenAt k s
 
--- The bodies and targets by offset of instructions that leave these open: each instruction has its body, and none is kept
--- elsewhere; each target is where control goes; each opening instruction has a target or is still open.
+-- The bodies and targets by offset of instructions that leave these open: each instruction has its
+-- body, and none is kept elsewhere; each target is where control goes; each opening instruction has
+-- a target or is still open.
 pub record IsTable (p : List Instruction) (s : List Open) (in_body : List (Option Body)) (goes : List (Option ℕ)) : Type 0 where
   pub bodies_long : length in_body ≡ size p
   pub targets_long : length goes ≡ size p

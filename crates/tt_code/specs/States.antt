@@ -1,6 +1,6 @@
--- The state of the hint machine. (Apple TrueType Reference Manual, "The TrueType interpreter" and "Graphics state".) What
--- this product doesn't decide, such as coordinates, vectors, rounding and the control values, isn't kept: where a program reads it,
--- any number may be read.
+-- The state of the hint machine. (Apple TrueType Reference Manual, "The TrueType interpreter" and
+-- "Graphics state".) What this product doesn't decide, such as coordinates, vectors, rounding and
+-- the control values, isn't kept: where a program reads it, any number may be read.
 use Rattle.std.specs.Prelude.{ℕ, ℤ, pos, negsuc, FitsSigned, List, Bool, true, false, nat_lt, ◌^◌, zero, suc}
 use Rattle.std.specs.Int.{w32}
 use Rattle.tt_code.specs.Settings.{ZoneNumber, One}

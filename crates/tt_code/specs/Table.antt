@@ -1,8 +1,9 @@
--- The instruction set, line by line as it is printed: the codes and names of a line, what its instructions take from the
--- stack (top first), which reference points they use and in which pointer's zone, what they change, and what they push.
--- (Apple TrueType Reference Manual, "The TrueType instruction set"; OpenType specification, "The TrueType Instruction
--- Set".) Own: which zones a point is tested in where the manual names none (`Both`, `GlyphAnd`); DIV, MUL, MAX and MIN
--- push a number of which nothing is known; 0x91, 0x92 and IDEF's codes have no entry.
+-- The instruction set, line by line as it is printed: the codes and names of a line, what its
+-- instructions take from the stack (top first), which reference points they use and in which
+-- pointer's zone, what they change, and what they push. (Apple TrueType Reference Manual, "The
+-- TrueType instruction set"; OpenType specification, "The TrueType Instruction Set".) Own: which
+-- zones a point is tested in where the manual names none (`Both`, `GlyphAnd`); DIV, MUL, MAX and
+-- MIN push a number of which nothing is known; 0x91, 0x92 and IDEF's codes have no entry.
 use Rattle.std.specs.Prelude.{codes, ℕ, ◌+◌, List, [], ◌∷◌, Bool, false, Option, None, Some, ◌&&◌, ◌||◌, nat_le, nat_lt, if◌then◌else◌}
 use Rattle.tt_code.specs.declared.kinds.Reference.{Reference}
 use Rattle.tt_code.specs.declared.kinds.Reference.TheVariants.{Rp0, Rp1, Rp2}

@@ -55,7 +55,8 @@ impl<'a> Instr<'a> {
         self.bytes
     }
 
-    /// Returns what a push instruction pushes, as bytes or words of two bytes; empty for every other one.
+    /// Returns what a push instruction pushes, as bytes or words of two bytes; empty for every
+    /// other one.
     pub fn data(&self) -> &'a [u8]
         ensures { result.now ≡ data_of self.now }
     {

@@ -1,5 +1,6 @@
-//! The instruction set of TrueType hint programs as data, programs cut into instructions, and the hint machine's
-//! definitions.
+//! The instruction set of TrueType hint programs as data, programs cut into instructions, and the
+//! hint machine's definitions (Apple TrueType Reference Manual, "Instructions", "The TrueType
+//! interpreter", "The TrueType instruction set"; OpenType specification, `maxp`).
 #![tactic(auto)]
 
 pub mod block_keyword;
@@ -24,4 +25,4 @@ pub use limits::Limits;
 pub use machine::{Body, Frame, Graphics};
 pub use program::Program;
 pub use reason::Reason;
-pub use table::{effect, entry, name};
+pub use table::{entry, name};

@@ -1,4 +1,5 @@
--- The part of a text that is rendered at a time. (Representation of printing: nothing above needs it.)
+-- The part of a text that is rendered at a time. (Representation of printing: nothing above needs
+-- it.)
 use Rattle.std.specs.Prelude.{◌≡◌, ℕ, ◌-◌, List, ◌++◌, length, take, drop}
 
 -- how many bytes are still to be skipped, and the bytes that were kept after those
