@@ -134,12 +134,12 @@ impl SlotIndex {
     }
 
     /// Returns the points that are there, with their slots, by ascending context, and by ascending offset within one.
-    pub(crate) fn iter(&self) -> PlacesIter<'_>
+    pub(crate) fn iter(&self) -> SlotIndexIter<'_>
         ensures { result ≡ self.now }
     {
         let mut rows = OffsetListsIter::new(&self.rows[..self.used]);
         let mut rest = self.rest.iter();
-        PlacesIter {
+        SlotIndexIter {
             first: rows.take_first(),
             rows,
             other: next_in(&mut rest),
@@ -259,7 +259,7 @@ fn is_first(other: Option<(PointKey, u32)>, first: Option<(PointKey, u32)>) -> b
 
 /// The points that are still to come, with their slots.
 #[derive(Drop)]
-pub(crate) struct PlacesIter<'a> {
+pub(crate) struct SlotIndexIter<'a> {
     /// The first point of the rows.
     first: Option<(PointKey, u32)>,
     /// The others of the rows.
@@ -270,7 +270,7 @@ pub(crate) struct PlacesIter<'a> {
     rest: Iter<'a, PointKey, u32>,
 }
 
-impl<'a> Model for PlacesIter<'a> {
+impl<'a> Model for SlotIndexIter<'a> {
     ghost use Rattle.std.specs.Prelude.{List, ℕ};
     ghost use Rattle.tt_cert.specs.PlaceRows.{AreApart, merged, with_first};
 
@@ -281,7 +281,7 @@ impl<'a> Model for PlacesIter<'a> {
     ghost invariant = { λ p. AreApart (with_first p.first p.rows) (with_first p.other p.rest) };
 }
 
-impl<'a> PlacesIter<'a> {
+impl<'a> SlotIndexIter<'a> {
     /// Takes the first of the points that are still to come.
     pub(crate) fn take_first(&mut self) -> Option<(PointKey, u32)>
         ensures none { result ≡ None → (self.old ≡ []) × (self.new ≡ []) }

@@ -2,7 +2,7 @@
 
 ghost use Rattle.std.specs.Prelude.{◌≡◌, ◌∷◌, None, [], IfSome};
 
-use crate::slot_index::PlacesIter;
+use crate::slot_index::SlotIndexIter;
 use std::marker::Model;
 use tt_abs::State;
 
@@ -10,7 +10,7 @@ use tt_abs::State;
 #[derive(Drop)]
 pub struct States<'a> {
     /// The slots of the points that are still to come.
-    pub(crate) places: PlacesIter<'a>,
+    pub(crate) places: SlotIndexIter<'a>,
     /// The states in the slots.
     pub(crate) slots: &'a [State],
 }

@@ -27,7 +27,7 @@ use Rattle.tt_cert.specs.declared.fault.ProgramFault.{ProgramFault}
 use Rattle.tt_cert.specs.declared.fault.ProgramFault.TheVariants.{Refused, OutOfMemory}
 use Rattle.tt_find.specs.Marks.{SetsMark, mark_of}
 use Rattle.tt_find.specs.declared.marks.Mark.TheVariants.{Kept, Passed}
-use Rattle.tt_find.specs.declared.marks.Marks.{OffsetMarks}
+use Rattle.tt_find.specs.declared.marks.OffsetMarks.{OffsetMarks}
 use Rattle.tt_find.specs.declared.origin.Origin.{Origin}
 use Rattle.tt_find.specs.declared.stop.Stop.{Stop}
 use Rattle.tt_find.specs.declared.stop.Stop.TheVariants.{Fault, Restart}
@@ -698,7 +698,7 @@ stored_from old middle new last c off t source marks is put rest fresh sets spar
         risen = record { worklist = from.risen.worklist; changes = from.risen.changes };
       };
       fresh = fresh;
-      marks = let M : Marks → Type 0 = λ x. SetsMark old.marks x (spot_of (frames_at old.builder.contexts c)) off Kept in subst M (sym kept.marks) sets;
+      marks = let M : OffsetMarks → Type 0 = λ x. SetsMark old.marks x (spot_of (frames_at old.builder.contexts c)) off Kept in subst M (sym kept.marks) sets;
       spare =
           let K : List (ℕ × ℕ) → Type 0 = λ x. SparesAt x last.spare.keys (c, off) (family_of old.builder (place_of old.builder c off)) source in
           subst K (ap (λ (x : BTreeSet (ℕ × ℕ)). x.keys) kept.spare) spares;

@@ -28,7 +28,7 @@ use Rattle.tt_cert.specs.Cursors.{IsAfter}
 use Rattle.tt_find.specs.Found.{ArePointsOf, IsDerived, IsNeeded}
 use Rattle.tt_find.specs.Marks.{SetsMark, mark_at, mark_of}
 use Rattle.tt_find.specs.declared.marks.Mark.TheVariants.{Free, Kept, Passed}
-use Rattle.tt_find.specs.declared.marks.Marks.{OffsetMarks}
+use Rattle.tt_find.specs.declared.marks.OffsetMarks.{OffsetMarks}
 use Rattle.tt_find.specs.declared.origin.Origin.{Origin}
 use Rattle.tt_find.specs.declared.origin.Origin.TheVariants.{JustBefore, Elsewhere}
 use Rattle.tt_find.specs.declared.solver.Solver.{Solver}

@@ -1,5 +1,5 @@
 use Rattle.tt_find.proofs.Marking.{sets_font, sets_main, sets_prep}
-use Rattle.tt_find.proofs.marks.Marks.set.Goals as goal
+use Rattle.tt_find.proofs.marks.OffsetMarks.set.Goals as goal
 
 pub returns-in-Main : goal.returns-in-Main
 returns-in-Main c = sets_main c.args.self.now c.args.spot c.args.offset c.args.mark c.in-Main.is c.requires
