@@ -9,23 +9,29 @@ use Rattle.tt_abs.specs.EntryLists.{IsEquality, EntriesBelow, EntriesInRange, be
 
 -- What is listed.
 
-pub listed-here : {V : Type 0} (e : ℕ × V) (es : List (ℕ × V)) (n : ℕ) → e.0 ≡ n → listed (e ∷ es) n ≡ Some e.1
+pub listed-here : {V : Type 0} (e : ℕ × V) (es : List (ℕ × V)) (n : ℕ) → e.0 ≡ n
+    → listed (e ∷ es) n ≡ Some e.1
 listed-here {V} e es n h = ap (λ (b : Bool). if b then Some e.1 else listed es n) (eq-eqb e.0 n h)
 
-pub listed-there : {V : Type 0} (e : ℕ × V) (es : List (ℕ × V)) (n : ℕ) → (e.0 ≡ n → ⊥) → listed (e ∷ es) n ≡ listed es n
+pub listed-there : {V : Type 0} (e : ℕ × V) (es : List (ℕ × V)) (n : ℕ) → (e.0 ≡ n → ⊥)
+    → listed (e ∷ es) n ≡ listed es n
 listed-there {V} e es n h = ap (λ (b : Bool). if b then Some e.1 else listed es n) (ne_eqb e.0 n h)
 
-pub all-above : {V : Type 0} (m n : ℕ) (es : List (ℕ × V)) → m < n → AllByRecursion (λ e. n < e.0) es → AllByRecursion (λ e. m < e.0) es
+pub all-above : {V : Type 0} (m n : ℕ) (es : List (ℕ × V)) → m < n
+    → AllByRecursion (λ e. n < e.0) es → AllByRecursion (λ e. m < e.0) es
 all-above m n [] lt h = tt
 all-above m n (e ∷ es) lt h = (let a = h.0 in omega arith, all-above m n es lt h.1)
 
 -- a number below all those of a list isn't in it
-pub none-below : {V : Type 0} (n : ℕ) (es : List (ℕ × V)) → AllByRecursion (λ e. n < e.0) es → listed es n ≡ None
+pub none-below : {V : Type 0} (n : ℕ) (es : List (ℕ × V)) → AllByRecursion (λ e. n < e.0) es
+    → listed es n ≡ None
 none-below n [] h = refl
-none-below n (e ∷ es) h = listed-there e es n (λ q. let a = h.0 in omega arith) ∙ none-below n es h.1
+none-below n (e ∷ es) h =
+    listed-there e es n (λ q. let a = h.0 in omega arith) ∙ none-below n es h.1
 
 -- what is listed is above what all are above
-pub number-above : {V : Type 0} (m n : ℕ) (v : V) (es : List (ℕ × V)) → AllByRecursion (λ e. m < e.0) es → listed es n ≡ Some v → m < n
+pub number-above : {V : Type 0} (m n : ℕ) (v : V) (es : List (ℕ × V))
+    → AllByRecursion (λ e. m < e.0) es → listed es n ≡ Some v → m < n
 number-above m n v [] h l = cc
 number-above m n v (e ∷ es) h l = elim (cases_eq e.0 n) [
   | inl same ↦ let a = h.0 in omega arith
@@ -35,25 +41,29 @@ number-above m n v (e ∷ es) h l = elim (cases_eq e.0 n) [
 -- One list below another, apart from first entries.
 
 -- a first entry that isn't in the second list may be removed
-pub below-without_first : {V : Type 0} (x : ℕ × V) (xs b : List (ℕ × V)) → AllByRecursion (λ e. x.0 < e.0) b → EntriesBelow (x ∷ xs) b → EntriesBelow xs b
+pub below-without_first : {V : Type 0} (x : ℕ × V) (xs b : List (ℕ × V))
+    → AllByRecursion (λ e. x.0 < e.0) b → EntriesBelow (x ∷ xs) b → EntriesBelow xs b
 below-without_first x xs b above p n v l =
     let lt : x.0 < n = number-above x.0 n v b above l in
     sym (listed-there x xs n (λ q. omega arith)) ∙ p n v l
 
 -- or added
-pub below-with_first : {V : Type 0} (x : ℕ × V) (xs b : List (ℕ × V)) → AllByRecursion (λ e. x.0 < e.0) xs → EntriesBelow xs b → EntriesBelow (x ∷ xs) b
+pub below-with_first : {V : Type 0} (x : ℕ × V) (xs b : List (ℕ × V))
+    → AllByRecursion (λ e. x.0 < e.0) xs → EntriesBelow xs b → EntriesBelow (x ∷ xs) b
 below-with_first x xs b above p n v l =
     let lt : x.0 < n = number-above x.0 n v xs above (p n v l) in
     listed-there x xs n (λ q. omega arith) ∙ p n v l
 
 -- the second list's first entry may be removed
-pub below-behind_first : {V : Type 0} (a : List (ℕ × V)) (y : ℕ × V) (ys : List (ℕ × V)) → AllByRecursion (λ e. y.0 < e.0) ys → EntriesBelow a (y ∷ ys) → EntriesBelow a ys
+pub below-behind_first : {V : Type 0} (a : List (ℕ × V)) (y : ℕ × V) (ys : List (ℕ × V))
+    → AllByRecursion (λ e. y.0 < e.0) ys → EntriesBelow a (y ∷ ys) → EntriesBelow a ys
 below-behind_first a y ys above p n v l =
     let lt : y.0 < n = number-above y.0 n v ys above l in
     p n v (listed-there y ys n (λ q. omega arith) ∙ l)
 
 -- or added, where both have it
-pub below-same_first : {V : Type 0} (x y : ℕ × V) (xs ys : List (ℕ × V)) → x ≡ y → AllByRecursion (λ e. x.0 < e.0) xs → EntriesBelow xs ys → EntriesBelow (x ∷ xs) (y ∷ ys)
+pub below-same_first : {V : Type 0} (x y : ℕ × V) (xs ys : List (ℕ × V)) → x ≡ y
+    → AllByRecursion (λ e. x.0 < e.0) xs → EntriesBelow xs ys → EntriesBelow (x ∷ xs) (y ∷ ys)
 below-same_first {V} x y xs ys same above p n v l = elim (cases_eq y.0 n) [
   | inl here ↦ let e : (x ∷ xs) ≡ (y ∷ xs) = ap (λ (z : ℕ × V). z ∷ xs) same in
       ap (λ (es : List (ℕ × V)). listed es n) e ∙ listed-here y xs n here ∙ sym (listed-here y ys n here) ∙ l
@@ -61,7 +71,8 @@ below-same_first {V} x y xs ys same above p n v l = elim (cases_eq y.0 n) [
 ]
 
 -- the first entry of the second list is that of the first, or after it
-pub first-below : {V : Type 0} (x y : ℕ × V) (xs ys : List (ℕ × V)) → AllByRecursion (λ e. x.0 < e.0) xs → EntriesBelow (x ∷ xs) (y ∷ ys) → (x ≡ y) ⊎ (x.0 < y.0)
+pub first-below : {V : Type 0} (x y : ℕ × V) (xs ys : List (ℕ × V))
+    → AllByRecursion (λ e. x.0 < e.0) xs → EntriesBelow (x ∷ xs) (y ∷ ys) → (x ≡ y) ⊎ (x.0 < y.0)
 first-below {V} x y xs ys above p =
     let l : listed (x ∷ xs) y.0 ≡ Some y.1 = p y.0 y.1 (listed-here y ys y.0 refl) in
     elim (cases_eq x.0 y.0) [
@@ -74,7 +85,8 @@ first-below {V} x y xs ys above p =
 
 -- The laws.
 
-pub entries-length : {V : Type 0} (a b : List (ℕ × V)) → Rises a → Rises b → EntriesBelow a b → length b ≤ length a
+pub entries-length : {V : Type 0} (a b : List (ℕ × V)) → Rises a → Rises b → EntriesBelow a b
+    → length b ≤ length a
 entries-length {V} [] [] ra rb p = omega arith
 entries-length {V} [] (y ∷ ys) ra rb p = let l = p y.0 y.1 (listed-here y ys y.0 refl) in cc
 entries-length {V} (x ∷ xs) [] ra rb p = omega arith
@@ -86,7 +98,8 @@ entries-length {V} (x ∷ xs) (y ∷ ys) ra rb p = elim (first-below x y xs ys r
       let ih = entries-length xs (y ∷ ys) ra.1 rb (below-without_first x xs (y ∷ ys) (lt, all-above x.0 y.0 ys lt rb.0) p) in omega arith
 ]
 
-pub entries-same : {V : Type 0} (a b : List (ℕ × V)) → Rises a → Rises b → EntriesBelow a b → length b ≡ length a → a ≡ b
+pub entries-same : {V : Type 0} (a b : List (ℕ × V)) → Rises a → Rises b → EntriesBelow a b
+    → length b ≡ length a → a ≡ b
 entries-same {V} [] [] ra rb p e = refl
 entries-same {V} [] (y ∷ ys) ra rb p e = absurd (omega arith)
 entries-same {V} (x ∷ xs) [] ra rb p e = absurd (omega arith)
@@ -114,25 +127,32 @@ entry_laws IsInRange = record {
 
 -- SortedMap kept by a test.
 
-keep_step : {X : Type 0} (P : X → Type 0) (x : X) (rest : List X) (b : Bool) → P x → AllByRecursion P rest → AllByRecursion P (cond b (x ∷ rest) rest)
+keep_step : {X : Type 0} (P : X → Type 0) (x : X) (rest : List X) (b : Bool) → P x
+    → AllByRecursion P rest → AllByRecursion P (cond b (x ∷ rest) rest)
 keep_step P x rest true h ih = (h, ih)
 keep_step P x rest false h ih = ih
 
-pub all-filter : {X : Type 0} (P : X → Type 0) (p : X → Bool) (xs : List X) → AllByRecursion P xs → AllByRecursion P (filter p xs)
+pub all-filter : {X : Type 0} (P : X → Type 0) (p : X → Bool) (xs : List X) → AllByRecursion P xs
+    → AllByRecursion P (filter p xs)
 all-filter P p [] h = tt
 all-filter P p (x ∷ xs) h = keep_step P x (filter p xs) (p x) h.0 (all-filter P p xs h.1)
 
-rises_step : {V : Type 0} (x : ℕ × V) (rest : List (ℕ × V)) (b : Bool) → AllByRecursion (λ e. x.0 < e.0) rest → Rises rest → Rises (cond b (x ∷ rest) rest)
+rises_step : {V : Type 0} (x : ℕ × V) (rest : List (ℕ × V)) (b : Bool)
+    → AllByRecursion (λ e. x.0 < e.0) rest → Rises rest → Rises (cond b (x ∷ rest) rest)
 rises_step x rest true h ih = (h, ih)
 rises_step x rest false h ih = ih
 
-pub Rises-filter : {V : Type 0} (p : ℕ × V → Bool) (xs : List (ℕ × V)) → Rises xs → Rises (filter p xs)
+pub Rises-filter : {V : Type 0} (p : ℕ × V → Bool) (xs : List (ℕ × V)) → Rises xs
+    → Rises (filter p xs)
 Rises-filter p [] r = tt
-Rises-filter p (x ∷ xs) r = rises_step x (filter p xs) (p x) (all-filter _ p xs r.0) (Rises-filter p xs r.1)
+Rises-filter p (x ∷ xs) r =
+    rises_step x (filter p xs) (p x) (all-filter _ p xs r.0) (Rises-filter p xs r.1)
 
 filter_step : {V : Type 0} (p : ℕ × V → Bool) (x : ℕ × V) (xs rest : List (ℕ × V)) (n : ℕ) (v : V) (b : Bool) → p x ≡ b
-    → AllByRecursion (λ e. x.0 < e.0) rest → (listed rest n ≡ Some v) ↔ ((listed xs n ≡ Some v) × (p (n, v) ≡ true))
-    → (listed (cond b (x ∷ rest) rest) n ≡ Some v) ↔ ((listed (x ∷ xs) n ≡ Some v) × (p (n, v) ≡ true))
+    → AllByRecursion (λ e. x.0 < e.0) rest
+    → (listed rest n ≡ Some v) ↔ ((listed xs n ≡ Some v) × (p (n, v) ≡ true))
+    → (listed (cond b (x ∷ rest) rest) n ≡ Some v)
+    ↔ ((listed (x ∷ xs) n ≡ Some v) × (p (n, v) ≡ true))
 filter_step {V} p x xs rest n v true is above ih = elim (cases_eq x.0 n) [
   | inl same ↦ (
     λ l. let w : x.1 ≡ v = value (sym (listed-here x rest n same) ∙ l) in
@@ -168,18 +188,23 @@ filter_step {V} p x xs rest n v false is above ih = elim (cases_eq x.0 n) [
     pair : x.0 ≡ n → x.1 ≡ v → x ≡ (n, v)
     pair a b i = (a i, b i)
 
-pub listed-filter : {V : Type 0} (p : ℕ × V → Bool) (a : List (ℕ × V)) → Rises a → (n : ℕ) (v : V) → (listed (filter p a) n ≡ Some v) ↔ ((listed a n ≡ Some v) × (p (n, v) ≡ true))
+pub listed-filter : {V : Type 0} (p : ℕ × V → Bool) (a : List (ℕ × V)) → Rises a → (n : ℕ) (v : V)
+    → (listed (filter p a) n ≡ Some v) ↔ ((listed a n ≡ Some v) × (p (n, v) ≡ true))
 listed-filter p [] r n v = (λ l. cc, λ h. h.0)
-listed-filter p (x ∷ xs) r n v = filter_step p x xs (filter p xs) n v (p x) refl (all-filter _ p xs r.0) (listed-filter p xs r.1 n v)
+listed-filter p (x ∷ xs) r n v =
+    filter_step p x xs (filter p xs) n v (p x) refl (all-filter _ p xs r.0) (listed-filter p xs r.1 n v)
 
-pub holds_value-is : {V : Type 0} (same : V → V → Bool) → IsEquality same → (o : Option V) (v : V) → (holds_value same o v ≡ true) ↔ (o ≡ Some v)
+pub holds_value-is : {V : Type 0} (same : V → V → Bool) → IsEquality same → (o : Option V) (v : V)
+    → (holds_value same o v ≡ true) ↔ (o ≡ Some v)
 holds_value-is {V} same decides None v = (λ h. cc, λ e. cc)
-holds_value-is {V} same decides (Some w) v = (λ h. ap Some ((decides w v).0 h), λ e. (decides w v).1 (value e))
+holds_value-is {V} same decides (Some w) v =
+    (λ h. ap Some ((decides w v).0 h), λ e. (decides w v).1 (value e))
   where
     value : Some w ≡ Some v → w ≡ v
     value e = cc
 
-pub common_is_least : {V : Type 0} (IsInRange : V → Type 0) (same : V → V → Bool) → IsEquality same → (a b : List (ℕ × V)) → EntriesInRange IsInRange a
+pub common_is_least : {V : Type 0} (IsInRange : V → Type 0) (same : V → V → Bool) → IsEquality same
+    → (a b : List (ℕ × V)) → EntriesInRange IsInRange a
     → IsLeastAbove (entry_order IsInRange) a b (common_entries same a b)
 common_is_least IsInRange same decides a b r = record {
   in_range = record { rises = Rises-filter _ a r.rises; values = all-filter _ _ a r.values };
@@ -190,8 +215,10 @@ common_is_least IsInRange same decides a b r = record {
 
 -- Nothing is missing exactly where the first list is below the second.
 
-missing_step : {V : Type 0} (same : V → V → Bool) → IsEquality same → (x y : ℕ × V) (xs ys : List (ℕ × V)) (b : Bool) → (nat_eq y.0 x.0 && same y.1 x.1) ≡ b
-    → Rises (x ∷ xs) → Rises (y ∷ ys) → EntriesBelow xs (if b then ys else y ∷ ys) ↔ EntriesBelow (x ∷ xs) (y ∷ ys)
+missing_step : {V : Type 0} (same : V → V → Bool) → IsEquality same
+    → (x y : ℕ × V) (xs ys : List (ℕ × V)) (b : Bool) → (nat_eq y.0 x.0 && same y.1 x.1) ≡ b
+    → Rises (x ∷ xs) → Rises (y ∷ ys)
+    → EntriesBelow xs (if b then ys else y ∷ ys) ↔ EntriesBelow (x ∷ xs) (y ∷ ys)
 missing_step {V} same decides x y xs ys true is rx ry =
     let both = and_parts _ _ is in
     let number : y.0 ≡ x.0 = eqb-true y.0 x.0 both.0 in
@@ -210,7 +237,8 @@ missing_step {V} same decides x y xs ys false is rx ry = (
   ],
 )
 
-Rises-behind : {V : Type 0} (same : V → V → Bool) (e : ℕ × V) (b : List (ℕ × V)) → Rises b → Rises (behind_entry same e b)
+Rises-behind : {V : Type 0} (same : V → V → Bool) (e : ℕ × V) (b : List (ℕ × V)) → Rises b
+    → Rises (behind_entry same e b)
 Rises-behind same e [] r = tt
 Rises-behind same e (x ∷ xs) r = go (nat_eq x.0 e.0 && same x.1 e.1)
   where
@@ -218,10 +246,13 @@ Rises-behind same e (x ∷ xs) r = go (nat_eq x.0 e.0 && same x.1 e.1)
     go true = r.1
     go false = r
 
-pub missing-below : {V : Type 0} (same : V → V → Bool) → IsEquality same → (a b : List (ℕ × V)) → Rises a → Rises b → (missing_entries same a b ≡ []) ↔ EntriesBelow a b
+pub missing-below : {V : Type 0} (same : V → V → Bool) → IsEquality same → (a b : List (ℕ × V))
+    → Rises a → Rises b → (missing_entries same a b ≡ []) ↔ EntriesBelow a b
 missing-below same decides [] [] ra rb = (λ _ n v l. l, λ _. refl)
-missing-below same decides [] (y ∷ ys) ra rb = (λ e. cc, λ p. let l = p y.0 y.1 (listed-here y ys y.0 refl) in cc)
-missing-below {V} same decides (x ∷ xs) [] ra rb = let ih = missing-below same decides xs [] ra.1 rb in
+missing-below same decides [] (y ∷ ys) ra rb =
+    (λ e. cc, λ p. let l = p y.0 y.1 (listed-here y ys y.0 refl) in cc)
+missing-below {V} same decides (x ∷ xs) [] ra rb =
+    let ih = missing-below same decides xs [] ra.1 rb in
     let nothing : (es : List (ℕ × V)) → EntriesBelow es [] = λ es n v l. cc in
     (λ e. nothing (x ∷ xs), λ p. ih.1 (nothing xs))
 missing-below same decides (x ∷ xs) (y ∷ ys) ra rb =

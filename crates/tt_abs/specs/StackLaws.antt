@@ -7,7 +7,8 @@ use Rattle.tt_abs.specs.CellOrders.{known_cells}
 use Rattle.tt_abs.specs.CellLaws.{CellBelow-refl, CellBelow-trans, CellBelow-antisym, known_cells-falls, known_cells-strict}
 use Rattle.tt_abs.specs.Stacks.{StackBelow, known_count, stack_order}
 
-pub StackBelow-tail : (x y : Cell) (xs ys : List Cell) → StackBelow (x ∷ xs) (y ∷ ys) → StackBelow xs ys
+pub StackBelow-tail : (x y : Cell) (xs ys : List Cell) → StackBelow (x ∷ xs) (y ∷ ys)
+    → StackBelow xs ys
 StackBelow-tail x y xs ys h = record {
   depth = let d = h.depth in omega arith;
   cells = λ k. h.cells (suc k);
