@@ -1,5 +1,5 @@
--- One list of entries is below another exactly where the second covers whatever the first covers:
--- of function lists, and of storage areas.
+-- One sorted map is below another exactly where the second covers whatever the first covers: of
+-- functions, and of storage cells.
 use Rattle.std.specs.Prelude.{◌≡◌, ℕ, ℤ, pos, ◌↔◌, List, Option, None, Some}
 use Rattle.std.specs.Option.{unwrap_or}
 use Rattle.std.proofs.Common.{refl, sym, ◌∙◌, ap, subst, rules}

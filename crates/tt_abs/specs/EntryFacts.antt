@@ -1,5 +1,5 @@
--- What is listed after an entry was put or removed: the functions by their names, and the storage
--- area cell by cell.
+-- What a sorted map has after an entry was put or removed: the functions by their names, and the
+-- storage area cell by cell.
 use Rattle.std.specs.Prelude.{◌≡◌, ℕ, ℤ, Bool, true, false, cond, not, nat_eq, nat_lt, if◌then◌else◌, List, [], ◌∷◌, Option, None, Some}
 use Rattle.std.specs.List.{AllByRecursion}
 use Rattle.std.proofs.Common.{refl, sym, ◌∙◌, ap, subst, inl, inr}

@@ -1,4 +1,4 @@
--- What is listed in a list of entries, and the laws of the order on them.
+-- What a sorted map has, and the laws of the order on sorted maps.
 use Rattle.std.specs.Prelude.{◌≡◌, ℕ, ◌<◌, ◌≤◌, ◌⊎◌, ◌↔◌, Bool, true, false, cond, ◌&&◌, nat_eq, if◌then◌else◌, List, [], ◌∷◌, Option, None, Some, length}
 use Rattle.std.specs.List.{AllByRecursion, filter}
 use Rattle.std.proofs.Common.{refl, sym, ◌∙◌, ap, subst, arith, inl, inr}

@@ -54,7 +54,7 @@ pub record IsFamilyByContext (family : Place → Option State) : Type 0 where
       → length contexts ≤ MOST_CONTEXTS
 
 -- The family covers every machine that starts; no machine that it covers faults; it covers each
--- next state of one that it covers.
+-- successor of one that it covers.
 pub record CoversSteps (s : Setting) (functions : List (ℕ × ℕ)) (family : Place → Option State) : Type 0 where
   pub starts : (m : Machine) → StartsWith functions m → IsCoveredBy family m
   pub safe : (m : Machine) (r : Reason) → IsCoveredBy family m → Faults s m r → ⊥

@@ -50,7 +50,7 @@ pub record RefusesState (s : Setting) (p : Place) (a : State) (r : Reason) : Typ
   pub running : is_main_end s p.0 p.1 ≡ false
   pub refused : outcome_on_cells s p.0 p.1 (abstract_of a) ≡ Err r
 
--- one of the next states is this one, at this place; at the main program's end there is none
+-- one of the successors is this one, at this place; at the main program's end there is none
 pub record GivesState (s : Setting) (p : Place) (a : State) (q : Place) (t : State) : Type 0 where
   pub running : is_main_end s p.0 p.1 ≡ false
   pub nexts : List Next

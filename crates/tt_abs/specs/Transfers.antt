@@ -262,7 +262,7 @@ computed_cells Not a = of_one_cell a (of_known (λ x. truth_cell (not (is_true x
 
 -- Control.
 
--- Where next states are, and what is known of all that are there.
+-- Where successors are, and what is known of all that are there.
 pub record Next : Type 0 where
   -- the calls that haven't returned, the innermost first
   pub frames : List Frame

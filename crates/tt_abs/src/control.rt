@@ -18,7 +18,7 @@ use tt_code::kinds::Control;
 use tt_code::{Frame, Reason};
 
 /// Returns the offset just after an instruction of one byte.
-fn behind(point: &Point<'_>) -> u32
+fn next_offset(point: &Point<'_>) -> u32
     requires { point.now.offset < 2 ^ 31 }
     ensures { result ≡ point.now.offset + 1 }
 {
@@ -37,7 +37,7 @@ fn ways_of_if(setting: &Setting<'_>, point: &Point<'_>, cell: Cell) -> Result<Mo
     match cell {
         Cell::Known(condition) => {
             if is_true(condition) {
-                return Ok(Moves::One(Move::To(behind(point))));
+                return Ok(Moves::One(Move::To(next_offset(point))));
             }
             match after {
                 Some(offset) => Ok(Moves::One(Move::To(offset))),
@@ -45,7 +45,7 @@ fn ways_of_if(setting: &Setting<'_>, point: &Point<'_>, cell: Cell) -> Result<Mo
             }
         }
         Cell::Unknown => match after {
-            Some(offset) => Ok(Moves::two(behind(point), offset)),
+            Some(offset) => Ok(Moves::two(next_offset(point), offset)),
             None => Err(Reason::Target),
         },
     }
@@ -134,12 +134,12 @@ fn ways_of_jump(
                 let target = jump_target(setting, point, by, depth)?;
                 Ok(Moves::One(Move::To(target)))
             } else {
-                Ok(Moves::One(Move::To(behind(point))))
+                Ok(Moves::One(Move::To(next_offset(point))))
             }
         }
         Cell::Unknown => {
             let target = jump_target(setting, point, by, depth)?;
-            Ok(Moves::two(behind(point), target))
+            Ok(Moves::two(next_offset(point), target))
         }
     }
 }
@@ -185,7 +185,7 @@ fn define(setting: &Setting<'_>, point: &Point<'_>, state: &mut State) -> Result
         return Err(Refusal::Refused(Reason::Target));
     };
     state.stack.cut(1);
-    state.define(function as u16, setting.body_name(behind(point)))?;
+    state.define(function as u16, setting.body_name(next_offset(point)))?;
     Ok(Moves::One(Move::To(after)))
 }
 
@@ -272,7 +272,7 @@ fn repeat(
     if count > 0 {
         enter(setting, point, body, count as u32, depth)
     } else {
-        Ok(Moves::One(Move::To(behind(point))))
+        Ok(Moves::One(Move::To(next_offset(point))))
     }
 }
 

@@ -56,7 +56,7 @@ fn execute(
     ensures in_range { state_order.InRange state.old
         → IfOk result (λ _. state_order.InRange state.new) }
 {
-    setting.is_within();
+    setting.range_facts();
     prove!(u32::from(instr.code()) < 256);
     let moves = dispatch(setting, point, state, instr)?;
     if state.stack.len() > usize::from(setting.limits.stack) {

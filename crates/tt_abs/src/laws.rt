@@ -46,7 +46,7 @@ pub fn outcome_on_cells_is_exact()
 {}
 
 /// States that a family of abstract states is good exactly if it covers every machine that starts,
-/// no machine that it covers faults, and it covers each next state of one that it covers.
+/// no machine that it covers faults, and it covers each successor of one that it covers.
 pub fn good_families_cover_steps()
     ensures { IsGoodByMachines }
 {}

@@ -267,7 +267,7 @@ impl<'a> Setting<'a> {
 
     /// States that the programs consist of bytes and are shorter than 2^31 bytes, and that depths
     /// have 16 bits, as they always do.
-    pub fn is_within(&self)
+    pub fn range_facts(&self)
         ensures range { IsSettingInRange (setting_of self.now) }
         ensures short { AreProgramsShort (setting_of self.now) }
     {

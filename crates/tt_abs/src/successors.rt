@@ -22,8 +22,8 @@ pub struct Successors {
 /// Computes what an abstract state becomes by the instruction that starts at the point in the body
 /// of its innermost call. It is refused exactly if some machine state that it covers faults there,
 /// or comes to run a body twice, or they come to more lists of calls than a program may have. Else
-/// there is a way to each place at which a next machine state is, and its state is the smallest
-/// that covers those there.
+/// there is a way to each place at which a successor of one of them is, and its state is the
+/// smallest that covers those there.
 ///
 /// # Errors
 /// `Refused` with the reason of the first test of the instruction that fails, read on cells;
