@@ -32,7 +32,8 @@ pub record Stands (a : Abstract) (frames : List Frame) (offset : ℕ) (m : Machi
   pub offset_is : m.offset ≡ offset
 
 -- what such a machine may become by something that it does
-pub record Becomes (a : Abstract) (frames : List Frame) (offset : ℕ) (does : Machine → Tested Outcome) (new : Machine) : Type 0 where
+pub record Becomes (a : Abstract) (frames : List Frame) (offset : ℕ)
+    (does : Machine → Tested Outcome) (new : Machine) : Type 0 where
   pub old : Machine
   pub stands : Stands a frames offset old
   pub result : Outcome
@@ -108,7 +109,8 @@ MOST_CONTEXTS = 65535
 
 -- the covered machines at this place become machines with more lists of frames than a program may
 -- have
-pub record ManyFrames (a : Abstract) (frames : List Frame) (offset : ℕ) (does : Machine → Tested Outcome) : Type 0 where
+pub record ManyFrames (a : Abstract) (frames : List Frame) (offset : ℕ)
+    (does : Machine → Tested Outcome) : Type 0 where
   pub lists : List (List Frame)
   pub many : MOST_CONTEXTS < length lists
   pub apart : (i j : ℕ) (fs : List Frame) → slice_get lists i ≡ Some fs
@@ -125,7 +127,8 @@ IsRefused a frames offset does =
 -- What is said of any instruction: the outcome on cells is refused exactly if some covered machine
 -- faults or comes to run a body twice, or they come to too many lists of frames; else it gives the
 -- smallest covers of what they become.
-pub record Gives (a : Abstract) (frames : List Frame) (offset : ℕ) (does : Machine → Tested Outcome) (nexts : List Next) : Type 0 where
+pub record Gives (a : Abstract) (frames : List Frame) (offset : ℕ)
+    (does : Machine → Tested Outcome) (nexts : List Next) : Type 0 where
   pub none_faults : NoneFaults a frames offset does
   pub none_recurs : SomeRecurs a frames offset does → ⊥
   pub few : length nexts ≤ 2

@@ -15,7 +15,8 @@ pub functions_below_is_coverage : (a b : List (ℕ × ℕ))
     → EntriesBelow a b
     ↔ ((functions : List (ℕ × ℕ)) → CoversFunctions a functions → CoversFunctions b functions)
 functions_below_is_coverage a b = (
-  λ p functions covers n body named. covers n body (sym (listed-named a n) ∙ p n body (listed-named b n ∙ named)),
+  λ p functions covers n body named.
+      covers n body (sym (listed-named a n) ∙ p n body (listed-named b n ∙ named)),
   λ f n body l. listed-named a n ∙ f a (λ _ _ named. named) n body (sym (listed-named b n) ∙ l),
 )
 
@@ -55,7 +56,9 @@ pub storage_below_is_coverage : (a b : List (ℕ × ℤ)) → EntriesInRange IsN
     → EntriesBelow a b
     ↔ ((area : ℕ → ℤ) → CoversStorage (storage_of a) area → CoversStorage (storage_of b) area)
 storage_below_is_coverage a b range = (
-  λ p area covers i. covers_step (listed a i) (listed b i) (area i) (p i) (λ v. listed-all IsNumber a i v range.values) (covers i),
+  λ p area covers i.
+      covers_step (listed a i) (listed b i) (area i) (p i)
+      (λ v. listed-all IsNumber a i v range.values) (covers i),
   λ f n v l.
       let C : ℤ → Option ℤ → Type 0 = λ z o. Covers (known_or_not o) (area_of a z n) in
       below_step (listed a n) v

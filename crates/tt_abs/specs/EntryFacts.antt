@@ -28,7 +28,9 @@ listed-all {V} P (e ∷ es) n v all l = elim (cases_eq e.0 n) [
 with_step : {V : Type 0} (n : ℕ) (v : V) (e : ℕ × V) (es : List (ℕ × V)) (k : ℕ) (less same : Bool)
     → nat_lt n e.0 ≡ less → nat_eq n e.0 ≡ same
     → listed (with_entry n v es) k ≡ (if nat_eq n k then Some v else listed es k)
-    → listed (if less then (n, v) ∷ e ∷ es else (if same then (n, v) ∷ es else e ∷ with_entry n v es)) k ≡ (if nat_eq n k then Some v else listed (e ∷ es) k)
+    → listed
+    (if less then (n, v) ∷ e ∷ es else (if same then (n, v) ∷ es else e ∷ with_entry n v es)) k
+    ≡ (if nat_eq n k then Some v else listed (e ∷ es) k)
 with_step n v e es k true same is_less is_same ih = refl
 with_step n v e es k false true is_less is_same ih = elim (cases_eq n k) [
   | inl here ↦ let t : nat_eq n k ≡ true = eq-eqb n k here in rw t refl
@@ -37,9 +39,12 @@ with_step n v e es k false true is_less is_same ih = elim (cases_eq n k) [
       rw t (sym (listed-there e es k (λ q. other (equal ∙ q))))
 ]
 with_step n v e es k false false is_less is_same ih = elim (cases_eq e.0 k) [
-  | inl here ↦ let t : nat_eq n k ≡ false = ne_eqb n k (λ q. eqb-false n e.0 is_same (q ∙ sym here)) in
+  | inl here ↦
+      let t : nat_eq n k ≡ false = ne_eqb n k (λ q. eqb-false n e.0 is_same (q ∙ sym here)) in
       rw t (listed-here e (with_entry n v es) k here ∙ sym (listed-here e es k here))
-  | inr other ↦ listed-there e (with_entry n v es) k other ∙ ih ∙ ap (λ o. if nat_eq n k then Some v else o) (sym (listed-there e es k other))
+  | inr other ↦
+      listed-there e (with_entry n v es) k other ∙ ih
+      ∙ ap (λ o. if nat_eq n k then Some v else o) (sym (listed-there e es k other))
 ]
 
 pub listed-with : {V : Type 0} (n : ℕ) (v : V) (es : List (ℕ × V)) (k : ℕ)
@@ -53,15 +58,21 @@ listed-with n v (e ∷ es) k =
 without_step : {V : Type 0} (n : ℕ) (e : ℕ × V) (es : List (ℕ × V)) (k : ℕ) (same : Bool)
     → nat_eq e.0 n ≡ same
     → listed (without_entry n es) k ≡ (if nat_eq n k then None else listed es k)
-    → listed (cond (not same) (e ∷ without_entry n es) (without_entry n es)) k ≡ (if nat_eq n k then None else listed (e ∷ es) k)
+    → listed (cond (not same) (e ∷ without_entry n es) (without_entry n es)) k
+    ≡ (if nat_eq n k then None else listed (e ∷ es) k)
 without_step {V} n e es k true is ih = elim (cases_eq n k) [
   | inl here ↦ let t : nat_eq n k ≡ true = eq-eqb n k here in rw t (ih ∙ rw t refl)
-  | inr other ↦ ih ∙ ap (λ (o : Option V). if nat_eq n k then None else o) (sym (listed-there e es k (λ q. other (sym (eqb-true e.0 n is) ∙ q))))
+  | inr other ↦
+      ih
+      ∙ ap (λ (o : Option V). if nat_eq n k then None else o)
+      (sym (listed-there e es k (λ q. other (sym (eqb-true e.0 n is) ∙ q))))
 ]
 without_step {V} n e es k false is ih = elim (cases_eq e.0 k) [
   | inl here ↦ let t : nat_eq n k ≡ false = ne_eqb n k (λ q. eqb-false e.0 n is (here ∙ sym q)) in
       rw t (listed-here e (without_entry n es) k here ∙ sym (listed-here e es k here))
-  | inr other ↦ listed-there e (without_entry n es) k other ∙ ih ∙ ap (λ (o : Option V). if nat_eq n k then None else o) (sym (listed-there e es k other))
+  | inr other ↦
+      listed-there e (without_entry n es) k other ∙ ih
+      ∙ ap (λ (o : Option V). if nat_eq n k then None else o) (sym (listed-there e es k other))
 ]
 
 one_branch : {X : Type 0} (b : Bool) (x : X) → x ≡ (if b then x else x)
@@ -84,7 +95,8 @@ listed-named (f ∷ fs) n =
 pub named-with : (n b : ℕ) (fs : List (ℕ × ℕ)) (k : ℕ)
     → body_named (with_entry n b fs) k ≡ (if nat_eq n k then Some b else body_named fs k)
 named-with n b fs k =
-    sym (listed-named (with_entry n b fs) k) ∙ listed-with n b fs k ∙ ap (λ (o : Option ℕ). if nat_eq n k then Some b else o) (listed-named fs k)
+    sym (listed-named (with_entry n b fs) k) ∙ listed-with n b fs k
+    ∙ ap (λ (o : Option ℕ). if nat_eq n k then Some b else o) (listed-named fs k)
 
 -- The storage area.
 

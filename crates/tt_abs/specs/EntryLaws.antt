@@ -66,7 +66,8 @@ pub below-same_first : {V : Type 0} (x y : ℕ × V) (xs ys : List (ℕ × V)) �
     → AllByRecursion (λ e. x.0 < e.0) xs → EntriesBelow xs ys → EntriesBelow (x ∷ xs) (y ∷ ys)
 below-same_first {V} x y xs ys same above p n v l = elim (cases_eq y.0 n) [
   | inl here ↦ let e : (x ∷ xs) ≡ (y ∷ xs) = ap (λ (z : ℕ × V). z ∷ xs) same in
-      ap (λ (es : List (ℕ × V)). listed es n) e ∙ listed-here y xs n here ∙ sym (listed-here y ys n here) ∙ l
+      ap (λ (es : List (ℕ × V)). listed es n) e ∙ listed-here y xs n here
+      ∙ sym (listed-here y ys n here) ∙ l
   | inr other ↦ below-with_first x xs ys above p n v (sym (listed-there y ys n other) ∙ l)
 ]
 
@@ -76,7 +77,9 @@ pub first-below : {V : Type 0} (x y : ℕ × V) (xs ys : List (ℕ × V))
 first-below {V} x y xs ys above p =
     let l : listed (x ∷ xs) y.0 ≡ Some y.1 = p y.0 y.1 (listed-here y ys y.0 refl) in
     elim (cases_eq x.0 y.0) [
-      | inl same ↦ let v : x.1 ≡ y.1 = first-value (sym (listed-here x xs y.0 same) ∙ l) in inl (λ i. (same i, v i))
+      | inl same ↦
+          let v : x.1 ≡ y.1 = first-value (sym (listed-here x xs y.0 same) ∙ l) in
+          inl (λ i. (same i, v i))
       | inr other ↦ inr (number-above x.0 y.0 y.1 xs above (sym (listed-there x xs y.0 other) ∙ l))
     ]
   where
@@ -93,9 +96,12 @@ entries-length {V} (x ∷ xs) [] ra rb p = omega arith
 entries-length {V} (x ∷ xs) (y ∷ ys) ra rb p = elim (first-below x y xs ys ra.0 p) [
   | inl same ↦
       let A : ℕ × V → Type 0 = λ z. AllByRecursion (λ e. z.0 < e.0) ys in
-      let ih = entries-length xs ys ra.1 rb.1 (below-without_first x xs ys (subst A (sym same) rb.0) (below-behind_first (x ∷ xs) y ys rb.0 p)) in omega arith
+      let ih = entries-length xs ys ra.1 rb.1
+      (below-without_first x xs ys (subst A (sym same) rb.0)
+      (below-behind_first (x ∷ xs) y ys rb.0 p)) in omega arith
   | inr lt ↦
-      let ih = entries-length xs (y ∷ ys) ra.1 rb (below-without_first x xs (y ∷ ys) (lt, all-above x.0 y.0 ys lt rb.0) p) in omega arith
+      let ih = entries-length xs (y ∷ ys) ra.1 rb
+      (below-without_first x xs (y ∷ ys) (lt, all-above x.0 y.0 ys lt rb.0) p) in omega arith
 ]
 
 pub entries-same : {V : Type 0} (a b : List (ℕ × V)) → Rises a → Rises b → EntriesBelow a b
@@ -106,9 +112,14 @@ entries-same {V} (x ∷ xs) [] ra rb p e = absurd (omega arith)
 entries-same {V} (x ∷ xs) (y ∷ ys) ra rb p e = elim (first-below x y xs ys ra.0 p) [
   | inl same ↦
       let A : ℕ × V → Type 0 = λ z. AllByRecursion (λ e. z.0 < e.0) ys in
-      let tail : xs ≡ ys = entries-same xs ys ra.1 rb.1 (below-without_first x xs ys (subst A (sym same) rb.0) (below-behind_first (x ∷ xs) y ys rb.0 p)) (omega arith) in cc
+      let tail : xs ≡ ys =
+      entries-same xs ys ra.1 rb.1
+      (below-without_first x xs ys (subst A (sym same) rb.0)
+      (below-behind_first (x ∷ xs) y ys rb.0 p)) (omega arith) in cc
   | inr lt ↦
-      let less = entries-length xs (y ∷ ys) ra.1 rb (below-without_first x xs (y ∷ ys) (lt, all-above x.0 y.0 ys lt rb.0) p) in absurd (omega arith)
+      let less = entries-length xs (y ∷ ys) ra.1 rb
+      (below-without_first x xs (y ∷ ys) (lt, all-above x.0 y.0 ys lt rb.0) p) in
+      absurd (omega arith)
 ]
 
 pub entry_laws : {V : Type 0} (IsInRange : V → Type 0) → OrderLaws (entry_order IsInRange)
@@ -117,7 +128,8 @@ entry_laws IsInRange = record {
   transitive = λ a b c p q n v l. p n v (q n v l);
   antisymmetric = λ a b ra rb p q.
       let down = entries-length a b ra.rises rb.rises p in
-      let up = entries-length b a rb.rises ra.rises q in entries-same a b ra.rises rb.rises p (omega arith);
+      let up = entries-length b a rb.rises ra.rises q in
+      entries-same a b ra.rises rb.rises p (omega arith);
   one_depth = λ _ _ _. tt;
   depth_symmetric = λ _ _ _. tt;
   depth_transitive = λ _ _ _ _ _. tt;
@@ -148,7 +160,8 @@ Rises-filter p [] r = tt
 Rises-filter p (x ∷ xs) r =
     rises_step x (filter p xs) (p x) (all-filter _ p xs r.0) (Rises-filter p xs r.1)
 
-filter_step : {V : Type 0} (p : ℕ × V → Bool) (x : ℕ × V) (xs rest : List (ℕ × V)) (n : ℕ) (v : V) (b : Bool) → p x ≡ b
+filter_step : {V : Type 0} (p : ℕ × V → Bool) (x : ℕ × V) (xs rest : List (ℕ × V)) (n : ℕ) (v : V)
+    (b : Bool) → p x ≡ b
     → AllByRecursion (λ e. x.0 < e.0) rest
     → (listed rest n ≡ Some v) ↔ ((listed xs n ≡ Some v) × (p (n, v) ≡ true))
     → (listed (cond b (x ∷ rest) rest) n ≡ Some v)
@@ -157,10 +170,14 @@ filter_step {V} p x xs rest n v true is above ih = elim (cases_eq x.0 n) [
   | inl same ↦ (
     λ l. let w : x.1 ≡ v = value (sym (listed-here x rest n same) ∙ l) in
         (listed-here x xs n same ∙ ap Some w, ap p (sym (pair same w)) ∙ is),
-    λ h. let w : x.1 ≡ v = value (sym (listed-here x xs n same) ∙ h.0) in listed-here x rest n same ∙ ap Some w,
+    λ h.
+        let w : x.1 ≡ v = value (sym (listed-here x xs n same) ∙ h.0) in
+        listed-here x rest n same ∙ ap Some w,
   )
   | inr other ↦ (
-    λ l. let h = ih.0 (sym (listed-there x rest n other) ∙ l) in (listed-there x xs n other ∙ h.0, h.1),
+    λ l.
+        let h = ih.0 (sym (listed-there x rest n other) ∙ l) in
+        (listed-there x xs n other ∙ h.0, h.1),
     λ h. listed-there x rest n other ∙ ih.1 (sym (listed-there x xs n other) ∙ h.0, h.1),
   )
 ]
@@ -192,7 +209,8 @@ pub listed-filter : {V : Type 0} (p : ℕ × V → Bool) (a : List (ℕ × V)) �
     → (listed (filter p a) n ≡ Some v) ↔ ((listed a n ≡ Some v) × (p (n, v) ≡ true))
 listed-filter p [] r n v = (λ l. cc, λ h. h.0)
 listed-filter p (x ∷ xs) r n v =
-    filter_step p x xs (filter p xs) n v (p x) refl (all-filter _ p xs r.0) (listed-filter p xs r.1 n v)
+    filter_step p x xs (filter p xs) n v (p x) refl (all-filter _ p xs r.0)
+    (listed-filter p xs r.1 n v)
 
 pub holds_value-is : {V : Type 0} (same : V → V → Bool) → IsEquality same → (o : Option V) (v : V)
     → (holds_value same o v ≡ true) ↔ (o ≡ Some v)
@@ -209,8 +227,11 @@ pub common_is_least : {V : Type 0} (IsInRange : V → Type 0) (same : V → V �
 common_is_least IsInRange same decides a b r = record {
   in_range = record { rises = Rises-filter _ a r.rises; values = all-filter _ _ a r.values };
   left = λ n v l. ((listed-filter _ a r.rises n v).0 l).0;
-  right = λ n v l. (holds_value-is same decides (listed b n) v).0 ((listed-filter _ a r.rises n v).0 l).1;
-  least = λ d rd p q n v l. (listed-filter _ a r.rises n v).1 (p n v l, (holds_value-is same decides (listed b n) v).1 (q n v l));
+  right = λ n v l.
+      (holds_value-is same decides (listed b n) v).0 ((listed-filter _ a r.rises n v).0 l).1;
+  least = λ d rd p q n v l.
+      (listed-filter _ a r.rises n v).1
+      (p n v l, (holds_value-is same decides (listed b n) v).1 (q n v l));
 }
 
 -- Nothing is missing exactly where the first list is below the second.
@@ -226,13 +247,16 @@ missing_step {V} same decides x y xs ys true is rx ry =
     let equal : x ≡ y = λ i. (sym number i, sym value i) in
     let A : ℕ × V → Type 0 = λ z. AllByRecursion (λ e. z.0 < e.0) ys in (
       below-same_first x y xs ys equal rx.0,
-      λ p. below-without_first x xs ys (subst A (sym equal) ry.0) (below-behind_first (x ∷ xs) y ys ry.0 p),
+      λ p.
+          below-without_first x xs ys (subst A (sym equal) ry.0)
+          (below-behind_first (x ∷ xs) y ys ry.0 p),
     )
 missing_step {V} same decides x y xs ys false is rx ry = (
   below-with_first x xs (y ∷ ys) rx.0,
   λ p. elim (first-below x y xs ys rx.0 p) [
     | inl equal ↦ let t : (nat_eq y.0 x.0 && same y.1 x.1) ≡ true =
-        and_from _ _ (eq-eqb y.0 x.0 (ap (λ (z : ℕ × V). z.0) (sym equal))) ((decides y.1 x.1).1 (ap (λ (z : ℕ × V). z.1) (sym equal))) in cc
+        and_from _ _ (eq-eqb y.0 x.0 (ap (λ (z : ℕ × V). z.0) (sym equal)))
+        ((decides y.1 x.1).1 (ap (λ (z : ℕ × V). z.1) (sym equal))) in cc
     | inr lt ↦ below-without_first x xs (y ∷ ys) (lt, all-above x.0 y.0 ys lt ry.0) p
   ],
 )
@@ -256,6 +280,7 @@ missing-below {V} same decides (x ∷ xs) [] ra rb =
     let nothing : (es : List (ℕ × V)) → EntriesBelow es [] = λ es n v l. cc in
     (λ e. nothing (x ∷ xs), λ p. ih.1 (nothing xs))
 missing-below same decides (x ∷ xs) (y ∷ ys) ra rb =
-    let ih = missing-below same decides xs (behind_entry same x (y ∷ ys)) ra.1 (Rises-behind same x (y ∷ ys) rb) in
+    let ih = missing-below same decides xs (behind_entry same x (y ∷ ys)) ra.1
+    (Rises-behind same x (y ∷ ys) rb) in
     let step = missing_step same decides x y xs ys (nat_eq y.0 x.0 && same y.1 x.1) refl ra rb in
     (λ e. step.0 (ih.0 e), λ p. ih.1 (step.1 p))

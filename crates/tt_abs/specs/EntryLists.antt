@@ -65,4 +65,9 @@ common_entries same a b = filter (λ e. holds_value same (listed b e.0) e.1) a
 -- the order of these lists, where the values have a range
 abbrev pub entry_order : {V : Type 0} → (V → Type 0) → Order (List (ℕ × V))
 entry_order IsInRange =
-    record { InRange = EntriesInRange IsInRange; Below = EntriesBelow; SameDepth = λ _ _. ⊤; left = length }
+    record {
+      InRange = EntriesInRange IsInRange;
+      Below = EntriesBelow;
+      SameDepth = λ _ _. ⊤;
+      left = length;
+    }

@@ -40,7 +40,8 @@ abbrev pub HasStateIn : (Place → Option State) → List Frame → Type 0
 HasStateIn family frames = (offset : ℕ) × (a : State) × (family (frames, offset) ≡ Some a)
 
 -- no two of the contexts are the same, and in each the family has a state
-pub record AreContextsOf (family : Place → Option State) (contexts : List (List Frame)) : Type 0 where
+pub record AreContextsOf (family : Place → Option State)
+    (contexts : List (List Frame)) : Type 0 where
   pub apart : (i j : ℕ) (fs : List Frame) → slice_get contexts i ≡ Some fs
       → slice_get contexts j ≡ Some fs → i ≡ j
   pub each : (i : ℕ) (fs : List Frame) → slice_get contexts i ≡ Some fs → HasStateIn family fs
@@ -55,7 +56,8 @@ pub record IsFamilyByContext (family : Place → Option State) : Type 0 where
 
 -- The family covers every machine that starts; no machine that it covers faults; it covers each
 -- successor of one that it covers.
-pub record CoversSteps (s : Setting) (functions : List (ℕ × ℕ)) (family : Place → Option State) : Type 0 where
+pub record CoversSteps (s : Setting) (functions : List (ℕ × ℕ))
+    (family : Place → Option State) : Type 0 where
   pub starts : (m : Machine) → StartsWith functions m → IsCoveredBy family m
   pub safe : (m : Machine) (r : Reason) → IsCoveredBy family m → Faults s m r → ⊥
   pub closed : (m n : Machine) → IsCoveredBy family m → Steps s m n → IsCoveredBy family n

@@ -8,12 +8,16 @@ pub unchanged_by_below : {S : Type 0} {o : Order S} → OrderLaws o → (a b c :
     → o.InRange a
     → IsLeastAbove o a b c → (IsTrue r ↔ o.Below b a) → IsFalse (not r) ↔ (c ≡ a)
 unchanged_by_below {S} {o} laws a b c true in_a least says = (
-  λ _. laws.antisymmetric c a least.in_range in_a (least.least a in_a (laws.reflexive a) (says.0 refl)) least.left,
+  λ _.
+      laws.antisymmetric c a least.in_range in_a
+      (least.least a in_a (laws.reflexive a) (says.0 refl)) least.left,
   λ _. refl,
 )
 unchanged_by_below {S} {o} laws a b c false in_a least says = (
   λ h. cc,
-  λ e. let P : S → Type 0 = λ x. o.Below b x in let bad : false ≡ true = says.1 (subst P e least.right) in cc,
+  λ e.
+      let P : S → Type 0 = λ x. o.Below b x in
+      let bad : false ≡ true = says.1 (subst P e least.right) in cc,
 )
 
 -- a value is the least above itself and one below it

@@ -14,8 +14,14 @@ kind_of kind.Cvt = CvtProgram
 kind_of (kind.Glyph points contours) = GlyphProgram points contours
 
 abbrev pub setting_of : Setting → MachineSetting
-setting_of s =
-    record { limits = s.limits; cvt = s.cvt; kind = kind_of s.kind; main = s.main.now; font = s.font.now; prep = s.prep.now }
+setting_of s = record {
+  limits = s.limits;
+  cvt = s.cvt;
+  kind = kind_of s.kind;
+  main = s.main.now;
+  font = s.font.now;
+  prep = s.prep.now;
+}
 
 -- the font whose programs these are; the font program, where that runs, stands for both
 abbrev pub programs_of : Setting → Font

@@ -66,9 +66,11 @@ state_order = along parts (product stack_order (product graphics_order list_orde
 
 pub state_laws : OrderLaws state_order
 state_laws =
-    along_laws parts state_from (λ _. refl) (product stack_order (product graphics_order list_order))
+    along_laws parts state_from (λ _. refl)
+    (product stack_order (product graphics_order list_order))
     (product_laws stack_order (product graphics_order list_order) stack_laws
-    (product_laws graphics_order list_order graphics_laws (product_laws function_order storage_order (entry_laws (λ _. ⊤)) (entry_laws IsNumber))))
+    (product_laws graphics_order list_order graphics_laws
+    (product_laws function_order storage_order (entry_laws (λ _. ⊤)) (entry_laws IsNumber))))
 
 pub state_least : (s t u : State) → IsLeastAbove stack_order s.stack t.stack u.stack
     → IsLeastAbove graphics_order s.graphics t.graphics u.graphics

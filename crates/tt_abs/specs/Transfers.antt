@@ -137,7 +137,8 @@ abbrev pub plain_cells : Setting → Abstract → Lists → Tested Abstract
 plain_cells s a line = do
   t ← take_cells s a.registers.graphics line.operands a.stack
   ok ← test_cell_uses s a.registers.graphics line.uses
-  Ok (leaves_cells (record a { registers = all_updated cells t.0 line.updates a.registers }) t.1 (cells_pushed t.0 a.registers.storage line.pushes))
+  Ok (leaves_cells (record a { registers = all_updated cells t.0 line.updates a.registers }) t.1
+      (cells_pushed t.0 a.registers.storage line.pushes))
 
 -- Pushes and stack instructions.
 
@@ -297,7 +298,8 @@ jumps_cells s fs at a by stack = do
 abbrev pub jumps_by : Setting → List Frame → ℕ → Abstract → (ℤ → Bool) → Cell → Cell → List Cell
     → Tested (List Next)
 jumps_by s fs at a holds (Known e) by stack =
-    if holds e then jumps_cells s fs at a by stack else Ok (one_way fs (at + 1) (leaves_cells a stack []))
+    if holds e then jumps_cells s fs at a by stack
+    else Ok (one_way fs (at + 1) (leaves_cells a stack []))
 jumps_by s fs at a holds Unknown by stack = do
   target ← jump_target s fs at by stack
   Ok (two_ways fs (at + 1) target (leaves_cells a stack []))
@@ -335,7 +337,8 @@ abbrev pub enters_cells : Setting → List Frame → ℕ → Abstract → ℕ �
 enters_cells s fs at a name stack turns = do
   deep ← holds_or (nat_le (length stack) s.limits.stack) reason.Overflow
   fresh ← holds_or (not (is_running name fs)) reason.Recursion
-  Ok (one_way (record { body = name; call = at; turn = 1; count = turns } ∷ fs) (body_offset name) (leaves_cells a stack []))
+  Ok (one_way (record { body = name; call = at; turn = 1; count = turns } ∷ fs) (body_offset name)
+      (leaves_cells a stack []))
 
 -- by the count; 0 or less calls nothing
 abbrev pub loops_cells : Setting → List Frame → ℕ → Abstract → ℕ → List Cell → ℤ
@@ -349,7 +352,8 @@ abbrev pub returns_cells : Abstract → List Frame → Tested (List Next)
 returns_cells a [] = Err reason.Target
 returns_cells a (f ∷ fs) =
     if nat_lt f.turn f.count
-    then Ok (one_way (record f { turn = f.turn + 1 } ∷ fs) (body_offset f.body) (leaves_cells a a.stack []))
+    then Ok (one_way (record f { turn = f.turn + 1 } ∷ fs) (body_offset f.body)
+    (leaves_cells a a.stack []))
     else Ok (one_way fs (f.call + 1) (leaves_cells a a.stack []))
 
 abbrev pub controlled_cells : Setting → List Frame → ℕ → Abstract → Control → Tested (List Next)
@@ -370,7 +374,9 @@ controlled_cells s fs at a FunctionDefinition = do
   n ← known t.0
   ok ← holds_or (is_below n s.limits.functions) reason.Function
   after ← some_or (after_fdef (program_of s fs) at) reason.Target
-  Ok (one_way fs after (leaves_cells (record a { functions = with_entry (natural n) (body_name s.kind (at + 1)) a.functions }) t.1 []))
+  Ok (one_way fs after (leaves_cells
+      (record a { functions = with_entry (natural n) (body_name s.kind (at + 1)) a.functions })
+      t.1 []))
 controlled_cells s fs at a Call = do
   t ← top a.stack
   name ← called_cell s a.functions t.0
