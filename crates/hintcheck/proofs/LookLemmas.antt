@@ -15,7 +15,7 @@ use Rattle.tt_abs.specs.declared.state.State.{State}
 use Rattle.tt_abs.specs.Contexts.{FramesFit}
 use Rattle.tt_abs.specs.Entries.{Rises}
 use Rattle.tt_abs.specs.Families.{IsBelowFamily, IsGood}
-use Rattle.tt_abs.specs.FamilyLaws.{none_where_refused}
+use Rattle.tt_abs.proofs.FamilyLaws.{none_where_refused}
 use Rattle.tt_abs.specs.Ranges.{IsSettingInRange}
 use Rattle.tt_abs.specs.Settings.{setting_of}
 use Rattle.tt_abs.specs.Soundness.{IsSafe}

@@ -184,7 +184,7 @@ pub(crate) fn find_and_check(
     ensures none_good { (x : Subject) (points contours : ℕ) → IsLookedAt x setting.now → (setting_of setting.now).kind ≡ GlyphProgram points contours
         → IfErr result (λ fault. IfRefused x.name fault (λ _. HasGoodFamily x → ⊥)) }
 {
-    setting.is_within();
+    setting.range_facts();
     let found = find(alloc, finder, setting, search)?;
     match search {
         Search::BeforeWriting | Search::Writing => Ok(found),

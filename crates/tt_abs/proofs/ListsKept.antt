@@ -373,7 +373,7 @@ module _ (s : Setting) (P : List (ℕ × ℕ) → (ℕ → Cell) → Type 0)
   pub lists_kept : (fs : List Frame) (at : ℕ) (a : Abstract) (nexts : List Next) → AreProgramsShort s → IsKept a → outcome_on_cells s fs at a ≡ Ok nexts → AreKept nexts
   lists_kept fs at a nexts short h e = subst (Holds AreKept) e (next_kept fs at a short h)
 
--- No next state is too deep.
+-- No successor is too deep.
 
 within_limit : (s : Setting) (nexts : List Next) → are_within s nexts ≡ true → AllByRecursion (λ n. length n.state.stack ≤ s.limits.stack) nexts
 within_limit s [] e = tt

@@ -1,4 +1,4 @@
--- Where next states are: in programs that have fewer than 2^31 bytes, at offsets below 2^31.
+-- Where successors are: in programs that have fewer than 2^31 bytes, at offsets below 2^31.
 use Rattle.std.specs.Prelude.{ℤ, pos, negsuc, ◌+ℤ◌, ◌^◌, not, ◌||◌, Option, nat_eq, nat_lt, nat_le, if◌then◌else◌}
 use Rattle.std.specs.List.{AllByRecursion}
 use Rattle.std.proofs.Common.{◌≡◌, ℕ, zero, suc, ◌+◌, ◌-◌, ◌≤◌, ◌<◌, List, [], ◌∷◌, Ok, Some, None, refl, ◌∙◌, subst, arith, length, Bool, true, false}
@@ -106,7 +106,7 @@ body_small name h = go (nat_lt name CVT_BODIES) refl
     go true e = let lt : name < CVT_BODIES = ltb-true name CVT_BODIES e in omega arith
     go false e = let le : CVT_BODIES ≤ name = ltb-false name CVT_BODIES e in omega arith
 
--- Where the next states are.
+-- Where the successors are.
 
 abbrev pub NextFits : Next → Type 0
 NextFits n = CallsFit n.frames × (n.offset < 2 ^ 31)
@@ -246,7 +246,7 @@ next_fits : (s : Setting) (fs : List Frame) (at : ℕ) (a : Abstract) → ArePro
 unfolding outcome_on_cells
 next_fits s fs at a short calls functions = performs_fit s fs at a (instruction_of s fs at) short calls functions (ends_below s fs at short)
 
--- the next states are at offsets below 2^31, and their calls will return to such
+-- the successors are at offsets below 2^31, and their calls will return to such
 pub offsets_fit : (s : Setting) (fs : List Frame) (at : ℕ) (a : Abstract) (nexts : List Next) → AreProgramsShort s → CallsFit fs → FunctionsFit s a.functions → outcome_on_cells s fs at a ≡ Ok nexts
     → AllByRecursion NextFits nexts
 offsets_fit s fs at a nexts short calls functions e = subst (Holds AreFit) e (next_fits s fs at a short calls functions)

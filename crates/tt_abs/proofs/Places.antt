@@ -1,4 +1,4 @@
--- Where next states are: an instruction that stays in its body keeps the frames, so what it becomes runs no body twice.
+-- Where successors are: an instruction that stays in its body keeps the frames, so what it becomes runs no body twice.
 use Rattle.std.specs.Prelude.{ℤ, nat_eq, nat_lt, slice_get, ◌≤◌, not, if◌then◌else◌}
 use Rattle.std.proofs.Common.{◌≡◌, ℕ, zero, suc, ◌+◌, List, [], ◌∷◌, Ok, Err, Some, sym, ◌∙◌, ap, subst, inl, arith, length, Bool, true, false}
 use Rattle.tt_code.specs.Refusals.{Tested, ◌>>=◌, holds_or, some_or}

@@ -177,7 +177,7 @@ within_defines s functions area n offset h lt small _ = record {
         let fits : body_name s.kind offset < 2 ^ 32 = name_fits s.kind offset small in (omega arith, omega arith)
     go m body false same e = h.named m body e
 
--- The next states.
+-- The successors.
 
 pub record IsStateOf (b : Abstract) (t : State) : Type 0 where
   pub state_is : abstract_of t ≡ b

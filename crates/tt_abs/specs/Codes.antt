@@ -1,4 +1,5 @@
--- The numbers in which the stack keeps its cells. (Representation: no public clause cites them except through the stack's own view.)
+-- The numbers in which the stack keeps its cells. (Representation: no public clause cites them
+-- except through the stack's own view.)
 use Rattle.std.specs.Prelude.{ℕ, nat_eq, if◌then◌else◌, List, ◌++◌, map}
 use Rattle.std.specs.Int.{cast_signed, w16}
 use Rattle.tt_abs.specs.declared.cells.Cell.{Cell}
@@ -12,6 +13,7 @@ cell_of_code n = if nat_eq n 32768 then Unknown else Known (cast_signed w16 n)
 abbrev pub cells_of : List ℕ → List Cell
 cells_of codes = map cell_of_code codes
 
--- the cells that a stack keeps, the bottom first: cells as they are, and those of the codes above them
+-- the cells that a stack keeps, the bottom first: cells as they are, and those of the codes above
+-- them
 abbrev pub kept_cells : List Cell → List ℕ → List Cell
 kept_cells wide codes = wide ++ cells_of codes

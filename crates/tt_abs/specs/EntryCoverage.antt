@@ -1,5 +1,5 @@
--- One list of entries is below another exactly where the second covers whatever the first covers: of function lists, and of
--- storage areas.
+-- One sorted map is below another exactly where the second covers whatever the first covers: of
+-- functions, and of storage cells.
 use Rattle.std.specs.Prelude.{◌≡◌, ℕ, ℤ, pos, ◌↔◌, List, Option, None, Some}
 use Rattle.std.specs.Option.{unwrap_or}
 use Rattle.std.proofs.Common.{refl, sym, ◌∙◌, ap, subst, rules}
@@ -11,9 +11,12 @@ use Rattle.tt_abs.specs.EntryFacts.{listed-all, listed-named}
 
 -- Functions: the machine's are in any order.
 
-pub functions_below_is_coverage : (a b : List (ℕ × ℕ)) → EntriesBelow a b ↔ ((functions : List (ℕ × ℕ)) → CoversFunctions a functions → CoversFunctions b functions)
+pub functions_below_is_coverage : (a b : List (ℕ × ℕ))
+    → EntriesBelow a b
+    ↔ ((functions : List (ℕ × ℕ)) → CoversFunctions a functions → CoversFunctions b functions)
 functions_below_is_coverage a b = (
-  λ p functions covers n body named. covers n body (sym (listed-named a n) ∙ p n body (listed-named b n ∙ named)),
+  λ p functions covers n body named.
+      covers n body (sym (listed-named a n) ∙ p n body (listed-named b n ∙ named)),
   λ f n body l. listed-named a n ∙ f a (λ _ _ named. named) n body (sym (listed-named b n) ∙ l),
 )
 
@@ -25,10 +28,13 @@ zero_is_number = search rules
 one_is_number : IsNumber (pos 1)
 one_is_number = search rules
 
-covers_step : (o p : Option ℤ) (n : ℤ) → ((v : ℤ) → p ≡ Some v → o ≡ Some v) → ((v : ℤ) → o ≡ Some v → IsNumber v) → Covers (known_or_not o) n → Covers (known_or_not p) n
-covers_step o (Some v) n below range h = let P : Option ℤ → Type 0 = λ q. Covers (known_or_not q) n in subst P (below v refl) h
+covers_step : (o p : Option ℤ) (n : ℤ) → ((v : ℤ) → p ≡ Some v → o ≡ Some v)
+    → ((v : ℤ) → o ≡ Some v → IsNumber v) → Covers (known_or_not o) n → Covers (known_or_not p) n
+covers_step o (Some v) n below range h =
+    let P : Option ℤ → Type 0 = λ q. Covers (known_or_not q) n in subst P (below v refl) h
 covers_step None None n below range h = h
-covers_step (Some w) None n below range h = let N : ℤ → Type 0 = λ z. IsNumber z in subst N (sym h) (range w refl)
+covers_step (Some w) None n below range h =
+    let N : ℤ → Type 0 = λ z. IsNumber z in subst N (sym h) (range w refl)
 
 -- the area that holds the listed numbers, and this one in every other cell
 abbrev area_of : List (ℕ × ℤ) → ℤ → ℕ → ℤ
@@ -38,7 +44,8 @@ area_step : (o : Option ℤ) (z : ℤ) → IsNumber z → Covers (known_or_not o
 area_step None z h = h
 area_step (Some w) z h = refl
 
-area_is_covered : (es : List (ℕ × ℤ)) (z : ℤ) → IsNumber z → CoversStorage (storage_of es) (area_of es z)
+area_is_covered : (es : List (ℕ × ℤ)) (z : ℤ) → IsNumber z
+    → CoversStorage (storage_of es) (area_of es z)
 area_is_covered es z h i = area_step (listed es i) z h
 
 below_step : (o : Option ℤ) (v : ℤ) → unwrap_or o (pos 0) ≡ v → unwrap_or o (pos 1) ≡ v → o ≡ Some v
@@ -46,9 +53,12 @@ below_step None v zero one = cc
 below_step (Some w) v zero one = ap Some zero
 
 pub storage_below_is_coverage : (a b : List (ℕ × ℤ)) → EntriesInRange IsNumber a
-    → EntriesBelow a b ↔ ((area : ℕ → ℤ) → CoversStorage (storage_of a) area → CoversStorage (storage_of b) area)
+    → EntriesBelow a b
+    ↔ ((area : ℕ → ℤ) → CoversStorage (storage_of a) area → CoversStorage (storage_of b) area)
 storage_below_is_coverage a b range = (
-  λ p area covers i. covers_step (listed a i) (listed b i) (area i) (p i) (λ v. listed-all IsNumber a i v range.values) (covers i),
+  λ p area covers i.
+      covers_step (listed a i) (listed b i) (area i) (p i)
+      (λ v. listed-all IsNumber a i v range.values) (covers i),
   λ f n v l.
       let C : ℤ → Option ℤ → Type 0 = λ z o. Covers (known_or_not o) (area_of a z n) in
       below_step (listed a n) v

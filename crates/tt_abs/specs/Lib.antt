@@ -27,7 +27,6 @@ pub mod Ranges
 pub mod Followed
 pub mod Flows
 pub mod Families
-pub mod FamilyLaws
 pub mod StateFlow
 pub mod Lines
 pub mod Contexts

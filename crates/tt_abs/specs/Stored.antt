@@ -1,5 +1,6 @@
--- The lines of the table that store or read storage cells do so at an index that was tested, and none both changes and pushes.
--- (Representation: how the code reads an index as one of 16 bits, and in which order it works.)
+-- The lines of the table that store or read storage cells do so at an index that was tested, and
+-- none both changes and pushes. (Representation: how the code reads an index as one of 16 bits, and
+-- in which order it works.)
 use Rattle.std.specs.Prelude.{◌≡◌, ℕ, zero, suc, ◌<◌, ◌^◌, List, [], ◌∷◌, pos, Bool, true, false, ◌&&◌}
 use Rattle.tt_code.specs.Table.{Lists}
 use Rattle.tt_code.specs.Changes.{taken_at}
@@ -41,7 +42,8 @@ reads_tested os (p ∷ ps) = reads_tested os ps
 
 -- what the line stores and reads is at a tested index
 abbrev pub is_tested_line : Lists → Bool
-is_tested_line line = stores_tested line.operands line.updates && reads_tested line.operands line.pushes
+is_tested_line line =
+    stores_tested line.operands line.updates && reads_tested line.operands line.pushes
 
 -- a line changes nothing or pushes nothing
 abbrev pub changes_or_pushes : List Update → List Pushed → Bool

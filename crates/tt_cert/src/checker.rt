@@ -229,7 +229,7 @@ pub fn check_full(
     ensures exact { IsGoodFamily (setting_of setting.now) setting.now.start.now (family_of certificate.now) → IfErr result IsOutOfMemory }
     ensures first { IfErr result (Names (IsBrokenFirst (setting_of setting.now) setting.now.start.now certificate.now)) }
 {
-    setting.is_within();
+    setting.range_facts();
     certificate.is_in_order();
     check_listed(alloc, setting, Listing::Whole, certificate)
 }
@@ -252,7 +252,7 @@ pub fn check(
     ensures exact { HasGoodFilling (setting_of setting.now) setting.now.start.now (family_of certificate.now) → IfErr result IsOutOfMemory }
     ensures first { IfErr result (Names (IsFillingBrokenFirst (setting_of setting.now) setting.now.start.now certificate.now)) }
 {
-    setting.is_within();
+    setting.range_facts();
     certificate.is_in_order();
     check_listed(alloc, setting, Listing::Sparse, certificate)
 }

@@ -10,7 +10,7 @@ use Rattle.tt_code.specs.declared.reason.Reason.TheVariants.{NeverEnds}
 use Rattle.tt_abs.specs.declared.state.State.{State}
 use Rattle.tt_abs.specs.Families.{IsGood, joined, moved, started}
 use Rattle.tt_abs.specs.Lines.{Precedes}
-use Rattle.tt_abs.specs.FamilyLaws.{derived_below, derived_is, none_where_apart, none_where_refused}
+use Rattle.tt_abs.proofs.FamilyLaws.{derived_below, derived_is, none_where_apart, none_where_refused}
 use Rattle.tt_abs.specs.StateFlow.{FitsLimits, GivesState, Place, flow_of, height_of}
 use Rattle.tt_abs.specs.States.{state_laws, state_order}
 use Rattle.tt_abs.proofs.FunctionBodies.{derived_bodies}

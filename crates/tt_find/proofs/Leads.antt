@@ -7,7 +7,7 @@ use Rattle.tt_code.specs.declared.reason.Reason.TheVariants.{TooManyContexts}
 use Rattle.tt_abs.specs.declared.moves.Move.{Move}
 use Rattle.tt_abs.specs.declared.moves.Moves.{Moves}
 use Rattle.tt_abs.specs.declared.state.State.{State}
-use Rattle.tt_abs.specs.FamilyLaws.{derived_is}
+use Rattle.tt_abs.proofs.FamilyLaws.{derived_is}
 use Rattle.tt_abs.specs.Lines.{Precedes}
 use Rattle.tt_abs.specs.Moves.{frames_behind, offset_behind, ways_of}
 use Rattle.tt_abs.specs.StateFlow.{Place, flow_of, height_of}

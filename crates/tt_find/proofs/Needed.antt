@@ -7,7 +7,7 @@ use Rattle.tt_code.specs.declared.reason.Reason.{Reason}
 use Rattle.tt_code.specs.declared.reason.Reason.TheVariants.{MissingPoint, NotCovered}
 use Rattle.tt_abs.specs.declared.state.State.{State}
 use Rattle.tt_abs.specs.Families.{CoversAt, moved}
-use Rattle.tt_abs.specs.FamilyLaws.{derived_below, derived_is, none_where_refused}
+use Rattle.tt_abs.proofs.FamilyLaws.{derived_below, derived_is, none_where_refused}
 use Rattle.tt_abs.specs.Lines.{Precedes}
 use Rattle.tt_abs.specs.StateFlow.{GivesState, Place, RefusesState, flow_of, height_of}
 use Rattle.tt_abs.specs.States.{start_of, state_laws, state_order}

@@ -5,7 +5,7 @@ use Rattle.tt_code.specs.Settings.{Setting}
 use Rattle.tt_code.specs.declared.machine.Frame.{Frame}
 use Rattle.tt_abs.specs.declared.state.State.{State}
 use Rattle.tt_abs.specs.Families.{started}
-use Rattle.tt_abs.specs.FamilyLaws.{derived_height}
+use Rattle.tt_abs.proofs.FamilyLaws.{derived_height}
 use Rattle.tt_abs.specs.StateFlow.{Place, flow_of, height_of}
 use Rattle.tt_abs.specs.States.{start_of, state_laws, state_order}
 use Rattle.tt_cert.specs.Contents.{family_of, frames_at, number_of}

@@ -11,7 +11,7 @@ use Rattle.tt_code.specs.declared.reason.Reason.{Reason}
 use Rattle.tt_code.specs.declared.reason.Reason.TheVariants.{DepthMismatch, TooManyContexts}
 use Rattle.tt_abs.specs.declared.moves.Moves.{Moves}
 use Rattle.tt_abs.specs.declared.state.State.{State}
-use Rattle.tt_abs.specs.FamilyLaws.{derived_height, derived_is}
+use Rattle.tt_abs.proofs.FamilyLaws.{derived_height, derived_is}
 use Rattle.tt_abs.specs.Lines.{Precedes}
 use Rattle.tt_abs.specs.StateFlow.{IsPlace, Place, flow_of, height_of}
 use Rattle.tt_abs.specs.States.{state_laws, state_order}

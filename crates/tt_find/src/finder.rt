@@ -40,7 +40,7 @@ fn has_laws(setting: &Setting<'_>)
     ensures { HasLaws (setting_of setting.now) setting.now.start.now }
 {
     flow_laws();
-    setting.is_within();
+    setting.range_facts();
     prove!(u32::from(setting.limits.functions) < 1 << 16);
     prove!(u32::from(setting.limits.storage) < 1 << 16);
 }

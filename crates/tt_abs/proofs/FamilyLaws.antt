@@ -12,8 +12,10 @@ pub record IsDerivedAt {P S : Type 0} (o : Order S) (f : Flow P S) (p : P) (s : 
   pub in_range : o.InRange s
   pub fits : f.Fits s
 
-pub derived_is : {P S : Type 0} (o : Order S) (f : Flow P S) (h : ℕ) → FlowLaws o f h → (p : P) (s : S) → Derived o f p s → IsDerivedAt o f p s
-derived_is o f h laws p s started = record { point = laws.entry_point; in_range = laws.start_in_range; fits = laws.start_fits }
+pub derived_is : {P S : Type 0} (o : Order S) (f : Flow P S) (h : ℕ) → FlowLaws o f h
+    → (p : P) (s : S) → Derived o f p s → IsDerivedAt o f p s
+derived_is o f h laws p s started =
+    record { point = laws.entry_point; in_range = laws.start_in_range; fits = laws.start_fits }
 derived_is o f h laws p s (moved p' q s' t d free gives) =
     let k = derived_is o f h laws p' s' d in
     record {
@@ -26,11 +28,14 @@ derived_is o f h laws p s (joined p' a b c da db least) =
     record { point = k.point; in_range = least.in_range; fits = laws.fits_above a c least.left k.fits }
 
 -- a derived value can rise at most so often
-pub derived_height : {P S : Type 0} (o : Order S) (f : Flow P S) (h : ℕ) → FlowLaws o f h → (p : P) (s : S) → Derived o f p s → o.left s ≤ h
-derived_height o f h laws p s d = let k = derived_is o f h laws p s d in laws.fits_height s k.in_range k.fits
+pub derived_height : {P S : Type 0} (o : Order S) (f : Flow P S) (h : ℕ) → FlowLaws o f h
+    → (p : P) (s : S) → Derived o f p s → o.left s ≤ h
+derived_height o f h laws p s d =
+    let k = derived_is o f h laws p s d in laws.fits_height s k.in_range k.fits
 
 -- a derived value is below each good family's value at its point
-pub derived_below : {P S : Type 0} (o : Order S) (f : Flow P S) (h : ℕ) → OrderLaws o → FlowLaws o f h → (family : P → Option S) → IsGood o f family
+pub derived_below : {P S : Type 0} (o : Order S) (f : Flow P S) (h : ℕ) → OrderLaws o
+    → FlowLaws o f h → (family : P → Option S) → IsGood o f family
     → (p : P) (s : S) → Derived o f p s → CoversAt o family p s
 derived_below o f h order laws family good p s started = good.start
 derived_below o f h order laws family good p s (moved p' q s' t d free gives) =
@@ -47,7 +52,8 @@ derived_below {P} {S} o f h order laws family good p s (joined p' a b c da db le
     (u, at, least.least u (good.in_range p' u at) below (subst B same below'))
 
 -- where a derived value is refused, no family is good
-pub none_where_refused : {P S : Type 0} (o : Order S) (f : Flow P S) (h : ℕ) → OrderLaws o → FlowLaws o f h → (p : P) (s : S) (r : Reason)
+pub none_where_refused : {P S : Type 0} (o : Order S) (f : Flow P S) (h : ℕ) → OrderLaws o
+    → FlowLaws o f h → (p : P) (s : S) (r : Reason)
     → Derived o f p s → f.Refuses p s r → (family : P → Option S) → IsGood o f family → ⊥
 none_where_refused o f h order laws p s r d refused family good =
     let k = derived_is o f h laws p s d in
@@ -56,8 +62,10 @@ none_where_refused o f h order laws p s r d refused family good =
     good.safe p u r' at refused'
 
 -- where two values that are derived at one point differ in depth, no family is good
-pub none_where_apart : {P S : Type 0} (o : Order S) (f : Flow P S) (h : ℕ) → OrderLaws o → FlowLaws o f h → (p : P) (s t : S)
-    → Derived o f p s → Derived o f p t → (o.SameDepth s t → ⊥) → (family : P → Option S) → IsGood o f family → ⊥
+pub none_where_apart : {P S : Type 0} (o : Order S) (f : Flow P S) (h : ℕ) → OrderLaws o
+    → FlowLaws o f h → (p : P) (s t : S)
+    → Derived o f p s → Derived o f p t → (o.SameDepth s t → ⊥) → (family : P → Option S)
+    → IsGood o f family → ⊥
 none_where_apart {P} {S} o f h order laws p s t ds dt apart family good =
     let (u, at, below) = derived_below o f h order laws family good p s ds in
     let (v, at', below') = derived_below o f h order laws family good p t dt in
@@ -67,7 +75,8 @@ none_where_apart {P} {S} o f h order laws p s t ds dt apart family good =
     (subst D same (order.depth_symmetric t v (order.one_depth t v below'))))
 
 -- a family is good where it is fine at each point
-pub good_from_fine : {P S : Type 0} (o : Order S) (f : Flow P S) (family : P → Option S) → IsFamilyInRange o family → CoversAt o family f.entry f.start
+pub good_from_fine : {P S : Type 0} (o : Order S) (f : Flow P S) (family : P → Option S)
+    → IsFamilyInRange o family → CoversAt o family f.entry f.start
     → ((p : P) → IsFine o f family p) → IsGood o f family
 good_from_fine o f family in_range start fine = record {
   in_range = in_range;
