@@ -5,6 +5,7 @@ pub mod Maxp
 pub mod Directory
 pub mod Locations
 pub mod Components
+pub mod ComponentReads
 pub mod Glyphs
 pub mod Outlines
 pub mod Chains

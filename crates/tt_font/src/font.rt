@@ -1,11 +1,13 @@
 //! A whole font file: its limits, its programs and its glyphs (OpenType specification, "Font tables").
 
 ghost use Rattle.std.specs.Prelude.{◌≡◌, ◌+◌, ◌*◌, ◌^◌, ◌<◌, ◌≤◌, map, IfOk, OnOk};
+ghost use Rattle.tt_font.specs.ComponentReads.{HasRoom};
 ghost use Rattle.tt_font.specs.GlyphTables.{glyphs_of, outlines_in, components_in};
 ghost use Rattle.tt_font.specs.GlyphParts.{glyph_data};
 ghost use Rattle.tt_font.specs.Reading.{ReadsGlyphs};
 ghost use Rattle.tt_font.specs.Conditions.{TestsWithMemory, glyphs_fault};
 
+use crate::component::ComponentReader;
 use crate::fault::FontFault;
 use crate::glyph_part::GlyphPart;
 use crate::glyph_table::GlyphTable;
@@ -21,16 +23,16 @@ use tt_code::Limits;
 fn read_glyphs<'a>(
     alloc: Global,
     glyphs: &GlyphTable<'a>,
-    reads: &mut u64,
+    reader: &mut ComponentReader,
 ) -> Result<Vec<GlyphPart<'a>>, FontFault>
-    requires room { reads.old + 17 * components_in glyphs.now + 1 < 2 ^ 64 }
+    requires room { HasRoom reader.old (17 * components_in glyphs.now) }
     ensures fault { TestsWithMemory (glyphs_fault glyphs.now.count (glyphs_of glyphs.now) (outlines_in glyphs.now)) result }
     ensures glyphs { IfOk result (λ parts. ReadsGlyphs glyphs.now.count (glyphs_of glyphs.now) (outlines_in glyphs.now) (map glyph_data parts.items)) }
-    ensures at_least { OnOk result (reads.old + components_in glyphs.now ≤ reads.new) }
-    ensures at_most { OnOk result (reads.new ≤ reads.old + 17 * components_in glyphs.now) }
+    ensures at_least { OnOk result (reader.old.reads + components_in glyphs.now ≤ reader.new.reads) }
+    ensures at_most { OnOk result (reader.new.reads ≤ reader.old.reads + 17 * components_in glyphs.now) }
 {
-    let programs = read_programs(alloc, glyphs, reads)?;
-    let table = sum_up(alloc, glyphs, reads)?;
+    let programs = read_programs(alloc, glyphs, reader)?;
+    let table = sum_up(alloc, glyphs, reader)?;
     put_together(alloc, &programs, &table, glyphs.count)
 }
 
@@ -94,15 +96,15 @@ impl<'a> Font<'a> {
         ensures memory { IfErr result (λ fault. IsOutOfMemory fault → tables_fault bytes.now ≡ None) }
     {
         let tables = Tables::read(bytes)?;
-        let mut component_reads = 0;
-        let glyphs = read_glyphs(alloc, &tables.glyphs, &mut component_reads)?;
+        let mut reader = ComponentReader::new();
+        let glyphs = read_glyphs(alloc, &tables.glyphs, &mut reader)?;
         Ok(Font {
             limits: tables.limits,
             cvt_count: tables.cvt_count,
             fpgm: tables.fpgm,
             prep: tables.prep,
             glyphs,
-            component_reads,
+            component_reads: reader.reads(),
         })
     }
 

@@ -1,11 +1,13 @@
 //! The programs of all glyphs (OpenType specification, `glyf`).
 
-ghost use Rattle.std.specs.Prelude.{◌≡◌, ℕ, ◌+◌, ◌^◌, ◌<◌, ◌≤◌, length, map, IfOk, IfErr, alloc_error};
+ghost use Rattle.std.specs.Prelude.{◌≡◌, ℕ, ◌+◌, ◌^◌, ◌<◌, ◌≤◌, length, map, IfOk, IfErr, OnOk, alloc_error};
+ghost use Rattle.tt_font.specs.ComponentReads.{HasRoom, HasCounted};
 ghost use Rattle.tt_font.specs.Rounds.{row};
 ghost use Rattle.tt_font.specs.GlyphTables.{glyphs_of, components_in};
 ghost use Rattle.tt_font.specs.GlyphParts.{glyph_data, bytes_of, ProgramsAre, PartsAre};
 ghost use Rattle.tt_font.specs.Conditions.{TestsWithMemory, glyph_fault};
 
+use crate::component::ComponentReader;
 use crate::fault::FontFault;
 use crate::glyph::read_glyph_program;
 use crate::glyph_part::GlyphPart;
@@ -17,16 +19,16 @@ use std::alloc::Global;
 pub(crate) fn read_programs<'a>(
     alloc: Global,
     glyphs: &GlyphTable<'a>,
-    reads: &mut u64,
+    reader: &mut ComponentReader,
 ) -> Result<Vec<&'a [u8]>, FontFault>
-    requires room { reads.old + components_in glyphs.now + 1 < 2 ^ 64 }
+    requires room { HasRoom reader.old (components_in glyphs.now) }
     ensures fault { TestsWithMemory (glyph_fault glyphs.now.count (glyphs_of glyphs.now)) result }
     ensures programs { IfOk result (λ programs. ProgramsAre (glyphs_of glyphs.now) glyphs.now.count (map bytes_of programs.items)) }
-    ensures counted { IfOk result (λ _. reads.new ≡ reads.old + components_in glyphs.now) }
+    ensures counted { OnOk result (HasCounted reader.old reader.new (components_in glyphs.now)) }
 {
     let mut programs = Vec::with_capacity(alloc, usize::from(glyphs.count))?;
     for id in 0..glyphs.count {
-        let Some(program) = read_glyph_program(glyphs.glyph(id), reads) else {
+        let Some(program) = read_glyph_program(glyphs.glyph(id), reader) else {
             return Err(FontFault::GlyphTruncated(id));
         };
         programs.push(program)?;

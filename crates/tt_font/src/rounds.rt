@@ -3,11 +3,13 @@
 
 ghost use Rattle.std.specs.Prelude.{◌≡◌, ℕ, [], ◌+◌, ◌*◌, ◌^◌, ◌<◌, ◌≤◌, length, IfOk, IfErr, OnOk, IsTrue, ◌↔◌, alloc_error};
 ghost use Rattle.tt_font.specs.Numbers.{first_below};
+ghost use Rattle.tt_font.specs.ComponentReads.{HasRoom, HasCounted};
 ghost use Rattle.tt_font.specs.CompositeLists.{AreComposites, AgreeOnSimple};
 ghost use Rattle.tt_font.specs.Rounds.{row, NextRows, TableIs, row_refuses, IsSummed};
 ghost use Rattle.tt_font.specs.GlyphTables.{glyphs_of, outlines_in, components_in, AreWhole};
 ghost use Rattle.tt_font.specs.Conditions.{TestsWithMemory, composite_fault};
 
+use crate::component::ComponentReader;
 use crate::fault::FontFault;
 use crate::glyph_table::GlyphTable;
 use crate::sums::{Sum, add_up};
@@ -46,18 +48,18 @@ fn take_round(
     composites: &[u16],
     table: &[Sum],
     next: &mut [Sum],
-    reads: &mut u64,
+    reader: &mut ComponentReader,
 )
     requires composites { AreComposites (glyphs_of glyphs.now) glyphs.now.count composites.now }
     requires simple { AgreeOnSimple (glyphs_of glyphs.now) glyphs.now.count table.now next.old }
     requires points { (id : ℕ) → (row table.now id).points ≤ 65536 }
     requires contours { (id : ℕ) → (row table.now id).contours ≤ 65536 }
-    requires room { reads.old + components_in glyphs.now + 1 < 2 ^ 64 }
+    requires room { HasRoom reader.old (components_in glyphs.now) }
     ensures table { NextRows (outlines_in glyphs.now) table.now glyphs.now.count next.new }
-    ensures counted { reads.new ≡ reads.old + components_in glyphs.now }
+    ensures counted { HasCounted reader.old reader.new (components_in glyphs.now) }
 {
     for id in composites {
-        next[usize::from(*id)] = add_up(table, glyphs.glyph(*id), reads);
+        next[usize::from(*id)] = add_up(table, glyphs.glyph(*id), reader);
     }
 }
 
@@ -83,12 +85,16 @@ fn is_same(a: &[Sum], b: &[Sum]) -> bool
 
 /// Makes the table after the last round. Each round takes the sums over one more step of the chains of components; where one
 /// changes nothing, those after it would change nothing either.
-fn last_table(alloc: Global, glyphs: &GlyphTable, reads: &mut u64) -> Result<Vec<Sum>, FontFault>
+fn last_table(
+    alloc: Global,
+    glyphs: &GlyphTable,
+    reader: &mut ComponentReader,
+) -> Result<Vec<Sum>, FontFault>
     requires whole { AreWhole glyphs.now }
-    requires room { reads.old + 16 * components_in glyphs.now + 1 < 2 ^ 64 }
+    requires room { HasRoom reader.old (16 * components_in glyphs.now) }
     ensures table { IfOk result (λ table. TableIs glyphs.now.count (outlines_in glyphs.now) 16 table.items) }
-    ensures at_least { OnOk result (reads.old ≤ reads.new) }
-    ensures at_most { OnOk result (reads.new ≤ reads.old + 16 * components_in glyphs.now) }
+    ensures at_least { OnOk result (reader.old.reads ≤ reader.new.reads) }
+    ensures at_most { OnOk result (reader.new.reads ≤ reader.old.reads + 16 * components_in glyphs.now) }
     ensures memory { IfErr result (λ fault. fault ≡ FontFault.OutOfMemory alloc_error) }
 {
     let mut composites = Vec::new(alloc);
@@ -98,7 +104,7 @@ fn last_table(alloc: Global, glyphs: &GlyphTable, reads: &mut u64) -> Result<Vec
     }
     let mut next = Vec::from_slice(alloc, &table)?;
     for _ in 0..STEPS {
-        take_round(glyphs, &composites, &table, &mut next, reads);
+        take_round(glyphs, &composites, &table, &mut next, reader);
         if is_same(&next, &table) {
             return Ok(table);
         }
@@ -111,17 +117,17 @@ fn last_table(alloc: Global, glyphs: &GlyphTable, reads: &mut u64) -> Result<Vec
 pub(crate) fn sum_up(
     alloc: Global,
     glyphs: &GlyphTable,
-    reads: &mut u64,
+    reader: &mut ComponentReader,
 ) -> Result<Vec<Sum>, FontFault>
     requires whole { AreWhole glyphs.now }
-    requires room { reads.old + 16 * components_in glyphs.now + 1 < 2 ^ 64 }
+    requires room { HasRoom reader.old (16 * components_in glyphs.now) }
     ensures fault { TestsWithMemory (composite_fault glyphs.now.count (outlines_in glyphs.now)) result }
     ensures table { IfOk result (λ table. IsSummed (outlines_in glyphs.now) glyphs.now.count table.items) }
     ensures len { IfOk result (λ table. length table.items ≡ glyphs.now.count) }
-    ensures at_least { OnOk result (reads.old ≤ reads.new) }
-    ensures at_most { OnOk result (reads.new ≤ reads.old + 16 * components_in glyphs.now) }
+    ensures at_least { OnOk result (reader.old.reads ≤ reader.new.reads) }
+    ensures at_most { OnOk result (reader.new.reads ≤ reader.old.reads + 16 * components_in glyphs.now) }
 {
-    let table = last_table(alloc, glyphs, reads)?;
+    let table = last_table(alloc, glyphs, reader)?;
     match first_refused(&table, glyphs.count) {
         Some(id) => Err(FontFault::Composite(id)),
         None => Ok(table),

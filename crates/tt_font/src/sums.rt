@@ -3,9 +3,10 @@
 
 ghost use Rattle.std.specs.Prelude.{◌≡◌, ℕ, ◌+◌, ◌^◌, ◌<◌, ◌≤◌, length, min};
 ghost use Rattle.tt_font.specs.Components.{components, glyphs_named};
+ghost use Rattle.tt_font.specs.ComponentReads.{HasRoom, HasCounted};
 ghost use Rattle.tt_font.specs.Rounds.{row, AddsUp};
 
-use crate::component::{Component, HEADER};
+use crate::component::{ComponentReader, HEADER};
 use crate::glyph::{is_composite, simple_contours, simple_points};
 
 /// One more than the greatest number of points, and of contours, that a glyph may have.
@@ -102,17 +103,17 @@ impl Sum {
 }
 
 /// Adds up a glyph's components, by the table of the round before.
-pub(crate) fn add_up(table: &[Sum], glyph: &[u8], reads: &mut u64) -> Sum
+pub(crate) fn add_up(table: &[Sum], glyph: &[u8], reader: &mut ComponentReader) -> Sum
     requires points { (id : ℕ) → (row table.now id).points ≤ 65536 }
     requires contours { (id : ℕ) → (row table.now id).contours ≤ 65536 }
     requires small { length glyph.now < 2 ^ 32 }
-    requires room { reads.old + length (components glyph.now) + 1 < 2 ^ 64 }
+    requires room { HasRoom reader.old (length (components glyph.now)) }
     ensures sum { AddsUp table.now (glyphs_named (components glyph.now)) result }
-    ensures counted { reads.new ≡ reads.old + length (components glyph.now) }
+    ensures counted { HasCounted reader.old reader.new (length (components glyph.now)) }
 {
     let mut sum = EMPTY;
     let mut place = HEADER;
-    while let Some(component) = Component::read(glyph, place, reads) {
+    while let Some(component) = reader.read(glyph, place) {
         sum = sum.plus(Sum::of(table, component.glyph));
         if !component.has_more() {
             return sum;

@@ -9,5 +9,5 @@ abbrev pub invariant-loop : goal.invariant-loop
 invariant-loop l = record {
   table : TableIs l.glyphs.count (outlines_in l.glyphs) l.counter l.table.items;
   simple : AgreeOnSimple (glyphs_of l.glyphs) l.glyphs.count l.table.items l.next.items;
-  counted : l.reads ≡ l.fn.reads + l.counter * component_total (glyphs_of l.glyphs) l.glyphs.count;
+  counted : l.reader.reads ≡ l.fn.reader.reads + l.counter * component_total (glyphs_of l.glyphs) l.glyphs.count;
 }

@@ -25,9 +25,9 @@ bounds-next-from c =
 pub loop-id-preserved : goal.loop-id-preserved
 loop-id-preserved c =
     let adds = subst (λ glyph. AddsUp c.args.table.now (glyphs_named (components glyph)) c.add_up.result) c.glyph.ensures.bytes c.add_up.ensures.sum in
-    let counted = c.add_up.ensures.counted ∙ ap (λ glyph. c.loop-id.reads + length (components glyph)) c.glyph.ensures.bytes in
-    let G : ℕ → Type 0 = λ at. GoesRound (glyphs_of c.args.glyphs.now) c.args.glyphs.now.count c.args.table.now c.args.reads.now
-    (drop (c.loop-id.id-index + 1) c.args.composites.now) (slice_set c.loop-id.next at c.add_up.result) c.add_up.new.reads in
+    let counted = c.add_up.ensures.counted ∙ ap (λ glyph. c.loop-id.reader.reads + length (components glyph)) c.glyph.ensures.bytes in
+    let G : ℕ → Type 0 = λ at. GoesRound (glyphs_of c.args.glyphs.now) c.args.glyphs.now.count c.args.table.now c.args.reader.now.reads
+    (drop (c.loop-id.id-index + 1) c.args.composites.now) (slice_set c.loop-id.next at c.add_up.result) c.add_up.new.reader.reads in
     subst G (sym c.from.ensures) (round_more _ _ _ _ _ _ _ _ _ _ c.loop-id.invariant c.loop-id-test.true adds counted)
 
 pub returns-clause-table : goal.returns-clause-table

@@ -6,7 +6,7 @@ use Rattle.tt_font.proofs.sums.add_up.Given as goal
 abbrev pub invariant-loop-component : goal.invariant-loop-component
 invariant-loop-component l = record {
   sum : AddsOn l.table (glyphs_named (components l.glyph)) (glyphs_named (components_at l.place l.glyph)) l.sum;
-  counted : l.reads + length (components_at l.place l.glyph) ≡ l.fn.reads + length (components l.glyph);
+  counted : l.reader.reads + length (components_at l.place l.glyph) ≡ l.fn.reader.reads + length (components l.glyph);
   near : l.place ≤ 10 + length l.glyph;
 }
 

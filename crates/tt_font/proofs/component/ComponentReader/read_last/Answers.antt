@@ -1,7 +1,7 @@
 use Rattle.std.proofs.Common.{◌≡◌, length, arith, rules, sym, ap, ◌∙◌, true, false, []}
 use Rattle.tt_font.specs.Components.{components_at, has_more, last_of}
 use Rattle.tt_font.proofs.ComponentLists.{none_is_there, one_is_there, more_are_there, last_is, last_goes_on}
-use Rattle.tt_font.proofs.component.Component.last.Goals as goal
+use Rattle.tt_font.proofs.component.ComponentReader.read_last.Goals as goal
 
 pub returns-then-not-has_more-clause-last : goal.returns-then-not-has_more-clause-last
 returns-then-not-has_more-clause-last c =
