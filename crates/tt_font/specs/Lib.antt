@@ -9,7 +9,7 @@ pub mod ComponentReads
 pub mod Glyphs
 pub mod Outlines
 pub mod Chains
-pub mod Rounds
+pub mod OutlineSizes
 pub mod Conditions
 pub mod GlyphTables
 pub mod Files

@@ -68,7 +68,7 @@ pub(crate) struct ComponentReader {
 impl ComponentReader {
     ghost use Rattle.std.specs.Prelude.{◌≡◌, ℕ, ◌+◌, ◌^◌, ◌<◌, ◌≤◌, length, is_some, IfSome, if◌then◌else◌};
     ghost use Rattle.tt_font.specs.Components.{component_at, components, last_of};
-    ghost use Rattle.tt_font.specs.ComponentReads.{HasRoom, HasCounted};
+    ghost use Rattle.tt_font.specs.ComponentReads.{HasRoom, HasRead};
 
     /// Makes a reader that has read nothing.
     pub(crate) fn new() -> ComponentReader
@@ -93,7 +93,7 @@ impl ComponentReader {
         ensures component { result ≡ component_at place glyph.now }
         ensures within { IfSome result (λ component. component.after ≤ length glyph.now) }
         ensures behind { IfSome result (λ component. place < component.after) }
-        ensures counted { HasCounted self.old self.new (if is_some result then 1 else 0) }
+        ensures counted { HasRead self.old self.new (if is_some result then 1 else 0) }
     {
         if glyph.len() < place + 4 {
             return None;
@@ -118,7 +118,7 @@ impl ComponentReader {
         requires room { HasRoom self.old (length (components glyph.now)) }
         ensures last { result ≡ last_of (components glyph.now) }
         ensures within { IfSome result (λ component. component.after ≤ length glyph.now) }
-        ensures counted { HasCounted self.old self.new (length (components glyph.now)) }
+        ensures counted { HasRead self.old self.new (length (components glyph.now)) }
     {
         let mut place = HEADER;
         while let Some(component) = self.read(glyph, place) {

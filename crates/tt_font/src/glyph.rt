@@ -3,7 +3,7 @@
 ghost use Rattle.std.specs.Prelude.{◌≡◌, ◌+◌, ◌*◌, ◌^◌, ◌<◌, ◌≤◌, length, is_some, true, false};
 ghost use Rattle.std.specs.Option.{option_map};
 ghost use Rattle.tt_font.specs.Components.{components, last_of};
-ghost use Rattle.tt_font.specs.ComponentReads.{HasRoom, HasCounted};
+ghost use Rattle.tt_font.specs.ComponentReads.{HasRoom, HasRead};
 ghost use Rattle.tt_font.specs.Glyphs.{is_composite, component_count, program_at, simple_program, composite_program, program_of, simple_points, simple_contours};
 
 use crate::component::{ComponentReader, HEADER};
@@ -47,7 +47,7 @@ fn read_composite_program<'a>(glyph: &'a [u8], reader: &mut ComponentReader) -> 
     requires room { HasRoom reader.old (length (components glyph.now)) }
     ensures program { option_map (λ program. program.now) result
         ≡ composite_program glyph.now (last_of (components glyph.now)) }
-    ensures counted { HasCounted reader.old reader.new (length (components glyph.now)) }
+    ensures counted { HasRead reader.old reader.new (length (components glyph.now)) }
 {
     let last = reader.read_last(glyph)?;
     if last.has_instructions() {
@@ -73,7 +73,7 @@ pub(crate) fn read_glyph_program<'a>(
     requires small { length glyph.now < 2 ^ 32 }
     requires room { HasRoom reader.old (component_count glyph.now) }
     ensures program { option_map (λ program. program.now) result ≡ program_of glyph.now }
-    ensures counted { HasCounted reader.old reader.new (component_count glyph.now) }
+    ensures counted { HasRead reader.old reader.new (component_count glyph.now) }
 {
     if is_composite(glyph) {
         read_composite_program(glyph, reader)

@@ -1,12 +1,12 @@
 use Rattle.std.proofs.Common.{◌≡◌, sym, ap, arith, rules, true, false}
 use Rattle.tt_font.specs.Glyphs.{is_composite}
 use Rattle.tt_font.specs.Outlines.{own_points, own_contours}
-use Rattle.tt_font.specs.Rounds.{has_parts}
+use Rattle.tt_font.specs.OutlineSizes.{has_parts}
 use Rattle.tt_font.proofs.OutlineLemmas.{outline_is_simple, outline_is_composite, composite_has_parts}
-use Rattle.tt_font.proofs.sums.Sum.own.Goals as goal
+use Rattle.tt_font.proofs.outline_size.OutlineSize.own.Goals as goal
 
-pub returns-then-is_composite-clause-bad : goal.returns-then-is_composite-clause-bad
-returns-then-is_composite-clause-bad c =
+pub returns-then-is_composite-clause-unresolved : goal.returns-then-is_composite-clause-unresolved
+returns-then-is_composite-clause-unresolved c =
     sym (composite_has_parts c.args.glyph.now (let is : is_composite c.args.glyph.now ≡ true = search rules in is) c.requires)
 
 pub returns-then-is_composite-clause-points : goal.returns-then-is_composite-clause-points
@@ -17,8 +17,8 @@ pub returns-then-is_composite-clause-contours : goal.returns-then-is_composite-c
 returns-then-is_composite-clause-contours c =
     let none = ap own_contours (outline_is_composite c.args.glyph.now (let is : is_composite c.args.glyph.now ≡ true = search rules in is)) in omega arith
 
-pub returns-clause-bad : goal.returns-clause-bad
-returns-clause-bad c = sym (ap has_parts (outline_is_simple c.args.glyph.now (let is : is_composite c.args.glyph.now ≡ false = search rules in is)))
+pub returns-clause-unresolved : goal.returns-clause-unresolved
+returns-clause-unresolved c = sym (ap has_parts (outline_is_simple c.args.glyph.now (let is : is_composite c.args.glyph.now ≡ false = search rules in is)))
 
 pub returns-clause-points : goal.returns-clause-points
 returns-clause-points c =

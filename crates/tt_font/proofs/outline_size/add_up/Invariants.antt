@@ -1,11 +1,11 @@
 use Rattle.std.proofs.Common.{◌≡◌, ◌+◌, ◌-◌, ◌≤◌, length}
 use Rattle.tt_font.specs.Components.{components, components_at, glyphs_named}
 use Rattle.tt_font.proofs.Adding.{AddsOn}
-use Rattle.tt_font.proofs.sums.add_up.Given as goal
+use Rattle.tt_font.proofs.outline_size.add_up.Given as goal
 
 abbrev pub invariant-loop-component : goal.invariant-loop-component
 invariant-loop-component l = record {
-  sum : AddsOn l.table (glyphs_named (components l.glyph)) (glyphs_named (components_at l.place l.glyph)) l.sum;
+  sum : AddsOn l.sizes (glyphs_named (components l.glyph)) (glyphs_named (components_at l.place l.glyph)) l.sum;
   counted : l.reader.reads + length (components_at l.place l.glyph) ≡ l.fn.reader.reads + length (components l.glyph);
   near : l.place ≤ 10 + length l.glyph;
 }
