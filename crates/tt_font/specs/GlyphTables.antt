@@ -1,9 +1,10 @@
--- The glyphs of a table as the code has it. (Representation.)
+-- The glyphs of a table as the code has it, and their faults. (Representation.)
 use Rattle.std.specs.Prelude.{◌≡◌, ℕ, ◌<◌, List, true, is_some}
 use Rattle.tt_font.specs.declared.glyph_table.GlyphTable.{GlyphTable}
 use Rattle.tt_font.specs.Locations.{glyph_bytes}
 use Rattle.tt_font.specs.Glyphs.{program_of, component_total}
 use Rattle.tt_font.specs.Outlines.{Outline, outlines_of}
+use Rattle.tt_font.specs.Conditions.{Condition, glyph_fault, composite_fault, glyphs_fault}
 
 -- the bytes of each glyph
 abbrev pub glyphs_of : GlyphTable → ℕ → List ℕ
@@ -20,3 +21,15 @@ components_in table = component_total (glyphs_of table) table.count
 -- the bytes of each glyph are there
 abbrev pub AreWhole : GlyphTable → Type 0
 AreWhole table = (id : ℕ) → id < table.count → is_some (program_of (glyphs_of table id)) ≡ true
+
+-- a glyph's bytes end too early
+abbrev pub truncated_in : GlyphTable → Condition
+truncated_in table = glyph_fault table.count (glyphs_of table)
+
+-- a glyph is refused by its components, points or contours
+abbrev pub refused_in : GlyphTable → Condition
+refused_in table = composite_fault table.count (outlines_in table)
+
+-- one of both
+abbrev pub fault_in : GlyphTable → Condition
+fault_in table = glyphs_fault table.count (glyphs_of table) (outlines_in table)

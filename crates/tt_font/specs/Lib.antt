@@ -5,10 +5,11 @@ pub mod Maxp
 pub mod Directory
 pub mod Locations
 pub mod Components
+pub mod ComponentReads
 pub mod Glyphs
 pub mod Outlines
 pub mod Chains
-pub mod Rounds
+pub mod OutlineSizes
 pub mod Conditions
 pub mod GlyphTables
 pub mod Files

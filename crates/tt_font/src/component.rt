@@ -1,6 +1,7 @@
-//! The components of composite glyphs (OpenType specification, `glyf`, "Composite glyph description").
+//! The components of composite glyphs, and the reader that counts how often they are read (OpenType
+//! specification, `glyf`, "Composite glyph description").
 
-ghost use Rattle.std.specs.Prelude.{◌≡◌, ℕ, ◌+◌, ◌^◌, ◌<◌, ◌≤◌, length, is_some, IfSome, if◌then◌else◌};
+ghost use Rattle.std.specs.Prelude.{◌≡◌, ◌≤◌};
 ghost use Rattle.tt_font.specs.Components.{component_size};
 
 use crate::numbers::u16_at;
@@ -8,7 +9,8 @@ use crate::numbers::u16_at;
 /// How many bytes the header of a glyph has.
 pub(crate) const HEADER: usize = 10;
 
-/// One of the glyphs of which a composite glyph is made (OpenType specification, `glyf`, "Composite glyph description").
+/// One of the glyphs of which a composite glyph is made (OpenType specification, `glyf`, "Composite
+/// glyph description").
 #[derive(Clone, Copy, Debug, PartialEq, Eq)]
 pub(crate) struct Component {
     pub(crate) flags: u16,
@@ -39,34 +41,8 @@ fn size_of(flags: u16) -> usize
 }
 
 impl Component {
-    ghost use Rattle.std.specs.Prelude.{◌≡◌, ℕ, ◌+◌, ◌^◌, ◌<◌, ◌≤◌, length, is_some, IfSome, if◌then◌else◌};
-    ghost use Rattle.tt_font.specs.Components.{component_at, has_more, has_instructions, components, last_of};
-
-    /// Reads the component at a place of a glyph, where its bytes are there, and counts it. No other function reads a component.
-    #[tactic(auto, unfolding(crate::specs::Components::component_at), using(crate::proofs::ComponentLists::size_is_least))]
-    pub(crate) fn read(glyph: &[u8], place: usize, reads: &mut u64) -> Option<Component>
-        requires place { place < 2 ^ 33 }
-        requires room { reads.old + 1 < 2 ^ 64 }
-        ensures component { result ≡ component_at place glyph.now }
-        ensures within { IfSome result (λ component. component.after ≤ length glyph.now) }
-        ensures behind { IfSome result (λ component. place < component.after) }
-        ensures counted { reads.new ≡ reads.old + (if is_some result then 1 else 0) }
-    {
-        if glyph.len() < place + 4 {
-            return None;
-        }
-        let flags = u16_at(glyph, place);
-        let after = place + size_of(flags);
-        if glyph.len() < after {
-            return None;
-        }
-        *reads += 1;
-        Some(Component {
-            flags,
-            glyph: u16_at(glyph, place + 2),
-            after,
-        })
-    }
+    ghost use Rattle.std.specs.Prelude.{◌≡◌};
+    ghost use Rattle.tt_font.specs.Components.{has_more, has_instructions};
 
     /// Whether another component follows.
     pub(crate) fn has_more(&self) -> bool
@@ -81,17 +57,71 @@ impl Component {
     {
         self.flags & 0x0100 != 0
     }
+}
 
-    /// Reads the components of a glyph up to the last one, and returns that one, where the bytes of all of them are there.
-    pub(crate) fn last(glyph: &[u8], reads: &mut u64) -> Option<Component>
+/// Reads the components of glyphs, and counts how often it does.
+#[derive(Debug, Drop)]
+pub(crate) struct ComponentReader {
+    reads: u64,
+}
+
+impl ComponentReader {
+    ghost use Rattle.std.specs.Prelude.{◌≡◌, ℕ, ◌+◌, ◌^◌, ◌<◌, ◌≤◌, length, is_some, IfSome, if◌then◌else◌};
+    ghost use Rattle.tt_font.specs.Components.{component_at, components, last_of};
+    ghost use Rattle.tt_font.specs.ComponentReads.{HasRoom, HasRead};
+
+    /// Makes a reader that has read nothing.
+    pub(crate) fn new() -> ComponentReader
+        ensures { result.reads ≡ 0 }
+    {
+        ComponentReader { reads: 0 }
+    }
+
+    /// Returns how many components have been read, each time counted.
+    pub(crate) fn reads(&self) -> u64
+        ensures { result ≡ self.now.reads }
+    {
+        self.reads
+    }
+
+    /// Reads the component at a place of a glyph, where its bytes are there, and counts it. No other
+    /// function reads a component.
+    #[tactic(auto, unfolding(crate::specs::Components::component_at), using(crate::proofs::ComponentLists::size_is_least))]
+    pub(crate) fn read(&mut self, glyph: &[u8], place: usize) -> Option<Component>
+        requires place { place < 2 ^ 33 }
+        requires room { HasRoom self.old 0 }
+        ensures component { result ≡ component_at place glyph.now }
+        ensures within { IfSome result (λ component. component.after ≤ length glyph.now) }
+        ensures behind { IfSome result (λ component. place < component.after) }
+        ensures counted { HasRead self.old self.new (if is_some result then 1 else 0) }
+    {
+        if glyph.len() < place + 4 {
+            return None;
+        }
+        let flags = u16_at(glyph, place);
+        let after = place + size_of(flags);
+        if glyph.len() < after {
+            return None;
+        }
+        self.reads += 1;
+        Some(Component {
+            flags,
+            glyph: u16_at(glyph, place + 2),
+            after,
+        })
+    }
+
+    /// Reads the components of a glyph up to the last one, and returns that one, where the bytes of
+    /// all of them are there.
+    pub(crate) fn read_last(&mut self, glyph: &[u8]) -> Option<Component>
         requires small { length glyph.now < 2 ^ 32 }
-        requires room { reads.old + length (components glyph.now) + 1 < 2 ^ 64 }
+        requires room { HasRoom self.old (length (components glyph.now)) }
         ensures last { result ≡ last_of (components glyph.now) }
         ensures within { IfSome result (λ component. component.after ≤ length glyph.now) }
-        ensures counted { reads.new ≡ reads.old + length (components glyph.now) }
+        ensures counted { HasRead self.old self.new (length (components glyph.now)) }
     {
         let mut place = HEADER;
-        while let Some(component) = Component::read(glyph, place, reads) {
+        while let Some(component) = self.read(glyph, place) {
             if !component.has_more() {
                 return Some(component);
             }

@@ -1,37 +1,44 @@
-//! A whole font file: its limits, its programs and its glyphs (OpenType specification, "Font tables").
+//! A whole font file: its limits, its programs and its glyphs (OpenType specification, "Font
+//! tables").
 
-ghost use Rattle.std.specs.Prelude.{◌≡◌, ◌+◌, ◌*◌, ◌^◌, ◌<◌, ◌≤◌, map, IfOk, OnOk};
-ghost use Rattle.tt_font.specs.GlyphTables.{glyphs_of, outlines_in, components_in};
-ghost use Rattle.tt_font.specs.GlyphParts.{glyph_data};
-ghost use Rattle.tt_font.specs.Reading.{ReadsGlyphs};
-ghost use Rattle.tt_font.specs.Conditions.{TestsWithMemory, glyphs_fault};
+ghost use Rattle.std.specs.Prelude.{◌≡◌, ◌*◌, IfOk, OnOk};
+ghost use Rattle.tt_font.specs.ComponentReads.{HasRoom, HasReadAtLeast, HasReadAtMost};
+ghost use Rattle.tt_font.specs.GlyphTables.{components_in, fault_in};
+ghost use Rattle.tt_font.specs.GlyphParts.{AreRead};
+ghost use Rattle.tt_font.specs.Conditions.{TestsWithMemory};
 
+use crate::component::ComponentReader;
 use crate::fault::FontFault;
 use crate::glyph_part::GlyphPart;
 use crate::glyph_table::GlyphTable;
+use crate::iteration::outline_sizes;
 use crate::programs::{put_together, read_programs};
-use crate::rounds::sum_up;
 use crate::tables::Tables;
 use std::alloc::Global;
 use std::marker::Model;
 use tt_code::Limits;
 
-/// Reads the glyphs of a font, and counts how often a component was read for them.
+/// Reads the glyphs of a font.
+///
+/// # Errors
+///
+/// `GlyphTruncated` with the first glyph whose bytes end too early; else `Composite` with the first
+/// glyph that is refused; or `OutOfMemory`.
 #[tactic(auto, unfolding(crate::specs::Conditions::glyphs_fault))]
 fn read_glyphs<'a>(
     alloc: Global,
     glyphs: &GlyphTable<'a>,
-    reads: &mut u64,
+    reader: &mut ComponentReader,
 ) -> Result<Vec<GlyphPart<'a>>, FontFault>
-    requires room { reads.old + 17 * components_in glyphs.now + 1 < 2 ^ 64 }
-    ensures fault { TestsWithMemory (glyphs_fault glyphs.now.count (glyphs_of glyphs.now) (outlines_in glyphs.now)) result }
-    ensures glyphs { IfOk result (λ parts. ReadsGlyphs glyphs.now.count (glyphs_of glyphs.now) (outlines_in glyphs.now) (map glyph_data parts.items)) }
-    ensures at_least { OnOk result (reads.old + components_in glyphs.now ≤ reads.new) }
-    ensures at_most { OnOk result (reads.new ≤ reads.old + 17 * components_in glyphs.now) }
+    requires room { HasRoom reader.old (17 * components_in glyphs.now) }
+    ensures fault { TestsWithMemory (fault_in glyphs.now) result }
+    ensures glyphs { IfOk result (λ parts. AreRead glyphs.now parts.items) }
+    ensures at_least { OnOk result (HasReadAtLeast reader.old reader.new (components_in glyphs.now)) }
+    ensures at_most { OnOk result (HasReadAtMost reader.old reader.new (17 * components_in glyphs.now)) }
 {
-    let programs = read_programs(alloc, glyphs, reads)?;
-    let table = sum_up(alloc, glyphs, reads)?;
-    put_together(alloc, &programs, &table, glyphs.count)
+    let programs = read_programs(alloc, glyphs, reader)?;
+    let sizes = outline_sizes(alloc, glyphs, reader)?;
+    put_together(alloc, &programs, &sizes, glyphs.count)
 }
 
 /// A font file, read: the limits of its programs, and its programs as slices of the file (OpenType specification, "Font tables").
@@ -91,18 +98,19 @@ impl<'a> Font<'a> {
         ensures fault { TestsWithMemory (font_fault bytes.now) result }
         ensures reads { IfOk result (λ font. Reads bytes.now font) }
         ensures components { IfOk result (λ font. ReadsComponents bytes.now font) }
-        ensures memory { IfErr result (λ fault. IsOutOfMemory fault → tables_fault bytes.now ≡ None) }
+        ensures memory { IfErr result (λ fault. IsOutOfMemory fault
+            → tables_fault bytes.now ≡ None) }
     {
         let tables = Tables::read(bytes)?;
-        let mut component_reads = 0;
-        let glyphs = read_glyphs(alloc, &tables.glyphs, &mut component_reads)?;
+        let mut reader = ComponentReader::new();
+        let glyphs = read_glyphs(alloc, &tables.glyphs, &mut reader)?;
         Ok(Font {
             limits: tables.limits,
             cvt_count: tables.cvt_count,
             fpgm: tables.fpgm,
             prep: tables.prep,
             glyphs,
-            component_reads,
+            component_reads: reader.reads(),
         })
     }
 

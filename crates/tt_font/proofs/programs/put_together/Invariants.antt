@@ -3,4 +3,4 @@ use Rattle.tt_font.specs.GlyphParts.{glyph_data, bytes_of, PartsAre}
 use Rattle.tt_font.proofs.programs.put_together.Given as goal
 
 abbrev pub invariant-loop-id : goal.invariant-loop-id
-invariant-loop-id l = PartsAre (map bytes_of l.programs) l.table l.id (map glyph_data l.glyphs.items)
+invariant-loop-id l = PartsAre (map bytes_of l.programs) l.sizes l.id (map glyph_data l.glyphs.items)

@@ -52,4 +52,4 @@ returns-clause-counted c =
     let test = c.loop-id-test.false in
     let end = c.loop-id.auto.id-end in
     let last : c.loop-id.id ≡ c.args.glyphs.now.count = omega arith in
-    c.loop-id.invariant.counted ∙ ap (λ n. c.args.reads.now + component_total (glyphs_of c.args.glyphs.now) n) last
+    c.loop-id.invariant.counted ∙ ap (λ n. c.args.reader.now.reads + component_total (glyphs_of c.args.glyphs.now) n) last

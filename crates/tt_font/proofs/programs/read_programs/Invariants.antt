@@ -9,5 +9,5 @@ abbrev pub invariant-loop-id : goal.invariant-loop-id
 invariant-loop-id l = record {
   whole : truncated_glyph l.id (glyphs_of l.glyphs) ≡ None;
   programs : ProgramsAre (glyphs_of l.glyphs) l.id (map bytes_of l.programs.items);
-  counted : l.reads ≡ l.fn.reads + component_total (glyphs_of l.glyphs) l.id;
+  counted : l.reader.reads ≡ l.fn.reader.reads + component_total (glyphs_of l.glyphs) l.id;
 }
