@@ -32,7 +32,7 @@ const DEFAULT: Graphics<Cell, ZoneCell> = Graphics {
 };
 
 impl State {
-    ghost use Rattle.std.specs.Prelude.{◌≡◌, ◌<◌, ◌≤◌, ◌+◌, ◌∷◌, ◌↔◌, length, reverse, slice_get, IsTrue, IfOk, OnOk, OnErr};
+    ghost use Rattle.std.specs.Prelude.{◌≡◌, ◌<◌, ◌≤◌, ◌+◌, ◌∷◌, ◌↔◌, length, reverse, take, slice_get, IsTrue, IfOk, OnOk, OnErr};
     ghost use Rattle.tt_code.specs.States.{pointer, reference, with_pointer, with_reference};
     ghost use Rattle.tt_abs.specs.Entries.{Rises, storage_of, with_cell, with_entry};
     ghost use Rattle.tt_abs.specs.States.{start_of, state_order};
@@ -100,6 +100,17 @@ impl State {
         ensures { IsTrue result ↔ (self.now.functions ≡ other.now.functions) }
     {
         self.functions.is_same(&other.functions)
+    }
+
+    /// Whether so many cells at the bottom of the stack are found to be the same in both states, as they are where it answers
+    /// `true`. Takes no memory.
+    pub fn shares_bottom(&self, other: &State, count: usize) -> bool
+        ensures enough { IsTrue result → count ≤ length self.now.stack }
+        ensures enough_there { IsTrue result → count ≤ length other.now.stack }
+        ensures same { IsTrue result →
+            take count (reverse self.now.stack) ≡ take count (reverse other.now.stack) }
+    {
+        self.stack.shares_bottom(&other.stack, count)
     }
 
     /// Returns how many cells the stack has.
