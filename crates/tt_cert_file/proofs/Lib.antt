@@ -17,3 +17,4 @@ pub mod Listed
 pub mod Pushed
 pub mod Fitting
 pub mod Ahead
+pub mod SharedCells

@@ -7,3 +7,4 @@ pub mod Readers
 pub mod Reading
 pub mod Answers
 pub mod Blocks
+pub mod SharedCells
