@@ -18,3 +18,4 @@ pub mod Pushed
 pub mod Fitting
 pub mod Ahead
 pub mod KeptTexts
+pub mod SharedCells
