@@ -25,4 +25,4 @@ pub use limits::Limits;
 pub use machine::{Body, Frame, Graphics};
 pub use program::Program;
 pub use reason::Reason;
-pub use table::{entry, name};
+pub use table::{effect, entry, name};

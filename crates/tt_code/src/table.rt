@@ -983,6 +983,13 @@ pub fn entry(code: u8) -> &'static Effect
     &effects()[code as usize]
 }
 
+/// Returns what the instructions of a code take, test, change and push, as `entry` does, by value.
+pub fn effect(code: u8) -> Effect
+    ensures { view result ≡ effect_of code }
+{
+    *entry(code)
+}
+
 /// Returns the code's name in the printed instruction set; a code without an entry has none.
 pub fn name(code: u8) -> Option<&'static str>
     ensures { option_map (λ n. n.now) result ≡ name_of code }
