@@ -6,14 +6,14 @@ use Rattle.tt_font.specs.declared.component.ComponentReader.{ComponentReader}
 abbrev pub HasRoom : ComponentReader → ℕ → Type 0
 HasRoom reader n = reader.reads + n + 1 < 2 ^ 64
 
--- a reader has read n components since it was as before
+-- from one moment to another a reader has read n components
 abbrev pub HasRead : ComponentReader → ComponentReader → ℕ → Type 0
 HasRead before after n = after.reads ≡ before.reads + n
 
--- it has read at least n
+-- it has read at least n of them
 abbrev pub HasReadAtLeast : ComponentReader → ComponentReader → ℕ → Type 0
 HasReadAtLeast before after n = before.reads + n ≤ after.reads
 
--- it has read at most n
+-- it has read at most n of them
 abbrev pub HasReadAtMost : ComponentReader → ComponentReader → ℕ → Type 0
 HasReadAtMost before after n = after.reads ≤ before.reads + n

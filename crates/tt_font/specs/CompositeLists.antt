@@ -20,6 +20,8 @@ abbrev pub AreAllComposites : GlyphTable → List ℕ → Type 0
 AreAllComposites glyphs numbers = AreComposites (glyphs_of glyphs) glyphs.count numbers
 
 -- of the first n glyphs, those that aren't composite have the same sizes in both lists
-pub record AgreeOnSimple (glyphs : ℕ → List ℕ) (n : ℕ) (sizes other : List OutlineSize) : Type 0 where
+pub record AgreeOnSimple (glyphs : ℕ → List ℕ) (n : ℕ) (sizes other : List OutlineSize)
+    : Type 0 where
   pub len : length other ≡ n
-  pub each : (id : ℕ) → id < n → is_composite (glyphs id) ≡ false → size_at other id ≡ size_at sizes id
+  pub each : (id : ℕ) → id < n → is_composite (glyphs id) ≡ false
+      → size_at other id ≡ size_at sizes id

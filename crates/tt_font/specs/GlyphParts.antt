@@ -39,14 +39,16 @@ abbrev pub joined : OutlineSize → List ℕ → GlyphData
 joined size program = record { points = size.points; contours = size.contours; program = program }
 
 -- what is known of the first n glyphs, put together
-pub record PartsAre (programs : List (List ℕ)) (sizes : List OutlineSize) (n : ℕ) (parts : List GlyphData)
-    : Type 0 where
+pub record PartsAre (programs : List (List ℕ)) (sizes : List OutlineSize) (n : ℕ)
+    (parts : List GlyphData) : Type 0 where
   pub len : length parts ≡ n
-  pub parts_at : (id : ℕ) → id < n → glyph_at parts id ≡ joined (size_at sizes id) (program_in programs id)
+  pub parts_at : (id : ℕ) → id < n
+      → glyph_at parts id ≡ joined (size_at sizes id) (program_in programs id)
 
 -- the same of slices and parts as the code has them
 abbrev pub ArePutTogether : List (Bor (List ℕ)) → List OutlineSize → ℕ → List GlyphPart → Type 0
-ArePutTogether programs sizes n parts = PartsAre (map bytes_of programs) sizes n (map glyph_data parts)
+ArePutTogether programs sizes n parts =
+    PartsAre (map bytes_of programs) sizes n (map glyph_data parts)
 
 -- the glyphs of a font are read
 abbrev pub AreRead : GlyphTable → List GlyphPart → Type 0

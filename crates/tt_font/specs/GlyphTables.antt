@@ -22,14 +22,14 @@ components_in table = component_total (glyphs_of table) table.count
 abbrev pub AreWhole : GlyphTable → Type 0
 AreWhole table = (id : ℕ) → id < table.count → is_some (program_of (glyphs_of table id)) ≡ true
 
--- a glyph's bytes end too early
+-- the condition that a glyph's bytes end too early
 abbrev pub truncated_in : GlyphTable → Condition
 truncated_in table = glyph_fault table.count (glyphs_of table)
 
--- a glyph is refused by its components, points or contours
+-- the condition that a glyph is refused by its components, points or contours
 abbrev pub refused_in : GlyphTable → Condition
 refused_in table = composite_fault table.count (outlines_in table)
 
--- one of both
+-- the first of the two that holds
 abbrev pub fault_in : GlyphTable → Condition
 fault_in table = glyphs_fault table.count (glyphs_of table) (outlines_in table)

@@ -84,9 +84,9 @@ impl ComponentReader {
         self.reads
     }
 
-    /// Reads the component at a place of a glyph, where its bytes are there, and counts it. No other
-    /// function reads a component.
-    #[tactic(auto, unfolding(crate::specs::Components::component_at), using(crate::proofs::ComponentLists::size_is_least))]
+    /// Reads the component at a place of a glyph, where its bytes are there, and counts it. No
+    /// other function reads a component.
+    #[tactic(auto, unfolding(crate::specs::Components::component_at))]
     pub(crate) fn read(&mut self, glyph: &[u8], place: usize) -> Option<Component>
         requires place { place < 2 ^ 33 }
         requires room { HasRoom self.old 0 }

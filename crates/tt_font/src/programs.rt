@@ -54,7 +54,8 @@ pub(crate) fn put_together<'a>(
     requires programs { length programs.now ≡ count }
     requires points { PointsFit sizes.now count }
     requires contours { ContoursFit sizes.now count }
-    ensures glyphs { IfOk result (λ glyphs. ArePutTogether programs.now sizes.now count glyphs.items) }
+    ensures glyphs { IfOk result (λ glyphs.
+        ArePutTogether programs.now sizes.now count glyphs.items) }
     ensures memory { IfErr result (λ fault. fault ≡ FontFault.OutOfMemory alloc_error) }
 {
     let mut glyphs = Vec::with_capacity(alloc, usize::from(count))?;
