@@ -8,7 +8,7 @@ ghost use Rattle.tt_code.specs.Cut.{Instruction};
 ghost use Rattle.tt_code.specs.Fonts.{cvt_setting as setting_of_cvt_program, font_setting};
 ghost use Rattle.tt_font.specs.Conditions.{TestsWithMemory};
 ghost use Rattle.tt_font.specs.FileFaults.{font_fault};
-ghost use Rattle.tt_font.specs.GlyphParts.{glyph_data};
+ghost use Rattle.tt_font.specs.Reading.{glyph_data};
 ghost use Rattle.tt_font.specs.Reading.{FontData, Reads};
 ghost use Rattle.hintcheck.specs.FindingSessions.{IsFoundFor, IsFoundToEnd};
 ghost use Rattle.hintcheck.specs.FontVerdicts.{AreAllRefused, ComesToEnd, IsKnownAtEnd, IsOfSubject, font_in, subject_in};

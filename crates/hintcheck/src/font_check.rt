@@ -9,7 +9,7 @@ ghost use Rattle.tt_cert.specs.Contents.{family_of};
 ghost use Rattle.tt_cert.specs.Fillings.{HasGoodFilling};
 ghost use Rattle.tt_cert_file.specs.Answers.{input_at};
 ghost use Rattle.tt_font.specs.FileFaults.{font_fault};
-ghost use Rattle.tt_font.specs.GlyphParts.{glyph_data};
+ghost use Rattle.tt_font.specs.Reading.{glyph_data};
 ghost use Rattle.tt_font.specs.Reading.{FontData, Reads};
 ghost use Rattle.tt_stream.specs.Reads.{ConsumesBeginning};
 ghost use Rattle.hintcheck.specs.CertificateFaults.{CountsCheck, IsNoFontFault, TestsInCheck};

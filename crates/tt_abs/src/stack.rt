@@ -7,7 +7,7 @@ ghost use Rattle.tt_abs.specs.Transfers.{cells_on};
 ghost use Rattle.tt_abs.specs.declared.cells.Cell.TheVariants.{Known};
 ghost use Rattle.tt_abs.specs.CellOrders.{CellInRange};
 ghost use Rattle.tt_abs.specs.Orders.{IsLeastAbove};
-ghost use Rattle.tt_abs.specs.Codes.{kept_cells};
+ghost use Rattle.tt_abs.specs.Representation.Codes.{kept_cells};
 ghost use Rattle.tt_abs.specs.Stacks.{IsLeastCell, StackBelow, StackInRange, cell_at, first, stack_order};
 
 use crate::cell_codes::{
@@ -39,7 +39,7 @@ pub struct Stack {
 impl Model for Stack {
     ghost use Rattle.std.specs.Prelude.{List, length, reverse, ◌+◌, ◌<◌, ◌^◌};
     ghost use Rattle.tt_abs.specs.declared.cells.Cell.{Cell};
-    ghost use Rattle.tt_abs.specs.Codes.{kept_cells};
+    ghost use Rattle.tt_abs.specs.Representation.Codes.{kept_cells};
 
     ghost Value = { List Cell };
 
@@ -60,7 +60,7 @@ pub struct StackCells<'a> {
 impl<'a> Model for StackCells<'a> {
     ghost use Rattle.std.specs.Prelude.{List};
     ghost use Rattle.tt_abs.specs.declared.cells.Cell.{Cell};
-    ghost use Rattle.tt_abs.specs.Codes.{kept_cells};
+    ghost use Rattle.tt_abs.specs.Representation.Codes.{kept_cells};
 
     ghost Value = { List Cell };
 

@@ -12,8 +12,8 @@ use Rattle.tt_code.specs.declared.machine.Body.TheVariants as body
 use Rattle.tt_code.specs.Cut.{Instruction, IsInstruction, size}
 use Rattle.tt_code.specs.Structure.{keyword}
 use Rattle.tt_code.specs.Grammar.{IsList, none, definition, begins_definition, Ends, GoesTo, StandsAt, InDefinition, IsBodyAt, IsStructured}
-use Rattle.tt_code.specs.Pass.{within, step, steps, body_of, place, closed, Head, Opened, Leaves}
-use Rattle.tt_code.specs.Slots.{body_found, Opens, IsOpenAt, IsTable}
+use Rattle.tt_code.specs.Representation.Pass.{within, step, steps, body_of, place, closed, Head, Opened, Leaves}
+use Rattle.tt_code.specs.Representation.Slots.{body_found, Opens, IsOpenAt, IsTable}
 use Rattle.tt_code.proofs.CutLemmas.{size-append, size_more, some_bytes}
 use Rattle.tt_code.proofs.NestingLemmas.{defined_by, whole_steps, steps-append, steps_list, within_main, within-false, Leaves-start, Leaves-step}
 use Rattle.tt_code.proofs.SlotLemmas.{each_split, GoesTo-append, Linked, Table-start, Table-step}

@@ -5,7 +5,7 @@ use Rattle.std.specs.List.{AllByRecursion}
 use Rattle.std.proofs.lemmas.Bool.{eqb-true, eq-eqb, ne_eqb}
 use Rattle.tt_code.specs.Cut.{Instruction, IsInstruction, size}
 use Rattle.tt_code.specs.Table.{effect_of}
-use Rattle.tt_code.specs.Slots.{Opens}
+use Rattle.tt_code.specs.Representation.Slots.{Opens}
 use Rattle.tt_code.specs.Structure.{keyword, keyword_of, body_behind, body_from, body_at}
 use Rattle.tt_code.specs.Grammar.{IsDefinition, IsList, none, plain, if_eif, if_else_eif, definition, IsStructured, StandsAt, Ends, begins_definition, GoesTo, InDefinition, IsBodyAt}
 use Rattle.tt_code.specs.declared.block_keyword.BlockKeyword.{BlockKeyword}

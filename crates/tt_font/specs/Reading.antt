@@ -1,6 +1,8 @@
 -- What the bytes of a font file hold (OpenType specification, "Font tables").
 use Rattle.std.specs.Prelude.{◌≡◌, ℕ, ◌*◌, ◌<◌, ◌≤◌, List, [], length, slice_index_or, Some}
+use denote.Bor.{Bor}
 use Rattle.tt_code.specs.declared.limits.Limits.{Limits}
+use Rattle.tt_font.specs.declared.glyph_part.GlyphPart.{GlyphPart}
 use Rattle.tt_font.specs.declared.tag.Tag.TheVariants.{Fpgm, Prep}
 use Rattle.tt_font.specs.Directory.{table}
 use Rattle.tt_font.specs.Glyphs.{program_of, component_total}
@@ -63,3 +65,11 @@ pub record ReadsComponents (bytes : List ℕ) (font : FontData) : Type 0 where
   pub at_least : component_total (font_glyphs bytes) (font_glyph_count bytes) ≤ font.component_reads
   pub at_most
       : font.component_reads ≤ 17 * component_total (font_glyphs bytes) (font_glyph_count bytes)
+
+-- what a glyph's parts hold
+abbrev pub glyph_data : GlyphPart → GlyphData
+glyph_data part = record {
+  points = part.points;
+  contours = part.contours;
+  program = part.program.now;
+}

@@ -68,7 +68,7 @@ pub(crate) struct ComponentReader {
 impl ComponentReader {
     ghost use Rattle.std.specs.Prelude.{◌≡◌, ℕ, ◌+◌, ◌^◌, ◌<◌, ◌≤◌, length, is_some, IfSome, if◌then◌else◌};
     ghost use Rattle.tt_font.specs.Components.{component_at, components, last_of};
-    ghost use Rattle.tt_font.specs.ComponentReads.{HasRoom, HasRead};
+    ghost use Rattle.tt_font.specs.Representation.ComponentReads.{HasRoom, HasRead};
 
     /// Makes a reader that has read nothing.
     pub(crate) fn new() -> ComponentReader

@@ -2,9 +2,9 @@
 //! tables").
 
 ghost use Rattle.std.specs.Prelude.{◌≡◌, ◌*◌, IfOk, OnOk};
-ghost use Rattle.tt_font.specs.ComponentReads.{HasRoom, HasReadAtLeast, HasReadAtMost};
-ghost use Rattle.tt_font.specs.GlyphTables.{components_in, fault_in};
-ghost use Rattle.tt_font.specs.GlyphParts.{AreRead};
+ghost use Rattle.tt_font.specs.Representation.ComponentReads.{HasRoom, HasReadAtLeast, HasReadAtMost};
+ghost use Rattle.tt_font.specs.Representation.GlyphTables.{components_in, fault_in};
+ghost use Rattle.tt_font.specs.Representation.GlyphParts.{AreRead};
 ghost use Rattle.tt_font.specs.Conditions.{TestsWithMemory};
 
 use crate::component::ComponentReader;
@@ -58,7 +58,7 @@ pub struct Font<'a> {
 impl<'a> Model for Font<'a> {
     ghost use Rattle.std.specs.Prelude.{map, length, ◌<◌, ◌^◌};
     ghost use Rattle.tt_font.specs.Reading.{FontData};
-    ghost use Rattle.tt_font.specs.GlyphParts.{glyph_data};
+    ghost use Rattle.tt_font.specs.Reading.{glyph_data};
 
     ghost Value = { FontData };
 
@@ -80,7 +80,7 @@ impl<'a> Font<'a> {
     ghost use Rattle.tt_font.specs.Conditions.{IsOutOfMemory, TestsWithMemory};
     ghost use Rattle.tt_font.specs.FileFaults.{font_fault, tables_fault};
     ghost use Rattle.tt_font.specs.Reading.{Reads, ReadsComponents};
-    ghost use Rattle.tt_font.specs.GlyphParts.{glyph_data};
+    ghost use Rattle.tt_font.specs.Reading.{glyph_data};
 
     /// Reads the bytes of a font file. No glyph and no program is copied, and the memory that is
     /// taken grows with the number of glyphs only, once `loca` is known to have an entry for each.

@@ -3,7 +3,7 @@
 ghost use Rattle.std.specs.Prelude.{◌≡◌, ◌+◌, ◌*◌, ◌^◌, ◌<◌, ◌≤◌, length, is_some, true, false};
 ghost use Rattle.std.specs.Option.{option_map};
 ghost use Rattle.tt_font.specs.Components.{components, last_of};
-ghost use Rattle.tt_font.specs.ComponentReads.{HasRoom, HasRead};
+ghost use Rattle.tt_font.specs.Representation.ComponentReads.{HasRoom, HasRead};
 ghost use Rattle.tt_font.specs.Glyphs.{is_composite, component_count, program_at, simple_program, composite_program, program_of, simple_points, simple_contours};
 
 use crate::component::{ComponentReader, HEADER};

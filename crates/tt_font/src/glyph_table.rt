@@ -53,7 +53,7 @@ fn entry_is_good(format: u16, loca: &[u8], glyf: &[u8], i: u32) -> bool
 impl<'a> GlyphTable<'a> {
     ghost use Rattle.std.specs.Prelude.{◌≡◌, ◌+◌, ◌^◌, ◌<◌, ◌≤◌, length, IfOk};
     ghost use Rattle.tt_font.specs.Locations.{entry};
-    ghost use Rattle.tt_font.specs.GlyphTables.{glyphs_of};
+    ghost use Rattle.tt_font.specs.Representation.GlyphTables.{glyphs_of};
     ghost use Rattle.tt_font.specs.Conditions.{Tests, loca_fault};
 
     /// Reads the glyphs of the tables `loca` and `glyf`, in the format that `head` gives.

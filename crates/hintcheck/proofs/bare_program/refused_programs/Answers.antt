@@ -1,7 +1,7 @@
 use Rattle.std.proofs.Common.{◌≡◌, ◌∙◌, List, [], ap, subst, sym}
 use Rattle.tt_abs.specs.Settings.{programs_of}
 use Rattle.tt_code.specs.Fonts.{Font}
-use Rattle.tt_font.specs.GlyphParts.{glyph_data}
+use Rattle.tt_font.specs.Reading.{glyph_data}
 use Rattle.hintcheck.specs.FontPrograms.{glyph_subject}
 use Rattle.hintcheck.specs.BarePrograms.{IsJudged, font_around}
 use Rattle.hintcheck.specs.ProgramVerdicts.{IsListed}

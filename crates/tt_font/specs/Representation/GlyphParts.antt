@@ -5,17 +5,9 @@ use Rattle.tt_font.specs.declared.glyph_part.GlyphPart.{GlyphPart}
 use Rattle.tt_font.specs.declared.glyph_table.GlyphTable.{GlyphTable}
 use Rattle.tt_font.specs.declared.outline_size.OutlineSize.{OutlineSize}
 use Rattle.tt_font.specs.Glyphs.{program_of}
-use Rattle.tt_font.specs.GlyphTables.{glyphs_of, outlines_in}
-use Rattle.tt_font.specs.OutlineSizes.{size_at}
-use Rattle.tt_font.specs.Reading.{GlyphData, glyph_at, ReadsGlyphs}
-
--- what a glyph's parts hold
-abbrev pub glyph_data : GlyphPart → GlyphData
-glyph_data part = record {
-  points = part.points;
-  contours = part.contours;
-  program = part.program.now;
-}
+use Rattle.tt_font.specs.Representation.GlyphTables.{glyphs_of, outlines_in}
+use Rattle.tt_font.specs.Representation.OutlineSizes.{size_at}
+use Rattle.tt_font.specs.Reading.{GlyphData, ReadsGlyphs, glyph_at, glyph_data}
 
 -- the bytes of a slice of the file
 abbrev pub bytes_of : Bor (List ℕ) → List ℕ

@@ -4,8 +4,8 @@ use Rattle.std.specs.List.{Contains, sum_by}
 use Rattle.tt_font.specs.declared.glyph_table.GlyphTable.{GlyphTable}
 use Rattle.tt_font.specs.declared.outline_size.OutlineSize.{OutlineSize}
 use Rattle.tt_font.specs.Glyphs.{is_composite, component_count, component_total}
-use Rattle.tt_font.specs.GlyphTables.{glyphs_of}
-use Rattle.tt_font.specs.OutlineSizes.{size_at}
+use Rattle.tt_font.specs.Representation.GlyphTables.{glyphs_of}
+use Rattle.tt_font.specs.Representation.OutlineSizes.{size_at}
 
 -- the numbers of the composite glyphs among the first n, each once: they list as many components as
 -- all of these do

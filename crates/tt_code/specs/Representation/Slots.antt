@@ -15,8 +15,8 @@ use Rattle.tt_code.specs.declared.reading.Reading.{Reading}
 use Rattle.tt_code.specs.Cut.{Instruction, IsInstruction, size}
 use Rattle.tt_code.specs.Grammar.{GoesTo, IsStructured}
 use Rattle.tt_code.specs.Structure.{keyword}
-use Rattle.tt_code.specs.Laid.{IsLaid, laid, pieces}
-use Rattle.tt_code.specs.Pass.{steps, body_of, place, Leaves}
+use Rattle.tt_code.specs.Representation.Laid.{IsLaid, laid, pieces}
+use Rattle.tt_code.specs.Representation.Pass.{steps, body_of, place, Leaves}
 
 -- the slot of a byte inside an instruction
 abbrev pub inside : Slot

@@ -7,7 +7,7 @@ use Rattle.tt_code.specs.States.{IsNumber}
 use Rattle.tt_abs.specs.Cells.{Covers, CoversFunctions, CoversStorage}
 use Rattle.tt_abs.specs.Entries.{listed, known_or_not, storage_of}
 use Rattle.tt_abs.specs.EntryLists.{EntriesBelow, EntriesInRange}
-use Rattle.tt_abs.specs.EntryFacts.{listed-all, listed-named}
+use Rattle.tt_abs.specs.Representation.EntryFacts.{listed-all, listed-named}
 
 -- Functions: the machine's are in any order.
 
