@@ -51,4 +51,5 @@ program = record (new_app (codes "hintcheck")) {
 }
 
 unfoldable pub hintcheck : App
-hintcheck = fold (λ a s. with_subcommand a s.top) program (bare ∷ verdict ∷ find ∷ check ∷ list ∷ upgrade ∷ [])
+hintcheck = fold (λ a s. with_subcommand a s.top) program
+    (bare ∷ verdict ∷ find ∷ check ∷ list ∷ upgrade ∷ [])

@@ -17,7 +17,8 @@ use Rattle.tt_code.specs.declared.kinds.Arithmetic.TheVariants.{Add, Sub, Abs, N
 -- Pushes: bytes are unsigned, words are signed, the high byte first; the last one ends on top.
 
 abbrev pub word_number : ℕ → ℕ → ℤ
-word_number high low = if nat_lt high 128 then pos (256 * high + low) else pos (256 * high + low) -ℤ pos 65536
+word_number high low =
+    if nat_lt high 128 then pos (256 * high + low) else pos (256 * high + low) -ℤ pos 65536
 
 abbrev pub words : List ℕ → List ℤ
 words (high ∷ low ∷ rest) = word_number high low ∷ words rest

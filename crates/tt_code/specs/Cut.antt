@@ -86,11 +86,14 @@ pub record BeginsWith (bytes : List ℕ) (is : List Instruction) (rest : List �
 -- then refused, at this offset.)
 pub record CannotBeCut (bytes : List ℕ) (offset : ℕ) : Type 0 where
   pub uncut : (is : List Instruction) → IsCut bytes is → ⊥
-  pub reached : (is : List Instruction) × (rest : List ℕ) × BeginsWith bytes is rest × (size is ≡ offset)
-  pub longest : (is : List Instruction) (rest : List ℕ) → BeginsWith bytes is rest → size is ≤ offset
+  pub reached : (is : List Instruction) × (rest : List ℕ) × BeginsWith bytes is rest ×
+      (size is ≡ offset)
+  pub longest : (is : List Instruction) (rest : List ℕ) → BeginsWith bytes is rest →
+      size is ≤ offset
 
 -- the instruction that starts at the offset
 abbrev pub instruction_at : List Instruction → ℕ → Option Instruction
 instruction_at [] offset = None
 instruction_at (i ∷ is) zero = Some i
-instruction_at (i ∷ is) (suc k) = if nat_lt (suc k) (length i) then None else instruction_at is (suc k - length i)
+instruction_at (i ∷ is) (suc k) =
+    if nat_lt (suc k) (length i) then None else instruction_at is (suc k - length i)

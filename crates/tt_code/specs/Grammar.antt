@@ -25,13 +25,19 @@ pub data IsList : (inside : Bool) → List Instruction → Type 0 where
   none : {inside : Bool} → IsList inside []
   plain : {inside : Bool} {i : Instruction} {rest : List Instruction} →
       keyword i ≡ Other → IsList inside rest → IsList inside (i ∷ rest)
-  if_eif : {inside : Bool} {i : Instruction} {yes : List Instruction} (e : Instruction) {rest : List Instruction} →
-      keyword i ≡ If → IsList inside yes → keyword e ≡ Eif → IsList inside rest → IsList inside (i ∷ (yes ++ (e ∷ rest)))
-  if_else_eif : {inside : Bool} {i : Instruction} {yes : List Instruction} (l : Instruction) {otherwise : List Instruction} (e : Instruction) {rest : List Instruction} →
-      keyword i ≡ If → IsList inside yes → keyword l ≡ Else → IsList inside otherwise → keyword e ≡ Eif → IsList inside rest
-      → IsList inside (i ∷ (yes ++ (l ∷ (otherwise ++ (e ∷ rest)))))
-  definition : {d : Instruction} {defined : List Instruction} (e : Instruction) {rest : List Instruction} →
-      IsDefinition (keyword d) → IsList true defined → keyword e ≡ Endf → IsList false rest → IsList false (d ∷ (defined ++ (e ∷ rest)))
+  if_eif : {inside : Bool} {i : Instruction} {yes : List Instruction} (e : Instruction)
+      {rest : List Instruction} →
+      keyword i ≡ If → IsList inside yes → keyword e ≡ Eif → IsList inside rest →
+      IsList inside (i ∷ (yes ++ (e ∷ rest)))
+  if_else_eif : {inside : Bool} {i : Instruction} {yes : List Instruction} (l : Instruction)
+      {otherwise : List Instruction} (e : Instruction) {rest : List Instruction} →
+      keyword i ≡ If → IsList inside yes → keyword l ≡ Else → IsList inside otherwise →
+      keyword e ≡ Eif → IsList inside rest →
+      IsList inside (i ∷ (yes ++ (l ∷ (otherwise ++ (e ∷ rest)))))
+  definition : {d : Instruction} {defined : List Instruction} (e : Instruction)
+      {rest : List Instruction} →
+      IsDefinition (keyword d) → IsList true defined → keyword e ≡ Endf → IsList false rest →
+      IsList false (d ∷ (defined ++ (e ∷ rest)))
 
 -- a program is structured if it is a list outside all definitions
 abbrev pub IsStructured : List Instruction → Type 0
@@ -39,7 +45,8 @@ IsStructured is = IsList false is
 
 -- some list of the grammar begins with these
 abbrev pub CanGoOn : List Instruction → Type 0
-CanGoOn is = (rest : List Instruction) × AllByRecursion IsInstruction rest × IsStructured (is ++ rest)
+CanGoOn is =
+    (rest : List Instruction) × AllByRecursion IsInstruction rest × IsStructured (is ++ rest)
 
 -- The fault of a program that isn't structured: the first instruction such that no list of the
 -- grammar begins with the program up to and including it; or, if there is none, the program's end,
@@ -140,6 +147,10 @@ abbrev pub InDefinition : BlockKeyword → List Instruction → ℕ → ℕ → 
 InDefinition opener is from at = (to : ℕ) × GoesTo opener is from to × (from < at) × (at < to)
 
 abbrev pub IsBodyAt : List Instruction → ℕ → Body → Type 0
-IsBodyAt is at (body.Function first) = (from : ℕ) × (first ≡ from + 1) × InDefinition Fdef is from at
-IsBodyAt is at (body.Instruction first) = (from : ℕ) × (first ≡ from + 1) × InDefinition Idef is from at
-IsBodyAt is at body.Main = ((from : ℕ) → InDefinition Fdef is from at → ⊥) × ((from : ℕ) → InDefinition Idef is from at → ⊥)
+IsBodyAt is at (body.Function first) =
+    (from : ℕ) × (first ≡ from + 1) × InDefinition Fdef is from at
+IsBodyAt is at (body.Instruction first) =
+    (from : ℕ) × (first ≡ from + 1) × InDefinition Idef is from at
+IsBodyAt is at body.Main =
+    ((from : ℕ) → InDefinition Fdef is from at → ⊥)
+    × ((from : ℕ) → InDefinition Idef is from at → ⊥)

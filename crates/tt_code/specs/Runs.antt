@@ -37,11 +37,15 @@ within_depth s o = do
 abbrev pub performs : Setting → Machine → Option Instruction → Tested Outcome
 performs s m None = Err reason.Target
 performs s m (Some []) = Err reason.Target
-performs s m (Some (code ∷ rest)) = does s m (effect_of code) rest (m.offset + suc (length rest)) >>= within_depth s
+performs s m (Some (code ∷ rest)) =
+    does s m (effect_of code) rest (m.offset + suc (length rest)) >>= within_depth s
 
 -- the instruction at the machine's offset, if one of its body starts there
 abbrev pub fetched : Setting → Machine → Option Instruction
-fetched s m = if starts_in_body s m.frames m.offset then instruction_at (program_of s m.frames) m.offset else None
+fetched s m =
+    if starts_in_body s m.frames m.offset
+    then instruction_at (program_of s m.frames) m.offset
+    else None
 
 -- what happens to a machine that isn't at the main program's end
 unfoldable pub outcome : Setting → Machine → Tested Outcome

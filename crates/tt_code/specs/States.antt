@@ -71,7 +71,15 @@ with_pointer Zp2 z g = record g { zp2 = z }
 
 -- the graphics state with which every program starts
 abbrev pub default_graphics : Graphics ℤ ZoneNumber
-default_graphics = record { rp0 = pos 0; rp1 = pos 0; rp2 = pos 0; zp0 = One; zp1 = One; zp2 = One; loop_number = pos 1 }
+default_graphics = record {
+  rp0 = pos 0;
+  rp1 = pos 0;
+  rp2 = pos 0;
+  zp0 = One;
+  zp1 = One;
+  zp2 = One;
+  loop_number = pos 1;
+}
 
 abbrev pub at_offset : Machine → ℕ → Machine
 at_offset m offset = record m { offset = offset }

@@ -85,15 +85,19 @@ abbrev pub Head : Open → Bool → ℕ → List Instruction → Type 0
 Head (InIf k) inside at head = (i : Instruction) × (keyword i ≡ If) × (k ≡ at) × (head ≡ i ∷ [])
 Head (InElse k) inside at head =
     (i : Instruction) × (a : List Instruction) × (l : Instruction) ×
-    (keyword i ≡ If) × IsList inside a × (keyword l ≡ Else) × (k ≡ (at + length i) + size a) × (head ≡ i ∷ (a ++ (l ∷ [])))
-Head (InFunction k) inside at head = (d : Instruction) × (keyword d ≡ Fdef) × (inside ≡ false) × (k ≡ at) × (head ≡ d ∷ [])
-Head (InInstruction k) inside at head = (d : Instruction) × (keyword d ≡ Idef) × (inside ≡ false) × (k ≡ at) × (head ≡ d ∷ [])
+    (keyword i ≡ If) × IsList inside a × (keyword l ≡ Else)
+    × (k ≡ (at + length i) + size a) × (head ≡ i ∷ (a ++ (l ∷ [])))
+Head (InFunction k) inside at head =
+    (d : Instruction) × (keyword d ≡ Fdef) × (inside ≡ false) × (k ≡ at) × (head ≡ d ∷ [])
+Head (InInstruction k) inside at head =
+    (d : Instruction) × (keyword d ≡ Idef) × (inside ≡ false) × (k ≡ at) × (head ≡ d ∷ [])
 
 -- p is lists with an opening between each two
 abbrev pub Opened : List Open → List Instruction → Type 0
 Opened [] p = IsList false p
 Opened (o ∷ s) p =
-    (outer head inner : List Instruction) × Opened s outer × Head o (within s) (size outer) head × IsList (inside_of o (within s)) inner
+    (outer head inner : List Instruction) × Opened s outer
+    × Head o (within s) (size outer) head × IsList (inside_of o (within s)) inner
     × (p ≡ outer ++ (head ++ inner))
 
 -- p leaves s open

@@ -69,19 +69,23 @@ IsOpenAt k (o ∷ s) = (place o ≡ k) ⊎ IsOpenAt k s
 -- The bodies and targets by offset of instructions that leave these open: each instruction has its
 -- body, and none is kept elsewhere; each target is where control goes; each opening instruction has
 -- a target or is still open.
-pub record IsTable (p : List Instruction) (s : List Open) (in_body : List (Option Body)) (goes : List (Option ℕ)) : Type 0 where
+pub record IsTable (p : List Instruction) (s : List Open) (in_body : List (Option Body))
+    (goes : List (Option ℕ)) : Type 0 where
   pub bodies_long : length in_body ≡ size p
   pub targets_long : length goes ≡ size p
   pub rows : (a : List Instruction) (i : Instruction) (b : List Instruction) → p ≡ a ++ (i ∷ b) →
       (t : List Open) × (steps a 0 [] ≡ Some t) × (body_found in_body (size a) ≡ Some (body_of t))
   pub starts : (k : ℕ) (b : Body) → body_found in_body k ≡ Some b →
-      (a : List Instruction) × (i : Instruction) × (b : List Instruction) × (p ≡ a ++ (i ∷ b)) × (size a ≡ k)
+      (a : List Instruction) × (i : Instruction) × (b : List Instruction)
+      × (p ≡ a ++ (i ∷ b)) × (size a ≡ k)
   pub target_right : (k t : ℕ) → target_found goes k ≡ Some t → (w : BlockKeyword) × GoesTo w p k t
-  pub target_there : (a : List Instruction) (i : Instruction) (b : List Instruction) → p ≡ a ++ (i ∷ b) → Opens (keyword i) →
+  pub target_there : (a : List Instruction) (i : Instruction) (b : List Instruction) →
+      p ≡ a ++ (i ∷ b) → Opens (keyword i) →
       ((t : ℕ) × (target_found goes (size a) ≡ Some t)) ⊎ IsOpenAt (size a) s
 
 -- what is kept of the instructions that were read, what is open with the innermost first
-pub record IsRead (p : List Instruction) (stack : List Open) (b : Body) (slots : List Slot) : Type 0 where
+pub record IsRead
+    (p : List Instruction) (stack : List Open) (b : Body) (slots : List Slot) : Type 0 where
   pub each : AllByRecursion IsInstruction p
   pub leaves : Leaves p stack
   pub body : b ≡ body_of stack
