@@ -22,7 +22,7 @@ FindsLeast = (test : ℕ → Bool) (n : ℕ) → IsLeastBelow test n (first_belo
 -- ---- the components of a glyph
 
 -- a component is at a place of a glyph
-pub record StandsAt (bytes : List ℕ) (place : ℕ) (c : Component) : Type 0 where
+pub record IsAt (bytes : List ℕ) (place : ℕ) (c : Component) : Type 0 where
   pub flags : c.flags ≡ u16_at place bytes
   pub glyph : c.glyph ≡ u16_at (place + 2) bytes
   pub after : c.after ≡ place + component_size (u16_at place bytes)
@@ -31,7 +31,7 @@ pub record StandsAt (bytes : List ℕ) (place : ℕ) (c : Component) : Type 0 wh
 -- components follow one after the other: each but the last says that another one follows
 abbrev pub IsComponentList : List ℕ → ℕ → List Component → Type 0
 IsComponentList bytes place [] = ⊥
-IsComponentList bytes place (c ∷ cs) = StandsAt bytes place c
+IsComponentList bytes place (c ∷ cs) = IsAt bytes place c
     × (((has_more c.flags ≡ true) × IsComponentList bytes c.after cs)
     ⊎ ((has_more c.flags ≡ false) × (cs ≡ [])))
 

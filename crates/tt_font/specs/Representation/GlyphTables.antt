@@ -1,4 +1,5 @@
--- The glyphs of a table as the code has it, and their faults. (Representation.)
+-- The glyphs of the tables `loca` and `glyf`, as the code has them, and their faults.
+-- (Representation.)
 use Rattle.std.specs.Prelude.{◌≡◌, ℕ, ◌<◌, List, true, is_some}
 use Rattle.tt_font.specs.declared.glyph_table.GlyphTable.{GlyphTable}
 use Rattle.tt_font.specs.Locations.{glyph_bytes}
