@@ -24,6 +24,6 @@ pub use fault::{ContextFault, JoinFault, ProgramFault, ProgramFault as CheckFaul
 pub use joined::Joined;
 pub use landing::{Landing, landing_of};
 pub use listing::added_after;
-pub use places::PointKey;
+pub use slot_index::PointKey;
 pub use spot::Spot;
 pub use states::States;
