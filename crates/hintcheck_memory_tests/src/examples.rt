@@ -2,7 +2,9 @@
 
 use hintcheck_test_fixtures::font_calls::found;
 use hintcheck_test_fixtures::fonts::{NoFile, TWICE, font_of, font_with, square};
+use hintcheck_test_fixtures::hex_bytes::bytes_of;
 use hintcheck_test_fixtures::section_calls::{Told, decoded};
+use hintcheck_test_fixtures::stored_certificates::FORM_1;
 use hintcheck_test_fixtures::streams::{ALL, steps_of};
 use std::alloc::Global;
 use std::test::Fail;
@@ -79,11 +81,11 @@ fn file_of(alloc: Global, programs: &Programs<'_>) -> Result<Vec<u8>, NoFile> {
 }
 
 /// Returns where the last section of a certificate begins.
-fn last_section(alloc: Global, certificate: &[u8]) -> Option<usize> {
+fn last_section(alloc: Global, certificate: &[u8], form: Form) -> Option<usize> {
     let mut place = 10usize;
     for _ in 0..ALL {
         let steps = steps_of(certificate.get(place..)?, false);
-        let (_, told) = decoded(alloc, steps, 0, Form::Four);
+        let (_, told) = decoded(alloc, steps, 0, form);
         let Told::Section { after, left } = told else {
             return None;
         };
@@ -100,6 +102,7 @@ fn last_section(alloc: Global, certificate: &[u8]) -> Option<usize> {
 pub(crate) struct Files {
     pub(crate) font: Vec<u8>,
     pub(crate) certificate: Vec<u8>,
+    form: Form,
     /// Where the section of the last glyph begins.
     last: usize,
 }
@@ -108,10 +111,23 @@ pub(crate) struct Files {
 pub(crate) fn files_of(alloc: Global, programs: &Programs<'_>) -> Result<Files, Fail> {
     let font = file_of(alloc, programs)?;
     let (_, certificate) = found(alloc, &font, ALL);
-    let last = last_section(alloc, &certificate).ok_or("a last section")?;
+    let last = last_section(alloc, &certificate, Form::Four).ok_or("a last section")?;
     Ok(Files {
         font,
         certificate,
+        form: Form::Four,
+        last,
+    })
+}
+
+/// Returns the files of `call-pops` with a certificate that leaves out no state.
+pub(crate) fn files_with_all_states(alloc: Global) -> Result<Files, Fail> {
+    let certificate = bytes_of(alloc, &FORM_1)?;
+    let last = last_section(alloc, &certificate, Form::One).ok_or("a last section")?;
+    Ok(Files {
+        font: file_of(alloc, &CALL_POPS)?,
+        certificate,
+        form: Form::One,
         last,
     })
 }
@@ -122,6 +138,7 @@ pub(crate) struct Example<'a> {
     pub(crate) programs: Programs<'a>,
     pub(crate) font: &'a [u8],
     pub(crate) certificate: &'a [u8],
+    pub(crate) form: Form,
     /// The section of the last glyph.
     pub(crate) section: &'a [u8],
 }
@@ -132,6 +149,7 @@ pub(crate) fn example_of<'a>(programs: &Programs<'a>, files: &'a Files) -> Optio
         programs: *programs,
         font: &files.font,
         certificate: &files.certificate,
+        form: files.form,
         section: files.certificate.get(files.last..)?,
     })
 }

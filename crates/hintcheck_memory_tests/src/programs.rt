@@ -4,10 +4,10 @@ ghost use Rattle.tt_abs.specs.Entries.{Rises};
 ghost use Rattle.tt_abs.specs.Settings.{setting_of};
 ghost use Rattle.tt_abs.specs.StateFlow.{FunctionsFit};
 
-use crate::examples::{EXAMPLES, Example, example_of, files_of};
+use crate::examples::{CALL_POPS, EXAMPLES, Example, example_of, files_of, files_with_all_states};
 use crate::heap::Heap;
 use crate::sections::section_of;
-use crate::trials::{Told, Trial, assert_refused};
+use crate::trials::{Told, Trial, assert_refused, told_of};
 use hintcheck_test_fixtures::families::state_of;
 use hintcheck_test_fixtures::programs::{LIMITS, cut};
 use std::alloc::{AllocError, Global};
@@ -100,11 +100,13 @@ fn told_of_transfer(heap: &mut Heap, setting: &Setting<'_>) -> Told {
     }
 }
 
-/// Returns what a fault of a program that is accepted tells.
+/// Returns what the fault of a program tells; a refusal comes to its place and its reason.
 fn told_of_fault(fault: &ProgramFault) -> Told {
     match fault {
         ProgramFault::OutOfMemory(_) => Told::OutOfMemory,
-        ProgramFault::Refused { .. } => Told::Wrong,
+        ProgramFault::Refused { offset, reason, .. } => {
+            Told::Answer(u64::from(*offset) * 100 + u64::from(reason.number()))
+        }
     }
 }
 
@@ -116,7 +118,7 @@ fn told_of_check(
 ) -> Told
     requires { Rises setting.now.start.now }
 {
-    let Some(section) = section_of(heap.alloc, example.section) else {
+    let Some(section) = section_of(heap.alloc, example) else {
         return Told::Wrong;
     };
     heap.take_room();
@@ -199,5 +201,16 @@ fn calls_on_programs(rt: HostRuntime) -> Result<(), Fail> {
             assert_refused(&rt, &mut heap, &name, &Trial::Program(call, example));
         }
     }
+    Ok(())
+}
+
+#[test]
+fn full_check_that_accepts(rt: HostRuntime) -> Result<(), Fail> {
+    let mut heap = Heap::new(rt.alloc());
+    let files = files_with_all_states(rt.alloc())?;
+    let example = example_of(&CALL_POPS, &files).ok_or("a section")?;
+    let trial = Trial::Program(ProgramCall::CheckFull, example);
+    assert_eq!(rt; told_of(&mut heap, &trial), Told::Answer(0));
+    assert_refused(&rt, &mut heap, "full check", &trial);
     Ok(())
 }

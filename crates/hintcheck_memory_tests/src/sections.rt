@@ -13,7 +13,7 @@ use std::alloc::Global;
 use std::marker::Brand;
 use std::sync::ledger::{Blank, Ledger};
 use std::test::Fail;
-use tt_cert_file::{EncodeFault, Form, encode};
+use tt_cert_file::{EncodeFault, encode};
 use tt_stream::Counted;
 
 /// A call on the section of the last glyph.
@@ -23,14 +23,19 @@ pub(crate) enum SectionCall {
     Encode,
 }
 
-/// Returns the section that these bytes spell; nothing where they spell none, or memory ran out.
-pub(crate) fn section_of(alloc: Global, bytes: &[u8]) -> Option<Section> {
-    decoded(alloc, steps_of(bytes, false), 0, Form::Four).0
+/// Returns the section of an example; nothing where it isn't read, or memory ran out.
+pub(crate) fn section_of(alloc: Global, example: &Example<'_>) -> Option<Section> {
+    decoded(alloc, steps_of(example.section, false), 0, example.form).0
 }
 
 fn told_of_decoding(heap: &mut Heap, example: &Example<'_>) -> Told {
     heap.take_room();
-    let (section, told) = decoded(heap.alloc, steps_of(example.section, false), 0, Form::Four);
+    let (section, told) = decoded(
+        heap.alloc,
+        steps_of(example.section, false),
+        0,
+        example.form,
+    );
     heap.give_back();
     match (section, told) {
         (Some(section), Read::Section { .. }) => {
@@ -57,7 +62,7 @@ fn encode_over<L: Ledger>(heap: &mut Heap, section: &Section, want: &[u8], blank
 }
 
 fn told_of_encoding(heap: &mut Heap, example: &Example<'_>) -> Told {
-    match section_of(heap.alloc, example.section) {
+    match section_of(heap.alloc, example) {
         Some(section) => encode_over::<Brand>(heap, &section, example.section, Blank::new(1)),
         None => Told::Wrong,
     }

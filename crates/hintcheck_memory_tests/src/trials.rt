@@ -38,7 +38,7 @@ pub(crate) enum Trial<'a> {
 }
 
 /// Returns what the call of a trial tells.
-fn told_of(heap: &mut Heap, trial: &Trial<'_>) -> Told {
+pub(crate) fn told_of(heap: &mut Heap, trial: &Trial<'_>) -> Told {
     match trial {
         Trial::Font(call, example) => told_of_font(heap, *call, example),
         Trial::Program(call, example) => told_of_program(heap, *call, example),
