@@ -1,6 +1,6 @@
 //! Builders: what they hold, and what they refuse.
 
-use crate::cert::fixtures::{
+use hintcheck_test_fixtures::families::{
     CALL, Context, Filling, Row, add, add_all, fill, finished_if, leads_through, put, put_all,
 };
 use std::alloc::Global;

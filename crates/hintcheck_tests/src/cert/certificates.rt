@@ -1,6 +1,6 @@
 //! Certificates: their contexts and points, in order.
 
-use crate::cert::fixtures::{CALL, Context, Filling, certificate, leads_through};
+use hintcheck_test_fixtures::families::{CALL, Context, Filling, certificate, leads_through};
 use std::alloc::Global;
 use tt_abs::State;
 use tt_cert::Certificate;

@@ -4,15 +4,16 @@ ghost use Rattle.std.specs.Prelude.{IfSome};
 ghost use Rattle.tt_abs.specs.Entries.{Rises};
 ghost use Rattle.tt_abs.specs.States.{state_order};
 
-use crate::cert::fixtures::{
+use hintcheck_test_fixtures::families::{
     Context, Row, add, certificate, finished_if, join, put, put_all, put_at, state_of,
 };
+use hintcheck_test_fixtures::programs::{GLYPH, LIMITS as WIDE, cut};
 use std::alloc::Global;
 use std::process::Abort;
 use tt_abs::{Cell, Kind, Setting, State};
 use tt_cert::{Builder, Certificate, ProgramFault, Spot, check, check_full};
 use tt_code::kinds::Reference;
-use tt_code::{Frame, Limits, Program, Reason};
+use tt_code::{Frame, Limits, Reason};
 
 /// What a check tells: that a family is good, or where it is refused and why.
 pub(crate) type Answer = Result<(), (Spot, u32, Reason)>;
@@ -42,18 +43,10 @@ pub(crate) struct Subject<'a> {
 /// The states of a family, and what the check tells of it. Two rows at one offset are joined.
 pub(crate) type Family<'a> = (&'a [Row<'a>], Answer);
 
+/// The limits of the programs, of 9 bytes at most.
 const LIMITS: Limits = Limits {
-    storage: 4,
-    functions: 2,
-    stack: 8,
     program_size: 9,
-    zones: 2,
-    twilight: 4,
-};
-
-pub(crate) const GLYPH: Kind = Kind::Glyph {
-    points: 4,
-    contours: 1,
+    ..WIDE
 };
 
 /// The empty glyph program.
@@ -64,14 +57,6 @@ pub(crate) const EMPTY: Subject<'static> = Subject {
     contexts: &[],
     asked: Asked::Whole,
 };
-
-/// Returns a program of less than 100 bytes, cut.
-fn cut<'a>(alloc: Global, bytes: &'a [u8]) -> Option<Program<'a>> {
-    if bytes.len() >= 100 {
-        return None;
-    }
-    Program::cut(alloc, bytes).ok()
-}
 
 /// Returns what the check tells of a family for the program of this setting; nothing where memory ran out.
 fn answer_in(

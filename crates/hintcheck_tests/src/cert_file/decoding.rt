@@ -1,11 +1,12 @@
 //! Sections whose bytes were worked out by hand are read as what they say.
 
-use crate::cert_file::bytes::bytes_of;
-use crate::cert_file::calls::{ALL, Section, Steps, Told, decoded};
 use crate::cert_file::rows::{Row, START, are_rows, plain};
 use crate::cert_file::sections::{
     EMPTY_IN_FORM_1, EMPTY_IN_FORM_4, FULL, GLYPH_IN_FORM_1, GLYPH_IN_FORM_4, SPARSE_GLYPH,
 };
+use hintcheck_test_fixtures::hex_bytes::bytes_of;
+use hintcheck_test_fixtures::section_calls::{Section, Told, decoded};
+use hintcheck_test_fixtures::streams::{ALL, Steps};
 use std::alloc::{AllocError, Global};
 use tt_abs::Cell::{Known, Unknown};
 use tt_abs::{Cell, ZoneCell};

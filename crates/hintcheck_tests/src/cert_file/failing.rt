@@ -1,9 +1,10 @@
 //! Readers and writers that fail at one call.
 
-use crate::cert_file::bytes::{bytes_but, bytes_of};
-use crate::cert_file::calls::{Taker, Told, encoded, told_of_calls};
 use crate::cert_file::encoding::section_of;
 use crate::cert_file::sections::{FULL, FULL_LENGTH};
+use hintcheck_test_fixtures::hex_bytes::{bytes_but, bytes_of};
+use hintcheck_test_fixtures::section_calls::{Told, encoded, told_of_calls};
+use hintcheck_test_fixtures::streams::Taker;
 use std::alloc::Global;
 use tt_cert_file::Form;
 

@@ -1,8 +1,8 @@
 //! Each rule broken once: the place of the first byte of what breaks it, worked out from the format.
 
-use crate::cert_file::bytes::{bytes_but, bytes_of};
-use crate::cert_file::calls::{Told, told_in_steps};
 use crate::cert_file::sections::{EMPTY_IN_FORM_1, FULL, FULL_LENGTH};
+use hintcheck_test_fixtures::hex_bytes::{bytes_but, bytes_of};
+use hintcheck_test_fixtures::section_calls::{Told, told_in_steps};
 use std::alloc::Global;
 use tt_cert_file::Form;
 

@@ -1,8 +1,8 @@
 //! The commands `find` and `check`, on files.
 
-use crate::checker::certificate_calls::bytes_of;
 use crate::checker::outputs::answers;
-use crate::checker::stored_certificates::{FONT, FORM_1, FORM_2, FORM_4, UNDERFLOWING};
+use hintcheck_test_fixtures::hex_bytes::bytes_of;
+use hintcheck_test_fixtures::stored_certificates::{FONT, FORM_1, FORM_2, FORM_4, UNDERFLOWING};
 use std::path::PathBuf;
 use std::test::Fail;
 use std::{env, fs, process};

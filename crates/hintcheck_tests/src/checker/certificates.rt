@@ -1,7 +1,10 @@
 //! Certificates in memory.
 
-use crate::checker::certificate_calls::{Told, bytes_of, checked, found};
-use crate::checker::stored_certificates::{FONT, FORM_1, FORM_2, FORM_3, FORM_4, UNDERFLOWING};
+use hintcheck_test_fixtures::font_calls::{Told, checked, found};
+use hintcheck_test_fixtures::hex_bytes::bytes_of;
+use hintcheck_test_fixtures::stored_certificates::{
+    FONT, FORM_1, FORM_2, FORM_3, FORM_4, UNDERFLOWING,
+};
 use std::alloc::Global;
 
 /// The stored certificates: how many bytes each has, and the offset at which it doesn't fit the other font.

@@ -3,27 +3,24 @@
 ghost use Rattle.std.specs.Prelude.{◌≡◌, ◌<◌};
 ghost use Rattle.hintcheck.specs.FontPrograms.{IsFontInRange};
 
-use crate::cert_file::calls::{ALL, Steps, Taker, Told as Read, told_of_file_by};
-use crate::checker::certificate_calls::{
-    Told, bytes_of, checked_by, found, told_of_check_fault, upgraded_by,
-};
 use crate::checker::certificates::with_byte;
-use crate::checker::stored_certificates::{
+use hintcheck::{Session, read_font};
+use hintcheck_test_fixtures::font_calls::{
+    Told, checked_by, found, told_of_check_fault, upgraded_by,
+};
+use hintcheck_test_fixtures::fonts::{TWICE, font_with};
+use hintcheck_test_fixtures::hex_bytes::bytes_of;
+use hintcheck_test_fixtures::section_calls::{Told as Read, told_of_file_by};
+use hintcheck_test_fixtures::stored_certificates::{
     FONT, FORM_1, FORM_1_UPGRADED, FORM_2, FORM_4, UNDERFLOWING,
 };
-use crate::font::glyphs::font_with;
-use hintcheck::{Session, read_font};
+use hintcheck_test_fixtures::streams::{ALL, Steps, Taker};
 use std::alloc::Global;
 use std::marker::Brand;
 use std::sync::ledger::{Blank, Ledger};
 use std::test::Fail;
 use tt_font::Font;
 use tt_stream::{Counted, Source};
-
-/// The components and the program of a glyph that is made of the first one twice: 8 points and 4 phantom points, of which point 11 is moved.
-pub(crate) const TWICE: [u8; 17] = [
-    0, 0x20, 0, 0, 0, 0, 1, 0, 0, 0, 0, 0, 0, 3, 0xB0, 0x0B, 0x2E,
-];
 
 /// Returns these bytes, one a call, of which the one after so many others fails.
 fn one_by_one(bytes: &[u8], calls: usize) -> Steps<'_> {

@@ -1,12 +1,13 @@
 //! Writers that take one byte a call, of which one fails or takes nothing: what they took by then is a beginning of the certificate.
 
-use crate::cert_file::calls::{
-    ALL, Section, Steps, Taker, Told as Written, decoded, encoded, written_header,
+use hintcheck_test_fixtures::font_calls::{Told, found, found_by, upgraded_by};
+use hintcheck_test_fixtures::fonts::{TWICE, font_with};
+use hintcheck_test_fixtures::hex_bytes::bytes_of;
+use hintcheck_test_fixtures::section_calls::{
+    Section, Told as Written, decoded, encoded, written_header,
 };
-use crate::checker::certificate_calls::{Told, bytes_of, found, found_by, steps_of, upgraded_by};
-use crate::checker::failing_readers::TWICE;
-use crate::checker::stored_certificates::{FONT, FORM_2, FORM_4, UNDERFLOWING};
-use crate::font::glyphs::font_with;
+use hintcheck_test_fixtures::stored_certificates::{FONT, FORM_2, FORM_4, UNDERFLOWING};
+use hintcheck_test_fixtures::streams::{ALL, Steps, Taker, steps_of};
 use std::alloc::Global;
 use std::test::Fail;
 use tt_cert_file::Form;

@@ -3,10 +3,10 @@
 ghost use Rattle.std.specs.Prelude.{◌≡◌, ◌<◌};
 ghost use Rattle.hintcheck.specs.FontPrograms.{IsFontInRange};
 
-use crate::cert_file::calls::{ALL, Taker};
-use crate::checker::certificate_calls::bytes_of;
-use crate::checker::stored_certificates::{FONT, FORM_4, UNDERFLOWING};
 use hintcheck::{Name, Outcome, Session, read_font};
+use hintcheck_test_fixtures::hex_bytes::bytes_of;
+use hintcheck_test_fixtures::stored_certificates::{FONT, FORM_4, UNDERFLOWING};
+use hintcheck_test_fixtures::streams::{ALL, Taker};
 use std::alloc::Global;
 use std::marker::Brand;
 use std::sync::ledger::{Blank, Ledger};
@@ -64,7 +64,7 @@ fn written_on<L: Ledger>(
 
 /// Returns the outcomes of a font's programs and what is written of them; nothing where the bytes hold no font, or where memory ran out.
 fn written(alloc: Global, parts: &[&str]) -> Option<(Vec<Outcome>, Vec<u8>)> {
-    let file = bytes_of(alloc, parts)?;
+    let file = bytes_of(alloc, parts).ok()?;
     let font = read_font(alloc, &file).ok()?;
     written_on::<Brand>(alloc, &font, Blank::new(1))
 }

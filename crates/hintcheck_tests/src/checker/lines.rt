@@ -1,9 +1,10 @@
 //! Tests of the lines that the command prints of verdicts and of faults.
 
-use crate::checker::font_files::{LIMITS, file_of, file_with_glyphs, font_of};
+use crate::checker::font_files::font_of;
 use crate::checker::glyph_programs::TOO_LONG;
 use crate::checker::outputs::{Asked, MAXP, answers_on_bare, answers_on_file};
 use hintcheck::{FontFault, Tag};
+use hintcheck_test_fixtures::fonts::{MAXP as TABLE, file_of, file_with_glyphs};
 use hintcheck_words::word_bytes;
 use std::alloc::{AllocError, Global};
 use std::rt::Files;
@@ -182,10 +183,11 @@ fn small_font(alloc: Global, prep: &str) -> Option<Vec<u8>> {
             (Tag::Glyf, &[]),
             (Tag::Head, &[0; 54]),
             (Tag::Loca, &[0; 4]),
-            (Tag::Maxp, &LIMITS),
+            (Tag::Maxp, &TABLE),
             (Tag::Prep, prep.as_slice()),
         ],
     )
+    .ok()
 }
 
 /// Whether the command prints this verdict on a small font.
@@ -289,7 +291,7 @@ fn tells_faults_of_directories(rt: HostRuntime) {
 fn font_with_glyphs(alloc: Global, loca: &str, glyf: &str) -> Option<Vec<u8>> {
     let loca = word_bytes(alloc, loca).ok()?;
     let glyf = word_bytes(alloc, glyf).ok()?;
-    file_with_glyphs(alloc, "", "", 2, &loca, &glyf)
+    file_with_glyphs(alloc, [&[]; 2], 2, &loca, &glyf).ok()
 }
 
 /// Whether the command tells this fault of a font with two glyphs.

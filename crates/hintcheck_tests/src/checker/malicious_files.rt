@@ -1,13 +1,14 @@
 //! Files that are made to break a font server: each is answered by a verdict, or by a fault 1 to 8 or 43.
 
-use crate::cert_file::calls::ALL;
-use crate::checker::certificate_calls::{Told, bytes_of, checked, found, judged};
 use crate::checker::certificate_commands::path_of;
 use crate::checker::certificates::with_byte;
 use crate::checker::outputs::{Asked, answers, answers_on_file};
-use crate::checker::stored_certificates::{FONT, FORM_4};
-use crate::font::files::font_of;
 use crate::font::glyphs::{OF_FIRST, OF_SECOND, font_of_many, tower};
+use hintcheck_test_fixtures::font_calls::{Told, checked, found, judged};
+use hintcheck_test_fixtures::fonts::font_of;
+use hintcheck_test_fixtures::hex_bytes::bytes_of;
+use hintcheck_test_fixtures::stored_certificates::{FONT, FORM_4};
+use hintcheck_test_fixtures::streams::ALL;
 use std::alloc::Global;
 use std::fs;
 use std::test::Fail;

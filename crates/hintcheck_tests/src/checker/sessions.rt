@@ -3,9 +3,11 @@
 ghost use Rattle.std.specs.Prelude.{◌≡◌};
 ghost use Rattle.hintcheck.specs.FontPrograms.{IsFontInRange};
 
-use crate::checker::certificate_calls::bytes_of;
-use crate::checker::stored_certificates::{FONT, FORM_1, FORM_2, FORM_3, FORM_4, UNDERFLOWING};
 use hintcheck::{CheckFontFault, Name, Outcome, Refused, Session, read_font};
+use hintcheck_test_fixtures::hex_bytes::bytes_of;
+use hintcheck_test_fixtures::stored_certificates::{
+    FONT, FORM_1, FORM_2, FORM_3, FORM_4, UNDERFLOWING,
+};
 use std::alloc::Global;
 use tt_font::Font;
 use tt_stream::{ReadFailed, Source};
@@ -114,7 +116,7 @@ fn five_calls(
 
 /// Returns what they answer for a font's bytes; nothing where these hold no font, or where memory ran out.
 fn called(alloc: Global, parts: &[&str], bytes: &[u8]) -> Option<([Told; 5], usize, usize)> {
-    let file = bytes_of(alloc, parts)?;
+    let file = bytes_of(alloc, parts).ok()?;
     let font = read_font(alloc, &file).ok()?;
     Some(five_calls(alloc, &font, bytes, bytes))
 }
@@ -125,7 +127,7 @@ fn first_of(
     parts: &[&str],
     bytes: &[u8],
 ) -> Option<Result<Option<Refused>, CheckFontFault>> {
-    let file = bytes_of(alloc, parts)?;
+    let file = bytes_of(alloc, parts).ok()?;
     let font = read_font(alloc, &file).ok()?;
     let mut source = Bytes { left: bytes };
     Some(first_refused(alloc, &font, &mut source))

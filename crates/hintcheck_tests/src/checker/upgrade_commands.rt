@@ -1,9 +1,11 @@
 //! The command `upgrade`, on files.
 
-use crate::checker::certificate_calls::bytes_of;
 use crate::checker::certificate_commands::path_of;
 use crate::checker::outputs::answers;
-use crate::checker::stored_certificates::{FONT, FORM_1, FORM_1_UPGRADED, FORM_2, FORM_3, FORM_4};
+use hintcheck_test_fixtures::hex_bytes::bytes_of;
+use hintcheck_test_fixtures::stored_certificates::{
+    FONT, FORM_1, FORM_1_UPGRADED, FORM_2, FORM_3, FORM_4,
+};
 use std::test::Fail;
 use std::{env, fs};
 

@@ -1,7 +1,10 @@
 //! Old certificates that are upgraded, in memory.
 
-use crate::checker::certificate_calls::{Told, bytes_of, checked, upgraded};
-use crate::checker::stored_certificates::{FONT, FORM_1, FORM_1_UPGRADED, FORM_2, FORM_3, FORM_4};
+use hintcheck_test_fixtures::font_calls::{Told, checked, upgraded};
+use hintcheck_test_fixtures::hex_bytes::bytes_of;
+use hintcheck_test_fixtures::stored_certificates::{
+    FONT, FORM_1, FORM_1_UPGRADED, FORM_2, FORM_3, FORM_4,
+};
 use std::alloc::Global;
 
 /// More bytes than any certificate here has.
@@ -115,9 +118,9 @@ fn certificate(
     count: usize,
     storage: &str,
 ) -> Option<Vec<u8>> {
-    let mut bytes = bytes_of(alloc, &[start, case.count])?;
+    let mut bytes = bytes_of(alloc, &[start, case.count]).ok()?;
     for section in case.sections.iter().take(count) {
-        let text = bytes_of(alloc, &[*section, STATE, storage])?;
+        let text = bytes_of(alloc, &[*section, STATE, storage]).ok()?;
         bytes.extend_from_slice(&text).ok()?;
     }
     Some(bytes)
@@ -126,7 +129,8 @@ fn certificate(
 /// Returns what the upgrade of the case's certificate tells and writes, and what it has to write.
 fn upgrade_of(alloc: Global, case: &Case<'_>) -> Option<(Result<u32, Told>, Vec<u8>, Vec<u8>)> {
     let mut old = certificate(alloc, "484352540002", case, case.sections.len(), "")?;
-    old.extend_from_slice(&bytes_of(alloc, &[case.more])?).ok()?;
+    old.extend_from_slice(&bytes_of(alloc, &[case.more]).ok()?)
+        .ok()?;
     let want = match case.written {
         Some(count) => certificate(alloc, "484352540004", case, count, "0000")?,
         None => Vec::new(alloc),

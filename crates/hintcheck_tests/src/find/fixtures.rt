@@ -3,10 +3,12 @@
 ghost use Rattle.tt_abs.specs.Entries.{Rises};
 
 use crate::find::fillings::filled_points;
+use hintcheck_test_fixtures::families::leads_through;
+use hintcheck_test_fixtures::programs::{GLYPH, LIMITS, cut};
 use std::alloc::Global;
 use tt_abs::{Kind, Setting};
-use tt_cert::{Certificate, ProgramFault, Spot, States, check};
-use tt_code::{Limits, Program, Reason};
+use tt_cert::{Certificate, ProgramFault, Spot, check};
+use tt_code::Reason;
 use tt_find::{Finder, Found, find};
 
 /// How many contexts and points the least family has, filled up, and how many updates made it.
@@ -22,32 +24,6 @@ pub(crate) struct Told {
     pub(crate) certificate: Option<Certificate>,
 }
 
-const LIMITS: Limits = Limits {
-    storage: 4,
-    functions: 2,
-    stack: 8,
-    program_size: 64,
-    zones: 2,
-    twilight: 4,
-};
-
-pub(crate) const GLYPH: Kind = Kind::Glyph {
-    points: 4,
-    contours: 1,
-};
-
-/// Whether the walk leads through exactly these points, in this order.
-fn leads_through(states: States<'_>, points: &[(u32, u32)]) -> bool {
-    let mut states = states;
-    for point in points {
-        match states.take_first() {
-            Some((context, offset, _)) if (context, offset) == *point => {}
-            _ => return false,
-        }
-    }
-    states.take_first().is_none()
-}
-
 impl Told {
     /// Whether these are the points of the states that are listed, each a context and an offset, in their order.
     pub(crate) fn lists(&self, points: &[(u32, u32)]) -> bool {
@@ -55,17 +31,6 @@ impl Told {
             Some(certificate) => leads_through(certificate.states(), points),
             None => false,
         }
-    }
-}
-
-/// Returns a program of less than 100 bytes, cut.
-fn cut<'a>(alloc: Global, bytes: &'a [u8]) -> Option<Program<'a>> {
-    if bytes.len() >= 100 {
-        return None;
-    }
-    match Program::cut(alloc, bytes) {
-        Ok(program) => Some(program),
-        Err(_) => None,
     }
 }
 

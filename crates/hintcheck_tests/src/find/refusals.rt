@@ -1,11 +1,12 @@
 //! Small programs that have no good family: where they are refused, and why.
 
-use crate::find::fixtures::{GLYPH, Told, alone, with_function};
+use crate::find::fixtures::{Told, alone, with_function};
 use crate::find::programs::{
     CALLING, CALLS, CALLS_AND_ADDS, CALLS_ANOTHER, EMPTY, FOUR_TURNS, MAY_CALL, POPPING,
     POPS_ON_BOTH_WAYS, PUSHES_ON_ONE_WAY, PUSHES_WITHOUT_END, REFUSED_TWICE, STARTS_AGAIN,
     TURNS_65535,
 };
+use hintcheck_test_fixtures::programs::GLYPH;
 use std::alloc::Global;
 use std::process::Abort;
 use tt_abs::Kind;
