@@ -90,7 +90,7 @@ fn write_sections<W: Sink>(
     while let Some((outcome, found)) = session.look_next(alloc, &mut finder, Search::Writing)? {
         // No program was refused at the first look, so none is now.
         let found = found.unwrap();
-        found.certificate.is_in_order();
+        found.certificate.order_facts();
         encode(alloc, outcome.program, &found.certificate, sink)?;
         finder.take_back(found.certificate);
     }

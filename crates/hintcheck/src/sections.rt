@@ -57,7 +57,7 @@ pub(crate) fn next_section<S: Source>(
     if !is_same(named, name) {
         return Err(DecodeFault::Form(start));
     }
-    certificate.is_in_order();
+    certificate.order_facts();
     progress.place = after;
     Ok(certificate)
 }

@@ -215,10 +215,10 @@ fn add_state(builder: &mut Builder, point: (u32, u32), state: &State) -> Result<
     ensures added { OnOk result (builder.new.states ≡ builder.old.states ++ (point, state.now) ∷ []) }
     ensures contexts { builder.new.contexts ≡ builder.old.contexts }
 {
-    builder.is_family();
-    builder.states_rise();
+    builder.family_facts();
+    builder.order_facts();
     let joined = builder.join_state(point.0, point.1, state);
-    builder.states_rise();
+    builder.order_facts();
     match joined {
         Ok(_) => Ok(()),
         Err(fault) => match fault {

@@ -1,4 +1,4 @@
 pub mod Found
-pub mod Marks
-pub mod Tables
+pub mod OffsetMarks
+pub mod Solvers
 pub mod Worklist

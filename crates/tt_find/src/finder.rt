@@ -8,7 +8,7 @@ ghost use Rattle.tt_abs.specs.StateFlow.{FunctionsFit, Place};
 ghost use Rattle.tt_cert.specs.Checks.{IsOutOfMemory};
 ghost use Rattle.tt_cert.specs.Contents.{family_of};
 ghost use Rattle.tt_find.specs.Found.{AreLeastContexts, HasLeastFilling, IsJustified, IsNeverEnding, LacksEnd, NamesPlace, NamesStop, NeedsAll, NoneIsGood};
-ghost use Rattle.tt_find.specs.Tables.{HasLaws, IsEmptyTable, IsFound, IsWhole};
+ghost use Rattle.tt_find.specs.Solvers.{HasLaws, IsEmptySolver, IsFound, IsWhole};
 
 use crate::origin::Origin;
 use crate::run::{run, store};
@@ -34,7 +34,7 @@ pub struct Found {
 }
 
 /// Shows that the laws of the program's flow hold, and that no count of updates is too great, as it always is.
-fn has_laws(setting: &Setting<'_>)
+fn law_facts(setting: &Setting<'_>)
     requires rises { Rises setting.now.start.now }
     requires fits { FunctionsFit (setting_of setting.now) setting.now.start.now }
     ensures { HasLaws (setting_of setting.now) setting.now.start.now }
@@ -52,13 +52,13 @@ fn has_laws(setting: &Setting<'_>)
 fn run_to_fixpoint(alloc: Global, solver: &mut Solver, setting: &Setting<'_>) -> Result<(), Stop>
     requires rises { Rises setting.now.start.now }
     requires laws { HasLaws (setting_of setting.now) setting.now.start.now }
-    requires empty { IsEmptyTable solver.old }
+    requires empty { IsEmptySolver solver.old }
     ensures whole { IfOk result (λ _. IsWhole (setting_of setting.now) setting.now.start.now solver.new) }
     ensures none { IfOk result (λ _. solver.new.worklist ≡ []) }
     ensures stops { IfErr result (NamesStop (IsJustified (setting_of setting.now) setting.now.start.now) solver.old.marks.everywhere) }
 {
     let mut walk = Walk::start(alloc, setting.start)?;
-    solver.builder.is_family();
+    solver.builder.family_facts();
     if let Err(stop) = store(solver, &mut walk, 0, 0, Origin::Elsewhere) {
         return Err(stop);
     }
@@ -129,7 +129,7 @@ fn find_fixpoint(
     ensures found { IfOk result (IsFound (setting_of setting.now) setting.now.start.now solver.new) }
     ensures justified { IfErr result (NamesPlace (IsJustified (setting_of setting.now) setting.now.start.now)) }
 {
-    has_laws(setting);
+    law_facts(setting);
     if !is_short(setting) {
         let most = u32::from(setting.limits.program_size);
         return Err(refused_in_main(most, Reason::ProgramTooLong));
@@ -155,7 +155,7 @@ pub struct Finder {
 impl Finder {
     /// Makes a finder without memory.
     pub fn new(alloc: Global) -> Finder
-        ensures { IsEmptyTable result.solver }
+        ensures { IsEmptySolver result.solver }
     {
         Finder {
             solver: Solver::new(alloc),

@@ -10,7 +10,7 @@ ghost use Rattle.tt_cert.specs.Contents.{family_of, frames_at};
 ghost use Rattle.tt_cert.specs.Puts.{place_of};
 ghost use Rattle.tt_cert.specs.Spots.{spot_of};
 ghost use Rattle.tt_find.specs.Found.{IsJustified, NamesPlace, NamesStop};
-ghost use Rattle.tt_find.specs.Tables.{GoesOn, HasLaws, HasRisen, IsApart, IsCarried, IsJustAfter, IsLeadingAt, IsOnWay, IsPopped, IsRefusedAt, IsStored, IsWalk, IsWhole, TellsSource, calls_of, here_of, places_from};
+ghost use Rattle.tt_find.specs.Solvers.{GoesOn, HasLaws, HasRisen, IsApart, IsCarried, IsJustAfter, IsLeadingAt, IsOnWay, IsPopped, IsRefusedAt, IsStored, IsWalk, IsWhole, TellsSource, calls_of, here_of, places_from};
 
 use crate::origin::Origin;
 use crate::solver::{Solver, refused_at};

@@ -9,8 +9,8 @@ ghost use Rattle.tt_cert.specs.Places.{states_of};
 ghost use Rattle.tt_cert.specs.Puts.{place_of};
 ghost use Rattle.tt_cert.specs.Spots.{spot_of};
 ghost use Rattle.tt_find.specs.Found.{NamesPlace};
-ghost use Rattle.tt_find.specs.Tables.{IsApart, IsEmptyTable, IsPassed, IsPut, KeepsRest, SparesAt};
-ghost use Rattle.tt_find.specs.Marks.{mark_of};
+ghost use Rattle.tt_find.specs.Solvers.{IsApart, IsEmptySolver, IsPassed, IsPut, KeepsRest, SparesAt};
+ghost use Rattle.tt_find.specs.OffsetMarks.{mark_of};
 
 use crate::marks::{Mark, OffsetMarks};
 use crate::origin::Origin;
@@ -58,7 +58,7 @@ pub(crate) fn refused_at(
 impl Solver {
     /// Makes a solver without states.
     pub(crate) fn new(alloc: Global) -> Solver
-        ensures { IsEmptyTable result }
+        ensures { IsEmptySolver result }
     {
         Solver {
             builder: Builder::new(alloc),
@@ -72,7 +72,7 @@ impl Solver {
 
     /// Removes all states and all contexts except for the empty one, and keeps their memory and the marks.
     pub(crate) fn clear(&mut self)
-        ensures empty { IsEmptyTable self.new }
+        ensures empty { IsEmptySolver self.new }
         ensures marks { self.new.marks ≡ self.old.marks }
     {
         self.builder.clear();

@@ -3,7 +3,7 @@
 ghost use Rattle.std.specs.Prelude.{◌≡◌, ◌<◌, Err, IfOk, OnErr, length};
 ghost use Rattle.tt_abs.specs.Moves.{frames_behind, offset_behind};
 ghost use Rattle.tt_cert.specs.Contents.{AddsContext, HasContext, IsFamily, frames_at};
-ghost use Rattle.tt_find.specs.Tables.{IsCountable};
+ghost use Rattle.tt_find.specs.Solvers.{IsCountable};
 
 use tt_abs::Move;
 use tt_abs::setting::body_offset;
@@ -27,7 +27,7 @@ pub(crate) fn resolve_successor(
     ensures kept { OnErr result (builder.new ≡ builder.old) }
     ensures family { IsFamily builder.new }
 {
-    builder.is_family();
+    builder.family_facts();
     match landing_of(builder, context, way) {
         Landing::In { context, offset } => Ok((context, offset)),
         Landing::Body { parent, frame } => {

@@ -8,7 +8,7 @@ ghost use Rattle.tt_cert.specs.Joins.{TellsNew};
 ghost use Rattle.tt_cert.specs.Places.{states_of};
 ghost use Rattle.tt_cert.specs.Puts.{place_of};
 ghost use Rattle.tt_find.specs.Found.{NamesPlace};
-ghost use Rattle.tt_find.specs.Tables.{IsApart, IsPut, IsWalk, KeepsRest};
+ghost use Rattle.tt_find.specs.Solvers.{IsApart, IsPut, IsWalk, KeepsRest};
 
 use crate::solver::Solver;
 use std::alloc::{AllocError, Global};
@@ -125,7 +125,7 @@ impl Walk {
         ensures context { self.new.context ≡ self.old.context }
         ensures walk { IfOk result (λ _. IsWalk solver.new.builder self.new) }
     {
-        solver.builder.is_family();
+        solver.builder.family_facts();
         let joined = match solver.put(context, offset, &self.state) {
             Ok(joined) => joined,
             Err(fault) => return Err(fault),

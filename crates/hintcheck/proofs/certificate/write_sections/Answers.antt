@@ -19,7 +19,7 @@ loop-finder-preserved g c =
       c.in_ok-encode.ensures.failures ∙ c.loop-finder.invariant.0,
       found_next c.args.font.now (g.W.Sink.contents c.args.sink.now) (g.W.Sink.contents c.loop-finder.sink) (g.W.Sink.contents c.encode.new.sink) c.loop-finder.session c.look_next.new.self
           c.in_ok-outcome.field-0 c.in-Some.outcome c.in-Some.found c.unwrap-found.result c.in-Some.is c.unwrap-found.ensures so_far e.found e.font e.no_fault e.finding
-          c.is_in_order.ensures c.in_ok-encode.ensures.fits c.in_ok-encode.ensures.written,
+          c.order_facts.ensures c.in_ok-encode.ensures.fits c.in_ok-encode.ensures.written,
     )
 
 pub returns-clause-written : goal.returns-clause-written

@@ -1,6 +1,6 @@
 use Rattle.std.proofs.Common.{arith}
 use Rattle.tt_abs.specs.Settings.{setting_of}
-use Rattle.tt_find.proofs.finder.has_laws.Goals as goal
+use Rattle.tt_find.proofs.finder.law_facts.Goals as goal
 
 pub returns : goal.returns
 returns c = record {

@@ -11,16 +11,16 @@ abbrev pub state_in : List State → ℕ → State
 state_in slots number = slice_index_or slots number (start_of [])
 
 -- each place with the state in its slot
-abbrev pub table_of : List State → List ((ℕ × ℕ) × ℕ) → List ((ℕ × ℕ) × State)
-table_of slots [] = []
-table_of slots (e ∷ es) = (e.0, state_in slots e.1) ∷ table_of slots es
+abbrev pub states_in : List State → List ((ℕ × ℕ) × ℕ) → List ((ℕ × ℕ) × State)
+states_in slots [] = []
+states_in slots (e ∷ es) = (e.0, state_in slots e.1) ∷ states_in slots es
 
 -- each place's slot is there
 abbrev pub AreSlots : List State → List ((ℕ × ℕ) × ℕ) → Type 0
 AreSlots slots places = (i : ℕ) (e : (ℕ × ℕ) × ℕ) → slice_get places i ≡ Some e → e.1 < length slots
 
 -- the places ascend and have the first slots, one each
-pub record IsTable (slots : List State) (places : List ((ℕ × ℕ) × ℕ)) : Type 0 where
+pub record AreFirstSlots (slots : List State) (places : List ((ℕ × ℕ) × ℕ)) : Type 0 where
   pub rises : IsStrictlySortedBy place_cmp (keys_of places)
   pub first : (p : ℕ × ℕ) (n : ℕ) → states_of places p ≡ Some n → n < length places
   pub once : (p q : ℕ × ℕ) (n : ℕ) → states_of places p ≡ Some n → states_of places q ≡ Some n → p ≡ q

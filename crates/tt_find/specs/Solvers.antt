@@ -17,7 +17,7 @@ use Rattle.tt_abs.specs.Orders.{Order}
 use Rattle.tt_abs.specs.StateFlow.{AreProgramsShort, GivesState, Place, RefusesState, flow_of, height_of}
 use Rattle.tt_abs.specs.States.{abstract_of, state_order}
 use Rattle.tt_abs.specs.Transfers.{outcome_on_cells}
-use Rattle.tt_cert.specs.Checks.{key_of}
+use Rattle.tt_cert.specs.Checks.{point_key_of}
 use Rattle.tt_cert.specs.Contents.{Contents, IsFamily, family_of, frames_at, points_of, total}
 use Rattle.tt_cert.specs.GoodFamilies.{EndsWell, IsShortEnough}
 use Rattle.tt_cert.specs.Places.{PutsAt, has_point, states_of}
@@ -26,7 +26,7 @@ use Rattle.tt_cert.specs.Spots.{spot_of}
 use Rattle.tt_cert.specs.declared.spot.Spot.{Spot}
 use Rattle.tt_cert.specs.Cursors.{IsAfter}
 use Rattle.tt_find.specs.Found.{ArePointsOf, IsDerived, IsNeeded}
-use Rattle.tt_find.specs.Marks.{SetsMark, mark_at, mark_of}
+use Rattle.tt_find.specs.OffsetMarks.{SetsMark, mark_at, mark_of}
 use Rattle.tt_find.specs.declared.marks.Mark.TheVariants.{Free, Kept, Passed}
 use Rattle.tt_find.specs.declared.marks.OffsetMarks.{OffsetMarks}
 use Rattle.tt_find.specs.declared.origin.Origin.{Origin}
@@ -46,11 +46,11 @@ pub record IsSoundFamily {P S : Type 0} (o : Order S) (f : Flow P S) (family : P
 
 -- whether a set of contexts and offsets has the place's
 abbrev pub IsAmong : Contents → List (ℕ × ℕ) → Place → Type 0
-IsAmong contents points p = has_point points (key_of contents p) ≡ true
+IsAmong contents points p = has_point points (point_key_of contents p) ≡ true
 
 -- Each context was entered with a derived state; each point that waits has a state; the family is sound. Here: a place that is being carried
 -- on.
-pub record IsTable (o : Order State) (f : Flow Place State) (contents : Contents) (worklist : List (ℕ × ℕ)) (filled : Place → Option State) (MayLead : Place → Place → Type 0)
+pub record IsSoundSoFar (o : Order State) (f : Flow Place State) (contents : Contents) (worklist : List (ℕ × ℕ)) (filled : Place → Option State) (MayLead : Place → Place → Type 0)
     (Here : Place → Type 0) (Rest : Place → Place → State → Type 0) : Type 0 where
   pub family : IsFamily contents
   pub entered : (i : ℕ) → i < length contents.contexts → (offset : ℕ) × (a : State) × Derived o f (frames_at contents.contexts i, offset) a
@@ -68,7 +68,7 @@ pub record AreKept (marks : OffsetMarks) (stored filled : Place → Option State
 pub record IsListed (contents : Contents) (spare : List (ℕ × ℕ)) (q : Place) : Type 0 where
   pub state : State
   pub kept : family_of contents q ≡ Some state
-  pub not_spare : has_point spare (key_of contents q) ≡ false
+  pub not_spare : has_point spare (point_key_of contents q) ≡ false
 
 -- where a place may lead: to the one just after it, and to those with a listed state
 abbrev pub MayLead : Setting → Contents → List (ℕ × ℕ) → Place → Place → Type 0
@@ -107,7 +107,7 @@ pub record HasLaws (s : Setting) (functions : List (ℕ × ℕ)) : Type 0 where
   pub short : AreProgramsShort s
 
 -- only the empty context, without a state, and no update
-pub record IsEmptyTable (solver : Solver) : Type 0 where
+pub record IsEmptySolver (solver : Solver) : Type 0 where
   pub contexts : solver.builder.contexts ≡ [] ∷ []
   pub states : solver.builder.states ≡ []
   pub family : IsFamily solver.builder
@@ -119,7 +119,7 @@ pub record IsEmptyTable (solver : Solver) : Type 0 where
 -- The finder's solver, for a program that starts with these functions. The filled family has the kept states, and those that were passed.
 pub record IsSound (s : Setting) (functions : List (ℕ × ℕ)) (solver : Solver) (Here : Place → Type 0) (Rest : Place → Place → State → Type 0) : Type 0 where
   pub filled : Place → Option State
-  pub kept : IsTable state_order (flow_of s functions) solver.builder solver.worklist filled (MayLead s solver.builder solver.spare.keys) Here Rest
+  pub kept : IsSoundSoFar state_order (flow_of s functions) solver.builder solver.worklist filled (MayLead s solver.builder solver.spare.keys) Here Rest
   pub marks : AreKept solver.marks (family_of solver.builder) filled
   pub start : IsListed solver.builder solver.spare.keys ([], 0)
   pub needed : AreNeeded s functions solver.builder solver.spare.keys

@@ -16,11 +16,11 @@ use Rattle.std.proofs.lemmas.List.{get_or-set_same, get_or-set_other, set-get_or
 use Rattle.std.proofs.lemmas.Option.{slice_get_read, get_or_from_slice_get}
 use Rattle.tt_abs.specs.Entries.{Rises, listed}
 use Rattle.tt_cert.specs.Places.{place_cmp, states_of}
-use Rattle.tt_cert.specs.PlaceRows.{Point, Offsets, row_points, rows_points, merged, row_of, AreBelow, AreApart, AreEmptyFrom, ArePlaces, AddsRows}
+use Rattle.tt_cert.specs.SlotRows.{Point, Offsets, row_points, rows_points, merged, row_of, AreBelow, AreApart, AreEmptyFrom, AreSlotRows, AddsRows}
 use Rattle.tt_cert.proofs.Puts.{places_apart}
 use Rattle.tt_cert.proofs.Putting.{place_total}
 use Rattle.tt_cert.proofs.RowEnds.{listed_below, listed_pushed, rises_pushed, below_first}
-use Rattle.tt_cert.proofs.PlaceEntries.{merged_found, merged_points, merged_rest, merged_rises, insert_found, insert_length, insert_rises, place_exact}
+use Rattle.tt_cert.proofs.SlotEntries.{merged_found, merged_points, merged_rest, merged_rises, insert_found, insert_length, insert_rises, place_exact}
 
 -- places by their parts
 
@@ -121,7 +121,7 @@ rise_from b [] rises = tt
 rise_from b (row ∷ rows) rises = row_rises b row (rows_points (suc b) rows) (rises 0) (all_from (suc b) (suc b) rows (omega arith)) (rise_from (suc b) rows (λ c. rises (suc c)))
 
 -- the points of the rows, and those beside them
-module _ (rows : List Offsets) (rest : List Point) (places : ArePlaces rows rest) where
+module _ (rows : List Offsets) (rest : List Point) (places : AreSlotRows rows rest) where
   pub rows_rise : IsStrictlySortedBy place_cmp (keys_of (rows_points 0 rows))
   rows_rise = rise_from 0 rows places.rise
 
@@ -184,7 +184,7 @@ adds_one old rows new adds is = record {
   longer = let before = adds.longer in let long = ap length is ∙ length-append rows ([] ∷ []) in omega arith;
 }
 
-pub places_with_rows : (old new : List Offsets) (rest : List Point) → ArePlaces old rest → AddsRows old new → length new ≤ 4294967296 → ArePlaces new rest
+pub places_with_rows : (old new : List Offsets) (rest : List Point) → AreSlotRows old rest → AddsRows old new → length new ≤ 4294967296 → AreSlotRows new rest
 places_with_rows old new rest places adds fits =
     let R : Offsets → Type 0 = λ row. Rises row in
     record {
@@ -261,7 +261,7 @@ module _ (rows : List Offsets) (rest : List Point) (empty : (c : ℕ) → row_of
   pub empty_merged : merged (rows_points 0 rows) rest ≡ []
   empty_merged = ap (merged (rows_points 0 rows)) none ∙ no_points 0 rows empty
 
-  pub empty_places : length rows ≤ 4294967296 → ArePlaces rows rest
+  pub empty_places : length rows ≤ 4294967296 → AreSlotRows rows rest
   unfolding IsStrictlySortedBy
   empty_places fits =
       let R : Offsets → Type 0 = λ row. Rises row in
@@ -275,7 +275,7 @@ module _ (rows : List Offsets) (rest : List Point) (empty : (c : ℕ) → row_of
       }
 
 -- a point that isn't there
-module _ (rows : List Offsets) (rest : List Point) (places : ArePlaces rows rest) (c o n : ℕ) (absent : states_of (merged (rows_points 0 rows) rest) (c, o) ≡ None) where
+module _ (rows : List Offsets) (rest : List Point) (places : AreSlotRows rows rest) (c o n : ℕ) (absent : states_of (merged (rows_points 0 rows) rest) (c, o) ≡ None) where
   neither : (x y : Option ℕ) → option_or x y ≡ None → (x ≡ None) × (y ≡ None)
   neither None y none = (refl, none)
   neither (Some m) y none = absurd (cc)
@@ -291,7 +291,7 @@ module _ (rows : List Offsets) (rest : List Point) (places : ArePlaces rows rest
     other_row : (c' : ℕ) → c' ≢ c → row_of (slice_set rows c row) c' ≡ row_of rows c'
     other_row c' apart = get_or-set_other rows c c' row [] apart
 
-    pub put_places : ArePlaces (slice_set rows c row) rest
+    pub put_places : AreSlotRows (slice_set rows c row) rest
     put_places =
         let R : Offsets → Type 0 = λ r. Rises r in
         record {
@@ -340,7 +340,7 @@ module _ (rows : List Offsets) (rest : List Point) (places : ArePlaces rows rest
 
   -- it is put beside the rows
   module _ (behind : AreBelow o (row_of rows c) → ⊥) where
-    pub beside_places : ArePlaces rows (insert_entry place_cmp rest (c, o) n)
+    pub beside_places : AreSlotRows rows (insert_entry place_cmp rest (c, o) n)
     beside_places = record {
       rise = places.rise;
       rest_rises = insert_rises rest (c, o) n places.rest_rises;
@@ -380,9 +380,9 @@ module _ (rows : List Offsets) (rest : List Point) (places : ArePlaces rows rest
       longer : row' ≡ row ++ (o, n) ∷ [] → row' ≡ row_of rows c ++ (o, n) ∷ []
       longer is = is ∙ ap (λ r. r ++ (o, n) ∷ []) (sym row_is)
 
-      pub pushed_places : {E : Type 0} (r : Result (Unit {0}) E) → OnOk r (row' ≡ row ++ (o, n) ∷ []) → OnErr r (row' ≡ row) → ArePlaces (slice_set rows c row') rest
+      pub pushed_places : {E : Type 0} (r : Result (Unit {0}) E) → OnOk r (row' ≡ row ++ (o, n) ∷ []) → OnErr r (row' ≡ row) → AreSlotRows (slice_set rows c row') rest
       pushed_places (Ok u) is same = put_places within below_row row' (longer is)
-      pushed_places (Err e) is same = let P : List Offsets → Type 0 = λ l. ArePlaces l rest in subst P (sym (rows_same row' same)) places
+      pushed_places (Err e) is same = let P : List Offsets → Type 0 = λ l. AreSlotRows l rest in subst P (sym (rows_same row' same)) places
 
       pub pushed_merged : {E : Type 0} (r : Result (Unit {0}) E) → OnOk r (row' ≡ row ++ (o, n) ∷ [])
           → OnOk r (merged (rows_points 0 (slice_set rows c row')) rest ≡ insert_entry place_cmp (merged (rows_points 0 rows) rest) (c, o) n)
@@ -394,17 +394,17 @@ module _ (rows : List Offsets) (rest : List Point) (places : ArePlaces rows rest
       behind_row : AreBelow o (row_of rows c) → ⊥
       behind_row below = let B : Offsets → Type 0 = λ r. AreBelow o r in behind (subst B row_is below)
 
-      pub inserted_places : ArePlaces (slice_set rows c row) rest'
+      pub inserted_places : AreSlotRows (slice_set rows c row) rest'
       inserted_places =
-          let P : List Offsets → Type 0 = λ l. ArePlaces l rest' in
-          let Q : List Point → Type 0 = λ l. ArePlaces rows l in
+          let P : List Offsets → Type 0 = λ l. AreSlotRows l rest' in
+          let Q : List Point → Type 0 = λ l. AreSlotRows rows l in
           subst P (sym (rows_same row refl)) (subst Q (sym is) (beside_places behind_row))
 
       pub inserted_merged : merged (rows_points 0 (slice_set rows c row)) rest' ≡ insert_entry place_cmp (merged (rows_points 0 rows) rest) (c, o) n
       inserted_merged = ap (λ l. merged (rows_points 0 l) rest') (rows_same row refl) ∙ ap (merged (rows_points 0 rows)) is ∙ beside_merged behind_row
 
 -- a point that is put in is one more
-pub one_point_more : (rows rows' : List Offsets) (rest points : List Point) (k : ℕ × ℕ) (n count : ℕ) → ArePlaces rows rest → AddsRows rows rows' → states_of (merged (rows_points 0 rows) rest) k ≡ None
+pub one_point_more : (rows rows' : List Offsets) (rest points : List Point) (k : ℕ × ℕ) (n count : ℕ) → AreSlotRows rows rest → AddsRows rows rows' → states_of (merged (rows_points 0 rows) rest) k ≡ None
     → points ≡ insert_entry place_cmp (merged (rows_points 0 rows') rest) k n → count ≡ length (merged (rows_points 0 rows) rest) → count + 1 ≡ length points
 one_point_more rows rows' rest points k n count places adds absent is same =
     let rise = merged_rises (rows_points 0 rows) rest (rows_rise rows rest places) in

@@ -31,6 +31,10 @@ abbrev pub merged : List Point → List Point → List Point
 merged points [] = points
 merged points (e ∷ es) = insert_entry place_cmp (merged points es) e.0 e.1
 
+-- the points of the rows and those beside them, by place
+abbrev pub points_in : List Offsets → List Point → List Point
+points_in rows rest = merged (rows_points 0 rows) rest
+
 -- a context's row, and an empty one where there is none
 abbrev pub row_of : List Offsets → ℕ → Offsets
 row_of rows context = slice_index_or rows context []
@@ -46,7 +50,7 @@ pub record AreApart (points rest : List Point) : Type 0 where
   pub once : (p : ℕ × ℕ) (n : ℕ) → states_of rest p ≡ Some n → states_of points p ≡ None
 
 -- the offsets of each row ascend, and a point beside the rows comes after none of them: its row has a greater offset, and not its own
-pub record ArePlaces (rows : List Offsets) (rest : List Point) : Type 0 where
+pub record AreSlotRows (rows : List Offsets) (rest : List Point) : Type 0 where
   pub rise : (c : ℕ) → Rises (row_of rows c)
   pub rest_rises : IsStrictlySortedBy place_cmp (keys_of rest)
   pub unlisted : (c o n : ℕ) → states_of rest (c, o) ≡ Some n → listed (row_of rows c) o ≡ None
