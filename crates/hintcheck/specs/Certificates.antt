@@ -53,7 +53,7 @@ pub record PassesToEnd (form : Form) (x : Subject) (instructions : List Instruct
   pub functions_are : end.functions ≡ functions
 
 -- Why a program that is checked by a family is refused, where, and the offset that is reported of it: it can't be cut; its structure is at fault; the
--- family isn't good, and an offset of more than 32 bits is told as the greatest number of them.
+-- family isn't good, and an offset of more than 32 bits is reported as the greatest number of them.
 pub data IsBreak (form : Form) (x : Subject) (family : Contents) : Place → ℕ → Reason → Type 0 where
   no_cut : (offset : ℕ) → CannotBeCut x.bytes offset → IsBreak form x family ([], offset) offset reason.CannotCut
   no_structure : (instructions : List Instruction) (offset : ℕ) → IsCut x.bytes instructions → IsFault instructions offset

@@ -79,7 +79,7 @@ IsFaultOfCertifying other = IsFaultOfReading other
 -- The same for a font file and a certificate's file with these names. One name stands for one file; two names may, and no contract of the runtime
 -- tells which do.
 abbrev pub IsFaultOfFinding : List ℕ → List ℕ → CommandFault → Type 0
-IsFaultOfFinding font certificate told = (told ≡ fault.CertificateWord) ⊎ (font ≢ certificate × IsFaultOfCertifying told)
+IsFaultOfFinding font certificate reported = (reported ≡ fault.CertificateWord) ⊎ (font ≢ certificate × IsFaultOfCertifying reported)
 
 -- why there is none on a font file by its certificate
 abbrev pub IsFaultOfChecking : CommandFault → Type 0
@@ -95,7 +95,7 @@ IsFaultOfRewriting other = IsFaultOfReading other
 
 -- The same for an old certificate's file and a new one's with these names, which stand for files as those of a font and its certificate do.
 abbrev pub IsFaultOfUpgrading : List ℕ → List ℕ → CommandFault → Type 0
-IsFaultOfUpgrading old new told = (told ≡ fault.NewWord) ⊎ (old ≢ new × IsFaultOfRewriting told)
+IsFaultOfUpgrading old new reported = (reported ≡ fault.NewWord) ⊎ (old ≢ new × IsFaultOfRewriting reported)
 
 -- a text isn't printed
 abbrev pub IsFaultOfPrinting : CommandFault → Type 0
@@ -116,16 +116,16 @@ IsFaultOfListing bytes word other = IsFaultOfLines other
 
 -- why the program with this name of a font file isn't listed
 abbrev pub IsFaultOfFileListing : List ℕ → CommandFault → Type 0
-IsFaultOfFileListing word told = IsFaultOfReading told ⊎ ((bytes : List ℕ) × IsFaultOfListing bytes word told)
+IsFaultOfFileListing word reported = IsFaultOfReading reported ⊎ ((bytes : List ℕ) × IsFaultOfListing bytes word reported)
 
 -- Why what is asked for isn't answered.
 abbrev pub IsFaultOfRequest : Request → CommandFault → Type 0
-IsFaultOfRequest (bare maxp cvt points contours program) told = IsFaultOfGlyph maxp (unwrap_or program []) told
-IsFaultOfRequest (verdict font) told = IsFaultOfFontFile told
-IsFaultOfRequest (find font certificate) told = IsFaultOfFinding font certificate told
-IsFaultOfRequest (check font certificate) told = IsFaultOfChecking told
-IsFaultOfRequest (list font program) told = IsFaultOfFileListing program told
-IsFaultOfRequest (upgrade old new) told = IsFaultOfUpgrading old new told
+IsFaultOfRequest (bare maxp cvt points contours program) reported = IsFaultOfGlyph maxp (unwrap_or program []) reported
+IsFaultOfRequest (verdict font) reported = IsFaultOfFontFile reported
+IsFaultOfRequest (find font certificate) reported = IsFaultOfFinding font certificate reported
+IsFaultOfRequest (check font certificate) reported = IsFaultOfChecking reported
+IsFaultOfRequest (list font program) reported = IsFaultOfFileListing program reported
+IsFaultOfRequest (upgrade old new) reported = IsFaultOfUpgrading old new reported
 
 -- The words of `bare` have no fault; and those of `find` and of `upgrade` are two different ones.
 abbrev pub HasNoFault : Request → Type 0
@@ -138,9 +138,9 @@ HasNoFault (upgrade old new) = old ≢ new
 
 -- the request has this fault; or it has none, and its answer isn't printed
 abbrev pub IsFaultOfTask : Request → CommandFault → Type 0
-IsFaultOfTask request told = IsFaultOfRequest request told ⊎ (HasNoFault request × IsFaultOfPrinting told)
+IsFaultOfTask request reported = IsFaultOfRequest request reported ⊎ (HasNoFault request × IsFaultOfPrinting reported)
 
--- clap's text, which is told or isn't printed
+-- clap's text, which is reported or isn't printed
 abbrev pub IsFaultOfUsage : CommandFault → Type 0
 IsFaultOfUsage (fault.Usage text) = Unit {0}
 IsFaultOfUsage other = IsFaultOfPrinting other
@@ -148,8 +148,8 @@ IsFaultOfUsage other = IsFaultOfPrinting other
 -- Why words get no answer: memory ran out; or the command line doesn't take them; or they ask for something that has this fault.
 pub data IsFaultOfWords (words : List (List ℕ)) : CommandFault → Type 0 where
   no_memory : IsFaultOfWords words fault.OutOfMemory
-  not_taken : (told : CommandFault) → (is_taken words ≡ true → ⊥) → IsFaultOfUsage told → IsFaultOfWords words told
-  of_request : (told : CommandFault) (request : Request) → meaning words ≡ Some request → IsFaultOfTask request told → IsFaultOfWords words told
+  not_taken : (reported : CommandFault) → (is_taken words ≡ true → ⊥) → IsFaultOfUsage reported → IsFaultOfWords words reported
+  of_request : (reported : CommandFault) (request : Request) → meaning words ≡ Some request → IsFaultOfTask request reported → IsFaultOfWords words reported
 
 -- The words ask for something that has no fault.
 pub record MeansNoFault (words : List (List ℕ)) : Type 0 where
@@ -159,6 +159,6 @@ pub record MeansNoFault (words : List (List ℕ)) : Type 0 where
 
 -- A fault of the words gives this status.
 pub record TellsFault (words : List (List ℕ)) (status : ℕ) : Type 0 where
-  pub told : CommandFault
-  pub why : IsFaultOfWords words told
-  pub status_is : status ≡ status_of told
+  pub reported : CommandFault
+  pub why : IsFaultOfWords words reported
+  pub status_is : status ≡ status_of reported

@@ -68,7 +68,7 @@ out_of_memory_here = fault.OutOfMemory alloc_error
 -- the only fault of a session that finds is that memory ran out
 abbrev pub IsMemoryAlone : Option CheckFontFault → Type 0
 IsMemoryAlone None = Unit {0}
-IsMemoryAlone (Some met) = met ≡ out_of_memory_here
+IsMemoryAlone (Some other) = other ≡ out_of_memory_here
 
 -- a session that was used for no other calls than those that find: no certificate was read
 pub record IsForFinding (s : Standing) : Type 0 where

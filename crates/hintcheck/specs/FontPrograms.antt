@@ -53,7 +53,7 @@ pub record IsSafeFont (d : FontData) : Type 0 where
   pub cvt_never_faults : NeverFaults (cvt_setting (font_of d font_program cvt_program)) (StartsCvtProgram (font_of d font_program cvt_program))
   pub glyphs : (id : ℕ) (g : GlyphData) → slice_get d.glyphs id ≡ Some g → IsSafeGlyph (font_of d font_program cvt_program) g
 
--- The programs as they are looked at: the font program starts with no function, the CVT program with those that are known where the font
+-- The programs as they are checked: the font program starts with no function, the CVT program with those that are known where the font
 -- program ends, each glyph program with those that are known where the CVT program ends.
 
 abbrev pub font_subject : FontData → Subject
@@ -67,7 +67,7 @@ glyph_subject font functions id g = record { name = name.Glyph id; bytes = g.pro
 
 -- These are the refused ones of the glyph programs from a number on, in their order: each other one has its least family.
 pub data AreRefused (font : Font) (functions : List (ℕ × ℕ)) : ℕ → List GlyphData → List Refused → Type 0 where
-  all_looked_at : (id : ℕ) → AreRefused font functions id [] []
+  no_glyph_left : (id : ℕ) → AreRefused font functions id [] []
   accepted : (id : ℕ) (g : GlyphData) (gs : List GlyphData) (rs : List Refused) → HasLeastFamily (glyph_subject font functions id g)
       → AreRefused font functions (id + 1) gs rs → AreRefused font functions id (g ∷ gs) rs
   refused : (id : ℕ) (g : GlyphData) (gs : List GlyphData) (r : Refused) (rs : List Refused) → IsRefusal (glyph_subject font functions id g) r
@@ -77,10 +77,10 @@ pub data AreRefused (font : Font) (functions : List (ℕ × ℕ)) : ℕ → List
 abbrev pub judgement_on : FontData → List Refused → Judgement
 judgement_on d rs = record { programs = length d.glyphs + 2; refused = rs }
 
--- The verdict on a font: a refused font program or CVT program ends the look, a refused glyph program doesn't.
+-- The verdict on a font: a refused font program or CVT program ends it, a refused glyph program doesn't.
 pub data IsVerdict (d : FontData) : Judgement → Type 0 where
   font_refused : (r : Refused) → IsRefusal (font_subject d) r → IsVerdict d (judgement_on d (r ∷ []))
   cvt_refused : (f : List Instruction) (functions : List (ℕ × ℕ)) (r : Refused) → EndsWith (font_subject d) f functions
       → IsRefusal (cvt_subject d f functions) r → IsVerdict d (judgement_on d (r ∷ []))
-  looked_at_all : (f p : List Instruction) (functions known : List (ℕ × ℕ)) (rs : List Refused) → EndsWith (font_subject d) f functions
+  none_ended : (f p : List Instruction) (functions known : List (ℕ × ℕ)) (rs : List Refused) → EndsWith (font_subject d) f functions
       → EndsWith (cvt_subject d f functions) p known → AreRefused (font_of d f p) known 0 d.glyphs rs → IsVerdict d (judgement_on d rs)

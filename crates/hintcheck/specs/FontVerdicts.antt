@@ -1,4 +1,4 @@
--- How far the look at a font's programs has come. (Representation: no public clause cites it.)
+-- How far the verdict on a font's programs has come. (Representation: no public clause cites it.)
 use Rattle.std.specs.Prelude.{ℕ, List, ◌++◌, drop}
 use Rattle.tt_code.specs.Cut.{Instruction}
 use Rattle.tt_code.specs.Fonts.{Font}
@@ -9,14 +9,14 @@ use Rattle.tt_abs.specs.StateFlow.{FunctionsFit}
 use Rattle.tt_abs.specs.declared.setting.Setting.{Setting}
 use Rattle.tt_font.specs.Reading.{FontData, GlyphData}
 use Rattle.hintcheck.specs.FontPrograms.{AreRefused, IsVerdict, glyph_subject, judgement_on}
-use Rattle.hintcheck.specs.ProgramVerdicts.{IsLookedAt}
+use Rattle.hintcheck.specs.ProgramVerdicts.{IsSubjectOf}
 use Rattle.hintcheck.specs.Programs.{EndsWith, Subject}
 use Rattle.hintcheck.specs.declared.font.Common.{Common}
 use Rattle.hintcheck.specs.declared.report.Refused.{Refused}
 
--- a program is looked at in this setting
-abbrev pub IsOfSubject : Setting → Type 0
-IsOfSubject s = (x : Subject) × IsLookedAt x s
+-- the setting is that of a program
+abbrev pub HasSubject : Setting → Type 0
+HasSubject s = (x : Subject) × IsSubjectOf x s
 
 -- a font program or a CVT program, which come to their ends
 abbrev pub ComesToEnd : Kind → Type 0
@@ -30,7 +30,7 @@ pub record IsKnownAtEnd (x : Subject) (instructions : List Instruction) (functio
   pub rises : Rises functions
   pub fits : FunctionsFit (x.setting instructions) functions
 
--- the font, and a glyph's program as it is looked at
+-- the font, and a glyph's program as it is checked
 abbrev pub font_in : Common → Font
 font_in c = programs_of c.setting
 

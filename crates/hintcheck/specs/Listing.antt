@@ -59,7 +59,7 @@ pub data IsUnlistedAt (program : List ℕ) : ℕ → Reason → Type 0 where
 abbrev pub refused_in : Name → ℕ → Reason → Refused
 refused_in called offset reason = record { program = called; place = record { program = called; offset = offset }; reason = reason }
 
--- Why the program by this name isn't listed was told in one line, where the written bytes are known.
+-- Why the program by this name isn't listed was reported in one line, where the written bytes are known.
 pub record TellsUnlisted (called : Name) (program : List ℕ) (old new : Option (List ℕ)) : Type 0 where
   pub offset : ℕ
   pub reason : Reason

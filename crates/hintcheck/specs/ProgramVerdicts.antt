@@ -1,4 +1,4 @@
--- What the look at one program returns, and what is reported of it.
+-- What the verdict on one program is, and what is reported of it.
 use Rattle.std.specs.Prelude.{◌≡◌, ℕ, List, [], ◌∷◌, ◌++◌, Option, Some}
 use Rattle.tt_code.specs.Cut.{Instruction}
 use Rattle.tt_code.specs.declared.reason.Reason.{Reason}
@@ -19,8 +19,8 @@ use Rattle.hintcheck.specs.declared.program.Search.{Search}
 use Rattle.hintcheck.specs.declared.program.Search.TheVariants as search
 use Rattle.hintcheck.specs.declared.report.Refused.{Refused as AnyRefused}
 
--- this is the program that is looked at in this setting
-pub record IsLookedAt (x : Subject) (s : Setting) : Type 0 where
+-- this is the program of this setting
+pub record IsSubjectOf (x : Subject) (s : Setting) : Type 0 where
   pub cut : IsCutInto x s.main.now
   pub setting : x.setting s.main.now ≡ setting_of s
   pub functions : x.functions ≡ s.start.now
@@ -37,20 +37,20 @@ pub record IsAccepted (x : Subject) (instructions : List Instruction) (family : 
   pub safe : IsSafe (x.setting instructions) x.functions filling
 
 -- what is reported of a program by this name that is refused at a place
-abbrev pub told_at : Name → Spot → ℕ → Reason → AnyRefused
-told_at called spot offset r = record { program = called; place = record { program = program_at called spot; offset = offset }; reason = r }
+abbrev pub reported_at : Name → Spot → ℕ → Reason → AnyRefused
+reported_at called spot offset r = record { program = called; place = record { program = program_at called spot; offset = offset }; reason = r }
 
 -- the same of what is reported of a program by this name, where the fault refuses it; out of memory is unspecified
 abbrev pub IfRefused : Name → ProgramFault → (AnyRefused → Type 0) → Type 0
-IfRefused called (Refused spot offset r) Is = Is (told_at called spot offset r)
+IfRefused called (Refused spot offset r) Is = Is (reported_at called spot offset r)
 IfRefused called (OutOfMemory e) Is = Unit {0}
 
 -- the fault refuses a program by this name, which is last in the list
 abbrev pub IsListed : Name → ProgramFault → List AnyRefused → List AnyRefused → Type 0
-IsListed called (Refused spot offset r) old new = new ≡ old ++ told_at called spot offset r ∷ []
+IsListed called (Refused spot offset r) old new = new ≡ old ++ reported_at called spot offset r ∷ []
 IsListed called (OutOfMemory e) old new = ⊥
 
--- a program is looked at for its certificate
+-- a family is searched for a certificate
 abbrev pub IsForCertificate : Search → Type 0
 IsForCertificate search.Verdict = ⊥
 IsForCertificate search.Certificate = Unit {0}

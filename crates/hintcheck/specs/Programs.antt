@@ -1,4 +1,4 @@
--- A program that is looked at, what it means that it has a family of abstract states, and why it is refused.
+-- A program as it is checked, what it means that it has a family of abstract states, and why it is refused.
 use Rattle.std.specs.Prelude.{◌≡◌, ◌⊎◌, ℕ, List, [], Option, Some}
 use Rattle.tt_code.specs.Cut.{Instruction, IsCut, CannotBeCut, size}
 use Rattle.tt_code.specs.Grammar.{IsStructured, IsFault}
@@ -16,7 +16,7 @@ use Rattle.tt_cert_file.specs.declared.name.Name.{Name}
 use Rattle.tt_cert_file.specs.declared.name.Name.TheVariants as name
 use Rattle.hintcheck.specs.declared.report.Refused.{Refused}
 
--- A program that is looked at: its name; its bytes; what it is checked against, once its instructions are known; and the functions that
+-- A program as it is checked: its name; its bytes; what it is checked against, once its instructions are known; and the functions that
 -- are known to be defined where it starts, by ascending numbers, each with its body.
 pub record Subject : Type 0 where
   pub name : Name

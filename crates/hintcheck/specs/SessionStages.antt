@@ -15,14 +15,14 @@ use Rattle.hintcheck.specs.CheckedFonts.{IsGoodAtEnd}
 use Rattle.hintcheck.specs.FindingSessions.{AreFirstSections}
 use Rattle.hintcheck.specs.FontVerdicts.{IsKnownAtEnd}
 use Rattle.hintcheck.specs.FontPrograms.{cvt_subject, font_of, font_subject, glyph_subject}
-use Rattle.hintcheck.specs.ProgramVerdicts.{told_at}
+use Rattle.hintcheck.specs.ProgramVerdicts.{reported_at}
 use Rattle.hintcheck.specs.Sessions.{Stage, after_font, at_glyph, at_start, over, refused_as}
 use Rattle.hintcheck.specs.declared.font_check.CheckFontFault.{CheckFontFault}
 use Rattle.hintcheck.specs.declared.font_check.CheckFontFault.TheVariants as fault
 use Rattle.hintcheck.specs.declared.sections.Progress.{Progress}
 use Rattle.hintcheck.specs.declared.report.Refused.{Refused}
 use Rattle.hintcheck.specs.declared.session.SessionFault.{SessionFault}
-use Rattle.hintcheck.specs.declared.session.SessionFault.TheVariants as met
+use Rattle.hintcheck.specs.declared.session.SessionFault.TheVariants as session
 use Rattle.hintcheck.specs.declared.session.Outcome.{Outcome}
 use Rattle.hintcheck.specs.declared.session.Kept.{Kept}
 use Rattle.hintcheck.specs.declared.session.Kept.TheVariants as kept
@@ -41,9 +41,9 @@ read_of (Some p) = Some (p.form, p.place)
 
 -- the fault that each call returns
 abbrev pub fault_of : SessionFault → CheckFontFault
-fault_of (met.Form place) = fault.Form place
-fault_of met.Read = fault.Read
-fault_of met.OutOfMemory = fault.OutOfMemory alloc_error
+fault_of (session.Form place) = fault.Form place
+fault_of session.Read = fault.Read
+fault_of session.OutOfMemory = fault.OutOfMemory alloc_error
 
 abbrev pub fault_in : Option SessionFault → Option CheckFontFault
 fault_in None = None
@@ -76,13 +76,13 @@ HasHeader d form old new = (place : ℕ) × (header_at (input_at 0 old) ≡ Ok (
 
 -- what is reported of a program of this name that the fault refuses; out of memory is unspecified
 abbrev pub TellsRefusal : Name → ProgramFault → Result Outcome CheckFontFault → Type 0
-TellsRefusal called (program.Refused spot offset r) told = told ≡ Ok (refused_as called (told_at called spot offset r))
-TellsRefusal called (program.OutOfMemory e) told = told ≡ Err (fault.OutOfMemory e)
+TellsRefusal called (program.Refused spot offset r) answer = answer ≡ Ok (refused_as called (reported_at called spot offset r))
+TellsRefusal called (program.OutOfMemory e) answer = answer ≡ Err (fault.OutOfMemory e)
 
 -- what is reported of a program of this name that the fault refuses; that memory ran out, where it did
 abbrev pub TellsOutcome : Name → ProgramFault → Result Outcome AllocError → Type 0
-TellsOutcome called (program.Refused spot offset r) told = told ≡ Ok (refused_as called (told_at called spot offset r))
-TellsOutcome called (program.OutOfMemory e) told = told ≡ Err e
+TellsOutcome called (program.Refused spot offset r) answer = answer ≡ Ok (refused_as called (reported_at called spot offset r))
+TellsOutcome called (program.OutOfMemory e) answer = answer ≡ Err e
 
 -- the refused program, if there is one, is last in the list
 abbrev pub ListsOutcome : List Refused → Option Refused → List Refused → Type 0

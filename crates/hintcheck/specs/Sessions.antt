@@ -1,4 +1,4 @@
--- A session looks at the programs of a font one by one: where it is, and what its calls return.
+-- A session takes the programs of a font one by one: where it is, and what its calls return.
 use Rattle.std.specs.Prelude.{◌≡◌, ◌≢◌, ℕ, ◌+◌, ◌<◌, List, [], Option, Some, None, Ok, Err, length, slice_get}
 use Rattle.tt_code.specs.Cut.{Instruction}
 use Rattle.tt_cert.specs.Contents.{Contents}
@@ -31,10 +31,10 @@ pub record Standing : Type 0 where
   pub stage : Stage
   -- the certificate's form, and how many of its bytes were read, once its header was
   pub read : Option (Form × ℕ)
-  -- the fault that was met, which each later call returns
+  -- the fault of an earlier call, which each later call returns
   pub fault : Option CheckFontFault
 
--- a session that met no fault
+-- a session without a fault
 abbrev pub standing_at : FontData → Stage → Option (Form × ℕ) → Standing
 standing_at d stage read = record { font = d; stage = stage; read = read; fault = None }
 

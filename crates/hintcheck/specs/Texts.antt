@@ -23,7 +23,7 @@ refused_text r = codes "refused " ++ (text_of r.program ++ (codes " at " ++ (pla
 abbrev pub refused_lines : List Refused → List ℕ
 refused_lines rs = flat_map (λ r. refused_text r ++ codes "\n") rs
 
--- the last line where a program is refused: the font program or the CVT program, which end the look, or this many of the glyph programs
+-- the last line where a program is refused: the font program or the CVT program, which end the verdict, or this many of the glyph programs
 abbrev pub refused_line : ℕ → ℕ → Name → List ℕ
 refused_line count programs name.Font = codes "refused: font program\n"
 refused_line count programs name.Cvt = codes "refused: cvt program\n"

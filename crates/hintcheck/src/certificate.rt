@@ -87,7 +87,7 @@ fn write_sections<W: Sink>(
 {
     let mut session = Session::new(font);
     let mut finder = Finder::new(alloc);
-    while let Some((outcome, found)) = session.look_next(alloc, &mut finder, Search::Writing)? {
+    while let Some((outcome, found)) = session.search_next(alloc, &mut finder, Search::Writing)? {
         // No program was refused at the first look, so none is now.
         let found = found.unwrap();
         found.certificate.is_in_order();

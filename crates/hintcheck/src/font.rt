@@ -11,9 +11,9 @@ ghost use Rattle.tt_font.specs.FileFaults.{font_fault};
 ghost use Rattle.tt_font.specs.GlyphParts.{glyph_data};
 ghost use Rattle.tt_font.specs.Reading.{FontData, Reads};
 ghost use Rattle.hintcheck.specs.FindingSessions.{IsFoundFor, IsFoundToEnd};
-ghost use Rattle.hintcheck.specs.FontVerdicts.{AreAllRefused, ComesToEnd, IsKnownAtEnd, IsOfSubject, font_in, subject_in};
+ghost use Rattle.hintcheck.specs.FontVerdicts.{AreAllRefused, ComesToEnd, IsKnownAtEnd, HasSubject, font_in, subject_in};
 ghost use Rattle.hintcheck.specs.FontPrograms.{AreRefused, IsFontInRange, IsSafeFont, IsVerdict, cvt_subject, font_of, font_subject};
-ghost use Rattle.hintcheck.specs.ProgramVerdicts.{IfRefused, IsForCertificate, IsListed, IsLookedAt};
+ghost use Rattle.hintcheck.specs.ProgramVerdicts.{IfRefused, IsForCertificate, IsListed, IsSubjectOf};
 ghost use Rattle.hintcheck.specs.Programs.{HasGoodFamily, HasLeastFamily, IsRefusal, Subject};
 
 use crate::program::{Search, cut, find_and_check, list_refused};
@@ -32,14 +32,14 @@ fn find_to_end(
     setting: &Setting<'_>,
     search: Search,
 ) -> Result<(Vec<(u16, u32)>, Found), ProgramFault>
-    requires subject { IsOfSubject setting.now }
+    requires subject { HasSubject setting.now }
     requires ends { ComesToEnd (setting_of setting.now).kind }
     requires rises { Rises setting.now.start.now }
     requires fits { FunctionsFit (setting_of setting.now) setting.now.start.now }
-    ensures known { (x : Subject) → IsLookedAt x setting.now → IfOk result (λ e. IsKnownAtEnd x setting.now.main.now e.0.items) }
-    ensures found { IsForCertificate search → (x : Subject) → IsLookedAt x setting.now
+    ensures known { (x : Subject) → IsSubjectOf x setting.now → IfOk result (λ e. IsKnownAtEnd x setting.now.main.now e.0.items) }
+    ensures found { IsForCertificate search → (x : Subject) → IsSubjectOf x setting.now
         → IfOk result (λ e. IsFoundToEnd x setting.now.main.now e.1 e.0.items) }
-    ensures refused { (x : Subject) → IsLookedAt x setting.now → IfErr result (λ fault. IfRefused x.name fault (IsRefusal x)) }
+    ensures refused { (x : Subject) → IsSubjectOf x setting.now → IfErr result (λ fault. IfRefused x.name fault (IsRefusal x)) }
 {
     let found = find_and_check(alloc, finder, setting, search)?;
     // An accepted font program or CVT program has a state at its end.
@@ -222,12 +222,12 @@ pub(crate) fn refused_programs(
 {
     let mut finder = Finder::new(alloc);
     let (fpgm, found) = match find_font_program(alloc, &mut finder, font, search) {
-        Ok(looked_at) => looked_at,
+        Ok(answer) => answer,
         Err(fault) => return refused_alone(alloc, Name::Font, fault),
     };
     finder.take_back(found.certificate);
     let (prep, found) = match find_cvt_program(alloc, &mut finder, font, &fpgm, search) {
-        Ok(looked_at) => looked_at,
+        Ok(answer) => answer,
         Err(fault) => return refused_alone(alloc, Name::Cvt, fault),
     };
     finder.take_back(found.certificate);

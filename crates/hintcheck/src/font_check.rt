@@ -16,9 +16,9 @@ ghost use Rattle.hintcheck.specs.CertificateFaults.{CountsCheck, IsNoFontFault, 
 ghost use Rattle.hintcheck.specs.Certificates.{IsChecked, IsGoodListing, IsListingBrokenFirst, Passes, PassesToEnd};
 ghost use Rattle.hintcheck.specs.CheckedFonts.{AnswersFinding, Finds, HasGoodFamilies, IsGoodAtEnd, IsRefusedBy, IsTold, bytes_in};
 ghost use Rattle.hintcheck.specs.FailedReads.{HasRead, IsCutHeader, IsUnbroken, IsUnbrokenFor};
-ghost use Rattle.hintcheck.specs.FontVerdicts.{ComesToEnd, IsOfSubject, subject_in};
+ghost use Rattle.hintcheck.specs.FontVerdicts.{ComesToEnd, HasSubject, subject_in};
 ghost use Rattle.hintcheck.specs.FontPrograms.{IsFontInRange, IsSafeFont, cvt_subject, font_subject};
-ghost use Rattle.hintcheck.specs.ProgramVerdicts.{IsLookedAt};
+ghost use Rattle.hintcheck.specs.ProgramVerdicts.{IsSubjectOf};
 ghost use Rattle.hintcheck.specs.Programs.{HasGoodFamily, Subject};
 ghost use Rattle.hintcheck.specs.SessionStages.{HasHeader, ListsOutcome};
 ghost use Rattle.hintcheck.specs.Sessions.{IsHeaderFault};
@@ -142,13 +142,13 @@ fn certified_functions(
     certificate: &Certificate,
     form: Form,
 ) -> Result<Vec<(u16, u32)>, ProgramFault>
-    requires subject { IsOfSubject setting.now }
+    requires subject { HasSubject setting.now }
     requires ends { ComesToEnd (setting_of setting.now).kind }
     requires rises { Rises setting.now.start.now }
-    ensures known { (x : Subject) → IsLookedAt x setting.now → IfOk result (λ functions. IsGoodAtEnd x setting.now.main.now functions.items) }
-    ensures passed { (x : Subject) → IsLookedAt x setting.now
+    ensures known { (x : Subject) → IsSubjectOf x setting.now → IfOk result (λ functions. IsGoodAtEnd x setting.now.main.now functions.items) }
+    ensures passed { (x : Subject) → IsSubjectOf x setting.now
         → IfOk result (λ functions. PassesToEnd form x setting.now.main.now certificate.now functions.items) }
-    ensures refused { (x : Subject) → IsLookedAt x setting.now → IfErr result (IsRefusedBy form x certificate.now) }
+    ensures refused { (x : Subject) → IsSubjectOf x setting.now → IfErr result (IsRefusedBy form x certificate.now) }
 {
     check_section(alloc, setting, certificate, form)?;
     // A checked font program or CVT program has a state at its end.

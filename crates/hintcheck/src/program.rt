@@ -15,7 +15,7 @@ ghost use Rattle.tt_find.specs.Found.{AreLeastContexts, HasLeastFilling, IsJusti
 ghost use Rattle.hintcheck.specs.CheckedFonts.{IsRefusedBy};
 ghost use Rattle.hintcheck.specs.FindingSessions.{IsFoundFor};
 ghost use Rattle.hintcheck.specs.Programs.{HasGoodFamily, IsCutInto, IsRefusal, Subject, program_at as program_at_spot};
-ghost use Rattle.hintcheck.specs.ProgramVerdicts.{IfRefused, IsAccepted, IsForCertificate, IsListed, IsLookedAt, told_at};
+ghost use Rattle.hintcheck.specs.ProgramVerdicts.{IfRefused, IsAccepted, IsForCertificate, IsListed, IsSubjectOf, reported_at};
 
 use crate::report::{Name, Place, Refused};
 use std::alloc::{AllocError, Global};
@@ -36,8 +36,8 @@ fn program_at(name: Name, spot: Spot) -> Name
 }
 
 /// Returns what is reported of the program of this name that is refused at an offset.
-pub(crate) fn told(name: Name, spot: Spot, offset: u32, reason: Reason) -> Refused
-    ensures { result ≡ told_at name spot offset reason }
+pub(crate) fn reported(name: Name, spot: Spot, offset: u32, reason: Reason) -> Refused
+    ensures { result ≡ reported_at name spot offset reason }
 {
     Refused {
         program: name,
@@ -66,7 +66,7 @@ pub(crate) fn list_refused(
             offset,
             reason,
         } => {
-            refused.push(told(name, spot, offset, reason))?;
+            refused.push(reported(name, spot, offset, reason))?;
             Ok(())
         }
         ProgramFault::OutOfMemory(error) => Err(error),
@@ -178,10 +178,10 @@ pub(crate) fn find_and_check(
 ) -> Result<Found, ProgramFault>
     requires rises { Rises setting.now.start.now }
     requires fits { FunctionsFit (setting_of setting.now) setting.now.start.now }
-    ensures accepted { (x : Subject) → IsLookedAt x setting.now → IfOk result (λ found. IsAccepted x setting.now.main.now (family_of found.certificate)) }
-    ensures found { IsForCertificate search → (x : Subject) → IsLookedAt x setting.now → IfOk result (IsFoundFor x setting.now.main.now) }
-    ensures refused { (x : Subject) → IsLookedAt x setting.now → IfErr result (λ fault. IfRefused x.name fault (IsRefusal x)) }
-    ensures none_good { (x : Subject) (points contours : ℕ) → IsLookedAt x setting.now → (setting_of setting.now).kind ≡ GlyphProgram points contours
+    ensures accepted { (x : Subject) → IsSubjectOf x setting.now → IfOk result (λ found. IsAccepted x setting.now.main.now (family_of found.certificate)) }
+    ensures found { IsForCertificate search → (x : Subject) → IsSubjectOf x setting.now → IfOk result (IsFoundFor x setting.now.main.now) }
+    ensures refused { (x : Subject) → IsSubjectOf x setting.now → IfErr result (λ fault. IfRefused x.name fault (IsRefusal x)) }
+    ensures none_good { (x : Subject) (points contours : ℕ) → IsSubjectOf x setting.now → (setting_of setting.now).kind ≡ GlyphProgram points contours
         → IfErr result (λ fault. IfRefused x.name fault (λ _. HasGoodFamily x → ⊥)) }
 {
     setting.is_within();

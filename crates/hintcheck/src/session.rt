@@ -21,7 +21,7 @@ use crate::font::{Common, Ended, cvt_setting};
 use crate::font_check::{
     CheckFontFault, check_cvt_program, check_font_program, check_glyph_program, read_start,
 };
-use crate::program::{Search, told};
+use crate::program::{Search, reported};
 use crate::report::{Name, Refused};
 use crate::sections::{Progress, next_section};
 use crate::session::find::find_from;
@@ -63,7 +63,7 @@ impl SessionFault {
     }
 
     /// Returns the fault as each call returns it.
-    fn told(self) -> CheckFontFault
+    fn reported(self) -> CheckFontFault
         ensures { result ≡ fault_of self }
     {
         match self {
@@ -130,7 +130,7 @@ fn refused(program: Name, fault: ProgramFault) -> Result<Outcome, CheckFontFault
             reason,
         } => Ok(Outcome {
             program,
-            refused: Some(told(program, spot, offset, reason)),
+            refused: Some(reported(program, spot, offset, reason)),
         }),
         ProgramFault::OutOfMemory(error) => Err(CheckFontFault::OutOfMemory(error)),
     }
@@ -383,7 +383,7 @@ pub struct Session<'a> {
     font: &'a Font<'a>,
     kept: Kept<'a>,
     progress: Option<Progress>,
-    met: Option<SessionFault>,
+    fault: Option<SessionFault>,
 }
 
 impl<'a> Model for Session<'a> {
@@ -393,7 +393,7 @@ impl<'a> Model for Session<'a> {
 
     ghost Value = { Standing };
 
-    ghost view = { λ s. record { font = s.font.now; stage = stage_of s.kept; read = read_of s.progress; fault = fault_in s.met } };
+    ghost view = { λ s. record { font = s.font.now; stage = stage_of s.kept; read = read_of s.progress; fault = fault_in s.fault } };
 
     ghost invariant = { λ s. IsFontInRange s.font.now × KeepsGood s.font.now (stage_of s.kept)
         × KeepsFound (read_of s.progress) s.font.now (stage_of s.kept) };
@@ -409,7 +409,7 @@ impl<'a> Session<'a> {
             font,
             kept: Kept::Start,
             progress: None,
-            met: None,
+            fault: None,
         }
     }
 
@@ -444,15 +444,15 @@ impl<'a> Session<'a> {
         ensures failures { self.old.fault ≡ None → CountsCheck result (S.failures source.old) (S.failures source.new) }
         ensures no_font_fault { self.old.fault ≡ None → IfErr result IsNoFontFault }
     {
-        if let Some(met) = self.met {
-            return Err(met.told());
+        if let Some(fault) = self.fault {
+            return Err(fault.reported());
         }
         if self.kept.is_over() {
             return Ok(None);
         }
         let answer = check_from(alloc, self.font, &mut self.kept, &mut self.progress, source);
         if let Err(fault) = &answer {
-            self.met = Some(SessionFault::of(fault));
+            self.fault = Some(SessionFault::of(fault));
         }
         answer
     }
@@ -461,7 +461,7 @@ impl<'a> Session<'a> {
     ///
     /// # Errors
     /// `OutOfMemory`.
-    pub(crate) fn look_next(
+    pub(crate) fn search_next(
         &mut self,
         alloc: Global,
         finder: &mut Finder,
@@ -477,7 +477,7 @@ impl<'a> Session<'a> {
         ensures font { self.new.font ≡ self.old.font }
         ensures finding { IsForFinding self.new }
     {
-        if self.met.is_some() {
+        if self.fault.is_some() {
             return Err(FindFontFault::OutOfMemory(AllocError));
         }
         if self.kept.is_over() {
@@ -485,7 +485,7 @@ impl<'a> Session<'a> {
         }
         let answer = find_from(alloc, finder, self.font, &mut self.kept, search);
         if answer.is_err() {
-            self.met = Some(SessionFault::OutOfMemory);
+            self.fault = Some(SessionFault::OutOfMemory);
         }
         Ok(answer?)
     }
@@ -511,6 +511,6 @@ impl<'a> Session<'a> {
         ensures font { self.new.font ≡ self.old.font }
         ensures finding { IsForFinding self.new }
     {
-        self.look_next(alloc, finder, Search::Certificate)
+        self.search_next(alloc, finder, Search::Certificate)
     }
 }

@@ -15,7 +15,7 @@ use super::{Kept, Outcome, accepted};
 use crate::font::{
     Common, Ended, cvt_setting, find_cvt_program, find_font_program, find_glyph_program,
 };
-use crate::program::{Search, told};
+use crate::program::{Search, reported};
 use crate::report::Name;
 use std::alloc::{AllocError, Global};
 use std::mem;
@@ -44,7 +44,7 @@ fn refused(program: Name, fault: ProgramFault) -> Result<Outcome, AllocError>
             reason,
         } => Ok(Outcome {
             program,
-            refused: Some(told(program, spot, offset, reason)),
+            refused: Some(reported(program, spot, offset, reason)),
         }),
         ProgramFault::OutOfMemory(error) => Err(error),
     }
