@@ -8,7 +8,7 @@ use Rattle.hintcheck.specs.ProgramVerdicts.{IsListed}
 use Rattle.hintcheck.specs.Programs.{HasLeastFamily, Subject}
 use Rattle.tt_cert_file.specs.declared.name.Name.TheVariants as name
 use Rattle.hintcheck.specs.declared.report.Refused.{Refused}
-use Rattle.hintcheck.proofs.JudgeLemmas.{around, judged_refused}
+use Rattle.hintcheck.proofs.BareProgramLemmas.{around, judged_refused}
 use Rattle.hintcheck.proofs.bare_program.refused_programs.Goals as goal
 use Rattle.hintcheck.proofs.bare_program.refused_programs.Goals.{in-Ok, in-Err+in_ok-list_refused-in-Err}
 

@@ -6,7 +6,7 @@ use Rattle.hintcheck.specs.FontVerdicts.{font_in, subject_in}
 use Rattle.hintcheck.specs.ProgramVerdicts.{IfRefused}
 use Rattle.hintcheck.specs.Programs.{HasGoodFamily}
 use Rattle.hintcheck.proofs.EmptyPrograms.{least_without_instructions}
-use Rattle.hintcheck.proofs.LookLemmas.{passed_on}
+use Rattle.hintcheck.proofs.ProgramVerdictLemmas.{passed_on}
 use Rattle.hintcheck.proofs.font.judge_glyph.Goals as goal
 
 pub returns-then-is_empty-clause-least : goal.returns-then-is_empty-clause-least

@@ -1,4 +1,4 @@
--- Where no program of a font was refused at the first look, none is at the second.
+-- Where no program of a font was refused as they were found first, none is as they are found once more.
 use Rattle.std.proofs.Common.{◌≡◌, true, ℕ, zero, suc, ◌+◌, arith, List, [], Option, Some, refl, sym, ◌∙◌, ap, subst}
 use Rattle.std.specs.Prelude.{is_some, slice_get}
 use Rattle.tt_code.specs.Cut.{Instruction, size}
@@ -10,7 +10,7 @@ use Rattle.tt_find.specs.declared.finder.Found.{Found}
 use Rattle.tt_font.specs.Reading.{FontData, GlyphData}
 use Rattle.hintcheck.specs.FindingSessions.{IsFoundAnswer, IsOutcomeByFinding, cvt_found, cvt_refused, font_found, font_refused, glyph_found, glyph_refused}
 use Rattle.hintcheck.specs.FontVerdicts.{AreAllRefused}
-use Rattle.hintcheck.specs.FontPrograms.{AreRefused, IsVerdict, accepted, all_looked_at, cvt_subject, font_of, font_subject, glyph_subject, judgement_on, looked_at_all, refused}
+use Rattle.hintcheck.specs.FontPrograms.{AreRefused, IsVerdict, accepted, no_glyph_left, cvt_subject, font_of, font_subject, glyph_subject, judgement_on, none_ended, refused}
 use Rattle.hintcheck.specs.FontPrograms as verdict
 use Rattle.hintcheck.specs.Programs.{EndsWith, HasLeastFamily, Subject}
 use Rattle.hintcheck.specs.Sessions.{Stage, after_font, at_glyph, at_start, over}
@@ -18,7 +18,7 @@ use Rattle.hintcheck.specs.Verdicts.{Judgement}
 use Rattle.hintcheck.specs.declared.report.Refused.{Refused}
 use Rattle.hintcheck.specs.declared.session.Outcome.{Outcome}
 use Rattle.hintcheck.proofs.FontEnds.{known_of_found}
-use Rattle.hintcheck.proofs.LookLemmas.{known_cut}
+use Rattle.hintcheck.proofs.ProgramVerdictLemmas.{known_cut}
 
 -- least families end alike
 
@@ -62,7 +62,7 @@ least_of_end x is functions e = record { instructions = is; cut = e.cut; family 
 
 glyphs_from : (font : Font) (known : List (ℕ × ℕ)) (n : ℕ) (gs : List GlyphData) (rs : List Refused) → AreRefused font known n gs rs → rs ≡ []
     → (k : ℕ) (g : GlyphData) → slice_get gs k ≡ Some g → HasLeastFamily (glyph_subject font known (n + k) g)
-glyphs_from font known n gs rs (all_looked_at m) e k g at = absurd cc
+glyphs_from font known n gs rs (no_glyph_left m) e k g at = absurd cc
 glyphs_from font known n gs rs (accepted m x xs qs least rest) e zero g at =
     let G : GlyphData → ℕ → Type 0 = λ y i. HasLeastFamily (glyph_subject font known i y) in
     let same : x ≡ g = cc in
@@ -77,7 +77,7 @@ glyphs_from font known n gs rs (refused m x xs r qs is rest) e k g at = absurd c
 least_from_start : (d : FontData) (v : Judgement) → IsVerdict d v → v.refused ≡ [] → AreLeastFrom d at_start
 least_from_start d v (verdict.font_refused r is) e = absurd cc
 least_from_start d v (verdict.cvt_refused f functions r ends is) e = absurd cc
-least_from_start d v (looked_at_all f p functions known rs font cvt glyphs) e = (
+least_from_start d v (none_ended f p functions known rs font cvt glyphs) e = (
   f,
   functions,
   font,

@@ -1,7 +1,7 @@
 use Rattle.std.proofs.Common.{◌≡◌, take}
 use Rattle.std.specs.Io.KnownBytes.{Appends}
 use Rattle.hintcheck.specs.Texts.{refused_lines}
-use Rattle.hintcheck.proofs.commands.print_verdict.Given as goal
+use Rattle.hintcheck.proofs.commands.verdict_lines.print_verdict.Given as goal
 
 abbrev pub invariant-loop-refused : goal.invariant-loop-refused
 invariant-loop-refused g l = record {

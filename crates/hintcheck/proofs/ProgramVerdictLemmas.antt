@@ -1,4 +1,4 @@
--- Why a program that is looked at is accepted or refused.
+-- Why a program is accepted or refused.
 use Rattle.std.proofs.Common.{◌≡◌, ◌⊎◌, arith, inl, inr, ℕ, List, [], Option, Some, Result, Ok, Err, refl, sym, ◌∙◌, ap, subst}
 use Rattle.std.specs.Prelude.{IfErr, IfOk}
 use Rattle.std.specs.Result.{IsErrAnd}
@@ -37,7 +37,7 @@ use Rattle.tt_find.specs.Found.{AreLeastContexts, HasLeastFilling, IsJustified, 
 use Rattle.tt_find.specs.declared.finder.Found.{Found}
 use Rattle.hintcheck.specs.FindingSessions.{IsFoundFor}
 use Rattle.hintcheck.specs.Programs.{HasGoodFamily, HasLeastFamily, IsCause, IsCutInto, IsRefusal, Subject, no_family, program_at}
-use Rattle.hintcheck.specs.ProgramVerdicts.{IfRefused, IsAccepted, IsLookedAt, told_at}
+use Rattle.hintcheck.specs.ProgramVerdicts.{IfRefused, IsAccepted, IsSubjectOf, reported_at}
 use Rattle.tt_cert_file.specs.Rules.{AreCallsInTurn}
 use Rattle.tt_cert_file.specs.declared.name.Name.{Name}
 use Rattle.hintcheck.specs.declared.report.Refused.{Refused as AnyRefused}
@@ -76,7 +76,7 @@ good_of_least x l = record { instructions = l.instructions; cut = l.cut; family 
 
 -- what is reported of a refusal
 pub is_refusal : (x : Subject) (at : Place) (spot : Spot) (offset : ℕ) (r : Reason) → spot ≡ spot_of at.0 → offset ≡ at.1
-    → IsCause x at r → (HasLeastFamily x → ⊥) → ((r ≡ reason.NeverEnds) ⊎ (HasGoodFamily x → ⊥)) → IsRefusal x (told_at x.name spot offset r)
+    → IsCause x at r → (HasLeastFamily x → ⊥) → ((r ≡ reason.NeverEnds) ⊎ (HasGoodFamily x → ⊥)) → IsRefusal x (reported_at x.name spot offset r)
 is_refusal x at spot offset r es eo cause no_least no_good = record {
   program = refl;
   at = at;
@@ -89,7 +89,7 @@ is_refusal x at spot offset r es eo cause no_least no_good = record {
 
 -- the refusal of a program that has no good family
 pub without_good : (x : Subject) (at : Place) (spot : Spot) (offset : ℕ) (r : Reason) → spot ≡ spot_of at.0 → offset ≡ at.1
-    → IsCause x at r → (HasGoodFamily x → ⊥) → IsRefusal x (told_at x.name spot offset r)
+    → IsCause x at r → (HasGoodFamily x → ⊥) → IsRefusal x (reported_at x.name spot offset r)
 without_good x at spot offset r es eo cause none = is_refusal x at spot offset r es eo cause (λ l. none (good_of_least x l)) (inr none)
 
 -- bytes that aren't cut
@@ -197,10 +197,10 @@ pub still_found : (r : Result Found ProgramFault) (found : Found) (P : Found →
 still_found (Ok a) found P same h = subst P (sym same) h
 still_found (Err e) found P same h = tt
 
--- a refusal that is told
-pub told : (called : Name) (f : ProgramFault) (spot : Spot) (offset : ℕ) (r : Reason) (Is : AnyRefused → Type 0) → f ≡ fault.Refused spot offset r → Is (told_at called spot offset r)
+-- a refusal that is reported
+pub reported : (called : Name) (f : ProgramFault) (spot : Spot) (offset : ℕ) (r : Reason) (Is : AnyRefused → Type 0) → f ≡ fault.Refused spot offset r → Is (reported_at called spot offset r)
     → IfRefused called f Is
-told called f spot offset r Is e h = let P : ProgramFault → Type 0 = λ t. IfRefused called t Is in subst P (sym e) h
+reported called f spot offset r Is e h = let P : ProgramFault → Type 0 = λ t. IfRefused called t Is in subst P (sym e) h
 
 -- a fault that is passed on
 pub passed_on : {T : Type 0} (r : Result T ProgramFault) (f : ProgramFault) (P : ProgramFault → Type 0) → IsErrAnd r (λ x. x ≡ f) → P f → IfErr r P
@@ -232,9 +232,9 @@ glyph_without_good x is s fs points contours (fault.Refused spot offset r) c es 
     glyph_no_good x is points contours (ap (λ (t : Setting). t.kind) es ∙ k) c (of_subject HasFlow x is s fs es ef h) p r
     (of_subject (λ t f. IsJustified t f p r) x is s fs es ef justified) (of_subject (λ t f. IsNoFamily t f r) x is s fs es ef (no_family_at s fs spot offset r unfound))
 
--- a program is looked at in the setting that it has with its instructions
-pub looked_at : (x : Subject) (s : AnySetting) (is : List Instruction) → IsCutInto x is → s.main.now ≡ is → setting_of s ≡ x.setting is → s.start.now ≡ x.functions → IsLookedAt x s
-looked_at x s is cut main setting start = record {
+-- a program is that of the setting which it has with its instructions
+pub is_subject : (x : Subject) (s : AnySetting) (is : List Instruction) → IsCutInto x is → s.main.now ≡ is → setting_of s ≡ x.setting is → s.start.now ≡ x.functions → IsSubjectOf x s
+is_subject x s is cut main setting start = record {
   cut = subst (IsCutInto x) (sym main) cut;
   setting = ap x.setting main ∙ sym setting;
   functions = sym start;

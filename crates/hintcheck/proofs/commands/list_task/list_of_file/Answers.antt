@@ -1,5 +1,5 @@
 use Rattle.hintcheck.proofs.PrintedLemmas.{prints_listing}
-use Rattle.hintcheck.proofs.commands.list_of_file.Goals as goal
+use Rattle.hintcheck.proofs.commands.list_task.list_of_file.Goals as goal
 
 pub returns-clause-printed : goal.returns-clause-printed
 returns-clause-printed g c =

@@ -3,7 +3,7 @@ use Rattle.hintcheck.specs.Sessions.{Standing}
 use Rattle.hintcheck.specs.SessionStages.{read_of, stage_of}
 use Rattle.hintcheck.proofs.FindingSteps.{kept_unread}
 use Rattle.hintcheck.proofs.SessionSteps.{over_is_last}
-use Rattle.hintcheck.proofs.session.Session.look_next.Goals as goal
+use Rattle.hintcheck.proofs.session.Session.search_next.Goals as goal
 
 pub returns-then-is_over-clause-found : goal.returns-then-is_over-clause-found
 returns-then-is_over-clause-found c =

@@ -1,5 +1,5 @@
 use Rattle.std.proofs.Common.{rules, refl}
-use Rattle.hintcheck.proofs.commands.bare_verdict.Goals as goal
+use Rattle.hintcheck.proofs.commands.bare_task.bare_verdict.Goals as goal
 
 pub returns-clause-given : goal.returns-clause-given
 returns-clause-given c = record {

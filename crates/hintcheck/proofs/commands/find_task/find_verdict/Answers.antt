@@ -1,6 +1,6 @@
 use Rattle.std.proofs.Common.{refl, arith}
 use Rattle.hintcheck.proofs.FontSafety.{font_is_safe}
-use Rattle.hintcheck.proofs.commands.find_verdict.Goals as goal
+use Rattle.hintcheck.proofs.commands.find_task.find_verdict.Goals as goal
 
 pub verdict_to_file-requires-clause-blank : goal.verdict_to_file-requires-clause-blank
 verdict_to_file-requires-clause-blank g c = (refl, refl, omega (arith, c.new.ensures))

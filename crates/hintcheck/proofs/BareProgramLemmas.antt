@@ -1,4 +1,4 @@
--- What the list of refused programs tells of the only program that is looked at.
+-- What the list of refused programs tells of the only program.
 use Rattle.std.proofs.Common.{◌≡◌, ◌∙◌, ℕ, List, [], ◌∷◌, ap, sym, subst}
 use Rattle.tt_code.specs.Cut.{Instruction}
 use Rattle.tt_code.specs.Fonts.{Font}
