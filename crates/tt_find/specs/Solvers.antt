@@ -24,14 +24,17 @@ use Rattle.tt_cert.specs.Places.{PutsAt, has_point, states_of}
 use Rattle.tt_cert.specs.Puts.{Reweighs, place_of}
 use Rattle.tt_cert.specs.Spots.{spot_of}
 use Rattle.tt_cert.specs.declared.spot.Spot.{Spot}
-use Rattle.tt_cert.specs.Cursors.{IsAfter}
-use Rattle.tt_find.specs.Found.{ArePointsOf, IsDerived, IsNeeded}
+use Rattle.tt_cert.specs.Cursors.{IsJustAfter}
+use Rattle.tt_cert.specs.declared.fault.ProgramFault.{ProgramFault}
+use Rattle.tt_cert.specs.declared.fault.ProgramFault.TheVariants.{Refused}
+use Rattle.tt_find.specs.Found.{ArePointsOf, IsDerived, IsNeeded, NamesPlace, NamesStop}
 use Rattle.tt_find.specs.OffsetMarks.{SetsMark, mark_at, mark_of}
 use Rattle.tt_find.specs.declared.marks.Mark.TheVariants.{Free, Kept, Passed}
 use Rattle.tt_find.specs.declared.marks.OffsetMarks.{OffsetMarks}
 use Rattle.tt_find.specs.declared.origin.Origin.{Origin}
 use Rattle.tt_find.specs.declared.origin.Origin.TheVariants.{JustBefore, Elsewhere}
 use Rattle.tt_find.specs.declared.solver.Solver.{Solver}
+use Rattle.tt_find.specs.declared.stop.Stop.{Stop}
 use Rattle.tt_find.specs.declared.walk.Walk.{Walk}
 
 -- Each value is derived, as is each that is still to be put; the start is covered; what doesn't wait isn't refused, and what it gives is
@@ -211,6 +214,26 @@ pub record IsApart (family : Place → Option State) (at : Place) (t : State) (p
   pub found : family at ≡ Some state
   pub apart : state_order.SameDepth state t → ⊥
 
+-- the same for the family's state under a context's number and an offset
+abbrev pub IsApartAt : Contents → ℕ → ℕ → State → Place → Reason → Type 0
+IsApartAt contents context offset t = IsApart (family_of contents) (place_of contents context offset) t
+
+-- the fault names that place, unless memory ran out
+abbrev pub NamesApart : Contents → ℕ → ℕ → State → ProgramFault → Type 0
+NamesApart contents context offset t = NamesPlace (IsApartAt contents context offset t)
+
+-- the finder stops there, or starts again where states aren't kept everywhere
+abbrev pub StopsApart : Solver → ℕ → ℕ → State → Stop → Type 0
+StopsApart solver context offset t = NamesStop (IsApartAt solver.builder context offset t) solver.marks.everywhere
+
+-- states are kept everywhere, or not, as before
+abbrev pub KeepsEverywhere : Solver → Solver → Type 0
+KeepsEverywhere old new = new.marks.everywhere ≡ old.marks.everywhere
+
+-- the fault that names an offset of a context, for this reason
+abbrev pub refused_in : Contents → ℕ → ℕ → Reason → ProgramFault
+refused_in contents context offset reason = Refused (spot_of (frames_at contents.contexts context)) offset reason
+
 -- the state is refused at this place
 pub record IsRefusedAt (s : Setting) (at : Place) (state : State) (p : Place) (r : Reason) : Type 0 where
   pub place : p ≡ at
@@ -266,10 +289,6 @@ pub record IsPopped (s : Setting) (functions : List (ℕ × ℕ)) (solver : Solv
   pub state : State
   pub kept : states_of solver.builder.states (context, offset) ≡ Some state
   pub apart : has_point solver.worklist (context, offset) ≡ false
-
--- where an instruction ends, if only this one leads there as to the place just after it
-abbrev pub IsJustAfter : Setting → Place → Option ℕ → Type 0
-IsJustAfter s p after = (q : Place) → IsAfter p.0 after q ↔ Precedes s p q
 
 -- the state comes from just before exactly where it stays in the context and comes to that offset
 abbrev pub TellsSource : ℕ → ℕ → Option ℕ → ℕ → Origin → Type 0
