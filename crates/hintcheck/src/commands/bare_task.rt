@@ -1,7 +1,7 @@
 //! The subcommand `bare`: the verdict on one glyph program, whose bytes are words of hexadecimal
 //! digits.
 
-ghost use Rattle.std.specs.Prelude.{◌≡◌, ◌≢◌, ◌<◌, IfErr, IfOk, None, Ok, OnOk, option_map, string_bytes, unwrap_or};
+ghost use Rattle.std.specs.Prelude.{◌≡◌, ◌≢◌, ◌<◌, IfErr, IfOk, None, Ok, OnOk, option_map, string_bytes, unwrap_or, []};
 ghost use Rattle.hintcheck.specs.Commands.{IsNoWriteFault};
 ghost use Rattle.hintcheck.specs.CommandFaults.{IsFaultOfGlyph, SpellNoFault};
 ghost use Rattle.hintcheck.specs.MeansSafe.{SpellRefusedGlyph, SpellSafeGlyph, SpellVerdict};

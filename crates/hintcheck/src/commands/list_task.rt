@@ -1,6 +1,6 @@
 //! The subcommand `list`: the instructions of a program of a font file.
 
-ghost use Rattle.std.specs.Prelude.{◌≡◌, ◌+◌, ◌≤◌, ◌<◌, IfErr, IfOk, List};
+ghost use Rattle.std.specs.Prelude.{◌≡◌, ◌+◌, ◌≤◌, ◌<◌, IfErr, IfOk, List, ℕ};
 ghost use Rattle.hintcheck.specs.Commands.{TellsFailure};
 ghost use Rattle.hintcheck.specs.CommandFaults.{IsFaultOfFileListing};
 ghost use Rattle.hintcheck.specs.Listing.{HoldUnlistedProgram};
