@@ -12,7 +12,7 @@ ghost use Rattle.tt_cert.specs.Places.{place_cmp};
 ghost use Rattle.tt_cert.specs.Rising.{IsFinished};
 ghost use Rattle.tt_stream.specs.Streams.{AppendsBeginning};
 ghost use Rattle.tt_cert_file.specs.Answers.{CountsWrite};
-ghost use Rattle.tt_cert_file.specs.KeptTexts.{IsStackText};
+ghost use Rattle.tt_cert_file.specs.Representation.KeptTexts.{IsStackText};
 ghost use Rattle.tt_cert_file.specs.Rules.{AreCallsInTurn, CallFits, Fits, HasRoom, IsTextOf, NameFits, StateFits};
 ghost use Rattle.tt_cert_file.specs.Sections.{contexts_in, section_of};
 ghost use Rattle.tt_cert_file.specs.Text.{cell_text, context_text, counted, graphics_text, long, name_text, pair_text, section_text, state_text, stored_text, word, zone_text};
