@@ -8,3 +8,4 @@ pub mod Reading
 pub mod Answers
 pub mod Blocks
 pub mod KeptTexts
+pub mod Clauses
