@@ -8,7 +8,7 @@ ghost use Rattle.tt_cert.specs.Rising.{IsFinished};
 ghost use Rattle.tt_cert.specs.Contexts.{frames_of};
 ghost use Rattle.tt_stream.specs.Reads.{ConsumesBeginning};
 ghost use Rattle.tt_cert_file.specs.Answers.{CountsRead, IsOutOfMemory};
-ghost use Rattle.tt_cert_file.specs.Clauses.{ReadsAs, ReadsBy, StopsWhole};
+ghost use Rattle.tt_cert_file.specs.Representation.Clauses.{ReadsAs, ReadsBy, StopsWhole};
 ghost use Rattle.tt_cert_file.specs.Forms.{most_contexts};
 ghost use Rattle.tt_cert_file.specs.Readers.{list_at};
 ghost use Rattle.tt_cert_file.specs.Reading.{context_at, context_count_at, contexts_at};

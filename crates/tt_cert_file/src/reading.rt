@@ -3,7 +3,7 @@
 ghost use Rattle.std.specs.Prelude.{◌≡◌, ◌++◌, ℕ, List, Some, IfErr, IfOk, MatchResult};
 ghost use Rattle.tt_stream.specs.Reads.{ConsumesBeginning};
 ghost use Rattle.tt_cert_file.specs.Answers.{AreBytes, CountsRead, GivesSection, IsFormFault, ReadsSection, StopsAtEnd, input_at};
-ghost use Rattle.tt_cert_file.specs.Clauses.{ReadsAs, StopsWhole};
+ghost use Rattle.tt_cert_file.specs.Representation.Clauses.{ReadsAs, StopsWhole};
 ghost use Rattle.tt_cert_file.specs.Reading.{section_at};
 ghost use Rattle.tt_cert_file.specs.Rules.{Fits};
 ghost use Rattle.tt_cert_file.specs.Sections.{Section, section_of};

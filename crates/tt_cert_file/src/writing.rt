@@ -12,12 +12,8 @@ ghost use Rattle.tt_cert.specs.Places.{place_cmp};
 ghost use Rattle.tt_cert.specs.Rising.{IsFinished};
 ghost use Rattle.tt_stream.specs.Streams.{AppendsBeginning};
 ghost use Rattle.tt_cert_file.specs.Answers.{CountsWrite};
-<<<<<<< HEAD
+ghost use Rattle.tt_cert_file.specs.Representation.Clauses.{Pushes};
 ghost use Rattle.tt_cert_file.specs.Representation.KeptTexts.{IsStackText};
-=======
-ghost use Rattle.tt_cert_file.specs.Clauses.{Pushes};
-ghost use Rattle.tt_cert_file.specs.Representation.KeptTexts.{IsStackText};
->>>>>>> 586e2aa82ac79ba2e8f234f9c0b542b59fde1ed3
 ghost use Rattle.tt_cert_file.specs.Rules.{AreCallsInTurn, CallFits, Fits, HasRoom, IsTextOf, NameFits, StateFits};
 ghost use Rattle.tt_cert_file.specs.Sections.{contexts_in, section_of};
 ghost use Rattle.tt_cert_file.specs.Text.{cell_text, context_text, counted, graphics_text, long, name_text, pair_text, section_text, state_text, stored_text, word, zone_text};
@@ -85,13 +81,8 @@ fn push_pair(out: &mut Vec<u8>, pair: (u16, u32)) -> Result<(), AllocError>
     out.extend_from_slice(&[w1, w0, l3, l2, l1, l0])
 }
 
-<<<<<<< HEAD
-pub(crate) fn push_cell(out: &mut Vec<u8>, cell: Cell) -> Result<(), AllocError>
-    ensures { OnOk result (out.new.items ≡ out.old.items ++ cell_text cell) }
-=======
 fn push_cell(out: &mut Vec<u8>, cell: Cell) -> Result<(), AllocError>
     ensures { Pushes (cell_text cell) result out.old.items out.new.items }
->>>>>>> 586e2aa82ac79ba2e8f234f9c0b542b59fde1ed3
 {
     match cell {
         Cell::Unknown => {
