@@ -26,7 +26,7 @@ OWNER = re.compile(r"^(?:pub )?(impl|trait)\b([^{]*)\{", re.M)
 FUNCTION = re.compile(r"^ *(pub(?:\(\w+\))? )?(?:final )?fn (\w+)", re.M)
 CLAUSE = re.compile(r"\b(requires|ensures)\b\s*(\w*)\s*\{|[;{]")
 GHOST = re.compile(r"ghost (laws|output|from_gives|decides) ?[=:] ?\{")
-IMPORT = re.compile(r"ghost use Rattle\.(\w+)\.specs\.(\w+)\.\{([^}]*)\};")
+IMPORT = re.compile(r"ghost use Rattle\.(\w+)\.specs\.((?:Representation\.)?\w+)\.\{([^}]*)\};")
 
 
 class Clause(typing.NamedTuple):
@@ -189,7 +189,7 @@ def faults_of_section(crate: str, section: str, asked: set[tuple[str, str]]) -> 
 
 def definitions() -> set[str]:
     """The definitions of all crates, and their modules."""
-    files = list(TOP.glob("crates/*/specs/*.antt"))
+    files = list(TOP.glob("crates/*/specs/**/*.antt"))
     names = {name for file in files for name in re.findall(r"^(?:\w+ )?(?:abbrev |unfoldable )?pub (?:record |data )?(\w+)", file.read_text(), re.M)}
     return names | {file.stem for file in files}
 

@@ -24,8 +24,8 @@ use Rattle.hintcheck.specs.Sessions.{IsLast, Stage, Standing, after_font, at_gly
 use Rattle.hintcheck.specs.declared.session.Outcome.{Outcome}
 use Rattle.hintcheck.proofs.CheckedSections.{all_dropped, dropped}
 use Rattle.hintcheck.proofs.CheckedTexts.{is_passing}
-use Rattle.hintcheck.proofs.LookLemmas.{calls_in_turn}
-use Rattle.hintcheck.proofs.SecondLooks.{AreLeastFrom, none_refused_at_start, none_refused_next}
+use Rattle.hintcheck.proofs.ProgramVerdictLemmas.{calls_in_turn}
+use Rattle.hintcheck.proofs.SecondFindings.{AreLeastFrom, none_refused_at_start, none_refused_next}
 use Rattle.hintcheck.proofs.SessionRuns.{calls_left}
 use Rattle.hintcheck.proofs.TextBeginnings.{begins_any, begins_on, begins_whole}
 

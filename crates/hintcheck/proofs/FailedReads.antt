@@ -1,4 +1,4 @@
--- Calls of a session look at no byte past what they read, so that what was read before a failed read is refused nowhere but at its end.
+-- Calls of a session read no byte past what they read, so that what was read before a failed read is refused nowhere but at its end.
 use Rattle.std.proofs.Common.{◌≡◌, ℕ, ◌+◌, Bool, cond, true, false, List, [], ◌++◌, length, Option, Some, None, Result, Ok, Err, refl, sym, ◌∙◌, ap, subst, arith, append_assoc, zero-add}
 use Rattle.std.specs.Prelude.{IfErr}
 use Rattle.std.specs.Int.{w16, w32, from_be_bytes}

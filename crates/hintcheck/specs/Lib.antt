@@ -20,3 +20,5 @@ pub mod Sessions
 pub mod FindingSessions
 pub mod SessionStages
 pub mod FailedReads
+pub mod ProgramEnds
+pub mod ReadProgress

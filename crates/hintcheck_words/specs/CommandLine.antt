@@ -9,7 +9,8 @@ use Rattle.std.specs.Prelude.{codes, fold, List, [], ◌∷◌, true, pos, Some}
 use Rattle.clap.specs.Words.{App, Rule, Text, new_app, new_rule, with_rule, with_subcommand}
 use Rattle.clap.specs.declared.builder.value_parser.ValueParser.TheVariants as parser
 
--- an argument that may be left out, one that must be given, and one that must be a number of 16 bits
+-- an argument that may be left out, one that must be given, and one that must be a number of 16
+-- bits
 abbrev pub optional : Text → Rule
 optional id = new_rule id
 
@@ -50,4 +51,5 @@ program = record (new_app (codes "hintcheck")) {
 }
 
 unfoldable pub hintcheck : App
-hintcheck = fold (λ a s. with_subcommand a s.top) program (bare ∷ verdict ∷ find ∷ check ∷ list ∷ upgrade ∷ [])
+hintcheck = fold (λ a s. with_subcommand a s.top) program
+    (bare ∷ verdict ∷ find ∷ check ∷ list ∷ upgrade ∷ [])

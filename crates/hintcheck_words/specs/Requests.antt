@@ -1,14 +1,24 @@
 -- What the words of a command line ask for, by what clap says that a simple command's words mean.
-use Rattle.std.specs.Prelude.{◌≡◌, ℕ, Bool, true, codes, List, [], ◌∷◌, find as first_where, Option, Some, IsSomeAnd, is_some, unwrap_or, option_map, option_and_then, pos, string_bytes, Result, Ok, Err}
+use Rattle.std.specs.Prelude.{◌≡◌, ℕ, Bool, true, codes, List, [], ◌∷◌, find as first_where, map, Option, Some, IsSomeAnd, is_some, unwrap_or, option_map, option_and_then, pos, string_bytes, Result, Ok, Err}
+use denote.Ref.{Bor}
 use Rattle.std.specs.Str.{bytes_eq}
 use Rattle.std.specs.Str.Parse.{digits_value, without_leading_plus}
 use Rattle.clap.specs.Faults.{fault_of}
-use Rattle.clap.specs.Words.{IsAmong, IsSignedIn, Kinds, Row, Text, first_of, kind_of, one_of, subcommand_of, takes, without_minus}
+use Rattle.clap.specs.Words.{IsAmong, IsSignedIn, Kinds, Row, Text, first_of, found_of, kind_of, one_of, rows_of, subcommand_of, takes, without_minus}
+use Rattle.clap.specs.declared.parser.matches.ArgMatches.{ArgMatches}
 use Rattle.hintcheck_words.specs.CommandLine.{hintcheck}
 use Rattle.hintcheck_words.specs.declared.words.Task.{Task}
 use Rattle.hintcheck_words.specs.declared.words.Task.TheVariants as task
 use Rattle.hintcheck_words.specs.declared.words.TaskFault.{TaskFault}
 use Rattle.hintcheck_words.specs.declared.words.TaskFault.TheVariants as fault
+
+-- the texts of the words of a command line
+abbrev pub texts_of : List (Bor Text) → List Text
+texts_of words = map (λ w. w.now) words
+
+-- what the words give the arguments of a subcommand, a row for each argument
+abbrev pub rows_in : ArgMatches → List Row
+rows_in values = rows_of (found_of values)
 
 -- a subcommand and its values
 pub data Request : Type 0 where
@@ -19,7 +29,8 @@ pub data Request : Type 0 where
   list : Text → Text → Request
   upgrade : Text → Text → Request
 
--- the first text that an argument got, the number that it spells, and the text of one that may be left out
+-- the first text that an argument got, the number that it spells, and the text of one that may be
+-- left out
 abbrev pub text_in : List Row → Text → Text
 text_in rows id = unwrap_or (first_of id rows) []
 
@@ -36,8 +47,10 @@ pub record HasNumber (rows : List Row) (id : Text) : Type 0 where
   pub number : IsSignedIn (pos 0) (pos 65535) text
 
 unfoldable pub bare_request : List Row → Request
-bare_request rows = bare (text_in rows (codes "MAXP")) (number_in rows (codes "CVT")) (number_in rows (codes "POINTS"))
-    (number_in rows (codes "CONTOURS")) (optional_in rows (codes "PROGRAM"))
+bare_request rows =
+    bare (text_in rows (codes "MAXP")) (number_in rows (codes "CVT"))
+    (number_in rows (codes "POINTS")) (number_in rows (codes "CONTOURS"))
+    (optional_in rows (codes "PROGRAM"))
 
 -- each subcommand, and what it asks for by what its arguments got
 unfoldable pub requests : List (Text × (List Row → Request))
@@ -46,7 +59,8 @@ requests = (codes "bare", bare_request)
     ∷ (codes "find", λ rows. find (text_in rows (codes "FONT")) (text_in rows (codes "CERT")))
     ∷ (codes "check", λ rows. check (text_in rows (codes "FONT")) (text_in rows (codes "CERT")))
     ∷ (codes "list", λ rows. list (text_in rows (codes "FONT")) (text_in rows (codes "PROGRAM")))
-    ∷ (codes "upgrade", λ rows. upgrade (text_in rows (codes "OLD")) (text_in rows (codes "NEW"))) ∷ []
+    ∷ (codes "upgrade", λ rows. upgrade (text_in rows (codes "OLD")) (text_in rows (codes "NEW")))
+    ∷ []
 
 -- what a subcommand asks for
 unfoldable pub request_of : Text × List Row → Option Request
@@ -85,7 +99,8 @@ MeetsSubcommand found = IsSomeAnd found IsReadable
 
 -- a task apart from where its texts lie in memory
 unfoldable pub asked : Task → Request
-asked (task.Bare maxp cvt points contours program) = bare (string_bytes maxp) cvt points contours (option_map (λ s. string_bytes s) program)
+asked (task.Bare maxp cvt points contours program) =
+    bare (string_bytes maxp) cvt points contours (option_map (λ s. string_bytes s) program)
 asked (task.Verdict font) = verdict (string_bytes font)
 asked (task.Find font certificate) = find (string_bytes font) (string_bytes certificate)
 asked (task.Check font certificate) = check (string_bytes font) (string_bytes certificate)
@@ -97,8 +112,12 @@ unfoldable pub IsOutOfMemory : TaskFault → Type 0
 IsOutOfMemory (fault.Words error) = ⊥
 IsOutOfMemory (fault.OutOfMemory error) = Unit {0}
 
--- Of the kinds of faults that clap may report: a task comes only where there is none, words that mean none are reported by one of them, and
--- out of memory is unspecified.
+-- words that the command line takes are refused only where memory runs out
+abbrev pub IsMemoryIfTaken : List Text → TaskFault → Type 0
+IsMemoryIfTaken words e = is_taken words ≡ true → IsOutOfMemory e
+
+-- Of the kinds of faults that clap may report: a task comes only where there is none, words that
+-- mean none are reported by one of them, and out of memory is unspecified.
 abbrev pub TellsFault : {T : Type 0} → Kinds → Result T TaskFault → Type 0
 TellsFault kinds (Ok task) = kinds ≡ []
 TellsFault kinds (Err (fault.Words error)) = IsAmong (kind_of error) kinds

@@ -22,6 +22,9 @@ pub enum WordFault {
 }
 
 /// Returns the bytes that a word of hexadecimal digits, of either case, spells.
+///
+/// # Errors
+/// `BadWord` where the word isn't an even number of digits, at most 131,070; `OutOfMemory`.
 pub fn word_bytes(alloc: Global, word: &str) -> Result<Vec<u8>, WordFault>
     ensures ok { IfOk result (λ bytes. IsHexWord word.now × Spells word.now bytes.items) }
     ensures within { IfOk result (λ bytes. vec_len bytes ≤ 65535) }

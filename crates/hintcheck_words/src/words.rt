@@ -1,9 +1,9 @@
 //! What the words of a command line ask for.
 
-ghost use Rattle.std.specs.Prelude.{◌≡◌, IfErr, IfOk, IfSome, Some, true, false, map, option_map, string_bytes};
-ghost use Rattle.clap.specs.Words.{app_of, found_of, rows_of, rule_of, subcommand_rows_of};
+ghost use Rattle.std.specs.Prelude.{◌≡◌, IfErr, IfOk, Some, false, map, option_map, string_bytes};
+ghost use Rattle.clap.specs.Words.{app_of, rule_of, subcommand_rows_of};
 ghost use Rattle.hintcheck_words.specs.CommandLine.{bare, hintcheck, needed as needed_rule, needed_number as number_rule, of_texts};
-ghost use Rattle.hintcheck_words.specs.Requests.{HasNumber, HasNumbers, IsOutOfMemory, IsReadable, MeetsSubcommand, TellsFault, asked, bare_request, faults_in, is_taken, meaning, met, number_in, optional_in, request_of, text_in};
+ghost use Rattle.hintcheck_words.specs.Requests.{HasNumber, HasNumbers, IsReadable, IsMemoryIfTaken, MeetsSubcommand, TellsFault, asked, bare_request, faults_in, meaning, met, number_in, optional_in, request_of, rows_in, text_in, texts_of};
 
 use clap::error::ErrorKind;
 use clap::{Arg, ArgMatches, Command, value_parser};
@@ -15,38 +15,46 @@ use thiserror::Error;
 pub enum Task {
     /// Checks one glyph program against the limits of a `maxp` table, both in hexadecimal digits.
     Bare {
+        /// The word of the `maxp` table.
         maxp: String,
         /// How many entries the control value table has.
         cvt: u16,
-        /// How many points and contours the glyph has.
+        /// How many points the glyph has.
         points: u16,
+        /// How many contours the glyph has.
         contours: u16,
+        /// The word of the program; None where it is left out.
         program: Option<String>,
     },
-    /// Checks all programs of the font file with this name.
+    /// Checks all programs of a font file.
     Verdict {
+        /// The name of the font file.
         font: String,
     },
-    /// Writes the certificate of the font file with this name to a file.
+    /// Writes the certificate of a font file to another file.
     Find {
+        /// The name of the font file.
         font: String,
         /// The name of the certificate's file.
         certificate: String,
     },
-    /// Checks the font file with this name by a certificate.
+    /// Checks a font file by a certificate.
     Check {
+        /// The name of the font file.
         font: String,
         /// The name of the certificate's file.
         certificate: String,
     },
-    /// Lists the instructions of one program of the font file with this name.
+    /// Lists the instructions of one program of a font file.
     List {
+        /// The name of the font file.
         font: String,
         /// Which program it is.
         program: String,
     },
-    /// Writes the certificate in the file with this name, of any form, to another file in the newest form.
+    /// Writes a certificate of any form to another file, in the newest form.
     Upgrade {
+        /// The name of the old certificate's file.
         old: String,
         /// The name of the new certificate's file.
         new: String,
@@ -74,6 +82,7 @@ impl From<AllocError> for TaskFault {
     }
 }
 
+/// Makes an argument that must be given.
 fn needed<'a>(alloc: Global, id: &'a str, help: &'a str) -> Arg<'a>
     ensures rule { rule_of result ≡ needed_rule id.entry.now }
     ensures local { result.global ≡ false }
@@ -81,6 +90,7 @@ fn needed<'a>(alloc: Global, id: &'a str, help: &'a str) -> Arg<'a>
     Arg::new(alloc, id).required(true).help(help)
 }
 
+/// Makes an argument that must be given a number of 16 bits.
 fn needed_number<'a>(alloc: Global, id: &'a str, help: &'a str) -> Arg<'a>
     ensures rule { rule_of result ≡ number_rule id.entry.now }
     ensures local { result.global ≡ false }
@@ -88,6 +98,10 @@ fn needed_number<'a>(alloc: Global, id: &'a str, help: &'a str) -> Arg<'a>
     needed(alloc, id, help).value_parser(value_parser!(u16))
 }
 
+/// Makes the subcommand `bare`.
+///
+/// # Errors
+/// If memory runs out.
 fn bare_command<'a>(alloc: Global) -> Result<Command<'a>, AllocError>
     ensures { IfOk result (λ c. app_of c ≡ bare) }
 {
@@ -131,12 +145,16 @@ const OLD: (&str, &str) = ("OLD", "The name of the old certificate's file");
 const NEW: (&str, &str) = ("NEW", "The name of the new certificate's file");
 
 /// Makes a subcommand whose arguments are texts that must be given.
+///
+/// # Errors
+/// If memory runs out.
 fn texts_command<'a>(
     alloc: Global,
     command: (&'a str, &'a str),
     texts: &[(&'a str, &'a str)],
 ) -> Result<Command<'a>, AllocError>
-    ensures { IfOk result (λ c. app_of c ≡ of_texts command.entry.0.now (map (λ t. t.0.now) texts.now)) }
+    ensures { IfOk result (λ c.
+        app_of c ≡ of_texts command.entry.0.now (map (λ t. t.0.now) texts.now)) }
 {
     let (name, about) = command;
     let mut with_texts = Command::new(alloc, name).about(about);
@@ -146,6 +164,10 @@ fn texts_command<'a>(
     Ok(with_texts)
 }
 
+/// Makes the command line with its six subcommands.
+///
+/// # Errors
+/// If memory runs out.
 fn command_line<'a>(alloc: Global) -> Result<Command<'a>, AllocError>
     ensures { IfOk result (λ c. app_of c ≡ hintcheck) }
 {
@@ -162,18 +184,26 @@ fn command_line<'a>(alloc: Global) -> Result<Command<'a>, AllocError>
 }
 
 /// Returns the text that the words give the argument, empty where they give none.
+///
+/// # Errors
+/// If memory runs out.
 fn text(alloc: Global, values: &ArgMatches<'_>, id: &str) -> Result<String, AllocError>
-    ensures { IfOk result (λ t. string_bytes t ≡ text_in (rows_of (found_of values.now)) id.now) }
+    ensures { IfOk result (λ t. string_bytes t ≡ text_in (rows_in values.now) id.now) }
 {
     String::from_str(alloc, values.get_str(id).unwrap_or(""))
 }
 
+/// Returns the text that the words give the argument, if they give one.
+///
+/// # Errors
+/// If memory runs out.
 fn optional_text(
     alloc: Global,
     values: &ArgMatches<'_>,
     id: &str,
 ) -> Result<Option<String>, AllocError>
-    ensures { IfOk result (λ t. option_map (λ s. string_bytes s) t ≡ optional_in (rows_of (found_of values.now)) id.now) }
+    ensures { IfOk result (λ t.
+        option_map (λ s. string_bytes s) t ≡ optional_in (rows_in values.now) id.now) }
 {
     match values.get_str(id) {
         Some(text) => Ok(Some(String::from_str(alloc, text)?)),
@@ -183,15 +213,19 @@ fn optional_text(
 
 /// Returns the number that the words give the argument.
 fn number(values: &ArgMatches<'_>, id: &str) -> u16
-    requires { HasNumber (rows_of (found_of values.now)) id.now }
-    ensures { result ≡ number_in (rows_of (found_of values.now)) id.now }
+    requires { HasNumber (rows_in values.now) id.now }
+    ensures { result ≡ number_in (rows_in values.now) id.now }
 {
     values.get_one::<u16>(id).unwrap()
 }
 
+/// Returns the task of the subcommand `bare`.
+///
+/// # Errors
+/// If memory runs out.
 fn bare_task(alloc: Global, values: &ArgMatches<'_>) -> Result<Task, AllocError>
-    requires { HasNumbers (rows_of (found_of values.now)) }
-    ensures { IfOk result (λ t. asked t ≡ bare_request (rows_of (found_of values.now))) }
+    requires { HasNumbers (rows_in values.now) }
+    ensures { IfOk result (λ t. asked t ≡ bare_request (rows_in values.now)) }
 {
     Ok(Task::Bare {
         maxp: text(alloc, values, "MAXP")?,
@@ -203,9 +237,12 @@ fn bare_task(alloc: Global, values: &ArgMatches<'_>) -> Result<Task, AllocError>
 }
 
 /// Returns the task of the subcommand with this name.
+///
+/// # Errors
+/// If memory runs out.
 fn task_of(alloc: Global, name: &str, values: &ArgMatches<'_>) -> Result<Task, AllocError>
-    requires { IsReadable (name.now, rows_of (found_of values.now)) }
-    ensures { IfOk result (λ t. request_of (name.now, rows_of (found_of values.now)) ≡ Some (asked t)) }
+    requires { IsReadable (name.now, rows_in values.now) }
+    ensures { IfOk result (λ t. request_of (name.now, rows_in values.now) ≡ Some (asked t)) }
 {
     match name {
         "bare" => bare_task(alloc, values),
@@ -233,11 +270,14 @@ fn task_of(alloc: Global, name: &str, values: &ArgMatches<'_>) -> Result<Task, A
 }
 
 /// Returns what the words give the arguments, and the subcommand that they name.
+///
+/// # Errors
+/// `Words` where the command line doesn't take the words, or they ask for help; `OutOfMemory`.
 fn matches_of<'a>(alloc: Global, words: &'a [&'a str]) -> Result<ArgMatches<'a>, TaskFault>
-    ensures met { IfOk result (λ m. subcommand_rows_of m ≡ met (map (λ w. w.now) words.entry.now)) }
+    ensures met { IfOk result (λ m. subcommand_rows_of m ≡ met (texts_of words.entry.now)) }
     ensures meets { IfOk result (λ m. MeetsSubcommand (subcommand_rows_of m)) }
-    ensures refused { IfErr result (λ e. is_taken (map (λ w. w.now) words.entry.now) ≡ true → IsOutOfMemory e) }
-    ensures faults { TellsFault (faults_in (map (λ w. w.now) words.entry.now)) result }
+    ensures refused { IfErr result (IsMemoryIfTaken (texts_of words.entry.now)) }
+    ensures faults { TellsFault (faults_in (texts_of words.entry.now)) result }
 {
     let command = command_line(alloc)?;
     match command.try_get_matches_from(words) {
@@ -250,13 +290,17 @@ fn matches_of<'a>(alloc: Global, words: &'a [&'a str]) -> Result<ArgMatches<'a>,
 }
 
 /// Returns what the words ask for. The first word is the program's own name.
+///
+/// # Errors
+/// `Words` where the command line doesn't take the words, or they ask for help; `OutOfMemory`.
 pub fn read_words<'a>(alloc: Global, words: &'a [&'a str]) -> Result<Task, TaskFault>
     // The task is the request that the words mean.
-    ensures asked { IfOk result (λ t. meaning (map (λ w. w.now) words.entry.now) ≡ Some (asked t)) }
+    ensures asked { IfOk result (λ t. meaning (texts_of words.entry.now) ≡ Some (asked t)) }
     // Words that the command line takes are refused only when memory runs out.
-    ensures refused { IfErr result (λ e. is_taken (map (λ w. w.now) words.entry.now) ≡ true → IsOutOfMemory e) }
-    // A task comes only where clap finds no fault in the words; otherwise the fault is one that clap finds, or out of memory.
-    ensures faults { TellsFault (faults_in (map (λ w. w.now) words.entry.now)) result }
+    ensures refused { IfErr result (IsMemoryIfTaken (texts_of words.entry.now)) }
+    // A task comes only where clap finds no fault in the words; otherwise the fault is one that
+    // clap finds, or out of memory.
+    ensures faults { TellsFault (faults_in (texts_of words.entry.now)) result }
 {
     let matches = matches_of(alloc, words)?;
     match matches.subcommand() {

@@ -8,7 +8,7 @@ use Rattle.std.proofs.lemmas.List.{append-nil, drop-map, drop_more, length-drop,
 use Rattle.std.proofs.lemmas.List.Edits.{remove-append_left, remove-append_right}
 use Rattle.tt_abs.specs.declared.cells.Cell.{Cell}
 use Rattle.tt_abs.specs.declared.cells.Cell.TheVariants.{Unknown}
-use Rattle.tt_abs.specs.Codes.{cell_of_code, cells_of, kept_cells}
+use Rattle.tt_abs.specs.Representation.Codes.{cell_of_code, cells_of, kept_cells}
 use Rattle.tt_abs.specs.Transfers.{cells_on}
 use Rattle.tt_abs.specs.CellOrders.{CellInRange}
 use Rattle.tt_abs.specs.Stacks.{cell_at, IsLeastCell, StackInRange}
@@ -175,3 +175,23 @@ taken_in_range zero cells stack h below = below
 taken_in_range (suc n) [] stack h below = below
 taken_in_range (suc n) (c ∷ cells) stack h below =
     taken_in_range n cells (c ∷ stack) (λ k lt. h (suc k) (omega arith)) (one_in_range c stack (h zero (omega arith)) below)
+
+-- the lowest cells
+bottom_kept : (wide : List Cell) (codes : List ℕ) (stack : List Cell) (n : ℕ) → reverse (kept_cells wide codes) ≡ stack
+    → take (length wide + n) (reverse stack) ≡ kept_cells wide (take n codes)
+bottom_kept wide codes stack n e =
+    ap (take (length wide + n)) (sym (upright wide codes stack e))
+    ∙ take-append-add wide (cells_of codes) n
+    ∙ ap (λ x. wide ++ x) (take-map cell_of_code n codes)
+
+pub same_bottom : (wide theirs : List Cell) (codes other_codes : List ℕ) (stack other : List Cell) (count n : ℕ)
+    → reverse (kept_cells wide codes) ≡ stack → reverse (kept_cells theirs other_codes) ≡ other → wide ≡ theirs → count ≡ length wide + n
+    → take n codes ≡ take n other_codes → take count (reverse stack) ≡ take count (reverse other)
+same_bottom wide theirs codes other_codes stack other count n e f same sum front =
+    let there : count ≡ length theirs + n = sum ∙ ap (λ (l : List Cell). length l + n) same in
+    ap (λ m. take m (reverse stack)) sum
+    ∙ bottom_kept wide codes stack n e
+    ∙ ap (λ (l : List Cell). kept_cells l (take n codes)) same
+    ∙ ap (λ (l : List ℕ). kept_cells theirs l) front
+    ∙ sym (bottom_kept theirs other_codes other n f)
+    ∙ ap (λ m. take m (reverse other)) (sym there)

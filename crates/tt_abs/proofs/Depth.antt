@@ -141,7 +141,7 @@ monotone a b c fs at does (Err q) wider h k =
     let no_such : Ok o ≡ Err p = sym f ∙ e in absurd (cc)
 monotone a b c fs at does (Ok d) wider h k = (d, refl, h.1.least c (λ m w. k.1.covers m (becomes_wider a b fs at does wider m w)))
 
--- each of these next states is at the place of one of the others, and that one covers what it covers
+-- each of these successors is at the place of one of the others, and that one covers what it covers
 abbrev pub AreBelow : List Next → List Next → Type 0
 AreBelow ns os =
     (i : ℕ) (n : Next) → slice_get ns i ≡ Some n

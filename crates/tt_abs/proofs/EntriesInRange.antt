@@ -1,4 +1,4 @@
--- The values of a list of entries stay in range when an entry is put or taken away.
+-- The values of a sorted map stay in range when an entry is put or taken away.
 use Rattle.std.specs.Prelude.{nat_eq, nat_lt, if◌then◌else◌}
 use Rattle.std.specs.List.{AllByRecursion}
 use Rattle.std.specs.Result.{OnOk, OnErr}

@@ -1,4 +1,4 @@
--- Entries by their places: what a search finds, and what an entry put at a place or taken from it makes of a list.
+-- Entries by their places: what a search finds, and what an entry put at a place or taken from it makes of a sorted map.
 use Rattle.std.proofs.Common.{◌≡◌, ℕ, zero, suc, ◌<◌, ◌≤◌, Bool, cond, not, nat_eq, if◌then◌else◌, List, [], ◌∷◌, length, get_or, set, refl, sym, ◌∙◌, ap, subst, arith, inl, inr}
 use Rattle.std.specs.Prelude.{None, Some, Result, Ok, Err, MatchResult, OnOk, OnErr}
 use Rattle.std.specs.List.{AllByRecursion, insert, remove}

@@ -4,7 +4,7 @@ use Rattle.std.specs.Prelude.{slice_get}
 use Rattle.std.proofs.Common.{◌≡◌, ℕ, zero, suc, List, [], ◌∷◌, Ok, Err, Option, None, Some, refl, sym, ◌∙◌, ap, subst, arith, true, false}
 use Rattle.tt_code.specs.Runs.{NeverFaults}
 use Rattle.tt_code.specs.Settings.{Setting, GlyphProgram}
-use Rattle.tt_code.specs.Structure.{word}
+use Rattle.tt_code.specs.Structure.{keyword}
 use Rattle.tt_code.specs.Table.{effect_of}
 use Rattle.tt_code.specs.declared.machine.Frame.{Frame}
 use Rattle.tt_code.specs.declared.reason.Reason.{Reason}
@@ -47,7 +47,7 @@ rounding_has_laws : FlowLaws state_order (flow_of rounding []) (height_of roundi
 rounding_has_laws = state_flow_laws rounding rounding_in_range rounding_is_short [] tt (λ n body l. absurd (cc))
 
 goes_on : outcome_on_cells rounding [] 0 (abstract_of begin) ≡ Ok (one_way [] 1 (abstract_of begin))
-unfolding outcome_on_cells effect_of word
+unfolding outcome_on_cells effect_of keyword
 goes_on = refl
 
 -- the start is given again, after the instruction

@@ -12,7 +12,7 @@ use Rattle.std.proofs.Math.Seq.{drop-cons}
 use Rattle.tt_code.specs.declared.kinds.Operand.{Operand}
 use Rattle.tt_abs.specs.Cells.{Cells}
 use Rattle.tt_abs.specs.Stacks.{first}
-use Rattle.tt_abs.specs.Taken.{TakesTo, GoesOn}
+use Rattle.tt_abs.specs.Representation.Taken.{TakesTo, GoesOn}
 use Rattle.tt_abs.specs.declared.cells.Cell.{Cell}
 use Rattle.tt_abs.specs.declared.cells.Cell.TheVariants.{Known}
 use Rattle.tt_abs.specs.Transfers.{tested_cell, take_cell, take_cells, known_count}

@@ -36,7 +36,7 @@ pub graphics_at_most : (g : Cells) → graphics_order.left g ≤ 7
 graphics_at_most g =
     omega (arith, known_at_most g.rp0, known_at_most g.rp1, known_at_most g.rp2, known_at_most g.loop_number, zone_at_most g.zp0, zone_at_most g.zp1, zone_at_most g.zp2)
 
--- Of lists of entries whose numbers rise.
+-- Of sorted maps.
 
 abbrev AreBetween : {V : Type 0} → ℕ → ℕ → List (ℕ × V) → Type 0
 AreBetween {V} low high es = (n : ℕ) (v : V) → listed es n ≡ Some v → (low ≤ n) × (n < high)

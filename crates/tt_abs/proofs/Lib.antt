@@ -47,6 +47,7 @@ pub mod Contexts
 mod ExamplesOfCalls
 pub mod StepLemmas
 pub mod LineLaws
+pub mod FamilyLaws
 pub mod Soundness
 mod ExamplesOfFlows
 pub mod Goodness

@@ -34,7 +34,7 @@ use Rattle.tt_abs.specs.declared.cells.ZoneCell.{ZoneCell}
 use Rattle.tt_abs.specs.Cells.{Abstract, Cells}
 use Rattle.tt_abs.specs.Entries.{with_entry}
 use Rattle.tt_abs.specs.StateFlow.{AreProgramsShort}
-use Rattle.tt_abs.specs.Stored.{is_single, is_storage, is_storage_at, stores_tested, reads_tested}
+use Rattle.tt_abs.specs.Representation.Stored.{is_single, is_storage, is_storage_at, stores_tested, reads_tested}
 use Rattle.tt_abs.specs.Transfers.{Next, known, tested_cell, take_cell, take_cells, test_cell_uses, cells, index_in, leaves_cells, plain_cells, pushed_cells, shuffled_cells, of_one_cell, of_two_cells, computed_cells, one_way, two_ways, jump_target, jumps_cells, jumps_by, jumps_if_cells, if_ways, is_running, called_cell, enters_cells, loops_cells, returns_cells, controlled_cells, goes_on_cells, does_cells, are_within, within_cells, performs_cells, instruction_of, outcome_on_cells}
 use Rattle.tt_abs.proofs.RangesKept.{Holds, holds_then, holds_any}
 use Rattle.tt_abs.proofs.TableRows.{rows_tested}
@@ -373,7 +373,7 @@ module _ (s : Setting) (P : List (ℕ × ℕ) → (ℕ → Cell) → Type 0)
   pub lists_kept : (fs : List Frame) (at : ℕ) (a : Abstract) (nexts : List Next) → AreProgramsShort s → IsKept a → outcome_on_cells s fs at a ≡ Ok nexts → AreKept nexts
   lists_kept fs at a nexts short h e = subst (Holds AreKept) e (next_kept fs at a short h)
 
--- No next state is too deep.
+-- No successor is too deep.
 
 within_limit : (s : Setting) (nexts : List Next) → are_within s nexts ≡ true → AllByRecursion (λ n. length n.state.stack ≤ s.limits.stack) nexts
 within_limit s [] e = tt

@@ -1,4 +1,4 @@
--- Where next states are: in programs that have fewer than 2^31 bytes, at offsets below 2^31.
+-- Where successors are: in programs that have fewer than 2^31 bytes, at offsets below 2^31.
 use Rattle.std.specs.Prelude.{ℤ, pos, negsuc, ◌+ℤ◌, ◌^◌, not, ◌||◌, Option, nat_eq, nat_lt, nat_le, if◌then◌else◌}
 use Rattle.std.specs.List.{AllByRecursion}
 use Rattle.std.proofs.Common.{◌≡◌, ℕ, zero, suc, ◌+◌, ◌-◌, ◌≤◌, ◌<◌, List, [], ◌∷◌, Ok, Some, None, refl, ◌∙◌, subst, arith, length, Bool, true, false}
@@ -6,7 +6,7 @@ use Rattle.std.proofs.lemmas.Bool.{ltb-true, ltb-false, eqb-true}
 use Rattle.tt_code.specs.Refusals.{Tested, holds_or, some_or}
 use Rattle.tt_code.specs.Table.{Meaning, NoEntry, Plain, Pushes, Stack, Computes, Controls, effect_of}
 use Rattle.tt_code.specs.Cut.{Instruction, size}
-use Rattle.tt_code.specs.Structure.{word, is_word, still_open, behind_end, leads_from, after_if, after_else, after_fdef, body_behind, body_from, body_at}
+use Rattle.tt_code.specs.Structure.{keyword, is_keyword, still_open, behind_end, leads_from, after_if, after_else, after_fdef, body_behind, body_from, body_at}
 use Rattle.tt_code.specs.Settings.{Setting, program_of, body_of, is_body, starts_in_body, is_main_end, is_target, body_offset, CVT_BODIES}
 use Rattle.tt_code.specs.States.{is_below, is_true}
 use Rattle.tt_code.specs.Operands.{top}
@@ -23,7 +23,7 @@ use Rattle.tt_code.specs.declared.kinds.Control.TheVariants.{If, Else, Jump, Jum
 use Rattle.tt_abs.specs.declared.cells.Cell.{Cell}
 use Rattle.tt_abs.specs.declared.cells.Cell.TheVariants.{Known, Unknown}
 use Rattle.tt_abs.specs.Cells.{Abstract}
-use Rattle.tt_abs.specs.EntryFacts.{listed-named}
+use Rattle.tt_abs.specs.Representation.EntryFacts.{listed-named}
 use Rattle.tt_abs.specs.StateFlow.{AreProgramsShort, CallsFit, FunctionsFit}
 use Rattle.tt_abs.specs.Transfers.{Next, known, leaves_cells, plain_cells, pushed_cells, shuffled_cells, computed_cells, one_way, two_ways, jump_target, jumps_cells, jumps_by, jumps_if_cells, if_ways, is_running, called_cell, enters_cells, loops_cells, returns_cells, controlled_cells, goes_on_cells, does_cells, are_within, within_cells, performs_cells, instruction_of, outcome_on_cells}
 use Rattle.tt_abs.proofs.ListsKept.{holds_tested, EndsBelow, ends_below, short_program}
@@ -44,7 +44,7 @@ within_more low high (Some n) le h = omega (arith, h)
 
 end_within : (opener : BlockKeyword) (is : List Instruction) (offset inside : ℕ) → IsWithin (offset + size is) (behind_end opener is offset inside)
 end_within opener [] offset inside = tt
-end_within opener (i ∷ is) offset inside = go (still_open opener (word i) inside) (λ more. end_within opener is (offset + length i) more)
+end_within opener (i ∷ is) offset inside = go (still_open opener (keyword i) inside) (λ more. end_within opener is (offset + length i) more)
   where
     go : (o : Option ℕ) → ((more : ℕ) → IsWithin (offset + length i + size is) (behind_end opener is (offset + length i) more))
         → IsWithin (offset + (length i + size is)) (elim o as (λ p. Option ℕ) [ None ↦ Some (offset + length i) | Some more ↦ behind_end opener is (offset + length i) more ])
@@ -53,7 +53,7 @@ end_within opener (i ∷ is) offset inside = go (still_open opener (word i) insi
 
 leads_within : (start : ℕ) (opener : BlockKeyword) (is : List Instruction) (offset : ℕ) → IsWithin (start + size is) (leads_from start opener is offset)
 leads_within start opener [] offset = tt
-leads_within start opener (i ∷ is) offset = go (nat_eq start offset) (is_word opener (word i)) (leads_within (start + length i) opener is offset)
+leads_within start opener (i ∷ is) offset = go (nat_eq start offset) (is_keyword opener (keyword i)) (leads_within (start + length i) opener is offset)
   where
     go : (b c : Bool) → IsWithin (start + length i + size is) (leads_from (start + length i) opener is offset) → IsWithin (start + (length i + size is)) (if b then (if c then behind_end opener is (start + length i) 0 else None) else leads_from (start + length i) opener is offset)
     go true true h = within_more (start + length i + size is) (start + (length i + size is)) (behind_end opener is (start + length i) 0) (omega arith) (end_within opener is (start + length i) 0)
@@ -66,7 +66,7 @@ IsIn end offset (Some b) = offset ≤ end
 
 body_within : (here : Body) (start : ℕ) (is : List Instruction) (offset : ℕ) → IsIn (start + size is) offset (body_from here start is offset)
 body_within here start [] offset = tt
-body_within here start (i ∷ is) offset = go (nat_eq start offset) refl (body_from (body_behind here (word i) (start + length i)) (start + length i) is offset) (body_within (body_behind here (word i) (start + length i)) (start + length i) is offset)
+body_within here start (i ∷ is) offset = go (nat_eq start offset) refl (body_from (body_behind here (keyword i) (start + length i)) (start + length i) is offset) (body_within (body_behind here (keyword i) (start + length i)) (start + length i) is offset)
   where
     go : (b : Bool) → nat_eq start offset ≡ b → (o : Option Body) → IsIn (start + length i + size is) offset o → IsIn (start + (length i + size is)) offset (if b then Some here else o)
     go true e o h = let same : start ≡ offset = eqb-true start offset e in omega arith
@@ -106,7 +106,7 @@ body_small name h = go (nat_lt name CVT_BODIES) refl
     go true e = let lt : name < CVT_BODIES = ltb-true name CVT_BODIES e in omega arith
     go false e = let le : CVT_BODIES ≤ name = ltb-false name CVT_BODIES e in omega arith
 
--- Where the next states are.
+-- Where the successors are.
 
 abbrev pub NextFits : Next → Type 0
 NextFits n = CallsFit n.frames × (n.offset < 2 ^ 31)
@@ -246,7 +246,7 @@ next_fits : (s : Setting) (fs : List Frame) (at : ℕ) (a : Abstract) → ArePro
 unfolding outcome_on_cells
 next_fits s fs at a short calls functions = performs_fit s fs at a (instruction_of s fs at) short calls functions (ends_below s fs at short)
 
--- the next states are at offsets below 2^31, and their calls will return to such
+-- the successors are at offsets below 2^31, and their calls will return to such
 pub offsets_fit : (s : Setting) (fs : List Frame) (at : ℕ) (a : Abstract) (nexts : List Next) → AreProgramsShort s → CallsFit fs → FunctionsFit s a.functions → outcome_on_cells s fs at a ≡ Ok nexts
     → AllByRecursion NextFits nexts
 offsets_fit s fs at a nexts short calls functions e = subst (Holds AreFit) e (next_fits s fs at a short calls functions)

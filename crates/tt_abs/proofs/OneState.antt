@@ -1,4 +1,4 @@
--- All next states are one: the ways of an instruction differ only in where they lead.
+-- All successors are one: the ways of an instruction differ only in where they lead.
 use Rattle.std.specs.Prelude.{ℤ, pos, negsuc, not, Option, nat_eq, nat_lt, nat_le, slice_get, if◌then◌else◌}
 use Rattle.std.specs.List.{AllByRecursion}
 use Rattle.std.proofs.Common.{◌≡◌, ℕ, zero, suc, ◌+◌, List, [], ◌∷◌, Ok, Some, None, refl, sym, ◌∙◌, subst, length, Bool, true, false}
@@ -23,7 +23,7 @@ use Rattle.tt_abs.specs.Transfers.{Next, known, leaves_cells, plain_cells, pushe
 use Rattle.tt_abs.proofs.RangesKept.{Holds, holds_then, holds_any}
 use Rattle.tt_abs.proofs.StateParts.{one_of_all}
 
--- each next state is this one
+-- each successor is this one
 abbrev AreAll : Abstract → List Next → Type 0
 AreAll b nexts = AllByRecursion (λ n. n.state ≡ b) nexts
 
@@ -126,7 +126,7 @@ module _ (s : Setting) (fs : List Frame) (at : ℕ) (a : Abstract) where
   unfolding outcome_on_cells
   all_one = performs_one (instruction_of s fs at)
 
-  -- any two next states are one
+  -- any two successors are one
   pub one_state_next : (nexts : List Next) (i j : ℕ) (n m : Next) → outcome_on_cells s fs at a ≡ Ok nexts → slice_get nexts i ≡ Some n → slice_get nexts j ≡ Some m → n.state ≡ m.state
   one_state_next nexts i j n m e first second =
       let (b, all) = subst (Holds AreOne) e all_one in

@@ -3,7 +3,7 @@
 use Rattle.std.specs.Prelude.{◌≡◌, ℕ, zero, suc, pos, negsuc, List, [], ◌∷◌, Ok, Err, map}
 use Rattle.tt_code.specs.Refusals.{Tested, ◌>>=◌}
 use Rattle.tt_code.specs.Table.{effect_of}
-use Rattle.tt_code.specs.Structure.{word}
+use Rattle.tt_code.specs.Structure.{keyword}
 use Rattle.tt_code.specs.Settings.{Setting}
 use Rattle.tt_code.specs.Fonts.{font_setting, cvt_setting, glyph_setting}
 use Rattle.tt_code.specs.declared.limits.Limits.{Limits}
@@ -59,7 +59,7 @@ all_seen (Err r) = Err r
 -- points, the twilight zone 12.
 
 unfoldable pub performed : Limits → Cells → List Cell → ℕ → Tested (List Seen)
-unfolding outcome_on_cells effect_of word
+unfolding outcome_on_cells effect_of keyword
 performed limits g stack code = all_seen (outcome_on_cells (alone limits code) [] 0 (begins g stack))
 
 abbrev pub untouched : List Cell
@@ -117,7 +117,7 @@ places (Err r) = Err r
 
 -- where the instruction at an offset of a program leads with a stack
 unfoldable pub ways : Limits → List ℕ → ℕ → List Cell → Tested (List Place)
-unfolding outcome_on_cells effect_of word cut_within
+unfolding outcome_on_cells effect_of keyword cut_within
 ways limits program offset stack = places (outcome_on_cells (setting_of limits program) [] offset (begins default_cells stack))
 
 -- with each of these stacks it leads to these places
@@ -139,7 +139,7 @@ first_of (n ∷ ns) = Ok n
 
 -- where the first way leads after so many instructions
 unfoldable pub followed : ℕ → Setting → Next → Tested Next
-unfolding outcome_on_cells effect_of word
+unfolding outcome_on_cells effect_of keyword
 followed zero s n = Ok n
 followed (suc i) s n =
     let more = followed i s in
@@ -161,7 +161,7 @@ defined (Ok nexts) = Ok (map (λ (n : Next). (n.offset, n.state.functions)) next
 defined (Err r) = Err r
 
 unfoldable pub functions_by : Setting → ℕ → List Cell → List (ℕ × ℕ) → Tested (List (ℕ × List (ℕ × ℕ)))
-unfolding outcome_on_cells effect_of word
+unfolding outcome_on_cells effect_of keyword
 functions_by s offset stack functions = defined (outcome_on_cells s [] offset (record (begins default_cells stack) { functions = functions }))
 
 unfoldable pub in_font_program : List ℕ → ℕ → List Cell → List (ℕ × ℕ) → Tested (List (ℕ × List (ℕ × ℕ)))
@@ -191,7 +191,7 @@ in_calls (Err r) = Err r
 -- where the instruction at an offset of the innermost call's program leads, with a font program, a CVT program and a glyph
 -- program, and with these functions
 unfoldable pub called : Limits → List ℕ → List ℕ → List ℕ → List (ℕ × ℕ) → List Frame → ℕ → List Cell → Tested (List InCalls)
-unfolding outcome_on_cells effect_of word cut_within
+unfolding outcome_on_cells effect_of keyword cut_within
 called limits f p glyph functions frames offset stack =
     in_calls (outcome_on_cells (glyph_setting (font_of limits f p) 4 1 (cut_of glyph)) frames offset (record (begins default_cells stack) { functions = functions }))
 

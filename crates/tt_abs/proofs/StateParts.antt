@@ -13,7 +13,7 @@ use Rattle.tt_abs.specs.declared.state.State.{State}
 use Rattle.tt_abs.specs.CellOrders.{CellInRange}
 use Rattle.tt_abs.specs.Cells.{Abstract}
 use Rattle.tt_abs.specs.Entries.{Rises, listed, with_entry, known_or_not, storage_of, with_cell}
-use Rattle.tt_abs.specs.EntryFacts.{listed-all, listed-with, storage-with_cell}
+use Rattle.tt_abs.specs.Representation.EntryFacts.{listed-all, listed-with, storage-with_cell}
 use Rattle.tt_abs.specs.EntryLaws.{listed-here, listed-there, number-above, Rises-filter, entry_laws}
 use Rattle.tt_abs.specs.EntryLists.{EntriesBelow}
 use Rattle.tt_abs.specs.Ranges.{IsInRange, AreInRange, IsStateInRange, IsSettingInRange}
@@ -177,7 +177,7 @@ within_defines s functions area n offset h lt small _ = record {
         let fits : body_name s.kind offset < 2 ^ 32 = name_fits s.kind offset small in (omega arith, omega arith)
     go m body false same e = h.named m body e
 
--- The next states.
+-- The successors.
 
 pub record IsStateOf (b : Abstract) (t : State) : Type 0 where
   pub state_is : abstract_of t ≡ b

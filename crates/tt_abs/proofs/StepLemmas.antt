@@ -80,7 +80,7 @@ unfolding outcome_on_cells
 performs_then s fs at a [] ns b e f c h k = absurd (cc)
 performs_then s fs at a (code ∷ rest) ns b e f c h k = ap (performs_cells s fs at a) e ∙ ap (λ r. r >>= within_cells s) (f code rest refl) ∙ ap (λ v. holds_or v reason.Overflow >>= (λ ok. Ok ns)) k
 
--- all next states of the code have one stack
+-- all successors of the code have one stack
 pub moves_within : (s : Setting) (fs : List Frame) (moves : Moves) (a : Abstract) → length a.stack ≤ s.limits.stack → are_within s (nexts_of fs moves a) ≡ true
 moves_within s fs (moves.One m) a h = let one : nat_le (length a.stack) s.limits.stack ≡ true = le-leb (length a.stack) s.limits.stack h in rw one refl
 moves_within s fs (moves.Two m n) a h = let one : nat_le (length a.stack) s.limits.stack ≡ true = le-leb (length a.stack) s.limits.stack h in rw one refl

@@ -40,7 +40,9 @@ known_zones One = 1
 known_zones Either = 0
 
 abbrev pub cell_order : Order Cell
-cell_order = record { InRange = CellInRange; Below = CellBelow; SameDepth = λ _ _. ⊤; left = known_cells }
+cell_order =
+    record { InRange = CellInRange; Below = CellBelow; SameDepth = λ _ _. ⊤; left = known_cells }
 
 abbrev pub zone_order : Order ZoneCell
-zone_order = record { InRange = λ _. ⊤; Below = ZoneBelow; SameDepth = λ _ _. ⊤; left = known_zones }
+zone_order =
+    record { InRange = λ _. ⊤; Below = ZoneBelow; SameDepth = λ _ _. ⊤; left = known_zones }

@@ -51,7 +51,8 @@ CoversStorage cells area = (i : ℕ) → Covers (cells i) (area i)
 
 -- each function that is listed is defined, with the body that is listed; others may be anything
 abbrev pub CoversFunctions : List (ℕ × ℕ) → List (ℕ × ℕ) → Type 0
-CoversFunctions listed functions = (n body : ℕ) → body_named listed n ≡ Some body → body_named functions n ≡ Some body
+CoversFunctions listed functions =
+    (n body : ℕ) → body_named listed n ≡ Some body → body_named functions n ≡ Some body
 
 -- An abstract state: what is known of a machine state, except for where it is and its calls.
 pub record Abstract : Type 0 where

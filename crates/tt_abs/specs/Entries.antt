@@ -1,5 +1,5 @@
--- Lists of entries by number: the functions that are known with their bodies, the storage cells that are known with their
--- numbers.
+-- Sorted maps as lists of entries by number: the functions that are known with their bodies, the
+-- storage cells that are known with their numbers.
 use Rattle.std.specs.Prelude.{ℕ, ℤ, ◌<◌, List, [], ◌∷◌, Option, None, Some, not, nat_eq, nat_lt, if◌then◌else◌}
 use Rattle.std.specs.List.{AllByRecursion, filter}
 use Rattle.tt_abs.specs.declared.cells.Cell.{Cell}

@@ -1,4 +1,4 @@
--- What is listed in a list of entries, and the laws of the order on them.
+-- What a sorted map has, and the laws of the order on sorted maps.
 use Rattle.std.specs.Prelude.{◌≡◌, ℕ, ◌<◌, ◌≤◌, ◌⊎◌, ◌↔◌, Bool, true, false, cond, ◌&&◌, nat_eq, if◌then◌else◌, List, [], ◌∷◌, Option, None, Some, length}
 use Rattle.std.specs.List.{AllByRecursion, filter}
 use Rattle.std.proofs.Common.{refl, sym, ◌∙◌, ap, subst, arith, inl, inr}
@@ -9,23 +9,29 @@ use Rattle.tt_abs.specs.EntryLists.{IsEquality, EntriesBelow, EntriesInRange, be
 
 -- What is listed.
 
-pub listed-here : {V : Type 0} (e : ℕ × V) (es : List (ℕ × V)) (n : ℕ) → e.0 ≡ n → listed (e ∷ es) n ≡ Some e.1
+pub listed-here : {V : Type 0} (e : ℕ × V) (es : List (ℕ × V)) (n : ℕ) → e.0 ≡ n
+    → listed (e ∷ es) n ≡ Some e.1
 listed-here {V} e es n h = ap (λ (b : Bool). if b then Some e.1 else listed es n) (eq-eqb e.0 n h)
 
-pub listed-there : {V : Type 0} (e : ℕ × V) (es : List (ℕ × V)) (n : ℕ) → (e.0 ≡ n → ⊥) → listed (e ∷ es) n ≡ listed es n
+pub listed-there : {V : Type 0} (e : ℕ × V) (es : List (ℕ × V)) (n : ℕ) → (e.0 ≡ n → ⊥)
+    → listed (e ∷ es) n ≡ listed es n
 listed-there {V} e es n h = ap (λ (b : Bool). if b then Some e.1 else listed es n) (ne_eqb e.0 n h)
 
-pub all-above : {V : Type 0} (m n : ℕ) (es : List (ℕ × V)) → m < n → AllByRecursion (λ e. n < e.0) es → AllByRecursion (λ e. m < e.0) es
+pub all-above : {V : Type 0} (m n : ℕ) (es : List (ℕ × V)) → m < n
+    → AllByRecursion (λ e. n < e.0) es → AllByRecursion (λ e. m < e.0) es
 all-above m n [] lt h = tt
 all-above m n (e ∷ es) lt h = (let a = h.0 in omega arith, all-above m n es lt h.1)
 
 -- a number below all those of a list isn't in it
-pub none-below : {V : Type 0} (n : ℕ) (es : List (ℕ × V)) → AllByRecursion (λ e. n < e.0) es → listed es n ≡ None
+pub none-below : {V : Type 0} (n : ℕ) (es : List (ℕ × V)) → AllByRecursion (λ e. n < e.0) es
+    → listed es n ≡ None
 none-below n [] h = refl
-none-below n (e ∷ es) h = listed-there e es n (λ q. let a = h.0 in omega arith) ∙ none-below n es h.1
+none-below n (e ∷ es) h =
+    listed-there e es n (λ q. let a = h.0 in omega arith) ∙ none-below n es h.1
 
 -- what is listed is above what all are above
-pub number-above : {V : Type 0} (m n : ℕ) (v : V) (es : List (ℕ × V)) → AllByRecursion (λ e. m < e.0) es → listed es n ≡ Some v → m < n
+pub number-above : {V : Type 0} (m n : ℕ) (v : V) (es : List (ℕ × V))
+    → AllByRecursion (λ e. m < e.0) es → listed es n ≡ Some v → m < n
 number-above m n v [] h l = cc
 number-above m n v (e ∷ es) h l = elim (cases_eq e.0 n) [
   | inl same ↦ let a = h.0 in omega arith
@@ -35,37 +41,45 @@ number-above m n v (e ∷ es) h l = elim (cases_eq e.0 n) [
 -- One list below another, apart from first entries.
 
 -- a first entry that isn't in the second list may be removed
-pub below-without_first : {V : Type 0} (x : ℕ × V) (xs b : List (ℕ × V)) → AllByRecursion (λ e. x.0 < e.0) b → EntriesBelow (x ∷ xs) b → EntriesBelow xs b
+pub below-without_first : {V : Type 0} (x : ℕ × V) (xs b : List (ℕ × V))
+    → AllByRecursion (λ e. x.0 < e.0) b → EntriesBelow (x ∷ xs) b → EntriesBelow xs b
 below-without_first x xs b above p n v l =
     let lt : x.0 < n = number-above x.0 n v b above l in
     sym (listed-there x xs n (λ q. omega arith)) ∙ p n v l
 
 -- or added
-pub below-with_first : {V : Type 0} (x : ℕ × V) (xs b : List (ℕ × V)) → AllByRecursion (λ e. x.0 < e.0) xs → EntriesBelow xs b → EntriesBelow (x ∷ xs) b
+pub below-with_first : {V : Type 0} (x : ℕ × V) (xs b : List (ℕ × V))
+    → AllByRecursion (λ e. x.0 < e.0) xs → EntriesBelow xs b → EntriesBelow (x ∷ xs) b
 below-with_first x xs b above p n v l =
     let lt : x.0 < n = number-above x.0 n v xs above (p n v l) in
     listed-there x xs n (λ q. omega arith) ∙ p n v l
 
 -- the second list's first entry may be removed
-pub below-behind_first : {V : Type 0} (a : List (ℕ × V)) (y : ℕ × V) (ys : List (ℕ × V)) → AllByRecursion (λ e. y.0 < e.0) ys → EntriesBelow a (y ∷ ys) → EntriesBelow a ys
+pub below-behind_first : {V : Type 0} (a : List (ℕ × V)) (y : ℕ × V) (ys : List (ℕ × V))
+    → AllByRecursion (λ e. y.0 < e.0) ys → EntriesBelow a (y ∷ ys) → EntriesBelow a ys
 below-behind_first a y ys above p n v l =
     let lt : y.0 < n = number-above y.0 n v ys above l in
     p n v (listed-there y ys n (λ q. omega arith) ∙ l)
 
 -- or added, where both have it
-pub below-same_first : {V : Type 0} (x y : ℕ × V) (xs ys : List (ℕ × V)) → x ≡ y → AllByRecursion (λ e. x.0 < e.0) xs → EntriesBelow xs ys → EntriesBelow (x ∷ xs) (y ∷ ys)
+pub below-same_first : {V : Type 0} (x y : ℕ × V) (xs ys : List (ℕ × V)) → x ≡ y
+    → AllByRecursion (λ e. x.0 < e.0) xs → EntriesBelow xs ys → EntriesBelow (x ∷ xs) (y ∷ ys)
 below-same_first {V} x y xs ys same above p n v l = elim (cases_eq y.0 n) [
   | inl here ↦ let e : (x ∷ xs) ≡ (y ∷ xs) = ap (λ (z : ℕ × V). z ∷ xs) same in
-      ap (λ (es : List (ℕ × V)). listed es n) e ∙ listed-here y xs n here ∙ sym (listed-here y ys n here) ∙ l
+      ap (λ (es : List (ℕ × V)). listed es n) e ∙ listed-here y xs n here
+      ∙ sym (listed-here y ys n here) ∙ l
   | inr other ↦ below-with_first x xs ys above p n v (sym (listed-there y ys n other) ∙ l)
 ]
 
 -- the first entry of the second list is that of the first, or after it
-pub first-below : {V : Type 0} (x y : ℕ × V) (xs ys : List (ℕ × V)) → AllByRecursion (λ e. x.0 < e.0) xs → EntriesBelow (x ∷ xs) (y ∷ ys) → (x ≡ y) ⊎ (x.0 < y.0)
+pub first-below : {V : Type 0} (x y : ℕ × V) (xs ys : List (ℕ × V))
+    → AllByRecursion (λ e. x.0 < e.0) xs → EntriesBelow (x ∷ xs) (y ∷ ys) → (x ≡ y) ⊎ (x.0 < y.0)
 first-below {V} x y xs ys above p =
     let l : listed (x ∷ xs) y.0 ≡ Some y.1 = p y.0 y.1 (listed-here y ys y.0 refl) in
     elim (cases_eq x.0 y.0) [
-      | inl same ↦ let v : x.1 ≡ y.1 = first-value (sym (listed-here x xs y.0 same) ∙ l) in inl (λ i. (same i, v i))
+      | inl same ↦
+          let v : x.1 ≡ y.1 = first-value (sym (listed-here x xs y.0 same) ∙ l) in
+          inl (λ i. (same i, v i))
       | inr other ↦ inr (number-above x.0 y.0 y.1 xs above (sym (listed-there x xs y.0 other) ∙ l))
     ]
   where
@@ -74,28 +88,38 @@ first-below {V} x y xs ys above p =
 
 -- The laws.
 
-pub entries-length : {V : Type 0} (a b : List (ℕ × V)) → Rises a → Rises b → EntriesBelow a b → length b ≤ length a
+pub entries-length : {V : Type 0} (a b : List (ℕ × V)) → Rises a → Rises b → EntriesBelow a b
+    → length b ≤ length a
 entries-length {V} [] [] ra rb p = omega arith
 entries-length {V} [] (y ∷ ys) ra rb p = let l = p y.0 y.1 (listed-here y ys y.0 refl) in cc
 entries-length {V} (x ∷ xs) [] ra rb p = omega arith
 entries-length {V} (x ∷ xs) (y ∷ ys) ra rb p = elim (first-below x y xs ys ra.0 p) [
   | inl same ↦
       let A : ℕ × V → Type 0 = λ z. AllByRecursion (λ e. z.0 < e.0) ys in
-      let ih = entries-length xs ys ra.1 rb.1 (below-without_first x xs ys (subst A (sym same) rb.0) (below-behind_first (x ∷ xs) y ys rb.0 p)) in omega arith
+      let ih = entries-length xs ys ra.1 rb.1
+      (below-without_first x xs ys (subst A (sym same) rb.0)
+      (below-behind_first (x ∷ xs) y ys rb.0 p)) in omega arith
   | inr lt ↦
-      let ih = entries-length xs (y ∷ ys) ra.1 rb (below-without_first x xs (y ∷ ys) (lt, all-above x.0 y.0 ys lt rb.0) p) in omega arith
+      let ih = entries-length xs (y ∷ ys) ra.1 rb
+      (below-without_first x xs (y ∷ ys) (lt, all-above x.0 y.0 ys lt rb.0) p) in omega arith
 ]
 
-pub entries-same : {V : Type 0} (a b : List (ℕ × V)) → Rises a → Rises b → EntriesBelow a b → length b ≡ length a → a ≡ b
+pub entries-same : {V : Type 0} (a b : List (ℕ × V)) → Rises a → Rises b → EntriesBelow a b
+    → length b ≡ length a → a ≡ b
 entries-same {V} [] [] ra rb p e = refl
 entries-same {V} [] (y ∷ ys) ra rb p e = absurd (omega arith)
 entries-same {V} (x ∷ xs) [] ra rb p e = absurd (omega arith)
 entries-same {V} (x ∷ xs) (y ∷ ys) ra rb p e = elim (first-below x y xs ys ra.0 p) [
   | inl same ↦
       let A : ℕ × V → Type 0 = λ z. AllByRecursion (λ e. z.0 < e.0) ys in
-      let tail : xs ≡ ys = entries-same xs ys ra.1 rb.1 (below-without_first x xs ys (subst A (sym same) rb.0) (below-behind_first (x ∷ xs) y ys rb.0 p)) (omega arith) in cc
+      let tail : xs ≡ ys =
+      entries-same xs ys ra.1 rb.1
+      (below-without_first x xs ys (subst A (sym same) rb.0)
+      (below-behind_first (x ∷ xs) y ys rb.0 p)) (omega arith) in cc
   | inr lt ↦
-      let less = entries-length xs (y ∷ ys) ra.1 rb (below-without_first x xs (y ∷ ys) (lt, all-above x.0 y.0 ys lt rb.0) p) in absurd (omega arith)
+      let less = entries-length xs (y ∷ ys) ra.1 rb
+      (below-without_first x xs (y ∷ ys) (lt, all-above x.0 y.0 ys lt rb.0) p) in
+      absurd (omega arith)
 ]
 
 pub entry_laws : {V : Type 0} (IsInRange : V → Type 0) → OrderLaws (entry_order IsInRange)
@@ -104,7 +128,8 @@ entry_laws IsInRange = record {
   transitive = λ a b c p q n v l. p n v (q n v l);
   antisymmetric = λ a b ra rb p q.
       let down = entries-length a b ra.rises rb.rises p in
-      let up = entries-length b a rb.rises ra.rises q in entries-same a b ra.rises rb.rises p (omega arith);
+      let up = entries-length b a rb.rises ra.rises q in
+      entries-same a b ra.rises rb.rises p (omega arith);
   one_depth = λ _ _ _. tt;
   depth_symmetric = λ _ _ _. tt;
   depth_transitive = λ _ _ _ _ _. tt;
@@ -114,33 +139,45 @@ entry_laws IsInRange = record {
 
 -- SortedMap kept by a test.
 
-keep_step : {X : Type 0} (P : X → Type 0) (x : X) (rest : List X) (b : Bool) → P x → AllByRecursion P rest → AllByRecursion P (cond b (x ∷ rest) rest)
+keep_step : {X : Type 0} (P : X → Type 0) (x : X) (rest : List X) (b : Bool) → P x
+    → AllByRecursion P rest → AllByRecursion P (cond b (x ∷ rest) rest)
 keep_step P x rest true h ih = (h, ih)
 keep_step P x rest false h ih = ih
 
-pub all-filter : {X : Type 0} (P : X → Type 0) (p : X → Bool) (xs : List X) → AllByRecursion P xs → AllByRecursion P (filter p xs)
+pub all-filter : {X : Type 0} (P : X → Type 0) (p : X → Bool) (xs : List X) → AllByRecursion P xs
+    → AllByRecursion P (filter p xs)
 all-filter P p [] h = tt
 all-filter P p (x ∷ xs) h = keep_step P x (filter p xs) (p x) h.0 (all-filter P p xs h.1)
 
-rises_step : {V : Type 0} (x : ℕ × V) (rest : List (ℕ × V)) (b : Bool) → AllByRecursion (λ e. x.0 < e.0) rest → Rises rest → Rises (cond b (x ∷ rest) rest)
+rises_step : {V : Type 0} (x : ℕ × V) (rest : List (ℕ × V)) (b : Bool)
+    → AllByRecursion (λ e. x.0 < e.0) rest → Rises rest → Rises (cond b (x ∷ rest) rest)
 rises_step x rest true h ih = (h, ih)
 rises_step x rest false h ih = ih
 
-pub Rises-filter : {V : Type 0} (p : ℕ × V → Bool) (xs : List (ℕ × V)) → Rises xs → Rises (filter p xs)
+pub Rises-filter : {V : Type 0} (p : ℕ × V → Bool) (xs : List (ℕ × V)) → Rises xs
+    → Rises (filter p xs)
 Rises-filter p [] r = tt
-Rises-filter p (x ∷ xs) r = rises_step x (filter p xs) (p x) (all-filter _ p xs r.0) (Rises-filter p xs r.1)
+Rises-filter p (x ∷ xs) r =
+    rises_step x (filter p xs) (p x) (all-filter _ p xs r.0) (Rises-filter p xs r.1)
 
-filter_step : {V : Type 0} (p : ℕ × V → Bool) (x : ℕ × V) (xs rest : List (ℕ × V)) (n : ℕ) (v : V) (b : Bool) → p x ≡ b
-    → AllByRecursion (λ e. x.0 < e.0) rest → (listed rest n ≡ Some v) ↔ ((listed xs n ≡ Some v) × (p (n, v) ≡ true))
-    → (listed (cond b (x ∷ rest) rest) n ≡ Some v) ↔ ((listed (x ∷ xs) n ≡ Some v) × (p (n, v) ≡ true))
+filter_step : {V : Type 0} (p : ℕ × V → Bool) (x : ℕ × V) (xs rest : List (ℕ × V)) (n : ℕ) (v : V)
+    (b : Bool) → p x ≡ b
+    → AllByRecursion (λ e. x.0 < e.0) rest
+    → (listed rest n ≡ Some v) ↔ ((listed xs n ≡ Some v) × (p (n, v) ≡ true))
+    → (listed (cond b (x ∷ rest) rest) n ≡ Some v)
+    ↔ ((listed (x ∷ xs) n ≡ Some v) × (p (n, v) ≡ true))
 filter_step {V} p x xs rest n v true is above ih = elim (cases_eq x.0 n) [
   | inl same ↦ (
     λ l. let w : x.1 ≡ v = value (sym (listed-here x rest n same) ∙ l) in
         (listed-here x xs n same ∙ ap Some w, ap p (sym (pair same w)) ∙ is),
-    λ h. let w : x.1 ≡ v = value (sym (listed-here x xs n same) ∙ h.0) in listed-here x rest n same ∙ ap Some w,
+    λ h.
+        let w : x.1 ≡ v = value (sym (listed-here x xs n same) ∙ h.0) in
+        listed-here x rest n same ∙ ap Some w,
   )
   | inr other ↦ (
-    λ l. let h = ih.0 (sym (listed-there x rest n other) ∙ l) in (listed-there x xs n other ∙ h.0, h.1),
+    λ l.
+        let h = ih.0 (sym (listed-there x rest n other) ∙ l) in
+        (listed-there x xs n other ∙ h.0, h.1),
     λ h. listed-there x rest n other ∙ ih.1 (sym (listed-there x xs n other) ∙ h.0, h.1),
   )
 ]
@@ -168,30 +205,41 @@ filter_step {V} p x xs rest n v false is above ih = elim (cases_eq x.0 n) [
     pair : x.0 ≡ n → x.1 ≡ v → x ≡ (n, v)
     pair a b i = (a i, b i)
 
-pub listed-filter : {V : Type 0} (p : ℕ × V → Bool) (a : List (ℕ × V)) → Rises a → (n : ℕ) (v : V) → (listed (filter p a) n ≡ Some v) ↔ ((listed a n ≡ Some v) × (p (n, v) ≡ true))
+pub listed-filter : {V : Type 0} (p : ℕ × V → Bool) (a : List (ℕ × V)) → Rises a → (n : ℕ) (v : V)
+    → (listed (filter p a) n ≡ Some v) ↔ ((listed a n ≡ Some v) × (p (n, v) ≡ true))
 listed-filter p [] r n v = (λ l. cc, λ h. h.0)
-listed-filter p (x ∷ xs) r n v = filter_step p x xs (filter p xs) n v (p x) refl (all-filter _ p xs r.0) (listed-filter p xs r.1 n v)
+listed-filter p (x ∷ xs) r n v =
+    filter_step p x xs (filter p xs) n v (p x) refl (all-filter _ p xs r.0)
+    (listed-filter p xs r.1 n v)
 
-pub holds_value-is : {V : Type 0} (same : V → V → Bool) → IsEquality same → (o : Option V) (v : V) → (holds_value same o v ≡ true) ↔ (o ≡ Some v)
+pub holds_value-is : {V : Type 0} (same : V → V → Bool) → IsEquality same → (o : Option V) (v : V)
+    → (holds_value same o v ≡ true) ↔ (o ≡ Some v)
 holds_value-is {V} same decides None v = (λ h. cc, λ e. cc)
-holds_value-is {V} same decides (Some w) v = (λ h. ap Some ((decides w v).0 h), λ e. (decides w v).1 (value e))
+holds_value-is {V} same decides (Some w) v =
+    (λ h. ap Some ((decides w v).0 h), λ e. (decides w v).1 (value e))
   where
     value : Some w ≡ Some v → w ≡ v
     value e = cc
 
-pub common_is_least : {V : Type 0} (IsInRange : V → Type 0) (same : V → V → Bool) → IsEquality same → (a b : List (ℕ × V)) → EntriesInRange IsInRange a
+pub common_is_least : {V : Type 0} (IsInRange : V → Type 0) (same : V → V → Bool) → IsEquality same
+    → (a b : List (ℕ × V)) → EntriesInRange IsInRange a
     → IsLeastAbove (entry_order IsInRange) a b (common_entries same a b)
 common_is_least IsInRange same decides a b r = record {
   in_range = record { rises = Rises-filter _ a r.rises; values = all-filter _ _ a r.values };
   left = λ n v l. ((listed-filter _ a r.rises n v).0 l).0;
-  right = λ n v l. (holds_value-is same decides (listed b n) v).0 ((listed-filter _ a r.rises n v).0 l).1;
-  least = λ d rd p q n v l. (listed-filter _ a r.rises n v).1 (p n v l, (holds_value-is same decides (listed b n) v).1 (q n v l));
+  right = λ n v l.
+      (holds_value-is same decides (listed b n) v).0 ((listed-filter _ a r.rises n v).0 l).1;
+  least = λ d rd p q n v l.
+      (listed-filter _ a r.rises n v).1
+      (p n v l, (holds_value-is same decides (listed b n) v).1 (q n v l));
 }
 
 -- Nothing is missing exactly where the first list is below the second.
 
-missing_step : {V : Type 0} (same : V → V → Bool) → IsEquality same → (x y : ℕ × V) (xs ys : List (ℕ × V)) (b : Bool) → (nat_eq y.0 x.0 && same y.1 x.1) ≡ b
-    → Rises (x ∷ xs) → Rises (y ∷ ys) → EntriesBelow xs (if b then ys else y ∷ ys) ↔ EntriesBelow (x ∷ xs) (y ∷ ys)
+missing_step : {V : Type 0} (same : V → V → Bool) → IsEquality same
+    → (x y : ℕ × V) (xs ys : List (ℕ × V)) (b : Bool) → (nat_eq y.0 x.0 && same y.1 x.1) ≡ b
+    → Rises (x ∷ xs) → Rises (y ∷ ys)
+    → EntriesBelow xs (if b then ys else y ∷ ys) ↔ EntriesBelow (x ∷ xs) (y ∷ ys)
 missing_step {V} same decides x y xs ys true is rx ry =
     let both = and_parts _ _ is in
     let number : y.0 ≡ x.0 = eqb-true y.0 x.0 both.0 in
@@ -199,18 +247,22 @@ missing_step {V} same decides x y xs ys true is rx ry =
     let equal : x ≡ y = λ i. (sym number i, sym value i) in
     let A : ℕ × V → Type 0 = λ z. AllByRecursion (λ e. z.0 < e.0) ys in (
       below-same_first x y xs ys equal rx.0,
-      λ p. below-without_first x xs ys (subst A (sym equal) ry.0) (below-behind_first (x ∷ xs) y ys ry.0 p),
+      λ p.
+          below-without_first x xs ys (subst A (sym equal) ry.0)
+          (below-behind_first (x ∷ xs) y ys ry.0 p),
     )
 missing_step {V} same decides x y xs ys false is rx ry = (
   below-with_first x xs (y ∷ ys) rx.0,
   λ p. elim (first-below x y xs ys rx.0 p) [
     | inl equal ↦ let t : (nat_eq y.0 x.0 && same y.1 x.1) ≡ true =
-        and_from _ _ (eq-eqb y.0 x.0 (ap (λ (z : ℕ × V). z.0) (sym equal))) ((decides y.1 x.1).1 (ap (λ (z : ℕ × V). z.1) (sym equal))) in cc
+        and_from _ _ (eq-eqb y.0 x.0 (ap (λ (z : ℕ × V). z.0) (sym equal)))
+        ((decides y.1 x.1).1 (ap (λ (z : ℕ × V). z.1) (sym equal))) in cc
     | inr lt ↦ below-without_first x xs (y ∷ ys) (lt, all-above x.0 y.0 ys lt ry.0) p
   ],
 )
 
-Rises-behind : {V : Type 0} (same : V → V → Bool) (e : ℕ × V) (b : List (ℕ × V)) → Rises b → Rises (behind_entry same e b)
+Rises-behind : {V : Type 0} (same : V → V → Bool) (e : ℕ × V) (b : List (ℕ × V)) → Rises b
+    → Rises (behind_entry same e b)
 Rises-behind same e [] r = tt
 Rises-behind same e (x ∷ xs) r = go (nat_eq x.0 e.0 && same x.1 e.1)
   where
@@ -218,13 +270,17 @@ Rises-behind same e (x ∷ xs) r = go (nat_eq x.0 e.0 && same x.1 e.1)
     go true = r.1
     go false = r
 
-pub missing-below : {V : Type 0} (same : V → V → Bool) → IsEquality same → (a b : List (ℕ × V)) → Rises a → Rises b → (missing_entries same a b ≡ []) ↔ EntriesBelow a b
+pub missing-below : {V : Type 0} (same : V → V → Bool) → IsEquality same → (a b : List (ℕ × V))
+    → Rises a → Rises b → (missing_entries same a b ≡ []) ↔ EntriesBelow a b
 missing-below same decides [] [] ra rb = (λ _ n v l. l, λ _. refl)
-missing-below same decides [] (y ∷ ys) ra rb = (λ e. cc, λ p. let l = p y.0 y.1 (listed-here y ys y.0 refl) in cc)
-missing-below {V} same decides (x ∷ xs) [] ra rb = let ih = missing-below same decides xs [] ra.1 rb in
+missing-below same decides [] (y ∷ ys) ra rb =
+    (λ e. cc, λ p. let l = p y.0 y.1 (listed-here y ys y.0 refl) in cc)
+missing-below {V} same decides (x ∷ xs) [] ra rb =
+    let ih = missing-below same decides xs [] ra.1 rb in
     let nothing : (es : List (ℕ × V)) → EntriesBelow es [] = λ es n v l. cc in
     (λ e. nothing (x ∷ xs), λ p. ih.1 (nothing xs))
 missing-below same decides (x ∷ xs) (y ∷ ys) ra rb =
-    let ih = missing-below same decides xs (behind_entry same x (y ∷ ys)) ra.1 (Rises-behind same x (y ∷ ys) rb) in
+    let ih = missing-below same decides xs (behind_entry same x (y ∷ ys)) ra.1
+    (Rises-behind same x (y ∷ ys) rb) in
     let step = missing_step same decides x y xs ys (nat_eq y.0 x.0 && same y.1 x.1) refl ra rb in
     (λ e. step.0 (ih.0 e), λ p. ih.1 (step.1 p))

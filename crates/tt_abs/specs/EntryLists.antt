@@ -1,4 +1,5 @@
--- The order of lists of entries in ascending order of their numbers: the list with fewer entries covers more.
+-- The order of sorted maps, as lists of entries in ascending order of their numbers: the one with
+-- fewer entries covers more.
 use Rattle.std.specs.Prelude.{◌≡◌, ℕ, zero, suc, ◌<◌, ⊤, Bool, false, ◌&&◌, nat_eq, nat_lt, if◌then◌else◌, List, [], ◌∷◌, Option, None, Some, length}
 use Rattle.std.specs.List.{AllByRecursion, filter}
 use Rattle.std.specs.Bool.{Decides}
@@ -46,7 +47,8 @@ entries_from n [] = []
 entries_from n (x ∷ xs) = if nat_lt x.0 n then entries_from n xs else x ∷ xs
 
 -- what is left of the second list after a pass along the first
-abbrev pub missing_entries : {V : Type 0} → (V → V → Bool) → List (ℕ × V) → List (ℕ × V) → List (ℕ × V)
+abbrev pub missing_entries : {V : Type 0} → (V → V → Bool) → List (ℕ × V) → List (ℕ × V)
+    → List (ℕ × V)
 missing_entries same [] b = b
 missing_entries same (e ∷ es) b = missing_entries same es (behind_entry same e b)
 
@@ -56,9 +58,16 @@ holds_value same None v = false
 holds_value same (Some w) v = same w v
 
 -- the entries of the first list that the second has too
-abbrev pub common_entries : {V : Type 0} → (V → V → Bool) → List (ℕ × V) → List (ℕ × V) → List (ℕ × V)
+abbrev pub common_entries : {V : Type 0} → (V → V → Bool) → List (ℕ × V) → List (ℕ × V)
+    → List (ℕ × V)
 common_entries same a b = filter (λ e. holds_value same (listed b e.0) e.1) a
 
 -- the order of these lists, where the values have a range
 abbrev pub entry_order : {V : Type 0} → (V → Type 0) → Order (List (ℕ × V))
-entry_order IsInRange = record { InRange = EntriesInRange IsInRange; Below = EntriesBelow; SameDepth = λ _ _. ⊤; left = length }
+entry_order IsInRange =
+    record {
+      InRange = EntriesInRange IsInRange;
+      Below = EntriesBelow;
+      SameDepth = λ _ _. ⊤;
+      left = length;
+    }

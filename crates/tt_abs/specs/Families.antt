@@ -1,5 +1,6 @@
--- Families of abstract values by point, which of them are good, and what is derived. (Cousot and Cousot, "Abstract
--- interpretation": a good family is a post-fixed point of the flow, and what is derived is below each.)
+-- Families of abstract values by point, which of them are good, and what is derived. (Cousot and
+-- Cousot, "Abstract interpretation": a good family is a post-fixed point of the flow, and what is
+-- derived is below each.)
 use Rattle.std.specs.Prelude.{◌≡◌, Option, Some}
 use Rattle.tt_code.specs.declared.reason.Reason.{Reason}
 use Rattle.tt_abs.specs.Orders.{Order, IsLeastAbove}
@@ -22,16 +23,20 @@ pub record IsGood {P S : Type 0} (o : Order S) (f : Flow P S) (family : P → Op
   pub in_range : IsFamilyInRange o family
   pub start : CoversAt o family f.entry f.start
   pub safe : (p : P) (s : S) (r : Reason) → family p ≡ Some s → f.Refuses p s r → ⊥
-  pub closed : (p : P) (s : S) (q : P) (t : S) → family p ≡ Some s → f.Gives p s q t → CoversAt o family q t
+  pub closed : (p : P) (s : S) (q : P) (t : S) → family p ≡ Some s → f.Gives p s q t
+      → CoversAt o family q t
 
 -- the family's value at the point, if there is one, isn't refused, and what it gives is covered
 abbrev pub IsFine : {P S : Type 0} → Order S → Flow P S → (P → Option S) → P → Type 0
 IsFine {P} {S} o f family p = (s : S) → family p ≡ Some s
-    → ((r : Reason) → f.Refuses p s r → ⊥) × ((q : P) (t : S) → f.Gives p s q t → CoversAt o family q t)
+    → ((r : Reason) → f.Refuses p s r → ⊥)
+    × ((q : P) (t : S) → f.Gives p s q t → CoversAt o family q t)
 
--- The derived values: the start, what a derived value gives that isn't refused, and the least values above two that are derived at
--- one point.
+-- The derived values: the start, what a derived value gives that isn't refused, and the least
+-- values above two that are derived at one point.
 pub data Derived {P S : Type 0} (o : Order S) (f : Flow P S) : P → S → Type 0 where
   started : Derived o f f.entry f.start
-  moved : (p q : P) (s t : S) → Derived o f p s → ((r : Reason) → f.Refuses p s r → ⊥) → f.Gives p s q t → Derived o f q t
-  joined : (p : P) (s t u : S) → Derived o f p s → Derived o f p t → IsLeastAbove o s t u → Derived o f p u
+  moved : (p q : P) (s t : S) → Derived o f p s → ((r : Reason) → f.Refuses p s r → ⊥)
+      → f.Gives p s q t → Derived o f q t
+  joined : (p : P) (s t u : S) → Derived o f p s → Derived o f p t → IsLeastAbove o s t u
+      → Derived o f p u

@@ -1,4 +1,5 @@
--- Which bodies functions have. (Apple TrueType Reference Manual, "Defining and using functions and instructions", FDEF and ENDF.)
+-- Which bodies functions have. (Apple TrueType Reference Manual, "Defining and using functions and
+-- instructions", FDEF and ENDF.)
 use Rattle.std.specs.Prelude.{◌≡◌, ℕ, ◌+◌, List, Some}
 use Rattle.std.specs.List.{AllByRecursion}
 use Rattle.tt_code.specs.Cut.{IsInstruction}
@@ -7,16 +8,20 @@ use Rattle.tt_code.specs.Settings.{Setting, Kind, FontProgram, CvtProgram, Glyph
 use Rattle.tt_code.specs.Structure.{after_fdef}
 use Rattle.tt_abs.specs.Entries.{listed}
 
--- the name of the body of a function of the font program or of the CVT program: it begins after an FDEF, which has its ENDF
+-- the name of the body of a function of the font program or of the CVT program: it begins after an
+-- FDEF, which has its ENDF
 pub data IsFunctionBody (s : Setting) : ℕ → Type 0 where
   of_font_program : (at to : ℕ) → after_fdef s.font at ≡ Some to → IsFunctionBody s (at + 1)
-  of_cvt_program : (at to : ℕ) → after_fdef s.prep at ≡ Some to → IsFunctionBody s (CVT_BODIES + (at + 1))
+  of_cvt_program : (at to : ℕ) → after_fdef s.prep at ≡ Some to
+      → IsFunctionBody s (CVT_BODIES + (at + 1))
 
 -- each listed function has such a body
 abbrev pub AreFunctionBodies : Setting → List (ℕ × ℕ) → Type 0
-AreFunctionBodies s functions = (n body : ℕ) → listed functions n ≡ Some body → IsFunctionBody s body
+AreFunctionBodies s functions =
+    (n body : ℕ) → listed functions n ≡ Some body → IsFunctionBody s body
 
--- where the program that runs is the font program all three programs are one, where it is the CVT program it is `prep`
+-- where the program that runs is the font program all three programs are one, where it is the CVT
+-- program it is `prep`
 abbrev pub RunsAsItsKind : Setting → Kind → Type 0
 RunsAsItsKind s FontProgram = (s.font ≡ s.main) × (s.prep ≡ s.main)
 RunsAsItsKind s CvtProgram = s.prep ≡ s.main

@@ -49,10 +49,17 @@ abbrev pub graphics_order : Order Cells
 graphics_order = along graphics_parts (product four_cells three_zones)
 
 four_laws : OrderLaws four_cells
-four_laws = product_laws cell_order three_cells cell_laws (product_laws cell_order two_cells cell_laws (product_laws cell_order cell_order cell_laws cell_laws))
+four_laws =
+    product_laws cell_order three_cells cell_laws
+    (product_laws cell_order two_cells cell_laws
+    (product_laws cell_order cell_order cell_laws cell_laws))
 
 three_laws : OrderLaws three_zones
-three_laws = product_laws zone_order two_zones zone_laws (product_laws zone_order zone_order zone_laws zone_laws)
+three_laws =
+    product_laws zone_order two_zones zone_laws
+    (product_laws zone_order zone_order zone_laws zone_laws)
 
 pub graphics_laws : OrderLaws graphics_order
-graphics_laws = along_laws graphics_parts graphics_from (λ _. refl) (product four_cells three_zones) (product_laws four_cells three_zones four_laws three_laws)
+graphics_laws =
+    along_laws graphics_parts graphics_from (λ _. refl) (product four_cells three_zones)
+    (product_laws four_cells three_zones four_laws three_laws)

@@ -1,5 +1,5 @@
--- Which place is just after another. (Apple TrueType Reference Manual, "Instructions": the bytes of a program are its instructions, one
--- after the other.)
+-- Which place is just after another. (Apple TrueType Reference Manual, "Instructions": the bytes of
+-- a program are its instructions, one after the other.)
 use Rattle.std.specs.Prelude.{◌≡◌, ℕ, ◌+◌, ◌<◌, Some, false, length}
 use Rattle.tt_code.specs.Cut.{Instruction}
 use Rattle.tt_code.specs.Settings.{Setting, is_main_end}
@@ -13,7 +13,8 @@ pub record EndsAt (s : Setting) (p : Place) (end : ℕ) : Type 0 where
   pub end_is : end ≡ p.1 + length instruction
   pub forward : p.1 < end
 
--- the instruction at the first place ends at the second, in the same calls, and that isn't the main program's end
+-- the instruction at the first place ends at the second, in the same calls, and that isn't the main
+-- program's end
 pub record Precedes (s : Setting) (p q : Place) : Type 0 where
   pub calls : q.0 ≡ p.0
   pub ends : EndsAt s p q.1

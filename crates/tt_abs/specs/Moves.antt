@@ -1,7 +1,9 @@
 -- Where the code's moves lead.
-use Rattle.std.specs.Prelude.{◌≡◌, ℕ, ◌+◌, List, [], ◌∷◌, Ok, Err, map}
+use Rattle.std.specs.Prelude.{◌≡◌, ℕ, ◌+◌, List, [], ◌∷◌, Option, Ok, Err, map, true}
+use Rattle.tt_code.specs.Cut.{Instruction}
 use Rattle.tt_code.specs.Refusals.{Tested}
-use Rattle.tt_code.specs.Settings.{body_offset}
+use Rattle.tt_code.specs.Runs.{outcome}
+use Rattle.tt_code.specs.Settings.{body_offset, starts_in_body}
 use Rattle.tt_code.specs.declared.machine.Frame.{Frame}
 use Rattle.tt_abs.specs.declared.moves.Move.{Move}
 use Rattle.tt_abs.specs.declared.moves.Move.TheVariants.{To, Enter, NextTurn, Return}
@@ -15,9 +17,10 @@ use Rattle.tt_abs.specs.declared.setting.Setting.{Setting}
 use Rattle.tt_abs.specs.declared.setting.Point.{Point}
 use Rattle.tt_abs.specs.declared.state.State.{State}
 use Rattle.tt_abs.specs.Cells.{Abstract}
+use Rattle.tt_abs.specs.Covers.{Gives, IsRefused}
 use Rattle.tt_abs.specs.Settings.{setting_of, frames_of}
 use Rattle.tt_abs.specs.States.{abstract_of}
-use Rattle.tt_abs.specs.Transfers.{Next, controlled_cells, outcome_on_cells}
+use Rattle.tt_abs.specs.Transfers.{Next, controlled_cells, instruction_of, outcome_on_cells}
 
 -- the calls after a move, the innermost first
 abbrev pub frames_behind : List Frame → Move → List Frame
@@ -44,7 +47,8 @@ ways_of (moves.Two m n) = To m ∷ To n ∷ []
 
 -- the place to which a way leads, with the state
 abbrev pub next_by : List Frame → Abstract → Move → Next
-next_by fs a way = record { frames = frames_behind fs way; offset = offset_behind fs way; state = a }
+next_by fs a way =
+    record { frames = frames_behind fs way; offset = offset_behind fs way; state = a }
 
 -- the places to which the ways lead, with the state
 abbrev pub nexts_of : List Frame → Moves → Abstract → List Next
@@ -52,13 +56,25 @@ nexts_of fs moves a = map (next_by fs a) (ways_of moves)
 
 -- What the code's settings, points and states say of an instruction at its place.
 
+-- an instruction of the point's body starts there
+abbrev pub StartsAt : Setting → Point → Type 0
+StartsAt setting point =
+    starts_in_body (setting_of setting) (frames_of point) point.offset ≡ true
+
+-- the instruction of the point's body that starts there
+abbrev pub point_instruction : Setting → Point → Option Instruction
+point_instruction setting point =
+    instruction_of (setting_of setting) (frames_of point) point.offset
+
 -- what the machine's instructions do there
 abbrev pub outcome_at : Setting → Point → State → Tested (List Next)
-outcome_at setting point state = outcome_on_cells (setting_of setting) (frames_of point) point.offset (abstract_of state)
+outcome_at setting point state =
+    outcome_on_cells (setting_of setting) (frames_of point) point.offset (abstract_of state)
 
 -- what a control instruction does there
 abbrev pub control_at : Setting → Point → State → Control → Tested (List Next)
-control_at setting point state op = controlled_cells (setting_of setting) (frames_of point) point.offset (abstract_of state) op
+control_at setting point state op =
+    controlled_cells (setting_of setting) (frames_of point) point.offset (abstract_of state) op
 
 -- it leads by these moves, with this state left
 abbrev pub LeadsBy : Point → Tested (List Next) → Moves → State → Type 0
@@ -72,3 +88,33 @@ ForReason (OutOfMemory e) P = Unit {0}
 -- it is refused for this reason
 abbrev pub IsRefusedFor : {A : Type 0} → Tested A → Refusal → Type 0
 IsRefusedFor outcome e = ForReason e (λ r. outcome ≡ Err r)
+
+-- the instruction at the point turns the old state into the new one and leads by these moves
+abbrev pub StepsTo : Setting → Point → State → State → Moves → Type 0
+StepsTo setting point old new moves = LeadsBy point (outcome_at setting point old) moves new
+
+-- the instruction at the point is refused for this reason
+abbrev pub IsStepRefusedFor : Setting → Point → State → Refusal → Type 0
+IsStepRefusedFor setting point old e = IsRefusedFor (outcome_at setting point old) e
+
+-- the same two of a control instruction
+abbrev pub ControlsTo : Setting → Point → Control → State → State → Moves → Type 0
+ControlsTo setting point op old new moves =
+    LeadsBy point (control_at setting point old op) moves new
+
+abbrev pub IsControlRefusedFor : Setting → Point → Control → State → Refusal → Type 0
+IsControlRefusedFor setting point op old e = IsRefusedFor (control_at setting point old op) e
+
+-- of the machines that the old state covers, none faults at the point or comes to run a body twice;
+-- the moves are at most two, and at each place to which they lead, and nowhere else, those machines
+-- come: the new state is the smallest that covers them there
+abbrev pub GivesByMachines : Setting → Point → State → State → Moves → Type 0
+GivesByMachines setting point old new moves =
+    Gives (abstract_of old) (frames_of point) point.offset (outcome (setting_of setting))
+    (nexts_of (frames_of point) moves (abstract_of new))
+
+-- some machine that the state covers faults at the point, or comes to run a body twice, or they
+-- come to too many lists of calls
+abbrev pub IsRefusedByMachines : Setting → Point → State → Refusal → Type 0
+IsRefusedByMachines setting point old e = ForReason e
+    (λ r. IsRefused (abstract_of old) (frames_of point) point.offset (outcome (setting_of setting)))

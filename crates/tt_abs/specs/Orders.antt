@@ -1,9 +1,9 @@
--- What an order of abstract values is, and its laws. (Cousot and Cousot, "Abstract interpretation": a join semilattice of finite
--- height.)
+-- What an order of abstract values is, and its laws. (Cousot and Cousot, "Abstract interpretation":
+-- a join semilattice of finite height.)
 use Rattle.std.specs.Prelude.{◌≡◌, ℕ, ◌≤◌}
 
--- The words of an order: values whose numbers are in range and whose lists rise; the second covers whatever the first does; the
--- two can be joined; how often a value can still rise.
+-- The words of an order: values whose numbers are in range and whose lists rise; the second covers
+-- whatever the first does; the two can be joined; how often a value can still rise.
 pub record Order (S : Type 0) : Type 1 where
   pub InRange : S → Type 0
   pub Below : S → S → Type 0
@@ -17,7 +17,8 @@ pub record IsLeastAbove {S : Type 0} (o : Order S) (a b c : S) : Type 0 where
   pub right : o.Below b c
   pub least : (d : S) → o.InRange d → o.Below a d → o.Below b d → o.Below c d
 
--- What each order proves of its words. What is below another value and differs from it can rise more often (left_falls and left_strict).
+-- What each order proves of its words. What is below another value and differs from it can rise
+-- more often (left_falls and left_strict).
 pub record OrderLaws {S : Type 0} (o : Order S) : Type 0 where
   pub reflexive : (a : S) → o.Below a a
   pub transitive : (a b c : S) → o.Below a b → o.Below b c → o.Below a c
@@ -26,4 +27,5 @@ pub record OrderLaws {S : Type 0} (o : Order S) : Type 0 where
   pub depth_symmetric : (a b : S) → o.SameDepth a b → o.SameDepth b a
   pub depth_transitive : (a b c : S) → o.SameDepth a b → o.SameDepth b c → o.SameDepth a c
   pub left_falls : (a b : S) → o.InRange a → o.InRange b → o.Below a b → o.left b ≤ o.left a
-  pub left_strict : (a b : S) → o.InRange a → o.InRange b → o.Below a b → o.left b ≡ o.left a → a ≡ b
+  pub left_strict : (a b : S) → o.InRange a → o.InRange b → o.Below a b → o.left b ≡ o.left a
+      → a ≡ b

@@ -1,4 +1,5 @@
--- Cells and abstract states that are in the range of the machine's numbers, and settings whose programs are bytes.
+-- Cells and abstract states that are in the range of the machine's numbers, and settings whose
+-- programs are bytes.
 use Rattle.std.specs.Prelude.{ℕ, ◌<◌, ◌^◌, List, [], ◌∷◌}
 use Rattle.std.specs.List.{AllByRecursion}
 use Rattle.tt_code.specs.Settings.{Setting}

@@ -14,11 +14,19 @@ kind_of kind.Cvt = CvtProgram
 kind_of (kind.Glyph points contours) = GlyphProgram points contours
 
 abbrev pub setting_of : Setting → MachineSetting
-setting_of s = record { limits = s.limits; cvt = s.cvt; kind = kind_of s.kind; main = s.main.now; font = s.font.now; prep = s.prep.now }
+setting_of s = record {
+  limits = s.limits;
+  cvt = s.cvt;
+  kind = kind_of s.kind;
+  main = s.main.now;
+  font = s.font.now;
+  prep = s.prep.now;
+}
 
 -- the font whose programs these are; the font program, where that runs, stands for both
 abbrev pub programs_of : Setting → Font
-programs_of s = record { limits = s.limits; cvt = s.cvt; font_program = s.font.now; cvt_program = s.prep.now }
+programs_of s =
+    record { limits = s.limits; cvt = s.cvt; font_program = s.font.now; cvt_program = s.prep.now }
 
 -- the calls of a point, the innermost first
 abbrev pub frames_of : Point → List Frame

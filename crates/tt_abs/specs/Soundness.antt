@@ -16,8 +16,11 @@ pub record StartsWith (functions : List (ℕ × ℕ)) (m : Machine) : Type 0 whe
 
 -- the family's state at the machine's place covers it
 abbrev pub IsCoveredBy : (Place → Option State) → Machine → Type 0
-IsCoveredBy family m = (u : State) × (family (m.frames, m.offset) ≡ Some u) × CoversState (abstract_of u) m
+IsCoveredBy family m =
+    (u : State) × (family (m.frames, m.offset) ≡ Some u) × CoversState (abstract_of u) m
 
 -- every machine that a run comes to is covered, and doesn't fault
 abbrev pub IsSafe : Setting → List (ℕ × ℕ) → (Place → Option State) → Type 0
-IsSafe s functions family = (m n : Machine) → StartsWith functions m → Runs s m n → IsCoveredBy family n × ((r : Reason) → Faults s n r → ⊥)
+IsSafe s functions family =
+    (m n : Machine) → StartsWith functions m → Runs s m n
+    → IsCoveredBy family n × ((r : Reason) → Faults s n r → ⊥)

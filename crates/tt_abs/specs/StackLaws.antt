@@ -7,7 +7,8 @@ use Rattle.tt_abs.specs.CellOrders.{known_cells}
 use Rattle.tt_abs.specs.CellLaws.{CellBelow-refl, CellBelow-trans, CellBelow-antisym, known_cells-falls, known_cells-strict}
 use Rattle.tt_abs.specs.Stacks.{StackBelow, known_count, stack_order}
 
-pub StackBelow-tail : (x y : Cell) (xs ys : List Cell) → StackBelow (x ∷ xs) (y ∷ ys) → StackBelow xs ys
+pub StackBelow-tail : (x y : Cell) (xs ys : List Cell) → StackBelow (x ∷ xs) (y ∷ ys)
+    → StackBelow xs ys
 StackBelow-tail x y xs ys h = record {
   depth = let d = h.depth in omega arith;
   cells = λ k. h.cells (suc k);
@@ -19,7 +20,8 @@ StackBelow-antisym [] (y ∷ ys) p q = absurd (omega (arith, p.depth))
 StackBelow-antisym (x ∷ xs) [] p q = absurd (omega (arith, p.depth))
 StackBelow-antisym (x ∷ xs) (y ∷ ys) p q =
     let head : x ≡ y = CellBelow-antisym x y (p.cells 0) (q.cells 0) in
-    let tail : xs ≡ ys = StackBelow-antisym xs ys (StackBelow-tail x y xs ys p) (StackBelow-tail y x ys xs q) in
+    let tail : xs ≡ ys =
+    StackBelow-antisym xs ys (StackBelow-tail x y xs ys p) (StackBelow-tail y x ys xs q) in
     cc
 
 pub known_count-falls : (a b : List Cell) → StackBelow a b → known_count b ≤ known_count a
@@ -27,7 +29,11 @@ known_count-falls [] [] p = omega arith
 known_count-falls [] (y ∷ ys) p = absurd (omega (arith, p.depth))
 known_count-falls (x ∷ xs) [] p = absurd (omega (arith, p.depth))
 known_count-falls (x ∷ xs) (y ∷ ys) p =
-    omega (arith, known_cells-falls x y (p.cells 0), known_count-falls xs ys (StackBelow-tail x y xs ys p))
+    omega (
+      arith,
+      known_cells-falls x y (p.cells 0),
+      known_count-falls xs ys (StackBelow-tail x y xs ys p),
+    )
 
 pub known_count-strict : (a b : List Cell) → StackBelow a b → known_count b ≡ known_count a → a ≡ b
 known_count-strict [] [] p e = refl
@@ -44,7 +50,10 @@ known_count-strict (x ∷ xs) (y ∷ ys) p e =
 pub stack_laws : OrderLaws stack_order
 stack_laws = record {
   reflexive = λ a. record { depth = refl; cells = λ k. CellBelow-refl _ };
-  transitive = λ a b c p q. record { depth = p.depth ∙ q.depth; cells = λ k. CellBelow-trans _ _ _ (p.cells k) (q.cells k) };
+  transitive = λ a b c p q. record {
+    depth = p.depth ∙ q.depth;
+    cells = λ k. CellBelow-trans _ _ _ (p.cells k) (q.cells k);
+  };
   antisymmetric = λ a b _ _. StackBelow-antisym a b;
   one_depth = λ a b p. p.depth;
   depth_symmetric = λ a b. sym;

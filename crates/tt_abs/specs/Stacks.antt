@@ -37,4 +37,10 @@ known_count [] = 0
 known_count (c ∷ cells) = known_cells c + known_count cells
 
 abbrev pub stack_order : Order (List Cell)
-stack_order = record { InRange = StackInRange; Below = StackBelow; SameDepth = SameLength; left = known_count }
+stack_order =
+    record {
+      InRange = StackInRange;
+      Below = StackBelow;
+      SameDepth = SameLength;
+      left = known_count;
+    }

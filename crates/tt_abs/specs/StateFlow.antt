@@ -1,4 +1,5 @@
--- The flow of abstract states through a program's places: what the outcome on cells refuses and gives.
+-- The flow of abstract states through a program's places: what the outcome on cells refuses and
+-- gives.
 use Rattle.std.specs.Prelude.{◌≡◌, ℕ, ℤ, ◌+◌, ◌<◌, ◌≤◌, ◌^◌, List, [], Ok, Err, Some, false, length, slice_get}
 use Rattle.std.specs.List.{AllByRecursion}
 use Rattle.tt_code.specs.Cut.{size}
@@ -13,7 +14,8 @@ use Rattle.tt_abs.specs.Ranges.{IsSettingInRange}
 use Rattle.tt_abs.specs.States.{abstract_of, start_of, state_order}
 use Rattle.tt_abs.specs.Transfers.{Next, outcome_on_cells}
 
--- a place of a program: the calls that haven't returned, the innermost first, and an offset in the innermost one's body
+-- a place of a program: the calls that haven't returned, the innermost first, and an offset in the
+-- innermost one's body
 abbrev pub Place : Type 0
 Place = List Frame × ℕ
 
@@ -30,11 +32,14 @@ pub record IsPlace (p : Place) : Type 0 where
   pub calls : CallsFit p.0
   pub offset : p.1 < 2 ^ 31
 
--- the limits of functions: each listed number is below maxFunctionDefs, and each body is a number of 32 bits
+-- the limits of functions: each listed number is below maxFunctionDefs, and each body is a number
+-- of 32 bits
 abbrev pub FunctionsFit : Setting → List (ℕ × ℕ) → Type 0
-FunctionsFit s functions = (n body : ℕ) → listed functions n ≡ Some body → (n < s.limits.functions) × (body < 2 ^ 32)
+FunctionsFit s functions =
+    (n body : ℕ) → listed functions n ≡ Some body → (n < s.limits.functions) × (body < 2 ^ 32)
 
--- the state is within the font's limits: it is no deeper than maxStackElements, and each listed storage cell is below maxStorage
+-- the state is within the font's limits: it is no deeper than maxStackElements, and each listed
+-- storage cell is below maxStorage
 pub record FitsLimits (s : Setting) (a : State) : Type 0 where
   pub depth : length a.stack ≤ s.limits.stack
   pub functions : FunctionsFit s a.functions
@@ -45,7 +50,7 @@ pub record RefusesState (s : Setting) (p : Place) (a : State) (r : Reason) : Typ
   pub running : is_main_end s p.0 p.1 ≡ false
   pub refused : outcome_on_cells s p.0 p.1 (abstract_of a) ≡ Err r
 
--- one of the next states is this one, at this place; at the main program's end there is none
+-- one of the successors is this one, at this place; at the main program's end there is none
 pub record GivesState (s : Setting) (p : Place) (a : State) (q : Place) (t : State) : Type 0 where
   pub running : is_main_end s p.0 p.1 ≡ false
   pub nexts : List Next
@@ -69,8 +74,8 @@ flow_of s functions = record {
   Gives = GivesState s;
 }
 
--- how often a state within the limits can rise: once for each cell of the graphics state, of the stack and of the storage area, and
--- once for each function
+-- how often a state within the limits can rise: once for each cell of the graphics state, of the
+-- stack and of the storage area, and once for each function
 abbrev pub height_of : Setting → ℕ
 height_of s = 7 + s.limits.stack + s.limits.functions + s.limits.storage
 
@@ -80,8 +85,10 @@ pub record AreProgramsShort (s : Setting) : Type 0 where
   pub font : size s.font < 2 ^ 31
   pub prep : size s.prep < 2 ^ 31
 
--- the laws of the flow, of each setting and each list of functions in ascending order of their numbers that are within the font's limits
+-- the laws of the flow, of each setting and each list of functions in ascending order of their
+-- numbers that are within the font's limits
 abbrev pub HasFlowLaws : Type 0
 HasFlowLaws =
-    (s : Setting) (functions : List (ℕ × ℕ)) → IsSettingInRange s → AreProgramsShort s → Rises functions → FunctionsFit s functions
+    (s : Setting) (functions : List (ℕ × ℕ)) → IsSettingInRange s → AreProgramsShort s
+    → Rises functions → FunctionsFit s functions
     → FlowLaws state_order (flow_of s functions) (height_of s)

@@ -38,7 +38,8 @@ default_cells = record {
 
 -- the state in which a program starts, with these functions
 abbrev pub start_of : List (ℕ × ℕ) → State
-start_of functions = record { stack = []; graphics = default_cells; functions = functions; storage = [] }
+start_of functions =
+    record { stack = []; graphics = default_cells; functions = functions; storage = [] }
 
 -- the order
 
@@ -65,12 +66,16 @@ state_order = along parts (product stack_order (product graphics_order list_orde
 
 pub state_laws : OrderLaws state_order
 state_laws =
-    along_laws parts state_from (λ _. refl) (product stack_order (product graphics_order list_order))
+    along_laws parts state_from (λ _. refl)
+    (product stack_order (product graphics_order list_order))
     (product_laws stack_order (product graphics_order list_order) stack_laws
-    (product_laws graphics_order list_order graphics_laws (product_laws function_order storage_order (entry_laws (λ _. ⊤)) (entry_laws IsNumber))))
+    (product_laws graphics_order list_order graphics_laws
+    (product_laws function_order storage_order (entry_laws (λ _. ⊤)) (entry_laws IsNumber))))
 
-pub state_least : (s t u : State) → IsLeastAbove stack_order s.stack t.stack u.stack → IsLeastAbove graphics_order s.graphics t.graphics u.graphics
-    → IsLeastAbove function_order s.functions t.functions u.functions → IsLeastAbove storage_order s.storage t.storage u.storage
+pub state_least : (s t u : State) → IsLeastAbove stack_order s.stack t.stack u.stack
+    → IsLeastAbove graphics_order s.graphics t.graphics u.graphics
+    → IsLeastAbove function_order s.functions t.functions u.functions
+    → IsLeastAbove storage_order s.storage t.storage u.storage
     → IsLeastAbove state_order s t u
 state_least s t u a b c d =
     along_least parts (product stack_order (product graphics_order list_order)) s t u

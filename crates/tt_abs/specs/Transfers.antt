@@ -1,6 +1,7 @@
--- What an instruction makes of an abstract state: the machine's tests in the machine's order, read on cells, where an unknown cell
--- fails each test that reads it. (Apple TrueType Reference Manual, "The TrueType instruction set"; the reading on cells is
--- own.) What reads no number is the machine's own definition, used on cells.
+-- What an instruction makes of an abstract state: the machine's tests in the machine's order, read
+-- on cells, where an unknown cell fails each test that reads it. (Apple TrueType Reference Manual,
+-- "The TrueType instruction set"; the reading on cells is own.) What reads no number is the
+-- machine's own definition, used on cells.
 use Rattle.std.specs.Prelude.{ℕ, zero, suc, ◌+◌, ℤ, pos, negsuc, ◌+ℤ◌, ◌-ℤ◌, neg_ℤ, int_lt, int_le, List, [], ◌∷◌, Option, None, Some, Ok, Err, Bool, true, false, not, ◌&&◌, ◌||◌, length, map, remove, nat_eq, nat_lt, nat_le, if◌then◌else◌}
 use Rattle.tt_code.specs.Refusals.{Tested, ◌>>=◌, holds_or, some_or}
 use Rattle.tt_code.specs.Table.{Meaning, NoEntry, Plain, Pushes, Stack, Computes, Controls, Lists, effect_of}
@@ -52,8 +53,10 @@ is_below_in bound zone.Either z = is_below z (bound Zero) && is_below z (bound O
 -- whether the number names a point in each zone that counts, whichever zones the pointers name
 abbrev pub is_point_in : Setting → Cells → Within → ℤ → Bool
 is_point_in s a (In p) z = is_below_in (zone_size s) (pointer p a) z
-is_point_in s a (Both p q) z = is_below_in (zone_size s) (pointer p a) z && is_below_in (zone_size s) (pointer q a) z
-is_point_in s a (GlyphAnd p) z = is_below z (zone_size s One) && is_below_in (zone_size s) (pointer p a) z
+is_point_in s a (Both p q) z =
+    is_below_in (zone_size s) (pointer p a) z && is_below_in (zone_size s) (pointer q a) z
+is_point_in s a (GlyphAnd p) z =
+    is_below z (zone_size s One) && is_below_in (zone_size s) (pointer p a) z
 
 -- one known number that passes a test
 abbrev pub tested_cell : (ℤ → Bool) → Reason → List Cell → Tested (Taking Cell)
@@ -71,12 +74,17 @@ abbrev pub take_cell : Setting → Cells → Operand → List Cell → Tested (T
 take_cell s a operand.Number cells = take_one cells
 take_cell s a (operand.Point within) cells = tested_cell (is_point_in s a within) reason.Point cells
 take_cell s a operand.Cvt cells = tested_cell (λ z. is_below z s.cvt) reason.Cvt cells
-take_cell s a operand.Storage cells = tested_cell (λ z. is_below z s.limits.storage) reason.Storage cells
+take_cell s a operand.Storage cells =
+    tested_cell (λ z. is_below z s.limits.storage) reason.Storage cells
 take_cell s a operand.Zone cells = tested_cell (is_zone s) reason.Zone cells
-take_cell s a operand.Contour cells = tested_cell (is_below_in (contours_in s) a.zp2) reason.Contour cells
-take_cell s a (operand.LoopPoints within) cells = counted (known_count a.loop_number) (tested_cell (is_point_in s a within) reason.Point) cells
-take_cell s a (operand.PointPairs within) cells = pairs known_count (tested_cell (is_point_in s a within) reason.Point) cells
-take_cell s a operand.CvtPairs cells = pairs known_count (tested_cell (λ z. is_below z s.cvt) reason.Cvt) cells
+take_cell s a operand.Contour cells =
+    tested_cell (is_below_in (contours_in s) a.zp2) reason.Contour cells
+take_cell s a (operand.LoopPoints within) cells =
+    counted (known_count a.loop_number) (tested_cell (is_point_in s a within) reason.Point) cells
+take_cell s a (operand.PointPairs within) cells =
+    pairs known_count (tested_cell (is_point_in s a within) reason.Point) cells
+take_cell s a operand.CvtPairs cells =
+    pairs known_count (tested_cell (λ z. is_below z s.cvt) reason.Cvt) cells
 
 abbrev pub take_cells : Setting → Cells → List Operand → List Cell → Tested (Taking Cell)
 take_cells s a [] cells = Ok ([], cells)
@@ -129,12 +137,14 @@ abbrev pub plain_cells : Setting → Abstract → Lists → Tested Abstract
 plain_cells s a line = do
   t ← take_cells s a.registers.graphics line.operands a.stack
   ok ← test_cell_uses s a.registers.graphics line.uses
-  Ok (leaves_cells (record a { registers = all_updated cells t.0 line.updates a.registers }) t.1 (cells_pushed t.0 a.registers.storage line.pushes))
+  Ok (leaves_cells (record a { registers = all_updated cells t.0 line.updates a.registers }) t.1
+      (cells_pushed t.0 a.registers.storage line.pushes))
 
 -- Pushes and stack instructions.
 
 abbrev pub pushed_cells : Push → Abstract → List ℕ → Abstract
-pushed_cells push a rest = leaves_cells a a.stack (map Known (numbers_in push (data_behind push rest)))
+pushed_cells push a rest =
+    leaves_cells a a.stack (map Known (numbers_in push (data_behind push rest)))
 
 abbrev pub shuffled_cells : StackOp → Abstract → Tested Abstract
 shuffled_cells Dup a = do
@@ -165,7 +175,8 @@ shuffled_cells Roll a = do
   v ← top u.1
   Ok (leaves_cells a v.1 (u.0 ∷ t.0 ∷ v.0 ∷ []))
 
--- Arithmetic. A result is known exactly where it is the same for all numbers that the operands' cells cover.
+-- Arithmetic. A result is known exactly where it is the same for all numbers that the operands'
+-- cells cover.
 
 abbrev pub LEAST : ℤ
 LEAST = negsuc 2147483647
@@ -194,14 +205,16 @@ of_both_known f (Known a) (Known b) = f a b
 of_both_known f Unknown b = Unknown
 of_both_known f a Unknown = Unknown
 
--- whether the first is below the second; no number is below the least one, and the greatest one is below none
+-- whether the first is below the second; no number is below the least one, and the greatest one is
+-- below none
 abbrev pub lt_cells : Cell → Cell → Cell
 lt_cells (Known a) (Known b) = truth_cell (int_lt a b)
 lt_cells Unknown (Known b) = only_if (equal b LEAST) (truth_cell false)
 lt_cells (Known a) Unknown = only_if (equal a GREATEST) (truth_cell false)
 lt_cells Unknown Unknown = Unknown
 
--- whether the first is at most the second; the least number is at most each, and each is at most the greatest
+-- whether the first is at most the second; the least number is at most each, and each is at most
+-- the greatest
 abbrev pub le_cells : Cell → Cell → Cell
 le_cells (Known a) (Known b) = truth_cell (int_le a b)
 le_cells Unknown (Known b) = only_if (equal b GREATEST) (truth_cell true)
@@ -250,7 +263,7 @@ computed_cells Not a = of_one_cell a (of_known (λ x. truth_cell (not (is_true x
 
 -- Control.
 
--- Where next states are, and what is known of all that are there.
+-- Where successors are, and what is known of all that are there.
 pub record Next : Type 0 where
   -- the calls that haven't returned, the innermost first
   pub frames : List Frame
@@ -280,10 +293,13 @@ jumps_cells s fs at a by stack = do
   target ← jump_target s fs at by stack
   Ok (one_way fs target (leaves_cells a stack []))
 
--- a jump by a condition, where the condition is what the cell is: known to hold or not, or unknown, so that both ways are possible
-abbrev pub jumps_by : Setting → List Frame → ℕ → Abstract → (ℤ → Bool) → Cell → Cell → List Cell → Tested (List Next)
+-- a jump by a condition, where the condition is what the cell is: known to hold or not, or unknown,
+-- so that both ways are possible
+abbrev pub jumps_by : Setting → List Frame → ℕ → Abstract → (ℤ → Bool) → Cell → Cell → List Cell
+    → Tested (List Next)
 jumps_by s fs at a holds (Known e) by stack =
-    if holds e then jumps_cells s fs at a by stack else Ok (one_way fs (at + 1) (leaves_cells a stack []))
+    if holds e then jumps_cells s fs at a by stack
+    else Ok (one_way fs (at + 1) (leaves_cells a stack []))
 jumps_by s fs at a holds Unknown by stack = do
   target ← jump_target s fs at by stack
   Ok (two_ways fs (at + 1) target (leaves_cells a stack []))
@@ -316,14 +332,17 @@ is_running name [] = false
 is_running name (f ∷ fs) = nat_eq f.body name || is_running name fs
 
 -- into a body for so many turns: the depth is tested before recursion
-abbrev pub enters_cells : Setting → List Frame → ℕ → Abstract → ℕ → List Cell → ℕ → Tested (List Next)
+abbrev pub enters_cells : Setting → List Frame → ℕ → Abstract → ℕ → List Cell → ℕ
+    → Tested (List Next)
 enters_cells s fs at a name stack turns = do
   deep ← holds_or (nat_le (length stack) s.limits.stack) reason.Overflow
   fresh ← holds_or (not (is_running name fs)) reason.Recursion
-  Ok (one_way (record { body = name; call = at; turn = 1; count = turns } ∷ fs) (body_offset name) (leaves_cells a stack []))
+  Ok (one_way (record { body = name; call = at; turn = 1; count = turns } ∷ fs) (body_offset name)
+      (leaves_cells a stack []))
 
 -- by the count; 0 or less calls nothing
-abbrev pub loops_cells : Setting → List Frame → ℕ → Abstract → ℕ → List Cell → ℤ → Tested (List Next)
+abbrev pub loops_cells : Setting → List Frame → ℕ → Abstract → ℕ → List Cell → ℤ
+    → Tested (List Next)
 loops_cells s fs at a name stack (pos zero) = Ok (one_way fs (at + 1) (leaves_cells a stack []))
 loops_cells s fs at a name stack (pos (suc n)) = enters_cells s fs at a name stack (suc n)
 loops_cells s fs at a name stack (negsuc n) = Ok (one_way fs (at + 1) (leaves_cells a stack []))
@@ -333,7 +352,8 @@ abbrev pub returns_cells : Abstract → List Frame → Tested (List Next)
 returns_cells a [] = Err reason.Target
 returns_cells a (f ∷ fs) =
     if nat_lt f.turn f.count
-    then Ok (one_way (record f { turn = f.turn + 1 } ∷ fs) (body_offset f.body) (leaves_cells a a.stack []))
+    then Ok (one_way (record f { turn = f.turn + 1 } ∷ fs) (body_offset f.body)
+    (leaves_cells a a.stack []))
     else Ok (one_way fs (f.call + 1) (leaves_cells a a.stack []))
 
 abbrev pub controlled_cells : Setting → List Frame → ℕ → Abstract → Control → Tested (List Next)
@@ -354,7 +374,9 @@ controlled_cells s fs at a FunctionDefinition = do
   n ← known t.0
   ok ← holds_or (is_below n s.limits.functions) reason.Function
   after ← some_or (after_fdef (program_of s fs) at) reason.Target
-  Ok (one_way fs after (leaves_cells (record a { functions = with_entry (natural n) (body_name s.kind (at + 1)) a.functions }) t.1 []))
+  Ok (one_way fs after (leaves_cells
+      (record a { functions = with_entry (natural n) (body_name s.kind (at + 1)) a.functions })
+      t.1 []))
 controlled_cells s fs at a Call = do
   t ← top a.stack
   name ← called_cell s a.functions t.0
@@ -375,7 +397,8 @@ goes_on_cells fs next result = do
   a ← result
   Ok (one_way fs next a)
 
-abbrev pub does_cells : Setting → List Frame → ℕ → Abstract → Meaning → List ℕ → ℕ → Tested (List Next)
+abbrev pub does_cells : Setting → List Frame → ℕ → Abstract → Meaning → List ℕ → ℕ
+    → Tested (List Next)
 does_cells s fs at a NoEntry rest next = Err reason.Opcode
 does_cells s fs at a (Plain line) rest next = goes_on_cells fs next (plain_cells s a line)
 does_cells s fs at a (Pushes push) rest next = goes_on_cells fs next (Ok (pushed_cells push a rest))
@@ -393,14 +416,17 @@ within_cells s ns = do
   ok ← holds_or (are_within s ns) reason.Overflow
   Ok ns
 
-abbrev pub performs_cells : Setting → List Frame → ℕ → Abstract → Option Instruction → Tested (List Next)
+abbrev pub performs_cells : Setting → List Frame → ℕ → Abstract → Option Instruction
+    → Tested (List Next)
 performs_cells s fs at a None = Err reason.Target
 performs_cells s fs at a (Some []) = Err reason.Target
-performs_cells s fs at a (Some (code ∷ rest)) = does_cells s fs at a (effect_of code) rest (at + suc (length rest)) >>= within_cells s
+performs_cells s fs at a (Some (code ∷ rest)) =
+    does_cells s fs at a (effect_of code) rest (at + suc (length rest)) >>= within_cells s
 
 -- the instruction of the frames' body that starts at the offset
 abbrev pub instruction_of : Setting → List Frame → ℕ → Option Instruction
-instruction_of s fs at = if starts_in_body s fs at then instruction_at (program_of s fs) at else None
+instruction_of s fs at =
+    if starts_in_body s fs at then instruction_at (program_of s fs) at else None
 
 -- what an abstract state becomes at a place, or the reason of the first test that fails
 unfoldable pub outcome_on_cells : Setting → List Frame → ℕ → Abstract → Tested (List Next)

@@ -1,5 +1,5 @@
-//! What is known of a result, where something is known of the operands: the result itself exactly where it is the same for all
-//! numbers that the operands may be.
+//! What is known of a result, where something is known of the operands: the result itself exactly
+//! where it is the same for all numbers that the operands may be.
 
 ghost use Rattle.std.specs.Prelude.{◌≡◌, Bool, ℤ, ◌+ℤ◌, ◌-ℤ◌, neg_ℤ, not};
 ghost use Rattle.tt_code.specs.Computing.{absolute, equal};
@@ -80,7 +80,8 @@ pub fn negative(cell: Cell) -> Cell
     }
 }
 
-/// Returns whether the first is below the second, for LT. No number is below -2^31, and 2^31 - 1 is below none.
+/// Returns whether the first is below the second, for LT. No number is below -2^31, and 2^31 - 1 is
+/// below none.
 pub fn less(first: Cell, second: Cell) -> Cell
     ensures { result ≡ lt_cells first second }
 {
@@ -96,7 +97,8 @@ pub fn less(first: Cell, second: Cell) -> Cell
     }
 }
 
-/// Returns whether the first is at most the second, for LTEQ. -2^31 is at most each number, and each is at most 2^31 - 1.
+/// Returns whether the first is at most the second, for LTEQ. -2^31 is at most each number, and
+/// each is at most 2^31 - 1.
 pub fn at_most(first: Cell, second: Cell) -> Cell
     ensures { result ≡ le_cells first second }
 {

@@ -4,7 +4,7 @@ ghost use Rattle.std.specs.Prelude.{◌≡◌, ◌≢◌, ℕ, ◌^◌, ◌<◌,
 ghost use Rattle.smallvec.specs.SmallVec.{HasRoomFor, small_vec_len};
 ghost use Rattle.tt_abs.specs.declared.cells.Cell.TheVariants.{Known};
 ghost use Rattle.tt_abs.specs.CellOrders.{CellBelow, CellInRange};
-ghost use Rattle.tt_abs.specs.Codes.{cell_of_code, cells_of};
+ghost use Rattle.tt_abs.specs.Representation.Codes.{cell_of_code, cells_of};
 ghost use Rattle.tt_abs.specs.Stacks.{IsLeastCell, StackBelow, cell_at};
 
 use crate::cells::Cell;

@@ -1,11 +1,10 @@
 //! What a plain line changes and pushes, with its operands still on the stack.
 
-ghost use Rattle.std.specs.Prelude.{◌≡◌, ◌<◌, ◌^◌, IfOk, OnOk, ℕ, length, pos, take};
-ghost use Rattle.tt_code.specs.Changes.{all_updated, taken_at, updated};
-ghost use Rattle.tt_abs.specs.Entries.{storage_of};
-ghost use Rattle.tt_abs.specs.States.{abstract_of};
-ghost use Rattle.tt_abs.specs.Stored.{AreIndexed, AreIndexedPushes, IndexedPush, IndexedUpdate, IsIndex};
-ghost use Rattle.tt_abs.specs.Transfers.{cell_pushed, cells, cells_pushed, index_in, zone_in};
+ghost use Rattle.std.specs.Prelude.{◌≡◌, IfOk, OnOk, pos, take};
+ghost use Rattle.tt_code.specs.Changes.{taken_at};
+ghost use Rattle.tt_abs.specs.Representation.Steps.{ChangesAllTo, ChangesTo, all_pushed_from, pushed_from};
+ghost use Rattle.tt_abs.specs.Representation.Stored.{AreIndexed, AreIndexedPushes, IndexedPush, IndexedUpdate, IsIndex};
+ghost use Rattle.tt_abs.specs.Transfers.{index_in, zone_in};
 ghost use Rattle.tt_abs.specs.declared.cells.Cell.TheVariants.{Known};
 
 use crate::cells::{Cell, ZoneCell};
@@ -58,7 +57,7 @@ fn index_of(cell: Cell) -> u16
 /// Makes one change by the elements that are taken.
 fn update(state: &mut State, count: usize, change: Update) -> Result<(), AllocError>
     requires { IndexedUpdate (take count state.old.stack) change }
-    ensures { OnOk result (abstract_of state.new ≡ record (abstract_of state.old) { registers = updated cells (take count state.old.stack) change (abstract_of state.old).registers }) }
+    ensures { OnOk result (ChangesTo count change state.old state.new) }
 {
     match change {
         Update::SetReference(r, source) => {
@@ -88,7 +87,7 @@ fn update(state: &mut State, count: usize, change: Update) -> Result<(), AllocEr
 /// Makes the changes of a line, one after the other.
 pub fn update_all(state: &mut State, count: usize, changes: &[Update]) -> Result<(), AllocError>
     requires { AreIndexed (take count state.old.stack) changes.now }
-    ensures { OnOk result (abstract_of state.new ≡ record (abstract_of state.old) { registers = all_updated cells (take count state.old.stack) changes.now (abstract_of state.old).registers }) }
+    ensures { OnOk result (ChangesAllTo count changes.now state.old state.new) }
 {
     for change in changes {
         update(state, count, *change)?;
@@ -99,7 +98,7 @@ pub fn update_all(state: &mut State, count: usize, changes: &[Update]) -> Result
 /// Returns a cell that is pushed.
 fn pushed_cell(state: &State, count: usize, pushed: Pushed) -> Cell
     requires { IndexedPush (take count state.now.stack) pushed }
-    ensures { result ≡ cell_pushed (take count state.now.stack) (storage_of state.now.storage) pushed }
+    ensures { result ≡ pushed_from state.now count pushed }
 {
     match pushed {
         Pushed::Any => Cell::Unknown,
@@ -118,7 +117,7 @@ pub fn pushed_cells(
     pushes: &[Pushed],
 ) -> Result<PushedCells, AllocError>
     requires { AreIndexedPushes (take count state.now.stack) pushes.now }
-    ensures { IfOk result (λ made. made.items ≡ cells_pushed (take count state.now.stack) (storage_of state.now.storage) pushes.now) }
+    ensures { IfOk result (λ made. made.items ≡ all_pushed_from state.now count pushes.now) }
 {
     let mut made = SmallVec::new(alloc);
     for pushed in pushes {

@@ -1,10 +1,9 @@
 //! The arithmetic and logical instructions.
 
 ghost use Rattle.std.specs.Prelude.{◌≡◌, IfErr, OnOk};
-ghost use Rattle.tt_abs.specs.Moves.{ForReason};
-ghost use Rattle.tt_abs.specs.Computes.{one_result, two_results};
-ghost use Rattle.tt_abs.specs.Steps.{RefusesStack, Restacks, takes_one};
-ghost use Rattle.tt_abs.specs.Transfers.{computed_cells, of_one_cell, of_two_cells};
+ghost use Rattle.tt_abs.specs.Representation.Computes.{one_computed, two_computed, one_result, two_results};
+ghost use Rattle.tt_abs.specs.Representation.Steps.{IsStackRefusedFor, Restacks, takes_one};
+ghost use Rattle.tt_abs.specs.Transfers.{computed_cells};
 
 use crate::arithmetic;
 use crate::cells::Cell;
@@ -56,8 +55,8 @@ fn result_of_two(operation: Arithmetic, second: Cell, top: Cell) -> Cell
 
 /// Replaces the top of the stack by the result of an instruction of one operand.
 fn compute_of_one(stack: &mut Stack, operation: Arithmetic) -> Result<(), Refusal>
-    ensures ok { OnOk result (Restacks (λ a. of_one_cell a (one_result operation)) stack.old stack.new) }
-    ensures refused { IfErr result (λ e. ForReason e (RefusesStack (λ a. of_one_cell a (one_result operation)) stack.old)) }
+    ensures ok { OnOk result (Restacks (one_computed operation) stack.old stack.new) }
+    ensures refused { IfErr result (IsStackRefusedFor (one_computed operation) stack.old) }
 {
     let top = cell_under(stack, 0)?;
     stack.cut(1);
@@ -67,8 +66,8 @@ fn compute_of_one(stack: &mut Stack, operation: Arithmetic) -> Result<(), Refusa
 
 /// Replaces the two upper cells by the result of an instruction of two operands.
 fn compute_of_two(stack: &mut Stack, operation: Arithmetic) -> Result<(), Refusal>
-    ensures ok { OnOk result (Restacks (λ a. of_two_cells a (two_results operation)) stack.old stack.new) }
-    ensures refused { IfErr result (λ e. ForReason e (RefusesStack (λ a. of_two_cells a (two_results operation)) stack.old)) }
+    ensures ok { OnOk result (Restacks (two_computed operation) stack.old stack.new) }
+    ensures refused { IfErr result (IsStackRefusedFor (two_computed operation) stack.old) }
 {
     let top = cell_under(stack, 0)?;
     let second = cell_under(stack, 1)?;
@@ -80,7 +79,7 @@ fn compute_of_two(stack: &mut Stack, operation: Arithmetic) -> Result<(), Refusa
 /// Replaces an instruction's operands, which are on top, by its result.
 pub fn compute(stack: &mut Stack, operation: Arithmetic) -> Result<(), Refusal>
     ensures ok { OnOk result (Restacks (computed_cells operation) stack.old stack.new) }
-    ensures refused { IfErr result (λ e. ForReason e (RefusesStack (computed_cells operation) stack.old)) }
+    ensures refused { IfErr result (IsStackRefusedFor (computed_cells operation) stack.old) }
 {
     if is_of_one(operation) {
         compute_of_one(stack, operation)

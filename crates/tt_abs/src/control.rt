@@ -1,14 +1,10 @@
 //! The instructions that lead elsewhere than to the next instruction, or define a function.
 
-ghost use Rattle.std.specs.Prelude.{◌≡◌, ◌+◌, ◌<◌, ◌^◌, Err, IfErr, IfOk, List, Ok, length, reverse, ℕ};
-ghost use Rattle.tt_code.specs.Control.{body_named};
+ghost use Rattle.std.specs.Prelude.{◌≡◌, ◌+◌, ◌<◌, ◌^◌, Err, IfErr, IfOk, Ok, reverse, ℕ};
 ghost use Rattle.tt_code.specs.declared.kinds.Control.TheVariants as control;
-ghost use Rattle.tt_abs.specs.Moves.{IsRefusedFor, LeadsBy, control_at};
-ghost use Rattle.tt_abs.specs.Settings.{frames_of, setting_of};
-ghost use Rattle.tt_abs.specs.States.{abstract_of};
-ghost use Rattle.tt_abs.specs.Steps.{Leads, LeadsNowhere, holds_when};
-ghost use Rattle.tt_abs.specs.Transfers.{called_cell, enters_cells, if_ways, is_running as runs_already, jump_target as target_of_jump, jumps_by, jumps_if_cells, loops_cells};
-ghost use Rattle.tt_abs.specs.declared.cells.Cell.{Cell as AnyCell};
+ghost use Rattle.tt_abs.specs.Moves.{ControlsTo, IsControlRefusedFor, IsRefusedFor, LeadsBy};
+ghost use Rattle.tt_abs.specs.Representation.Steps.{JumpsNowhere, JumpsTo, Leads, LeadsNowhere, called_at, enter_at, if_at, jump_at, jump_if_at, loop_at};
+ghost use Rattle.tt_abs.specs.Transfers.{is_running as runs_already};
 
 use crate::arithmetic::is_true;
 use crate::cells::Cell;
@@ -22,7 +18,7 @@ use tt_code::kinds::Control;
 use tt_code::{Frame, Reason};
 
 /// Returns the offset just after an instruction of one byte.
-fn behind(point: &Point<'_>) -> u32
+fn next_offset(point: &Point<'_>) -> u32
     requires { point.now.offset < 2 ^ 31 }
     ensures { result ≡ point.now.offset + 1 }
 {
@@ -32,14 +28,16 @@ fn behind(point: &Point<'_>) -> u32
 /// Returns the ways of an IF by its cell.
 fn ways_of_if(setting: &Setting<'_>, point: &Point<'_>, cell: Cell) -> Result<Moves, Reason>
     requires { point.now.offset < 2 ^ 31 }
-    ensures ok { IfOk result (λ m. (depth : ℕ) → Leads (λ stack a. if_ways (setting_of setting.now) (frames_of point.now) point.now.offset a cell stack) (frames_of point.now) depth m) }
-    ensures refused { IfErr result (λ r. (depth : ℕ) → LeadsNowhere (λ stack a. if_ways (setting_of setting.now) (frames_of point.now) point.now.offset a cell stack) depth r) }
+    ensures ok { IfOk result
+        (λ m. (depth : ℕ) → Leads (if_at setting.now point.now cell) point.now depth m) }
+    ensures refused { IfErr result
+        (λ r. (depth : ℕ) → LeadsNowhere (if_at setting.now point.now cell) depth r) }
 {
     let after = setting.program(point).after_if(point.offset);
     match cell {
         Cell::Known(condition) => {
             if is_true(condition) {
-                return Ok(Moves::One(Move::To(behind(point))));
+                return Ok(Moves::One(Move::To(next_offset(point))));
             }
             match after {
                 Some(offset) => Ok(Moves::One(Move::To(offset))),
@@ -47,7 +45,7 @@ fn ways_of_if(setting: &Setting<'_>, point: &Point<'_>, cell: Cell) -> Result<Mo
             }
         }
         Cell::Unknown => match after {
-            Some(offset) => Ok(Moves::two(behind(point), offset)),
+            Some(offset) => Ok(Moves::two(next_offset(point), offset)),
             None => Err(Reason::Target),
         },
     }
@@ -56,8 +54,9 @@ fn ways_of_if(setting: &Setting<'_>, point: &Point<'_>, cell: Cell) -> Result<Mo
 /// Carries out IF.
 fn branch(setting: &Setting<'_>, point: &Point<'_>, state: &mut State) -> Result<Moves, Refusal>
     requires { point.now.offset < 2 ^ 31 }
-    ensures ok { IfOk result (λ m. LeadsBy point.now (control_at setting.now point.now state.old control.If) m state.new) }
-    ensures refused { IfErr result (IsRefusedFor (control_at setting.now point.now state.old control.If)) }
+    ensures ok { IfOk result (ControlsTo setting.now point.now control.If state.old state.new) }
+    ensures refused { IfErr result
+        (IsControlRefusedFor setting.now point.now control.If state.old) }
 {
     let condition = cell_under(&state.stack, 0)?;
     let moves = ways_of_if(setting, point, condition)?;
@@ -67,8 +66,9 @@ fn branch(setting: &Setting<'_>, point: &Point<'_>, state: &mut State) -> Result
 
 /// Carries out ELSE, where it is reached.
 fn skip_else(setting: &Setting<'_>, point: &Point<'_>, state: &mut State) -> Result<Moves, Refusal>
-    ensures ok { IfOk result (λ m. LeadsBy point.now (control_at setting.now point.now state.old control.Else) m state.new) }
-    ensures refused { IfErr result (IsRefusedFor (control_at setting.now point.now state.old control.Else)) }
+    ensures ok { IfOk result (ControlsTo setting.now point.now control.Else state.old state.new) }
+    ensures refused { IfErr result
+        (IsControlRefusedFor setting.now point.now control.Else state.old) }
 {
     match setting.program(point).after_else(point.offset) {
         Some(offset) => Ok(Moves::One(Move::To(offset))),
@@ -84,8 +84,8 @@ fn jump_target(
     depth: usize,
 ) -> Result<u32, Reason>
     requires { point.now.offset < 2 ^ 31 }
-    ensures ok { IfOk result (λ n. (stack : List AnyCell) → length stack ≡ depth → target_of_jump (setting_of setting.now) (frames_of point.now) point.now.offset by stack ≡ Ok n) }
-    ensures refused { IfErr result (λ r. (stack : List AnyCell) → length stack ≡ depth → target_of_jump (setting_of setting.now) (frames_of point.now) point.now.offset by stack ≡ Err r) }
+    ensures ok { IfOk result (JumpsTo setting.now point.now by depth) }
+    ensures refused { IfErr result (JumpsNowhere setting.now point.now by depth) }
 {
     if depth > usize::from(setting.limits.stack) {
         return Err(Reason::Overflow);
@@ -102,8 +102,9 @@ fn jump_target(
 /// Carries out JMPR.
 fn jump(setting: &Setting<'_>, point: &Point<'_>, state: &mut State) -> Result<Moves, Refusal>
     requires { point.now.offset < 2 ^ 31 }
-    ensures ok { IfOk result (λ m. LeadsBy point.now (control_at setting.now point.now state.old control.Jump) m state.new) }
-    ensures refused { IfErr result (IsRefusedFor (control_at setting.now point.now state.old control.Jump)) }
+    ensures ok { IfOk result (ControlsTo setting.now point.now control.Jump state.old state.new) }
+    ensures refused { IfErr result
+        (IsControlRefusedFor setting.now point.now control.Jump state.old) }
 {
     let by = cell_under(&state.stack, 0)?;
     state.stack.cut(1);
@@ -111,7 +112,8 @@ fn jump(setting: &Setting<'_>, point: &Point<'_>, state: &mut State) -> Result<M
     Ok(Moves::One(Move::To(target)))
 }
 
-/// Returns the ways of JROT and JROF by the condition's cell; they jump where the condition is as asked.
+/// Returns the ways of JROT and JROF by the condition's cell; they jump where the condition is as
+/// asked.
 fn ways_of_jump(
     setting: &Setting<'_>,
     point: &Point<'_>,
@@ -121,8 +123,10 @@ fn ways_of_jump(
     depth: usize,
 ) -> Result<Moves, Reason>
     requires { point.now.offset < 2 ^ 31 }
-    ensures ok { IfOk result (λ m. Leads (λ stack a. jumps_by (setting_of setting.now) (frames_of point.now) point.now.offset a (holds_when asked) condition by stack) (frames_of point.now) depth m) }
-    ensures refused { IfErr result (λ r. LeadsNowhere (λ stack a. jumps_by (setting_of setting.now) (frames_of point.now) point.now.offset a (holds_when asked) condition by stack) depth r) }
+    ensures ok { IfOk result
+        (Leads (jump_at setting.now point.now asked condition by) point.now depth) }
+    ensures refused { IfErr result
+        (LeadsNowhere (jump_at setting.now point.now asked condition by) depth) }
 {
     match condition {
         Cell::Known(number) => {
@@ -130,12 +134,12 @@ fn ways_of_jump(
                 let target = jump_target(setting, point, by, depth)?;
                 Ok(Moves::One(Move::To(target)))
             } else {
-                Ok(Moves::One(Move::To(behind(point))))
+                Ok(Moves::One(Move::To(next_offset(point))))
             }
         }
         Cell::Unknown => {
             let target = jump_target(setting, point, by, depth)?;
-            Ok(Moves::two(behind(point), target))
+            Ok(Moves::two(next_offset(point), target))
         }
     }
 }
@@ -148,8 +152,10 @@ fn jump_if(
     asked: bool,
 ) -> Result<Moves, Refusal>
     requires { point.now.offset < 2 ^ 31 }
-    ensures ok { IfOk result (λ m. LeadsBy point.now (jumps_if_cells (setting_of setting.now) (frames_of point.now) point.now.offset (abstract_of state.old) (holds_when asked)) m state.new) }
-    ensures refused { IfErr result (IsRefusedFor (jumps_if_cells (setting_of setting.now) (frames_of point.now) point.now.offset (abstract_of state.old) (holds_when asked))) }
+    ensures ok { IfOk result
+        (λ m. LeadsBy point.now (jump_if_at setting.now point.now asked state.old) m state.new) }
+    ensures refused { IfErr result
+        (IsRefusedFor (jump_if_at setting.now point.now asked state.old)) }
 {
     let condition = cell_under(&state.stack, 0)?;
     let by = cell_under(&state.stack, 1)?;
@@ -158,11 +164,14 @@ fn jump_if(
     Ok(moves)
 }
 
-/// Carries out FDEF: the number that is popped names the body after it, in the font program and in the CVT program.
+/// Carries out FDEF: the number that is popped names the body after it, in the font program and in
+/// the CVT program.
 fn define(setting: &Setting<'_>, point: &Point<'_>, state: &mut State) -> Result<Moves, Refusal>
     requires { point.now.offset + 1 < 2 ^ 31 }
-    ensures ok { IfOk result (λ m. LeadsBy point.now (control_at setting.now point.now state.old control.FunctionDefinition) m state.new) }
-    ensures refused { IfErr result (IsRefusedFor (control_at setting.now point.now state.old control.FunctionDefinition)) }
+    ensures ok { IfOk result
+        (ControlsTo setting.now point.now control.FunctionDefinition state.old state.new) }
+    ensures refused { IfErr result
+        (IsControlRefusedFor setting.now point.now control.FunctionDefinition state.old) }
 {
     if !setting.may_define() {
         return Err(Refusal::Refused(Reason::Definition));
@@ -176,14 +185,14 @@ fn define(setting: &Setting<'_>, point: &Point<'_>, state: &mut State) -> Result
         return Err(Refusal::Refused(Reason::Target));
     };
     state.stack.cut(1);
-    state.define(function as u16, setting.body_name(behind(point)))?;
+    state.define(function as u16, setting.body_name(next_offset(point)))?;
     Ok(Moves::One(Move::To(after)))
 }
 
 /// Returns the body of a called function: its number is below maxFunctionDefs and it is known.
 fn called(setting: &Setting<'_>, state: &State, cell: Cell) -> Result<u32, Reason>
-    ensures ok { IfOk result (λ n. called_cell (setting_of setting.now) state.now.functions cell ≡ Ok n) }
-    ensures refused { IfErr result (λ r. called_cell (setting_of setting.now) state.now.functions cell ≡ Err r) }
+    ensures ok { IfOk result (λ n. called_at setting.now state.now cell ≡ Ok n) }
+    ensures refused { IfErr result (λ r. called_at setting.now state.now cell ≡ Err r) }
 {
     let function = number(cell)?;
     if !is_index(function, u32::from(setting.limits.functions)) {
@@ -217,8 +226,9 @@ fn enter(
     turns: u32,
     depth: usize,
 ) -> Result<Moves, Reason>
-    ensures ok { IfOk result (λ m. Leads (λ stack a. enters_cells (setting_of setting.now) (frames_of point.now) point.now.offset a body stack turns) (frames_of point.now) depth m) }
-    ensures refused { IfErr result (λ r. LeadsNowhere (λ stack a. enters_cells (setting_of setting.now) (frames_of point.now) point.now.offset a body stack turns) depth r) }
+    ensures ok { IfOk result (Leads (enter_at setting.now point.now body turns) point.now depth) }
+    ensures refused { IfErr result
+        (LeadsNowhere (enter_at setting.now point.now body turns) depth) }
 {
     if depth > usize::from(setting.limits.stack) {
         return Err(Reason::Overflow);
@@ -236,8 +246,9 @@ fn enter(
 
 /// Carries out CALL.
 fn call(setting: &Setting<'_>, point: &Point<'_>, state: &mut State) -> Result<Moves, Refusal>
-    ensures ok { IfOk result (λ m. LeadsBy point.now (control_at setting.now point.now state.old control.Call) m state.new) }
-    ensures refused { IfErr result (IsRefusedFor (control_at setting.now point.now state.old control.Call)) }
+    ensures ok { IfOk result (ControlsTo setting.now point.now control.Call state.old state.new) }
+    ensures refused { IfErr result
+        (IsControlRefusedFor setting.now point.now control.Call state.old) }
 {
     let top = cell_under(&state.stack, 0)?;
     let body = called(setting, state, top)?;
@@ -255,21 +266,23 @@ fn repeat(
     depth: usize,
 ) -> Result<Moves, Reason>
     requires { point.now.offset < 2 ^ 31 }
-    ensures ok { IfOk result (λ m. Leads (λ stack a. loops_cells (setting_of setting.now) (frames_of point.now) point.now.offset a body stack count) (frames_of point.now) depth m) }
-    ensures refused { IfErr result (λ r. LeadsNowhere (λ stack a. loops_cells (setting_of setting.now) (frames_of point.now) point.now.offset a body stack count) depth r) }
+    ensures ok { IfOk result (Leads (loop_at setting.now point.now body count) point.now depth) }
+    ensures refused { IfErr result (LeadsNowhere (loop_at setting.now point.now body count) depth) }
 {
     if count > 0 {
         enter(setting, point, body, count as u32, depth)
     } else {
-        Ok(Moves::One(Move::To(behind(point))))
+        Ok(Moves::One(Move::To(next_offset(point))))
     }
 }
 
 /// Carries out LOOPCALL.
 fn loop_call(setting: &Setting<'_>, point: &Point<'_>, state: &mut State) -> Result<Moves, Refusal>
     requires { point.now.offset < 2 ^ 31 }
-    ensures ok { IfOk result (λ m. LeadsBy point.now (control_at setting.now point.now state.old control.LoopCall) m state.new) }
-    ensures refused { IfErr result (IsRefusedFor (control_at setting.now point.now state.old control.LoopCall)) }
+    ensures ok { IfOk result
+        (ControlsTo setting.now point.now control.LoopCall state.old state.new) }
+    ensures refused { IfErr result
+        (IsControlRefusedFor setting.now point.now control.LoopCall state.old) }
 {
     let top = cell_under(&state.stack, 0)?;
     let body = called(setting, state, top)?;
@@ -282,8 +295,10 @@ fn loop_call(setting: &Setting<'_>, point: &Point<'_>, state: &mut State) -> Res
 
 /// Carries out ENDF: goes on to the next turn, or to just after the call.
 fn end_function(setting: &Setting<'_>, point: &Point<'_>, state: &State) -> Result<Moves, Refusal>
-    ensures ok { IfOk result (λ m. LeadsBy point.now (control_at setting.now point.now state.now control.EndFunction) m state.now) }
-    ensures refused { IfErr result (IsRefusedFor (control_at setting.now point.now state.now control.EndFunction)) }
+    ensures ok { IfOk result
+        (ControlsTo setting.now point.now control.EndFunction state.now state.now) }
+    ensures refused { IfErr result
+        (IsControlRefusedFor setting.now point.now control.EndFunction state.now) }
 {
     match point.frames {
         [] => Err(Refusal::Refused(Reason::Target)),
@@ -305,8 +320,8 @@ pub fn execute_control(
     operation: Control,
 ) -> Result<Moves, Refusal>
     requires { point.now.offset + 1 < 2 ^ 31 }
-    ensures ok { IfOk result (λ m. LeadsBy point.now (control_at setting.now point.now state.old operation) m state.new) }
-    ensures refused { IfErr result (IsRefusedFor (control_at setting.now point.now state.old operation)) }
+    ensures ok { IfOk result (ControlsTo setting.now point.now operation state.old state.new) }
+    ensures refused { IfErr result (IsControlRefusedFor setting.now point.now operation state.old) }
 {
     match operation {
         Control::If => branch(setting, point, state),

@@ -1,13 +1,11 @@
 //! What an instruction makes of an abstract state.
 
-ghost use Rattle.std.specs.Prelude.{◌≡◌, ◌+◌, ◌<◌, ◌^◌, ◌∷◌, [], Err, IfErr, IfOk, List, Ok, OnOk, Some, length, suc, true, ℕ};
-ghost use Rattle.tt_code.specs.Settings.{starts_in_body};
-ghost use Rattle.tt_code.specs.Table.{effect_of};
-ghost use Rattle.tt_abs.specs.Moves.{ForReason, IsRefusedFor, LeadsBy, nexts_of, outcome_at};
+ghost use Rattle.std.specs.Prelude.{◌≡◌, ◌+◌, ◌<◌, ◌^◌, IfErr, IfOk, Some, length};
+ghost use Rattle.tt_abs.specs.Moves.{IsStepRefusedFor, StartsAt, StepsTo, point_instruction};
 ghost use Rattle.tt_abs.specs.Lines.{EndsAt};
 ghost use Rattle.tt_abs.specs.Settings.{frames_of, setting_of};
-ghost use Rattle.tt_abs.specs.States.{abstract_of, state_order};
-ghost use Rattle.tt_abs.specs.Transfers.{does_cells, instruction_of};
+ghost use Rattle.tt_abs.specs.States.{state_order};
+ghost use Rattle.tt_abs.specs.Representation.Steps.{DoesTo, IsDoingRefusedFor};
 
 use crate::compute::compute;
 use crate::control::execute_control;
@@ -29,8 +27,8 @@ fn dispatch(
     instr: &Instr<'_>,
 ) -> Result<Moves, Refusal>
     requires { point.now.offset + length instr.now < 2 ^ 31 }
-    ensures ok { IfOk result (λ m. (code : ℕ) (rest : List ℕ) → instr.now ≡ code ∷ rest → does_cells (setting_of setting.now) (frames_of point.now) point.now.offset (abstract_of state.old) (effect_of code) rest (point.now.offset + suc (length rest)) ≡ Ok (nexts_of (frames_of point.now) m (abstract_of state.new))) }
-    ensures refused { IfErr result (λ e. ForReason e (λ r. (code : ℕ) (rest : List ℕ) → instr.now ≡ code ∷ rest → does_cells (setting_of setting.now) (frames_of point.now) point.now.offset (abstract_of state.old) (effect_of code) rest (point.now.offset + suc (length rest)) ≡ Err r)) }
+    ensures ok { IfOk result (DoesTo setting.now point.now instr.now state.old state.new) }
+    ensures refused { IfErr result (IsDoingRefusedFor setting.now point.now instr.now state.old) }
 {
     match entry(instr.code()) {
         Effect::NoEntry => return Err(Refusal::Refused(Reason::Opcode)),
@@ -43,7 +41,8 @@ fn dispatch(
     Ok(Moves::One(Move::To(point.offset + instr.len())))
 }
 
-/// Carries out the instruction that starts at a point, in the point's body, and returns where the program goes on.
+/// Carries out the instruction that starts at a point, in the point's body, and returns where the
+/// program goes on.
 fn execute(
     setting: &Setting<'_>,
     point: &Point<'_>,
@@ -51,12 +50,13 @@ fn execute(
     instr: &Instr<'_>,
 ) -> Result<Moves, Refusal>
     requires short { point.now.offset + length instr.now < 2 ^ 31 }
-    requires found { instruction_of (setting_of setting.now) (frames_of point.now) point.now.offset ≡ Some instr.now }
-    ensures ok { IfOk result (λ m. LeadsBy point.now (outcome_at setting.now point.now state.old) m state.new) }
-    ensures refused { IfErr result (IsRefusedFor (outcome_at setting.now point.now state.old)) }
-    ensures in_range { state_order.InRange state.old → IfOk result (λ _. state_order.InRange state.new) }
+    requires found { point_instruction setting.now point.now ≡ Some instr.now }
+    ensures ok { IfOk result (StepsTo setting.now point.now state.old state.new) }
+    ensures refused { IfErr result (IsStepRefusedFor setting.now point.now state.old) }
+    ensures in_range { state_order.InRange state.old
+        → IfOk result (λ _. state_order.InRange state.new) }
 {
-    setting.is_within();
+    setting.range_facts();
     prove!(u32::from(instr.code()) < 256);
     let moves = dispatch(setting, point, state, instr)?;
     if state.stack.len() > usize::from(setting.limits.stack) {
@@ -66,16 +66,17 @@ fn execute(
     Ok(moves)
 }
 
-/// Carries out the instruction at a point on a state that the caller owns, and returns where the program goes on. After a
-/// refusal the state's content is unspecified.
+/// Carries out the instruction at a point on a state that the caller owns, and returns where the
+/// program goes on. After a refusal the state's content is unspecified.
 ///
 /// # Errors
 /// `Refused` with the reason of the first test of the instruction that fails; `OutOfMemory`.
 pub fn step(setting: &Setting<'_>, point: &Point<'_>, state: &mut State) -> Result<Moves, Refusal>
-    requires { starts_in_body (setting_of setting.now) (frames_of point.now) point.now.offset ≡ true }
-    ensures ok { IfOk result (λ m. LeadsBy point.now (outcome_at setting.now point.now state.old) m state.new) }
-    ensures refused { IfErr result (IsRefusedFor (outcome_at setting.now point.now state.old)) }
-    ensures in_range { state_order.InRange state.old → IfOk result (λ _. state_order.InRange state.new) }
+    requires { StartsAt setting.now point.now }
+    ensures ok { IfOk result (StepsTo setting.now point.now state.old state.new) }
+    ensures refused { IfErr result (IsStepRefusedFor setting.now point.now state.old) }
+    ensures in_range { state_order.InRange state.old
+        → IfOk result (λ _. state_order.InRange state.new) }
 {
     let program = setting.program(point);
     let Some(instr) = program.at(point.offset) else {
@@ -93,8 +94,8 @@ pub struct Stepped {
     pub end: u32,
 }
 
-/// Carries out the instruction at a point, as `step` does, if an instruction of the point's body starts there. After a refusal the
-/// state's content is unspecified.
+/// Carries out the instruction at a point, as `step` does, if an instruction of the point's body
+/// starts there. After a refusal the state's content is unspecified.
 ///
 /// # Errors
 /// `Refused` with `Target` where none starts there, and otherwise as `step` refuses; `OutOfMemory`.
@@ -103,10 +104,13 @@ pub fn step_at(
     point: &Point<'_>,
     state: &mut State,
 ) -> Result<Stepped, Refusal>
-    ensures ok { IfOk result (λ step. LeadsBy point.now (outcome_at setting.now point.now state.old) step.moves state.new) }
-    ensures end { IfOk result (λ step. EndsAt (setting_of setting.now) (frames_of point.now, point.now.offset) step.end) }
-    ensures refused { IfErr result (IsRefusedFor (outcome_at setting.now point.now state.old)) }
-    ensures in_range { state_order.InRange state.old → IfOk result (λ _. state_order.InRange state.new) }
+    ensures ok { IfOk result
+        (λ step. StepsTo setting.now point.now state.old state.new step.moves) }
+    ensures end { IfOk result
+        (λ step. EndsAt (setting_of setting.now) (frames_of point.now, point.now.offset) step.end) }
+    ensures refused { IfErr result (IsStepRefusedFor setting.now point.now state.old) }
+    ensures in_range { state_order.InRange state.old
+        → IfOk result (λ _. state_order.InRange state.new) }
 {
     let program = setting.program(point);
     let Some((instr, body)) = program.found_at(point.offset) else {

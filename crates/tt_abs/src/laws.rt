@@ -1,18 +1,13 @@
-//! Laws of orders, of the flow of abstract states, and of runs. The functions here do nothing: their contracts are the laws.
+//! Laws of orders, of the flow of abstract states, and of runs. The functions here do nothing:
+//! their contracts are the laws.
 
 ghost use Rattle.tt_abs.specs.Cells.{Covers, CoversFunctions, CoversStack, CoversState, CoversStorage, CoversZone};
 ghost use Rattle.tt_abs.specs.CellOrders.{cell_order, zone_order};
 ghost use Rattle.tt_abs.specs.Coverage.{IsCoverage};
-ghost use Rattle.std.specs.Prelude.{ℕ, List, Option};
-ghost use Rattle.tt_code.specs.Settings.{Setting};
-ghost use Rattle.tt_abs.specs.declared.state.State.{State};
-ghost use Rattle.tt_abs.specs.Entries.{Rises, storage_of};
-ghost use Rattle.tt_abs.specs.Families.{IsGood};
-ghost use Rattle.tt_abs.specs.Goodness.{IsGoodByMachines, IsRefusedExactly, OutcomeStandsForMachines};
-ghost use Rattle.tt_abs.specs.Ranges.{IsSettingInRange};
-ghost use Rattle.tt_abs.specs.Soundness.{IsSafe};
+ghost use Rattle.tt_abs.specs.Entries.{storage_of};
+ghost use Rattle.tt_abs.specs.Goodness.{GoodFamiliesAreSafe, IsGoodByMachines, IsRefusedExactly, OutcomeStandsForMachines};
 ghost use Rattle.tt_abs.specs.Stacks.{stack_order};
-ghost use Rattle.tt_abs.specs.StateFlow.{AreProgramsShort, HasFlowLaws, Place, flow_of};
+ghost use Rattle.tt_abs.specs.StateFlow.{HasFlowLaws};
 ghost use Rattle.tt_abs.specs.States.{abstract_of, function_order, state_order, storage_order};
 
 /// States that one value is below another exactly if that one covers all that it covers.
@@ -21,33 +16,37 @@ pub fn below_is_coverage()
     ensures of_zones { IsCoverage zone_order CoversZone }
     ensures of_stacks { IsCoverage stack_order CoversStack }
     ensures of_functions { IsCoverage function_order CoversFunctions }
-    ensures of_storage { IsCoverage storage_order (λ cells area. CoversStorage (storage_of cells) area) }
-    ensures of_states { IsCoverage state_order (λ state machine. CoversState (abstract_of state) machine) }
+    ensures of_storage { IsCoverage storage_order
+        (λ cells area. CoversStorage (storage_of cells) area) }
+    ensures of_states { IsCoverage state_order
+        (λ state machine. CoversState (abstract_of state) machine) }
 {}
 
-/// States that what a transfer refuses and gives, state by state, is a monotone flow of finite height: of each font's limits and
-/// programs, and of each list of functions in ascending order of their numbers that is within the limits.
+/// States that what a transfer refuses and gives, state by state, is a monotone flow of finite
+/// height: of each font's limits and programs, and of each list of functions in ascending order of
+/// their numbers that is within the limits.
 pub fn flow_laws()
     ensures { HasFlowLaws }
 {}
 
-/// States that where a family of abstract states, one at each of some places, covers a program's start and what each of its states
-/// gives, and none of them is refused, the family covers every machine that a run from the start comes to, and none of these faults.
+/// States that where a family of abstract states, one at each of some places, covers a program's
+/// start and what each of its states gives, and none of them is refused, the family covers every
+/// machine that a run from the start comes to, and none of these faults.
 pub fn good_families_are_safe()
-    ensures { (s : Setting) (functions : List (ℕ × ℕ)) (family : Place → Option State) → IsSettingInRange s → AreProgramsShort s → Rises functions
-        → IsGood state_order (flow_of s functions) family → IsSafe s functions family }
+    ensures { GoodFamiliesAreSafe }
 {}
 
-/// States that what an abstract state becomes at a place, computed on its cells, is what the machines that it covers become there, for
-/// every instruction: it is refused exactly where one of them faults, comes to run a body twice, or they come to more lists of calls
-/// than a program may have; else it gives one state for each place to which they come, the smallest that covers those.
+/// States that what an abstract state becomes at a place, computed on its cells, is what the
+/// machines that it covers become there, for every instruction: it is refused exactly where one of
+/// them faults, comes to run a body twice, or they come to more lists of calls than a program may
+/// have; else it gives one state for each place to which they come, the smallest that covers those.
 pub fn outcome_on_cells_is_exact()
     ensures stands { OutcomeStandsForMachines }
     ensures refused { IsRefusedExactly }
 {}
 
-/// States that a family of abstract states is good exactly if it covers every machine that starts, no machine that it covers faults, and
-/// it covers each next state of one that it covers.
+/// States that a family of abstract states is good exactly if it covers every machine that starts,
+/// no machine that it covers faults, and it covers each successor of one that it covers.
 pub fn good_families_cover_steps()
     ensures { IsGoodByMachines }
 {}

@@ -1,4 +1,5 @@
-//! What is known of a hint machine's state: cells and abstract states, their order, and what an instruction makes of them.
+//! What is known of a hint machine's state: cells and abstract states, their order, and what an
+//! instruction makes of them.
 #![tactic(auto)]
 
 mod arithmetic;

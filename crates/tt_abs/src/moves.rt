@@ -21,7 +21,8 @@ pub enum Move {
     Return,
 }
 
-/// The ways in which a program may go on, all with one state: a short list, which is read by `first` and `get`.
+/// The ways in which a program may go on, all with one state: a short list, which is read by
+/// `first` and `get`.
 #[derive(Clone, Copy, Debug, PartialEq, Eq)]
 pub enum Moves {
     One(Move),
@@ -53,7 +54,8 @@ impl Moves {
 
     /// Makes the two ways to two offsets; one where they are the same.
     pub(crate) fn two(one: u32, other: u32) -> Moves
-        ensures { (fs : List AnyFrame) (a : Abstract) → two_ways fs one other a ≡ nexts_of fs result a }
+        ensures { (fs : List AnyFrame) (a : Abstract)
+            → two_ways fs one other a ≡ nexts_of fs result a }
     {
         if one == other {
             Moves::One(Move::To(one))

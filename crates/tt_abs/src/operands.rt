@@ -1,17 +1,11 @@
 //! Taking operands: how many cells are taken from the top, or the first test that fails.
 
-ghost use Rattle.std.specs.Prelude.{◌≡◌, ◌+◌, Bool, Err, IfErr, IfOk, List, Ok, drop, OnOk, ◌∷◌, ℤ};
-ghost use Rattle.tt_code.specs.Operands.{Taking, counted, is_zone as is_zone_number, pair, pairs, take_one, times};
-ghost use Rattle.tt_code.specs.Refusals.{Tested};
-ghost use Rattle.tt_code.specs.Settings.{contours_in};
-ghost use Rattle.tt_code.specs.States.{is_below};
-ghost use Rattle.tt_code.specs.declared.reason.Reason.{Reason as AnyReason};
-ghost use Rattle.tt_code.specs.declared.reason.Reason.TheVariants as reason;
-ghost use Rattle.tt_abs.specs.declared.cells.Cell.{Cell as AnyCell};
+ghost use Rattle.std.specs.Prelude.{◌≡◌, Err, IfErr, IfOk, Ok, OnOk};
+ghost use Rattle.tt_code.specs.Operands.{pair, take_one, times};
 ghost use Rattle.tt_abs.specs.declared.cells.Cell.TheVariants.{Known};
 ghost use Rattle.tt_abs.specs.Settings.{setting_of};
-ghost use Rattle.tt_abs.specs.Taken.{TakesTo, one_cvt, one_point};
-ghost use Rattle.tt_abs.specs.Transfers.{is_below_in, known, known_count, take_cell, take_cells, test_cell_uses, tested_cell};
+ghost use Rattle.tt_abs.specs.Representation.Taken.{IsCountUnder, IsNumberUnder, IsTakingRefused, NoCountUnder, NoNumberUnder, TakesFrom, TakesTo, cvt_pairs, loop_points, one_contour, one_cvt, one_index, one_operand, one_point, one_zone, point_pairs};
+ghost use Rattle.tt_abs.specs.Transfers.{known, known_count, take_cells, test_cell_uses};
 
 use crate::cells::{Cell, ZoneCell};
 use crate::registers::{pointer, reference};
@@ -45,8 +39,8 @@ fn count(cell: Cell) -> Result<u32, Reason>
 
 /// Returns the number under so many cells, and how many are taken with it.
 fn next_number(stack: &Stack, taken: usize) -> Result<(i32, usize), Reason>
-    ensures ok { IfOk result (λ r. (below : List AnyCell) × (drop taken stack.now ≡ Known r.0 ∷ below) × (r.1 ≡ taken + 1)) }
-    ensures refused { IfErr result (λ r. (passes : ℤ → Bool) (other : AnyReason) → tested_cell passes other (drop taken stack.now) ≡ Err r) }
+    ensures ok { IfOk result (IsNumberUnder stack.now taken) }
+    ensures refused { IfErr result (NoNumberUnder stack.now taken) }
 {
     match stack.under(taken) {
         Some(cell) => {
@@ -59,8 +53,8 @@ fn next_number(stack: &Stack, taken: usize) -> Result<(i32, usize), Reason>
 
 /// Takes an index below the bound.
 fn take_index(stack: &Stack, taken: usize, bound: u32, other: Reason) -> Result<usize, Reason>
-    ensures ok { IfOk result (λ n. TakesTo stack.now n (tested_cell (λ z. is_below z bound) other (drop taken stack.now))) }
-    ensures refused { IfErr result (λ r. tested_cell (λ z. is_below z bound) other (drop taken stack.now) ≡ Err r) }
+    ensures ok { IfOk result (TakesFrom stack.now taken (one_index bound other)) }
+    ensures refused { IfErr result (IsTakingRefused stack.now taken (one_index bound other)) }
 {
     let (z, after) = next_number(stack, taken)?;
     if is_index(z, bound) {
@@ -72,8 +66,8 @@ fn take_index(stack: &Stack, taken: usize, bound: u32, other: Reason) -> Result<
 
 /// Takes a zone that the font has.
 fn take_zone(setting: &Setting<'_>, stack: &Stack, taken: usize) -> Result<usize, Reason>
-    ensures ok { IfOk result (λ n. TakesTo stack.now n (tested_cell (is_zone_number (setting_of setting.now)) reason.Zone (drop taken stack.now))) }
-    ensures refused { IfErr result (λ r. tested_cell (is_zone_number (setting_of setting.now)) reason.Zone (drop taken stack.now) ≡ Err r) }
+    ensures ok { IfOk result (TakesFrom stack.now taken (one_zone setting.now)) }
+    ensures refused { IfErr result (IsTakingRefused stack.now taken (one_zone setting.now)) }
 {
     let (z, after) = next_number(stack, taken)?;
     if setting.is_zone(z) {
@@ -90,8 +84,9 @@ fn take_contour(
     stack: &Stack,
     taken: usize,
 ) -> Result<usize, Reason>
-    ensures ok { IfOk result (λ n. TakesTo stack.now n (tested_cell (is_below_in (contours_in (setting_of setting.now)) zone) reason.Contour (drop taken stack.now))) }
-    ensures refused { IfErr result (λ r. tested_cell (is_below_in (contours_in (setting_of setting.now)) zone) reason.Contour (drop taken stack.now) ≡ Err r) }
+    ensures ok { IfOk result (TakesFrom stack.now taken (one_contour setting.now zone)) }
+    ensures refused { IfErr result (IsTakingRefused stack.now taken
+        (one_contour setting.now zone)) }
 {
     let (z, after) = next_number(stack, taken)?;
     if setting.is_contour(zone, z) {
@@ -109,8 +104,10 @@ fn take_point(
     taken: usize,
     within: Within,
 ) -> Result<usize, Reason>
-    ensures ok { IfOk result (λ n. TakesTo stack.now n (one_point setting.now graphics.now within (drop taken stack.now))) }
-    ensures refused { IfErr result (λ r. one_point setting.now graphics.now within (drop taken stack.now) ≡ Err r) }
+    ensures ok { IfOk result (TakesFrom stack.now taken
+        (one_point setting.now graphics.now within)) }
+    ensures refused { IfErr result (IsTakingRefused stack.now taken
+        (one_point setting.now graphics.now within)) }
 {
     let (z, after) = next_number(stack, taken)?;
     if setting.is_point(graphics, within, z) {
@@ -122,8 +119,8 @@ fn take_point(
 
 /// Takes any cell.
 fn take_any(stack: &Stack, taken: usize) -> Result<usize, Reason>
-    ensures ok { IfOk result (λ n. TakesTo stack.now n (take_one (drop taken stack.now))) }
-    ensures refused { IfErr result (λ r. take_one (drop taken stack.now) ≡ Err r) }
+    ensures ok { IfOk result (TakesFrom stack.now taken take_one) }
+    ensures refused { IfErr result (IsTakingRefused stack.now taken take_one) }
 {
     match stack.under(taken) {
         Some(_) => Ok(taken + 1),
@@ -140,8 +137,10 @@ fn take_points(
     within: Within,
     count: u32,
 ) -> Result<usize, Reason>
-    ensures ok { IfOk result (λ n. TakesTo stack.now n (times count (one_point setting.now graphics.now within) (drop taken stack.now))) }
-    ensures refused { IfErr result (λ r. times count (one_point setting.now graphics.now within) (drop taken stack.now) ≡ Err r) }
+    ensures ok { IfOk result (TakesFrom stack.now taken
+        (times count (one_point setting.now graphics.now within))) }
+    ensures refused { IfErr result (IsTakingRefused stack.now taken
+        (times count (one_point setting.now graphics.now within))) }
 {
     let mut after = taken;
     for i in 0..count {
@@ -158,8 +157,10 @@ fn take_loop_points(
     taken: usize,
     within: Within,
 ) -> Result<usize, Reason>
-    ensures ok { IfOk result (λ n. TakesTo stack.now n (counted (known_count graphics.now.loop_number) (one_point setting.now graphics.now within) (drop taken stack.now))) }
-    ensures refused { IfErr result (λ r. counted (known_count graphics.now.loop_number) (one_point setting.now graphics.now within) (drop taken stack.now) ≡ Err r) }
+    ensures ok { IfOk result (TakesFrom stack.now taken
+        (loop_points setting.now graphics.now within)) }
+    ensures refused { IfErr result (IsTakingRefused stack.now taken
+        (loop_points setting.now graphics.now within)) }
 {
     let n = count(graphics.loop_number)?;
     take_points(setting, graphics, stack, taken, within, n)
@@ -173,8 +174,10 @@ fn take_point_pair(
     taken: usize,
     within: Within,
 ) -> Result<usize, Reason>
-    ensures ok { IfOk result (λ n. TakesTo stack.now n (pair (one_point setting.now graphics.now within) (drop taken stack.now))) }
-    ensures refused { IfErr result (λ r. pair (one_point setting.now graphics.now within) (drop taken stack.now) ≡ Err r) }
+    ensures ok { IfOk result (TakesFrom stack.now taken
+        (pair (one_point setting.now graphics.now within))) }
+    ensures refused { IfErr result (IsTakingRefused stack.now taken
+        (pair (one_point setting.now graphics.now within))) }
 {
     let after = take_point(setting, graphics, stack, taken, within)?;
     take_any(stack, after)
@@ -182,8 +185,8 @@ fn take_point_pair(
 
 /// Takes a CVT index and any cell.
 fn take_cvt_pair(stack: &Stack, taken: usize, cvt: u32) -> Result<usize, Reason>
-    ensures ok { IfOk result (λ n. TakesTo stack.now n (pair (one_cvt cvt) (drop taken stack.now))) }
-    ensures refused { IfErr result (λ r. pair (one_cvt cvt) (drop taken stack.now) ≡ Err r) }
+    ensures ok { IfOk result (TakesFrom stack.now taken (pair (one_cvt cvt))) }
+    ensures refused { IfErr result (IsTakingRefused stack.now taken (pair (one_cvt cvt))) }
 {
     let after = take_index(stack, taken, cvt, Reason::Cvt)?;
     take_any(stack, after)
@@ -191,8 +194,8 @@ fn take_cvt_pair(stack: &Stack, taken: usize, cvt: u32) -> Result<usize, Reason>
 
 /// Returns the count under so many cells, and how many are taken with it.
 fn next_count(stack: &Stack, taken: usize) -> Result<(u32, usize), Reason>
-    ensures ok { IfOk result (λ r. (c : AnyCell) × (below : List AnyCell) × (drop taken stack.now ≡ c ∷ below) × (known_count c ≡ Ok r.0) × (r.1 ≡ taken + 1)) }
-    ensures refused { IfErr result (λ r. (one : List AnyCell → Tested (Taking AnyCell)) → pairs known_count one (drop taken stack.now) ≡ Err r) }
+    ensures ok { IfOk result (IsCountUnder stack.now taken) }
+    ensures refused { IfErr result (NoCountUnder stack.now taken) }
 {
     match stack.under(taken) {
         Some(cell) => {
@@ -211,8 +214,10 @@ fn take_point_pairs(
     taken: usize,
     within: Within,
 ) -> Result<usize, Reason>
-    ensures ok { IfOk result (λ n. TakesTo stack.now n (pairs known_count (one_point setting.now graphics.now within) (drop taken stack.now))) }
-    ensures refused { IfErr result (λ r. pairs known_count (one_point setting.now graphics.now within) (drop taken stack.now) ≡ Err r) }
+    ensures ok { IfOk result (TakesFrom stack.now taken
+        (point_pairs setting.now graphics.now within)) }
+    ensures refused { IfErr result (IsTakingRefused stack.now taken
+        (point_pairs setting.now graphics.now within)) }
 {
     let (n, mut after) = next_count(stack, taken)?;
     for i in 0..n {
@@ -223,8 +228,8 @@ fn take_point_pairs(
 
 /// Takes a count, and as many pairs of a CVT index and any cell.
 fn take_cvt_pairs(stack: &Stack, taken: usize, cvt: u32) -> Result<usize, Reason>
-    ensures ok { IfOk result (λ n. TakesTo stack.now n (pairs known_count (one_cvt cvt) (drop taken stack.now))) }
-    ensures refused { IfErr result (λ r. pairs known_count (one_cvt cvt) (drop taken stack.now) ≡ Err r) }
+    ensures ok { IfOk result (TakesFrom stack.now taken (cvt_pairs cvt)) }
+    ensures refused { IfErr result (IsTakingRefused stack.now taken (cvt_pairs cvt)) }
 {
     let (n, mut after) = next_count(stack, taken)?;
     for i in 0..n {
@@ -241,8 +246,10 @@ fn take_operand(
     taken: usize,
     operand: Operand,
 ) -> Result<usize, Reason>
-    ensures ok { IfOk result (λ n. TakesTo stack.now n (take_cell (setting_of setting.now) graphics.now operand (drop taken stack.now))) }
-    ensures refused { IfErr result (λ r. take_cell (setting_of setting.now) graphics.now operand (drop taken stack.now) ≡ Err r) }
+    ensures ok { IfOk result (TakesFrom stack.now taken
+        (one_operand setting.now graphics.now operand)) }
+    ensures refused { IfErr result (IsTakingRefused stack.now taken
+        (one_operand setting.now graphics.now operand)) }
 {
     match operand {
         Operand::Number => take_any(stack, taken),
@@ -271,8 +278,10 @@ pub fn take_operands(
     stack: &Stack,
     operands: &[Operand],
 ) -> Result<usize, Reason>
-    ensures ok { IfOk result (λ n. TakesTo stack.now n (take_cells (setting_of setting.now) graphics.now operands.now stack.now)) }
-    ensures refused { IfErr result (λ r. take_cells (setting_of setting.now) graphics.now operands.now stack.now ≡ Err r) }
+    ensures ok { IfOk result (λ n. TakesTo stack.now n
+        (take_cells (setting_of setting.now) graphics.now operands.now stack.now)) }
+    ensures refused { IfErr result
+        (λ r. take_cells (setting_of setting.now) graphics.now operands.now stack.now ≡ Err r) }
 {
     let mut taken = 0;
     for operand in operands {
@@ -287,8 +296,10 @@ pub fn test_uses(
     graphics: &Graphics<Cell, ZoneCell>,
     uses: &[Use],
 ) -> Result<(), Reason>
-    ensures ok { OnOk result (test_cell_uses (setting_of setting.now) graphics.now uses.now ≡ Ok tt) }
-    ensures refused { IfErr result (λ r. test_cell_uses (setting_of setting.now) graphics.now uses.now ≡ Err r) }
+    ensures ok { OnOk result
+        (test_cell_uses (setting_of setting.now) graphics.now uses.now ≡ Ok tt) }
+    ensures refused { IfErr result
+        (λ r. test_cell_uses (setting_of setting.now) graphics.now uses.now ≡ Err r) }
 {
     for used in uses {
         let z = number(reference(graphics, used.reference))?;

@@ -13,8 +13,8 @@ pub enum AbsFault {
     DepthMismatch,
 }
 
-/// Values that stand for sets of machine values: one is below another if that one covers all that it covers. Neither call takes
-/// memory.
+/// Values that stand for sets of machine values: one is below another if that one covers all that
+/// it covers. Neither call takes memory.
 pub trait Order {
     /// The words of the order.
     ghost order: { OrderOf Self };
@@ -23,7 +23,8 @@ pub trait Order {
     fn below(&self, other: &Self) -> bool
         ensures { IsTrue result ↔ order.Below self.now other.now };
 
-    /// Makes this value the least one above both, and returns whether that differs from what it was.
+    /// Makes this value the least one above both, and returns whether that differs from what it
+    /// was.
     ///
     /// # Errors
     /// `DepthMismatch` exactly if the two differ in depth; then this value stays as it is.

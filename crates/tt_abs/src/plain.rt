@@ -1,12 +1,10 @@
 //! The instructions of plain lines, which take, test, change and push.
 
-ghost use Rattle.std.specs.Prelude.{◌≡◌, Err, IfErr, Ok, OnOk, true};
+ghost use Rattle.std.specs.Prelude.{◌≡◌, IfErr, Ok, OnOk, true};
 ghost use Rattle.tt_abs.specs.Moves.{IsRefusedFor};
-ghost use Rattle.tt_abs.specs.Settings.{setting_of};
 ghost use Rattle.tt_abs.specs.States.{abstract_of};
-ghost use Rattle.tt_abs.specs.Steps.{line_of};
-ghost use Rattle.tt_abs.specs.Stored.{is_of_one_kind, is_tested_line};
-ghost use Rattle.tt_abs.specs.Transfers.{plain_cells};
+ghost use Rattle.tt_abs.specs.Representation.Steps.{line_of, plain_at};
+ghost use Rattle.tt_abs.specs.Representation.Stored.{is_of_one_kind, is_tested_line};
 
 use crate::changes::{pushed_cells, update_all};
 use crate::operands::{take_operands, test_uses};
@@ -16,12 +14,14 @@ use crate::setting::Setting;
 use crate::state::State;
 use tt_code::kinds::Row;
 
-/// Carries out a plain line: its operands are taken and its reference points tested, and then it changes or pushes. No line does both.
+/// Carries out a plain line: its operands are taken and its reference points tested, and then it
+/// changes or pushes. No line does both.
 pub fn execute_plain(setting: &Setting<'_>, state: &mut State, line: &Row) -> Result<(), Refusal>
     requires tested { is_tested_line (line_of line.now) ≡ true }
     requires one_kind { is_of_one_kind (line_of line.now) ≡ true }
-    ensures ok { OnOk result (plain_cells (setting_of setting.now) (abstract_of state.old) (line_of line.now) ≡ Ok (abstract_of state.new)) }
-    ensures refused { IfErr result (IsRefusedFor (plain_cells (setting_of setting.now) (abstract_of state.old) (line_of line.now))) }
+    ensures ok { OnOk result
+        (plain_at setting.now state.old line.now ≡ Ok (abstract_of state.new)) }
+    ensures refused { IfErr result (IsRefusedFor (plain_at setting.now state.old line.now)) }
 {
     let count = take_operands(setting, &state.graphics, &state.stack, line.operands)?;
     test_uses(setting, &state.graphics, line.uses)?;

@@ -1,4 +1,5 @@
-//! What stays the same through a program: the font's limits, its programs, and what kind of program runs.
+//! What stays the same through a program: the font's limits, its programs, and what kind of program
+//! runs.
 
 ghost use Rattle.std.specs.Prelude.{◌≡◌, ◌<◌, ◌≤ℤ◌, ◌^◌, [], Some, ℤ, pos};
 ghost use Rattle.tt_code.specs.Control.{may_define as may_define_functions};
@@ -33,7 +34,8 @@ pub enum Kind {
     Glyph { points: u16, contours: u16 },
 }
 
-/// What a program may rely on. For the font program all three programs are the same, for the CVT program `prep` is `main`.
+/// What a program may rely on. For the font program all three programs are the same, for the CVT
+/// program `prep` is `main`.
 #[derive(Clone, Copy)]
 pub struct Setting<'a> {
     pub limits: Limits,
@@ -46,7 +48,8 @@ pub struct Setting<'a> {
     pub font: &'a Program<'a>,
     /// The CVT program.
     pub prep: &'a Program<'a>,
-    /// The functions with which the program starts, as number and body, in ascending order of the numbers.
+    /// The functions with which the program starts, as number and body, in ascending order of the
+    /// numbers.
     pub start: &'a [(u16, u32)],
 }
 
@@ -111,7 +114,13 @@ impl<'a> Setting<'a> {
     /// Makes the setting of a font program, which starts with no function.
     pub fn for_font_program(limits: Limits, cvt: u32, program: &'a Program<'a>) -> Setting<'a>
         ensures setting { setting_of result ≡ font_setting (programs_of result) }
-        ensures programs { programs_of result ≡ record { limits = limits; cvt = cvt; font_program = program.entry.now; cvt_program = program.entry.now } }
+        ensures programs { programs_of result
+            ≡ record {
+              limits = limits;
+              cvt = cvt;
+              font_program = program.entry.now;
+              cvt_program = program.entry.now;
+            } }
         ensures main { result.main.now ≡ program.entry.now }
         ensures start { result.start.now ≡ [] }
     {
@@ -126,15 +135,17 @@ impl<'a> Setting<'a> {
         }
     }
 
-    /// Makes the setting of the CVT program of the same font, from that of the font program. It starts with these functions, in ascending
-    /// order of their numbers: those that are known where the font program ends.
+    /// Makes the setting of the CVT program of the same font, from that of the font program. It
+    /// starts with these functions, in ascending order of their numbers: those that are known where
+    /// the font program ends.
     pub fn for_cvt_program(
         &self,
         program: &'a Program<'a>,
         functions: &'a [(u16, u32)],
     ) -> Setting<'a>
         ensures setting { setting_of result ≡ cvt_setting (programs_of result) }
-        ensures programs { programs_of result ≡ record (programs_of self.now) { cvt_program = program.entry.now } }
+        ensures programs { programs_of result
+            ≡ record (programs_of self.now) { cvt_program = program.entry.now } }
         ensures main { result.main.now ≡ program.entry.now }
         ensures start { result.start.now ≡ functions.entry.now }
     {
@@ -147,8 +158,9 @@ impl<'a> Setting<'a> {
         }
     }
 
-    /// Makes the setting of a glyph program of the same font, from that of the CVT program. The glyph has so many points, except for phantom
-    /// points, and so many contours. Its program starts with these functions, in ascending order of their numbers: those that are known where
+    /// Makes the setting of a glyph program of the same font, from that of the CVT program. The
+    /// glyph has so many points, except for phantom points, and so many contours. Its program
+    /// starts with these functions, in ascending order of their numbers: those that are known where
     /// the CVT program ends.
     pub fn for_glyph_program(
         &self,
@@ -157,7 +169,8 @@ impl<'a> Setting<'a> {
         program: &'a Program<'a>,
         functions: &'a [(u16, u32)],
     ) -> Setting<'a>
-        ensures setting { setting_of result ≡ glyph_setting (programs_of self.now) points contours program.entry.now }
+        ensures setting { setting_of result
+            ≡ glyph_setting (programs_of self.now) points contours program.entry.now }
         ensures main { result.main.now ≡ program.entry.now }
         ensures start { result.start.now ≡ functions.entry.now }
     {
@@ -193,7 +206,8 @@ impl<'a> Setting<'a> {
 
     /// Returns the least number of points of the zones that may be meant.
     fn points_in(&self, zone: ZoneCell) -> u32
-        ensures { (z : ℤ) → is_below z result ≡ is_below_in (zone_size (setting_of self.now)) zone z }
+        ensures { (z : ℤ)
+            → is_below z result ≡ is_below_in (zone_size (setting_of self.now)) zone z }
     {
         let twilight = u32::from(self.limits.twilight);
         match zone {
@@ -205,7 +219,8 @@ impl<'a> Setting<'a> {
 
     /// Returns the least number of points of the zones that count.
     fn points_within(&self, graphics: &Graphics<Cell, ZoneCell>, within: Within) -> u32
-        ensures { (z : ℤ) → is_below z result ≡ is_point_in (setting_of self.now) graphics.now within z }
+        ensures { (z : ℤ)
+            → is_below z result ≡ is_point_in (setting_of self.now) graphics.now within z }
     {
         match within {
             Within::In(p) => self.points_in(pointer(graphics, p)),
@@ -250,8 +265,9 @@ impl<'a> Setting<'a> {
         }
     }
 
-    /// States that the programs consist of bytes and are shorter than 2^31 bytes, and that depths have 16 bits, as they always do.
-    pub fn is_within(&self)
+    /// States that the programs consist of bytes and are shorter than 2^31 bytes, and that depths
+    /// have 16 bits, as they always do.
+    pub fn range_facts(&self)
         ensures range { IsSettingInRange (setting_of self.now) }
         ensures short { AreProgramsShort (setting_of self.now) }
     {
@@ -277,7 +293,8 @@ impl<'a> Setting<'a> {
         }
     }
 
-    /// Whether control may jump there from the point: to an instruction of the same body, in a main program to its end too.
+    /// Whether control may jump there from the point: to an instruction of the same body, in a main
+    /// program to its end too.
     pub(crate) fn is_target(&self, point: &Point<'_>, target: i64) -> bool
         requires { target ≤ℤ pos 4294967295 }
         ensures { result ≡ is_jump_target (setting_of self.now) (frames_of point.now) target }

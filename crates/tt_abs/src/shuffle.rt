@@ -1,16 +1,12 @@
 //! The instructions that move the stack's cells.
 
-ghost use Rattle.std.specs.Prelude.{◌≡◌, ◌+◌, ◌∷◌, [], Err, IfErr, IfOk, List, Ok, OnOk, ℕ, drop, pos, suc};
-ghost use Rattle.tt_code.specs.Computing.{element, place_of};
-ghost use Rattle.tt_code.specs.Operands.{top as top_of};
+ghost use Rattle.std.specs.Prelude.{◌≡◌, ◌+◌, ◌∷◌, [], Err, IfErr, IfOk, List, OnOk, drop, pos, suc};
+ghost use Rattle.tt_code.specs.Computing.{element};
 ghost use Rattle.tt_code.specs.declared.kinds.StackOp.TheVariants as op;
-ghost use Rattle.tt_code.specs.declared.reason.Reason.{Reason as AnyReason};
 ghost use Rattle.tt_code.specs.declared.reason.Reason.TheVariants as reason;
-ghost use Rattle.tt_abs.specs.Moves.{ForReason};
-ghost use Rattle.tt_abs.specs.Steps.{RefusesStack, Restacks};
-ghost use Rattle.tt_abs.specs.Transfers.{known, shuffled_cells};
+ghost use Rattle.tt_abs.specs.Representation.Steps.{IsNamedCell, IsStackRefusedFor, NamesNoCell, Restacks};
+ghost use Rattle.tt_abs.specs.Transfers.{shuffled_cells};
 ghost use Rattle.tt_abs.specs.declared.cells.Cell.{Cell as AnyCell};
-ghost use Rattle.tt_abs.specs.declared.cells.Cell.TheVariants.{Known};
 
 use crate::cells::Cell;
 use crate::operands::number;
@@ -33,7 +29,7 @@ pub fn cell_under(stack: &Stack, taken: usize) -> Result<Cell, Reason>
 /// Carries out DUP: copies the top.
 fn duplicate(stack: &mut Stack) -> Result<(), Refusal>
     ensures ok { OnOk result (Restacks (shuffled_cells op.Dup) stack.old stack.new) }
-    ensures refused { IfErr result (λ e. ForReason e (RefusesStack (shuffled_cells op.Dup) stack.old)) }
+    ensures refused { IfErr result (IsStackRefusedFor (shuffled_cells op.Dup) stack.old) }
 {
     let top = cell_under(stack, 0)?;
     stack.push(top)?;
@@ -43,7 +39,7 @@ fn duplicate(stack: &mut Stack) -> Result<(), Refusal>
 /// Carries out POP: drops the top.
 fn discard(stack: &mut Stack) -> Result<(), Refusal>
     ensures ok { OnOk result (Restacks (shuffled_cells op.Pop) stack.old stack.new) }
-    ensures refused { IfErr result (λ e. ForReason e (RefusesStack (shuffled_cells op.Pop) stack.old)) }
+    ensures refused { IfErr result (IsStackRefusedFor (shuffled_cells op.Pop) stack.old) }
 {
     cell_under(stack, 0)?;
     stack.cut(1);
@@ -53,7 +49,7 @@ fn discard(stack: &mut Stack) -> Result<(), Refusal>
 /// Carries out SWAP: exchanges the two upper cells.
 fn swap(stack: &mut Stack) -> Result<(), Refusal>
     ensures ok { OnOk result (Restacks (shuffled_cells op.Swap) stack.old stack.new) }
-    ensures refused { IfErr result (λ e. ForReason e (RefusesStack (shuffled_cells op.Swap) stack.old)) }
+    ensures refused { IfErr result (IsStackRefusedFor (shuffled_cells op.Swap) stack.old) }
 {
     let top = cell_under(stack, 0)?;
     let second = cell_under(stack, 1)?;
@@ -66,7 +62,7 @@ fn swap(stack: &mut Stack) -> Result<(), Refusal>
 /// Carries out DEPTH: pushes how many cells there are.
 fn push_depth(stack: &mut Stack) -> Result<(), Refusal>
     ensures ok { OnOk result (Restacks (shuffled_cells op.Depth) stack.old stack.new) }
-    ensures refused { IfErr result (λ e. ForReason e (RefusesStack (shuffled_cells op.Depth) stack.old)) }
+    ensures refused { IfErr result (IsStackRefusedFor (shuffled_cells op.Depth) stack.old) }
 {
     let depth = stack.len() as i32;
     stack.push(Cell::Known(depth))?;
@@ -84,10 +80,11 @@ fn place(index: i32) -> Result<usize, Reason>
     }
 }
 
-/// Reads the index on top: returns how many cells lie above the cell that it names, except for the index itself, and that cell.
+/// Reads the index on top: returns how many cells lie above the cell that it names, except for the
+/// index itself, and that cell.
 fn indexed(stack: &Stack) -> Result<(usize, Cell), Reason>
-    ensures ok { IfOk result (λ r. (k : AnyCell) × (below : List AnyCell) × (stack.now ≡ k ∷ below) × (known k ≡ Ok (pos (suc r.0))) × (drop r.0 below ≡ r.1 ∷ drop (r.0 + 1) below)) }
-    ensures refused { IfErr result (λ r. RefusesStack (shuffled_cells op.CopyIndexed) stack.now r × RefusesStack (shuffled_cells op.MoveIndexed) stack.now r) }
+    ensures ok { IfOk result (IsNamedCell stack.now) }
+    ensures refused { IfErr result (NamesNoCell stack.now) }
 {
     let top = cell_under(stack, 0)?;
     let index = number(top)?;
@@ -99,7 +96,7 @@ fn indexed(stack: &Stack) -> Result<(usize, Cell), Reason>
 /// Carries out CINDEX: copies the cell that the top names.
 fn copy_indexed(stack: &mut Stack) -> Result<(), Refusal>
     ensures ok { OnOk result (Restacks (shuffled_cells op.CopyIndexed) stack.old stack.new) }
-    ensures refused { IfErr result (λ e. ForReason e (RefusesStack (shuffled_cells op.CopyIndexed) stack.old)) }
+    ensures refused { IfErr result (IsStackRefusedFor (shuffled_cells op.CopyIndexed) stack.old) }
 {
     let (_, cell) = indexed(stack)?;
     stack.cut(1);
@@ -110,7 +107,7 @@ fn copy_indexed(stack: &mut Stack) -> Result<(), Refusal>
 /// Carries out MINDEX: moves the cell that the top names to the top.
 fn move_indexed(stack: &mut Stack) -> Result<(), Refusal>
     ensures ok { OnOk result (Restacks (shuffled_cells op.MoveIndexed) stack.old stack.new) }
-    ensures refused { IfErr result (λ e. ForReason e (RefusesStack (shuffled_cells op.MoveIndexed) stack.old)) }
+    ensures refused { IfErr result (IsStackRefusedFor (shuffled_cells op.MoveIndexed) stack.old) }
 {
     let (above, cell) = indexed(stack)?;
     stack.cut(1);
@@ -122,7 +119,7 @@ fn move_indexed(stack: &mut Stack) -> Result<(), Refusal>
 /// Carries out ROLL: brings the third cell to the top.
 fn roll(stack: &mut Stack) -> Result<(), Refusal>
     ensures ok { OnOk result (Restacks (shuffled_cells op.Roll) stack.old stack.new) }
-    ensures refused { IfErr result (λ e. ForReason e (RefusesStack (shuffled_cells op.Roll) stack.old)) }
+    ensures refused { IfErr result (IsStackRefusedFor (shuffled_cells op.Roll) stack.old) }
 {
     let top = cell_under(stack, 0)?;
     let second = cell_under(stack, 1)?;
@@ -137,7 +134,7 @@ fn roll(stack: &mut Stack) -> Result<(), Refusal>
 /// Carries out an instruction that moves the stack's cells.
 pub fn shuffle(stack: &mut Stack, operation: StackOp) -> Result<(), Refusal>
     ensures ok { OnOk result (Restacks (shuffled_cells operation) stack.old stack.new) }
-    ensures refused { IfErr result (λ e. ForReason e (RefusesStack (shuffled_cells operation) stack.old)) }
+    ensures refused { IfErr result (IsStackRefusedFor (shuffled_cells operation) stack.old) }
 {
     match operation {
         StackOp::Dup => duplicate(stack),

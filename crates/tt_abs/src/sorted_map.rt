@@ -270,6 +270,22 @@ impl<T: Copy> SortedMap<T> {
         SortedMap::from_slice(alloc, self.entries.as_slice())
     }
 
+    /// Becomes a list of these entries, in the memory that it has where that is enough.
+    ///
+    /// # Errors
+    /// If memory runs out; then the list's entries are unspecified.
+    pub fn replace(&mut self, entries: &[(u16, T)]) -> Result<(), AllocError>
+        requires { Rises entries.now }
+        ensures { OnOk result (self.new ≡ entries.now) }
+    {
+        self.entries.clear();
+        // The usual case for storage cells: there are none.
+        if entries.is_empty() {
+            return Ok(());
+        }
+        self.entries.extend_from_slice(entries)
+    }
+
     /// Becomes a list with the same entries, in the memory that it has where that is enough.
     ///
     /// # Errors
@@ -277,12 +293,14 @@ impl<T: Copy> SortedMap<T> {
     pub fn copy_from(&mut self, other: &SortedMap<T>) -> Result<(), AllocError>
         ensures { OnOk result (self.new ≡ other.now) }
     {
+        self.replace(other.as_slice())
+    }
+
+    /// Removes all entries. Takes no memory.
+    pub fn clear(&mut self)
+        ensures { self.new ≡ [] }
+    {
         self.entries.clear();
-        // The usual case for storage cells: the other list is empty.
-        if other.entries.is_empty() {
-            return Ok(());
-        }
-        self.entries.extend_from_slice(other.entries.as_slice())
     }
 
     /// Returns the entries, in ascending order of their numbers.

@@ -7,7 +7,7 @@ ghost use Rattle.tt_abs.specs.Transfers.{cells_on};
 ghost use Rattle.tt_abs.specs.declared.cells.Cell.TheVariants.{Known};
 ghost use Rattle.tt_abs.specs.CellOrders.{CellInRange};
 ghost use Rattle.tt_abs.specs.Orders.{IsLeastAbove};
-ghost use Rattle.tt_abs.specs.Codes.{kept_cells};
+ghost use Rattle.tt_abs.specs.Representation.Codes.{kept_cells};
 ghost use Rattle.tt_abs.specs.Stacks.{IsLeastCell, StackBelow, StackInRange, cell_at, first, stack_order};
 
 use crate::cell_codes::{
@@ -39,7 +39,7 @@ pub struct Stack {
 impl Model for Stack {
     ghost use Rattle.std.specs.Prelude.{List, length, reverse, ◌+◌, ◌<◌, ◌^◌};
     ghost use Rattle.tt_abs.specs.declared.cells.Cell.{Cell};
-    ghost use Rattle.tt_abs.specs.Codes.{kept_cells};
+    ghost use Rattle.tt_abs.specs.Representation.Codes.{kept_cells};
 
     ghost Value = { List Cell };
 
@@ -60,7 +60,7 @@ pub struct StackCells<'a> {
 impl<'a> Model for StackCells<'a> {
     ghost use Rattle.std.specs.Prelude.{List};
     ghost use Rattle.tt_abs.specs.declared.cells.Cell.{Cell};
-    ghost use Rattle.tt_abs.specs.Codes.{kept_cells};
+    ghost use Rattle.tt_abs.specs.Representation.Codes.{kept_cells};
 
     ghost Value = { List Cell };
 
@@ -151,6 +151,15 @@ fn cells_equal(mine: &[Cell], theirs: &[Cell]) -> bool
         }
     }
     true
+}
+
+/// Whether so many codes at the beginning are there in both lists, and the same.
+fn have_same_front(mine: &[u16], theirs: &[u16], count: usize) -> bool
+    ensures enough { IsTrue result → count ≤ length mine.now }
+    ensures enough_there { IsTrue result → count ≤ length theirs.now }
+    ensures same { IsTrue result → take count mine.now ≡ take count theirs.now }
+{
+    count <= mine.len() && count <= theirs.len() && are_equal(&mine[..count], &theirs[..count])
 }
 
 impl Stack {
@@ -382,6 +391,22 @@ impl Stack {
         self.codes.len() == other.codes.len()
             && self.wide.len() == other.wide.len()
             && are_equal(self.codes.as_slice(), other.codes.as_slice())
+            && cells_equal(self.wide.as_slice(), other.wide.as_slice())
+    }
+
+    /// Whether so many cells at the bottom are found to be the same in both stacks. Those that have no code are compared only
+    /// where all of them are among these cells.
+    pub fn shares_bottom(&self, other: &Stack, count: usize) -> bool
+        ensures enough { IsTrue result → count ≤ length self.now }
+        ensures enough_there { IsTrue result → count ≤ length other.now }
+        ensures same { IsTrue result →
+            take count (reverse self.now) ≡ take count (reverse other.now) }
+    {
+        let wide = self.wide.len();
+        if wide != other.wide.len() || count < wide {
+            return false;
+        }
+        have_same_front(self.codes.as_slice(), other.codes.as_slice(), count - wide)
             && cells_equal(self.wide.as_slice(), other.wide.as_slice())
     }
 

@@ -32,7 +32,7 @@ const DEFAULT: Graphics<Cell, ZoneCell> = Graphics {
 };
 
 impl State {
-    ghost use Rattle.std.specs.Prelude.{◌≡◌, ◌<◌, ◌≤◌, ◌+◌, ◌∷◌, ◌↔◌, length, reverse, slice_get, IsTrue, IfOk, OnOk, OnErr};
+    ghost use Rattle.std.specs.Prelude.{◌≡◌, ◌<◌, ◌≤◌, ◌+◌, ◌∷◌, ◌↔◌, length, reverse, take, slice_get, IsTrue, IfOk, OnOk, OnErr, [], drop};
     ghost use Rattle.tt_code.specs.States.{pointer, reference, with_pointer, with_reference};
     ghost use Rattle.tt_abs.specs.Entries.{Rises, storage_of, with_cell, with_entry};
     ghost use Rattle.tt_abs.specs.States.{start_of, state_order};
@@ -100,6 +100,17 @@ impl State {
         ensures { IsTrue result ↔ (self.now.functions ≡ other.now.functions) }
     {
         self.functions.is_same(&other.functions)
+    }
+
+    /// Whether so many cells at the bottom of the stack are found to be the same in both states, as they are where it answers
+    /// `true`. Takes no memory.
+    pub fn shares_bottom(&self, other: &State, count: usize) -> bool
+        ensures enough { IsTrue result → count ≤ length self.now.stack }
+        ensures enough_there { IsTrue result → count ≤ length other.now.stack }
+        ensures same { IsTrue result →
+            take count (reverse self.now.stack) ≡ take count (reverse other.now.stack) }
+    {
+        self.stack.shares_bottom(&other.stack, count)
     }
 
     /// Returns how many cells the stack has.
@@ -213,6 +224,14 @@ impl State {
         self.stack.push_cells(cells)
     }
 
+    /// Removes so many cells from the top of the stack, or all of them if there are fewer.
+    pub fn cut_stack(&mut self, count: usize)
+        ensures value { self.new ≡ record self.old { stack = drop count self.old.stack } }
+        ensures in_range { state_order.InRange self.old → state_order.InRange self.new }
+    {
+        self.stack.cut(count);
+    }
+
     /// Sets what is known of a reference point.
     pub fn set_rp(&mut self, which: Reference, cell: Cell)
         ensures value { self.new ≡ record self.old { graphics = with_reference which cell self.old.graphics } }
@@ -257,6 +276,20 @@ impl State {
         self.functions.put(number, body)
     }
 
+    /// Makes exactly these functions known, in ascending order of their numbers, each with its body, in the memory that it has
+    /// where that is enough.
+    ///
+    /// # Errors
+    /// If memory runs out; then the functions that are known are unspecified.
+    pub fn set_functions(&mut self, functions: &[(u16, u32)]) -> Result<(), AllocError>
+        requires { Rises functions.now }
+        ensures value { OnOk result (self.new ≡ record self.old { functions = functions.now }) }
+        ensures in_range { OnOk result
+            (state_order.InRange self.old → state_order.InRange self.new) }
+    {
+        self.functions.replace(functions)
+    }
+
     /// Sets what is known of a storage cell.
     ///
     /// # Errors
@@ -273,6 +306,14 @@ impl State {
                 Ok(())
             }
         }
+    }
+
+    /// Makes all storage cells unknown. Takes no memory.
+    pub fn forget_storage(&mut self)
+        ensures value { self.new ≡ record self.old { storage = [] } }
+        ensures in_range { state_order.InRange self.old → state_order.InRange self.new }
+    {
+        self.storage.clear();
     }
 }
 

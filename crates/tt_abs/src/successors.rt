@@ -1,12 +1,10 @@
 //! What an abstract state becomes by the instruction at its place.
 
-ghost use Rattle.std.specs.Prelude.{◌≡◌, IfErr, IfOk, false, true};
-ghost use Rattle.tt_code.specs.Runs.{outcome};
-ghost use Rattle.tt_code.specs.Settings.{starts_in_body};
-ghost use Rattle.tt_abs.specs.Covers.{Gives, IsRefused, has_body_twice};
-ghost use Rattle.tt_abs.specs.Moves.{ForReason, IsRefusedFor, LeadsBy, nexts_of, outcome_at};
-ghost use Rattle.tt_abs.specs.Settings.{frames_of, setting_of};
-ghost use Rattle.tt_abs.specs.States.{abstract_of, state_order};
+ghost use Rattle.std.specs.Prelude.{◌≡◌, IfErr, IfOk, false};
+ghost use Rattle.tt_abs.specs.Covers.{has_body_twice};
+ghost use Rattle.tt_abs.specs.Moves.{GivesByMachines, IsRefusedByMachines, IsStepRefusedFor, StartsAt, StepsTo};
+ghost use Rattle.tt_abs.specs.Settings.{frames_of};
+ghost use Rattle.tt_abs.specs.States.{state_order};
 
 use crate::instruction::step;
 use crate::moves::Moves;
@@ -21,26 +19,30 @@ pub struct Successors {
     pub state: State,
 }
 
-/// Computes what an abstract state becomes by the instruction that starts at the point in the body of its innermost call. It is refused
-/// exactly if some machine state that it covers faults there, or comes to run a body twice, or they come to more lists of calls than
-/// a program may have. Else there is a way to each place at which a next machine state is, and its state is the smallest that
-/// covers those there.
+/// Computes what an abstract state becomes by the instruction that starts at the point in the body
+/// of its innermost call. It is refused exactly if some machine state that it covers faults there,
+/// or comes to run a body twice, or they come to more lists of calls than a program may have. Else
+/// there is a way to each place at which a successor of one of them is, and its state is the
+/// smallest that covers those there.
 ///
 /// # Errors
-/// `Refused` with the reason of the first test of the instruction that fails, read on cells; `OutOfMemory`.
+/// `Refused` with the reason of the first test of the instruction that fails, read on cells;
+/// `OutOfMemory`.
 pub fn transfer(
     setting: &Setting<'_>,
     point: &Point<'_>,
     state: &State,
 ) -> Result<Successors, Refusal>
-    requires starts { starts_in_body (setting_of setting.now) (frames_of point.now) point.now.offset ≡ true }
+    requires starts { StartsAt setting.now point.now }
     requires once { has_body_twice (frames_of point.now) ≡ false }
     requires in_range { state_order.InRange state.now }
-    ensures outcome { IfOk result (λ s. LeadsBy point.now (outcome_at setting.now point.now state.now) s.moves s.state) }
-    ensures gives { IfOk result (λ s. Gives (abstract_of state.now) (frames_of point.now) point.now.offset (outcome (setting_of setting.now)) (nexts_of (frames_of point.now) s.moves (abstract_of s.state))) }
+    ensures outcome { IfOk result
+        (λ s. StepsTo setting.now point.now state.now s.state s.moves) }
+    ensures gives { IfOk result
+        (λ s. GivesByMachines setting.now point.now state.now s.state s.moves) }
     ensures in_range { IfOk result (λ s. state_order.InRange s.state) }
-    ensures reason { IfErr result (IsRefusedFor (outcome_at setting.now point.now state.now)) }
-    ensures refused { IfErr result (λ e. ForReason e (λ r. IsRefused (abstract_of state.now) (frames_of point.now) point.now.offset (outcome (setting_of setting.now)))) }
+    ensures reason { IfErr result (IsStepRefusedFor setting.now point.now state.now) }
+    ensures refused { IfErr result (IsRefusedByMachines setting.now point.now state.now) }
 {
     prove!(setting.program(point).len() < 1 << 31);
     let mut next = state.copied()?;

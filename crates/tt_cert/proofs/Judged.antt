@@ -6,7 +6,7 @@ use Rattle.tt_code.specs.declared.reason.Reason.{Reason}
 use Rattle.tt_abs.specs.declared.state.State.{State}
 use Rattle.tt_abs.specs.Entries.{Rises}
 use Rattle.tt_abs.specs.Families.{CoversAt, IsGood}
-use Rattle.tt_abs.specs.FamilyLaws.{good_from_fine}
+use Rattle.tt_abs.proofs.FamilyLaws.{good_from_fine}
 use Rattle.tt_abs.specs.Lines.{Precedes}
 use Rattle.tt_abs.specs.Ranges.{IsSettingInRange}
 use Rattle.tt_abs.specs.Soundness.{IsSafe}

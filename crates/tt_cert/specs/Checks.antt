@@ -19,8 +19,8 @@ use Rattle.tt_cert.specs.declared.fault.ProgramFault.{ProgramFault}
 use Rattle.tt_cert.specs.declared.fault.ProgramFault.TheVariants.{Refused, OutOfMemory}
 
 -- a place as its context's number and its offset
-abbrev pub key_of : Contents → Place → ℕ × ℕ
-key_of contents p = (number_of contents.contexts p.0, p.1)
+abbrev pub point_key_of : Contents → Place → ℕ × ℕ
+point_key_of contents p = (number_of contents.contexts p.0, p.1)
 
 -- an offset as a number of 32 bits: the largest one stands for those that are above it
 abbrev pub saturated_offset : ℕ → ℕ
@@ -44,6 +44,10 @@ IsGap family MayBeLeftOut q t _ = ⊥
 abbrev pub NamesAt : Place → (Reason → Type 0) → ProgramFault → Type 0
 NamesAt p Is (Refused spot offset reason) = (spot ≡ spot_of p.0) × (offset ≡ saturated_offset p.1) × Is reason
 NamesAt p Is (OutOfMemory e) = Unit {0}
+
+-- the fault names the place, at which the family doesn't cover the state, and says why
+abbrev pub NamesGap : (Place → Option State) → Type 0 → Place → State → ProgramFault → Type 0
+NamesGap family MayBeLeftOut q t = NamesAt q (IsGap family MayBeLeftOut q t)
 
 -- the fault names such a place, and the reason
 abbrev pub Names : (Place → Reason → Type 0) → ProgramFault → Type 0
@@ -113,7 +117,7 @@ AreSound s family = (p : Place) (a : State) → family p ≡ Some a → IsSoundA
 
 -- one place comes before another, by the number of its context, and by its offset within one
 abbrev pub IsBefore : Contents → Place → Place → Type 0
-IsBefore contents p q = IsLess (key_of contents p) (key_of contents q)
+IsBefore contents p q = IsLess (point_key_of contents p) (point_key_of contents q)
 
 -- a state at a place before which all are sound is broken
 pub record IsFirstBreak (s : Setting) (contents : Contents) (q : Place) (r : Reason) : Type 0 where

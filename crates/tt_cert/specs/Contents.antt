@@ -36,6 +36,19 @@ HasContext contexts frames = number_of contexts frames < length contexts
 abbrev pub frames_at : List (List Frame) → ℕ → List Frame
 frames_at contexts number = slice_index_or contexts number []
 
+-- a context has the frames of this parent and one more
+abbrev pub HasChild : List (List Frame) → ℕ → Frame → Type 0
+HasChild contexts parent frame = HasContext contexts (frame ∷ frames_at contexts parent)
+
+-- the context of this number has the frames of this parent and one more
+abbrev pub IsChild : List (List Frame) → ℕ → Frame → ℕ → Type 0
+IsChild contexts parent frame number =
+    (number < length contexts) × (frames_at contexts number ≡ frame ∷ frames_at contexts parent)
+
+-- the state that is kept under a context's number and an offset
+abbrev pub state_at : Contents → ℕ → ℕ → Option State
+state_at contents context offset = states_of contents.states (context, offset)
+
 -- the state at a point, which is a context's frames and an offset
 abbrev pub family_of : Contents → List Frame × ℕ → Option State
 family_of contents point = states_of contents.states (number_of contents.contexts point.0, point.1)
@@ -65,3 +78,7 @@ pub record AddsContext (old new : List (List Frame)) (frames : List Frame) (numb
   pub there : number < length new
   pub at : slice_index_or new number [] ≡ frames
   pub how : ((number < length old) × (new ≡ old)) ⊎ ((HasContext old frames → ⊥) × (number ≡ length old) × (new ≡ old ++ frames ∷ []))
+
+-- the same for the context that has the frames of this parent and one more
+abbrev pub AddsChild : List (List Frame) → List (List Frame) → ℕ → Frame → ℕ → Type 0
+AddsChild old new parent frame number = AddsContext old new (frame ∷ frames_at old parent) number

@@ -1,5 +1,5 @@
 -- The walk through the points of a certificate.
-use Rattle.std.specs.Prelude.{◌≡◌, ℕ, ◌+◌, ◌<◌, ◌≤◌, ◌^◌, ◌⊎◌, Option, Some, None, IfSome, IsTrue, List, [], ◌∷◌, ◌++◌, length, reverse, slice_get}
+use Rattle.std.specs.Prelude.{◌≡◌, ◌↔◌, ℕ, ◌+◌, ◌<◌, ◌≤◌, ◌^◌, ◌⊎◌, Option, Some, None, IfSome, IsTrue, List, [], ◌∷◌, ◌++◌, length, reverse, slice_get}
 use Rattle.std.specs.List.{All}
 use Rattle.std.specs.List.Sorted.{IsStrictlySortedBy}
 use Rattle.std.specs.Map.{keys_of}
@@ -11,6 +11,8 @@ use Rattle.tt_abs.specs.declared.state.State.{State}
 use Rattle.tt_abs.specs.Families.{CoversAt}
 use Rattle.tt_abs.specs.Lines.{Precedes}
 use Rattle.tt_abs.specs.StateFlow.{Place, GivesState, RefusesState}
+use Rattle.tt_abs.specs.Settings.{frames_of}
+use Rattle.tt_abs.specs.declared.setting.Point.{Point}
 use Rattle.tt_abs.specs.Moves.{frames_behind, nexts_of, offset_behind, ways_of}
 use Rattle.tt_abs.specs.States.{abstract_of, start_of, state_order}
 use Rattle.tt_abs.specs.declared.moves.Move.{Move}
@@ -21,12 +23,12 @@ use Rattle.tt_cert.specs.Contents.{Contents, HasContext, family_of, frames_at}
 use Rattle.tt_cert.specs.GoodFamilies.{EndsWell, IsShortEnough}
 use Rattle.tt_cert.specs.Places.{IsLess, place_cmp, states_of}
 use Rattle.tt_cert.specs.Puts.{place_of}
-use Rattle.tt_cert.specs.Checks.{AreCovered, AreMet, BreaksAt, HasNextTurn, IsBrokenBy, IsFilledBy, IsFirstBreakOnTheWay, IsFirstGap, IsGap, IsSoundAt, Names, NamesAt, Nowhere, key_of, place_of_next}
+use Rattle.tt_cert.specs.Checks.{AreCovered, AreMet, BreaksAt, HasNextTurn, IsBrokenBy, IsFilledBy, IsFirstBreakOnTheWay, IsFirstGap, IsSoundAt, Names, NamesGap, Nowhere, point_key_of, place_of_next}
 use Rattle.tt_cert.specs.declared.fault.ProgramFault.{ProgramFault}
 use Rattle.tt_cert.specs.declared.listing.Listing.{Listing}
 use Rattle.tt_cert.specs.declared.listing.Listing.TheVariants.{Whole, Sparse}
 use Rattle.tt_cert.specs.declared.meeting.Coverage.{Coverage}
-use Rattle.tt_cert.specs.declared.meeting.Coverage.TheVariants as met
+use Rattle.tt_cert.specs.declared.meeting.Coverage.TheVariants as coverage
 use Rattle.tt_cert.specs.declared.cursor.Cursor.{Cursor}
 
 -- from which place to which a state may be left out: from none, or from each to the one just after it
@@ -78,21 +80,33 @@ pub record AreToCome (contents : Contents) (next : Option (ℕ × ℕ × Bor Sta
 -- How a state is met at a place to which it goes: by the state that comes next, which is the same one; by one that covers it; or by none,
 -- where none needs to be.
 abbrev pub IsMetBy : (Place → Option State) → Type 0 → Option (ℕ × ℕ × Bor State) → Place → State → Coverage → Type 0
-IsMetBy family MayBeLeftOut next q t met.Next = CoversAt state_order family q t × IsNextState next t
-IsMetBy family MayBeLeftOut next q t met.Listed = CoversAt state_order family q t
-IsMetBy family MayBeLeftOut next q t met.Added = (family q ≡ None) × MayBeLeftOut
+IsMetBy family MayBeLeftOut next q t coverage.Next = CoversAt state_order family q t × IsNextState next t
+IsMetBy family MayBeLeftOut next q t coverage.Listed = CoversAt state_order family q t
+IsMetBy family MayBeLeftOut next q t coverage.Added = (family q ≡ None) × MayBeLeftOut
 
 -- one answer for two: that a state is added comes before all, otherwise how the first is met
-abbrev pub met_both : Coverage → Coverage → Coverage
-met_both met.Added other = met.Added
-met_both met.Next met.Added = met.Added
-met_both met.Listed met.Added = met.Added
-met_both met.Next other = met.Next
-met_both met.Listed other = met.Listed
+abbrev pub coverage_of_both : Coverage → Coverage → Coverage
+coverage_of_both coverage.Added other = coverage.Added
+coverage_of_both coverage.Next coverage.Added = coverage.Added
+coverage_of_both coverage.Listed coverage.Added = coverage.Added
+coverage_of_both coverage.Next other = coverage.Next
+coverage_of_both coverage.Listed other = coverage.Listed
 
 -- the place is at this offset, if it is one, with these calls
 abbrev pub IsAfter : List Frame → Option ℕ → Place → Type 0
 IsAfter fs after q = (q.0 ≡ fs) × (after ≡ Some q.1)
+
+-- where an instruction ends, if only this one leads there as to the place just after it
+abbrev pub IsJustAfter : Setting → Place → Option ℕ → Type 0
+IsJustAfter s p after = (q : Place) → IsAfter p.0 after q ↔ Precedes s p q
+
+-- where an instruction ends, if a state may be left out there
+abbrev pub IsLeftOutAfter : Listing → Setting → Place → Option ℕ → Type 0
+IsLeftOutAfter listing s p after = (q : Place) → IsAfter p.0 after q ↔ MayLeaveOut listing s p q
+
+-- the place of a point, as the machine's calls and an offset
+abbrev pub place_of_point : Point → Place
+place_of_point p = (frames_of p, p.offset)
 
 -- the place is among those that come next, and the family has no state there
 pub record IsLeftOut (family : Place → Option State) (fs : List Frame) (after : Option ℕ) (nexts : List Next) : Type 0 where
@@ -104,9 +118,9 @@ pub record IsLeftOut (family : Place → Option State) (fs : List Frame) (after 
 
 -- how a state is met at all places that come next
 abbrev pub AreMetBy : (Place → Option State) → List Frame → Option ℕ → Option (ℕ × ℕ × Bor State) → List Next → State → Coverage → Type 0
-AreMetBy family fs after next nexts t met.Next = AreCovered family nexts t × IsNextState next t
-AreMetBy family fs after next nexts t met.Listed = AreCovered family nexts t
-AreMetBy family fs after next nexts t met.Added = AreMet family (IsAfter fs after) nexts t × IsLeftOut family fs after nexts
+AreMetBy family fs after next nexts t coverage.Next = AreCovered family nexts t × IsNextState next t
+AreMetBy family fs after next nexts t coverage.Listed = AreCovered family nexts t
+AreMetBy family fs after next nexts t coverage.Added = AreMet family (IsAfter fs after) nexts t × IsLeftOut family fs after nexts
 
 -- where the state that comes next is after this offset, the certificate has no state there
 abbrev pub IsUnlisted : Contents → Option (ℕ × ℕ × Bor State) → ℕ → ℕ → Type 0
@@ -130,7 +144,7 @@ pub record IsPassed (s : Setting) (family : Place → Option State) (MayBeLeftOu
 
 -- the family is filled up by the places before this context and offset, in the contexts of the certificate
 pub record IsWalkedTo (s : Setting) (listing : Listing) (contents : Contents) (filled : Place → Option State) (reached : ℕ × ℕ) : Type 0 where
-  pub filled_by : IsFilledBy s (MayLeaveOut listing s) (family_of contents) (λ p. IsLess (key_of contents p) reached) filled
+  pub filled_by : IsFilledBy s (MayLeaveOut listing s) (family_of contents) (λ p. IsLess (point_key_of contents p) reached) filled
   pub held : (p : Place) (a : State) → filled p ≡ Some a → HasContext contents.contexts p.0
 
 -- the states before this context and offset were read, at offsets of 32 bits, and the others are to come
@@ -147,7 +161,7 @@ pub record IsOnWay (s : Setting) (listing : Listing) (contents : Contents) (walk
   pub walked : IsWalkedTo s listing contents filled reached
   pub read : IsRead contents (to_come walk.next others) reached
   pub carries : (o : ℕ) → walk.carried ≡ Some o → (filled (place_of contents walk.context o) ≡ Some walk.made) × (family_of contents (place_of contents walk.context o) ≡ None) × (IsLess (walk.context, o) reached → ⊥)
-  pub carried_all : (p : Place) (a : State) → filled p ≡ Some a → family_of contents p ≡ None → (IsLess (key_of contents p) reached → ⊥)
+  pub carried_all : (p : Place) (a : State) → filled p ≡ Some a → family_of contents p ≡ None → (IsLess (point_key_of contents p) reached → ⊥)
       → (o : ℕ) × (walk.carried ≡ Some o) × (p ≡ place_of contents walk.context o)
 
 -- At a point: all before it are walked, and if anything were added after it, it would be refused.
@@ -156,7 +170,7 @@ pub record IsAtPoint (s : Setting) (listing : Listing) (contents : Contents) (wa
   pub walked : IsWalkedTo s listing contents filled (walk.context, offset)
   pub here : filled (place_of contents walk.context offset) ≡ Some walk.made
   pub read : IsRead contents (to_come walk.next others) (walk.context, offset + 1)
-  pub nothing_after : (p : Place) (a : State) → filled p ≡ Some a → family_of contents p ≡ None → (IsLess (key_of contents p) (walk.context, offset + 1) → ⊥)
+  pub nothing_after : (p : Place) (a : State) → filled p ≡ Some a → family_of contents p ≡ None → (IsLess (point_key_of contents p) (walk.context, offset + 1) → ⊥)
       → (b : State) → (r : Reason) × RefusesState s (place_of contents walk.context offset) b r
 
 -- after the last point: all are walked
@@ -206,7 +220,7 @@ IsMadeMet contents walk after q = IsMetBy (family_of contents) (IsAfter (calls_o
 
 -- the fault names the place, at which what was made isn't met
 abbrev pub NamesGapMade : Contents → Cursor → Option ℕ → Place → ProgramFault → Type 0
-NamesGapMade contents walk after q = NamesAt q (IsGap (family_of contents) (IsAfter (calls_of contents walk) after q) q walk.made)
+NamesGapMade contents walk after q = NamesGap (family_of contents) (IsAfter (calls_of contents walk) after q) q walk.made
 
 -- where one of the ways leads to the next turn of the innermost call, there is one
 abbrev pub MayTurn : List Frame → Moves → Type 0

@@ -1,6 +1,6 @@
 pub mod Places
-pub mod PlaceRows
-pub mod Tables
+pub mod SlotRows
+pub mod StateSlots
 pub mod Contexts
 pub mod Contents
 pub mod Numbers
@@ -15,4 +15,5 @@ pub mod Fillings
 pub mod Checks
 pub mod Landings
 pub mod Cursors
+pub mod CheckedSubjects
 pub mod Ends

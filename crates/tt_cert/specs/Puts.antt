@@ -27,6 +27,10 @@ Reweighs old new place = (w : State → ℕ) → total w new + weigh w (family_o
 abbrev pub place_of : Contents → ℕ → ℕ → List Frame × ℕ
 place_of contents context offset = (frames_at contents.contexts context, offset)
 
+-- the family's state at that point
+abbrev pub family_state : Contents → ℕ → ℕ → Option State
+family_state contents context offset = family_of contents (place_of contents context offset)
+
 pub number_at : (v : Contents) (c : ℕ) → IsFamily v → c < length v.contexts → number_of v.contexts (frames_at v.contexts c) ≡ c
 number_at v c family lt = number_of-is v.contexts (frames_at v.contexts c) c family.distinct lt refl
 

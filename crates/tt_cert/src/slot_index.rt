@@ -3,7 +3,7 @@
 ghost use Rattle.std.specs.Prelude.{◌≡◌, ℕ, ◌<◌, ◌≤◌, None, [], ◌∷◌, IfSome, OnOk, OnErr, length};
 ghost use Rattle.std.specs.BTreeMap.{insert_entry};
 ghost use Rattle.tt_cert.specs.Places.{place_cmp, states_of};
-ghost use Rattle.tt_cert.specs.PlaceRows.{AddsRows, AreEmptyFrom, ArePlaces, merged, row_of, rows_points, comes_first};
+ghost use Rattle.tt_cert.specs.SlotRows.{AddsRows, AreEmptyFrom, AreSlotRows, comes_first, points_in, row_of, rows_points};
 
 use crate::offset_list::OffsetList;
 use std::alloc::{AllocError, Global};
@@ -17,13 +17,14 @@ const KEPT_ROWS: usize = 64;
 /// What a stored state is found by: its context's number and its offset.
 pub type PointKey = (u32, u32);
 
-/// The slots of points by context and offset. Within a context the points mostly come by ascending offset: those are in a row, and the
-/// others in a tree.
+/// The slots of points by context and offset. Within a context the points mostly come by ascending
+/// offset: those are in a row, and the others in a tree.
 #[derive(Drop)]
 pub(crate) struct SlotIndex {
     /// For each context the points that came after all others of the context.
     rows: Vec<OffsetList>,
-    /// How many rows may hold points. The rows after those are empty, and are kept only for their memory.
+    /// How many rows may hold points. The rows after those are empty, and are kept only for their
+    /// memory.
     used: usize,
     /// The points that came before a greater offset of their context.
     rest: BTreeMap<PointKey, u32>,
@@ -33,13 +34,15 @@ pub(crate) struct SlotIndex {
 
 impl Model for SlotIndex {
     ghost use Rattle.std.specs.Prelude.{◌≡◌, List, ℕ, length};
-    ghost use Rattle.tt_cert.specs.PlaceRows.{AreEmptyFrom, ArePlaces, merged, rows_points};
+    ghost use Rattle.tt_cert.specs.SlotRows.{AreEmptyFrom, AreSlotRows, points_in};
 
     ghost Value = { List ((ℕ × ℕ) × ℕ) };
 
-    ghost view = { λ p. merged (rows_points 0 p.rows.items) p.rest.entries };
+    ghost view = { λ p. points_in p.rows.items p.rest.entries };
 
-    ghost invariant = { λ p. ArePlaces p.rows.items p.rest.entries × (p.count ≡ length (merged (rows_points 0 p.rows.items) p.rest.entries)) × AreEmptyFrom p.used p.rows.items };
+    ghost invariant = { λ p. AreSlotRows p.rows.items p.rest.entries
+        × (p.count ≡ length (points_in p.rows.items p.rest.entries))
+        × AreEmptyFrom p.used p.rows.items };
 }
 
 /// Adds empty rows until there is one for a context.
@@ -69,13 +72,16 @@ fn put(
     place: PointKey,
     slot: u32,
 ) -> Result<(), AllocError>
-    requires places { ArePlaces rows.old.items rest.old.entries }
+    requires places { AreSlotRows rows.old.items rest.old.entries }
     requires within { place.0 < length rows.old.items }
-    requires absent { states_of (merged (rows_points 0 rows.old.items) rest.old.entries) place ≡ None }
-    ensures places { ArePlaces rows.new.items rest.new.entries }
-    ensures ok { OnOk result (merged (rows_points 0 rows.new.items) rest.new.entries ≡ insert_entry place_cmp (merged (rows_points 0 rows.old.items) rest.old.entries) place slot) }
-    ensures err { OnErr result (merged (rows_points 0 rows.new.items) rest.new.entries ≡ merged (rows_points 0 rows.old.items) rest.old.entries) }
-    ensures behind { (used : ℕ) → place.0 < used → AreEmptyFrom used rows.old.items → AreEmptyFrom used rows.new.items }
+    requires absent { states_of (points_in rows.old.items rest.old.entries) place ≡ None }
+    ensures places { AreSlotRows rows.new.items rest.new.entries }
+    ensures ok { OnOk result (points_in rows.new.items rest.new.entries
+        ≡ insert_entry place_cmp (points_in rows.old.items rest.old.entries) place slot) }
+    ensures err { OnErr result
+        (points_in rows.new.items rest.new.entries ≡ points_in rows.old.items rest.old.entries) }
+    ensures behind { (used : ℕ) → place.0 < used
+        → AreEmptyFrom used rows.old.items → AreEmptyFrom used rows.new.items }
 {
     let row = &mut rows[place.0 as usize];
     if row.is_below(place.1) {
@@ -85,7 +91,8 @@ fn put(
     Ok(())
 }
 
-/// Empties the first `used` rows, after which all are empty, and keeps the memory of the first `KEPT_ROWS` rows.
+/// Empties the first `used` rows, after which all are empty, and keeps the memory of the first
+/// `KEPT_ROWS` rows.
 fn clear_rows(rows: &mut Vec<OffsetList>, used: usize)
     requires { AreEmptyFrom used rows.old.items }
     ensures empty { (c : ℕ) → row_of rows.new.items c ≡ [] }
@@ -133,13 +140,14 @@ impl SlotIndex {
         }
     }
 
-    /// Returns the points that are there, with their slots, by ascending context, and by ascending offset within one.
-    pub(crate) fn iter(&self) -> PlacesIter<'_>
+    /// Returns the points that are there, with their slots, by ascending context, and by ascending
+    /// offset within one.
+    pub(crate) fn iter(&self) -> SlotIndexIter<'_>
         ensures { result ≡ self.now }
     {
         let mut rows = OffsetListsIter::new(&self.rows[..self.used]);
         let mut rest = self.rest.iter();
-        PlacesIter {
+        SlotIndexIter {
             first: rows.take_first(),
             rows,
             other: next_in(&mut rest),
@@ -154,7 +162,8 @@ impl SlotIndex {
     pub(crate) fn insert(&mut self, context: u32, offset: u32, slot: u32) -> Result<(), AllocError>
         requires absent { states_of self.old (context, offset) ≡ None }
         requires few { length self.old < 4294967295 }
-        ensures ok { OnOk result (self.new ≡ insert_entry place_cmp self.old (context, offset) slot) }
+        ensures ok { OnOk result
+            (self.new ≡ insert_entry place_cmp self.old (context, offset) slot) }
         ensures err { OnErr result (self.new ≡ self.old) }
     {
         add_rows(&mut self.rows, context)?;
@@ -188,7 +197,7 @@ struct OffsetListsIter<'a> {
 
 impl<'a> Model for OffsetListsIter<'a> {
     ghost use Rattle.std.specs.Prelude.{List, ℕ, suc, ◌+◌, ◌++◌, ◌<◌, length};
-    ghost use Rattle.tt_cert.specs.PlaceRows.{row_points, rows_points};
+    ghost use Rattle.tt_cert.specs.SlotRows.{row_points, rows_points};
 
     ghost Value = { List ((ℕ × ℕ) × ℕ) };
 
@@ -259,7 +268,7 @@ fn is_first(other: Option<(PointKey, u32)>, first: Option<(PointKey, u32)>) -> b
 
 /// The points that are still to come, with their slots.
 #[derive(Drop)]
-pub(crate) struct PlacesIter<'a> {
+pub(crate) struct SlotIndexIter<'a> {
     /// The first point of the rows.
     first: Option<(PointKey, u32)>,
     /// The others of the rows.
@@ -270,9 +279,9 @@ pub(crate) struct PlacesIter<'a> {
     rest: Iter<'a, PointKey, u32>,
 }
 
-impl<'a> Model for PlacesIter<'a> {
+impl<'a> Model for SlotIndexIter<'a> {
     ghost use Rattle.std.specs.Prelude.{List, ℕ};
-    ghost use Rattle.tt_cert.specs.PlaceRows.{AreApart, merged, with_first};
+    ghost use Rattle.tt_cert.specs.SlotRows.{AreApart, merged, with_first};
 
     ghost Value = { List ((ℕ × ℕ) × ℕ) };
 
@@ -281,7 +290,7 @@ impl<'a> Model for PlacesIter<'a> {
     ghost invariant = { λ p. AreApart (with_first p.first p.rows) (with_first p.other p.rest) };
 }
 
-impl<'a> PlacesIter<'a> {
+impl<'a> SlotIndexIter<'a> {
     /// Takes the first of the points that are still to come.
     pub(crate) fn take_first(&mut self) -> Option<(PointKey, u32)>
         ensures none { result ≡ None → (self.old ≡ []) × (self.new ≡ []) }

@@ -475,7 +475,7 @@ pub record IsReadingCells (old now : Option (List ℕ)) (start : ℕ) (xs : List
   pub beginning : ConsumesBeginning old now
   pub failures_are : failures_now ≡ failures
 
-none_of : (xs : List Cell) (i : Input) → cells_at xs 0 i ≡ Ok (xs, i)
+pub none_of : (xs : List Cell) (i : Input) → cells_at xs 0 i ≡ Ok (xs, i)
 unfolding list_at
 none_of xs i = refl
 

@@ -146,7 +146,7 @@ list_takes {A = A} one spell P step (suc n) before i all j e fits lt =
     let r = list_takes one spell P step n (before ++ x ∷ []) k all j b.2 s.2 lt2 in
     (x ∷ r.0, r.1 ∙ append_assoc before (x ∷ []) r.0, ap suc r.2, Takes-then i (spell x) k (flat_map spell r.0) j s.0 r.3, (s.1, r.4), r.5)
 
-list_again : {A : Type 0} (one : List A → Input → Answer A) (spell : A → List ℕ) (P : List A → A → Type 0) → ((before : List A) → IsCodec (one before) spell (P before))
+pub list_again : {A : Type 0} (one : List A → Input → Answer A) (spell : A → List ℕ) (P : List A → A → Type 0) → ((before : List A) → IsCodec (one before) spell (P before))
     → (xs before : List A) (place : ℕ) (rest : List ℕ) → EachAfter P before xs → place < 2 ^ 64
     → list_at one before (length xs) (here place (flat_map spell xs ++ rest)) ≡ Ok (before ++ xs, here (place_after place (length (flat_map spell xs))) rest)
 unfolding list_at

@@ -58,7 +58,7 @@ cell_fits : (c : Cell) → CellInRange c → CellFits c
 cell_fits (Known k) h = h
 cell_fits Unknown h = tt
 
-each_cell : (before cells : List Cell) → StackInRange cells → EachAfter (λ _ c. CellFits c) before cells
+pub each_cell : (before cells : List Cell) → StackInRange cells → EachAfter (λ _ c. CellFits c) before cells
 each_cell before [] h = tt
 each_cell before (c ∷ cs) h = (cell_fits c (h 0), each_cell (before ++ c ∷ []) cs (λ k. h (suc k)))
 

@@ -17,3 +17,5 @@ pub mod Listed
 pub mod Pushed
 pub mod Fitting
 pub mod Ahead
+pub mod KeptTexts
+pub mod SharedCells

@@ -7,3 +7,5 @@ pub mod Readers
 pub mod Reading
 pub mod Answers
 pub mod Blocks
+pub mod KeptTexts
+pub mod SharedCells

@@ -9,6 +9,7 @@ mod laws;
 mod lists;
 mod name;
 mod reading;
+mod shared_cells;
 mod states;
 mod units;
 mod writing;

@@ -1,6 +1,6 @@
 //! Lists of a section, each read after the number of its values.
 
-ghost use Rattle.std.specs.Prelude.{◌≡◌, ◌-◌, ◌*◌, ◌<◌, ◌≤◌, [], true, length, take, IfErr, IfOk, OnErr, OnOk};
+ghost use Rattle.std.specs.Prelude.{◌≡◌, ◌-◌, ◌*◌, ◌<◌, ◌≤◌, [], false, true, length, take, IfErr, IfOk, OnErr, OnOk};
 ghost use Rattle.std.specs.Io.KnownBytes.{Keeps};
 ghost use Rattle.tt_abs.specs.Entries.{Rises};
 ghost use Rattle.tt_stream.specs.Reads.{ConsumesBeginning, ConsumesFewer};
@@ -8,7 +8,7 @@ ghost use Rattle.tt_stream.specs.Streams.{CountsFailure};
 ghost use Rattle.tt_cert_file.specs.Answers.{CountsRead, Gives, IsReadFault, IsOutOfMemory, StopsAtEnd, input_at};
 ghost use Rattle.tt_cert_file.specs.Blocks.{AreKept, FillsOn, FillsRest, ReadsBlock, ReadsCells, ReadsMoreCells, ReadsRest, Takes, TakesCells, TakesSomeCells, cells_at};
 ghost use Rattle.tt_cert_file.specs.Readers.{list_at};
-ghost use Rattle.tt_cert_file.specs.Reading.{cell_at, function_at, functions_at, stack_at, storage_at, stored_at};
+ghost use Rattle.tt_cert_file.specs.Reading.{cell_at, function_at, functions_at, storage_at, stored_at};
 ghost use Rattle.tt_cert_file.specs.Rules.{is_above, last_of};
 
 use crate::fault::DecodeFault;
@@ -235,10 +235,10 @@ fn read_cell_block<S: Source>(
 }
 
 /// Reads this many cells, in the memory of others.
-fn read_cells<S: Source>(
+pub(crate) fn read_cells<S: Source>(
     source: &mut S,
     place: u64,
-    count: u16,
+    count: usize,
     others: Vec<Cell>,
 ) -> Result<(Vec<Cell>, u64), DecodeFault>
     ensures reads { Gives (λ v. v.items) (S.remaining source.old) (S.remaining source.new) result (list_at (λ _. cell_at) [] count (input_at place (S.remaining source.old))) }
@@ -250,27 +250,10 @@ fn read_cells<S: Source>(
     let mut cells = others;
     cells.clear();
     let mut at = place;
-    'blocks: while cells.len() < usize::from(count) {
-        at = read_cell_block(source, at, usize::from(count), &mut cells)?;
+    'blocks: while cells.len() < count {
+        at = read_cell_block(source, at, count, &mut cells)?;
     }
     Ok((cells, at))
-}
-
-/// Reads a stack's cells, from the bottom up, in the memory of others.
-#[tactic(auto, unfolding(crate::specs::Reading::stack_at))]
-pub(crate) fn read_stack<S: Source>(
-    source: &mut S,
-    place: u64,
-    others: Vec<Cell>,
-) -> Result<(Vec<Cell>, u64), DecodeFault>
-    ensures reads { Gives (λ v. v.items) (S.remaining source.old) (S.remaining source.new) result (stack_at (input_at place (S.remaining source.old))) }
-    ensures few { IfOk result (λ r. length r.0.items ≤ 65535) }
-    ensures beginning { ConsumesBeginning (S.remaining source.old) (S.remaining source.new) }
-    ensures stopped { IfErr result (StopsAtEnd place (S.remaining source.old) (S.remaining source.new) stack_at) }
-    ensures failures { CountsRead result (S.failures source.old) (S.failures source.new) }
-{
-    let (count, at) = read_word(source, place)?;
-    read_cells(source, at, count, others)
 }
 
 /// Whether the function may come after these.
@@ -410,15 +393,20 @@ fn read_function_list<S: Source>(
 pub(crate) struct Functions {
     pub(crate) list: Vec<(u16, u32)>,
     pub(crate) text: Vec<u8>,
+    /// Whether they were found to be the same as those before them.
+    pub(crate) is_same: bool,
 }
 
 impl Functions {
+    /// Makes the list without functions.
     pub(crate) fn new(alloc: Global) -> Self
-        ensures { AreKept result.text.items result.list.items }
+        ensures kept { AreKept result.text.items result.list.items }
+        ensures none { result.list.items ≡ [] }
     {
         Functions {
             list: Vec::new(alloc),
             text: Vec::new(alloc),
+            is_same: false,
         }
     }
 }
@@ -448,11 +436,16 @@ fn take_listed<S: Source>(
     requires { 6 * count ≤ length (S.read_ahead source.old) }
     ensures reads { Gives (λ f. f.list.items) (S.remaining source.old) (S.remaining source.new) result (list_at function_at [] count (input_at place (S.remaining source.old))) }
     ensures kept { IfOk result (λ r. AreKept r.0.text.items r.0.list.items) }
+    ensures fresh { IfOk result (λ r. r.0.is_same ≡ false) }
     ensures beginning { ConsumesBeginning (S.remaining source.old) (S.remaining source.new) }
     ensures stopped { IfErr result (StopsAtEnd place (S.remaining source.old) (S.remaining source.new) (list_at function_at [] count)) }
     ensures failures { CountsRead result (S.failures source.old) (S.failures source.new) }
 {
-    let Functions { mut list, mut text } = others;
+    let Functions {
+        mut list,
+        mut text,
+        ..
+    } = others;
     list.clear();
     text.clear();
     let width = FUNCTION * usize::from(count);
@@ -460,7 +453,12 @@ fn take_listed<S: Source>(
     let _over = take_functions(&mut list, place, bytes)?;
     text.extend_from_slice(bytes)?;
     source.skip(width);
-    Ok((Functions { list, text }, place.saturating_add(width as u64)))
+    let functions = Functions {
+        list,
+        text,
+        is_same: false,
+    };
+    Ok((functions, place.saturating_add(width as u64)))
 }
 
 /// Reads this many functions, which are mostly the same as the others, and otherwise in their memory.
@@ -473,6 +471,8 @@ fn read_listed<S: Source>(
     requires { AreKept others.text.items others.list.items }
     ensures reads { Gives (λ f. f.list.items) (S.remaining source.old) (S.remaining source.new) result (list_at function_at [] count (input_at place (S.remaining source.old))) }
     ensures kept { IfOk result (λ r. AreKept r.0.text.items r.0.list.items) }
+    ensures same { IfOk result
+        (λ r. r.0.is_same ≡ true → r.0.list.items ≡ others.list.items) }
     ensures beginning { ConsumesBeginning (S.remaining source.old) (S.remaining source.new) }
     ensures stopped { IfErr result (StopsAtEnd place (S.remaining source.old) (S.remaining source.new) (list_at function_at [] count)) }
     ensures failures { CountsRead result (S.failures source.old) (S.failures source.new) }
@@ -480,15 +480,24 @@ fn read_listed<S: Source>(
     let width = FUNCTION * usize::from(count);
     if is_ahead(source, &others.text, width) {
         source.skip(width);
-        return Ok((others, place.saturating_add(width as u64)));
+        let functions = Functions {
+            is_same: true,
+            ..others
+        };
+        return Ok((functions, place.saturating_add(width as u64)));
     }
     if width <= source.ahead().len() {
         return take_listed(source, place, count, others);
     }
-    let Functions { list, mut text } = others;
+    let Functions { list, mut text, .. } = others;
     text.clear();
     let (list, after) = read_function_list(source, place, count, list)?;
-    Ok((Functions { list, text }, after))
+    let functions = Functions {
+        list,
+        text,
+        is_same: false,
+    };
+    Ok((functions, after))
 }
 
 /// Reads the functions that are known, with their bodies, which are mostly the same as the others, and otherwise in their memory.
@@ -501,6 +510,8 @@ pub(crate) fn read_functions<S: Source>(
     requires { AreKept others.text.items others.list.items }
     ensures reads { Gives (λ f. f.list.items) (S.remaining source.old) (S.remaining source.new) result (functions_at (input_at place (S.remaining source.old))) }
     ensures kept { IfOk result (λ r. AreKept r.0.text.items r.0.list.items) }
+    ensures same { IfOk result
+        (λ r. r.0.is_same ≡ true → r.0.list.items ≡ others.list.items) }
     ensures beginning { ConsumesBeginning (S.remaining source.old) (S.remaining source.new) }
     ensures stopped { IfErr result (StopsAtEnd place (S.remaining source.old) (S.remaining source.new) functions_at) }
     ensures failures { CountsRead result (S.failures source.old) (S.failures source.new) }

@@ -5,14 +5,15 @@ ghost use Rattle.tt_abs.specs.Entries.{Rises};
 ghost use Rattle.tt_abs.specs.States.{state_order};
 ghost use Rattle.tt_stream.specs.Reads.{ConsumesBeginning};
 ghost use Rattle.tt_cert_file.specs.Answers.{CountsRead, Gives, IsOutOfMemory, StopsAtEnd, input_at};
-ghost use Rattle.tt_cert_file.specs.Blocks.{AreKept};
 ghost use Rattle.tt_cert_file.specs.Readers.{list_at};
-ghost use Rattle.tt_cert_file.specs.Reading.{entry_after, entry_at, place_at, state_at, state_from, states_at};
+ghost use Rattle.tt_cert_file.specs.Reading.{entry_after, entry_at, place_at, state_at, states_at};
 ghost use Rattle.tt_cert_file.specs.Rules.{is_next_place as is_next_place_after, last_place};
+ghost use Rattle.tt_cert_file.specs.SharedCells.{IsLast};
 
 use crate::fault::DecodeFault;
 use crate::form::Form;
-use crate::lists::{Functions, read_functions, read_stack, read_storage};
+use crate::lists::{Functions, read_functions, read_storage};
+use crate::shared_cells::{StackText, read_stack};
 use crate::units::{read_graphics, read_long, read_pair};
 use std::alloc::{AllocError, Global};
 use tt_abs::{Cell, State, ZoneCell};
@@ -48,76 +49,106 @@ fn store_cells(state: &mut State, cells: &[(u16, i32)]) -> Result<(), AllocError
     Ok(())
 }
 
-/// Makes the state that has these parts: the stack from the bottom up, and lists by ascending numbers.
-#[tactic(auto, using(crate::proofs::Building::on_none))]
-fn state_of(
-    alloc: Global,
-    stack: &[Cell],
-    graphics: &Graphics<Cell, ZoneCell>,
-    functions: &[(u16, u32)],
-    storage: &[(u16, i32)],
-) -> Result<State, AllocError>
-    requires few { length stack.now ≤ 65535 }
-    requires functions { Rises functions.now }
-    requires storage { Rises storage.now }
-    ensures value { IfOk result (λ state. state ≡ state_from (stack.now, (graphics.now, (functions.now, storage.now)))) }
-    ensures in_range { IfOk result (λ state. state_order.InRange state) }
+/// Makes exactly these functions known, unless they are known already.
+fn set_functions(state: &mut State, functions: &Functions) -> Result<(), AllocError>
+    requires rises { Rises functions.list.items }
+    requires same { functions.is_same ≡ true → state.old.functions ≡ functions.list.items }
+    ensures set { OnOk result
+        (state.new ≡ record state.old { functions = functions.list.items }) }
+    ensures in_range { OnOk result (state_order.InRange state.old → state_order.InRange state.new) }
 {
-    let mut state = State::start(alloc, functions)?;
-    state.push_cells(stack)?;
-    set_graphics(&mut state, graphics);
-    store_cells(&mut state, storage)?;
-    Ok(state)
+    if functions.is_same {
+        return Ok(());
+    }
+    state.set_functions(&functions.list)
 }
 
-/// The lists of a state that was read, in whose memory those of the next one are read.
+/// Makes known what is read of a state besides its stack: lists by ascending numbers.
+fn set_rest(
+    state: &mut State,
+    graphics: &Graphics<Cell, ZoneCell>,
+    functions: &Functions,
+    storage: &[(u16, i32)],
+) -> Result<(), AllocError>
+    requires rises { Rises functions.list.items }
+    requires same { functions.is_same ≡ true → state.old.functions ≡ functions.list.items }
+    requires storage { Rises storage.now }
+    ensures set { OnOk result (state.new ≡ record {
+      stack = state.old.stack;
+      graphics = graphics.now;
+      functions = functions.list.items;
+      storage = storage.now;
+    }) }
+    ensures in_range { OnOk result (state_order.InRange state.old → state_order.InRange state.new) }
+{
+    set_graphics(state, graphics);
+    set_functions(state, functions)?;
+    state.forget_storage();
+    store_cells(state, storage)
+}
+
+/// The state that was read last, in whose memory the next one is made, and the lists of which it was made, in whose memory those of the next
+/// one are read.
 #[derive(Drop)]
-struct Lists {
-    stack: Vec<Cell>,
+struct LastState {
+    state: State,
+    stack: StackText,
     functions: Functions,
     storage: Vec<(u16, i32)>,
 }
 
-impl Lists {
-    fn new(alloc: Global) -> Self
-        ensures { AreKept result.functions.text.items result.functions.list.items }
+impl LastState {
+    /// Makes the state before the first one.
+    ///
+    /// # Errors
+    /// If memory runs out.
+    fn new(alloc: Global) -> Result<Self, AllocError>
+        ensures { IfOk result (λ last. IsLast last) }
     {
-        Lists {
-            stack: Vec::new(alloc),
+        Ok(LastState {
+            state: State::start(alloc, &[])?,
+            stack: StackText::new(alloc),
             functions: Functions::new(alloc),
             storage: Vec::new(alloc),
-        }
+        })
     }
 }
 
 /// Reads a state, without its place.
 #[tactic(auto, unfolding(crate::specs::Reading::state_at))]
 fn read_state<S: Source>(
-    alloc: Global,
     source: &mut S,
     place: u64,
     form: Form,
-    others: Lists,
-) -> Result<((State, Lists), u64), DecodeFault>
-    requires { AreKept others.functions.text.items others.functions.list.items }
-    ensures reads { Gives (λ x. x.0) (S.remaining source.old) (S.remaining source.new) result (state_at form (input_at place (S.remaining source.old))) }
-    ensures in_range { IfOk result (λ r. state_order.InRange r.0.0) }
-    ensures kept { IfOk result (λ r. AreKept r.0.1.functions.text.items r.0.1.functions.list.items) }
+    last: LastState,
+) -> Result<(LastState, u64), DecodeFault>
+    requires { IsLast last }
+    ensures reads { Gives (λ x. x.state) (S.remaining source.old) (S.remaining source.new)
+        result (state_at form (input_at place (S.remaining source.old))) }
+    ensures kept { IfOk result (λ r. IsLast r.0) }
     ensures beginning { ConsumesBeginning (S.remaining source.old) (S.remaining source.new) }
-    ensures stopped { IfErr result (StopsAtEnd place (S.remaining source.old) (S.remaining source.new) (state_at form)) }
+    ensures stopped { IfErr result
+        (StopsAtEnd place (S.remaining source.old) (S.remaining source.new) (state_at form)) }
     ensures failures { CountsRead result (S.failures source.old) (S.failures source.new) }
 {
-    let (stack, at) = read_stack(source, place, others.stack)?;
+    let LastState {
+        mut state,
+        stack,
+        functions,
+        storage,
+    } = last;
+    let (stack, at) = read_stack(source, place, &mut state, stack)?;
     let (graphics, at) = read_graphics(source, at)?;
-    let (functions, at) = read_functions(source, at, others.functions)?;
-    let (storage, at) = read_storage(source, at, form, others.storage)?;
-    let state = state_of(alloc, &stack, &graphics, &functions.list, &storage)?;
-    let lists = Lists {
+    let (functions, at) = read_functions(source, at, functions)?;
+    let (storage, at) = read_storage(source, at, form, storage)?;
+    set_rest(&mut state, &graphics, &functions, &storage)?;
+    let last = LastState {
+        state,
         stack,
         functions,
         storage,
     };
-    Ok(((state, lists), at))
+    Ok((last, at))
 }
 
 /// Whether a state may be at this place, in one of this many contexts, after the last one's.
@@ -156,26 +187,25 @@ fn read_place<S: Source>(
 
 /// Reads a state with its context and offset, after the last one's.
 fn read_entry<S: Source>(
-    alloc: Global,
     source: &mut S,
     place: u64,
     form: Form,
     contexts: u32,
     last: Option<(u32, u32)>,
-    others: Lists,
-) -> Result<(((u32, u32), State, Lists), u64), DecodeFault>
-    requires { AreKept others.functions.text.items others.functions.list.items }
-    ensures reads { Gives (λ x. (x.0, x.1)) (S.remaining source.old) (S.remaining source.new) result (entry_after form contexts last (input_at place (S.remaining source.old))) }
+    last_state: LastState,
+) -> Result<(((u32, u32), LastState), u64), DecodeFault>
+    requires { IsLast last_state }
+    ensures reads { Gives (λ x. (x.0, x.1.state)) (S.remaining source.old) (S.remaining source.new)
+        result (entry_after form contexts last (input_at place (S.remaining source.old))) }
     ensures follows { IfOk result (λ r. is_next_place_after contexts last r.0.0 ≡ true) }
-    ensures in_range { IfOk result (λ r. state_order.InRange r.0.1) }
-    ensures kept { IfOk result (λ r. AreKept r.0.2.functions.text.items r.0.2.functions.list.items) }
+    ensures kept { IfOk result (λ r. IsLast r.0.1) }
     ensures beginning { ConsumesBeginning (S.remaining source.old) (S.remaining source.new) }
     ensures stopped { IfErr result (StopsAtEnd place (S.remaining source.old) (S.remaining source.new) (entry_after form contexts last)) }
     ensures failures { CountsRead result (S.failures source.old) (S.failures source.new) }
 {
     let (point, at) = read_place(source, place, contexts, last)?;
-    let ((state, lists), at) = read_state(alloc, source, at, form, others)?;
-    Ok(((point, state, lists), at))
+    let (state, at) = read_state(source, at, form, last_state)?;
+    Ok(((point, state), at))
 }
 
 /// Puts a state at a point of the builder that comes after all that have states.
@@ -185,10 +215,10 @@ fn add_state(builder: &mut Builder, point: (u32, u32), state: &State) -> Result<
     ensures added { OnOk result (builder.new.states ≡ builder.old.states ++ (point, state.now) ∷ []) }
     ensures contexts { builder.new.contexts ≡ builder.old.contexts }
 {
-    builder.is_family();
-    builder.states_rise();
+    builder.family_facts();
+    builder.order_facts();
     let joined = builder.join_state(point.0, point.1, state);
-    builder.states_rise();
+    builder.order_facts();
     match joined {
         Ok(_) => Ok(()),
         Err(fault) => match fault {
@@ -218,14 +248,12 @@ fn read_state_list<S: Source>(
     let mut builder = builder;
     let contexts = builder.contexts();
     let mut last = None;
-    let mut lists = Lists::new(alloc);
+    let mut last_state = LastState::new(alloc)?;
     let mut at = place;
     'states: for _ in 0..count {
-        let ((point, state, read), after) = read_entry(
-            alloc, source, at, form, contexts, last, lists,
-        )?;
-        lists = read;
-        add_state(&mut builder, point, &state)?;
+        let ((point, read), after) = read_entry(source, at, form, contexts, last, last_state)?;
+        last_state = read;
+        add_state(&mut builder, point, &last_state.state)?;
         last = Some(point);
         at = after;
     }

@@ -1,16 +1,18 @@
 //! Sections written to a sink, in form 4.
 
-ghost use Rattle.std.specs.Prelude.{◌≡◌, ◌++◌, ◌<◌, ◌^◌, FitsSigned, length, reverse, true, IfOk, IfSome, IsSomeAnd, OnErr, OnOk};
+ghost use Rattle.std.specs.Prelude.{◌≡◌, ◌++◌, ◌<◌, ◌^◌, [], ◌∷◌, List, FitsSigned, length, reverse, take, true, IfOk, IfSome, IsSomeAnd, OnErr, OnOk};
 ghost use Rattle.std.specs.Int.{w32};
 ghost use Rattle.std.specs.Io.KnownBytes.{Appends};
 ghost use Rattle.std.specs.List.{AllByRecursion, flat_map};
 ghost use Rattle.std.specs.List.Sorted.{IsStrictlySortedBy};
 ghost use Rattle.std.specs.Map.{keys_of};
 ghost use Rattle.tt_abs.specs.States.{state_order};
+ghost use Rattle.tt_abs.specs.declared.cells.Cell.{Cell};
 ghost use Rattle.tt_cert.specs.Places.{place_cmp};
 ghost use Rattle.tt_cert.specs.Rising.{IsFinished};
 ghost use Rattle.tt_stream.specs.Streams.{AppendsBeginning};
 ghost use Rattle.tt_cert_file.specs.Answers.{CountsWrite};
+ghost use Rattle.tt_cert_file.specs.KeptTexts.{IsStackText};
 ghost use Rattle.tt_cert_file.specs.Rules.{AreCallsInTurn, CallFits, Fits, HasRoom, IsTextOf, NameFits, StateFits};
 ghost use Rattle.tt_cert_file.specs.Sections.{contexts_in, section_of};
 ghost use Rattle.tt_cert_file.specs.Text.{cell_text, context_text, counted, graphics_text, long, name_text, pair_text, section_text, state_text, stored_text, word, zone_text};
@@ -27,6 +29,18 @@ use tt_stream::{Sink, write_all};
 
 /// How many bytes of a section there is room for from the start: most sections have fewer.
 const ROOM: usize = 16_384;
+
+/// How many cells fewer are tried first, where not all of the lowest cells are the same in two states.
+const FEWER: usize = 8;
+
+/// The texts of a state's lists, kept for the next state.
+#[derive(Drop)]
+struct KeptTexts {
+    /// The functions after their number.
+    functions: Vec<u8>,
+    /// The cells of the stack.
+    stack: StackText,
+}
 
 /// Returns the kind of a program, and its glyph.
 fn push_name(out: &mut Vec<u8>, name: Name) -> Result<(), AllocError>
@@ -65,7 +79,7 @@ fn push_pair(out: &mut Vec<u8>, pair: (u16, u32)) -> Result<(), AllocError>
     out.extend_from_slice(&[w1, w0, l3, l2, l1, l0])
 }
 
-fn push_cell(out: &mut Vec<u8>, cell: Cell) -> Result<(), AllocError>
+pub(crate) fn push_cell(out: &mut Vec<u8>, cell: Cell) -> Result<(), AllocError>
     ensures { OnOk result (out.new.items ≡ out.old.items ++ cell_text cell) }
 {
     match cell {
@@ -103,17 +117,113 @@ fn push_count(out: &mut Vec<u8>, count: usize) -> Result<(), AllocError>
     push_word(out, count)
 }
 
-/// Appends the stack's cells after their number, from the bottom up.
-fn push_stack(out: &mut Vec<u8>, state: &State) -> Result<(), AllocError>
+/// The text of a stack's cells, from the bottom up, kept for the next state, whose lowest cells are mostly the same.
+#[derive(Drop)]
+struct StackText {
+    /// The texts of the cells, one after the other.
+    cells: Vec<u8>,
+    /// Where the text of each of them begins.
+    starts: Vec<usize>,
+}
+
+impl StackText {
+    /// Makes the text of no cell.
+    fn new(alloc: Global) -> StackText {
+        StackText {
+            cells: Vec::new(alloc),
+            starts: Vec::new(alloc),
+        }
+    }
+
+    /// Becomes the text of no cell.
+    fn clear(&mut self)
+        ensures { IsStackText self.new [] }
+    {
+        self.cells.clear();
+        self.starts.clear();
+    }
+
+    /// Becomes the text of so many of the lowest cells, or stays that of all if there are fewer.
+    fn cut(&mut self, count: usize)
+        ensures { (cells : List Cell) → IsStackText self.old cells
+            → IsStackText self.new (take count cells) }
+    {
+        if count < self.starts.len() {
+            self.cells.truncate(self.starts[count]);
+            self.starts.truncate(count);
+        }
+    }
+
+    /// Appends the text of one more cell.
+    fn push(&mut self, cell: Cell) -> Result<(), AllocError>
+        ensures { OnOk result ((cells : List Cell) → IsStackText self.old cells
+            → IsStackText self.new (cells ++ cell ∷ [])) }
+    {
+        self.starts.push(self.cells.len())?;
+        push_cell(&mut self.cells, cell)
+    }
+
+    /// Keeps the text of the lowest cells that are found to be the same in the state before and in this one, and returns how many they are.
+    fn keep_shared(&mut self, before: Option<&State>, state: &State) -> usize
+        requires text { IfSome before (λ s. IsStackText self.old (reverse s.now.stack)) }
+        requires few { length state.now.stack < 2 ^ 16 }
+        ensures { IsStackText self.new (take result (reverse state.now.stack)) }
+    {
+        let Some(before) = before else {
+            self.clear();
+            return 0;
+        };
+        let shared = shared_depth(before, state);
+        self.cut(shared);
+        shared
+    }
+
+    /// Appends the text of a stack's cells after so many of the lowest ones, whose text is there.
+    fn push_others(&mut self, state: &State, shared: usize) -> Result<(), AllocError>
+        requires { IsStackText self.old (take shared (reverse state.now.stack)) }
+        ensures { OnOk result (IsStackText self.new (reverse state.now.stack)) }
+    {
+        for place in shared..state.depth() {
+            let cell = state.cell(place).unwrap();
+            self.push(cell)?;
+        }
+        Ok(())
+    }
+}
+
+/// Returns how many of the lowest cells are found to be the same in both states. All are tried first, then some fewer, and each time twice as many
+/// fewer and some more.
+fn shared_depth(before: &State, state: &State) -> usize
+    requires { length state.now.stack < 2 ^ 16 }
+    ensures { take result (reverse before.now.stack) ≡ take result (reverse state.now.stack) }
+{
+    let depth = before.depth().min(state.depth());
+    let mut fewer = 0;
+    while fewer < depth {
+        if before.shares_bottom(state, depth - fewer) {
+            return depth - fewer;
+        }
+        fewer = 2 * fewer + FEWER;
+    }
+    0
+}
+
+/// Appends the stack's cells after their number, from the bottom up. Only the text of those is made anew that aren't found to be as in the state before.
+fn push_stack(
+    out: &mut Vec<u8>,
+    before: Option<&State>,
+    state: &State,
+    text: &mut StackText,
+) -> Result<(), AllocError>
+    requires { IfSome before (λ s. IsStackText text.old (reverse s.now.stack)) }
     ensures written { OnOk result (out.new.items ≡ out.old.items ++ counted cell_text (reverse state.now.stack)) }
     ensures few { OnOk result (length state.now.stack < 2 ^ 16) }
+    ensures kept { OnOk result (IsStackText text.new (reverse state.now.stack)) }
 {
     push_count(out, state.depth())?;
-    let mut cells = state.stack_cells();
-    while let Some(cell) = cells.take_first() {
-        push_cell(out, cell)?;
-    }
-    Ok(())
+    let shared = text.keep_shared(before, state);
+    text.push_others(state, shared)?;
+    out.extend_from_slice(text.cells.as_slice())
 }
 
 /// Appends what is known of the graphics state.
@@ -195,24 +305,26 @@ fn push_known(
     out.extend_from_slice(text.as_slice())
 }
 
-/// Appends a state with its context and offset, after another one, whose functions' text is there.
+/// Appends a state with its context and offset, after another one, whose lists' texts are there.
 fn push_state(
     out: &mut Vec<u8>,
     point: (u16, u32),
     before: Option<&State>,
     state: &State,
-    text: &mut Vec<u8>,
+    texts: &mut KeptTexts,
 ) -> Result<(), AllocError>
-    requires { IfSome before (λ s. IsTextOf text.old.items s.now.functions) }
-    ensures kept { OnOk result (IsTextOf text.new.items state.now.functions) }
+    requires functions { IfSome before (λ s. IsTextOf texts.old.functions.items s.now.functions) }
+    requires stack { IfSome before (λ s. IsStackText texts.old.stack (reverse s.now.stack)) }
+    ensures functions { OnOk result (IsTextOf texts.new.functions.items state.now.functions) }
+    ensures stack { OnOk result (IsStackText texts.new.stack (reverse state.now.stack)) }
     ensures written { OnOk result (out.new.items ≡ out.old.items ++ state_text Form.Four (point, state.now)) }
     ensures offset { OnOk result (point.1 < 2 ^ 32) }
     ensures fits { OnOk result (state_order.InRange state.now → StateFits Form.Four state.now) }
 {
     push_pair(out, point)?;
-    push_stack(out, state)?;
+    push_stack(out, before, state, &mut texts.stack)?;
     push_graphics(out, state)?;
-    push_known(out, before, state, text)?;
+    push_known(out, before, state, &mut texts.functions)?;
     push_storage(out, state.stored())
 }
 
@@ -252,9 +364,13 @@ fn push_states(out: &mut Vec<u8>, certificate: &Certificate) -> Result<(), Alloc
     push_long(out, certificate.points())?;
     let mut states = certificate.states();
     let mut before = None;
-    let mut text = Vec::new(*out.allocator());
+    let alloc = *out.allocator();
+    let mut texts = KeptTexts {
+        functions: Vec::new(alloc),
+        stack: StackText::new(alloc),
+    };
     while let Some((context, offset, state)) = states.take_first() {
-        push_state(out, (context as u16, offset), before, state, &mut text)?;
+        push_state(out, (context as u16, offset), before, state, &mut texts)?;
         before = Some(state);
     }
     Ok(())

@@ -12,8 +12,8 @@ use Rattle.tt_code.specs.declared.machine.Body.TheVariants as body
 use Rattle.tt_code.specs.Cut.{Instruction, IsInstruction, size}
 use Rattle.tt_code.specs.Structure.{keyword}
 use Rattle.tt_code.specs.Grammar.{IsList, none, definition, begins_definition, Ends, GoesTo, StandsAt, InDefinition, IsBodyAt, IsStructured}
-use Rattle.tt_code.specs.Pass.{within, step, steps, body_of, place, closed, Head, Opened, Leaves}
-use Rattle.tt_code.specs.Slots.{body_found, Opens, IsOpenAt, IsTable}
+use Rattle.tt_code.specs.Representation.Pass.{within, step, steps, body_of, place, closed, Head, Opened, Leaves}
+use Rattle.tt_code.specs.Representation.Slots.{body_found, Opens, IsOpenAt, IsTable}
 use Rattle.tt_code.proofs.CutLemmas.{size-append, size_more, some_bytes}
 use Rattle.tt_code.proofs.NestingLemmas.{defined_by, whole_steps, steps-append, steps_list, within_main, within-false, Leaves-start, Leaves-step}
 use Rattle.tt_code.proofs.SlotLemmas.{each_split, GoesTo-append, Linked, Table-start, Table-step}
@@ -28,11 +28,11 @@ abbrev pub In : Open → List Open → Type 0
 In o [] = ⊥
 In o (x ∷ s) = (x ≡ o) ⊎ In o s
 
-abbrev pub word_for : Open → BlockKeyword
-word_for (InIf k) = If
-word_for (InElse k) = Else
-word_for (InFunction k) = Fdef
-word_for (InInstruction k) = Idef
+abbrev pub keyword_for : Open → BlockKeyword
+keyword_for (InIf k) = If
+keyword_for (InElse k) = Else
+keyword_for (InFunction k) = Fdef
+keyword_for (InInstruction k) = Idef
 
 in_place : (o : Open) (s : List Open) → In o s → IsOpenAt (place o) s
 in_place o [] h = h
@@ -46,7 +46,7 @@ at_place k (x ∷ s) (inr h) = let r = at_place k s h in (r.0, inr r.1, r.2)
 
 -- The instruction that opened o is where o says.
 abbrev pub Opener : Open → List Instruction → Type 0
-Opener o p = (a : List Instruction) × (d : Instruction) × (b : List Instruction) × (p ≡ a ++ (d ∷ b)) × (size a ≡ place o) × (keyword d ≡ word_for o)
+Opener o p = (a : List Instruction) × (d : Instruction) × (b : List Instruction) × (p ≡ a ++ (d ∷ b)) × (size a ≡ place o) × (keyword d ≡ keyword_for o)
 
 head_opener : (o : Open) (inside : Bool) (outer head inner p : List Instruction) → Head o inside (size outer) head → p ≡ outer ++ (head ++ inner) → Opener o p
 head_opener (InIf k) inside outer head inner p (i, hi, hk, eh) e = (outer, i, inner, e ∙ ap (λ x. outer ++ (x ++ inner)) eh, sym hk, hi)
@@ -77,18 +77,18 @@ not_definition w (inl h) (inr e) = cc
 not_definition w (inr h) (inl e) = cc
 not_definition w (inr h) (inr e) = cc
 
-not_main : (o : Open) → Defines (word_for o) → body_of (o ∷ []) ≡ body.Main → ⊥
+not_main : (o : Open) → Defines (keyword_for o) → body_of (o ∷ []) ≡ body.Main → ⊥
 not_main (InIf k) d e = not_definition If d (inl refl)
 not_main (InElse k) d e = not_definition Else d (inr refl)
 not_main (InFunction k) d e = cc
 not_main (InInstruction k) d e = cc
 
 -- The definition that is open gives the body.
-in_body : (o : Open) (s : List Open) (p : List Instruction) → Opened s p → In o s → Defines (word_for o) → body_of s ≡ body_of (o ∷ [])
+in_body : (o : Open) (s : List Open) (p : List Instruction) → Opened s p → In o s → Defines (keyword_for o) → body_of s ≡ body_of (o ∷ [])
 in_body o [] p h i d = absurd i
-in_body o (InIf j ∷ s) p (outer, head, inner, below, h, l, e) (inl i) d = absurd (not_definition (word_for o) d (inl (sym (ap word_for i))))
+in_body o (InIf j ∷ s) p (outer, head, inner, below, h, l, e) (inl i) d = absurd (not_definition (keyword_for o) d (inl (sym (ap keyword_for i))))
 in_body o (InIf j ∷ s) p (outer, head, inner, below, h, l, e) (inr i) d = in_body o s outer below i d
-in_body o (InElse j ∷ s) p (outer, head, inner, below, h, l, e) (inl i) d = absurd (not_definition (word_for o) d (inr (sym (ap word_for i))))
+in_body o (InElse j ∷ s) p (outer, head, inner, below, h, l, e) (inl i) d = absurd (not_definition (keyword_for o) d (inr (sym (ap keyword_for i))))
 in_body o (InElse j ∷ s) p (outer, head, inner, below, h, l, e) (inr i) d = in_body o s outer below i d
 in_body o (InFunction j ∷ s) p (outer, head, inner, below, h, l, e) (inl i) d = subst (λ x. body_of (InFunction j ∷ s) ≡ body_of (x ∷ [])) i refl
 in_body o (InFunction j ∷ s) p (outer, head, inner, below, (x, hx, hf, hk, eh), l, e) (inr i) d =
@@ -98,7 +98,7 @@ in_body o (InInstruction j ∷ s) p (outer, head, inner, below, (x, hx, hf, hk, 
     absurd (not_main o d (sym (in_body o s outer below i d) ∙ within_main s hf))
 
 -- the definition that gives the body, if it isn't the main program
-body_from : (s : List Open) → (body_of s ≡ body.Main) ⊎ ((o : Open) × In o s × Defines (word_for o) × (body_of s ≡ body_of (o ∷ [])))
+body_from : (s : List Open) → (body_of s ≡ body.Main) ⊎ ((o : Open) × In o s × Defines (keyword_for o) × (body_of s ≡ body_of (o ∷ [])))
 body_from [] = inl refl
 body_from (InIf k ∷ s) = elim (body_from s) [ inl h ↦ inl h | inr h ↦ inr (h.0, inr h.1, h.2, h.3) ]
 body_from (InElse k ∷ s) = elim (body_from s) [ inl h ↦ inl h | inr h ↦ inr (h.0, inr h.1, h.2, h.3) ]
@@ -233,7 +233,7 @@ order m zero = inr (omega arith)
 order zero (suc n) = inl (omega arith)
 order (suc m) (suc n) = elim (order m n) [ inl h ↦ inl (omega arith) | inr h ↦ inr (omega arith) ]
 
-same_open : (o x : Open) → word_for o ≡ word_for x → place o ≡ place x → o ≡ x
+same_open : (o x : Open) → keyword_for o ≡ keyword_for x → place o ≡ place x → o ≡ x
 same_open (InIf j) (InIf k) h e = ap InIf e
 same_open (InIf j) (InElse k) h e = cc
 same_open (InIf j) (InFunction k) h e = cc
@@ -272,7 +272,7 @@ reaches x a r b d i e l h = go l2.0 l2.1 l2.2
 
 -- An instruction that lies in a definition has its body.
 in_definition_body : (is a b : List Instruction) (i : Instruction) (k t : ℕ) (o : Open) (s : List Open) → AllByRecursion IsInstruction is → is ≡ a ++ (i ∷ b) → steps a 0 [] ≡ Some s →
-    GoesTo (word_for o) is k t → place o ≡ k → Defines (word_for o) → k < size a → size a < t → body_of s ≡ body_of (o ∷ [])
+    GoesTo (keyword_for o) is k t → place o ≡ k → Defines (keyword_for o) → k < size a → size a < t → body_of s ≡ body_of (o ∷ [])
 in_definition_body is a b i k t o s each whole run g at def low high =
     let ok : AllByRecursion IsInstruction (a ++ (i ∷ b)) = subst (λ x. AllByRecursion IsInstruction x) whole each in
     let okg : AllByRecursion IsInstruction (g.before ++ (g.i ∷ (g.inner ++ (g.e ∷ g.after)))) = subst (λ x. AllByRecursion IsInstruction x) g.whole each in
@@ -280,10 +280,10 @@ in_definition_body is a b i k t o s each whole run g at def low high =
     let z = reaches g.before a (g.inner ++ (g.e ∷ g.after)) b g.i i (sym g.whole ∙ whole) (omega (arith, g.from)) okg in
     let tab = table_of a [] [] s [] [] oka Leaves-start Table-start run in
     let oka2 : AllByRecursion IsInstruction (g.before ++ (g.i ∷ z.0)) = subst (λ x. AllByRecursion IsInstruction x) z.1 oka in
-    elim (tab.1.2.target_there g.before g.i z.0 z.1 (subst Opens (sym g.opens) (definition_opens (word_for o) def))) [
+    elim (tab.1.2.target_there g.before g.i z.0 z.1 (subst Opens (sym g.opens) (definition_opens (keyword_for o) def))) [
       | inl u ↦
           let h = tab.1.2.target_right (size g.before) u.0 u.1 in
-          let long : u.0 ≡ t = goes_same is h.0 (word_for o) k u.0 t each
+          let long : u.0 ≡ t = goes_same is h.0 (keyword_for o) k u.0 t each
           (subst (λ x. GoesTo h.0 x k u.0) (sym whole) (GoesTo-append h.0 a (i ∷ b) k u.0 (subst (λ x. GoesTo h.0 a x u.0) g.from h.1))) g in
           let short = goes_within h.0 a (size g.before) u.0 h.1 in
           absurd (omega arith)
@@ -291,8 +291,8 @@ in_definition_body is a b i k t o s each whole run g at def low high =
           let x = at_place (size g.before) s u in
           let op = opened_at x.0 s a tab.0.opened x.1 in
           let p = same_place g.before z.0 op.0 op.2 g.i op.1 oka2 (sym z.1 ∙ op.3) (sym x.2 ∙ sym op.4) in
-          let words : word_for x.0 ≡ word_for o = sym op.5 ∙ ap keyword (sym p.1) ∙ g.opens in
-          let one : x.0 ≡ o = same_open x.0 o words (x.2 ∙ g.from ∙ sym at) in
+          let keywords : keyword_for x.0 ≡ keyword_for o = sym op.5 ∙ ap keyword (sym p.1) ∙ g.opens in
+          let one : x.0 ≡ o = same_open x.0 o keywords (x.2 ∙ g.from ∙ sym at) in
           in_body o s a tab.0.opened (subst (λ y. In y s) one x.1) def
     ]
   where
@@ -311,10 +311,10 @@ definition_ends w u (inr h) e = let f : Ends Idef u = subst (λ w. Ends w u) h e
 
 -- A definition that is open before an instruction has it.
 open_definition : (is a b : List Instruction) (i : Instruction) (o : Open) (s : List Open) (in_body : List (Option Body)) (goes : List (Option ℕ)) → AllByRecursion IsInstruction is →
-    IsTable is [] in_body goes → is ≡ a ++ (i ∷ b) → steps a 0 [] ≡ Some s → In o s → Defines (word_for o) →
-    (t : ℕ) × GoesTo (word_for o) is (place o) t × (place o < size a) × (size a < t)
+    IsTable is [] in_body goes → is ≡ a ++ (i ∷ b) → steps a 0 [] ≡ Some s → In o s → Defines (keyword_for o) →
+    (t : ℕ) × GoesTo (keyword_for o) is (place o) t × (place o < size a) × (size a < t)
 open_definition is a b i o s in_body goes each table whole run open_in def =
-    elim (table.target_there op.0 op.1 (op.2 ++ (i ∷ b)) placed (subst Opens (sym op.5) (definition_opens (word_for o) def))) [
+    elim (table.target_there op.0 op.1 (op.2 ++ (i ∷ b)) placed (subst Opens (sym op.5) (definition_opens (keyword_for o) def))) [
       | inl u ↦ found u.0 (table.target_right (size op.0) u.0 u.1)
       | inr u ↦ absurd u
     ]
@@ -340,7 +340,7 @@ open_definition is a b i o s in_body goes each table whole run open_in def =
         let n = some_bytes op.1 (each_split op.0 op.2 op.1 okp) in
         let l = ap size op.3 ∙ size-append op.0 (op.1 ∷ op.2) in omega (arith, op.4)
 
-    high : (t : ℕ) → GoesTo (word_for o) is (place o) t → (t ≤ size a) → ⊥
+    high : (t : ℕ) → GoesTo (keyword_for o) is (place o) t → (t ≤ size a) → ⊥
     high t g h =
         let item = g.before ++ (g.i ∷ (g.inner ++ (g.e ∷ []))) in
         let shape : is ≡ item ++ g.after = g.whole ∙ ap (λ x. g.before ++ (g.i ∷ x)) (sym (append_assoc g.inner (g.e ∷ []) g.after)) ∙ sym (append_assoc g.before (g.i ∷ (g.inner ++ (g.e ∷ []))) g.after) in
@@ -352,15 +352,15 @@ open_definition is a b i o s in_body goes each table whole run open_in def =
         let okb = each_front g.before (g.i ∷ (g.inner ++ (g.e ∷ g.after))) okg in
         let before = table_of g.before [] [] row.0 [] [] okb Leaves-start Table-start row.1 in
         closed_by_end (place o) t o g.before g.inner z.0 a g.i g.e row.0 s (subst Defines (sym g.opens) def)
-        (subst (λ x. IsList x g.inner) (definition_behind (word_for o) def) g.nested) (definition_ends (word_for o) (keyword g.e) def g.ends)
+        (subst (λ x. IsList x g.inner) (definition_behind (keyword_for o) def) g.nested) (definition_ends (keyword_for o) (keyword g.e) def g.ends)
         row.1 before.0 okb z.1 run g.from (some_bytes g.i (each_split g.before (g.inner ++ (g.e ∷ g.after)) g.i okg)) (in_place o s open_in)
 
-    found : (t : ℕ) → ((w : BlockKeyword) × GoesTo w is (size op.0) t) → (t : ℕ) × GoesTo (word_for o) is (place o) t × (place o < size a) × (size a < t)
+    found : (t : ℕ) → ((w : BlockKeyword) × GoesTo w is (size op.0) t) → (t : ℕ) × GoesTo (keyword_for o) is (place o) t × (place o < size a) × (size a < t)
     found t g =
         let okg : AllByRecursion IsInstruction (op.0 ++ (op.1 ∷ (op.2 ++ (i ∷ b)))) = subst (λ x. AllByRecursion IsInstruction x) placed each in
         let p = same_place op.0 (op.2 ++ (i ∷ b)) g.1.before (g.1.inner ++ (g.1.e ∷ g.1.after)) op.1 g.1.i okg (sym placed ∙ g.1.whole) (sym g.1.from) in
-        let words : g.0 ≡ word_for o = sym g.1.opens ∙ ap keyword (sym p.1) ∙ op.5 in
-        let goes : GoesTo (word_for o) is (place o) t = subst (λ k. GoesTo (word_for o) is k t) op.4 (subst (λ w. GoesTo w is (size op.0) t) words g.1) in
+        let keywords : g.0 ≡ keyword_for o = sym g.1.opens ∙ ap keyword (sym p.1) ∙ op.5 in
+        let goes : GoesTo (keyword_for o) is (place o) t = subst (λ k. GoesTo (keyword_for o) is k t) op.4 (subst (λ w. GoesTo w is (size op.0) t) keywords g.1) in
         elim (order (size a) t) [ inl h ↦ (t, goes, low, h) | inr h ↦ absurd (high t goes h) ]
 
 -- an instruction has its body
@@ -379,7 +379,7 @@ body_starts is in_body goes k b table at =
 
 -- the body of a definition in which an instruction lies
 pub inside_body : (is : List Instruction) (k : ℕ) (i : Instruction) (s : List Open) → AllByRecursion IsInstruction is →
-    (stands : StandsAt is k i) → steps stands.before 0 [] ≡ Some s → (o : Open) (from : ℕ) → place o ≡ from → Defines (word_for o) → InDefinition (word_for o) is from k → body_of s ≡ body_of (o ∷ [])
+    (stands : StandsAt is k i) → steps stands.before 0 [] ≡ Some s → (o : Open) (from : ℕ) → place o ≡ from → Defines (keyword_for o) → InDefinition (keyword_for o) is from k → body_of s ≡ body_of (o ∷ [])
 inside_body is k i s each stands run o from at def (to, goes_to, low, high) =
     in_definition_body is stands.before stands.after i from to o s each stands.whole run goes_to at def (rw stands.offset low) (rw stands.offset high)
 
@@ -395,7 +395,7 @@ body_is is in_body goes k i b each table stands at =
     one : body_of row.0 ≡ b
     one = let e : body_found in_body k ≡ Some (body_of row.0) = subst (λ x. body_found in_body x ≡ Some (body_of row.0)) stands.offset row.2 in cc
 
-    inside : (o : Open) (from : ℕ) → place o ≡ from → Defines (word_for o) → InDefinition (word_for o) is from k → body_of row.0 ≡ body_of (o ∷ [])
+    inside : (o : Open) (from : ℕ) → place o ≡ from → Defines (keyword_for o) → InDefinition (keyword_for o) is from k → body_of row.0 ≡ body_of (o ∷ [])
     inside = inside_body is k i row.0 each stands row.1
 
     none_there : body_of row.0 ≡ body.Main → IsBodyAt is k body.Main
@@ -404,7 +404,7 @@ body_is is in_body goes k i b each table stands at =
       λ from d. let e = inside (InInstruction from) from refl (inr refl) d in cc,
     )
 
-    one_there : (o : Open) → In o row.0 → Defines (word_for o) → IsBodyAt is k (body_of (o ∷ []))
+    one_there : (o : Open) → In o row.0 → Defines (keyword_for o) → IsBodyAt is k (body_of (o ∷ []))
     one_there (InIf j) i d = absurd (not_definition If d (inl refl))
     one_there (InElse j) i d = absurd (not_definition Else d (inr refl))
     one_there (InFunction j) open_in d =
@@ -433,7 +433,7 @@ one_body is k b c i each l stands g h = go b c g h
     way : (s : List Open) × (steps stands.before 0 [] ≡ Some s)
     way = way_to is k i l stands
 
-    inside : (o : Open) (from : ℕ) → place o ≡ from → Defines (word_for o) → InDefinition (word_for o) is from k → body_of way.0 ≡ body_of (o ∷ [])
+    inside : (o : Open) (from : ℕ) → place o ≡ from → Defines (keyword_for o) → InDefinition (keyword_for o) is from k → body_of way.0 ≡ body_of (o ∷ [])
     inside = inside_body is k i way.0 each stands way.1
 
     go : (b c : Body) → IsBodyAt is k b → IsBodyAt is k c → b ≡ c

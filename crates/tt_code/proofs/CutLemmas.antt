@@ -8,7 +8,7 @@ use Rattle.std.proofs.lemmas.Bool.{lt-ltb, le-ltb}
 use Rattle.std.specs.List.{concat, AllByRecursion}
 use Rattle.tt_code.specs.Table.{Meaning, NoEntry, Plain, Pushes, Stack, Computes, Controls, effect_of}
 use Rattle.tt_code.specs.Cut.{data_length, IsInstruction, IsCut, BeginsWith, CannotBeCut, Instruction, instruction_at, size}
-use Rattle.tt_code.specs.Laid.{laid, pieces, IsLaid}
+use Rattle.tt_code.specs.Representation.Laid.{laid, pieces, IsLaid}
 use Rattle.tt_code.specs.declared.kinds.Push.TheVariants.{CountedBytes, CountedWords, Bytes, Words}
 
 -- what follows the data doesn't matter

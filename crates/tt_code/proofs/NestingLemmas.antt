@@ -7,7 +7,7 @@ use Rattle.tt_code.specs.declared.nest.Open.{Open}
 use Rattle.tt_code.specs.declared.nest.Open.TheVariants.{InIf, InElse, InFunction, InInstruction}
 use Rattle.tt_code.specs.Table.{effect_of}
 use Rattle.tt_code.specs.Cut.{Instruction, IsInstruction, size}
-use Rattle.tt_code.specs.Pass.{inside_of, within, step, follow, steps, body_of, body_after, Head, Opened, Leaves}
+use Rattle.tt_code.specs.Representation.Pass.{inside_of, within, step, follow, steps, body_of, body_after, Head, Opened, Leaves}
 use Rattle.tt_code.specs.declared.machine.Body.TheVariants as body
 use Rattle.tt_code.proofs.CutLemmas.{size-append}
 use Rattle.tt_code.specs.Structure.{keyword}
@@ -86,7 +86,7 @@ Opened-extend (o ∷ s) p a (outer, head, inner, below, h, l, e) m =
 pub Opened-open : (o : Open) (s : List Open) (p head : List Instruction) → Opened s p → Head o (within s) (size p) head → Opened (o ∷ s) (p ++ head)
 Opened-open o s p head below h = (p, head, [], below, h, none, ap (λ x. p ++ x) (sym (append-nil head)))
 
--- the words that close
+-- the keywords that close
 abbrev pub Closes : BlockKeyword → Open → Type 0
 Closes w (InIf k) = w ≡ Eif
 Closes w (InElse k) = w ≡ Eif

@@ -10,11 +10,11 @@ use Rattle.tt_code.specs.declared.nest.Open.{Open}
 use Rattle.tt_code.specs.declared.nest.Open.TheVariants.{InIf, InElse, InFunction, InInstruction}
 use Rattle.tt_code.specs.declared.slot.Slot.{Slot}
 use Rattle.tt_code.specs.Cut.{Instruction, IsInstruction, size}
-use Rattle.tt_code.specs.Structure.{keyword, word_of}
+use Rattle.tt_code.specs.Structure.{keyword, keyword_of}
 use Rattle.tt_code.specs.Grammar.{CanGoOn, IsList, none, plain, if_eif, if_else_eif, definition, Ends, begins_definition, GoesTo}
-use Rattle.tt_code.specs.Pass.{within, step, body_of, body_after, closed, Opened, Leaves}
+use Rattle.tt_code.specs.Representation.Pass.{within, step, body_of, body_after, closed, Opened, Leaves}
 use Rattle.tt_code.specs.declared.machine.Body.{Body}
-use Rattle.tt_code.specs.Slots.{inside, body_in, target_in, lengths, bodies, targets, target_of, target_found, Opens, IsOpenAt, IsTable, IsRead}
+use Rattle.tt_code.specs.Representation.Slots.{inside, body_in, target_in, lengths, bodies, targets, target_of, target_found, Opens, IsOpenAt, IsTable, IsRead}
 use Rattle.tt_code.proofs.CutLemmas.{size-append, size_more, all_more, some_bytes, laid_more}
 use Rattle.tt_code.proofs.NestingLemmas.{within-false, Leaves-step, body_step, cannot_go_on}
 
@@ -331,25 +331,25 @@ Table-step p s t j in_body goes now m each leaves table st hm linked =
     to : ℕ
     to = size p + length j
 
-pub word_is : (i : Instruction) (w : BlockKeyword) → 0 < length i → w ≡ word_of (slice_index i 0) → keyword i ≡ w
+pub keyword_is : (i : Instruction) (w : BlockKeyword) → 0 < length i → w ≡ keyword_of (slice_index i 0) → keyword i ≡ w
 unfolding keyword
-word_is [] w h e = absurd (omega arith)
-word_is (code ∷ rest) w h e = sym e
+keyword_is [] w h e = absurd (omega arith)
+keyword_is (code ∷ rest) w h e = sym e
 
 -- how many bytes were read
 pub read_size : (p : List Instruction) (s : List Open) (b : Body) (slots : List Slot) → IsRead p s b slots → length slots ≡ size p
 read_size p s b slots r = sym (length-map slots body_in) ∙ r.table.bodies_long
 
 pub read_refused : (p : List Instruction) (k : ℕ) (s : List Open) (b : Body) (slots : List Slot) (j : Instruction) (w : BlockKeyword) →
-    IsRead p s b slots → length slots ≡ k → IsInstruction j → w ≡ word_of (slice_index j 0) → step w k s ≡ None → CanGoOn (p ++ (j ∷ [])) → ⊥
+    IsRead p s b slots → length slots ≡ k → IsInstruction j → w ≡ keyword_of (slice_index j 0) → step w k s ≡ None → CanGoOn (p ++ (j ∷ [])) → ⊥
 read_refused p k s b slots j w r hk hj hw st =
-    cannot_go_on p s j r.leaves (rw (word_is j w (some_bytes j hj) hw, sym (read_size p s b slots r) ∙ hk) st)
+    cannot_go_on p s j r.leaves (rw (keyword_is j w (some_bytes j hj) hw, sym (read_size p s b slots r) ∙ hk) st)
 
 pub read_closed : (p : List Instruction) (k : ℕ) (s t : List Open) (b : Body) (slots : List Slot) (j : Instruction) (w : BlockKeyword) (c : ℕ) →
-    IsRead p s b slots → length slots ≡ k → IsInstruction j → w ≡ word_of (slice_index j 0) → step w k s ≡ Some t → closed w s ≡ Some c → c < length slots
+    IsRead p s b slots → length slots ≡ k → IsInstruction j → w ≡ keyword_of (slice_index j 0) → step w k s ≡ Some t → closed w s ≡ Some c → c < length slots
 read_closed p k s t b slots j w c r hk hj hw st cl =
     let long = read_size p s b slots r in
-    let g = closed_goes w s t p j c r.each r.leaves.opened (word_is j w (some_bytes j hj) hw) (rw (sym long ∙ hk) st) cl in
+    let g = closed_goes w s t p j c r.each r.leaves.opened (keyword_is j w (some_bytes j hj) hw) (rw (sym long ∙ hk) st) cl in
     let less = g.2 in omega (arith, long)
 
 -- a slot with another target
@@ -395,7 +395,7 @@ map-grown : {B : Type 0} (f : Slot → B) (mid : List Slot) (slot : Slot) (m : �
 map-grown f mid slot m = map-append f mid (slot ∷ replicate m inside) ∙ ap (λ xs. map f mid ++ (f slot ∷ xs)) (map-replicate f m inside)
 
 pub read_more : (p : List Instruction) (k : ℕ) (s t : List Open) (b b' : Body) (slots mid now : List Slot) (slot : Slot) (j : Instruction) (w : BlockKeyword) →
-    IsRead p s b slots → length slots ≡ k → IsInstruction j → w ≡ word_of (slice_index j 0) → step w k s ≡ Some t →
+    IsRead p s b slots → length slots ≡ k → IsInstruction j → w ≡ keyword_of (slice_index j 0) → step w k s ≡ Some t →
     Targeted (closed w s) (k + length j) slots mid → b' ≡ body_after b w k →
     slot.length ≡ length j → body_in slot ≡ Some b → target_in slot ≡ None →
     now ≡ mid ++ (slot ∷ replicate (length j - 1) inside) →
@@ -403,7 +403,7 @@ pub read_more : (p : List Instruction) (k : ℕ) (s t : List Open) (b b' : Body)
 read_more p k s t b b' slots mid now slot j w r hk hj hw st moved hb slot_length slot_body slot_target hn =
     let some = some_bytes j hj in
     let here : size p ≡ k = sym (read_size p s b slots r) ∙ hk in
-    let is : keyword j ≡ w = word_is j w some hw in
+    let is : keyword j ≡ w = keyword_is j w some hw in
     let step_is : step (keyword j) (size p) s ≡ Some t = rw (is, here) st in
     let linked : Linked (closed w s) (k + length j) (targets slots) (targets mid) = targeted_linked (closed w s) (k + length j) slots mid (omega arith) moved in
     let linked_is : Linked (closed (keyword j) s) (size p + length j) (targets slots) (targets mid) = rw (is, here) linked in

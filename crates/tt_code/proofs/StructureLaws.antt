@@ -4,7 +4,7 @@ use Rattle.std.specs.Prelude.{IfSome, nat_eq, nat_lt, if◌then◌else◌}
 use Rattle.std.specs.List.{AllByRecursion}
 use Rattle.std.proofs.lemmas.Bool.{eqb-true, eq-eqb, ne_eqb, ltb-false, le-ltb}
 use Rattle.tt_code.specs.Cut.{Instruction, IsInstruction, size, instruction_at}
-use Rattle.tt_code.specs.Slots.{Opens}
+use Rattle.tt_code.specs.Representation.Slots.{Opens}
 use Rattle.tt_code.specs.Structure.{keyword, is_keyword, still_open, behind_end, leads_from, leads}
 use Rattle.tt_code.specs.Grammar.{IsDefinition, IsList, none, plain, if_eif, if_else_eif, definition, IsStructured, StandsAt, Ends, begins_definition, GoesTo}
 use Rattle.tt_code.specs.declared.block_keyword.BlockKeyword.{BlockKeyword}

@@ -5,8 +5,8 @@ use Rattle.std.specs.List.{AllByRecursion}
 use Rattle.std.proofs.lemmas.Bool.{eqb-true, eq-eqb, ne_eqb}
 use Rattle.tt_code.specs.Cut.{Instruction, IsInstruction, size}
 use Rattle.tt_code.specs.Table.{effect_of}
-use Rattle.tt_code.specs.Slots.{Opens}
-use Rattle.tt_code.specs.Structure.{keyword, word_of, body_behind, body_from, body_at}
+use Rattle.tt_code.specs.Representation.Slots.{Opens}
+use Rattle.tt_code.specs.Structure.{keyword, keyword_of, body_behind, body_from, body_at}
 use Rattle.tt_code.specs.Grammar.{IsDefinition, IsList, none, plain, if_eif, if_else_eif, definition, IsStructured, StandsAt, Ends, begins_definition, GoesTo, InDefinition, IsBodyAt}
 use Rattle.tt_code.specs.declared.block_keyword.BlockKeyword.{BlockKeyword}
 use Rattle.tt_code.specs.declared.block_keyword.BlockKeyword.TheVariants.{If, Else, Eif, Fdef, Idef, Endf, Other}
@@ -21,7 +21,7 @@ one_of : (b : Bool) (x y : BlockKeyword) → IsDefinition (if b then x else y) �
 one_of true x y d = inl (refl, d)
 one_of false x y d = inr d
 
-definition_code : (code : ℕ) → IsDefinition (word_of code) → (code ≡ 0x2c) ⊎ (code ≡ 0x89)
+definition_code : (code : ℕ) → IsDefinition (keyword_of code) → (code ≡ 0x2c) ⊎ (code ≡ 0x89)
 definition_code code d = elim (one_of (nat_eq code 0x58) If _ d) [
   | inl a ↦ absurd a.1
   | inr a ↦ elim (one_of (nat_eq code 0x1b) Else _ a) [
@@ -66,8 +66,8 @@ KeepsBody _ = Unit {0}
 abbrev pub Keeps : Instruction → Type 0
 Keeps i = KeepsBody (keyword i)
 
-keeps_word : (i : Instruction) (w : BlockKeyword) → keyword i ≡ w → KeepsBody w → Keeps i
-keeps_word i w h k = subst KeepsBody (sym h) k
+keeps_keyword : (i : Instruction) (w : BlockKeyword) → keyword i ≡ w → KeepsBody w → Keeps i
+keeps_keyword i w h k = subst KeepsBody (sym h) k
 
 kept_body : (here : Body) (w : BlockKeyword) (next : ℕ) → KeepsBody w → body_behind here w next ≡ here
 kept_body here If next k = refl
@@ -81,13 +81,13 @@ kept_body here Endf next k = absurd k
 -- a list inside a definition keeps the body
 list_keeps : {inside : Bool} {is : List Instruction} → IsList inside is → inside ≡ true → AllByRecursion Keeps is
 list_keeps none t = tt
-list_keeps (plain {i = i} h l) t = (keeps_word i Other h tt, list_keeps l t)
+list_keeps (plain {i = i} h l) t = (keeps_keyword i Other h tt, list_keeps l t)
 list_keeps (if_eif {i = i} {yes = inner} e {rest = r} hi ly he lr) t =
-    (keeps_word i If hi tt, each_joined Keeps inner (e ∷ r) (list_keeps ly t) (keeps_word e Eif he tt, list_keeps lr t))
+    (keeps_keyword i If hi tt, each_joined Keeps inner (e ∷ r) (list_keeps ly t) (keeps_keyword e Eif he tt, list_keeps lr t))
 list_keeps (if_else_eif {i = i} {yes = inner} l {otherwise = otherwise} e {rest = r} hi ly hl lo he lr) t = (
-  keeps_word i If hi tt,
+  keeps_keyword i If hi tt,
   each_joined Keeps inner (l ∷ (otherwise ++ (e ∷ r))) (list_keeps ly t)
-      (keeps_word l Else hl tt, each_joined Keeps otherwise (e ∷ r) (list_keeps lo t) (keeps_word e Eif he tt, list_keeps lr t)),
+      (keeps_keyword l Else hl tt, each_joined Keeps otherwise (e ∷ r) (list_keeps lo t) (keeps_keyword e Eif he tt, list_keeps lr t)),
 )
 list_keeps (definition e hd ld he lr) t = cc
 
@@ -223,23 +223,23 @@ definition_body {opener} {is} {from} {i = i} each d s (to, g, low, high) =
 
 -- What has the body of a definition is in that definition.
 
-last_word : (here : Body) (opener w : BlockKeyword) (k n : ℕ) → IsDefinition opener → body_behind here w k ≡ body_behind body.Main opener n
+last_keyword : (here : Body) (opener w : BlockKeyword) (k n : ℕ) → IsDefinition opener → body_behind here w k ≡ body_behind body.Main opener n
     → ((here ≡ body_behind body.Main opener n) × KeepsBody w) ⊎ ((w ≡ opener) × (k ≡ n))
-last_word here opener If k n d h = inl (h, tt)
-last_word here opener Else k n d h = inl (h, tt)
-last_word here opener Eif k n d h = inl (h, tt)
-last_word here opener Other k n d h = inl (h, tt)
-last_word here Fdef Fdef k n d h = inr (refl, cc)
-last_word here Fdef Idef k n d h = cc
-last_word here Fdef Endf k n d h = cc
-last_word here Idef Fdef k n d h = cc
-last_word here Idef Idef k n d h = inr (refl, cc)
-last_word here Idef Endf k n d h = cc
-last_word here If w k n d h = absurd d
-last_word here Else w k n d h = absurd d
-last_word here Eif w k n d h = absurd d
-last_word here Endf w k n d h = absurd d
-last_word here Other w k n d h = absurd d
+last_keyword here opener If k n d h = inl (h, tt)
+last_keyword here opener Else k n d h = inl (h, tt)
+last_keyword here opener Eif k n d h = inl (h, tt)
+last_keyword here opener Other k n d h = inl (h, tt)
+last_keyword here Fdef Fdef k n d h = inr (refl, cc)
+last_keyword here Fdef Idef k n d h = cc
+last_keyword here Fdef Endf k n d h = cc
+last_keyword here Idef Fdef k n d h = cc
+last_keyword here Idef Idef k n d h = inr (refl, cc)
+last_keyword here Idef Endf k n d h = cc
+last_keyword here If w k n d h = absurd d
+last_keyword here Else w k n d h = absurd d
+last_keyword here Eif w k n d h = absurd d
+last_keyword here Endf w k n d h = absurd d
+last_keyword here Other w k n d h = absurd d
 
 -- the last of FDEF, IDEF and ENDF in a beginning, after which the body begins
 record Begun (opener : BlockKeyword) (is : List Instruction) (start first : ℕ) : Type 0 where
@@ -256,7 +256,7 @@ last_definition : (is : List Instruction) (here : Body) (start n : ℕ) (opener 
 last_definition [] here start n opener d h = inl (h, tt)
 last_definition (i ∷ is) here start n opener d h =
     elim (last_definition is (body_behind here (keyword i) (start + length i)) (start + length i) n opener d h) [
-      | inl kept ↦ elim (last_word here opener (keyword i) (start + length i) n d kept.0) [
+      | inl kept ↦ elim (last_keyword here opener (keyword i) (start + length i) n d kept.0) [
         | inl before ↦ inl (before.0, (before.1, kept.1))
         | inr this ↦ inr (record { outer = []; d = i; part = is; whole = refl; opens = this.0; begins = omega (arith, this.1); keeps = kept.1 })
       ]

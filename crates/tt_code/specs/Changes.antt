@@ -1,5 +1,5 @@
--- What an instruction of a plain line changes and pushes, once its operands are taken and its tests passed. (Apple TrueType
--- Reference Manual, "The TrueType instruction set".)
+-- What an instruction of a plain line changes and pushes, once its operands are taken and its tests
+-- passed. (Apple TrueType Reference Manual, "The TrueType instruction set".)
 use Rattle.std.specs.Prelude.{ℕ, zero, suc, ℤ, pos, negsuc, List, [], ◌∷◌, Ok, nat_eq, if◌then◌else◌}
 use Rattle.tt_code.specs.Refusals.{Tested, ◌>>=◌}
 use Rattle.tt_code.specs.Table.{Lists}
@@ -42,15 +42,24 @@ abbrev pub with_stored : {N : Type 0} → ℕ → N → (ℕ → N) → ℕ → 
 with_stored i n area k = if nat_eq i k then n else area k
 
 abbrev pub updated : {N Z : Type 0} → Reading N Z → List N → Update → Registers N Z → Registers N Z
-updated read taken (update.SetReference r (source.Taken i)) x = record x { graphics = with_reference r (taken_at read.one taken i) x.graphics }
-updated read taken (update.SetReference r (source.Same q)) x = record x { graphics = with_reference r (reference q x.graphics) x.graphics }
-updated read taken (update.SetPointer p i) x = record x { graphics = with_pointer p (read.zone (taken_at read.one taken i)) x.graphics }
-updated read taken (update.SetLoop i) x = record x { graphics = record x.graphics { loop_number = taken_at read.one taken i } }
-updated read taken update.LoopIsOne x = record x { graphics = record x.graphics { loop_number = read.one } }
-updated read taken (update.Store i n) x = record x { storage = with_stored (read.index (taken_at read.one taken i)) (taken_at read.one taken n) x.storage }
+updated read taken (update.SetReference r (source.Taken i)) x =
+    record x { graphics = with_reference r (taken_at read.one taken i) x.graphics }
+updated read taken (update.SetReference r (source.Same q)) x =
+    record x { graphics = with_reference r (reference q x.graphics) x.graphics }
+updated read taken (update.SetPointer p i) x =
+    record x { graphics = with_pointer p (read.zone (taken_at read.one taken i)) x.graphics }
+updated read taken (update.SetLoop i) x =
+    record x { graphics = record x.graphics { loop_number = taken_at read.one taken i } }
+updated read taken update.LoopIsOne x =
+    record x { graphics = record x.graphics { loop_number = read.one } }
+updated read taken (update.Store i n) x = record x {
+  storage = with_stored (read.index (taken_at read.one taken i)) (taken_at read.one taken n)
+      x.storage;
+}
 
 -- the changes, one after the other
-abbrev pub all_updated : {N Z : Type 0} → Reading N Z → List N → List Update → Registers N Z → Registers N Z
+abbrev pub all_updated : {N Z : Type 0} → Reading N Z → List N → List Update → Registers N Z →
+    Registers N Z
 all_updated read taken [] x = x
 all_updated read taken (u ∷ us) x = all_updated read taken us (updated read taken u x)
 
@@ -62,9 +71,11 @@ abbrev pub values_pushed : List ℤ → (ℕ → ℤ) → List Pushed → List V
 values_pushed taken area [] = []
 values_pushed taken area (p ∷ ps) = value_pushed taken area p ∷ values_pushed taken area ps
 
--- A plain line: its operands are taken, its reference points tested, and then it changes and pushes.
+-- A plain line: its operands are taken, its reference points tested, and then it changes and
+-- pushes.
 abbrev pub plain : Setting → Machine → Lists → Tested Outcome
 plain s m line = do
   t ← take_operands s m.registers.graphics line.operands m.stack
   ok ← test_uses s m.registers.graphics line.uses
-  Ok (leaves (record m { registers = all_updated numbers t.0 line.updates m.registers }) t.1 (values_pushed t.0 m.registers.storage line.pushes))
+  Ok (leaves (record m { registers = all_updated numbers t.0 line.updates m.registers }) t.1
+      (values_pushed t.0 m.registers.storage line.pushes))

@@ -1,5 +1,6 @@
--- The instructions that push data, move the stack's elements, or compute. (Apple TrueType Reference Manual, "Pushing data
--- onto the interpreter stack", "Managing the stack", "Logical functions", "Arithmetic and math instructions".)
+-- The instructions that push data, move the stack's elements, or compute. (Apple TrueType Reference
+-- Manual, "Pushing data onto the interpreter stack", "Managing the stack", "Logical functions",
+-- "Arithmetic and math instructions".)
 use Rattle.std.specs.Prelude.{ℕ, zero, suc, ◌+◌, ◌*◌, ℤ, pos, negsuc, ◌+ℤ◌, ◌-ℤ◌, neg_ℤ, int_lt, int_le, List, [], ◌∷◌, Ok, Err, Bool, true, false, not, ◌&&◌, ◌||◌, length, map, nat_lt, remove, if◌then◌else◌}
 use Rattle.tt_code.specs.Refusals.{Tested, ◌>>=◌}
 use Rattle.tt_code.specs.States.{Machine, Value, Exactly, Anything, Outcome, leaves, is_number, is_true}
@@ -16,7 +17,8 @@ use Rattle.tt_code.specs.declared.kinds.Arithmetic.TheVariants.{Add, Sub, Abs, N
 -- Pushes: bytes are unsigned, words are signed, the high byte first; the last one ends on top.
 
 abbrev pub word_number : ℕ → ℕ → ℤ
-word_number high low = if nat_lt high 128 then pos (256 * high + low) else pos (256 * high + low) -ℤ pos 65536
+word_number high low =
+    if nat_lt high 128 then pos (256 * high + low) else pos (256 * high + low) -ℤ pos 65536
 
 abbrev pub words : List ℕ → List ℤ
 words (high ∷ low ∷ rest) = word_number high low ∷ words rest
@@ -35,8 +37,8 @@ exactly zs = map Exactly zs
 abbrev pub pushed : Push → Machine → List ℕ → Outcome
 pushed push m rest = leaves m m.stack (exactly (numbers_in push (data_behind push rest)))
 
--- Stack instructions. For CINDEX and MINDEX the index counts from 1, the top once the index is taken; an index below 1 is a
--- bad count, one above the depth an underflow (own).
+-- Stack instructions. For CINDEX and MINDEX the index counts from 1, the top once the index is
+-- taken; an index below 1 is a bad count, one above the depth an underflow (own).
 
 abbrev pub element : {N : Type 0} → ℤ → List N → Tested N
 element (negsuc n) stack = Err reason.Count
@@ -77,8 +79,8 @@ shuffled Roll m = do
   c ← top b.1
   Ok (leaves m c.1 (Exactly b.0 ∷ Exactly a.0 ∷ Exactly c.0 ∷ []))
 
--- Arithmetic. A result is exact where it is a number of the machine, else any number (own). Of two operands the first is
--- the one below the top. Comparisons are signed and give 1 or 0.
+-- Arithmetic. A result is exact where it is a number of the machine, else any number (own). Of two
+-- operands the first is the one below the top. Comparisons are signed and give 1 or 0.
 
 abbrev pub exact : ℤ → Value
 exact z = if is_number z then Exactly z else Anything

@@ -1,5 +1,5 @@
--- The instructions that lead elsewhere, and functions. (Apple TrueType Reference Manual, "Managing the flow of control" and
--- "Defining and using functions and instructions".)
+-- The instructions that lead elsewhere, and functions. (Apple TrueType Reference Manual, "Managing
+-- the flow of control" and "Defining and using functions and instructions".)
 use Rattle.std.specs.Prelude.{ℕ, zero, suc, ◌+◌, ℤ, pos, negsuc, ◌+ℤ◌, List, [], ◌∷◌, Option, None, Some, Ok, Err, Bool, true, false, not, length, nat_eq, nat_lt, nat_le, if◌then◌else◌}
 use Rattle.tt_code.specs.Refusals.{Tested, ◌>>=◌, holds_or, some_or}
 use Rattle.tt_code.specs.Structure.{after_if, after_else, after_fdef}
@@ -16,7 +16,8 @@ use Rattle.tt_code.specs.declared.kinds.Control.TheVariants.{If, Else, Jump, Jum
 abbrev pub goes_to : Machine → List ℤ → ℕ → Outcome
 goes_to m stack offset = leaves (at_offset m offset) stack []
 
--- A jump counts from its own position, without a limit of 32 bits. The depth is tested before the target (own).
+-- A jump counts from its own position, without a limit of 32 bits. The depth is tested before the
+-- target (own).
 abbrev pub jumps : Setting → Machine → ℤ → List ℤ → Tested Outcome
 jumps s m by stack = do
   deep ← holds_or (nat_le (length stack) s.limits.stack) reason.Overflow
@@ -40,12 +41,17 @@ body_named (f ∷ fs) n = if nat_eq f.0 n then Some f.1 else body_named fs n
 -- the body that a called number names: it is below maxFunctionDefs and defined
 abbrev pub called : Setting → Machine → ℤ → Tested ℕ
 called s m (negsuc n) = Err reason.Function
-called s m (pos n) = if nat_lt n s.limits.functions then some_or (body_named m.functions n) reason.Function else Err reason.Function
+called s m (pos n) =
+    if nat_lt n s.limits.functions
+    then some_or (body_named m.functions n) reason.Function
+    else Err reason.Function
 
 -- into a body for so many turns; a count of 0 or less calls nothing (own)
 abbrev pub enters : Machine → ℕ → List ℤ → ℤ → Outcome
 enters m name stack (pos (suc n)) =
-    goes_to (record m { frames = record { body = name; call = m.offset; turn = 1; count = suc n } ∷ m.frames }) stack (body_offset name)
+    goes_to (record m {
+      frames = record { body = name; call = m.offset; turn = 1; count = suc n } ∷ m.frames;
+    }) stack (body_offset name)
 enters m name stack (pos zero) = goes_to m stack (m.offset + 1)
 enters m name stack (negsuc n) = goes_to m stack (m.offset + 1)
 
@@ -54,7 +60,8 @@ abbrev pub returns : Machine → List Frame → Tested Outcome
 returns m [] = Err reason.Target
 returns m (f ∷ fs) =
     if nat_lt f.turn f.count
-    then Ok (goes_to (record m { frames = record f { turn = f.turn + 1 } ∷ fs }) m.stack (body_offset f.body))
+    then Ok (goes_to (record m { frames = record f { turn = f.turn + 1 } ∷ fs }) m.stack
+    (body_offset f.body))
     else Ok (goes_to (record m { frames = fs }) m.stack (f.call + 1))
 
 -- Functions are defined in the font program and in the CVT program (own: not in glyph programs).
@@ -66,7 +73,9 @@ may_define (GlyphProgram points contours) = false
 abbrev pub controlled : Setting → Machine → Control → Tested Outcome
 controlled s m If = do
   e ← top m.stack
-  after ← if is_true e.0 then Ok (m.offset + 1) else some_or (after_if (program_of s m.frames) m.offset) reason.Target
+  after ← if is_true e.0
+      then Ok (m.offset + 1)
+      else some_or (after_if (program_of s m.frames) m.offset) reason.Target
   Ok (goes_to m e.1 after)
 controlled s m Else = do
   after ← some_or (after_else (program_of s m.frames) m.offset) reason.Target
@@ -90,6 +99,8 @@ controlled s m FunctionDefinition = do
   n ← top m.stack
   ok ← holds_or (is_below n.0 s.limits.functions) reason.Function
   after ← some_or (after_fdef (program_of s m.frames) m.offset) reason.Target
-  Ok (goes_to (record m { functions = (natural n.0, body_name s.kind (m.offset + 1)) ∷ m.functions }) n.1 after)
+  Ok (goes_to (record m {
+    functions = (natural n.0, body_name s.kind (m.offset + 1)) ∷ m.functions;
+  }) n.1 after)
 controlled s m EndFunction = returns m m.frames
 controlled s m InstructionDefinition = Err reason.InstructionDefinition

@@ -1,6 +1,7 @@
--- Programs cut into instructions. A program is a list of bytes, an instruction the list of its bytes. (Apple TrueType
--- Reference Manual, "Instructions", the push instructions: only they are longer than one byte.)
-use Rattle.std.specs.Prelude.{◌≡◌, ℕ, zero, suc, ◌+◌, ◌*◌, ◌-◌, ◌≤◌, List, [], ◌∷◌, ◌++◌, Option, None, Some, length, drop, nat_lt, if◌then◌else◌}
+-- Programs cut into instructions. A program is a list of bytes, an instruction the list of its
+-- bytes. (Apple TrueType Reference Manual, "Instructions", the push instructions: only they are
+-- longer than one byte.)
+use Rattle.std.specs.Prelude.{◌≡◌, ℕ, zero, suc, ◌+◌, ◌*◌, ◌-◌, ◌<◌, ◌≤◌, List, [], ◌∷◌, ◌++◌, Option, None, Some, length, take, drop, nat_lt, if◌then◌else◌}
 use Rattle.std.specs.List.{concat, AllByRecursion}
 use Rattle.tt_code.specs.Table.{Meaning, NoEntry, Plain, Pushes, Stack, Computes, Controls, effect_of}
 use Rattle.tt_code.specs.declared.kinds.Push.{Push}
@@ -9,7 +10,8 @@ use Rattle.tt_code.specs.declared.kinds.Push.TheVariants.{CountedBytes, CountedW
 abbrev pub Instruction : Type 0
 Instruction = List ℕ
 
--- How many bytes follow the code: NPUSHB and NPUSHW have a count byte first. None where the count byte is missing.
+-- How many bytes follow the code: NPUSHB and NPUSHW have a count byte first. None where the count
+-- byte is missing.
 abbrev pub data_length : Meaning → List ℕ → Option ℕ
 data_length (Pushes CountedBytes) [] = None
 data_length (Pushes CountedBytes) (count ∷ rest) = Some (1 + count)
@@ -27,6 +29,14 @@ data_length (Controls op) rest = Some 0
 abbrev pub IsInstruction : List ℕ → Type 0
 IsInstruction [] = ⊥
 IsInstruction (code ∷ rest) = data_length (effect_of code) rest ≡ Some (length rest)
+
+-- the first n bytes are an instruction
+abbrev pub IsInstructionInFront : List ℕ → ℕ → Type 0
+IsInstructionInFront bytes n = (0 < n) × (n ≤ length bytes) × IsInstruction (take n bytes)
+
+-- no instruction begins the bytes
+abbrev pub NoInstructionInFront : List ℕ → Type 0
+NoInstructionInFront bytes = (i rest : List ℕ) → IsInstruction i → i ++ rest ≡ bytes → ⊥
 
 -- the data of a push instruction, among the bytes after its code: all of them but a count byte
 abbrev pub data_behind : Push → List ℕ → List ℕ
@@ -62,20 +72,28 @@ pub record IsCut (bytes : List ℕ) (is : List Instruction) : Type 0 where
   pub joined : concat is ≡ bytes
   pub each : AllByRecursion IsInstruction is
 
+-- there is a cut
+abbrev pub CanBeCut : List ℕ → Type 0
+CanBeCut bytes = (is : List Instruction) × IsCut bytes is
+
 -- the program begins with these instructions, and this rest is left
 pub record BeginsWith (bytes : List ℕ) (is : List Instruction) (rest : List ℕ) : Type 0 where
   pub joined : concat is ++ rest ≡ bytes
   pub each : AllByRecursion IsInstruction is
 
--- The program cannot be cut, and this is the offset of the instruction that passes the end: some instructions of that size
--- begin the program, and no longer ones do. (Own: the whole program is then refused, at this offset.)
+-- The program cannot be cut, and this is the offset of the instruction that passes the end: some
+-- instructions of that size begin the program, and no longer ones do. (Own: the whole program is
+-- then refused, at this offset.)
 pub record CannotBeCut (bytes : List ℕ) (offset : ℕ) : Type 0 where
   pub uncut : (is : List Instruction) → IsCut bytes is → ⊥
-  pub reached : (is : List Instruction) × (rest : List ℕ) × BeginsWith bytes is rest × (size is ≡ offset)
-  pub longest : (is : List Instruction) (rest : List ℕ) → BeginsWith bytes is rest → size is ≤ offset
+  pub reached : (is : List Instruction) × (rest : List ℕ) × BeginsWith bytes is rest ×
+      (size is ≡ offset)
+  pub longest : (is : List Instruction) (rest : List ℕ) → BeginsWith bytes is rest →
+      size is ≤ offset
 
 -- the instruction that starts at the offset
 abbrev pub instruction_at : List Instruction → ℕ → Option Instruction
 instruction_at [] offset = None
 instruction_at (i ∷ is) zero = Some i
-instruction_at (i ∷ is) (suc k) = if nat_lt (suc k) (length i) then None else instruction_at is (suc k - length i)
+instruction_at (i ∷ is) (suc k) =
+    if nat_lt (suc k) (length i) then None else instruction_at is (suc k - length i)

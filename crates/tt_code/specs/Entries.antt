@@ -1,5 +1,5 @@
--- How the code keeps the table: an array with an effect and one with a name for each code. (Representation: what they
--- say of the table.)
+-- How the code keeps the table: an array with an effect and one with a name for each code.
+-- (Representation: what they say of the table.)
 use Rattle.std.specs.Prelude.{ℕ, zero, suc, ◌+◌, List, [], ◌∷◌, Option, None, Some}
 use denote.Ref.{Bor}
 use Rattle.tt_code.specs.Table.{Meaning, NoEntry, Plain, Pushes, Stack, Computes, Controls}
@@ -9,7 +9,12 @@ use Rattle.tt_code.specs.declared.kinds.Effect.TheVariants as effect
 -- an effect, whose lists are slices
 abbrev pub view : Effect → Meaning
 view effect.NoEntry = NoEntry
-view (effect.Plain row) = Plain (record { operands = row.operands.now; uses = row.uses.now; updates = row.updates.now; pushes = row.pushes.now })
+view (effect.Plain row) = Plain (record {
+  operands = row.operands.now;
+  uses = row.uses.now;
+  updates = row.updates.now;
+  pushes = row.pushes.now;
+})
 view (effect.Push p) = Pushes p
 view (effect.Stack s) = Stack s
 view (effect.Arithmetic a) = Computes a

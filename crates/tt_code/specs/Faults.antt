@@ -2,8 +2,7 @@
 use Rattle.std.specs.Prelude.{ℕ, List}
 use Rattle.tt_code.specs.declared.fault.CodeFault.{CodeFault}
 use Rattle.tt_code.specs.declared.fault.CodeFault.TheVariants.{CannotCut, Structure, OutOfMemory}
-use Rattle.tt_code.specs.Cut.{Instruction, IsCut}
-use Rattle.tt_code.specs.Grammar.{IsFault}
+use Rattle.tt_code.specs.Grammar.{HasFault}
 
 -- memory ran out, which says nothing about the bytes
 abbrev pub IsMemory : CodeFault → Type 0
@@ -13,6 +12,6 @@ IsMemory (Structure offset) = ⊥
 
 -- the bytes can be cut, and this is the fault of their structure
 abbrev pub IsMisnested : List ℕ → CodeFault → Type 0
-IsMisnested bytes (Structure offset) = (is : List Instruction) × IsCut bytes is × IsFault is offset
+IsMisnested bytes (Structure offset) = HasFault bytes offset
 IsMisnested bytes (CannotCut offset) = ⊥
 IsMisnested bytes (OutOfMemory error) = ⊥

@@ -1,6 +1,7 @@
--- The programs of a font and where their runs start: the font program with no function defined, the CVT program with the
--- functions that the font program has at its end, each glyph program with those that the CVT program has at its end. (OpenType
--- specification, `fpgm`, `prep` and `glyf`; Apple TrueType Reference Manual, "Instructing fonts".)
+-- The programs of a font and where their runs start: the font program with no function defined, the
+-- CVT program with the functions that the font program has at its end, each glyph program with
+-- those that the CVT program has at its end. (OpenType specification, `fpgm`, `prep` and `glyf`;
+-- Apple TrueType Reference Manual, "Instructing fonts".)
 use Rattle.std.specs.Prelude.{◌≡◌, ℕ, List, [], true}
 use Rattle.tt_code.specs.Cut.{Instruction}
 use Rattle.tt_code.specs.Settings.{Setting, FontProgram, CvtProgram, GlyphProgram}
@@ -16,17 +17,38 @@ pub record Font : Type 0 where
   pub cvt_program : List Instruction
 
 abbrev pub font_setting : Font → Setting
-font_setting f = record { limits = f.limits; cvt = f.cvt; kind = FontProgram; main = f.font_program; font = f.font_program; prep = f.font_program }
+font_setting f = record {
+  limits = f.limits;
+  cvt = f.cvt;
+  kind = FontProgram;
+  main = f.font_program;
+  font = f.font_program;
+  prep = f.font_program;
+}
 
 abbrev pub cvt_setting : Font → Setting
-cvt_setting f = record { limits = f.limits; cvt = f.cvt; kind = CvtProgram; main = f.cvt_program; font = f.font_program; prep = f.cvt_program }
+cvt_setting f = record {
+  limits = f.limits;
+  cvt = f.cvt;
+  kind = CvtProgram;
+  main = f.cvt_program;
+  font = f.font_program;
+  prep = f.cvt_program;
+}
 
 abbrev pub glyph_setting : Font → ℕ → ℕ → List Instruction → Setting
-glyph_setting f points contours program =
-    record { limits = f.limits; cvt = f.cvt; kind = GlyphProgram points contours; main = program; font = f.font_program; prep = f.cvt_program }
+glyph_setting f points contours program = record {
+  limits = f.limits;
+  cvt = f.cvt;
+  kind = GlyphProgram points contours;
+  main = program;
+  font = f.font_program;
+  prep = f.cvt_program;
+}
 
 -- a run from one of these machines reaches the end, and leaves these functions
-pub record Leaves (s : Setting) (Starts : Machine → Type 0) (functions : List (ℕ × ℕ)) : Type 0 where
+pub record Leaves
+    (s : Setting) (Starts : Machine → Type 0) (functions : List (ℕ × ℕ)) : Type 0 where
   pub first : Machine
   pub last : Machine
   pub starts : Starts first

@@ -1,10 +1,11 @@
--- The structure of programs: how IF, ELSE and EIF, FDEF, IDEF and ENDF nest, which of them belong together, and the bodies
--- that they make. (Apple TrueType Reference Manual, "Managing the flow of control", IF, ELSE and EIF; "Defining and using
--- functions and instructions", FDEF, IDEF and ENDF.) A program is given as the list of its instructions, and an offset is
--- the size of the instructions before it.
-use Rattle.std.specs.Prelude.{◌≡◌, ◌⊎◌, ℕ, ◌+◌, ◌<◌, List, [], ◌∷◌, ◌++◌, Bool, true, false, length}
+-- The structure of programs: how IF, ELSE and EIF, FDEF, IDEF and ENDF nest, which of them belong
+-- together, and the bodies that they make. (Apple TrueType Reference Manual, "Managing the flow of
+-- control", IF, ELSE and EIF; "Defining and using functions and instructions", FDEF, IDEF and
+-- ENDF.) A program is given as the list of its instructions, and an offset is the size of the
+-- instructions before it.
+use Rattle.std.specs.Prelude.{◌≡◌, ◌⊎◌, ◌↔◌, ℕ, ◌+◌, ◌<◌, List, [], ◌∷◌, ◌++◌, Option, Some, Bool, true, false, length}
 use Rattle.std.specs.List.{AllByRecursion}
-use Rattle.tt_code.specs.Cut.{Instruction, IsInstruction, size}
+use Rattle.tt_code.specs.Cut.{Instruction, IsCut, IsInstruction, size}
 use Rattle.tt_code.specs.Structure.{keyword}
 use Rattle.tt_code.specs.declared.block_keyword.BlockKeyword.{BlockKeyword}
 use Rattle.tt_code.specs.declared.block_keyword.BlockKeyword.TheVariants.{If, Else, Eif, Fdef, Idef, Endf, Other}
@@ -17,19 +18,26 @@ IsDefinition Fdef = Unit {0}
 IsDefinition Idef = Unit {0}
 IsDefinition _ = ⊥
 
--- The grammar of nesting. A list is a sequence of items: any other instruction; IF, a list and EIF; IF, a list, ELSE, a list and
--- EIF; and, outside all definitions, FDEF or IDEF, a list inside it, and ENDF.
+-- The grammar of nesting. A list is a sequence of items: any other instruction; IF, a list and EIF;
+-- IF, a list, ELSE, a list and EIF; and, outside all definitions, FDEF or IDEF, a list inside it,
+-- and ENDF.
 pub data IsList : (inside : Bool) → List Instruction → Type 0 where
   none : {inside : Bool} → IsList inside []
   plain : {inside : Bool} {i : Instruction} {rest : List Instruction} →
       keyword i ≡ Other → IsList inside rest → IsList inside (i ∷ rest)
-  if_eif : {inside : Bool} {i : Instruction} {yes : List Instruction} (e : Instruction) {rest : List Instruction} →
-      keyword i ≡ If → IsList inside yes → keyword e ≡ Eif → IsList inside rest → IsList inside (i ∷ (yes ++ (e ∷ rest)))
-  if_else_eif : {inside : Bool} {i : Instruction} {yes : List Instruction} (l : Instruction) {otherwise : List Instruction} (e : Instruction) {rest : List Instruction} →
-      keyword i ≡ If → IsList inside yes → keyword l ≡ Else → IsList inside otherwise → keyword e ≡ Eif → IsList inside rest
-      → IsList inside (i ∷ (yes ++ (l ∷ (otherwise ++ (e ∷ rest)))))
-  definition : {d : Instruction} {defined : List Instruction} (e : Instruction) {rest : List Instruction} →
-      IsDefinition (keyword d) → IsList true defined → keyword e ≡ Endf → IsList false rest → IsList false (d ∷ (defined ++ (e ∷ rest)))
+  if_eif : {inside : Bool} {i : Instruction} {yes : List Instruction} (e : Instruction)
+      {rest : List Instruction} →
+      keyword i ≡ If → IsList inside yes → keyword e ≡ Eif → IsList inside rest →
+      IsList inside (i ∷ (yes ++ (e ∷ rest)))
+  if_else_eif : {inside : Bool} {i : Instruction} {yes : List Instruction} (l : Instruction)
+      {otherwise : List Instruction} (e : Instruction) {rest : List Instruction} →
+      keyword i ≡ If → IsList inside yes → keyword l ≡ Else → IsList inside otherwise →
+      keyword e ≡ Eif → IsList inside rest →
+      IsList inside (i ∷ (yes ++ (l ∷ (otherwise ++ (e ∷ rest)))))
+  definition : {d : Instruction} {defined : List Instruction} (e : Instruction)
+      {rest : List Instruction} →
+      IsDefinition (keyword d) → IsList true defined → keyword e ≡ Endf → IsList false rest →
+      IsList false (d ∷ (defined ++ (e ∷ rest)))
 
 -- a program is structured if it is a list outside all definitions
 abbrev pub IsStructured : List Instruction → Type 0
@@ -37,10 +45,12 @@ IsStructured is = IsList false is
 
 -- some list of the grammar begins with these
 abbrev pub CanGoOn : List Instruction → Type 0
-CanGoOn is = (rest : List Instruction) × AllByRecursion IsInstruction rest × IsStructured (is ++ rest)
+CanGoOn is =
+    (rest : List Instruction) × AllByRecursion IsInstruction rest × IsStructured (is ++ rest)
 
--- The fault of a program that isn't structured: the first instruction such that no list of the grammar begins with the program
--- up to and including it; or, if there is none, the program's end, where something is left open. (Own: the fault's place.)
+-- The fault of a program that isn't structured: the first instruction such that no list of the
+-- grammar begins with the program up to and including it; or, if there is none, the program's end,
+-- where something is left open. (Own: the fault's place.)
 
 pub record BreaksAt (is : List Instruction) (at : ℕ) : Type 0 where
   pub before : List Instruction
@@ -59,6 +69,10 @@ pub record OpenAtEnd (is : List Instruction) (at : ℕ) : Type 0 where
 abbrev pub IsFault : List Instruction → ℕ → Type 0
 IsFault is at = BreaksAt is at ⊎ OpenAtEnd is at
 
+-- the bytes can be cut, and this is the fault of their structure
+abbrev pub HasFault : List ℕ → ℕ → Type 0
+HasFault bytes at = (is : List Instruction) × IsCut bytes is × IsFault is at
+
 -- the instruction at an offset
 pub record StandsAt (is : List Instruction) (at : ℕ) (i : Instruction) : Type 0 where
   pub before : List Instruction
@@ -66,8 +80,21 @@ pub record StandsAt (is : List Instruction) (at : ℕ) (i : Instruction) : Type 
   pub whole : is ≡ before ++ (i ∷ after)
   pub offset : size before ≡ at
 
--- Partners. An opening instruction is followed by a list, and then by what ends it: an IF by its ELSE or its EIF, an ELSE by
--- its EIF, an FDEF or IDEF by its ENDF. Control goes to just after that one, and what a definition defines is what is between.
+-- no instruction starts at the offset
+abbrev pub NoneStandsAt : List Instruction → ℕ → Type 0
+NoneStandsAt is at = (i : Instruction) → StandsAt is at i → ⊥
+
+-- no instruction with this keyword starts at the offset
+abbrev pub NoKeywordAt : BlockKeyword → List Instruction → ℕ → Type 0
+NoKeywordAt opener is at = (i : Instruction) → StandsAt is at i → keyword i ≡ opener → ⊥
+
+-- at the offset there is an instruction, or the program ends
+abbrev pub IsStartOrEnd : List Instruction → ℕ → Type 0
+IsStartOrEnd is at = ((i : Instruction) × StandsAt is at i) ⊎ (at ≡ size is)
+
+-- Partners. An opening instruction is followed by a list, and then by what ends it: an IF by its
+-- ELSE or its EIF, an ELSE by its EIF, an FDEF or IDEF by its ENDF. Control goes to just after that
+-- one, and what a definition defines is what is between.
 
 abbrev pub Ends : BlockKeyword → BlockKeyword → Type 0
 Ends If w = (w ≡ Else) ⊎ (w ≡ Eif)
@@ -78,7 +105,8 @@ Ends Eif w = ⊥
 Ends Endf w = ⊥
 Ends Other w = ⊥
 
--- what follows an FDEF or IDEF is inside a definition; a list that is inside one is a list outside too
+-- what follows an FDEF or IDEF is inside a definition; a list that is inside one is a list outside
+-- too
 abbrev pub begins_definition : BlockKeyword → Bool
 begins_definition Fdef = true
 begins_definition Idef = true
@@ -97,14 +125,32 @@ pub record GoesTo (opener : BlockKeyword) (is : List Instruction) (at to : ℕ) 
   pub from : size before ≡ at
   pub target : size before + (length i + (size inner + length e)) ≡ to
 
--- Bodies. What follows an FDEF up to and including its ENDF is the body of a function; after an IDEF it is of none. All else is
--- the main program's.
+-- in structured programs a function finds where each instruction with this keyword goes, and
+-- nothing else
+abbrev pub FindsTargets : BlockKeyword → (List Instruction → ℕ → Option ℕ) → Type 0
+FindsTargets opener find =
+    (is : List Instruction) (at to : ℕ) → IsStructured is → AllByRecursion IsInstruction is →
+    ((find is at ≡ Some to) ↔ GoesTo opener is at to)
+
+-- in structured programs a function finds a place for each instruction with this keyword
+abbrev pub FindsEachTarget : BlockKeyword → (List Instruction → ℕ → Option ℕ) → Type 0
+FindsEachTarget opener find =
+    (is : List Instruction) (at : ℕ) (i : Instruction) → IsStructured is →
+    AllByRecursion IsInstruction is → StandsAt is at i → keyword i ≡ opener →
+    (to : ℕ) × (find is at ≡ Some to)
+
+-- Bodies. What follows an FDEF up to and including its ENDF is the body of a function; after an
+-- IDEF it is of none. All else is the main program's.
 
 -- the offset is in the definition that begins at another
 abbrev pub InDefinition : BlockKeyword → List Instruction → ℕ → ℕ → Type 0
 InDefinition opener is from at = (to : ℕ) × GoesTo opener is from to × (from < at) × (at < to)
 
 abbrev pub IsBodyAt : List Instruction → ℕ → Body → Type 0
-IsBodyAt is at (body.Function first) = (from : ℕ) × (first ≡ from + 1) × InDefinition Fdef is from at
-IsBodyAt is at (body.Instruction first) = (from : ℕ) × (first ≡ from + 1) × InDefinition Idef is from at
-IsBodyAt is at body.Main = ((from : ℕ) → InDefinition Fdef is from at → ⊥) × ((from : ℕ) → InDefinition Idef is from at → ⊥)
+IsBodyAt is at (body.Function first) =
+    (from : ℕ) × (first ≡ from + 1) × InDefinition Fdef is from at
+IsBodyAt is at (body.Instruction first) =
+    (from : ℕ) × (first ≡ from + 1) × InDefinition Idef is from at
+IsBodyAt is at body.Main =
+    ((from : ℕ) → InDefinition Fdef is from at → ⊥)
+    × ((from : ℕ) → InDefinition Idef is from at → ⊥)

@@ -1,4 +1,5 @@
--- Why a program is refused, by numbers, and outcomes that may be refused. (Own: the numbers are this product's.)
+-- Why a program is refused, by numbers, and outcomes that may be refused. (Own: the numbers are
+-- this product's.)
 use Rattle.std.specs.Prelude.{ℕ, Bool, true, false, codes, List, Option, None, Some, Result, Ok, Err}
 use Rattle.tt_code.specs.declared.reason.Reason.{Reason}
 use Rattle.tt_code.specs.declared.reason.Reason.TheVariants as reason

@@ -1,5 +1,5 @@
--- What one instruction does to the machine, and its faults, steps and runs. (Apple TrueType Reference Manual, "The TrueType
--- interpreter".)
+-- What one instruction does to the machine, and its faults, steps and runs. (Apple TrueType
+-- Reference Manual, "The TrueType interpreter".)
 use Rattle.std.specs.Prelude.{◌≡◌, ℕ, suc, ◌+◌, ℤ, List, [], ◌∷◌, Option, None, Some, Ok, Err, Bool, false, length, nat_le, if◌then◌else◌}
 use Rattle.tt_code.specs.Refusals.{Tested, ◌>>=◌, holds_or}
 use Rattle.tt_code.specs.Table.{Meaning, NoEntry, Plain, Pushes, Stack, Computes, Controls, effect_of}
@@ -18,7 +18,8 @@ goes_on next outcome = do
   o ← outcome
   Ok (record o { after = at_offset o.after next })
 
--- what an instruction does, by what its code stands for; the bytes after its code, and the offset after it
+-- what an instruction does, by what its code stands for; the bytes after its code, and the offset
+-- after it
 abbrev pub does : Setting → Machine → Meaning → List ℕ → ℕ → Tested Outcome
 does s m NoEntry rest next = Err reason.Opcode
 does s m (Plain line) rest next = goes_on next (plain s m line)
@@ -36,11 +37,15 @@ within_depth s o = do
 abbrev pub performs : Setting → Machine → Option Instruction → Tested Outcome
 performs s m None = Err reason.Target
 performs s m (Some []) = Err reason.Target
-performs s m (Some (code ∷ rest)) = does s m (effect_of code) rest (m.offset + suc (length rest)) >>= within_depth s
+performs s m (Some (code ∷ rest)) =
+    does s m (effect_of code) rest (m.offset + suc (length rest)) >>= within_depth s
 
 -- the instruction at the machine's offset, if one of its body starts there
 abbrev pub fetched : Setting → Machine → Option Instruction
-fetched s m = if starts_in_body s m.frames m.offset then instruction_at (program_of s m.frames) m.offset else None
+fetched s m =
+    if starts_in_body s m.frames m.offset
+    then instruction_at (program_of s m.frames) m.offset
+    else None
 
 -- what happens to a machine that isn't at the main program's end
 unfoldable pub outcome : Setting → Machine → Tested Outcome
@@ -54,7 +59,8 @@ pub record Faults (s : Setting) (m : Machine) (r : Reason) : Type 0 where
   pub running : is_at_end s m ≡ false
   pub fails : outcome s m ≡ Err r
 
--- What is measured, read from the control values, or leaves the range is any number: a choice for each element pushed.
+-- What is measured, read from the control values, or leaves the range is any number: a choice for
+-- each element pushed.
 abbrev pub Choices : Type 0
 Choices = ℕ → ℤ
 
@@ -85,8 +91,9 @@ pub data Runs (s : Setting) : Machine → Machine → Type 0 where
   here : (m : Machine) → Runs s m m
   step : (a b c : Machine) → Steps s a b → Runs s b c → Runs s a c
 
--- Where programs start: at their first byte, with no frames, the empty stack and the default graphics state. (Own: the
--- storage area holds any numbers, so that nothing is kept from one program to the next.)
+-- Where programs start: at their first byte, with no frames, the empty stack and the default
+-- graphics state. (Own: the storage area holds any numbers, so that nothing is kept from one
+-- program to the next.)
 pub record IsFresh (m : Machine) : Type 0 where
   pub no_frames : m.frames ≡ []
   pub at_first_byte : m.offset ≡ 0

@@ -1,6 +1,6 @@
--- What stays the same through a run of the hint machine: the font's limits, its programs, and what kind of program runs.
--- (OpenType specification, `maxp` and `cvt `; Apple TrueType Reference Manual, "Instructing fonts", the font program, the CVT
--- program and glyph programs.)
+-- What stays the same through a run of the hint machine: the font's limits, its programs, and what
+-- kind of program runs. (OpenType specification, `maxp` and `cvt `; Apple TrueType Reference
+-- Manual, "Instructing fonts", the font program, the CVT program and glyph programs.)
 use Rattle.std.specs.Prelude.{ℕ, zero, suc, ◌+◌, ◌-◌, List, [], ◌∷◌, Option, Some, None, Bool, true, false, nat_lt, nat_eq, nat_le, ◌||◌, ℤ, pos, negsuc, if◌then◌else◌}
 use Rattle.tt_code.specs.Cut.{Instruction, size}
 use Rattle.tt_code.specs.Structure.{body_at}
@@ -9,13 +9,15 @@ use Rattle.tt_code.specs.declared.machine.Frame.{Frame}
 use Rattle.tt_code.specs.declared.machine.Body.{Body}
 use Rattle.tt_code.specs.declared.machine.Body.TheVariants as body
 
--- which program runs; in a glyph program, how many points and contours the glyph has, except for phantom points
+-- which program runs; in a glyph program, how many points and contours the glyph has, except for
+-- phantom points
 pub data Kind : Type 0 where
   FontProgram : Kind
   CvtProgram : Kind
   GlyphProgram : (points contours : ℕ) → Kind
 
--- The programs are given cut. For the font program all three are one, for the CVT program `prep` is `main`.
+-- The programs are given cut. For the font program all three are one, for the CVT program `prep` is
+-- `main`.
 pub record Setting : Type 0 where
   pub limits : Limits
   -- how many control values the font has
@@ -27,8 +29,9 @@ pub record Setting : Type 0 where
   pub font : List Instruction
   pub prep : List Instruction
 
--- Zones. (Apple TrueType Reference Manual, "Graphics state", zone pointers.) Zone 0 is the twilight zone, zone 1 the glyph
--- zone, which has the glyph's points and its four phantom points. (Own: in the font program and the CVT program it has none.)
+-- Zones. (Apple TrueType Reference Manual, "Graphics state", zone pointers.) Zone 0 is the twilight
+-- zone, zone 1 the glyph zone, which has the glyph's points and its four phantom points. (Own: in
+-- the font program and the CVT program it has none.)
 
 pub data ZoneNumber : Type 0 where
   Zero : ZoneNumber
@@ -64,7 +67,8 @@ zone_named s (pos (suc zero)) = Some One
 zone_named s (pos (suc (suc n))) = None
 zone_named s (negsuc n) = None
 
--- Bodies of functions are named by their offset in the font program, or by 2^31 more than their offset in the CVT program.
+-- Bodies of functions are named by their offset in the font program, or by 2^31 more than their
+-- offset in the CVT program.
 
 abbrev pub CVT_BODIES : ℕ
 CVT_BODIES = 2147483648
@@ -103,7 +107,8 @@ abbrev pub is_main_end : Setting → List Frame → ℕ → Bool
 is_main_end s [] offset = nat_eq offset (size s.main)
 is_main_end s (f ∷ fs) offset = false
 
--- Whether control may go there by a jump: to an instruction of the same body, in a main program to its end too (own).
+-- Whether control may go there by a jump: to an instruction of the same body, in a main program to
+-- its end too (own).
 abbrev pub is_target : Setting → List Frame → ℤ → Bool
 is_target s fs (negsuc n) = false
 is_target s fs (pos n) = starts_in_body s fs n || is_main_end s fs n

@@ -1,6 +1,6 @@
--- The state of the hint machine. (Apple TrueType Reference Manual, "The TrueType interpreter" and "Graphics state".) What
--- this product doesn't decide, such as coordinates, vectors, rounding and the control values, isn't kept: where a program reads it,
--- any number may be read.
+-- The state of the hint machine. (Apple TrueType Reference Manual, "The TrueType interpreter" and
+-- "Graphics state".) What this product doesn't decide, such as coordinates, vectors, rounding and
+-- the control values, isn't kept: where a program reads it, any number may be read.
 use Rattle.std.specs.Prelude.{ℕ, ℤ, pos, negsuc, FitsSigned, List, Bool, true, false, nat_lt, ◌^◌, zero, suc}
 use Rattle.std.specs.Int.{w32}
 use Rattle.tt_code.specs.Settings.{ZoneNumber, One}
@@ -71,7 +71,15 @@ with_pointer Zp2 z g = record g { zp2 = z }
 
 -- the graphics state with which every program starts
 abbrev pub default_graphics : Graphics ℤ ZoneNumber
-default_graphics = record { rp0 = pos 0; rp1 = pos 0; rp2 = pos 0; zp0 = One; zp1 = One; zp2 = One; loop_number = pos 1 }
+default_graphics = record {
+  rp0 = pos 0;
+  rp1 = pos 0;
+  rp2 = pos 0;
+  zp0 = One;
+  zp1 = One;
+  zp2 = One;
+  loop_number = pos 1;
+}
 
 abbrev pub at_offset : Machine → ℕ → Machine
 at_offset m offset = record m { offset = offset }

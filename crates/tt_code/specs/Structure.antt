@@ -1,6 +1,6 @@
--- Where IF, ELSE and FDEF lead, and to which body an instruction belongs, as functions on a cut. (Apple TrueType Reference
--- Manual, "Managing the flow of control", IF, ELSE and EIF, and "Defining and using functions and instructions", FDEF,
--- IDEF and ENDF.)
+-- Where IF, ELSE and FDEF lead, and to which body an instruction belongs, as functions on a cut.
+-- (Apple TrueType Reference Manual, "Managing the flow of control", IF, ELSE and EIF, and "Defining
+-- and using functions and instructions", FDEF, IDEF and ENDF.)
 use Rattle.std.specs.Prelude.{ℕ, zero, suc, ◌+◌, List, [], ◌∷◌, Option, None, Some, Bool, true, false, length, nat_eq, if◌then◌else◌}
 use Rattle.tt_code.specs.Cut.{Instruction}
 use Rattle.tt_code.specs.declared.block_keyword.BlockKeyword.{BlockKeyword}
@@ -9,8 +9,8 @@ use Rattle.tt_code.specs.declared.machine.Body.{Body}
 use Rattle.tt_code.specs.declared.machine.Body.TheVariants as body
 
 -- what an instruction is for a program's structure, by its code
-abbrev pub word_of : ℕ → BlockKeyword
-word_of code =
+abbrev pub keyword_of : ℕ → BlockKeyword
+keyword_of code =
     if nat_eq code 0x58 then If
     else if nat_eq code 0x1b then Else
     else if nat_eq code 0x59 then Eif
@@ -21,7 +21,7 @@ word_of code =
 
 unfoldable pub keyword : Instruction → BlockKeyword
 keyword [] = Other
-keyword (code ∷ rest) = word_of code
+keyword (code ∷ rest) = keyword_of code
 
 abbrev pub is_keyword : BlockKeyword → BlockKeyword → Bool
 is_keyword If If = true
@@ -33,8 +33,9 @@ is_keyword Endf Endf = true
 is_keyword Other Other = true
 is_keyword _ _ = false
 
--- Looking for the instruction that ends what an opening one began, while so many IFs are open inside: None where this is
--- it, else how many are open after it. An IF ends at its ELSE or EIF, an ELSE at its EIF, a definition at its ENDF.
+-- Looking for the instruction that ends what an opening one began, while so many IFs are open
+-- inside: None where this is it, else how many are open after it. An IF ends at its ELSE or EIF, an
+-- ELSE at its EIF, a definition at its ENDF.
 abbrev pub still_open : BlockKeyword → BlockKeyword → ℕ → Option ℕ
 still_open If If inside = Some (suc inside)
 still_open If Else zero = None
@@ -49,7 +50,8 @@ still_open Else _ inside = Some inside
 still_open _ Endf inside = None
 still_open _ _ inside = Some inside
 
--- the offset after the end of what the opening instruction began, in the instructions from an offset on
+-- the offset after the end of what the opening instruction began, in the instructions from an
+-- offset on
 abbrev pub behind_end : BlockKeyword → List Instruction → ℕ → ℕ → Option ℕ
 behind_end opener [] offset inside = None
 behind_end opener (i ∷ is) offset inside = elim (still_open opener (keyword i) inside) [
@@ -87,7 +89,8 @@ body_behind here Idef next = body.Instruction next
 body_behind here Endf next = body.Main
 body_behind here _ next = here
 
--- the body of the instruction at an offset, in instructions from another offset on that begin in a body
+-- the body of the instruction at an offset, in instructions from another offset on that begin in a
+-- body
 abbrev pub body_from : Body → ℕ → List Instruction → ℕ → Option Body
 body_from here start [] offset = None
 body_from here start (i ∷ is) offset =

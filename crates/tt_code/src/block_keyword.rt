@@ -1,9 +1,10 @@
-//! What an instruction is for a program's structure (Apple TrueType Reference Manual, "Managing the flow of control").
+//! The keywords by which instructions make a program's structure (Apple TrueType Reference Manual,
+//! "Managing the flow of control", "Defining and using functions and instructions").
 
 ghost use Rattle.std.specs.Prelude.{◌≡◌};
-ghost use Rattle.tt_code.specs.Structure.{word_of};
+ghost use Rattle.tt_code.specs.Structure.{keyword_of};
 
-/// What an instruction is for a program's structure (Apple TrueType Reference Manual, "Managing the flow of control").
+/// What an instruction is for a program's structure: one of six keywords, or none of them.
 #[derive(Clone, Copy, Debug, PartialEq, Eq)]
 pub enum BlockKeyword {
     If,
@@ -15,9 +16,9 @@ pub enum BlockKeyword {
     Other,
 }
 
-/// Returns what the instructions of a code are for the structure.
+/// Returns the keyword of a code's instructions.
 pub fn keyword_of_code(code: u8) -> BlockKeyword
-    ensures { result ≡ word_of code }
+    ensures { result ≡ keyword_of code }
 {
     match code {
         0x58 => BlockKeyword::If,

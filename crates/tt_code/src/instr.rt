@@ -2,7 +2,7 @@
 
 ghost use Rattle.std.specs.Prelude.{◌≡◌, ℕ, List, Some, length};
 ghost use Rattle.tt_code.specs.Cut.{code_of, data_of};
-ghost use Rattle.tt_code.specs.Laid.{IsHeld};
+ghost use Rattle.tt_code.specs.Representation.Laid.{IsHeld};
 
 use crate::kinds::{Effect, Push};
 use crate::table::entry;
@@ -55,7 +55,8 @@ impl<'a> Instr<'a> {
         self.bytes
     }
 
-    /// Returns what a push instruction pushes, as bytes or words of two bytes; empty for every other one.
+    /// Returns what a push instruction pushes, as bytes or words of two bytes; empty for every
+    /// other one.
     pub fn data(&self) -> &'a [u8]
         ensures { result.now ≡ data_of self.now }
     {

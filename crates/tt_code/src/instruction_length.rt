@@ -1,14 +1,15 @@
-//! Where one instruction ends: at its code, or at the last of its data (Apple TrueType Reference Manual, "Pushing data onto the
-//! interpreter stack").
+//! Where one instruction ends: at its code, or at the last of its data (Apple TrueType Reference
+//! Manual, "Pushing data onto the interpreter stack").
 
-ghost use Rattle.std.specs.Prelude.{◌≡◌, ℕ, ◌≤◌, ◌<◌, ◌^◌, List, ◌++◌, take, length, IfSome, IfNone};
-ghost use Rattle.tt_code.specs.Cut.{CannotBeCut, Instruction, IsCut, IsInstruction, data_length};
+ghost use Rattle.std.specs.Prelude.{◌≡◌, ◌≤◌, ◌<◌, ◌^◌, length, IfSome, IfNone};
+ghost use Rattle.tt_code.specs.Cut.{CanBeCut, CannotBeCut, IsInstructionInFront, NoInstructionInFront, data_length};
 ghost use Rattle.tt_code.specs.Entries.{view};
 
 use crate::kinds::{Effect, Push};
 use crate::table::entry;
 
-/// Returns how many bytes follow the code, a count byte included; None where the count byte is missing.
+/// Returns how many bytes follow the code, a count byte included; None where the count byte is
+/// missing.
 fn data_length_of(effect: &Effect, rest: &[u8]) -> Option<u16>
     ensures value { result ≡ data_length (view effect.now) rest.now }
     ensures small { IfSome result (λ n. n ≤ 511) }
@@ -24,8 +25,8 @@ fn data_length_of(effect: &Effect, rest: &[u8]) -> Option<u16>
 
 /// Returns how many bytes the instruction at the front has; None where it passes the end.
 pub fn front_length(bytes: &[u8]) -> Option<u16>
-    ensures found { IfSome result (λ n. (0 < n) × (n ≤ length bytes.now) × IsInstruction (take n bytes.now)) }
-    ensures none { IfNone result ((i rest : List ℕ) → IsInstruction i → i ++ rest ≡ bytes.now → ⊥) }
+    ensures found { IfSome result (IsInstructionInFront bytes.now) }
+    ensures none { IfNone result (NoInstructionInFront bytes.now) }
 {
     let (code, rest) = bytes.split_first()?;
     let count = data_length_of(entry(*code), rest)?;
@@ -39,7 +40,7 @@ pub fn front_length(bytes: &[u8]) -> Option<u16>
 /// Finds the instruction that passes the end, and returns its offset, if there is one.
 pub fn first_uncut(bytes: &[u8]) -> Option<u32>
     requires { length bytes.now < 2 ^ 31 }
-    ensures cut { IfNone result ((is : List Instruction) × IsCut bytes.now is) }
+    ensures cut { IfNone result (CanBeCut bytes.now) }
     ensures uncut { IfSome result (CannotBeCut bytes.now) }
 {
     let mut rest = bytes;

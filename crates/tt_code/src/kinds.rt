@@ -1,4 +1,5 @@
-//! What an instruction takes, tests, changes and pushes, by kinds (Apple TrueType Reference Manual, "The TrueType instruction set").
+//! What an instruction takes, tests, changes and pushes, by kinds (Apple TrueType Reference Manual,
+//! "The TrueType instruction set").
 
 /// One of the three reference points of the graphics state.
 #[derive(Clone, Copy)]
@@ -77,7 +78,8 @@ pub enum Update {
     SetLoop(u8),
     /// The loop number becomes 1.
     LoopIsOne,
-    /// The storage cell whose index was taken at the first position becomes the element taken at the second.
+    /// The storage cell whose index was taken at the first position becomes the element taken at
+    /// the second.
     Store(u8, u8),
 }
 
@@ -90,8 +92,8 @@ pub enum Pushed {
     Stored(u8),
 }
 
-/// The effect of an instruction that only takes, tests, changes and pushes. Positions count the elements that the
-/// operands take, from 0.
+/// The effect of an instruction that only takes, tests, changes and pushes. Positions count the
+/// elements that the operands take, from 0.
 #[derive(Clone, Copy)]
 pub struct Row {
     /// The operands, the top of the stack first.

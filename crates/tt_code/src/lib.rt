@@ -1,5 +1,6 @@
-//! The instruction set of TrueType hint programs as data, programs cut into instructions, and the hint machine's
-//! definitions.
+//! The instruction set of TrueType hint programs as data, programs cut into instructions, and the
+//! hint machine's definitions (Apple TrueType Reference Manual, "Instructions", "The TrueType
+//! interpreter", "The TrueType instruction set"; OpenType specification, `maxp`).
 #![tactic(auto)]
 
 pub mod block_keyword;

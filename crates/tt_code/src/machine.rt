@@ -1,9 +1,11 @@
-//! What the hint machine keeps besides its stack (Apple TrueType Reference Manual, "Graphics state").
+//! What the hint machine keeps besides its stack (Apple TrueType Reference Manual, "Graphics
+//! state").
 
 /// A call that hasn't returned.
 #[derive(Clone, Copy, Debug, PartialEq, Eq)]
 pub struct Frame {
-    /// The function's body: its offset in the font program, or 2^31 more than its offset in the CVT program.
+    /// The function's body: its offset in the font program, or 2^31 more than its offset in the CVT
+    /// program.
     pub body: u32,
     /// The offset of the CALL or LOOPCALL.
     pub call: u32,
@@ -13,8 +15,8 @@ pub struct Frame {
     pub count: u32,
 }
 
-/// The part of the graphics state that decides which points, zones and counts are in range: over numbers and zones
-/// where a machine runs, over what is known of them elsewhere.
+/// The part of the graphics state that decides which points, zones and counts are in range: over
+/// numbers and zones where a machine runs, over what is known of them elsewhere.
 #[derive(Clone, Copy, Debug, PartialEq, Eq)]
 pub struct Graphics<N, Z> {
     pub rp0: N,
@@ -32,8 +34,10 @@ pub struct Graphics<N, Z> {
 pub enum Body {
     /// Outside all definitions, FDEF and IDEF themselves included.
     Main,
-    /// After an FDEF, up to and including its ENDF; the offset of the body's first instruction names it.
+    /// After an FDEF, up to and including its ENDF; the offset of the body's first instruction
+    /// names it.
     Function(u32),
-    /// After an IDEF, up to and including its ENDF, named by the offset of the first instruction. No function has this body.
+    /// After an IDEF, up to and including its ENDF, named by the offset of the first instruction.
+    /// No function has this body.
     Instruction(u32),
 }

@@ -1,15 +1,15 @@
-//! What is open at a place of a program (Apple TrueType Reference Manual, "Managing the flow of control", "Defining and using
-//! functions and instructions").
+//! What is open at a place of a program (Apple TrueType Reference Manual, "Managing the flow of
+//! control", "Defining and using functions and instructions").
 
 ghost use Rattle.std.specs.Prelude.{◌≡◌, ◌<◌, ◌-◌, ◌^◌, IfOk, reverse};
-ghost use Rattle.tt_code.specs.Pass.{Turns, body_of, body_after};
+ghost use Rattle.tt_code.specs.Representation.Pass.{Turns, body_of, body_after};
 
 use crate::block_keyword::BlockKeyword;
 use crate::machine::Body;
 use std::alloc::AllocError;
 
-/// What is open, with the offset of the instruction that opened it: an IF without an ELSE so far, an ELSE, or the definition
-/// of a function or an instruction.
+/// What is open, with the offset of the instruction that opened it: an IF without an ELSE so far,
+/// an ELSE, or the definition of a function or an instruction.
 #[derive(Clone, Copy)]
 pub enum Open {
     InIf(u32),
@@ -37,7 +37,8 @@ pub fn take_turn(
     body: Body,
 ) -> Result<Nesting, AllocError>
     requires { body ≡ body_of (reverse stack.old.items) }
-    ensures { IfOk result (λ t. Turns t keyword offset (reverse stack.old.items) (reverse stack.new.items)) }
+    ensures { IfOk result (λ t.
+        Turns t keyword offset (reverse stack.old.items) (reverse stack.new.items)) }
 {
     match keyword {
         BlockKeyword::Other => Ok(Nesting::Passed),

@@ -1,5 +1,5 @@
-//! The one pass over a program's instructions that finds its structure (Apple TrueType Reference Manual, "Managing the flow of
-//! control").
+//! The one pass over a program's instructions that finds its structure (Apple TrueType Reference
+//! Manual, "Managing the flow of control").
 
 ghost use Rattle.std.specs.Prelude.{◌≡◌, List, [], ◌∷◌, ◌++◌, ◌+◌, ◌<◌, ◌≤◌, ◌^◌, length, Ok, true, false, IfOk};
 ghost use Rattle.std.specs.Vec.{vec_capacity};
@@ -24,7 +24,7 @@ pub struct Reading {
 }
 
 impl Reading {
-    ghost use Rattle.tt_code.specs.Slots.{IsReading};
+    ghost use Rattle.tt_code.specs.Representation.Slots.{IsReading};
 
     /// Makes the state before anything is read, with room for so many bytes.
     pub fn new(alloc: Global, size: usize) -> Result<Reading, AllocError>
@@ -44,8 +44,10 @@ impl Reading {
         requires short { length instruction.now < 2 ^ 16 }
         requires fits { length self.old.slots.items + length instruction.now < 2 ^ 31 }
         requires so_far { (p : List Instruction) × IsReading p self.old }
-        ensures stands { result ≡ Ok true → (p : List Instruction) → IsReading p self.old → IsReading (p ++ instruction.now ∷ []) self.new }
-        ensures refused { result ≡ Ok false → (p : List Instruction) → IsReading p self.old → CanGoOn (p ++ instruction.now ∷ []) → ⊥ }
+        ensures stands { result ≡ Ok true → (p : List Instruction) → IsReading p self.old →
+            IsReading (p ++ instruction.now ∷ []) self.new }
+        ensures refused { result ≡ Ok false → (p : List Instruction) → IsReading p self.old →
+            CanGoOn (p ++ instruction.now ∷ []) → ⊥ }
     {
         let offset = self.slots.len() as u32;
         let end = offset + instruction.len() as u32;

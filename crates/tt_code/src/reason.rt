@@ -1,4 +1,5 @@
-//! Why a program is refused.
+//! Why a program is refused: its bytes, or a test of one of its instructions (Apple TrueType
+//! Reference Manual, "The TrueType instruction set"). The numbers and texts are this product's own.
 
 ghost use Rattle.std.specs.Prelude.{◌≡◌};
 ghost use Rattle.tt_code.specs.Refusals.{number_of, reason_text};
@@ -6,7 +7,8 @@ ghost use Rattle.tt_code.specs.Refusals.{number_of, reason_text};
 use std::error::Error;
 use std::fmt;
 
-/// Why a program is refused. Each reason has a number, and its text is what the command prints after the number.
+/// Why a program is refused. Each reason has a number, and its text is what the command prints
+/// after the number.
 #[derive(Clone, Copy, Debug, PartialEq, Eq, Drop)]
 pub enum Reason {
     CannotCut = 20,

@@ -1,7 +1,9 @@
-//! What is kept of each byte of a program.
+//! What is kept of each byte of a program: of an instruction that starts there, its length, body
+//! and target (Apple TrueType Reference Manual, "Managing the flow of control", "Defining and using
+//! functions and instructions").
 
 ghost use Rattle.std.specs.Prelude.{◌≡◌, ◌<◌, Some, None, IfNone, IfSome, option_map, slice_index};
-ghost use Rattle.tt_code.specs.Slots.{bodies, body_found, body_in, inside, lengths, target_found, target_in, targets};
+ghost use Rattle.tt_code.specs.Representation.Slots.{bodies, body_found, body_in, inside, lengths, target_found, target_in, targets};
 
 use crate::machine::Body;
 
@@ -16,7 +18,8 @@ pub enum BodyKind {
 /// What is kept of one byte of a program.
 #[derive(Clone, Copy)]
 pub struct Slot {
-    /// Where control goes after what the instruction that starts here opens; 0 where it opens nothing.
+    /// Where control goes after what the instruction that starts here opens; 0 where it opens
+    /// nothing.
     pub target: u32,
     /// The offset of the first instruction of its body; 0 in the main program.
     pub first: u32,
@@ -89,7 +92,8 @@ impl Slot {
 
 /// Returns how many bytes the instruction at the offset has, and its body, if one starts there.
 pub fn start_at(slots: &[Slot], offset: u32) -> Option<(u16, Body)>
-    ensures length { IfSome result (λ found. 0 < found.0 × (found.0 ≡ slice_index (lengths slots.now) offset)) }
+    ensures length { IfSome result (λ found.
+        0 < found.0 × (found.0 ≡ slice_index (lengths slots.now) offset)) }
     ensures body { option_map (λ found. found.1) result ≡ body_found (bodies slots.now) offset }
     ensures none { IfNone result (slice_index (lengths slots.now) offset ≡ 0) }
 {
@@ -98,7 +102,8 @@ pub fn start_at(slots: &[Slot], offset: u32) -> Option<(u16, Body)>
     Some((slot.length, body))
 }
 
-/// Returns where control goes after what the instruction at the offset opens, if one starts there and opens something.
+/// Returns where control goes after what the instruction at the offset opens, if one starts there
+/// and opens something.
 pub fn target_of(slots: &[Slot], offset: u32) -> Option<u32>
     ensures { result ≡ target_found (targets slots.now) offset }
 {

@@ -1,5 +1,5 @@
-//! The instruction set, as an array with an effect and one with a name for each code (Apple TrueType Reference Manual, "The
-//! TrueType instruction set").
+//! The instruction set, as an array with an effect and one with a name for each code (Apple
+//! TrueType Reference Manual, "The TrueType instruction set").
 
 ghost use Rattle.std.specs.Prelude.{◌≡◌, map, option_map};
 ghost use Rattle.tt_code.specs.Table.{effect_of, name_of};
@@ -684,7 +684,8 @@ static EFFECTS: [Effect; 256] = [
     MIRP_SET_RP0,
 ];
 
-/// The names of all codes; each comment gives the first of the sixteen codes after it. A code without an entry has the empty name.
+/// The names of all codes; each comment gives the first of the sixteen codes after it. A code
+/// without an entry has the empty name.
 static NAMES: [&str; 256] = [
     // 00
     "SVTCA",
@@ -974,15 +975,15 @@ fn names() -> &'static [&'static str; 256]
     &NAMES
 }
 
-/// Returns the code's entry of the table, which is the same as what `effect` returns.
+/// Returns what the instructions of a code take, test, change and push (Apple TrueType Reference
+/// Manual, "The TrueType instruction set").
 pub fn entry(code: u8) -> &'static Effect
     ensures { view result.now ≡ effect_of code }
 {
     &effects()[code as usize]
 }
 
-/// Returns what the instructions of a code take, test, change and push (Apple TrueType Reference Manual, "The TrueType
-/// instruction set").
+/// Returns what the instructions of a code take, test, change and push, as `entry` does, by value.
 pub fn effect(code: u8) -> Effect
     ensures { view result ≡ effect_of code }
 {

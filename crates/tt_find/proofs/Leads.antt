@@ -7,7 +7,7 @@ use Rattle.tt_code.specs.declared.reason.Reason.TheVariants.{TooManyContexts}
 use Rattle.tt_abs.specs.declared.moves.Move.{Move}
 use Rattle.tt_abs.specs.declared.moves.Moves.{Moves}
 use Rattle.tt_abs.specs.declared.state.State.{State}
-use Rattle.tt_abs.specs.FamilyLaws.{derived_is}
+use Rattle.tt_abs.proofs.FamilyLaws.{derived_is}
 use Rattle.tt_abs.specs.Lines.{Precedes}
 use Rattle.tt_abs.specs.Moves.{frames_behind, offset_behind, ways_of}
 use Rattle.tt_abs.specs.StateFlow.{Place, flow_of, height_of}
@@ -22,7 +22,8 @@ use Rattle.tt_cert.specs.declared.fault.ContextFault.TheVariants.{TooManyContext
 use Rattle.tt_cert.specs.declared.fault.ProgramFault.{ProgramFault}
 use Rattle.tt_cert.specs.declared.fault.ProgramFault.TheVariants.{Refused, OutOfMemory}
 use Rattle.tt_find.specs.Found.{IsJustified, NamesPlace}
-use Rattle.tt_find.specs.Tables.{ComesFrom, IsCountable, HasLaws, IsJustAfter, IsLeading, IsLeadingAt, IsLeadingOn, IsLeadingTo, IsOnWay, IsStored, IsWalk, IsWhole, TellsSource, calls_of, here_of, place_behind, place_over, places_from}
+use Rattle.tt_cert.specs.Cursors.{IsJustAfter}
+use Rattle.tt_find.specs.Solvers.{ComesFrom, IsCountable, HasLaws, IsLeading, IsLeadingAt, IsLeadingOn, IsLeadingTo, IsOnWay, IsStored, IsWalk, IsWhole, TellsSource, calls_of, here_of, place_behind, place_over, places_from}
 use Rattle.tt_find.specs.declared.origin.Origin.{Origin}
 use Rattle.tt_find.specs.declared.origin.Origin.TheVariants.{JustBefore, Elsewhere}
 use Rattle.tt_find.specs.declared.solver.Solver.{Solver}

@@ -7,7 +7,7 @@ use Rattle.tt_code.specs.declared.reason.Reason.{Reason}
 use Rattle.tt_code.specs.declared.reason.Reason.TheVariants.{MissingPoint, NotCovered}
 use Rattle.tt_abs.specs.declared.state.State.{State}
 use Rattle.tt_abs.specs.Families.{CoversAt, moved}
-use Rattle.tt_abs.specs.FamilyLaws.{derived_below, derived_is, none_where_refused}
+use Rattle.tt_abs.proofs.FamilyLaws.{derived_below, derived_is, none_where_refused}
 use Rattle.tt_abs.specs.Lines.{Precedes}
 use Rattle.tt_abs.specs.StateFlow.{GivesState, Place, RefusesState, flow_of, height_of}
 use Rattle.tt_abs.specs.States.{start_of, state_laws, state_order}
@@ -18,7 +18,7 @@ use Rattle.tt_cert.specs.Fillings.{HasGoodFilling, IsFilling}
 use Rattle.tt_cert.specs.GoodFamilies.{EndsWell, IsGoodFamily}
 use Rattle.tt_cert.proofs.FillingLaws.{ends_listed, some_or_none}
 use Rattle.tt_find.specs.Found.{IsDerived, IsNeeded, IsWithout, LacksPoint, NeedsAll}
-use Rattle.tt_find.specs.Tables.{HasLaws}
+use Rattle.tt_find.specs.Solvers.{HasLaws}
 use Rattle.tt_find.proofs.Points.{same_or_apart}
 
 module _ (s : Setting) (functions : List (ℕ × ℕ)) (laws : HasLaws s functions) (family filled : Place → Option State) (fills : IsFilling s family filled) (good : IsGoodFamily s functions filled)

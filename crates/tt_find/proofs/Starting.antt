@@ -5,7 +5,7 @@ use Rattle.tt_code.specs.Settings.{Setting}
 use Rattle.tt_code.specs.declared.machine.Frame.{Frame}
 use Rattle.tt_abs.specs.declared.state.State.{State}
 use Rattle.tt_abs.specs.Families.{started}
-use Rattle.tt_abs.specs.FamilyLaws.{derived_height}
+use Rattle.tt_abs.proofs.FamilyLaws.{derived_height}
 use Rattle.tt_abs.specs.StateFlow.{Place, flow_of, height_of}
 use Rattle.tt_abs.specs.States.{start_of, state_laws, state_order}
 use Rattle.tt_cert.specs.Contents.{family_of, frames_at, number_of}
@@ -14,7 +14,7 @@ use Rattle.tt_cert.specs.Puts.{number_at, place_of}
 use Rattle.tt_find.specs.declared.origin.Origin.TheVariants.{Elsewhere}
 use Rattle.tt_find.specs.declared.solver.Solver.{Solver}
 use Rattle.tt_find.specs.Found.{IsDerived}
-use Rattle.tt_find.specs.Tables.{ArePoints, AreKept, AreVisits, HasLaws, IsAmong, IsEmptyTable, IsListed, IsStored, IsWhole, IsWithinBudget}
+use Rattle.tt_find.specs.Solvers.{ArePoints, AreKept, AreVisits, HasLaws, IsAmong, IsEmptySolver, IsListed, IsStored, IsWhole, IsWithinBudget}
 use Rattle.tt_find.proofs.Budget.{budget_start}
 use Rattle.tt_find.proofs.Listed.{listed_now}
 use Rattle.tt_find.proofs.Marking.{kept_put}
@@ -45,7 +45,7 @@ no_points family blank = record {
   most = omega arith;
 }
 
-module _ (s : Setting) (functions : List (ℕ × ℕ)) (laws : HasLaws s functions) (old new : Solver) (t : State) (start : t ≡ start_of functions) (empty : IsEmptyTable old) (stored : IsStored old new 0 0 t Elsewhere) where
+module _ (s : Setting) (functions : List (ℕ × ℕ)) (laws : HasLaws s functions) (old new : Solver) (t : State) (start : t ≡ start_of functions) (empty : IsEmptySolver old) (stored : IsStored old new 0 0 t Elsewhere) where
   abbrev Q : Place
   Q = place_of old.builder 0 0
 

@@ -1,4 +1,5 @@
 pub mod Found
-pub mod Marks
-pub mod Tables
+pub mod FoundSubjects
+pub mod OffsetMarks
+pub mod Solvers
 pub mod Worklist

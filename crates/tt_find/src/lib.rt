@@ -5,9 +5,9 @@ pub mod finder;
 mod marks;
 mod origin;
 mod run;
+mod solver;
 mod stop;
 mod successor;
-mod solver;
 mod walk;
 mod worklist;
 

@@ -10,8 +10,8 @@ use std::collections::BTreeSet;
 use std::marker::Model;
 use tt_cert::PointKey;
 
-/// The points that are still to be carried on, in their order, each as its context's number and its offset. The first is kept apart, so that
-/// a single one takes no memory.
+/// The points that are still to be carried on, in their order, each as its context's number and its
+/// offset. The first is kept apart, so that a single one takes no memory.
 #[derive(Drop)]
 pub(crate) struct Worklist {
     next: Option<PointKey>,

@@ -4,7 +4,7 @@ pub mod ComponentLists
 pub mod WholeGlyphs
 pub mod OutlineLemmas
 pub mod Adding
-pub mod RowLemmas
+pub mod SizeLemmas
 pub mod CountLemmas
 pub mod ChainSums
 pub mod ProgramLists

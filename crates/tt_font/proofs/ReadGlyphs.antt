@@ -1,40 +1,40 @@
--- From the programs and the sums of all glyphs to what is read of them.
+-- From the programs and the sizes of all glyphs to what is read of them.
 use Rattle.std.specs.Prelude.{◌≡◌, ℕ, zero, suc, ◌+◌, ◌*◌, ◌^◌, ◌-◌, ◌<◌, ◌≤◌, List, [], length, drop, Bool, true, false, Option, Some, None, if◌then◌else◌}
 use Rattle.std.specs.Option.{option_map}
 use Rattle.std.proofs.Common.{refl, sym, ◌∙◌, ap, subst, arith, length-take, length-drop}
 use Rattle.tt_font.specs.declared.component.Component.{Component}
 use Rattle.tt_font.specs.declared.fault.FontFault.{FontFault}
-use Rattle.tt_font.specs.declared.sums.Sum.{Sum}
+use Rattle.tt_font.specs.declared.outline_size.OutlineSize.{OutlineSize}
 use Rattle.tt_font.specs.Locations.{entry, glyph_bytes}
 use Rattle.tt_font.specs.Components.{has_more, component_at, listed, components_from, components_at, components}
 use Rattle.tt_font.specs.Glyphs.{is_composite, component_count, component_total}
 use Rattle.tt_font.specs.Outlines.{Outline, own_points, own_contours}
-use Rattle.tt_font.specs.Rounds.{row, IsSummed}
+use Rattle.tt_font.specs.Representation.OutlineSizes.{size_at, AreTotals}
 use Rattle.tt_font.specs.Conditions.{refused_glyph}
 use Rattle.tt_font.specs.Chains.{SumsChains}
 use Rattle.tt_font.specs.Reading.{GlyphData, ReadsGlyph, ReadsGlyphs}
-use Rattle.tt_font.specs.GlyphParts.{ProgramsAre, PartsAre}
-use Rattle.tt_font.proofs.RowLemmas.{all_taken}
+use Rattle.tt_font.specs.Representation.GlyphParts.{ProgramsAre, PartsAre}
+use Rattle.tt_font.proofs.SizeLemmas.{all_taken}
 use Rattle.tt_font.proofs.ChainSums.{points_sum_chains, contours_sum_chains}
 
 pub no_fault : {X : Type 0} (f : X → FontFault) (o : Option X) → option_map f o ≡ None → o ≡ None
 no_fault f None e = refl
 no_fault f (Some x) e = cc
 
-pub points_are_few : (count : ℕ) (outlines : ℕ → Outline) (table : List Sum) → IsSummed outlines count table → refused_glyph count outlines ≡ None
-    → (id : ℕ) → id < count → (row table id).points ≤ 65535
-points_are_few count outlines table sums none id lt =
+pub points_are_few : (count : ℕ) (outlines : ℕ → Outline) (sizes : List OutlineSize) → AreTotals outlines count sizes → refused_glyph count outlines ≡ None
+    → (id : ℕ) → id < count → (size_at sizes id).points ≤ 65535
+points_are_few count outlines sizes sums none id lt =
     let taken = all_taken count outlines none id lt in let most = taken.points in let is = (sums id lt).0 in omega arith
 
-pub contours_are_few : (count : ℕ) (outlines : ℕ → Outline) (table : List Sum) → IsSummed outlines count table → refused_glyph count outlines ≡ None
-    → (id : ℕ) → id < count → (row table id).contours ≤ 65535
-contours_are_few count outlines table sums none id lt =
+pub contours_are_few : (count : ℕ) (outlines : ℕ → Outline) (sizes : List OutlineSize) → AreTotals outlines count sizes → refused_glyph count outlines ≡ None
+    → (id : ℕ) → id < count → (size_at sizes id).contours ≤ 65535
+contours_are_few count outlines sizes sums none id lt =
     let taken = all_taken count outlines none id lt in let most = taken.contours in let is = (sums id lt).1 in omega arith
 
-pub glyphs_are_read : (count : ℕ) (glyphs : ℕ → List ℕ) (outlines : ℕ → Outline) (programs : List (List ℕ)) (table : List Sum) (found : List GlyphData)
-    → ProgramsAre glyphs count programs → IsSummed outlines count table → refused_glyph count outlines ≡ None → PartsAre programs table count found
+pub glyphs_are_read : (count : ℕ) (glyphs : ℕ → List ℕ) (outlines : ℕ → Outline) (programs : List (List ℕ)) (sizes : List OutlineSize) (found : List GlyphData)
+    → ProgramsAre glyphs count programs → AreTotals outlines count sizes → refused_glyph count outlines ≡ None → PartsAre programs sizes count found
     → ReadsGlyphs count glyphs outlines found
-glyphs_are_read count glyphs outlines programs table found are sums none parts = record {
+glyphs_are_read count glyphs outlines programs sizes found are sums none parts = record {
   len = parts.len;
   each = λ id lt.
       let taken = all_taken count outlines none id lt in

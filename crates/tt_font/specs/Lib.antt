@@ -8,12 +8,9 @@ pub mod Components
 pub mod Glyphs
 pub mod Outlines
 pub mod Chains
-pub mod Rounds
 pub mod Conditions
-pub mod GlyphTables
 pub mod Files
 pub mod FileFaults
 pub mod Reading
-pub mod GlyphParts
 pub mod Laws
-pub mod CompositeLists
+pub mod Representation

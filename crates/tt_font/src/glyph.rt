@@ -3,9 +3,10 @@
 ghost use Rattle.std.specs.Prelude.{◌≡◌, ◌+◌, ◌*◌, ◌^◌, ◌<◌, ◌≤◌, length, is_some, true, false};
 ghost use Rattle.std.specs.Option.{option_map};
 ghost use Rattle.tt_font.specs.Components.{components, last_of};
+ghost use Rattle.tt_font.specs.Representation.ComponentReads.{HasRoom, HasRead};
 ghost use Rattle.tt_font.specs.Glyphs.{is_composite, component_count, program_at, simple_program, composite_program, program_of, simple_points, simple_contours};
 
-use crate::component::{Component, HEADER};
+use crate::component::{ComponentReader, HEADER};
 use crate::numbers::u16_at;
 
 /// numberOfContours from this value on is a negative number: the glyph is made of components.
@@ -41,14 +42,14 @@ fn read_simple_program(glyph: &[u8]) -> Option<&[u8]>
 }
 
 /// Reads the program of a composite glyph, where its bytes are there.
-fn read_composite_program<'a>(glyph: &'a [u8], reads: &mut u64) -> Option<&'a [u8]>
+fn read_composite_program<'a>(glyph: &'a [u8], reader: &mut ComponentReader) -> Option<&'a [u8]>
     requires small { length glyph.now < 2 ^ 32 }
-    requires room { reads.old + length (components glyph.now) + 1 < 2 ^ 64 }
+    requires room { HasRoom reader.old (length (components glyph.now)) }
     ensures program { option_map (λ program. program.now) result
         ≡ composite_program glyph.now (last_of (components glyph.now)) }
-    ensures counted { reads.new ≡ reads.old + length (components glyph.now) }
+    ensures counted { HasRead reader.old reader.new (length (components glyph.now)) }
 {
-    let last = Component::last(glyph, reads)?;
+    let last = reader.read_last(glyph)?;
     if last.has_instructions() {
         read_program(glyph, last.after)
     } else {
@@ -63,16 +64,20 @@ pub(crate) fn is_composite(glyph: &[u8]) -> bool
     glyph.len() >= HEADER && u16_at(glyph, 0) >= COMPOSITE
 }
 
-/// Reads the program of a glyph, where its bytes are there. A glyph without data has an empty program.
+/// Reads the program of a glyph, where its bytes are there. A glyph without data has an empty
+/// program.
 #[tactic(auto, unfolding(crate::specs::Glyphs::program_of, crate::specs::Glyphs::component_count))]
-pub(crate) fn read_glyph_program<'a>(glyph: &'a [u8], reads: &mut u64) -> Option<&'a [u8]>
+pub(crate) fn read_glyph_program<'a>(
+    glyph: &'a [u8],
+    reader: &mut ComponentReader,
+) -> Option<&'a [u8]>
     requires small { length glyph.now < 2 ^ 32 }
-    requires room { reads.old + component_count glyph.now + 1 < 2 ^ 64 }
+    requires room { HasRoom reader.old (component_count glyph.now) }
     ensures program { option_map (λ program. program.now) result ≡ program_of glyph.now }
-    ensures counted { reads.new ≡ reads.old + component_count glyph.now }
+    ensures counted { HasRead reader.old reader.new (component_count glyph.now) }
 {
     if is_composite(glyph) {
-        read_composite_program(glyph, reads)
+        read_composite_program(glyph, reader)
     } else if glyph.len() >= HEADER {
         read_simple_program(glyph)
     } else if glyph.is_empty() {
@@ -83,7 +88,7 @@ pub(crate) fn read_glyph_program<'a>(glyph: &'a [u8], reads: &mut u64) -> Option
 }
 
 /// Returns how many points a glyph has that isn't composite and whose bytes are there.
-#[tactic(auto, unfolding(crate::specs::Glyphs::simple_points), using(crate::proofs::WholeGlyphs::end_points_are_there))]
+#[tactic(auto, unfolding(crate::specs::Glyphs::simple_points))]
 pub(crate) fn simple_points(glyph: &[u8]) -> u32
     requires simple { is_composite glyph.now ≡ false }
     requires whole { is_some (program_of glyph.now) ≡ true }

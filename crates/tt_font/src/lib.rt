@@ -8,12 +8,12 @@ mod font;
 mod glyph;
 mod glyph_part;
 mod glyph_table;
+mod iteration;
 mod laws;
 mod maxp;
 mod numbers;
+mod outline_size;
 mod programs;
-mod rounds;
-mod sums;
 mod tables;
 mod tag;
 

@@ -1,10 +1,15 @@
--- What reading to the end, or filling a buffer, does to known bytes, and to a count of failed reads.
+-- What reading to the end, or filling a buffer, does to known bytes, and to a count of failed
+-- reads.
 use Rattle.std.specs.Prelude.{◌≡◌, ◌+◌, ◌<◌, ℕ, List, [], Option, Result, Ok, Err, MatchResult, length, take}
 use Rattle.std.specs.Io.KnownBytes.{Consumes, IsAtEnd}
 use Rattle.tt_stream.specs.declared.ReadFailed.{ReadFailed}
 use Rattle.tt_stream.specs.Streams.{CountsFailure}
 use Rattle.tt_stream.specs.declared.reads.ReadFault.{ReadFault}
 use Rattle.tt_stream.specs.declared.reads.ReadFault.TheVariants as fault
+
+-- these are all known bytes, and they were read
+abbrev pub ConsumesAll : Option (List ℕ) → Option (List ℕ) → List ℕ → Type 0
+ConsumesAll old new bytes = Consumes old new bytes × IsAtEnd new
 
 -- some beginning of the known bytes was read
 pub record ConsumesBeginning (old new : Option (List ℕ)) : Type 0 where
@@ -33,7 +38,8 @@ pub record ReadAhead (S : Type 0) : Type 0 where
   pub ahead : List ℕ
 
 -- one call of the source gave these bytes, none only at its end
-pub record Refills (r : Result (Unit {0}) ReadFailed) (old new : Option (List ℕ)) (failures failures_now : ℕ) (ahead : List ℕ) : Type 0 where
+pub record Refills (r : Result (Unit {0}) ReadFailed) (old new : Option (List ℕ))
+    (failures failures_now : ℕ) (ahead : List ℕ) : Type 0 where
   pub bytes : Consumes old new ahead
   pub at_end : MatchResult r (λ _. ahead ≡ [] → IsAtEnd new) (λ _. ahead ≡ [])
   pub count : CountsFailure r failures failures_now

@@ -1,4 +1,4 @@
-//! A source that is read ahead.
+//! A source of which many bytes are read at a time, and kept until they are asked for.
 
 ghost use Rattle.std.specs.Prelude.{◌≡◌, ◌≤◌, ◌<◌, [], drop, length, slice_range, vec_len, IfOk, OnOk};
 ghost use Rattle.std.specs.Io.KnownBytes.{IsAtEnd, Keeps, prepend_known};
@@ -12,20 +12,27 @@ use std::marker::Model;
 /// How many bytes are read ahead at a time.
 const ROOM: usize = 65_536;
 
-/// A source from which many bytes are read at a time, and kept until they are asked for. It is called only where bytes are asked for and none
-/// are kept, and then once.
+/// A source from which many bytes are read at a time, and kept until they are asked for. It is
+/// called only where bytes are asked for and none are kept, and then once.
 #[derive(Drop)]
 pub struct Buffered<S> {
+    /// The source below.
     source: S,
+    /// The room for bytes that are read ahead.
     bytes: Vec<u8>,
+    /// Where the first byte that is ahead is.
     at: usize,
+    /// Where the bytes that are ahead end.
     end: usize,
 }
 
 impl<S> Model for Buffered<S> {
     ghost Value = { ReadAhead S };
 
-    ghost view = { λ b. record { source = b.source; ahead = slice_range b.bytes.items b.at b.end } };
+    ghost view = { λ b. record {
+      source = b.source;
+      ahead = slice_range b.bytes.items b.at b.end;
+    } };
 
     ghost invariant = { λ b. (b.at ≤ b.end) × ((b.end ≤ vec_len b.bytes) × (0 < vec_len b.bytes)) };
 }
@@ -52,9 +59,14 @@ impl<S: Source> Buffered<S> {
     }
 
     /// Reads ahead, where nothing is read ahead.
+    ///
+    /// # Errors
+    /// If the read fails; then nothing is read ahead.
     fn refill(&mut self) -> Result<(), ReadFailed>
         requires { self.old.ahead ≡ [] }
-        ensures { Refills result (S.remaining self.old.source) (S.remaining self.new.source) (S.failures self.old.source) (S.failures self.new.source) self.new.ahead }
+        ensures { Refills result
+            (S.remaining self.old.source) (S.remaining self.new.source)
+            (S.failures self.old.source) (S.failures self.new.source) self.new.ahead }
     {
         self.at = 0;
         self.end = 0;
@@ -63,10 +75,16 @@ impl<S: Source> Buffered<S> {
     }
 
     /// Makes sure that something is read ahead, where anything is left.
+    ///
+    /// # Errors
+    /// If a read fails.
     fn fill(&mut self) -> Result<(), ReadFailed>
-        ensures bytes { Keeps (prepend_known self.old.ahead (S.remaining self.old.source)) (prepend_known self.new.ahead (S.remaining self.new.source)) }
+        ensures bytes { Keeps
+            (prepend_known self.old.ahead (S.remaining self.old.source))
+            (prepend_known self.new.ahead (S.remaining self.new.source)) }
         ensures at_end { OnOk result (self.new.ahead ≡ [] → IsAtEnd (S.remaining self.new.source)) }
-        ensures failures { CountsFailure result (S.failures self.old.source) (S.failures self.new.source) }
+        ensures failures { CountsFailure result
+            (S.failures self.old.source) (S.failures self.new.source) }
     {
         if self.ahead().is_empty() {
             return self.refill();

@@ -37,11 +37,15 @@ pub trait Source {
     /// How many calls have failed.
     ghost failures: { Self → ℕ };
 
-    /// The bytes that are read ahead: of what is left, those that are given without a call that can fail.
+    /// The bytes that are read ahead: of what is left, those that are given without a call that can
+    /// fail.
     ghost read_ahead: { Self → List ℕ };
 
     /// Reads some bytes into the front of `buf` and returns how many: 0 only at the end, or where
     /// `buf` has no room.
+    ///
+    /// # Errors
+    /// If the read fails; then no byte was read.
     fn read(&mut self, buf: &mut [u8]) -> Result<usize, ReadFailed>
         ensures bound { ReadsAtMost result buf.new }
         ensures bytes { ReadConsumes (remaining self.old) (remaining self.new) result buf.new }
@@ -55,7 +59,8 @@ pub trait Source {
     /// Takes so many of the bytes that are read ahead.
     fn skip(&mut self, count: usize)
         requires { count ≤ length (read_ahead self.old) }
-        ensures bytes { Consumes (remaining self.old) (remaining self.new) (take count (read_ahead self.old)) }
+        ensures bytes { Consumes (remaining self.old) (remaining self.new)
+            (take count (read_ahead self.old)) }
         ensures ahead { read_ahead self.new ≡ drop count (read_ahead self.old) }
         ensures failures { failures self.new ≡ failures self.old };
 }
@@ -69,19 +74,27 @@ pub trait Sink {
     ghost failures: { Self → ℕ };
 
     /// Takes some bytes from the front of `buf`, at least one where there is one, and returns how
-    /// many, or fails and takes none.
+    /// many.
+    ///
+    /// # Errors
+    /// If the write fails; then no byte was taken.
     fn write(&mut self, buf: &[u8]) -> Result<usize, WriteFailed>
         ensures bound { WritesAtMost result buf.now }
         ensures progress { IfOk result (λ n. 0 < length buf.now → 0 < n) }
         ensures bytes { WriteAppends (contents self.old) (contents self.new) result buf.now }
         ensures failures { CountsFailure result (failures self.old) (failures self.new) };
 
-    /// Writes the text, or a beginning of it, with no memory. `write!` and `writeln!` call it.
+    /// Writes the text with no memory. `write!` and `writeln!` call it.
+    ///
+    /// # Errors
+    /// If a write fails, or the value's own `Display` gives up; then a beginning was written.
     final fn write_fmt<D: Display + Drop>(&mut self, text: D) -> Result<(), PrintFailed>
     where
         Self: Sized,
-        ensures written { OnOk result (AppendsText (D.output text) (contents self.old) (contents self.new)) }
-        ensures beginning { OnErr result (AppendsBeginningOfText (D.output text) (contents self.old) (contents self.new)) }
+        ensures written { OnOk result
+            (AppendsText (D.output text) (contents self.old) (contents self.new)) }
+        ensures beginning { OnErr result
+            (AppendsBeginningOfText (D.output text) (contents self.old) (contents self.new)) }
         ensures failures { CountsPrintFailure result (failures self.old) (failures self.new) }
     {
         print(self, &text)
@@ -91,8 +104,11 @@ pub trait Sink {
 /// A reader or a writer of std whose failed calls are counted. The counter takes no bytes.
 #[derive(Drop)]
 pub struct Counted<T, L: Ledger> {
+    /// The reader or writer.
     inner: T,
+    /// The book in which failed calls are counted.
     failures: Book<L>,
+    /// What allows to write in the book.
     share: Share<L>,
 }
 
@@ -174,10 +190,14 @@ impl<W: Write, L: Ledger> Sink for Counted<W, L> {
     }
 }
 
-/// Writes all of the bytes, or a beginning of them.
+/// Writes all of the bytes.
+///
+/// # Errors
+/// If a write fails; then a beginning of the bytes was written.
 pub fn write_all<W: Sink>(sink: &mut W, bytes: &[u8]) -> Result<(), WriteFailed>
     ensures written { OnOk result (Appends (W.contents sink.old) (W.contents sink.new) bytes.now) }
-    ensures beginning { OnErr result (AppendsBeginning (W.contents sink.old) (W.contents sink.new) bytes.now) }
+    ensures beginning { OnErr result
+        (AppendsBeginning (W.contents sink.old) (W.contents sink.new) bytes.now) }
     ensures failures { CountsFailure result (W.failures sink.old) (W.failures sink.new) }
 {
     let mut at = 0;

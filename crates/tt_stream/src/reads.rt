@@ -2,8 +2,7 @@
 
 ghost use Rattle.std.specs.Prelude.{◌≡◌, length, IfOk, OnErr};
 ghost use Rattle.std.specs.Io.{ReadsAtMost};
-ghost use Rattle.std.specs.Io.KnownBytes.{Consumes, IsAtEnd};
-ghost use Rattle.tt_stream.specs.Reads.{ConsumesBeginning, ConsumesFewer, CountsReadFault, Fills};
+ghost use Rattle.tt_stream.specs.Reads.{ConsumesAll, ConsumesBeginning, ConsumesFewer, CountsReadFault, Fills};
 ghost use Rattle.tt_stream.specs.Streams.{CountsFailure};
 
 use crate::{ReadFailed, Source};
@@ -44,10 +43,15 @@ impl From<AllocError> for ReadFault {
     }
 }
 
-/// Reads all bytes that are left. After a fault some beginning of them was read.
+/// Reads all bytes that are left.
+///
+/// # Errors
+/// If a read fails or memory runs out; then some beginning of what was left was read.
 pub fn read_all<R: Source>(alloc: Global, source: &mut R) -> Result<Vec<u8>, ReadFault>
-    ensures all { IfOk result (λ bytes. Consumes (R.remaining source.old) (R.remaining source.new) bytes.items × IsAtEnd (R.remaining source.new)) }
-    ensures beginning { OnErr result (ConsumesBeginning (R.remaining source.old) (R.remaining source.new)) }
+    ensures all { IfOk result (λ bytes.
+        ConsumesAll (R.remaining source.old) (R.remaining source.new) bytes.items) }
+    ensures beginning { OnErr result
+        (ConsumesBeginning (R.remaining source.old) (R.remaining source.new)) }
     ensures failures { CountsReadFault result (R.failures source.old) (R.failures source.new) }
 {
     let mut bytes = Vec::new(alloc);
@@ -64,13 +68,16 @@ pub fn read_all<R: Source>(alloc: Global, source: &mut R) -> Result<Vec<u8>, Rea
 /// Reads until the buffer is full or the input ends, and returns how many bytes are at its front.
 ///
 /// # Errors
-/// If a read fails; then some beginning of what is left was read, of fewer bytes than the buffer has.
+/// If a read fails; then some beginning of what is left was read, of fewer bytes than the buffer
+/// has.
 #[tactic(auto, using(crate::proofs::Beginnings::consumes_beginning))]
 pub fn read_full<R: Source>(source: &mut R, buf: &mut [u8]) -> Result<usize, ReadFailed>
     ensures bound { ReadsAtMost result buf.new }
-    ensures bytes { IfOk result (λ n. Fills (R.remaining source.old) (R.remaining source.new) n buf.new) }
+    ensures bytes { IfOk result (λ n.
+        Fills (R.remaining source.old) (R.remaining source.new) n buf.new) }
     ensures beginning { ConsumesBeginning (R.remaining source.old) (R.remaining source.new) }
-    ensures few { OnErr result (ConsumesFewer (length buf.new) (R.remaining source.old) (R.remaining source.new)) }
+    ensures few { OnErr result
+        (ConsumesFewer (length buf.new) (R.remaining source.old) (R.remaining source.new)) }
     ensures failures { CountsFailure result (R.failures source.old) (R.failures source.new) }
 {
     let mut at = 0;

@@ -1,9 +1,9 @@
-//! Printing to a sink, with no memory: a text is rendered a window at a time.
+//! Printing to a sink without memory: a text is rendered a window at a time.
 
 ghost use Rattle.std.specs.Prelude.{◌≡◌, ◌≤◌, [], length, take, drop, IfSome, IfErr, OnOk, IfOk, OnErr};
 ghost use Rattle.tt_stream.specs.Streams.{AppendsText, AppendsBeginningOfText, CountsPrintFailure};
 ghost use Rattle.tt_stream.specs.declared.text.TheConstants.{ROOM};
-ghost use Rattle.tt_stream.specs.Windows.{Part, TakesPiece};
+ghost use Rattle.tt_stream.specs.Representation.Windows.{Part, TakesPiece};
 
 use crate::{Sink, WriteFailed, write_all};
 use std::fmt;
@@ -38,8 +38,11 @@ impl From<WriteFailed> for PrintFailed {
 /// The part of a text after its first `skip` bytes, as far as there is room.
 #[derive(Drop)]
 struct Window {
+    /// The room for the part.
     bytes: [u8; ROOM],
+    /// How many bytes are in it.
     len: usize,
+    /// How many bytes of the text are still to be skipped.
     skip: usize,
 }
 
@@ -52,6 +55,7 @@ impl Model for Window {
 }
 
 impl Window {
+    /// Makes the window after so many bytes of a text, with nothing in it yet.
     fn new(skip: usize) -> Window
         ensures skip { result.skip ≡ skip }
         ensures empty { result.kept ≡ [] }
@@ -63,6 +67,7 @@ impl Window {
         }
     }
 
+    /// Returns the bytes that are in the window.
     fn as_bytes(&self) -> &[u8]
         ensures { result.now ≡ self.now.kept }
     {
@@ -86,9 +91,13 @@ impl fmt::Write for Window {
     }
 }
 
-/// Renders what the window after the value's first `skip` bytes shows.
+/// Renders what the window after the first `skip` bytes of the value's text shows.
+///
+/// # Errors
+/// `Format` if the value's own `Display` gives up.
 fn render<D: Display>(value: &D, skip: usize) -> Result<Window, PrintFailed>
-    ensures text { IfOk result (λ w. IfSome (D.output value.now) (λ text. w.kept ≡ take ROOM (drop skip text))) }
+    ensures text { IfOk result (λ w.
+        IfSome (D.output value.now) (λ text. w.kept ≡ take ROOM (drop skip text))) }
     ensures failed { IfErr result (λ e. e ≡ PrintFailed.Format) }
 {
     let mut formatter = Formatter::new(Window::new(skip));
@@ -98,10 +107,16 @@ fn render<D: Display>(value: &D, skip: usize) -> Result<Window, PrintFailed>
     }
 }
 
-/// Writes the value's text, or a beginning of it.
+/// Writes the value's text.
+///
+/// # Errors
+/// `Write` if a write fails, `Format` if the value's own `Display` gives up; then a beginning of
+/// the text was written.
 pub fn print<W: Sink, D: Display>(sink: &mut W, value: &D) -> Result<(), PrintFailed>
-    ensures written { OnOk result (AppendsText (D.output value.now) (W.contents sink.old) (W.contents sink.new)) }
-    ensures beginning { OnErr result (AppendsBeginningOfText (D.output value.now) (W.contents sink.old) (W.contents sink.new)) }
+    ensures written { OnOk result
+        (AppendsText (D.output value.now) (W.contents sink.old) (W.contents sink.new)) }
+    ensures beginning { OnErr result
+        (AppendsBeginningOfText (D.output value.now) (W.contents sink.old) (W.contents sink.new)) }
     ensures failures { CountsPrintFailure result (W.failures sink.old) (W.failures sink.new) }
 {
     let mut skip = 0usize;

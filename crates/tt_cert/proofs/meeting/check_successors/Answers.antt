@@ -43,7 +43,7 @@ loop-way-preserved c =
     let ns = nexts_made v walk c.args.moves in
     let k = c.loop-way.index in
     let M : Coverage → Type 0 = λ m. AreMetBelow (family_of v) (calls_of v walk) c.args.after walk.next walk.made ns (k + 1) m in
-    subst M (sym c.met_by_both-met.ensures)
+    subst M (sym c.both_coverages-met.ensures)
     (met_more (family_of v) (calls_of v walk) c.args.after walk.next walk.made ns k (next_by (calls_of v walk) a c.in-Some.way)
     (next_found (calls_of v walk) c.args.moves a k c.in-Some.way (sym c.in-Some.ensures)) c.loop-way.met c.in-Ok-check_successor.other c.loop-way.invariant c.in-Ok-check_successor.ensures.met)
 

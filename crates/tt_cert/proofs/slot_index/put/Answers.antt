@@ -1,6 +1,6 @@
 use Rattle.std.proofs.Common.{sym, ◌∙◌}
 use Rattle.std.proofs.lemmas.Bool.{false≢true}
-use Rattle.tt_cert.proofs.PlaceRows.{pushed_places, pushed_merged, inserted_places, inserted_merged}
+use Rattle.tt_cert.proofs.SlotRows.{pushed_places, pushed_merged, inserted_places, inserted_merged}
 use Rattle.tt_cert.proofs.slot_index.put.Goals as goal
 
 pub returns-then-is_below-clause-places : goal.returns-then-is_below-clause-places

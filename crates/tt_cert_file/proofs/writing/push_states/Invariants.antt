@@ -1,7 +1,8 @@
-use Rattle.std.proofs.Common.{◌≡◌, ◌++◌, List, length}
+use Rattle.std.proofs.Common.{◌≡◌, ◌++◌, List, length, reverse}
 use Rattle.std.specs.Prelude.{IfSome}
 use Rattle.std.specs.List.{AllByRecursion}
 use Rattle.tt_cert_file.specs.declared.form.Form.TheVariants.{Four}
+use Rattle.tt_cert_file.specs.KeptTexts.{IsStackText}
 use Rattle.tt_cert_file.specs.Rules.{HasRoom, IsTextOf}
 use Rattle.tt_cert_file.specs.Sections.{Entry}
 use Rattle.tt_cert_file.specs.Text.{long, state_text}
@@ -11,7 +12,8 @@ use Rattle.tt_cert_file.proofs.writing.push_states.Given as goal
 abbrev pub invariant-loop-context : goal.invariant-loop-context
 invariant-loop-context l =
     (done : List Entry) × (l.certificate.states ≡ done ++ l.states) × AreWritten (state_text Four) l.fn.out.items (long (length l.certificate.states)) done l.out.items
-    × AllByRecursion (HasRoom (length l.certificate.contexts)) done × IfSome l.before (λ s. IsTextOf l.text.items s.now.functions)
+    × AllByRecursion (HasRoom (length l.certificate.contexts)) done × IfSome l.before (λ s. IsTextOf l.texts.functions.items s.now.functions)
+    × IfSome l.before (λ s. IsStackText l.texts.stack (reverse s.now.stack))
 
 abbrev pub decreases-loop-context : goal.decreases-loop-context
 decreases-loop-context l = length l.states

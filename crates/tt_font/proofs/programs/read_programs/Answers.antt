@@ -3,8 +3,8 @@ use Rattle.std.specs.Option.{option_map}
 use Rattle.std.proofs.lemmas.List.{map-append}
 use Rattle.tt_font.specs.declared.fault.FontFault.TheVariants as faults
 use Rattle.tt_font.specs.Glyphs.{component_count, component_total, program_of}
-use Rattle.tt_font.specs.GlyphTables.{glyphs_of}
-use Rattle.tt_font.specs.GlyphParts.{bytes_of}
+use Rattle.tt_font.specs.Representation.GlyphTables.{glyphs_of}
+use Rattle.tt_font.specs.Representation.GlyphParts.{bytes_of}
 use Rattle.tt_font.proofs.CountLemmas.{total_of_none, total_more, total_rises}
 use Rattle.tt_font.proofs.ProgramLists.{no_programs, programs_more, none_truncated, none_truncated_more, first_truncated}
 use Rattle.tt_font.proofs.programs.read_programs.Goals as goal
@@ -52,4 +52,4 @@ returns-clause-counted c =
     let test = c.loop-id-test.false in
     let end = c.loop-id.auto.id-end in
     let last : c.loop-id.id ≡ c.args.glyphs.now.count = omega arith in
-    c.loop-id.invariant.counted ∙ ap (λ n. c.args.reads.now + component_total (glyphs_of c.args.glyphs.now) n) last
+    c.loop-id.invariant.counted ∙ ap (λ n. c.args.reader.now.reads + component_total (glyphs_of c.args.glyphs.now) n) last

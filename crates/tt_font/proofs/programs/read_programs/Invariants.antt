@@ -1,7 +1,7 @@
 use Rattle.std.proofs.Common.{◌≡◌, ◌+◌, None, map}
 use Rattle.tt_font.specs.Glyphs.{component_total}
-use Rattle.tt_font.specs.GlyphTables.{glyphs_of}
-use Rattle.tt_font.specs.GlyphParts.{bytes_of, ProgramsAre}
+use Rattle.tt_font.specs.Representation.GlyphTables.{glyphs_of}
+use Rattle.tt_font.specs.Representation.GlyphParts.{bytes_of, ProgramsAre}
 use Rattle.tt_font.specs.Conditions.{truncated_glyph}
 use Rattle.tt_font.proofs.programs.read_programs.Given as goal
 
@@ -9,5 +9,5 @@ abbrev pub invariant-loop-id : goal.invariant-loop-id
 invariant-loop-id l = record {
   whole : truncated_glyph l.id (glyphs_of l.glyphs) ≡ None;
   programs : ProgramsAre (glyphs_of l.glyphs) l.id (map bytes_of l.programs.items);
-  counted : l.reads ≡ l.fn.reads + component_total (glyphs_of l.glyphs) l.id;
+  counted : l.reader.reads ≡ l.fn.reader.reads + component_total (glyphs_of l.glyphs) l.id;
 }

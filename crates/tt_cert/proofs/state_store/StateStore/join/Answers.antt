@@ -1,5 +1,5 @@
 use Rattle.std.proofs.Common.{refl, sym, ◌∙◌, arith, slice_set}
-use Rattle.tt_cert.proofs.Tables.{slot_there, state_found, none_found, length-table, one_depth, PutsAt-set, Reweighs-set}
+use Rattle.tt_cert.proofs.StateSlots.{slot_there, state_found, none_found, length-states_in, one_depth, PutsAt-set, Reweighs-set}
 use Rattle.tt_cert.proofs.state_store.StateStore.join.Goals as goal
 
 pub index_mut-slot-requires : goal.index_mut-slot-requires
@@ -40,7 +40,7 @@ returns-in-Some-clause-joined c = λ s.
 
 pub returns-in-Some-clause-fits : goal.returns-in-Some-clause-fits
 returns-in-Some-clause-fits c =
-    let long = length-table (slice_set c.self.inside.slots.items c.in-Some.number c.join.new.self) c.self.inside.places in
+    let long = length-states_in (slice_set c.self.inside.slots.items c.in-Some.number c.join.new.self) c.self.inside.places in
     let fits = c.self.invariant.fits in
     omega arith
 

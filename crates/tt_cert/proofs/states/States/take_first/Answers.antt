@@ -1,4 +1,4 @@
-use Rattle.tt_cert.proofs.Tables.{next_there, rest_there, next_state}
+use Rattle.tt_cert.proofs.StateSlots.{next_there, rest_there, next_state}
 use Rattle.tt_cert.proofs.states.States.take_first.Goals as goal
 
 pub bounds-self-inside-number : goal.bounds-self-inside-number

@@ -5,8 +5,8 @@ use Rattle.tt_code.specs.declared.block_keyword.BlockKeyword.{BlockKeyword}
 use Rattle.tt_code.specs.declared.block_keyword.BlockKeyword.TheVariants.{If, Else, Eif, Fdef, Idef, Endf, Other}
 use Rattle.tt_code.specs.Cut.{Instruction, code_of}
 use Rattle.tt_code.specs.Grammar.{GoesTo}
-use Rattle.tt_code.specs.Slots.{target_found, targets}
-use Rattle.tt_code.specs.Structure.{keyword, word_of}
+use Rattle.tt_code.specs.Representation.Slots.{target_found, targets}
+use Rattle.tt_code.specs.Structure.{keyword, keyword_of}
 use Rattle.tt_code.proofs.LookupLemmas.{goes_found, goes_only, goes_stands, one_stands}
 use Rattle.tt_code.proofs.ProgramLemmas.{kept_each, kept_table}
 use Rattle.tt_code.proofs.program.Program.look_up.Goals as goal
@@ -72,10 +72,10 @@ same_self Endf = refl
 same_self Other = refl
 
 -- an instruction's keyword is that of its code
-word_is : (i : Instruction) (code : ℕ) → code_of i ≡ Some code → keyword i ≡ word_of code
+keyword_is : (i : Instruction) (code : ℕ) → code_of i ≡ Some code → keyword i ≡ keyword_of code
 unfolding keyword
-word_is [] code e = cc
-word_is (x ∷ rest) code e = let same : x ≡ code = cc in ap word_of same
+keyword_is [] code e = cc
+keyword_is (x ∷ rest) code e = let same : x ≡ code = cc in ap keyword_of same
 
 pub returns-in_err-instruction-clause-only : goal.returns-in_err-instruction-clause-only
 returns-in_err-instruction-clause-only c = λ to g. absurd (c.in_err-instruction.ensures.none _ (goes_stands _ _ _ to g))
@@ -88,7 +88,7 @@ returns-then-eq-clause-found c =
     let each = kept_each _ _ _ c.self.invariant c.self.view_is in
     let table = kept_table _ _ _ c.self.invariant c.self.view_is in
     let equal : c.keyword_of_code.result ≡ c.args.opener = same_keyword _ _ (sym c.eq.ensures ∙ c.if-eq.true) in
-    let is_keyword : keyword c.in_ok-instruction.instruction ≡ c.args.opener = word_is _ _ c.code.ensures ∙ sym c.keyword_of_code.ensures ∙ equal in
+    let is_keyword : keyword c.in_ok-instruction.instruction ≡ c.args.opener = keyword_is _ _ c.code.ensures ∙ sym c.keyword_of_code.ensures ∙ equal in
     let target : target_found (targets c.self.inside.slots.items) c.args.offset ≡ Some c.in_ok-target.target =
     ap (λ t. target_found (targets t) c.args.offset) (sym c.deref.ensures.value) ∙ sym c.target_of.ensures ∙ c.in_ok-target.was in
     subst (λ w. GoesTo w c.args.self.now c.args.offset c.in_ok-target.target) is_keyword (goes_found c.args.self.now _ _ c.args.offset _ c.in_ok-instruction.instruction each table c.in_ok-instruction.ensures.found target)
@@ -103,7 +103,7 @@ pub returns-else-eq-clause-only : goal.returns-else-eq-clause-only
 returns-else-eq-clause-only c = λ to g.
     let each = kept_each _ _ _ c.self.invariant c.self.view_is in
     let same : c.in_ok-instruction.instruction ≡ g.i = one_stands c.args.self.now c.args.offset _ _ each c.in_ok-instruction.ensures.found (goes_stands _ _ _ to g) in
-    let is_keyword : c.keyword_of_code.result ≡ c.args.opener = c.keyword_of_code.ensures ∙ sym (word_is _ _ c.code.ensures) ∙ ap keyword same ∙ g.opens in
+    let is_keyword : c.keyword_of_code.result ≡ c.args.opener = c.keyword_of_code.ensures ∙ sym (keyword_is _ _ c.code.ensures) ∙ ap keyword same ∙ g.opens in
     let yes : sameb the_type c.keyword_of_code.result c.args.opener ≡ true = ap (λ w. sameb the_type w c.args.opener) is_keyword ∙ same_self c.args.opener in
     let wrong = sym c.if-eq.false ∙ c.eq.ensures ∙ yes in cc
 
@@ -111,6 +111,6 @@ pub returns-else-eq-clause-none : goal.returns-else-eq-clause-none
 returns-else-eq-clause-none c = λ i stands is.
     let each = kept_each _ _ _ c.self.invariant c.self.view_is in
     let same : c.in_ok-instruction.instruction ≡ i = one_stands c.args.self.now c.args.offset _ _ each c.in_ok-instruction.ensures.found stands in
-    let is_keyword : c.keyword_of_code.result ≡ c.args.opener = c.keyword_of_code.ensures ∙ sym (word_is _ _ c.code.ensures) ∙ ap keyword same ∙ is in
+    let is_keyword : c.keyword_of_code.result ≡ c.args.opener = c.keyword_of_code.ensures ∙ sym (keyword_is _ _ c.code.ensures) ∙ ap keyword same ∙ is in
     let yes : sameb the_type c.keyword_of_code.result c.args.opener ≡ true = ap (λ w. sameb the_type w c.args.opener) is_keyword ∙ same_self c.args.opener in
     let wrong = sym c.if-eq.false ∙ c.eq.ensures ∙ yes in cc

@@ -1,8 +1,8 @@
-use Rattle.std.proofs.Common.{subst, ℕ, List, map}
+use Rattle.std.proofs.Common.{subst, ℕ, List, map, arith}
 use Rattle.std.proofs.lemmas.Result.{err_from_is_err_and}
-use Rattle.tt_font.specs.GlyphTables.{glyphs_of}
+use Rattle.tt_font.specs.Representation.GlyphTables.{glyphs_of}
 use Rattle.tt_font.specs.Outlines.{outlines_of}
-use Rattle.tt_font.specs.GlyphParts.{glyph_data}
+use Rattle.tt_font.specs.Reading.{glyph_data}
 use Rattle.tt_font.specs.Files.{font_glyph_count}
 use Rattle.tt_font.specs.Reading.{ReadsGlyphs}
 use Rattle.tt_font.proofs.ReadGlyphs.{room_for_all, same_glyphs}
@@ -10,10 +10,11 @@ use Rattle.tt_font.proofs.MemoryLemmas.{tables_never}
 use Rattle.tt_font.proofs.font.Font.read.Goals as goal
 
 pub read_glyphs-requires : goal.read_glyphs-requires
-read_glyphs-requires c = record {
-  room = room_for_all c.in_ok-tables.tables.glyphs.format c.in_ok-tables.tables.glyphs.loca.now c.in_ok-tables.tables.glyphs.glyf.now c.in_ok-tables.tables.glyphs.count
-      c.in_ok-tables.tables.glyphs.small c.in_ok-tables.ensures.few_glyphs;
-}
+read_glyphs-requires c =
+    let glyphs = c.in_ok-tables.tables.glyphs in
+    let few = room_for_all glyphs.format glyphs.loca.now glyphs.glyf.now glyphs.count glyphs.small c.in_ok-tables.ensures.few_glyphs in
+    let none = c.new-reader.ensures in
+    record { room = omega arith }
 
 pub returns-clause-reads : goal.returns-clause-reads
 returns-clause-reads c =

@@ -1,0 +1,111 @@
+#!/usr/bin/env python3
+"""Checks that each module of definitions is either meaning or representation.
+
+Usage: bench/specs.py
+A module in `specs/` itself is meaning: a clause of a public function cites it, or another such module needs it, and docs/DEFINITIONS.md leads
+through it. A module in `specs/Representation/` says how the code keeps what the others speak of: no clause of a public function cites it, and
+no module of meaning imports it. What differs is printed, and the exit status is then 1.
+"""
+
+import pathlib
+import re
+import sys
+import typing
+
+import contracts
+
+TOP = pathlib.Path(__file__).resolve().parent.parent
+PAGE = TOP / "docs/DEFINITIONS.md"
+FOLDER = "Representation"
+IMPORT = re.compile(r"^(?:pub )?use Rattle\.(\w+)\.specs\.((?:Representation\.)?\w+)", re.M)
+
+
+class Module(typing.NamedTuple):
+    """A module of definitions, by its crate and its name."""
+
+    crate: str
+    name: str
+
+    @property
+    def path(self) -> pathlib.Path:
+        return TOP / "crates" / self.crate / "specs" / f"{self.name.replace('.', '/')}.antt"
+
+    @property
+    def is_representation(self) -> bool:
+        return self.name.startswith(f"{FOLDER}.")
+
+    def __str__(self) -> str:
+        return f"{self.crate}: {self.name}"
+
+
+def crates() -> list[str]:
+    """The crates that have definitions."""
+    return sorted(folder.parent.name for folder in TOP.glob("crates/*/specs"))
+
+
+def modules() -> set[Module]:
+    """The modules of meaning of all crates."""
+    files = TOP.glob("crates/*/specs/*.antt")
+    return {Module(file.parent.parent.name, file.stem) for file in files if file.stem not in ("Lib", FOLDER)}
+
+
+def imported_by(module: Module) -> set[Module]:
+    """The modules of definitions that a module imports."""
+    found = {Module(crate, name) for crate, name in IMPORT.findall(module.path.read_text())}
+    return {other for other in found if other.path.exists()}
+
+
+def cited_by_clauses() -> dict[Module, str]:
+    """The modules that clauses of public functions cite, each with one of these functions."""
+    cited = {}
+    for crate in crates():
+        for clause in contracts.clauses_of(crate):
+            for name in clause.modules:
+                source, _, rest = name.partition(".")
+                known = source in crates()
+                cited[Module(source, rest) if known else Module(crate, name)] = f"{crate}: {clause.function}"
+    return {module: function for module, function in cited.items() if module.path.exists()}
+
+
+def needed(cited: typing.Iterable[Module]) -> set[Module]:
+    """These modules, and those that they import, and so on."""
+    found: set[Module] = set()
+    waiting = list(cited)
+    while waiting:
+        module = waiting.pop()
+        if module not in found:
+            found.add(module)
+            waiting.extend(imported_by(module))
+    return found
+
+
+def sections() -> dict[str, str]:
+    """The page's text for each crate. A section's head names one or more of them before its colon."""
+    heads = re.findall(r"^## ([\w, ]+):[^\n]*\n(.*?)(?=^## |\Z)", PAGE.read_text(), re.M | re.S)
+    return {crate: text for crates, text in heads for crate in crates.split(", ")}
+
+
+def faults() -> typing.Iterator[str]:
+    """All that is wrong."""
+    cited = cited_by_clauses()
+    yield from (f"{function} cites {module}" for module, function in cited.items() if module.is_representation)
+    meaning = modules()
+    for module in sorted(meaning):
+        yield from (f"{module} imports {other}" for other in sorted(imported_by(module)) if other.is_representation)
+    yield from (f"{module} is cited by no public clause, and needed by none that is" for module in sorted(meaning - needed(cited)))
+    page = sections()
+    for module in sorted(meaning):
+        if f"`{module.name}`" not in page.get(module.crate, ""):
+            yield f"{module} isn't in {PAGE.name}"
+
+
+def main() -> int:
+    found = list(faults())
+    for fault in found:
+        print(fault)
+    print(f"{len(found)} differences")
+    return 1 if found else 0
+
+
+if __name__ == "__main__":
+    sys.exit(main())

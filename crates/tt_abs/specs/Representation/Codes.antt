@@ -1,0 +1,19 @@
+-- The numbers in which the stack keeps its cells. (Representation: no public clause cites them
+-- except through the stack's own view.)
+use Rattle.std.specs.Prelude.{ℕ, nat_eq, if◌then◌else◌, List, ◌++◌, map}
+use Rattle.std.specs.Int.{cast_signed, w16}
+use Rattle.tt_abs.specs.declared.cells.Cell.{Cell}
+use Rattle.tt_abs.specs.declared.cells.Cell.TheVariants.{Known, Unknown}
+
+-- the cell of a code: unknown for the lowest number of 16 bits, and each other number for itself
+abbrev pub cell_of_code : ℕ → Cell
+cell_of_code n = if nat_eq n 32768 then Unknown else Known (cast_signed w16 n)
+
+-- the cells of codes
+abbrev pub cells_of : List ℕ → List Cell
+cells_of codes = map cell_of_code codes
+
+-- the cells that a stack keeps, the bottom first: cells as they are, and those of the codes above
+-- them
+abbrev pub kept_cells : List Cell → List ℕ → List Cell
+kept_cells wide codes = wide ++ cells_of codes
