@@ -2,7 +2,7 @@
 
 use crate::heap::Heap;
 use hintcheck_test_fixtures::hex_bytes::bytes_of;
-use hintcheck_test_fixtures::section_calls::{Told, decoded};
+use hintcheck_test_fixtures::section_calls::{AT_START, Told, decoded};
 use hintcheck_test_fixtures::streams::steps_of;
 use std::process::Abort;
 use std::test::Fail;
@@ -10,9 +10,6 @@ use tt_cert_file::Form;
 
 /// So many bytes are left, less than one for each of 65,534.
 const LEFT: usize = 20_000;
-
-/// What is known of the graphics state where a program starts: 23 bytes.
-const AT_START: &str = "0100000000 0100000000 0100000000 010101 0100000001";
 
 /// Sections of glyph 0 that end too early: what they announce, their parts, and where they end.
 const SECTIONS: [(&str, &[&str], u64); 5] = [

@@ -73,7 +73,8 @@ fn are_same(builder: &Builder, other: &Builder) -> bool {
     have_same_contexts(builder, other) && have_same_states(builder, other)
 }
 
-/// Returns what a refused call tells of a builder that it leaves as it was before, and that has to take the call with memory.
+/// Returns what a refused call tells of a builder that it leaves as it was before, and that has to
+/// take the call with memory.
 fn told_of_refusal(is_kept: bool, is_taken_again: bool) -> Told {
     if is_kept && is_taken_again {
         Told::OutOfMemory

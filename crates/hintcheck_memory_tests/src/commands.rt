@@ -1,4 +1,5 @@
-//! Commands, which tell of a refused growth in one line of the error output. Printing takes no memory: nothing is left then.
+//! Commands, which tell of a refused growth in one line of the error output. Printing takes no
+//! memory: nothing is left then.
 
 ghost use Rattle.std.specs.Prelude.{◌≡◌, ◌<◌};
 
@@ -7,6 +8,7 @@ use crate::heap::Heap;
 use crate::matching::Matching;
 use crate::trials::{Told, Trial, assert_refused};
 use hintcheck::command;
+use hintcheck_test_fixtures::fonts::MAXP_WORD;
 use std::marker::Brand;
 use std::path::PathBuf;
 use std::process::Abort;
@@ -57,9 +59,6 @@ pub(crate) fn told_of_command(rt: &HostRuntime, heap: &mut Heap, order: &Order<'
     command_over::<Brand, Brand>(rt, heap, order, Blank::new(1), Blank::new(1))
 }
 
-/// A `maxp` table, as a word.
-const MAXP: &str = "0001000000010004000100000000000200040004000200000008004000000000";
-
 /// Returns the path of a file with this ending, which no other process takes.
 fn path_of(rt: &HostRuntime, ending: &str) -> Result<PathBuf, Fail> {
     let process = process::id(rt.process());
@@ -67,50 +66,58 @@ fn path_of(rt: &HostRuntime, ending: &str) -> Result<PathBuf, Fail> {
     Ok(env::temp_dir(rt)?.join(rt.alloc(), name)?)
 }
 
-/// Asserts that each command is refused memory on these files: a font, its certificate, and one that isn't there yet.
-fn assert_commands_refused(rt: &impl Abort, host: &HostRuntime, [font, cert, new]: [&str; 3]) {
-    let mut heap = Heap::new(host.alloc());
-    let accepted = "accepted: 3 programs\n";
-    let orders: [(&[&str], &str); 6] = [
-        (&["hintcheck", "verdict", font], accepted),
-        (&["hintcheck", "find", font, new], accepted),
-        (&["hintcheck", "check", font, cert], accepted),
-        (
-            &["hintcheck", "list", font, "g0"],
-            "0: b10700 PUSHB\n3: 2b CALL\nend: 4\n",
-        ),
-        (
-            &["hintcheck", "upgrade", cert, new],
-            "upgraded: 3 sections\n",
-        ),
-        (
-            &["hintcheck", "bare", MAXP, "10", "4", "1", "B100093E"],
-            "accepted: 1 programs\n",
-        ),
-    ];
-    for (words, text) in orders {
-        assert_refused(
-            rt,
-            &mut heap,
-            text,
-            &Trial::Command(host, Order { words, text }),
-        );
-    }
+/// Asserts that a command is refused memory, which accepts with ample memory and prints this.
+fn assert_command_refused<'a>(
+    rt: &impl Abort,
+    host: &'a HostRuntime,
+    heap: &mut Heap,
+    words: &'a [&'a str],
+    text: &'a str,
+) {
+    let order = Order { words, text };
+    assert_refused(rt, heap, text, &Trial::Command(host, order));
 }
 
+/// What is printed of a font with one glyph.
+const ACCEPTED: &str = "accepted: 3 programs\n";
+
+/// What is printed of the glyph's program.
+const LISTED: &str = "0: b10700 PUSHB\n3: 2b CALL\nend: 4\n";
+
+/// What is printed of the certificate.
+const UPGRADED: &str = "upgraded: 3 sections\n";
+
 #[test]
-fn commands(rt: HostRuntime) -> Result<(), Fail> {
+fn commands_on_files(rt: HostRuntime) -> Result<(), Fail> {
     let files = files_of(rt.alloc(), &CALL_POPS)?;
-    let (font, cert, new) = (
+    let paths = [
         path_of(&rt, "ttf")?,
         path_of(&rt, "cert")?,
         path_of(&rt, "new")?,
-    );
-    fs::write(&rt, font.as_str(), &files.font)?;
-    fs::write(&rt, cert.as_str(), &files.certificate)?;
-    assert_commands_refused(&rt, &rt, [font.as_str(), cert.as_str(), new.as_str()]);
-    for path in [&font, &cert, &new] {
-        fs::remove_file(&rt, path.as_str())?;
+    ];
+    let [font, cert, new] = [paths[0].as_str(), paths[1].as_str(), paths[2].as_str()];
+    fs::write(&rt, font, &files.font)?;
+    fs::write(&rt, cert, &files.certificate)?;
+    let mut heap = Heap::new(rt.alloc());
+    let verdict = ["hintcheck", "verdict", font];
+    assert_command_refused(&rt, &rt, &mut heap, &verdict, ACCEPTED);
+    let find = ["hintcheck", "find", font, new];
+    assert_command_refused(&rt, &rt, &mut heap, &find, ACCEPTED);
+    let check = ["hintcheck", "check", font, cert];
+    assert_command_refused(&rt, &rt, &mut heap, &check, ACCEPTED);
+    let list = ["hintcheck", "list", font, "g0"];
+    assert_command_refused(&rt, &rt, &mut heap, &list, LISTED);
+    let upgrade = ["hintcheck", "upgrade", cert, new];
+    assert_command_refused(&rt, &rt, &mut heap, &upgrade, UPGRADED);
+    for path in [font, cert, new] {
+        fs::remove_file(&rt, path)?;
     }
     Ok(())
+}
+
+#[test]
+fn command_without_files(rt: HostRuntime) {
+    let mut heap = Heap::new(rt.alloc());
+    let words = ["hintcheck", "bare", MAXP_WORD, "10", "4", "1", "B100093E"];
+    assert_command_refused(&rt, &rt, &mut heap, &words, "accepted: 1 programs\n");
 }

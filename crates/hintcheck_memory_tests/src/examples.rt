@@ -3,6 +3,7 @@
 use hintcheck_test_fixtures::font_calls::found;
 use hintcheck_test_fixtures::fonts::{NoFile, TWICE, font_of, font_with, square};
 use hintcheck_test_fixtures::hex_bytes::bytes_of;
+use hintcheck_test_fixtures::programs::{CALLS_WITH_A_NUMBER, POPPING};
 use hintcheck_test_fixtures::section_calls::{Told, decoded};
 use hintcheck_test_fixtures::stored_certificates::FORM_1;
 use hintcheck_test_fixtures::streams::{ALL, steps_of};
@@ -24,9 +25,6 @@ pub(crate) struct Programs<'a> {
     pub(crate) components: &'a [u8],
 }
 
-/// FDEF of function 0, which pops.
-const POPS: [u8; 5] = [0xB0, 0x00, 0x2C, 0x21, 0x2D];
-
 /// Two ways that leave different numbers on the stack.
 const JOIN_UNKNOWN: Programs<'static> = Programs {
     name: "join-unknown",
@@ -39,8 +37,8 @@ const JOIN_UNKNOWN: Programs<'static> = Programs {
 /// A call of function 0.
 pub(crate) const CALL_POPS: Programs<'static> = Programs {
     name: "call-pops",
-    font: &POPS,
-    glyph: &[0xB1, 0x07, 0x00, 0x2B],
+    font: &POPPING,
+    glyph: &CALLS_WITH_A_NUMBER,
     size: (4, 1),
     components: &[],
 };
@@ -48,7 +46,7 @@ pub(crate) const CALL_POPS: Programs<'static> = Programs {
 /// Three turns of function 0.
 const LOOPCALL: Programs<'static> = Programs {
     name: "loopcall",
-    font: &POPS,
+    font: &POPPING,
     glyph: &[0xB4, 0x01, 0x02, 0x03, 0x03, 0x00, 0x2A],
     size: (4, 1),
     components: &[],

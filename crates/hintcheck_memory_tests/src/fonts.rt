@@ -69,7 +69,8 @@ fn told_of_check(heap: &mut Heap, example: &Example<'_>) -> Told {
     told_of_acceptance(told)
 }
 
-/// Returns what is told where a beginning of the wanted bytes was written, or all of them where memory didn't run out.
+/// Returns what is told where a beginning of the wanted bytes was written, or all of them where
+/// memory didn't run out.
 pub(crate) fn told_of_written(told: Told, matching: &Matching<'_>) -> Told {
     let is_promised = match told {
         Told::OutOfMemory => matching.has_beginning(),

@@ -8,14 +8,15 @@ const GREATEST: u32 = 46;
 /// A block of the room has less than 2 to the power of 20 bytes.
 const GREATEST_OF_ROOM: u32 = 20;
 
-/// Blocks of which a call may be left a part, and how many bytes each has. They are next to each other.
+/// Blocks of which a call may be left a part, and how many bytes each has. They are next to each
+/// other.
 const ROOM: [usize; 12] = [100_000; 12];
 
 /// So many blocks at most. A heap that has more can't be used up.
 const BLOCKS: usize = 100_000;
 
-/// The C library keeps freed blocks of up to 1,032 bytes, each for the next call that wants just so many, instead of joining them. In steps
-/// of 16 there are so many sizes of them.
+/// The C library keeps freed blocks of up to 1,032 bytes, each for the next call that wants just so
+/// many, instead of joining them. In steps of 16 there are so many sizes of them.
 const SMALL_SIZES: usize = 64;
 
 /// A block that is kept apart isn't one of these.
@@ -76,7 +77,8 @@ impl Hoard {
         }
     }
 
-    /// Takes the room too, but for so many bytes next to each other, 8 of which the C library needs itself.
+    /// Takes the room too, but for so many bytes next to each other, 8 of which the C library needs
+    /// itself.
     fn leave(&mut self, alloc: Global, bytes: usize) {
         let gap: Result<Vec<u8>, _> = Vec::with_capacity(alloc, bytes.saturating_add(APART));
         self.take_all(alloc, GREATEST_OF_ROOM);

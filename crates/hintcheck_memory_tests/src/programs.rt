@@ -52,7 +52,8 @@ fn told_of_cut(heap: &mut Heap, bytes: &[u8]) -> Told {
     }
 }
 
-/// Returns a state each of whose parts has memory of its own: more cells than fit without, a function, and a storage cell.
+/// Returns a state each of whose parts has memory of its own: more cells than fit without, a
+/// function, and a storage cell.
 fn large_state(alloc: Global) -> Result<State, AllocError> {
     let mut state = State::start(alloc, &[(0, 3)])?;
     for number in 70_000..70_040 {

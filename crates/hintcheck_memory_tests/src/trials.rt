@@ -48,7 +48,8 @@ pub(crate) fn told_of(heap: &mut Heap, trial: &Trial<'_>) -> Told {
     }
 }
 
-/// Returns how often a call tells that memory ran out before it is left enough to tell what it has to; nothing where it tells anything else.
+/// Returns how often a call tells that memory ran out before it is left enough to tell what it has
+/// to; nothing where it tells anything else.
 fn refusals(heap: &mut Heap, trial: &Trial<'_>, ample: Told) -> Option<u32> {
     let mut refusals = 0u32;
     for left in (0..MOST).step_by(STEP) {
@@ -65,8 +66,8 @@ fn refusals(heap: &mut Heap, trial: &Trial<'_>, ample: Told) -> Option<u32> {
     None
 }
 
-/// Asserts that a call is refused memory, and tells so, until it is left enough. Where the heap can't be used up, it is made with ample
-/// memory alone.
+/// Asserts that a call is refused memory, and tells so, until it is left enough. Where the heap
+/// can't be used up, it is made with ample memory alone.
 pub(crate) fn assert_refused(rt: &impl Abort, heap: &mut Heap, name: &str, trial: &Trial<'_>) {
     heap.leave(None);
     let ample = told_of(heap, trial);

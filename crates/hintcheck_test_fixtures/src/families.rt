@@ -5,9 +5,11 @@ ghost use Rattle.tt_abs.specs.Entries.{Rises};
 ghost use Rattle.tt_abs.specs.States.{state_order};
 
 use std::alloc::{AllocError, Global};
-use tt_abs::{Cell, State};
+use tt_abs::Cell::Known;
+use tt_abs::{Cell, State, ZoneCell};
 use tt_cert::{Builder, Certificate, ContextFault, JoinFault, Joined, States};
-use tt_code::Frame;
+use tt_code::kinds::{Pointer, Reference};
+use tt_code::{Frame, Graphics};
 
 /// A state of a table: its context, its offset and the numbers on its stack, the bottom first.
 pub type Row<'a> = (u32, u32, &'a [i32]);
@@ -23,7 +25,32 @@ pub const CALL: Frame = Frame {
     count: 1,
 };
 
-/// Returns the state at a start with these functions, with these numbers on the stack, the bottom first; eight of them at most.
+/// The graphics state with which programs start.
+pub const GRAPHICS: Graphics<Cell, ZoneCell> = Graphics {
+    rp0: Known(0),
+    rp1: Known(0),
+    rp2: Known(0),
+    zp0: ZoneCell::One,
+    zp1: ZoneCell::One,
+    zp2: ZoneCell::One,
+    loop_number: Known(1),
+};
+
+/// Returns what a state tells of the graphics state.
+pub fn graphics_of(state: &State) -> Graphics<Cell, ZoneCell> {
+    Graphics {
+        rp0: state.rp(Reference::Rp0),
+        rp1: state.rp(Reference::Rp1),
+        rp2: state.rp(Reference::Rp2),
+        zp0: state.zone(Pointer::Zp0),
+        zp1: state.zone(Pointer::Zp1),
+        zp2: state.zone(Pointer::Zp2),
+        loop_number: state.loop_cell(),
+    }
+}
+
+/// Returns the state at a start with these functions, with these numbers on the stack, the bottom
+/// first; eight of them at most.
 pub fn state_of(alloc: Global, functions: &[(u16, u32)], stack: &[i32]) -> Result<State, AllocError>
     requires { Rises functions.now }
     ensures { IfOk result (λ state. state_order.InRange state) }
@@ -85,7 +112,8 @@ pub fn put(
     }
 }
 
-/// Joins the states of these rows, in which these functions are known, and returns whether all of them were joined.
+/// Joins the states of these rows, in which these functions are known, and returns whether all of
+/// them were joined.
 pub fn put_all(
     alloc: Global,
     builder: &mut Builder,
@@ -102,7 +130,8 @@ pub fn put_all(
     true
 }
 
-/// Joins the start state at offsets of a context, one after the other, and returns whether it was joined at all of them.
+/// Joins the start state at offsets of a context, one after the other, and returns whether it was
+/// joined at all of them.
 pub fn put_at(alloc: Global, builder: &mut Builder, context: u32, offsets: &[u32]) -> bool {
     for offset in offsets {
         if put(alloc, builder, &[], (context, *offset, &[])).is_err() {

@@ -70,7 +70,8 @@ pub fn checked_by(alloc: Global, font: &[u8], steps: Steps<'_>) -> Told {
     check_on::<Brand>(alloc, font, steps, Blank::new(1))
 }
 
-/// Returns what the check of a font answers by these bytes, after which a read fails where it should.
+/// Returns what the check of a font answers by these bytes, after which a read fails where it
+/// should.
 pub fn checked(alloc: Global, font: &[u8], bytes: &[u8], fails: bool) -> Told {
     checked_by(alloc, font, steps_of(bytes, fails))
 }
@@ -93,7 +94,8 @@ pub fn found_by(alloc: Global, font: &[u8], taker: Taker) -> (Told, Vec<u8>) {
     find_on::<Brand>(alloc, font, taker, Blank::new(1))
 }
 
-/// Returns what the search for a font's certificate answers, and what is written, where there is room for so many bytes.
+/// Returns what the search for a font's certificate answers, and what is written, where there is
+/// room for so many bytes.
 pub fn found(alloc: Global, font: &[u8], room: usize) -> (Told, Vec<u8>) {
     found_by(alloc, font, Taker::new(alloc, 1, room))
 }
@@ -125,8 +127,8 @@ pub fn upgraded_by(alloc: Global, steps: Steps<'_>, taker: Taker) -> (Result<u32
     upgrade_on::<Brand, Brand>(alloc, steps, taker, Blank::new(1), Blank::new(1))
 }
 
-/// Returns how many sections an upgrade of these bytes tells, after which a read fails where it should, and what is written, where there is room for
-/// so many bytes.
+/// Returns how many sections an upgrade of these bytes tells, after which a read fails where it
+/// should, and what is written, where there is room for so many bytes.
 pub fn upgraded(
     alloc: Global,
     bytes: &[u8],

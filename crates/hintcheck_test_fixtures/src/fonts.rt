@@ -16,10 +16,14 @@ pub enum NoFile {
     TooLong(#[from] TryFromIntError),
 }
 
-/// A `maxp` table: 1 glyph, zones 2, 4 twilight points, 4 storage cells, 2 functions, a stack of 8, glyph programs of 64 bytes.
+/// A `maxp` table: 1 glyph, zones 2, 4 twilight points, 4 storage cells, 2 functions, a stack of 8,
+/// glyph programs of 64 bytes.
 pub const MAXP: [u8; 32] = [
     0, 1, 0, 0, 0, 1, 0, 4, 0, 1, 0, 0, 0, 0, 0, 2, 0, 4, 0, 4, 0, 2, 0, 0, 0, 8, 0, 64, 0, 0, 0, 0,
 ];
+
+/// The same table as a word of hexadecimal digits.
+pub const MAXP_WORD: &str = "0001000000010004000100000000000200040004000200000008004000000000";
 
 /// A `head` table with long entries in `loca`.
 pub const HEAD: [u8; 54] = [
@@ -33,7 +37,8 @@ pub const SQUARE: [u8; 12] = [0, 1, 0, 0, 0, 0, 0, 0, 0, 0, 0, 3];
 /// The header of a composite glyph.
 pub const MADE: [u8; 10] = [0xFF, 0xFF, 0, 0, 0, 0, 0, 0, 0, 0];
 
-/// The components and the program of a glyph that is made of the first one twice: 8 points and 4 phantom points, of which point 11 is moved.
+/// The components and the program of a glyph that is made of the first one twice: 8 points and 4
+/// phantom points, of which point 11 is moved.
 pub const TWICE: [u8; 17] = [
     0, 0x20, 0, 0, 0, 0, 1, 0, 0, 0, 0, 0, 0, 3, 0xB0, 0x0B, 0x2E,
 ];
@@ -85,13 +90,15 @@ fn maxp_for(glyphs: u16) -> [u8; 32] {
     maxp
 }
 
-/// Returns a font file with 10 control values, this font program, this CVT program and so many glyphs, whose tables are these.
-pub fn file_with_glyphs(
+/// Returns a font file with 10 control values, this font program, this CVT program and so many
+/// glyphs, whose tables are these.
+pub fn file_with_glyphs<'a>(
     alloc: Global,
-    [fpgm, prep]: [&[u8]; 2],
+    fpgm: &'a [u8],
+    prep: &'a [u8],
     count: u16,
-    loca: &[u8],
-    glyf: &[u8],
+    loca: &'a [u8],
+    glyf: &'a [u8],
 ) -> Result<Vec<u8>, NoFile> {
     file_of(
         alloc,
@@ -141,7 +148,7 @@ impl Glyphs {
         fpgm: &'a [u8],
         prep: &'a [u8],
     ) -> Result<Vec<u8>, NoFile> {
-        file_with_glyphs(alloc, [fpgm, prep], self.count, &self.loca, &self.glyf)
+        file_with_glyphs(alloc, fpgm, prep, self.count, &self.loca, &self.glyf)
     }
 }
 

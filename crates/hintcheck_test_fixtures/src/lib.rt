@@ -1,5 +1,6 @@
-//! What the tests of several crates share: fonts made in memory, families of states, readers and writers that pass little at a time, stored
-//! certificates, and what the product's calls tell of them.
+//! What the tests of several crates share: fonts made in memory, families of states, readers and
+//! writers that pass little at a time, stored certificates, and what the product's calls tell of
+//! them.
 #![tactic(auto)]
 
 pub mod families;

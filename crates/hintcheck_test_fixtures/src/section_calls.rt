@@ -1,4 +1,5 @@
-//! What the calls of `tt_cert_file` tell of readers and writers that pass little at a time, or fail.
+//! What the calls of `tt_cert_file` tell of readers and writers that pass little at a time, or
+//! fail.
 
 ghost use Rattle.std.specs.Prelude.{◌≡◌, ◌<◌};
 
@@ -11,6 +12,10 @@ use tt_cert_file::{
     DecodeFault, EncodeFault, Form, Name, decode, encode, read_end, read_header, write_header,
 };
 use tt_stream::Counted;
+
+/// What is known of the graphics state where a program starts: the reference points are 0, the
+/// zones 1, the loop number 1. 23 bytes.
+pub const AT_START: &str = "0100000000 0100000000 0100000000 010101 0100000001";
 
 /// What a call says, and in a section's case how many bytes it leaves.
 #[derive(Clone, Copy, Debug, PartialEq, Eq)]

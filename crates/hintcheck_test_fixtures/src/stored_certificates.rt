@@ -1,4 +1,5 @@
-//! A font whose glyph calls a function that pops, and its stored certificates, in hexadecimal digits.
+//! A font whose glyph calls a function that pops, and its stored certificates, in hexadecimal
+//! digits.
 
 /// The font: its font program is `B0002C212D`, its glyph's program `B107002B`.
 pub const FONT: [&str; 7] = [
@@ -69,7 +70,8 @@ pub const FORM_4: [&str; 7] = [
     "000007010000000001000000000100000000010101010000000100010000000000030000",
 ];
 
-/// The certificate of the first form in the fourth: two bytes more for each of the nine states, which list no storage cell.
+/// The certificate of the first form in the fourth: two bytes more for each of the nine states,
+/// which list no storage cell.
 pub const FORM_1_UPGRADED: [&str; 10] = [
     "4843525400040000000300000000000000000300000000000000000100000000010000000001000000000101",
     "0101000000010000000000000000000200010100000000010000000001000000000100000000010101010000",

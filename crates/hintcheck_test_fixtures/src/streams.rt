@@ -7,7 +7,8 @@ use std::io::{ErrorKind, Write};
 /// More bytes or calls than there ever are.
 pub const ALL: usize = 1_000_000;
 
-/// Gives no more than `step` bytes a call. Only the call after so many others fails: a caller that asks again gets more.
+/// Gives no more than `step` bytes a call. Only the call after so many others fails: a caller that
+/// asks again gets more.
 #[derive(Drop)]
 pub struct Steps<'a> {
     pub bytes: &'a [u8],
@@ -30,7 +31,8 @@ impl io::Read for Steps<'_> {
     }
 }
 
-/// Takes no more than `step` bytes a call. Only the call after so many others fails, or takes nothing: a caller that asks again can write more.
+/// Takes no more than `step` bytes a call. Only the call after so many others fails, or takes
+/// nothing: a caller that asks again can write more.
 #[derive(Drop)]
 pub struct Taker {
     pub bytes: Vec<u8>,

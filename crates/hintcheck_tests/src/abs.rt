@@ -1,4 +1,5 @@
-//! Tests of `tt_abs`: lists of entries, stacks, abstract states and instructions with known outcomes.
+//! Tests of `tt_abs`: lists of entries, stacks, abstract states and instructions with known
+//! outcomes.
 
 mod instructions;
 mod joins;

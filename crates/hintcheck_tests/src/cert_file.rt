@@ -1,4 +1,5 @@
-//! Tests of `tt_cert_file`: sections and headers of certificate files, whose bytes were worked out by hand.
+//! Tests of `tt_cert_file`: sections and headers of certificate files, whose bytes were worked out
+//! by hand.
 
 mod ahead;
 mod decoding;

@@ -5,7 +5,8 @@ ghost use Rattle.tt_abs.specs.Covers.{has_body_twice};
 ghost use Rattle.tt_abs.specs.Settings.{frames_of};
 ghost use Rattle.tt_abs.specs.States.{state_order};
 
-use crate::abs::samples::{Change, GRAPHICS, graphics_of, has_stack, make_changes, push_all};
+use crate::abs::samples::{Change, has_stack, make_changes, push_all};
+use hintcheck_test_fixtures::families::{GRAPHICS, graphics_of};
 use hintcheck_test_fixtures::programs::{GLYPH, LIMITS, cut};
 use std::alloc::{AllocError, Global};
 use std::process::Abort;
@@ -173,7 +174,8 @@ fn state_before(alloc: Global, case: &Case<'_>) -> Result<State, AllocError>
     Ok(state)
 }
 
-/// Returns the setting of a glyph with 4 points and 1 contour, so that its zone has 8 points, in a font with 10 control values.
+/// Returns the setting of a glyph with 4 points and 1 contour, so that its zone has 8 points, in a
+/// font with 10 control values.
 fn setting_of<'a>(main: &'a Program<'a>, font: &'a Program<'a>) -> Setting<'a> {
     Setting {
         limits: LIMITS,
@@ -194,7 +196,8 @@ fn is_done_in(alloc: Global, setting: &Setting<'_>, case: &Case<'_>) -> bool {
     }
 }
 
-/// Whether the instruction of a case does what the case wants; nothing where memory ran out, or if the program can't be cut.
+/// Whether the instruction of a case does what the case wants; nothing where memory ran out, or if
+/// the program can't be cut.
 pub(crate) fn is_done(alloc: Global, case: &Case<'_>) -> Option<bool> {
     let main = cut(alloc, case.program)?;
     let font = cut(alloc, &FONT)?;

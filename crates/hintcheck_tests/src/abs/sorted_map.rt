@@ -93,7 +93,8 @@ fn copies(rt: HostRuntime) {
     assert!(rt; is_kept_by_a_copy(rt.alloc()) == Some(true));
 }
 
-/// Whether two lists of storage cells, of which one number differs, are joined to the number that they share; nothing where memory ran out.
+/// Whether two lists of storage cells, of which one number differs, are joined to the number that
+/// they share; nothing where memory ran out.
 fn is_joined(alloc: Global) -> Option<bool> {
     let mut storage: SortedMap<i32> = SortedMap::from_slice(alloc, &[(1, -7), (2, 5)]).ok()?;
     let other = SortedMap::from_slice(alloc, &[(1, -7), (2, 6)]).ok()?;

@@ -19,7 +19,8 @@ struct Case<'a> {
     told: Told,
 }
 
-/// Whether each number of calls below that of the case tells a failed read, and that of the case what it should tell.
+/// Whether each number of calls below that of the case tells a failed read, and that of the case
+/// what it should tell.
 fn is_told(alloc: Global, case: &Case<'_>) -> bool {
     let Ok(bytes) = bytes_but(alloc, &FULL, case.part, case.digits) else {
         return false;

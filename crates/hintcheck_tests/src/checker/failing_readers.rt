@@ -1,4 +1,5 @@
-//! Readers that give one byte a call, of which one fails: all that was told by then remains valid, and no further call is made.
+//! Readers that give one byte a call, of which one fails: all that was told by then remains valid,
+//! and no further call is made.
 
 ghost use Rattle.std.specs.Prelude.{◌≡◌, ◌<◌};
 ghost use Rattle.hintcheck.specs.FontPrograms.{IsFontInRange};
@@ -31,7 +32,8 @@ fn one_by_one(bytes: &[u8], calls: usize) -> Steps<'_> {
     }
 }
 
-/// Returns what the calls of a session tell, one for each program and one for the end. No more than one program is refused.
+/// Returns what the calls of a session tell, one for each program and one for the end. No more than
+/// one program is refused.
 fn told_by_calls<S: Source>(alloc: Global, font: &Font<'_>, source: &mut S) -> Told
     requires { IsFontInRange font.now }
 {
@@ -100,7 +102,8 @@ fn checks_and_sessions(rt: HostRuntime) -> Result<(), Fail> {
     let bytes = bytes_of(rt.alloc(), &FORM_4).expect(&rt, "certificate");
     let (_, of_points) = found(rt.alloc(), &points, ALL);
     let after = of_points.len().saturating_add(1);
-    // The font, the certificate and its byte that is another one, how many calls are made, and what is told.
+    // The font, the certificate and its byte that is another one, how many calls are made, and what
+    // is told.
     let table = [
         (&pops, &bytes, 0, b'H', 301, Told::Accepted),
         (&underflows, &bytes, 0, b'H', 301, Told::Refused(1, 3, 41)),
@@ -130,7 +133,8 @@ fn checks_and_sessions(rt: HostRuntime) -> Result<(), Fail> {
     Ok(())
 }
 
-/// Returns the first call of the reader of a file whose failure its header, its sections or its end don't tell.
+/// Returns the first call of the reader of a file whose failure its header, its sections or its end
+/// don't tell.
 fn first_wrong_read(alloc: Global, bytes: &[u8]) -> Option<usize> {
     for calls in 0..=bytes.len() {
         if told_of_file_by(alloc, one_by_one(bytes, calls)) != Read::Read {
@@ -146,7 +150,8 @@ fn first_wrong_read(alloc: Global, bytes: &[u8]) -> Option<usize> {
     Some(bytes.len())
 }
 
-/// Returns the first call of the reader of an old certificate whose failure isn't told, or after which no beginning of the new one was written.
+/// Returns the first call of the reader of an old certificate whose failure isn't told, or after
+/// which no beginning of the new one was written.
 fn first_wrong_upgrade(alloc: Global, old: &[u8], new: &[u8]) -> Option<usize> {
     for calls in 0..=old.len() {
         let taker = Taker::new(alloc, 1, ALL);

@@ -1,4 +1,5 @@
-//! Writers that take one byte a call, of which one fails or takes nothing: what they took by then is a beginning of the certificate.
+//! Writers that take one byte a call, of which one fails or takes nothing: what they took by then
+//! is a beginning of the certificate.
 
 use hintcheck_test_fixtures::font_calls::{Told, found, found_by, upgraded_by};
 use hintcheck_test_fixtures::fonts::{TWICE, font_with};
@@ -22,7 +23,8 @@ fn taker(alloc: Global, calls: usize, takes_nothing: bool) -> Taker {
     }
 }
 
-/// Returns the first call whose failure isn't told by the search for this certificate, or before which no beginning of it was taken.
+/// Returns the first call whose failure isn't told by the search for this certificate, or before
+/// which no beginning of it was taken.
 fn first_wrong_search(alloc: Global, font: &[u8], want: &[u8]) -> Option<usize> {
     for calls in 0..=want.len() {
         let told = if calls < want.len() {
@@ -81,7 +83,8 @@ fn searches_and_upgrades(rt: HostRuntime) -> Result<(), Fail> {
     Ok(())
 }
 
-/// Returns the first call whose failure isn't told by the writing of a section, or before which no beginning of its text was taken.
+/// Returns the first call whose failure isn't told by the writing of a section, or before which no
+/// beginning of its text was taken.
 fn first_wrong_section(alloc: Global, section: &Section, want: &[u8]) -> Option<usize> {
     for calls in 0..=want.len() {
         let told = if calls < want.len() {
@@ -99,7 +102,8 @@ fn first_wrong_section(alloc: Global, section: &Section, want: &[u8]) -> Option<
     None
 }
 
-/// Returns how many sections a certificate has that are written as they were read, also where a call fails.
+/// Returns how many sections a certificate has that are written as they were read, also where a
+/// call fails.
 fn sections_written(alloc: Global, bytes: &[u8]) -> Option<usize> {
     let mut left = bytes.get(10..)?;
     for sections in 0..ALL {

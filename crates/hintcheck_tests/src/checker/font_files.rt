@@ -4,8 +4,8 @@ use hintcheck_test_fixtures::fonts::{Glyphs, square};
 use hintcheck_words::word_bytes;
 use std::alloc::Global;
 
-/// Returns a font with 10 control values, this font program, this CVT program and glyphs of 4 points with these programs; nothing where
-/// memory ran out.
+/// Returns a font with 10 control values, this font program, this CVT program and glyphs of 4
+/// points with these programs; nothing where memory ran out.
 pub(crate) fn font_of(alloc: Global, fpgm: &str, prep: &str, glyphs: &[&str]) -> Option<Vec<u8>> {
     let mut tables = Glyphs::new(alloc).ok()?;
     for program in glyphs {

@@ -1,4 +1,5 @@
-//! Files that are made to break a font server: each is answered by a verdict, or by a fault 1 to 8 or 43.
+//! Files that are made to break a font server: each is answered by a verdict, or by a fault 1 to 8
+//! or 43.
 
 use crate::checker::certificate_commands::path_of;
 use crate::checker::certificates::with_byte;
@@ -22,7 +23,8 @@ fn is_answer(told: Told) -> bool {
     }
 }
 
-/// Whether the font and its check by the certificate have an answer, and the check accepts only where the verdict does.
+/// Whether the font and its check by the certificate have an answer, and the check accepts only
+/// where the verdict does.
 fn is_answered(alloc: Global, font: &[u8], certificate: &[u8]) -> bool {
     let verdict = judged(alloc, font);
     let check = checked(alloc, font, certificate, false);
@@ -76,7 +78,8 @@ fn certificates_with_another_byte(rt: HostRuntime) {
     }
 }
 
-/// Whether the verdict, the search for a certificate and the check by what it wrote tell this, and the command prints it.
+/// Whether the verdict, the search for a certificate and the check by what it wrote tell this, and
+/// the command prints it.
 fn is_told(
     rt: &HostRuntime,
     font: &[u8],
@@ -129,7 +132,8 @@ fn is_printed(
     Ok(answers(rt, &words, status, out_text, err_text))
 }
 
-/// Certificates whose last state is announced and isn't there, that are of an unknown form, and that have another number on a stack.
+/// Certificates whose last state is announced and isn't there, that are of an unknown form, and
+/// that have another number on a stack.
 #[test]
 fn certificates(rt: HostRuntime) -> Result<(), Fail> {
     let (font, certificate) = (

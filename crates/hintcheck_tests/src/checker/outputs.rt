@@ -10,9 +10,6 @@ use std::sync::ledger::{Blank, Ledger};
 use std::{env, fs, process};
 use tt_stream::Counted;
 
-/// As a word, a `maxp` table with the limits: storage 4, functions 2, stack 8, programs of 64 bytes, zones 2, twilight points 4.
-pub(crate) const MAXP: &str = "0001000000010004000100000000000200040004000200000008004000000000";
-
 /// Takes one byte a call, as long as there is room, and then fails.
 #[derive(Drop)]
 struct Narrow {
@@ -89,8 +86,8 @@ pub(crate) fn answers<R: Files + AllocGlobal>(
     told == status && out.as_slice() == out_text.as_bytes() && err.as_slice() == err_text.as_bytes()
 }
 
-/// Whether the command answers so where it is asked for the verdict on this program, or on none, against this `maxp` table, 10 control
-/// values, 4 points and 1 contour.
+/// Whether the command answers so where it is asked for the verdict on this program, or on none,
+/// against this `maxp` table, 10 control values, 4 points and 1 contour.
 pub(crate) fn answers_on_bare<R: Files + AllocGlobal>(
     rt: &R,
     maxp: &str,
@@ -141,7 +138,8 @@ fn answers_on_name<R: Files + AllocGlobal>(
     }
 }
 
-/// Whether that is so of a font file with these bytes; nothing where it can't be written or removed, or memory ran out.
+/// Whether that is so of a font file with these bytes; nothing where it can't be written or
+/// removed, or memory ran out.
 fn try_on_file(
     rt: &HostRuntime,
     bytes: &[u8],

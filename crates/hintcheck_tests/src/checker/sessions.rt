@@ -42,7 +42,8 @@ impl Source for Bytes<'_> {
     fn skip(&mut self, _count: usize) {}
 }
 
-/// Returns the first refused program of a font by its certificate, of which nothing is read after that one's section; none where each is accepted.
+/// Returns the first refused program of a font by its certificate, of which nothing is read after
+/// that one's section; none where each is accepted.
 fn first_refused<S: Source>(
     alloc: Global,
     font: &Font<'_>,
@@ -89,8 +90,8 @@ fn told_of(answer: Result<Option<Outcome>, CheckFontFault>) -> Told {
     }
 }
 
-/// Returns what five calls of a session answer, the last of which is given other bytes; and how many bytes are left of the first ones and of the
-/// others.
+/// Returns what five calls of a session answer, the last of which is given other bytes; and how
+/// many bytes are left of the first ones and of the others.
 fn five_calls(
     alloc: Global,
     font: &Font<'_>,
@@ -114,14 +115,16 @@ fn five_calls(
     )
 }
 
-/// Returns what they answer for a font's bytes; nothing where these hold no font, or where memory ran out.
+/// Returns what they answer for a font's bytes; nothing where these hold no font, or where memory
+/// ran out.
 fn called(alloc: Global, parts: &[&str], bytes: &[u8]) -> Option<([Told; 5], usize, usize)> {
     let file = bytes_of(alloc, parts).ok()?;
     let font = read_font(alloc, &file).ok()?;
     Some(five_calls(alloc, &font, bytes, bytes))
 }
 
-/// Returns the first refused program of a font's bytes; nothing where these hold no font, or where memory ran out.
+/// Returns the first refused program of a font's bytes; nothing where these hold no font, or where
+/// memory ran out.
 fn first_of(
     alloc: Global,
     parts: &[&str],
@@ -133,7 +136,8 @@ fn first_of(
     Some(first_refused(alloc, &font, &mut source))
 }
 
-/// The accepted programs of a font with one glyph, and that there are no more, however often that is asked.
+/// The accepted programs of a font with one glyph, and that there are no more, however often that
+/// is asked.
 const ACCEPTED: [Told; 5] = [
     Told::Accepted(Name::Font),
     Told::Accepted(Name::Cvt),

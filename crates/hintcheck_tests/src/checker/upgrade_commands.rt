@@ -107,7 +107,8 @@ fn files_that_cannot_be_upgraded(rt: HostRuntime) -> Result<(), Fail> {
     Ok(())
 }
 
-/// Whether `upgrade` tells that this is a name of the old certificate's own file, and leaves it as it is.
+/// Whether `upgrade` tells that this is a name of the old certificate's own file, and leaves it as
+/// it is.
 fn is_kept(rt: &HostRuntime, old: &str, name: &str, bytes: &[u8]) -> Result<bool, Fail> {
     let upgrade = ["hintcheck", "upgrade", old, name];
     let told = answers(rt, &upgrade, 2, "", "fault: words: NEW\n");

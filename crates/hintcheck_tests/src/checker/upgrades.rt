@@ -43,8 +43,9 @@ fn stored_certificates(rt: HostRuntime) {
     }
 }
 
-/// Returns the first length at which a certificate that is cut short isn't reported as such, or a read that fails there, or at which
-/// something else than a beginning of the new certificate was written.
+/// Returns the first length at which a certificate that is cut short isn't reported as such, or a
+/// read that fails there, or at which something else than a beginning of the new certificate was
+/// written.
 fn first_cut(alloc: Global, old: &[u8], new: &[u8]) -> Option<usize> {
     for length in 0..old.len() {
         let cut = &old[..length];
@@ -61,7 +62,8 @@ fn first_cut(alloc: Global, old: &[u8], new: &[u8]) -> Option<usize> {
     None
 }
 
-/// Returns the first room below that of all bytes in which the new certificate is written after all, or no beginning of it.
+/// Returns the first room below that of all bytes in which the new certificate is written after
+/// all, or no beginning of it.
 fn first_room(alloc: Global, old: &[u8], new: &[u8]) -> Option<usize> {
     for room in 0..new.len() {
         let (told, written) = upgraded(alloc, old, false, room);
@@ -88,7 +90,8 @@ fn cut_short_and_failing(rt: HostRuntime) {
 /// The state at the start of a program, without a list of storage cells: 33 bytes.
 const STATE: &str = "000000000000000001000000000100000000010000000001010101000000010000";
 
-/// What comes before the state in a section of the font program, the CVT program and the first two glyph programs.
+/// What comes before the state in a section of the font program, the CVT program and the first two
+/// glyph programs.
 const F: &str = "000000000000000001";
 
 const P: &str = "010000000000000001";

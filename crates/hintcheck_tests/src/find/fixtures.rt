@@ -25,7 +25,8 @@ pub(crate) struct Told {
 }
 
 impl Told {
-    /// Whether these are the points of the states that are listed, each a context and an offset, in their order.
+    /// Whether these are the points of the states that are listed, each a context and an offset, in
+    /// their order.
     pub(crate) fn lists(&self, points: &[(u32, u32)]) -> bool {
         match &self.certificate {
             Some(certificate) => leads_through(certificate.states(), points),
@@ -34,7 +35,8 @@ impl Told {
     }
 }
 
-/// Returns how large a family is that was found, if the check accepts it, and else what the check says; nothing where memory ran out.
+/// Returns how large a family is that was found, if the check accepts it, and else what the check
+/// says; nothing where memory ran out.
 fn checked(alloc: Global, setting: &Setting<'_>, found: &Found) -> Option<Answer>
     requires { Rises setting.now.start.now }
 {
@@ -96,7 +98,8 @@ pub(crate) fn alone(alloc: Global, program: &[u8], kind: Kind) -> Option<Told> {
     told_of(alloc, &setting, found)
 }
 
-/// Returns what is told of a glyph program that starts with function 0, whose body begins at offset 3 of the font program.
+/// Returns what is told of a glyph program that starts with function 0, whose body begins at offset
+/// 3 of the font program.
 pub(crate) fn with_function(alloc: Global, font: &[u8], program: &[u8]) -> Option<Told> {
     let font = cut(alloc, font)?;
     let main = cut(alloc, program)?;

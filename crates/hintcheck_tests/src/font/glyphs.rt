@@ -122,7 +122,8 @@ fn bounds_points(rt: HostRuntime) -> Result<(), Fail> {
     Ok(())
 }
 
-/// Returns a font of an empty glyph, and so many glyphs that are each made of the one before a thousand times.
+/// Returns a font of an empty glyph, and so many glyphs that are each made of the one before a
+/// thousand times.
 pub(crate) fn tower(alloc: Global, height: u16) -> Result<Vec<u8>, NoFile> {
     let mut glyphs = Glyphs::new(alloc)?;
     glyphs.push(&[0; 10])?;

@@ -181,7 +181,8 @@ fn reads_all_ahead(rt: HostRuntime) -> Result<(), Fail> {
     Ok(())
 }
 
-/// Returns what is ahead once a byte of the steps was read, and the next byte after so many that are ahead.
+/// Returns what is ahead once a byte of the steps was read, and the next byte after so many that
+/// are ahead.
 fn look_ahead<L: Ledger>(
     alloc: Global,
     steps: Steps<'_>,
