@@ -81,7 +81,7 @@ fn push_pair(out: &mut Vec<u8>, pair: (u16, u32)) -> Result<(), AllocError>
     out.extend_from_slice(&[w1, w0, l3, l2, l1, l0])
 }
 
-fn push_cell(out: &mut Vec<u8>, cell: Cell) -> Result<(), AllocError>
+pub(crate) fn push_cell(out: &mut Vec<u8>, cell: Cell) -> Result<(), AllocError>
     ensures { Pushes (cell_text cell) result out.old.items out.new.items }
 {
     match cell {
