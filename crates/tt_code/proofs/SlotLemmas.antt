@@ -1,7 +1,6 @@
 -- How the slots grow by one instruction.
-use Rattle.std.proofs.Common.{◌≡◌, ◌⊎◌, inl, inr, ℕ, zero, suc, ◌+◌, ◌-◌, ◌<◌, List, [], ◌∷◌, ◌++◌, length, refl, sym, ◌∙◌, ap, arith, append_assoc, Bool, false, subst, Option, Some, None, get_or, slice_index, set, replicate, take, map}
+use Rattle.std.proofs.Common.{◌≡◌, ◌⊎◌, inl, inr, ℕ, zero, suc, ◌+◌, ◌-◌, ◌<◌, List, [], ◌∷◌, ◌++◌, length, refl, sym, ◌∙◌, ap, arith, append_assoc, Bool, false, subst, Option, Some, None, get_or, slice_index, set, replicate, take, map, length-append}
 use Rattle.std.specs.List.{AllByRecursion}
-use Rattle.std.proofs.Common.{length-append}
 use Rattle.std.proofs.lemmas.List.{length-set, length-replicate, length-map, map-append, map-set, take_all}
 use Rattle.std.proofs.Math.Seq.{map-set_same}
 use Rattle.tt_code.specs.declared.block_keyword.BlockKeyword.{BlockKeyword}

@@ -1,7 +1,6 @@
 -- The component list of a composite glyph (OpenType specification, `glyf`, "Composite glyph
 -- description").
-use Rattle.std.specs.Prelude.{ℕ, zero, suc, ◌+◌, List, [], ◌∷◌, length, map, Bool, not, nat_le}
-use Rattle.std.specs.Prelude.{◌==◌, Option, Some, None, if◌then◌else◌}
+use Rattle.std.specs.Prelude.{ℕ, zero, suc, ◌+◌, List, [], ◌∷◌, length, map, Bool, not, nat_le, ◌==◌, Option, Some, None, if◌then◌else◌}
 use Rattle.std.specs.Int.Bits.{bit_and}
 use Rattle.tt_font.specs.declared.component.Component.{Component}
 use Rattle.tt_font.specs.Numbers.{u16_at}

@@ -1,8 +1,6 @@
 -- Conditions on which bytes are refused, each with its fault. Of a list of conditions the first
 -- that holds is the answer. (OpenType specification, "Table directory", `maxp`, `loca` and `glyf`.)
-use Rattle.std.specs.Prelude.{◌≡◌, ◌≢◌, ℕ, ◌+◌, ◌*◌, ◌&&◌, ◌||◌, List, [], ◌∷◌, length, Bool, true}
-use Rattle.std.specs.Prelude.{Option, Some, None, is_some, is_none, not, alloc_error, Result}
-use Rattle.std.specs.Prelude.{MatchResult, nat_le, nat_lt, ◌==◌, if◌then◌else◌}
+use Rattle.std.specs.Prelude.{◌≡◌, ◌≢◌, ℕ, ◌+◌, ◌*◌, ◌&&◌, ◌||◌, List, [], ◌∷◌, length, Bool, true, Option, Some, None, is_some, is_none, not, alloc_error, Result, MatchResult, nat_le, nat_lt, ◌==◌, if◌then◌else◌}
 use Rattle.std.specs.Option.{option_map, option_map_or, option_or}
 use Rattle.tt_font.specs.declared.fault.FontFault.{FontFault}
 use Rattle.tt_font.specs.declared.fault.FontFault.TheVariants as faults

@@ -1,10 +1,7 @@
 -- The numbers of the faults.
 use Rattle.std.specs.Prelude.{ℕ}
 use Rattle.tt_font.specs.declared.fault.FontFault.{FontFault}
-use Rattle.tt_font.specs.declared.fault.FontFault.TheVariants.{NotSfnt, DirectoryTruncated}
-use Rattle.tt_font.specs.declared.fault.FontFault.TheVariants.{MissingTable, TableOutside}
-use Rattle.tt_font.specs.declared.fault.FontFault.TheVariants.{MaxpVersion, Loca, GlyphTruncated}
-use Rattle.tt_font.specs.declared.fault.FontFault.TheVariants.{Composite, OutOfMemory}
+use Rattle.tt_font.specs.declared.fault.FontFault.TheVariants.{NotSfnt, DirectoryTruncated, MissingTable, TableOutside, MaxpVersion, Loca, GlyphTruncated, Composite, OutOfMemory}
 
 abbrev pub fault_number : FontFault → ℕ
 fault_number NotSfnt = 1

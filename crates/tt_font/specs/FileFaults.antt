@@ -5,8 +5,7 @@ use Rattle.tt_font.specs.declared.tag.Tag.TheVariants.{Cvt, Fpgm, Glyf, Head, Lo
 use Rattle.tt_font.specs.Directory.{table}
 use Rattle.tt_font.specs.Locations.{loca_format}
 use Rattle.tt_font.specs.Files.{font_glyph_count, font_glyphs, font_outlines}
-use Rattle.tt_font.specs.Conditions.{Condition, first, directory_fault, table_fault}
-use Rattle.tt_font.specs.Conditions.{optional_table_fault, maxp_fault, loca_fault, glyphs_fault}
+use Rattle.tt_font.specs.Conditions.{Condition, first, directory_fault, table_fault, optional_table_fault, maxp_fault, loca_fault, glyphs_fault}
 
 -- the greatest length of a font program or a CVT program
 abbrev pub program_most : ℕ

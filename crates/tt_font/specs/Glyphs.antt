@@ -1,6 +1,5 @@
 -- What the bytes of a glyph say (OpenType specification, `glyf`).
-use Rattle.std.specs.Prelude.{ℕ, zero, suc, ◌+◌, ◌*◌, ◌&&◌, List, [], length, slice_range, Bool}
-use Rattle.std.specs.Prelude.{nat_le, nat_lt, ◌==◌, Option, Some, None, if◌then◌else◌}
+use Rattle.std.specs.Prelude.{ℕ, zero, suc, ◌+◌, ◌*◌, ◌&&◌, List, [], length, slice_range, Bool, nat_le, nat_lt, ◌==◌, Option, Some, None, if◌then◌else◌}
 use Rattle.tt_font.specs.declared.component.Component.{Component}
 use Rattle.tt_font.specs.Numbers.{u16_at}
 use Rattle.tt_font.specs.Components.{components, last_of, has_instructions}

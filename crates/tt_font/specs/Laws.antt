@@ -1,6 +1,5 @@
 -- What the definitions that go step by step mean, each in one statement about positions or ways.
-use Rattle.std.specs.Prelude.{◌≡◌, ℕ, ◌+◌, ◌<◌, ◌≤◌, ◌⊎◌, ◌↔◌, List, [], ◌∷◌, length, Bool, true}
-use Rattle.std.specs.Prelude.{false, Option, MatchOption}
+use Rattle.std.specs.Prelude.{◌≡◌, ℕ, ◌+◌, ◌<◌, ◌≤◌, ◌⊎◌, ◌↔◌, List, [], ◌∷◌, length, Bool, true, false, Option, MatchOption}
 use Rattle.tt_font.specs.declared.component.Component.{Component}
 use Rattle.tt_font.specs.Numbers.{u16_at, first_below}
 use Rattle.tt_font.specs.Components.{component_size, has_more, components, last_of}

@@ -1,6 +1,5 @@
 -- Where the glyphs are (OpenType specification, `head`, `loca`, `glyf`).
-use Rattle.std.specs.Prelude.{ℕ, ◌+◌, ◌-◌, ◌*◌, ◌&&◌, ◌||◌, List, length, slice_range, Bool, nat_le}
-use Rattle.std.specs.Prelude.{◌==◌, if◌then◌else◌}
+use Rattle.std.specs.Prelude.{ℕ, ◌+◌, ◌-◌, ◌*◌, ◌&&◌, ◌||◌, List, length, slice_range, Bool, nat_le, ◌==◌, if◌then◌else◌}
 use Rattle.tt_font.specs.Numbers.{u16_at, u32_at}
 
 -- indexToLocFormat: 0 where `loca` has short entries, 1 where it has long ones

@@ -1,7 +1,6 @@
 -- Glyphs as points and contours of their own, or as lists of other glyphs (OpenType specification,
 -- `glyf`).
-use Rattle.std.specs.Prelude.{ℕ, zero, suc, ◌+◌, ◌||◌, List, [], Bool, true, false, not, nat_lt}
-use Rattle.std.specs.Prelude.{if◌then◌else◌}
+use Rattle.std.specs.Prelude.{ℕ, zero, suc, ◌+◌, ◌||◌, List, [], Bool, true, false, not, nat_lt, if◌then◌else◌}
 use Rattle.std.specs.List.{sum_by, list_any}
 use Rattle.tt_font.specs.Components.{components, glyphs_named}
 use Rattle.tt_font.specs.Glyphs.{is_composite, simple_points, simple_contours}

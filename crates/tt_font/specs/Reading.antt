@@ -8,8 +8,7 @@ use Rattle.tt_font.specs.Directory.{table}
 use Rattle.tt_font.specs.Glyphs.{program_of, component_total}
 use Rattle.tt_font.specs.Outlines.{Outline, own_points, own_contours}
 use Rattle.tt_font.specs.Chains.{SumsChains}
-use Rattle.tt_font.specs.Files.{font_limits, font_cvt_count, font_glyph_count, font_glyphs}
-use Rattle.tt_font.specs.Files.{font_outlines}
+use Rattle.tt_font.specs.Files.{font_limits, font_cvt_count, font_glyph_count, font_glyphs, font_outlines}
 
 -- a glyph: how many points and contours it has, and its program
 pub record GlyphData : Type 0 where

@@ -57,8 +57,7 @@ pub struct Font<'a> {
 
 impl<'a> Model for Font<'a> {
     ghost use Rattle.std.specs.Prelude.{map, length, ◌<◌, ◌^◌};
-    ghost use Rattle.tt_font.specs.Reading.{FontData};
-    ghost use Rattle.tt_font.specs.Reading.{glyph_data};
+    ghost use Rattle.tt_font.specs.Reading.{FontData, glyph_data};
 
     ghost Value = { FontData };
 
@@ -79,8 +78,7 @@ impl<'a> Font<'a> {
     ghost use Rattle.std.specs.Option.{option_map};
     ghost use Rattle.tt_font.specs.Conditions.{IsOutOfMemory, TestsWithMemory};
     ghost use Rattle.tt_font.specs.FileFaults.{font_fault, tables_fault};
-    ghost use Rattle.tt_font.specs.Reading.{Reads, ReadsComponents};
-    ghost use Rattle.tt_font.specs.Reading.{glyph_data};
+    ghost use Rattle.tt_font.specs.Reading.{Reads, ReadsComponents, glyph_data};
 
     /// Reads the bytes of a font file. No glyph and no program is copied, and the memory that is
     /// taken grows with the number of glyphs only, once `loca` is known to have an entry for each.

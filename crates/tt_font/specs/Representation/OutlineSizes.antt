@@ -1,11 +1,9 @@
 -- How the sizes of all glyphs' outlines are summed, iteration by iteration. (Representation.)
-use Rattle.std.specs.Prelude.{◌≡◌, ℕ, zero, suc, ◌<◌, ◌≤◌, ◌||◌, List, length, slice_index_or, Bool}
-use Rattle.std.specs.Prelude.{true, not, nat_lt, min}
+use Rattle.std.specs.Prelude.{◌≡◌, ℕ, zero, suc, ◌<◌, ◌≤◌, ◌||◌, List, length, slice_index_or, Bool, true, not, nat_lt, min}
 use Rattle.std.specs.List.{sum_by, list_any}
 use Rattle.tt_font.specs.declared.glyph_table.GlyphTable.{GlyphTable}
 use Rattle.tt_font.specs.declared.outline_size.OutlineSize.{OutlineSize}
-use Rattle.tt_font.specs.Outlines.{Outline, simple, composite, parts, own_points, own_contours}
-use Rattle.tt_font.specs.Outlines.{total}
+use Rattle.tt_font.specs.Outlines.{Outline, simple, composite, parts, own_points, own_contours, total}
 use Rattle.tt_font.specs.Representation.GlyphTables.{outlines_in}
 
 -- a glyph has components
