@@ -29,14 +29,15 @@ pub data Request : Type 0 where
   list : Text → Text → Request
   upgrade : Text → Text → Request
 
--- the first text that an argument got, the number that it spells, and the text of one that may be
--- left out
+-- the first text that an argument got, empty where it got none
 abbrev pub text_in : List Row → Text → Text
 text_in rows id = unwrap_or (first_of id rows) []
 
+-- the number that the text of an argument spells
 abbrev pub number_in : List Row → Text → ℕ
 number_in rows id = digits_value 10 (without_leading_plus (unwrap_or (one_of id rows) []))
 
+-- the text that an argument got, if it got one
 abbrev pub optional_in : List Row → Text → Option Text
 optional_in rows id = first_of id rows
 
@@ -46,6 +47,7 @@ pub record HasNumber (rows : List Row) (id : Text) : Type 0 where
   pub found : one_of id rows ≡ Some (without_minus text)
   pub number : IsSignedIn (pos 0) (pos 65535) text
 
+-- what `bare` asks for, by what its arguments got
 unfoldable pub bare_request : List Row → Request
 bare_request rows =
     bare (text_in rows (codes "MAXP")) (number_in rows (codes "CVT"))

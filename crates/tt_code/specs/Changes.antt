@@ -29,11 +29,13 @@ abbrev pub natural : ℤ → ℕ
 natural (pos n) = n
 natural (negsuc n) = 0
 
+-- the zone that a number names, once it is tested to be 0 or 1
 abbrev pub zone_of : ℤ → ZoneNumber
 zone_of (pos zero) = Zero
 zone_of (pos (suc n)) = One
 zone_of (negsuc n) = One
 
+-- the machine's own reading: elements are whole numbers
 abbrev pub numbers : Reading ℤ ZoneNumber
 numbers = record { one = pos 1; index = natural; zone = zone_of }
 
@@ -41,6 +43,7 @@ numbers = record { one = pos 1; index = natural; zone = zone_of }
 abbrev pub with_stored : {N : Type 0} → ℕ → N → (ℕ → N) → ℕ → N
 with_stored i n area k = if nat_eq i k then n else area k
 
+-- one change of a line, by the elements that were taken
 abbrev pub updated : {N Z : Type 0} → Reading N Z → List N → Update → Registers N Z → Registers N Z
 updated read taken (update.SetReference r (source.Taken i)) x =
     record x { graphics = with_reference r (taken_at read.one taken i) x.graphics }
@@ -63,10 +66,12 @@ abbrev pub all_updated : {N Z : Type 0} → Reading N Z → List N → List Upda
 all_updated read taken [] x = x
 all_updated read taken (u ∷ us) x = all_updated read taken us (updated read taken u x)
 
+-- what one push of a line gives, by the elements that were taken and the storage area
 abbrev pub value_pushed : List ℤ → (ℕ → ℤ) → Pushed → Value
 value_pushed taken area pushed.Any = Anything
 value_pushed taken area (pushed.Stored i) = Exactly (area (natural (taken_at (pos 1) taken i)))
 
+-- what all pushes of a line give, the deepest first
 abbrev pub values_pushed : List ℤ → (ℕ → ℤ) → List Pushed → List Value
 values_pushed taken area [] = []
 values_pushed taken area (p ∷ ps) = value_pushed taken area p ∷ values_pushed taken area ps

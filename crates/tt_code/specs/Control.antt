@@ -70,6 +70,7 @@ may_define FontProgram = true
 may_define CvtProgram = true
 may_define (GlyphProgram points contours) = false
 
+-- what an instruction does that leads elsewhere, or defines a function
 abbrev pub controlled : Setting → Machine → Control → Tested Outcome
 controlled s m If = do
   e ← top m.stack

@@ -30,5 +30,6 @@ abbrev pub named : List ℕ → Option (List ℕ)
 named [] = None
 named (c ∷ cs) = Some (c ∷ cs)
 
+-- the name that a reference points to
 abbrev pub name_text : Bor (List ℕ) → Option (List ℕ)
 name_text n = named n.now

@@ -17,13 +17,16 @@ use Rattle.tt_code.specs.declared.kinds.Use.{Use}
 -- The elements that are taken, the first taken first, and the stack below them. (These forms read
 -- no element.)
 
+-- what was taken, and the stack that is left
 abbrev pub Taking : Type 0 → Type 0
 Taking N = List N × List N
 
+-- the top, and what is below it
 abbrev pub top : {N : Type 0} → List N → Tested (N × List N)
 top [] = Err reason.Underflow
 top (n ∷ ns) = Ok (n, ns)
 
+-- any one element
 abbrev pub take_one : {N : Type 0} → List N → Tested (Taking N)
 take_one [] = Err reason.Underflow
 take_one (n ∷ ns) = Ok (n ∷ [], ns)
@@ -36,10 +39,12 @@ then_take first second = do
   b ← second a.1
   Ok (a.0 ++ b.0, b.1)
 
+-- so many takings, one after the other
 abbrev pub times : {N : Type 0} → ℕ → (List N → Tested (Taking N)) → List N → Tested (Taking N)
 times zero one stack = Ok ([], stack)
 times (suc n) one stack = then_take (one stack) (times n one)
 
+-- as many takings as a count says, once the count is tested
 abbrev pub counted : {N : Type 0} → Tested ℕ → (List N → Tested (Taking N)) → List N →
     Tested (Taking N)
 counted (Err r) one stack = Err r
@@ -98,6 +103,7 @@ take_operand s g (operand.PointPairs within) stack =
 take_operand s g operand.CvtPairs stack =
     pairs count_of (tested (λ z. is_below z s.cvt) reason.Cvt) stack
 
+-- all operands of a line, in their order
 abbrev pub take_operands : Setting → Graphics ℤ ZoneNumber → List Operand → List ℤ →
     Tested (Taking ℤ)
 take_operands s g [] stack = Ok ([], stack)

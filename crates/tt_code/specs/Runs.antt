@@ -34,6 +34,7 @@ within_depth s o = do
   ok ← holds_or (nat_le (length o.after.stack + length o.pushes) s.limits.stack) reason.Overflow
   Ok o
 
+-- what happens at an instruction, if there is one, and the test of the depth after it
 abbrev pub performs : Setting → Machine → Option Instruction → Tested Outcome
 performs s m None = Err reason.Target
 performs s m (Some []) = Err reason.Target
@@ -51,6 +52,7 @@ fetched s m =
 unfoldable pub outcome : Setting → Machine → Tested Outcome
 outcome s m = performs s m (fetched s m)
 
+-- whether the machine is at the main program's end
 abbrev pub is_at_end : Setting → Machine → Bool
 is_at_end s m = is_main_end s m.frames m.offset
 
@@ -64,6 +66,7 @@ pub record Faults (s : Setting) (m : Machine) (r : Reason) : Type 0 where
 abbrev pub Choices : Type 0
 Choices = ℕ → ℤ
 
+-- the number that a value is, by a choice
 abbrev pub value : Value → ℤ → ℤ
 value (Exactly z) choice = z
 value Anything choice = choice

@@ -56,39 +56,50 @@ pub record Line : Type 0 where
 
 -- Words to write lines with.
 
+-- one code with a name
 abbrev pub one : ℕ → List ℕ → Named
 one code name = record { first = code; count = 1; name = name }
 
+-- two codes with a name
 abbrev pub two : ℕ → List ℕ → Named
 two code name = record { first = code; count = 2; name = name }
 
+-- four codes with a name
 abbrev pub four : ℕ → List ℕ → Named
 four code name = record { first = code; count = 4; name = name }
 
+-- sixteen codes with a name
 abbrev pub sixteen : ℕ → List ℕ → Named
 sixteen code name = record { first = code; count = 16; name = name }
 
+-- the instructions of a line, and what they stand for
 abbrev pub line : List Named → Meaning → Line
 line instructions meaning = record { instructions = instructions; meaning = meaning }
 
+-- a line that takes operands, uses reference points, changes and pushes
 abbrev pub plain : List Operand → List Use → List Update → List Pushed → Meaning
 plain operands uses updates pushes =
     Plain (record { operands = operands; uses = uses; updates = updates; pushes = pushes })
 
+-- a line that does nothing here
 abbrev pub nothing : Meaning
 nothing = plain [] [] [] []
 
+-- a line that only takes operands
 abbrev pub takes : List Operand → Meaning
 takes operands = plain operands [] [] []
 
+-- a line that takes operands and pushes any number
 abbrev pub measures : List Operand → Meaning
 measures operands = plain operands [] [] (Any ∷ [])
 
+-- a reference point as a point of a pointer's zone
 abbrev pub «in» : Reference → Pointer → Use
 «in» r p = record { reference = r; pointer = p }
 
 -- The table.
 
+-- all lines of the instruction set
 abbrev pub table : List Line
 table =
     line (two 0x00 (codes "SVTCA") ∷ two 0x02 (codes "SPVTCA") ∷ two 0x04 (codes "SFVTCA")
@@ -261,21 +272,26 @@ table =
 
 -- What a code stands for, and its name.
 
+-- whether a code is among codes with a name
 abbrev pub is_one_of : Named → ℕ → Bool
 is_one_of n code = nat_le n.first code && nat_lt code (n.first + n.count)
 
+-- the name of a code, among the instructions of a line
 abbrev pub name_among : List Named → ℕ → Option (List ℕ)
 name_among [] code = None
 name_among (n ∷ ns) code = if is_one_of n code then Some n.name else name_among ns code
 
+-- whether a code is of a line
 abbrev pub is_among : List Named → ℕ → Bool
 is_among [] code = false
 is_among (n ∷ ns) code = is_one_of n code || is_among ns code
 
+-- what a code stands for, by the lines
 abbrev pub meaning_in : List Line → ℕ → Meaning
 meaning_in [] code = NoEntry
 meaning_in (l ∷ ls) code = if is_among l.instructions code then l.meaning else meaning_in ls code
 
+-- a code's name, by the lines
 abbrev pub name_in : List Line → ℕ → Option (List ℕ)
 name_in [] code = None
 name_in (l ∷ ls) code =

@@ -3,6 +3,7 @@
 use Rattle.std.specs.Prelude.{◌≡◌, ℕ, zero, suc, ◌-◌, ◌<◌, ◌^◌, List, [], ◌∷◌, ◌++◌, length, take, drop, replicate}
 use Rattle.tt_code.specs.Cut.{Instruction, IsInstruction, IsCut}
 
+-- the lengths of instructions, byte by byte
 abbrev pub laid : List Instruction → List ℕ
 laid [] = []
 laid (i ∷ is) = length i ∷ replicate (length i - 1) 0 ++ laid is
@@ -13,6 +14,7 @@ pieces [] bytes = []
 pieces (zero ∷ ns) bytes = pieces ns (drop 1 bytes)
 pieces (suc n ∷ ns) bytes = take (suc n) bytes ∷ pieces ns (drop 1 bytes)
 
+-- the lengths are those of a cut of the bytes
 pub record IsLaid (lengths bytes : List ℕ) : Type 0 where
   pub is_cut : IsCut bytes (pieces lengths bytes)
   pub each_length : laid (pieces lengths bytes) ≡ lengths

@@ -20,6 +20,7 @@ inside_of (InElse k) b = b
 inside_of (InFunction k) b = true
 inside_of (InInstruction k) b = true
 
+-- whether some definition is open
 abbrev pub within : List Open → Bool
 within [] = false
 within (o ∷ s) = inside_of o (within s)
@@ -40,10 +41,12 @@ step Endf k (InFunction j ∷ s) = Some s
 step Endf k (InInstruction j ∷ s) = Some s
 step Endf k _ = None
 
+-- a further step, where there is something to go on from
 abbrev pub follow : Option (List Open) → (List Open → Option (List Open)) → Option (List Open)
 follow (Some s) f = f s
 follow None f = None
 
+-- what is open after instructions, the first of them at an offset, where this was open before
 abbrev pub steps : List Instruction → ℕ → List Open → Option (List Open)
 steps [] k s = Some s
 steps (i ∷ is) k s = follow (step (keyword i) k s) (λ t. steps is (k + length i) t)
@@ -62,11 +65,13 @@ closed Eif (o ∷ s) = Some (place o)
 closed Endf (o ∷ s) = Some (place o)
 closed _ _ = None
 
+-- what an instruction does to the things that are open, and what is open then
 abbrev pub Turns : Nesting → BlockKeyword → ℕ → List Open → List Open → Type 0
 Turns Refused w k s t = step w k s ≡ None
 Turns Passed w k s t = (step w k s ≡ Some t) × (closed w s ≡ None)
 Turns (Closed at) w k s t = (step w k s ≡ Some t) × (closed w s ≡ Some at)
 
+-- the body of the next instruction, by what is open
 abbrev pub body_of : List Open → Body
 body_of [] = body.Main
 body_of (InIf k ∷ s) = body_of s
@@ -74,6 +79,7 @@ body_of (InElse k ∷ s) = body_of s
 body_of (InFunction k ∷ s) = body.Function (k + 1)
 body_of (InInstruction k ∷ s) = body.Instruction (k + 1)
 
+-- the body after an instruction at an offset, by its keyword
 abbrev pub body_after : Body → BlockKeyword → ℕ → Body
 body_after b Fdef k = body.Function (k + 1)
 body_after b Idef k = body.Instruction (k + 1)

@@ -28,31 +28,40 @@ named kind.Main first = body.Main
 named kind.Function first = body.Function first
 named kind.Instruction first = body.Instruction first
 
+-- the body of the instruction that starts at a slot, if one does
 abbrev pub body_in : Slot → Option Body
 body_in slot = if nat_eq slot.length 0 then None else Some (named slot.kind slot.first)
 
+-- a target, where 0 stands for none
 abbrev pub target_of : ℕ → Option ℕ
 target_of zero = None
 target_of (suc n) = Some (suc n)
 
+-- the target that a slot keeps, if it keeps one
 abbrev pub target_in : Slot → Option ℕ
 target_in slot = target_of slot.target
 
+-- the lengths that slots keep
 abbrev pub lengths : List Slot → List ℕ
 lengths slots = map (λ slot. slot.length) slots
 
+-- the bodies that slots keep
 abbrev pub bodies : List Slot → List (Option Body)
 bodies slots = map body_in slots
 
+-- the targets that slots keep
 abbrev pub targets : List Slot → List (Option ℕ)
 targets slots = map target_in slots
 
+-- the body that is kept for an offset
 abbrev pub body_found : List (Option Body) → ℕ → Option Body
 body_found found k = slice_index_or found k None
 
+-- the target that is kept for an offset
 abbrev pub target_found : List (Option ℕ) → ℕ → Option ℕ
 target_found found k = slice_index_or found k None
 
+-- a keyword that opens something
 abbrev pub Opens : BlockKeyword → Type 0
 Opens If = Unit {0}
 Opens Else = Unit {0}
@@ -62,6 +71,7 @@ Opens Eif = ⊥
 Opens Endf = ⊥
 Opens Other = ⊥
 
+-- what the instruction at an offset opened is open
 abbrev pub IsOpenAt : ℕ → List Open → Type 0
 IsOpenAt k [] = ⊥
 IsOpenAt k (o ∷ s) = (place o ≡ k) ⊎ IsOpenAt k s
@@ -92,6 +102,7 @@ pub record IsRead
   pub each_length : laid p ≡ lengths slots
   pub table : IsTable p stack (bodies slots) (targets slots)
 
+-- the same of what is kept while a program is read
 abbrev pub IsReading : List Instruction → Reading → Type 0
 IsReading p r = IsRead p (reverse r.stack.items) r.body r.slots.items
 
@@ -99,6 +110,7 @@ IsReading p r = IsRead p (reverse r.stack.items) r.body r.slots.items
 abbrev pub kept : List Slot → List ℕ → List Instruction
 kept slots bytes = pieces (lengths slots) bytes
 
+-- the slots of a whole program say what the program is
 pub record IsKept (slots : List Slot) (bytes : List ℕ) : Type 0 where
   pub is_laid : IsLaid (lengths slots) bytes
   pub structured : IsStructured (kept slots bytes)
