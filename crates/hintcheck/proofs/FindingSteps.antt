@@ -14,11 +14,11 @@ use Rattle.tt_find.specs.declared.finder.Found.{Found}
 use Rattle.tt_font.specs.Reading.{FontData, GlyphData}
 use Rattle.hintcheck.specs.CheckedFonts.{IsGoodAtEnd}
 use Rattle.hintcheck.specs.FindingSessions.{IsFoundAnswer, IsFoundFor, IsFoundToEnd, IsOutcomeByFinding, cvt_found, cvt_refused, font_found, font_refused, glyph_found, glyph_refused}
-use Rattle.hintcheck.specs.FontVerdicts.{IsKnownAtEnd}
+use Rattle.hintcheck.specs.Representation.FontVerdicts.{IsKnownAtEnd}
 use Rattle.hintcheck.specs.FontPrograms.{cvt_subject, font_of, font_subject, glyph_subject}
 use Rattle.hintcheck.specs.ProgramVerdicts.{IfRefused, reported_at}
 use Rattle.hintcheck.specs.Programs.{IsRefusal, Subject}
-use Rattle.hintcheck.specs.SessionStages.{KeepsFound, KeepsGood, KeepsKnown, TellsOutcome}
+use Rattle.hintcheck.specs.Representation.SessionStages.{KeepsFound, KeepsGood, KeepsKnown, TellsOutcome}
 use Rattle.hintcheck.specs.Sessions.{Stage, accepted_as, after_font, at_glyph, at_start, over, refused_as}
 use Rattle.hintcheck.specs.declared.report.Refused.{Refused}
 use Rattle.hintcheck.specs.declared.session.Outcome.{Outcome}

@@ -19,7 +19,7 @@ use Rattle.tt_font.specs.Reading.{FontData}
 use Rattle.tt_cert.specs.Contents.{family_of}
 use Rattle.tt_find.specs.declared.finder.Found.{Found}
 use Rattle.hintcheck.specs.FindingSessions.{IsFoundFor, IsFoundToEnd}
-use Rattle.hintcheck.specs.FontVerdicts.{AreAllRefused, ComesToEnd, IsKnownAtEnd}
+use Rattle.hintcheck.specs.Representation.FontVerdicts.{AreAllRefused, ComesToEnd, IsKnownAtEnd}
 use Rattle.hintcheck.specs.FontPrograms.{cvt_refused, cvt_subject, font_refused, font_subject}
 use Rattle.hintcheck.specs.ProgramVerdicts.{IfRefused, IsAccepted, IsListed, IsSubjectOf, reported_at}
 use Rattle.hintcheck.specs.CheckedFonts.{IsGoodAtEnd}

@@ -8,7 +8,7 @@ use Rattle.tt_code.specs.Fonts.{Font}
 use Rattle.tt_font.specs.Reading.{glyph_data}
 use Rattle.tt_font.specs.Reading.{GlyphData}
 use Rattle.tt_font.specs.declared.glyph_part.GlyphPart.{GlyphPart}
-use Rattle.hintcheck.specs.FontVerdicts.{AreRefusedBelow}
+use Rattle.hintcheck.specs.Representation.FontVerdicts.{AreRefusedBelow}
 use Rattle.hintcheck.specs.FontPrograms.{AreRefused, accepted, no_glyph_left, glyph_subject, refused}
 use Rattle.hintcheck.specs.Programs.{HasLeastFamily, IsRefusal}
 use Rattle.hintcheck.specs.ProgramVerdicts.{IfRefused, IsListed, reported_at}

@@ -9,7 +9,7 @@ use Rattle.tt_abs.specs.StateFlow.{Place}
 use Rattle.tt_find.specs.declared.finder.Found.{Found}
 use Rattle.tt_font.specs.Reading.{FontData, GlyphData}
 use Rattle.hintcheck.specs.FindingSessions.{IsFoundAnswer, IsOutcomeByFinding, cvt_found, cvt_refused, font_found, font_refused, glyph_found, glyph_refused}
-use Rattle.hintcheck.specs.FontVerdicts.{AreAllRefused}
+use Rattle.hintcheck.specs.Representation.FontVerdicts.{AreAllRefused}
 use Rattle.hintcheck.specs.FontPrograms.{AreRefused, IsVerdict, accepted, no_glyph_left, cvt_subject, font_of, font_subject, glyph_subject, judgement_on, none_ended, refused}
 use Rattle.hintcheck.specs.FontPrograms as verdict
 use Rattle.hintcheck.specs.Programs.{EndsWith, HasLeastFamily, Subject}

@@ -24,7 +24,7 @@ use Rattle.hintcheck.specs.CheckedFonts.{Finds, IsGoodAtEnd, IsRefusedBy, IsTold
 use Rattle.hintcheck.specs.FontPrograms.{cvt_subject, font_of, font_subject, glyph_subject}
 use Rattle.hintcheck.specs.ProgramVerdicts.{IfRefused, reported_at}
 use Rattle.hintcheck.specs.Programs.{HasGoodFamily}
-use Rattle.hintcheck.specs.SessionStages.{HasHeader, KeepsGood, TellsRefusal, read_of}
+use Rattle.hintcheck.specs.Representation.SessionStages.{HasHeader, KeepsGood, TellsRefusal, read_of}
 use Rattle.hintcheck.specs.Sessions.{AnswersNext, IsFaultAt, IsHeaderFault, IsLast, IsNextFault, IsNothingLeft, IsOutcomeBySection, IsSoundAnswer, IsSoundOutcome, ReadsOn, Stage, Standing, accepted_as, after_font, all_read, already_over, another_number, at_glyph, at_header, at_start, cvt_ends, cvt_fails, cvt_passes, font_ends, font_fails, font_passes, glyph_fails, glyph_goes_on, glyph_passes, good_cvt, good_font, good_glyph, in_header, more_follows, no_header_read, none_is_left, over, refused_as, standing_at, where_it_was}
 use Rattle.hintcheck.specs.declared.font_check.CheckFontFault.{CheckFontFault}
 use Rattle.hintcheck.specs.declared.font_check.CheckFontFault.TheVariants as check

@@ -6,9 +6,9 @@ ghost use Rattle.tt_font.specs.Reading.{FontData, Reads};
 ghost use Rattle.hintcheck.specs.CertificateFaults.{CountsFind, IsNoFaultOfFont, TestsInFind, WritesNothing};
 ghost use Rattle.hintcheck.specs.CertificateTexts.{IsPassingCertificate, WritesBeginning, WritesText};
 ghost use Rattle.hintcheck.specs.FindingSessions.{BeginsCertificate, IsCertificateBegun};
-ghost use Rattle.hintcheck.specs.FontVerdicts.{AreAllRefused};
+ghost use Rattle.hintcheck.specs.Representation.FontVerdicts.{AreAllRefused};
 ghost use Rattle.hintcheck.specs.FontPrograms.{IsFontInRange, IsSafeFont, IsVerdict};
-ghost use Rattle.hintcheck.specs.SessionStages.{AreSectionsFrom, AreSomeSections};
+ghost use Rattle.hintcheck.specs.Representation.SessionStages.{AreSectionsFrom, AreSomeSections};
 ghost use Rattle.hintcheck.specs.Sessions.{at_start};
 
 use crate::font::{read_font, refused_programs};

@@ -11,7 +11,7 @@ ghost use Rattle.hintcheck.specs.CheckedFonts.{IsTold, bytes_in};
 ghost use Rattle.hintcheck.specs.FailedReads.{HasReadOld, IsUnbrokenOld};
 ghost use Rattle.hintcheck.specs.Upgrades.{AreBegun, AreUpgraded, IsNumberOfPrograms, IsUpgradeBegunOf, IsUpgradeOf, LackSection, UpgradesTo, name_at};
 ghost use Rattle.hintcheck.specs.UpgradeFaults.{ComesTo, CountsReads, CountsWrites};
-ghost use Rattle.hintcheck.specs.ReadProgress.{input_from};
+ghost use Rattle.hintcheck.specs.Representation.ReadProgress.{input_from};
 
 use crate::report::Name;
 use crate::sections::{HEADER, Progress, SECTIONS, next_section};

@@ -9,11 +9,11 @@ ghost use Rattle.tt_font.specs.Conditions.{TestsWithMemory};
 ghost use Rattle.tt_font.specs.FileFaults.{font_fault};
 ghost use Rattle.tt_font.specs.Reading.{FontData, Reads};
 ghost use Rattle.hintcheck.specs.FindingSessions.{IsFound, IsFoundToEnd};
-ghost use Rattle.hintcheck.specs.FontVerdicts.{AreAllRefused, ComesToEnd, HasSubject, IsKnownAtEnd, font_in, glyph_in};
+ghost use Rattle.hintcheck.specs.Representation.FontVerdicts.{AreAllRefused, ComesToEnd, HasSubject, IsKnownAtEnd, font_in, glyph_in};
 ghost use Rattle.hintcheck.specs.FontPrograms.{AreRefused, IsFontInRange, IsSafeFont, IsVerdict, font_of, font_subject};
 ghost use Rattle.hintcheck.specs.ProgramVerdicts.{IsFaultOfProgram, IsForCertificate, IsListed, IsSubjectOf, NoneIsGoodFor};
 ghost use Rattle.hintcheck.specs.Programs.{HasLeastFamily, Subject};
-ghost use Rattle.hintcheck.specs.ProgramEnds.{IsFoundEnd, IsKnownEnd, cvt_after};
+ghost use Rattle.hintcheck.specs.Representation.ProgramEnds.{IsFoundEnd, IsKnownEnd, cvt_after};
 
 use crate::program::{Search, cut, find_and_check, list_refused};
 use crate::report::{Name, Refused, Verdict};

@@ -11,13 +11,13 @@ ghost use Rattle.hintcheck.specs.CertificateFaults.{CountsCheck, IsNoFontFault, 
 ghost use Rattle.hintcheck.specs.Certificates.{IsChecked, IsListingBrokenFirst, PassesToEnd};
 ghost use Rattle.hintcheck.specs.CheckedFonts.{AnswersFinding, Finds, HasGoodFamilies, IsGoodAtEnd, IsPassed, IsRefusedBy, IsTold, bytes_in};
 ghost use Rattle.hintcheck.specs.FailedReads.{HasRead, IsCutHeader, IsUnbroken, IsUnbrokenFor};
-ghost use Rattle.hintcheck.specs.FontVerdicts.{ComesToEnd, HasSubject, glyph_in};
+ghost use Rattle.hintcheck.specs.Representation.FontVerdicts.{ComesToEnd, HasSubject, glyph_in};
 ghost use Rattle.hintcheck.specs.FontPrograms.{IsFontInRange, IsSafeFont, font_subject};
 ghost use Rattle.hintcheck.specs.ProgramVerdicts.{IsFilledIn, IsListedIn, IsSubjectOf};
 ghost use Rattle.hintcheck.specs.Programs.{HasGoodFamily, Subject};
-ghost use Rattle.hintcheck.specs.SessionStages.{HasHeader, ListsOutcome};
+ghost use Rattle.hintcheck.specs.Representation.SessionStages.{HasHeader, ListsOutcome};
 ghost use Rattle.hintcheck.specs.Sessions.{IsHeaderFault};
-ghost use Rattle.hintcheck.specs.ProgramEnds.{IsGoodEnd, IsPassedEnd, cvt_after};
+ghost use Rattle.hintcheck.specs.Representation.ProgramEnds.{IsGoodEnd, IsPassedEnd, cvt_after};
 
 use crate::font::{Common, Ended, cvt_setting, read_font};
 use crate::program::cut;

@@ -7,7 +7,7 @@ ghost use Rattle.tt_stream.specs.Reads.{ConsumesBeginning};
 ghost use Rattle.hintcheck.specs.CertificateFaults.{Decodes};
 ghost use Rattle.hintcheck.specs.Certificates.{HasNoSection, IsSectionOf};
 ghost use Rattle.hintcheck.specs.CheckedFonts.{IsTold};
-ghost use Rattle.hintcheck.specs.ReadProgress.{input_from};
+ghost use Rattle.hintcheck.specs.Representation.ReadProgress.{input_from};
 
 use crate::report::Name;
 use std::alloc::Global;

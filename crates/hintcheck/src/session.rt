@@ -11,10 +11,10 @@ ghost use Rattle.hintcheck.specs.FindingSessions.{IsForFinding, IsFoundAnswer, o
 ghost use Rattle.hintcheck.specs.FontPrograms.{IsFontInRange};
 ghost use Rattle.hintcheck.specs.ProgramVerdicts.{IsForCertificate};
 ghost use Rattle.hintcheck.specs.Sessions.{AnswersNext, IsForChecking, IsNextFault, IsSoundAnswer, ReadsOn, Stage, accepted_as, at_start, new_standing, over, standing_at};
-ghost use Rattle.hintcheck.specs.SessionStages.{GlyphBySection, IsSoundGlyph, IsSoundStep, KeepsFound, KeepsGood, StepsBySection, StopsInSection, TellsRefusal, fault_of, read_of, stage_of, standing_of};
+ghost use Rattle.hintcheck.specs.Representation.SessionStages.{GlyphBySection, IsSoundGlyph, IsSoundStep, KeepsFound, KeepsGood, StepsBySection, StopsInSection, TellsRefusal, fault_of, read_of, stage_of, standing_of};
 ghost use Rattle.hintcheck.specs.declared.font_check.CheckFontFault.{CheckFontFault as AnyFault};
-ghost use Rattle.hintcheck.specs.ReadProgress.{input_from};
-ghost use Rattle.hintcheck.specs.ProgramEnds.{after_font_program, at_glyph_program};
+ghost use Rattle.hintcheck.specs.Representation.ReadProgress.{input_from};
+ghost use Rattle.hintcheck.specs.Representation.ProgramEnds.{after_font_program, at_glyph_program};
 
 mod find;
 
@@ -388,7 +388,7 @@ pub struct Session<'a> {
 impl<'a> Model for Session<'a> {
     ghost use Rattle.hintcheck.specs.Sessions.{Standing};
     ghost use Rattle.hintcheck.specs.FontPrograms.{IsFontInRange};
-    ghost use Rattle.hintcheck.specs.SessionStages.{KeepsFound, KeepsGood, fault_in, read_of, stage_of};
+    ghost use Rattle.hintcheck.specs.Representation.SessionStages.{KeepsFound, KeepsGood, fault_in, read_of, stage_of};
 
     ghost Value = { Standing };
 

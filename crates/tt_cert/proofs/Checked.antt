@@ -24,7 +24,8 @@ use Rattle.tt_abs.proofs.StateParts.{one_state}
 use Rattle.tt_cert.specs.Checks.{AreCovered, AreMet, BreaksAt, IsFirstGap, IsGap, IsMet, IsSoundAt, Names, NamesAt, place_of_next, saturated_offset, stores, refused, leaves}
 use Rattle.tt_cert.specs.GoodFamilies.{IsStoredWithin}
 use Rattle.tt_cert.specs.Spots.{spot_of}
-use Rattle.tt_cert.specs.Cursors.{AreMetBy, IsAfter, IsLeftOut, IsMetBy, IsNextState, IsPassed, coverage_of_both}
+use Rattle.tt_cert.specs.Representation.Cursors.{AreMetBy, IsLeftOut, IsMetBy, IsNextState, IsPassed, coverage_of_both}
+use Rattle.tt_cert.specs.Fillings.{IsAfter}
 use Rattle.tt_cert.specs.declared.fault.ProgramFault.{ProgramFault}
 use Rattle.tt_cert.specs.declared.fault.ProgramFault.TheVariants.{Refused, OutOfMemory}
 use Rattle.tt_cert.specs.declared.meeting.Coverage.{Coverage}

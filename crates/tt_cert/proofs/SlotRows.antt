@@ -16,7 +16,7 @@ use Rattle.std.proofs.lemmas.List.{get_or-set_same, get_or-set_other, set-get_or
 use Rattle.std.proofs.lemmas.Option.{slice_get_read, get_or_from_slice_get}
 use Rattle.tt_abs.specs.Entries.{Rises, listed}
 use Rattle.tt_cert.specs.Places.{place_cmp, states_of}
-use Rattle.tt_cert.specs.SlotRows.{Point, Offsets, row_points, rows_points, merged, row_of, AreBelow, AreApart, AreEmptyFrom, AreSlotRows, AddsRows}
+use Rattle.tt_cert.specs.Representation.SlotRows.{Point, Offsets, row_points, rows_points, merged, row_of, AreBelow, AreApart, AreEmptyFrom, AreSlotRows, AddsRows}
 use Rattle.tt_cert.proofs.Puts.{places_apart}
 use Rattle.tt_cert.proofs.Putting.{place_total}
 use Rattle.tt_cert.proofs.RowEnds.{listed_below, listed_pushed, rises_pushed, below_first}

@@ -13,7 +13,7 @@ use Rattle.std.proofs.lemmas.Cmp.{tied_itself}
 use Rattle.std.proofs.lemmas.Map.Entries.{lookup_head}
 use Rattle.std.proofs.lemmas.Map.Keys.{sorted_head, sorted_tail}
 use Rattle.tt_cert.specs.Places.{place_cmp, states_of}
-use Rattle.tt_cert.specs.SlotRows.{Point, merged, AreApart, with_first, comes_first}
+use Rattle.tt_cert.specs.Representation.SlotRows.{Point, merged, AreApart, with_first, comes_first}
 use Rattle.tt_cert.proofs.Putting.{place_total}
 use Rattle.tt_cert.proofs.SlotEntries.{merged_first, merged_other, below_below, place_exact}
 

@@ -20,7 +20,7 @@ use Rattle.tt_abs.specs.declared.state.State.{State}
 use Rattle.tt_abs.specs.States.{state_order, start_of}
 use Rattle.tt_cert.specs.Places.{place_cmp, states_of, PutGives, PutsAt}
 use Rattle.tt_cert.specs.Puts.{ReweighsStates}
-use Rattle.tt_cert.specs.StateSlots.{state_in, states_in, AreSlots, AgreesBelow, AreFirstSlots}
+use Rattle.tt_cert.specs.Representation.StateSlots.{state_in, states_in, AreSlots, AgreesBelow, AreFirstSlots}
 use Rattle.tt_cert.proofs.Puts.{cases_place, places_apart}
 use Rattle.tt_cert.proofs.Putting.{place_total, sums_written, sums_added}
 use Rattle.tt_cert.proofs.SlotEntries.{insert_rises, insert_here, insert_elsewhere, insert_length}

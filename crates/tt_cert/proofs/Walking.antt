@@ -23,7 +23,8 @@ use Rattle.tt_cert.specs.Numbers.{at-number_of, same_frames-decides}
 use Rattle.tt_cert.specs.Places.{IsLess, place_cmp, states_of}
 use Rattle.tt_cert.specs.Puts.{number_at, place_of}
 use Rattle.tt_cert.specs.Checks.{AreToldBefore, BreaksAt, IsFilledBy, IsFirstBreakOnTheWay, IsSoundAt, Names, WasAdded, point_key_of}
-use Rattle.tt_cert.specs.Cursors.{Entry, IsAfter, IsAtPoint, IsCarried, IsComingAfter, IsEntry, IsOnWay, IsPassed, IsRead, IsUnlisted, IsWalkedThrough, IsWalkedTo, MayLeaveOut, to_come}
+use Rattle.tt_cert.specs.Representation.Cursors.{Entry, IsAtPoint, IsCarried, IsComingAfter, IsEntry, IsOnWay, IsPassed, IsRead, IsUnlisted, IsWalkedThrough, IsWalkedTo, MayLeaveOut, to_come}
+use Rattle.tt_cert.specs.Fillings.{IsAfter}
 use Rattle.tt_cert.specs.declared.fault.ProgramFault.{ProgramFault}
 use Rattle.tt_cert.specs.declared.fault.ProgramFault.TheVariants.{Refused, OutOfMemory}
 use Rattle.tt_cert.specs.declared.listing.Listing.{Listing}

@@ -4,11 +4,9 @@ use Rattle.tt_abs.specs.Soundness.{IsSafe}
 use Rattle.tt_abs.specs.declared.setting.Setting.{Setting as Subject}
 use Rattle.tt_cert.specs.Checks.{IsBrokenFirst, IsFillingBrokenFirst, Names}
 use Rattle.tt_cert.specs.Contents.{Contents, family_of}
-use Rattle.tt_cert.specs.Cursors.{IsFoundSound, NamesFirst}
 use Rattle.tt_cert.specs.Fillings.{HasGoodFilling, HasSafeFilling}
 use Rattle.tt_cert.specs.GoodFamilies.{EndsWell, IsGoodFamily, IsShortEnough}
 use Rattle.tt_cert.specs.declared.fault.ProgramFault.{ProgramFault}
-use Rattle.tt_cert.specs.declared.listing.Listing.{Listing}
 
 -- a glyph program is within maxSizeOfInstructions
 abbrev pub IsShortFor : Subject → Type 0
@@ -42,10 +40,3 @@ NamesBrokenFirst x contents = Names (IsBrokenFirst (setting_of x) x.start.now co
 abbrev pub NamesFillingBrokenFirst : Subject → Contents → ProgramFault → Type 0
 NamesFillingBrokenFirst x contents = Names (IsFillingBrokenFirst (setting_of x) x.start.now contents)
 
--- all that a check of either listing finds
-abbrev pub IsFoundSoundFor : Subject → Listing → Contents → Type 0
-IsFoundSoundFor x listing contents = IsFoundSound (setting_of x) x.start.now listing contents
-
--- the fault names what a check of either listing finds broken first
-abbrev pub NamesFirstFor : Subject → Listing → Contents → ProgramFault → Type 0
-NamesFirstFor x listing contents = NamesFirst (setting_of x) x.start.now listing contents

@@ -1,6 +1,9 @@
 -- Families that leave states out, and how those are found again.
-use Rattle.std.specs.Prelude.{◌≡◌, ℕ, List, Option, Some, None}
+use Rattle.std.specs.Prelude.{◌≡◌, ◌↔◌, ℕ, List, Option, Some, None}
 use Rattle.tt_code.specs.Settings.{Setting}
+use Rattle.tt_code.specs.declared.machine.Frame.{Frame}
+use Rattle.tt_abs.specs.Settings.{frames_of}
+use Rattle.tt_abs.specs.declared.setting.Point.{Point}
 use Rattle.tt_abs.specs.declared.state.State.{State}
 use Rattle.tt_abs.specs.Lines.{Precedes}
 use Rattle.tt_abs.specs.Soundness.{IsSafe}
@@ -34,3 +37,15 @@ abbrev pub HasOneGoodFilling : Type 0
 HasOneGoodFilling =
     (s : Setting) (functions : List (ℕ × ℕ)) (family one other : Place → Option State) → IsFilling s family one → IsGoodFamily s functions one
     → IsFilling s family other → IsGoodFamily s functions other → (p : Place) → one p ≡ other p
+
+-- the place is at this offset, if it is one, with these calls
+abbrev pub IsAfter : List Frame → Option ℕ → Place → Type 0
+IsAfter fs after q = (q.0 ≡ fs) × (after ≡ Some q.1)
+
+-- where an instruction ends, if only this one leads there as to the place just after it
+abbrev pub IsJustAfter : Setting → Place → Option ℕ → Type 0
+IsJustAfter s p after = (q : Place) → IsAfter p.0 after q ↔ Precedes s p q
+
+-- the place of a point, as the machine's calls and an offset
+abbrev pub place_of_point : Point → Place
+place_of_point p = (frames_of p, p.offset)

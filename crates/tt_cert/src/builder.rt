@@ -11,7 +11,7 @@ ghost use Rattle.tt_cert.specs.Places.{place_cmp, states_of};
 ghost use Rattle.tt_cert.specs.Puts.{Reweighs, family_state, place_of};
 ghost use Rattle.tt_cert.specs.Built.{RisesByKey, key_cmp, key_of as key_of_entry};
 ghost use Rattle.std.specs.BTreeMap.{IsOrdered, get};
-ghost use Rattle.tt_cert.specs.FileOrder.{IsFileOrder, children};
+ghost use Rattle.tt_cert.specs.Representation.FileOrder.{IsFileOrder, children};
 ghost use Rattle.tt_cert.specs.Rising.{IsFinished, StandsAt};
 ghost use Rattle.tt_cert.specs.Ends.{AreDefinedAtEnd, AreKnownAtEnd};
 ghost use Rattle.tt_cert.specs.Contents.{AddsChild, HasChild, IsChild, IsFamily, family_of, frames_at, points_of, state_at};

@@ -8,12 +8,14 @@ ghost use Rattle.tt_abs.specs.Families.{CoversAt};
 ghost use Rattle.tt_abs.specs.Lines.{EndsAt};
 ghost use Rattle.tt_abs.specs.Settings.{setting_of};
 ghost use Rattle.tt_abs.specs.States.{state_order};
-ghost use Rattle.tt_cert.specs.CheckedSubjects.{EndsWellFor, HasGoodFillingFor, HasSafeFillingFor, IsFoundSoundFor, IsGoodFor, IsSafeFor, IsShortFor, NamesBrokenFirst, NamesFillingBrokenFirst, NamesFirstFor};
+ghost use Rattle.tt_cert.specs.CheckedSubjects.{EndsWellFor, HasGoodFillingFor, HasSafeFillingFor, IsGoodFor, IsSafeFor, IsShortFor, NamesBrokenFirst, NamesFillingBrokenFirst};
+ghost use Rattle.tt_cert.specs.Representation.Cursors.{IsFoundSoundFor, NamesFirstFor};
 ghost use Rattle.tt_cert.specs.Checks.{AreToldBefore, IsOutOfMemory, NamesGap};
 ghost use Rattle.tt_cert.specs.Contents.{family_of};
 ghost use Rattle.tt_cert.specs.Fillings.{HasOneGoodFilling};
 ghost use Rattle.tt_cert.specs.GoodFamilies.{HasEnd};
-ghost use Rattle.tt_cert.specs.Cursors.{AreToCome, AreUnlisted, IsLeftOutAfter, IsWalk, IsWalkedThrough, NamesBreak, NamesFirstBreak, PassesPoint, place_of_point, to_come};
+ghost use Rattle.tt_cert.specs.Representation.Cursors.{AreToCome, AreUnlisted, IsLeftOutAfter, IsWalk, IsWalkedThrough, NamesBreak, NamesFirstBreak, PassesPoint, to_come};
+ghost use Rattle.tt_cert.specs.Fillings.{place_of_point};
 
 use crate::builder::Builder;
 use crate::certificate::Certificate;

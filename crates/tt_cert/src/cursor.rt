@@ -5,7 +5,7 @@ ghost use Rattle.tt_code.specs.Settings.{Setting as AnySetting};
 ghost use Rattle.tt_abs.specs.Entries.{Rises};
 ghost use Rattle.tt_abs.specs.States.{start_of};
 ghost use Rattle.tt_cert.specs.Contents.{Contents, IsFamily};
-ghost use Rattle.tt_cert.specs.Cursors.{AreToCome, IsAtNext, IsComing, IsComingAfter, IsEntry, IsOnWay, IsShorter, IsWalk};
+ghost use Rattle.tt_cert.specs.Representation.Cursors.{AreToCome, IsAtNext, IsComing, IsComingAfter, IsEntry, IsOnWay, IsShorter, IsWalk};
 ghost use Rattle.tt_cert.specs.declared.listing.Listing.{Listing as AnyListing};
 
 use crate::certificate::Certificate;

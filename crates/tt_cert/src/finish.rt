@@ -3,7 +3,7 @@
 ghost use Rattle.std.specs.Prelude.{◌≡◌, ℕ, ◌+◌, ◌<◌, List, [], ◌∷◌, IfOk, IfErr, length, take};
 ghost use Rattle.tt_code.specs.declared.machine.Frame.{Frame};
 ghost use Rattle.tt_cert.specs.Contents.{IsFamily, family_of, points_of};
-ghost use Rattle.tt_cert.specs.FileOrder.{ArePlaces, IsFileOrder, in_order};
+ghost use Rattle.tt_cert.specs.Representation.FileOrder.{ArePlaces, IsFileOrder, in_order};
 ghost use Rattle.tt_cert.specs.Rising.{AreMoved, IsFinished, SameContents, SameWithout, family_without};
 
 use crate::builder::Builder;

@@ -2,7 +2,7 @@
 
 ghost use Rattle.tt_abs.specs.Lines.{EndsAt};
 ghost use Rattle.tt_abs.specs.Settings.{setting_of};
-ghost use Rattle.tt_cert.specs.Cursors.{IsJustAfter, place_of_point};
+ghost use Rattle.tt_cert.specs.Fillings.{IsJustAfter, place_of_point};
 
 use tt_abs::{Point, Setting};
 

@@ -5,7 +5,7 @@ ghost use Rattle.tt_cert.specs.Checks.{AreToldBefore, HasNextTurn, NamesGap, sat
 ghost use Rattle.tt_cert.specs.Contents.{family_of, frames_at};
 ghost use Rattle.tt_cert.specs.Puts.{place_of};
 ghost use Rattle.tt_cert.specs.Spots.{spot_of};
-ghost use Rattle.tt_cert.specs.Cursors.{AreMadeMet, IsEntry, IsMadeMet, IsMetBy, IsPastStart, IsUnlisted, IsUnlistedAfter, IsWalk, MayTurn, NamesFirstGapMade, NamesGapMade, calls_of, coverage_of_both, place_behind as place_of_move, point_of};
+ghost use Rattle.tt_cert.specs.Representation.Cursors.{AreMadeMet, IsEntry, IsMadeMet, IsMetBy, IsPastStart, IsUnlisted, IsUnlistedAfter, IsWalk, MayTurn, NamesFirstGapMade, NamesGapMade, calls_of, coverage_of_both, place_behind as place_of_move, point_of};
 
 use crate::certificate::Certificate;
 use crate::cursor::{Cursor, is_coming, is_coming_after};

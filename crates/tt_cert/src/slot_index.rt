@@ -3,7 +3,7 @@
 ghost use Rattle.std.specs.Prelude.{◌≡◌, ℕ, ◌<◌, ◌≤◌, None, [], ◌∷◌, IfSome, OnOk, OnErr, length};
 ghost use Rattle.std.specs.BTreeMap.{insert_entry};
 ghost use Rattle.tt_cert.specs.Places.{place_cmp, states_of};
-ghost use Rattle.tt_cert.specs.SlotRows.{AddsRows, AreEmptyFrom, AreSlotRows, comes_first, points_in, row_of, rows_points};
+ghost use Rattle.tt_cert.specs.Representation.SlotRows.{AddsRows, AreEmptyFrom, AreSlotRows, comes_first, points_in, row_of, rows_points};
 
 use crate::offset_list::OffsetList;
 use std::alloc::{AllocError, Global};
@@ -34,7 +34,7 @@ pub(crate) struct SlotIndex {
 
 impl Model for SlotIndex {
     ghost use Rattle.std.specs.Prelude.{◌≡◌, List, ℕ, length};
-    ghost use Rattle.tt_cert.specs.SlotRows.{AreEmptyFrom, AreSlotRows, points_in};
+    ghost use Rattle.tt_cert.specs.Representation.SlotRows.{AreEmptyFrom, AreSlotRows, points_in};
 
     ghost Value = { List ((ℕ × ℕ) × ℕ) };
 
@@ -197,7 +197,7 @@ struct OffsetListsIter<'a> {
 
 impl<'a> Model for OffsetListsIter<'a> {
     ghost use Rattle.std.specs.Prelude.{List, ℕ, suc, ◌+◌, ◌++◌, ◌<◌, length};
-    ghost use Rattle.tt_cert.specs.SlotRows.{row_points, rows_points};
+    ghost use Rattle.tt_cert.specs.Representation.SlotRows.{row_points, rows_points};
 
     ghost Value = { List ((ℕ × ℕ) × ℕ) };
 
@@ -281,7 +281,7 @@ pub(crate) struct SlotIndexIter<'a> {
 
 impl<'a> Model for SlotIndexIter<'a> {
     ghost use Rattle.std.specs.Prelude.{List, ℕ};
-    ghost use Rattle.tt_cert.specs.SlotRows.{AreApart, merged, with_first};
+    ghost use Rattle.tt_cert.specs.Representation.SlotRows.{AreApart, merged, with_first};
 
     ghost Value = { List ((ℕ × ℕ) × ℕ) };
 

@@ -10,7 +10,7 @@ ghost use Rattle.tt_abs.specs.States.{state_order};
 ghost use Rattle.tt_cert.specs.Joins.{HasOtherDepth, HasSameDepth, PutsListed, TellsNew};
 ghost use Rattle.tt_cert.specs.Places.{place_cmp, states_of};
 ghost use Rattle.tt_cert.specs.Puts.{ReweighsStates};
-ghost use Rattle.tt_cert.specs.StateSlots.{AgreesBelow};
+ghost use Rattle.tt_cert.specs.Representation.StateSlots.{AgreesBelow};
 
 use crate::fault::JoinFault;
 use crate::joined::Joined;
@@ -35,7 +35,7 @@ pub(crate) struct StateStore {
 impl Model for StateStore {
     ghost use Rattle.std.specs.Prelude.{List, ℕ};
     ghost use Rattle.tt_abs.specs.declared.state.State.{State as StateValue};
-    ghost use Rattle.tt_cert.specs.StateSlots.{AreFirstSlots, states_in};
+    ghost use Rattle.tt_cert.specs.Representation.StateSlots.{AreFirstSlots, states_in};
 
     ghost Value = { List ((ℕ × ℕ) × StateValue) };
 

@@ -18,7 +18,7 @@ pub struct States<'a> {
 impl<'a> Model for States<'a> {
     ghost use Rattle.std.specs.Prelude.{List, ℕ};
     ghost use Rattle.tt_abs.specs.declared.state.State.{State as StateValue};
-    ghost use Rattle.tt_cert.specs.StateSlots.{AreSlots, states_in};
+    ghost use Rattle.tt_cert.specs.Representation.StateSlots.{AreSlots, states_in};
 
     ghost Value = { List ((ℕ × ℕ) × StateValue) };
 

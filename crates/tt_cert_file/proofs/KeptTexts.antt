@@ -6,7 +6,7 @@ use Rattle.std.proofs.Math.Seq.{take-append_seam}
 use Rattle.std.proofs.lemmas.Grind.{flat_map-append}
 use Rattle.std.proofs.lemmas.List.{take-append-drop}
 use Rattle.tt_abs.specs.declared.cells.Cell.{Cell}
-use Rattle.tt_cert_file.specs.KeptTexts.{IsTextOfCells, starts_of}
+use Rattle.tt_cert_file.specs.Representation.KeptTexts.{IsTextOfCells, starts_of}
 use Rattle.tt_cert_file.specs.Text.{cell_text}
 
 length-starts : (at : ℕ) (cells : List Cell) → length (starts_of at cells) ≡ length cells

@@ -18,11 +18,11 @@ use Rattle.tt_abs.proofs.StackOrders.{StackInRange-reverse}
 use Rattle.tt_cert_file.specs.declared.fault.DecodeFault.{DecodeFault}
 use Rattle.tt_cert_file.specs.declared.fault.DecodeFault.TheVariants as fault
 use Rattle.tt_cert_file.specs.Answers.{Fails, StopsAtEnd, input_at}
-use Rattle.tt_cert_file.specs.Blocks.{ReadsMoreCells, cells_at}
+use Rattle.tt_cert_file.specs.Representation.Blocks.{ReadsMoreCells, cells_at}
 use Rattle.tt_cert_file.specs.Readers.{Answer, Input, list_at, place_after, ◌>>=◌}
 use Rattle.tt_cert_file.specs.Reading.{cell_at}
 use Rattle.tt_cert_file.specs.Rules.{CellFits, EachAfter}
-use Rattle.tt_cert_file.specs.SharedCells.{AreAhead, AreCellsKept, AreWithin, IsStackKept, end_of}
+use Rattle.tt_cert_file.specs.Representation.SharedCells.{AreAhead, AreCellsKept, AreWithin, IsStackKept, end_of}
 use Rattle.tt_cert_file.specs.Text.{cell_text}
 use Rattle.tt_cert_file.proofs.Cells.{none_of}
 use Rattle.tt_cert_file.proofs.Codecs.{here, list_again}

@@ -5,9 +5,9 @@ ghost use Rattle.std.specs.Io.{StartsWith};
 ghost use Rattle.tt_abs.specs.declared.cells.Cell.{Cell as AnyCell};
 ghost use Rattle.tt_stream.specs.Reads.{ConsumesBeginning};
 ghost use Rattle.tt_cert_file.specs.Answers.{CountsRead, Gives, StopsAtEnd, input_at};
-ghost use Rattle.tt_cert_file.specs.Blocks.{ReadsMoreCells, cells_at};
+ghost use Rattle.tt_cert_file.specs.Representation.Blocks.{ReadsMoreCells, cells_at};
 ghost use Rattle.tt_cert_file.specs.Reading.{stack_at};
-ghost use Rattle.tt_cert_file.specs.SharedCells.{AreAhead, AreCellsKept, AreWithin, IsStackKept, end_of};
+ghost use Rattle.tt_cert_file.specs.Representation.SharedCells.{AreAhead, AreCellsKept, AreWithin, IsStackKept, end_of};
 
 use crate::fault::DecodeFault;
 use crate::lists::read_cells;

@@ -8,7 +8,7 @@ ghost use Rattle.tt_cert_file.specs.Answers.{CountsRead, Gives, IsOutOfMemory, S
 ghost use Rattle.tt_cert_file.specs.Readers.{list_at};
 ghost use Rattle.tt_cert_file.specs.Reading.{entry_after, entry_at, place_at, state_at, states_at};
 ghost use Rattle.tt_cert_file.specs.Rules.{is_next_place as is_next_place_after, last_place};
-ghost use Rattle.tt_cert_file.specs.SharedCells.{IsLast};
+ghost use Rattle.tt_cert_file.specs.Representation.SharedCells.{IsLast};
 
 use crate::fault::DecodeFault;
 use crate::form::Form;

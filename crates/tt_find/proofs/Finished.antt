@@ -27,7 +27,7 @@ use Rattle.tt_cert.specs.declared.fault.ProgramFault.{ProgramFault}
 use Rattle.tt_cert.specs.declared.fault.ProgramFault.TheVariants.{Refused, OutOfMemory}
 use Rattle.tt_find.specs.declared.solver.Solver.{Solver}
 use Rattle.tt_find.specs.Found.{AreDerivedContexts, AreLeastContexts, HasLeastFilling, KeepsBodies, IsDerived, IsJustified, IsLeast, IsNeverEnding, LacksEnd, NamesPlace, NeedsAll, NoneIsGood, too_long, refused, apart, too_many, never_ends}
-use Rattle.tt_find.specs.Solvers.{HasLaws, IsAmong, IsListed, IsWhole, MayLead}
+use Rattle.tt_find.specs.Representation.Solvers.{HasLaws, IsAmong, IsListed, IsWhole, MayLead}
 use Rattle.tt_find.proofs.Many.{few_from_all}
 use Rattle.tt_find.proofs.Marking.{kept_state}
 use Rattle.tt_find.proofs.Needed.{needs_all}

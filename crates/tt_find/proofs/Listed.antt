@@ -16,7 +16,7 @@ use Rattle.tt_cert.specs.declared.joined.Joined.{Joined}
 use Rattle.tt_cert.specs.declared.joined.Joined.TheVariants.{New}
 use Rattle.tt_cert.proofs.FillingLaws.{some_or_none}
 use Rattle.tt_cert.proofs.Puts.{places_apart}
-use Rattle.tt_find.specs.Solvers.{IsListed, SparesAt}
+use Rattle.tt_find.specs.Representation.Solvers.{IsListed, SparesAt}
 use Rattle.tt_find.specs.declared.origin.Origin.{Origin}
 use Rattle.tt_find.specs.declared.origin.Origin.TheVariants.{JustBefore, Elsewhere}
 use Rattle.tt_find.proofs.Points.{family_kept, has_number, key_kept, same_or_apart}

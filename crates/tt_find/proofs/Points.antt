@@ -18,7 +18,7 @@ use Rattle.tt_cert.specs.Numbers.{at-number_of, number_of-append, number_of-plac
 use Rattle.tt_cert.specs.Places.{PutGives, PutsAt, has_point, states_of}
 use Rattle.tt_cert.specs.Puts.{family_at, number_at, place_of}
 use Rattle.tt_cert.proofs.Puts.{cases_place}
-use Rattle.tt_find.specs.Solvers.{IsAmong, IsSoundSoFar, WaitsMore}
+use Rattle.tt_find.specs.Representation.Solvers.{IsAmong, IsSoundSoFar, WaitsMore}
 use Rattle.tt_find.proofs.Waits.{point_behind, point_here}
 use Rattle.tt_find.proofs.Sound.{sound_moved, sound_opened, sound_put}
 

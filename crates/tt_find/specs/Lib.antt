@@ -1,5 +1,3 @@
 pub mod Found
 pub mod FoundSubjects
-pub mod OffsetMarks
-pub mod Solvers
-pub mod Worklist
+pub mod Representation

@@ -5,8 +5,9 @@ ghost use Rattle.std.specs.Prelude.{◌≡◌, [], ◌∷◌, IfErr, IfOk};
 ghost use Rattle.tt_abs.specs.Entries.{Rises};
 ghost use Rattle.tt_abs.specs.Settings.{setting_of};
 ghost use Rattle.tt_abs.specs.StateFlow.{FunctionsFit};
-ghost use Rattle.tt_find.specs.FoundSubjects.{HasLawsFor, HasLeastContexts, HasOnlyNeeded, IsFoundFor, IsJustifiedFor, IsLeastFor, IsWholeFor, StopsFor, TellsNoEnd, TellsNoneIsGood};
-ghost use Rattle.tt_find.specs.Solvers.{IsEmptySolver};
+ghost use Rattle.tt_find.specs.FoundSubjects.{HasLeastContexts, HasOnlyNeeded, IsJustifiedFor, IsLeastFor, TellsNoEnd, TellsNoneIsGood};
+ghost use Rattle.tt_find.specs.Representation.SolverSubjects.{HasLawsFor, IsFoundFor, IsWholeFor, StopsFor};
+ghost use Rattle.tt_find.specs.Representation.Solvers.{IsEmptySolver};
 
 use crate::origin::Origin;
 use crate::run::{run, store};
@@ -156,7 +157,8 @@ pub struct Finder {
 impl Finder {
     /// Makes a finder without memory.
     pub fn new(alloc: Global) -> Finder
-        ensures { IsEmptySolver result.solver }
+        ensures contexts { result.solver.builder.contexts ≡ [] ∷ [] }
+        ensures states { result.solver.builder.states ≡ [] }
     {
         Finder {
             solver: Solver::new(alloc),

@@ -1,7 +1,7 @@
 //! At which offsets of the programs states are kept.
 
 ghost use Rattle.std.specs.Prelude.{◌≡◌, ◌≢◌, IsTrue, slice_index_or};
-ghost use Rattle.tt_find.specs.OffsetMarks.{SetsMark, mark_of};
+ghost use Rattle.tt_find.specs.Representation.OffsetMarks.{SetsMark, mark_of};
 
 use std::alloc::{AllocError, Global};
 use tt_abs::Setting;

@@ -3,7 +3,7 @@
 ghost use Rattle.std.specs.Prelude.{◌≡◌, ◌<◌, Err, IfOk, OnErr, length};
 ghost use Rattle.tt_cert.specs.Contents.{AddsContext, HasContext, IsFamily};
 ghost use Rattle.tt_cert.specs.Landings.{place_from};
-ghost use Rattle.tt_find.specs.Solvers.{IsCountable};
+ghost use Rattle.tt_find.specs.Representation.Solvers.{IsCountable};
 
 use tt_abs::Move;
 use tt_abs::setting::body_offset;

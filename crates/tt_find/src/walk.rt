@@ -5,7 +5,7 @@ ghost use Rattle.tt_abs.specs.Entries.{Rises};
 ghost use Rattle.tt_abs.specs.States.{start_of, state_order};
 ghost use Rattle.tt_cert.specs.Contents.{Contents, IsFamily, state_at};
 ghost use Rattle.tt_cert.specs.Joins.{TellsNewAt};
-ghost use Rattle.tt_find.specs.Solvers.{IsPut, IsWalk, KeepsRest, NamesApart};
+ghost use Rattle.tt_find.specs.Representation.Solvers.{IsPut, IsWalk, KeepsRest, NamesApart};
 
 use crate::solver::Solver;
 use std::alloc::{AllocError, Global};

@@ -21,7 +21,7 @@ pub(crate) struct Worklist {
 
 impl Model for Worklist {
     ghost use Rattle.std.specs.Prelude.{List, ℕ};
-    ghost use Rattle.tt_find.specs.Worklist.{AreInOrder, waiting_of};
+    ghost use Rattle.tt_find.specs.Representation.Worklist.{AreInOrder, waiting_of};
 
     ghost Value = { List (ℕ × ℕ) };
 

@@ -8,8 +8,8 @@ ghost use Rattle.hintcheck.specs.FindingSessions.{IsFoundAnswer};
 ghost use Rattle.hintcheck.specs.FontPrograms.{IsFontInRange, font_of, font_subject};
 ghost use Rattle.hintcheck.specs.ProgramVerdicts.{IsForCertificate};
 ghost use Rattle.hintcheck.specs.Sessions.{at_start};
-ghost use Rattle.hintcheck.specs.SessionStages.{IsFoundGlyph, IsFoundStep, KeepsKnown, TellsOutcome, stage_of};
-ghost use Rattle.hintcheck.specs.ProgramEnds.{IsKnownEnd, after_font_program, at_glyph_program};
+ghost use Rattle.hintcheck.specs.Representation.SessionStages.{IsFoundGlyph, IsFoundStep, KeepsKnown, TellsOutcome, stage_of};
+ghost use Rattle.hintcheck.specs.Representation.ProgramEnds.{IsKnownEnd, after_font_program, at_glyph_program};
 
 use super::{Kept, Outcome, accepted};
 use crate::font::{

@@ -1,7 +1,7 @@
 use Rattle.std.proofs.Common.{List, sym, subst}
 use Rattle.tt_code.specs.Cut.{Instruction}
 use Rattle.hintcheck.specs.FindingSessions.{IsFoundToEnd}
-use Rattle.hintcheck.specs.FontVerdicts.{IsKnownAtEnd}
+use Rattle.hintcheck.specs.Representation.FontVerdicts.{IsKnownAtEnd}
 use Rattle.hintcheck.specs.FontPrograms.{font_subject}
 use Rattle.hintcheck.specs.ProgramVerdicts.{IfRefused}
 use Rattle.hintcheck.specs.Programs.{IsRefusal}

@@ -2,7 +2,7 @@ use Rattle.std.proofs.Common.{sym}
 use Rattle.std.proofs.lemmas.Bool.{eqb-true}
 use Rattle.std.proofs.lemmas.List.{nil_from_length}
 use Rattle.tt_font.specs.Reading.{glyph_data}
-use Rattle.hintcheck.specs.FontVerdicts.{font_in, subject_in}
+use Rattle.hintcheck.specs.Representation.FontVerdicts.{font_in, subject_in}
 use Rattle.hintcheck.specs.ProgramVerdicts.{IfRefused}
 use Rattle.hintcheck.specs.Programs.{HasGoodFamily}
 use Rattle.hintcheck.proofs.EmptyPrograms.{least_without_instructions}

@@ -2,7 +2,7 @@ use Rattle.std.proofs.Common.{refl}
 use Rattle.std.proofs.lemmas.Result.{on_ok_weaker}
 use Rattle.tt_cert.specs.Contents.{family_of}
 use Rattle.tt_font.specs.Reading.{glyph_data}
-use Rattle.hintcheck.specs.FontVerdicts.{subject_in}
+use Rattle.hintcheck.specs.Representation.FontVerdicts.{subject_in}
 use Rattle.hintcheck.proofs.CheckRefusals.{broken_result, passes}
 use Rattle.hintcheck.proofs.FontEnds.{good_of_filling}
 use Rattle.hintcheck.proofs.ProgramVerdictLemmas.{is_subject}

@@ -12,7 +12,8 @@ use Rattle.tt_cert.specs.Checks.{saturated_offset}
 use Rattle.tt_cert.specs.Contents.{family_of, frames_at}
 use Rattle.tt_cert.specs.Puts.{place_of}
 use Rattle.tt_cert.specs.Spots.{spot_of}
-use Rattle.tt_cert.specs.Cursors.{IsAfter, MayLeaveOut}
+use Rattle.tt_cert.specs.Representation.Cursors.{MayLeaveOut}
+use Rattle.tt_cert.specs.Fillings.{IsAfter}
 use Rattle.tt_cert.specs.declared.fault.ProgramFault.TheVariants.{Refused}
 use Rattle.tt_cert.specs.declared.meeting.Coverage.TheVariants as coverage
 use Rattle.tt_cert.proofs.Checked.{broken_here, frames_back, outcome_moved, passed_at_end, passed_here, refusal_moved, refused_here, stores_here}

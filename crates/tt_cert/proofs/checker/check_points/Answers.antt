@@ -3,7 +3,7 @@ use Rattle.std.specs.Borrow.{Bor}
 use Rattle.tt_abs.specs.Settings.{setting_of}
 use Rattle.tt_abs.specs.declared.state.State.{State}
 use Rattle.tt_cert.specs.Puts.{place_of}
-use Rattle.tt_cert.specs.Cursors.{AreToCome, IsAtNext, MayLeaveOut, to_come}
+use Rattle.tt_cert.specs.Representation.Cursors.{AreToCome, IsAtNext, MayLeaveOut, to_come}
 use Rattle.tt_cert.proofs.FillingLaws.{filled_in_range}
 use Rattle.tt_cert.proofs.Walking.{first_on_way, line_of, nothing_walked, on_way, told_at, unlisted_after, way_shorter}
 use Rattle.tt_cert.proofs.checker.check_points.Goals as goal

@@ -2,7 +2,7 @@ use Rattle.std.proofs.Common.{◌+◌, sym, subst}
 use Rattle.tt_abs.specs.Moves.{next_by}
 use Rattle.tt_abs.specs.States.{abstract_of}
 use Rattle.tt_cert.specs.Contents.{family_of}
-use Rattle.tt_cert.specs.Cursors.{calls_of, nexts_made}
+use Rattle.tt_cert.specs.Representation.Cursors.{calls_of, nexts_made}
 use Rattle.tt_cert.specs.declared.meeting.Coverage.{Coverage}
 use Rattle.tt_cert.proofs.Checked.{AreMetBelow, gap_next, met_all, met_below, met_first, met_more, next_found, no_next, none_all_below}
 use Rattle.tt_cert.proofs.meeting.check_successors.Goals as goal

@@ -1,6 +1,6 @@
 use Rattle.std.specs.Prelude.{[], ◌∷◌, ◌++◌}
 use Rattle.std.proofs.Common.{arith, ◌∙◌, ap}
-use Rattle.tt_cert.specs.SlotRows.{Offsets}
+use Rattle.tt_cert.specs.Representation.SlotRows.{Offsets}
 use Rattle.tt_cert.proofs.SlotRows.{adds_one}
 use Rattle.tt_cert.proofs.slot_index.add_rows.Goals as goal
 

@@ -1,7 +1,7 @@
 use Rattle.std.specs.Prelude.{◌≡◌, ℕ, ◌<◌, [], length, min}
 use Rattle.std.proofs.Common.{arith, ◌∙◌, ap, subst}
 use Rattle.std.proofs.lemmas.List.{length-set, length-take}
-use Rattle.tt_cert.specs.SlotRows.{row_of}
+use Rattle.tt_cert.specs.Representation.SlotRows.{row_of}
 use Rattle.tt_cert.proofs.SlotRows.{empty_behind_kept, empty_behind_set, empty_before_set, all_rows_empty}
 use Rattle.tt_cert.proofs.slot_index.clear_rows.Goals as goal
 

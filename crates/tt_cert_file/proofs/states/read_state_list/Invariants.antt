@@ -1,5 +1,5 @@
 use Rattle.std.proofs.Common.{◌≡◌, length}
-use Rattle.tt_cert_file.specs.Blocks.{AreKept}
+use Rattle.tt_cert_file.specs.Representation.Blocks.{AreKept}
 use Rattle.tt_cert_file.specs.Reading.{entry_at}
 use Rattle.tt_cert_file.specs.Rules.{last_place}
 use Rattle.tt_cert_file.proofs.Loops.{IsReading}

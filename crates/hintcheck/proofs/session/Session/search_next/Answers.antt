@@ -1,6 +1,6 @@
 use Rattle.std.proofs.Common.{sym, ◌∙◌, ap}
 use Rattle.hintcheck.specs.Sessions.{Standing}
-use Rattle.hintcheck.specs.SessionStages.{read_of, stage_of}
+use Rattle.hintcheck.specs.Representation.SessionStages.{read_of, stage_of}
 use Rattle.hintcheck.proofs.FindingSteps.{kept_unread}
 use Rattle.hintcheck.proofs.SessionSteps.{over_is_last}
 use Rattle.hintcheck.proofs.session.Session.search_next.Goals as goal

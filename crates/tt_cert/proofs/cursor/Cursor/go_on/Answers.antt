@@ -2,7 +2,7 @@ use Rattle.std.proofs.Common.{arith, ◌≡◌, ◌++◌, ◌∷◌, ◌<◌, �
 use Rattle.std.specs.Borrow.{Bor}
 use Rattle.tt_abs.specs.declared.state.State.{State}
 use Rattle.tt_cert.specs.Contents.{frames_at}
-use Rattle.tt_cert.specs.Cursors.{Entry, IsComingAfter, to_come}
+use Rattle.tt_cert.specs.Representation.Cursors.{Entry, IsComingAfter, to_come}
 use Rattle.tt_cert.proofs.Moves.{entry_found}
 use Rattle.tt_cert.proofs.Walking.{at_carried, at_listed, read_behind, taken, walked_through}
 use Rattle.tt_cert.proofs.cursor.Cursor.go_on.Goals.{in-Some+else-is_coming_after, in_default}

@@ -1,6 +1,6 @@
 use Rattle.std.proofs.Common.{sym, ◌∙◌, ap, subst}
 use Rattle.std.specs.Prelude.{List, take}
-use Rattle.tt_cert.specs.SlotRows.{Point, AreApart, merged, rows_points, with_first}
+use Rattle.tt_cert.specs.Representation.SlotRows.{Point, AreApart, merged, rows_points, with_first}
 use Rattle.tt_cert.proofs.SlotRows.{places_apart_rest, used_points}
 use Rattle.tt_cert.proofs.SlotWalks.{taken_first}
 use Rattle.tt_cert.proofs.slot_index.SlotIndex.iter.Goals as goal

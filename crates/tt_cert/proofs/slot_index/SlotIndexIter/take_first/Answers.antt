@@ -1,6 +1,6 @@
 use Rattle.std.specs.Prelude.{◌≡◌, false, Option}
 use Rattle.std.proofs.Common.{sym, ◌∙◌, subst}
-use Rattle.tt_cert.specs.SlotRows.{Point, AreApart, comes_first, merged, with_first}
+use Rattle.tt_cert.specs.Representation.SlotRows.{Point, AreApart, comes_first, merged, with_first}
 use Rattle.tt_cert.proofs.SlotWalks.{other_taken_apart, other_taken, first_taken_apart, first_taken}
 use Rattle.tt_cert.proofs.slot_index.SlotIndexIter.take_first.Goals as goal
 

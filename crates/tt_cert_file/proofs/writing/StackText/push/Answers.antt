@@ -1,6 +1,6 @@
 use Rattle.std.proofs.Common.{◌≡◌, ◌++◌, ◌∷◌, ◌∙◌, List, [], ap, arith, length}
 use Rattle.tt_abs.specs.declared.cells.Cell.{Cell}
-use Rattle.tt_cert_file.specs.KeptTexts.{IsStackText, IsTextOfCells}
+use Rattle.tt_cert_file.specs.Representation.KeptTexts.{IsStackText, IsTextOfCells}
 use Rattle.tt_cert_file.specs.Text.{cell_text}
 use Rattle.tt_cert_file.proofs.KeptTexts.{more_text, on_more}
 use Rattle.tt_cert_file.proofs.writing.StackText.push.Goals as goal

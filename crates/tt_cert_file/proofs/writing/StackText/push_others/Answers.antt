@@ -1,6 +1,6 @@
 use Rattle.std.proofs.Common.{◌∙◌, List, reverse, subst, sym, take}
 use Rattle.tt_abs.specs.declared.cells.Cell.{Cell}
-use Rattle.tt_cert_file.specs.KeptTexts.{IsTextOfCells}
+use Rattle.tt_cert_file.specs.Representation.KeptTexts.{IsTextOfCells}
 use Rattle.tt_cert_file.proofs.Pushed.{taken_more}
 use Rattle.tt_cert_file.proofs.writing.StackText.push_others.Goals as goal
 

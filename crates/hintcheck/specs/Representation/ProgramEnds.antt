@@ -9,7 +9,7 @@ use Rattle.hintcheck.specs.Certificates.{PassesToEnd}
 use Rattle.hintcheck.specs.CheckedFonts.{IsGoodAtEnd}
 use Rattle.hintcheck.specs.FindingSessions.{IsFoundToEnd}
 use Rattle.hintcheck.specs.FontPrograms.{cvt_subject}
-use Rattle.hintcheck.specs.FontVerdicts.{IsKnownAtEnd}
+use Rattle.hintcheck.specs.Representation.FontVerdicts.{IsKnownAtEnd}
 use Rattle.hintcheck.specs.Programs.{Subject}
 use Rattle.hintcheck.specs.Sessions.{Stage, after_font, at_glyph}
 use Rattle.hintcheck.specs.declared.font.Ended.{Ended}

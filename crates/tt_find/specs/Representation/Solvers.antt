@@ -24,11 +24,11 @@ use Rattle.tt_cert.specs.Places.{PutsAt, has_point, states_of}
 use Rattle.tt_cert.specs.Puts.{Reweighs, place_of}
 use Rattle.tt_cert.specs.Spots.{spot_of}
 use Rattle.tt_cert.specs.declared.spot.Spot.{Spot}
-use Rattle.tt_cert.specs.Cursors.{IsJustAfter}
+use Rattle.tt_cert.specs.Fillings.{IsJustAfter}
 use Rattle.tt_cert.specs.declared.fault.ProgramFault.{ProgramFault}
 use Rattle.tt_cert.specs.declared.fault.ProgramFault.TheVariants.{Refused}
 use Rattle.tt_find.specs.Found.{ArePointsOf, IsDerived, IsNeeded, NamesPlace, NamesStop}
-use Rattle.tt_find.specs.OffsetMarks.{SetsMark, mark_at, mark_of}
+use Rattle.tt_find.specs.Representation.OffsetMarks.{SetsMark, mark_at, mark_of}
 use Rattle.tt_find.specs.declared.marks.Mark.TheVariants.{Free, Kept, Passed}
 use Rattle.tt_find.specs.declared.marks.OffsetMarks.{OffsetMarks}
 use Rattle.tt_find.specs.declared.origin.Origin.{Origin}

@@ -14,11 +14,11 @@ use Rattle.hintcheck.specs.CertificateTexts.{IsEndedText, IsGlyphText, IsReadabl
 use Rattle.hintcheck.specs.CheckedFonts.{Finds, IsGoodAtEnd, IsTold}
 use Rattle.hintcheck.specs.FailedReads.{EndsInSection, HasRead}
 use Rattle.hintcheck.specs.FindingSessions.{AreFirstSections, IsFoundAnswer}
-use Rattle.hintcheck.specs.FontVerdicts.{IsKnownAtEnd}
+use Rattle.hintcheck.specs.Representation.FontVerdicts.{IsKnownAtEnd}
 use Rattle.hintcheck.specs.FontPrograms.{cvt_subject, font_of, font_subject, glyph_subject}
 use Rattle.hintcheck.specs.ProgramVerdicts.{reported_at}
-use Rattle.hintcheck.specs.ProgramEnds.{after_font_program, at_glyph_program}
-use Rattle.hintcheck.specs.ReadProgress.{input_from}
+use Rattle.hintcheck.specs.Representation.ProgramEnds.{after_font_program, at_glyph_program}
+use Rattle.hintcheck.specs.Representation.ReadProgress.{input_from}
 use Rattle.hintcheck.specs.Sessions.{AnswersAt, IsFaultAt, IsSoundAnswer, Stage, Standing, after_font, at_glyph, at_start, over, refused_as, standing_at}
 use Rattle.tt_find.specs.declared.finder.Found.{Found}
 use Rattle.hintcheck.specs.declared.font.Ended.{Ended}

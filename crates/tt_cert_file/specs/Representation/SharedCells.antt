@@ -5,7 +5,7 @@ use Rattle.tt_abs.specs.declared.cells.Cell.{Cell}
 use Rattle.tt_abs.specs.declared.state.State.{State}
 use Rattle.tt_abs.specs.States.{state_order}
 use Rattle.tt_cert_file.specs.declared.states.LastState.{LastState}
-use Rattle.tt_cert_file.specs.Blocks.{AreKept}
+use Rattle.tt_cert_file.specs.Representation.Blocks.{AreKept}
 use Rattle.tt_cert_file.specs.Text.{cell_text}
 
 -- how many bytes the texts of so many of the lowest cells have, where the text of each cell ends at its end

@@ -11,8 +11,8 @@ use Rattle.tt_abs.specs.declared.state.State.{State}
 use Rattle.tt_abs.specs.Families.{CoversAt}
 use Rattle.tt_abs.specs.Lines.{Precedes}
 use Rattle.tt_abs.specs.StateFlow.{Place, GivesState, RefusesState}
-use Rattle.tt_abs.specs.Settings.{frames_of}
-use Rattle.tt_abs.specs.declared.setting.Point.{Point}
+use Rattle.tt_abs.specs.Settings.{setting_of}
+use Rattle.tt_abs.specs.declared.setting.Setting.{Setting as Subject}
 use Rattle.tt_abs.specs.Moves.{frames_behind, nexts_of, offset_behind, ways_of}
 use Rattle.tt_abs.specs.States.{abstract_of, start_of, state_order}
 use Rattle.tt_abs.specs.declared.moves.Move.{Move}
@@ -20,6 +20,7 @@ use Rattle.tt_abs.specs.declared.moves.Move.TheVariants.{NextTurn}
 use Rattle.tt_abs.specs.declared.moves.Moves.{Moves}
 use Rattle.tt_abs.specs.Transfers.{Next}
 use Rattle.tt_cert.specs.Contents.{Contents, HasContext, family_of, frames_at}
+use Rattle.tt_cert.specs.Fillings.{IsAfter}
 use Rattle.tt_cert.specs.GoodFamilies.{EndsWell, IsShortEnough}
 use Rattle.tt_cert.specs.Places.{IsLess, place_cmp, states_of}
 use Rattle.tt_cert.specs.Puts.{place_of}
@@ -92,21 +93,9 @@ coverage_of_both coverage.Listed coverage.Added = coverage.Added
 coverage_of_both coverage.Next other = coverage.Next
 coverage_of_both coverage.Listed other = coverage.Listed
 
--- the place is at this offset, if it is one, with these calls
-abbrev pub IsAfter : List Frame → Option ℕ → Place → Type 0
-IsAfter fs after q = (q.0 ≡ fs) × (after ≡ Some q.1)
-
--- where an instruction ends, if only this one leads there as to the place just after it
-abbrev pub IsJustAfter : Setting → Place → Option ℕ → Type 0
-IsJustAfter s p after = (q : Place) → IsAfter p.0 after q ↔ Precedes s p q
-
 -- where an instruction ends, if a state may be left out there
 abbrev pub IsLeftOutAfter : Listing → Setting → Place → Option ℕ → Type 0
 IsLeftOutAfter listing s p after = (q : Place) → IsAfter p.0 after q ↔ MayLeaveOut listing s p q
-
--- the place of a point, as the machine's calls and an offset
-abbrev pub place_of_point : Point → Place
-place_of_point p = (frames_of p, p.offset)
 
 -- the place is among those that come next, and the family has no state there
 pub record IsLeftOut (family : Place → Option State) (fs : List Frame) (after : Option ℕ) (nexts : List Next) : Type 0 where
@@ -259,3 +248,12 @@ NamesFirstBreak s listing contents = Names (IsFirstBreakOnTheWay s (MayLeaveOut 
 -- or before it begins
 abbrev pub NamesFirst : Setting → List (ℕ × ℕ) → Listing → Contents → ProgramFault → Type 0
 NamesFirst s functions listing contents = Names (IsBrokenBy s functions contents (IsFirstBreakOnTheWay s (MayLeaveOut listing s) contents))
+
+-- all that a check of either listing finds
+abbrev pub IsFoundSoundFor : Subject → Listing → Contents → Type 0
+IsFoundSoundFor x listing contents = IsFoundSound (setting_of x) x.start.now listing contents
+
+-- the fault names what a check of either listing finds broken first
+abbrev pub NamesFirstFor : Subject → Listing → Contents → ProgramFault → Type 0
+NamesFirstFor x listing contents = NamesFirst (setting_of x) x.start.now listing contents
+
