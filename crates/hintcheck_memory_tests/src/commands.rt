@@ -9,6 +9,7 @@ use crate::matching::Matching;
 use crate::trials::{Told, Trial, assert_refused};
 use hintcheck::command;
 use hintcheck_test_fixtures::fonts::MAXP_WORD;
+use hintcheck_test_fixtures::paths::path_of;
 use std::marker::Brand;
 use std::path::PathBuf;
 use std::process::Abort;
@@ -59,13 +60,6 @@ pub(crate) fn told_of_command(rt: &HostRuntime, heap: &mut Heap, order: &Order<'
     command_over::<Brand, Brand>(rt, heap, order, Blank::new(1), Blank::new(1))
 }
 
-/// Returns the path of a file with this ending, which no other process takes.
-fn path_of(rt: &HostRuntime, ending: &str) -> Result<PathBuf, Fail> {
-    let process = process::id(rt.process());
-    let name = format!(in rt.alloc(); "hintcheck-memory-{process}.{ending}")?;
-    Ok(env::temp_dir(rt)?.join(rt.alloc(), name)?)
-}
-
 /// Asserts that a command is refused memory, which accepts with ample memory and prints this.
 fn assert_command_refused<'a>(
     rt: &impl Abort,
@@ -91,9 +85,9 @@ const UPGRADED: &str = "upgraded: 3 sections\n";
 fn commands_on_files(rt: HostRuntime) -> Result<(), Fail> {
     let files = files_of(rt.alloc(), &CALL_POPS)?;
     let paths = [
-        path_of(&rt, "ttf")?,
-        path_of(&rt, "cert")?,
-        path_of(&rt, "new")?,
+        path_of(&rt, "ttf").ok_or("a path")?,
+        path_of(&rt, "cert").ok_or("a path")?,
+        path_of(&rt, "new").ok_or("a path")?,
     ];
     let [font, cert, new] = [paths[0].as_str(), paths[1].as_str(), paths[2].as_str()];
     fs::write(&rt, font, &files.font)?;

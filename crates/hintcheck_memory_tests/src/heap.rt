@@ -5,27 +5,32 @@ use std::alloc::Global;
 /// The greatest block has 2 to the power of 46 bytes, half of what a process can address.
 const GREATEST: u32 = 46;
 
-/// A block of the room has less than 2 to the power of 20 bytes.
-const GREATEST_OF_ROOM: u32 = 20;
+/// A small block has at most 2 to the power of 20 bytes.
+const GREATEST_SMALL: u32 = 20;
 
-/// Blocks of which a call may be left a part, and how many bytes each has. They are next to each
-/// other.
+/// The room: blocks next to each other, of which a call may be left a part, and how many bytes each
+/// has.
 const ROOM: [usize; 12] = [100_000; 12];
 
-/// So many blocks at most. A heap that has more can't be used up.
-const BLOCKS: usize = 100_000;
+/// So many blocks that aren't small are taken at most.
+const LARGE_BLOCKS: usize = 100_000;
+
+/// So many small blocks are taken at most. A heap that has more can't be used up.
+const SMALL_BLOCKS: usize = 4_000;
 
 /// The C library keeps freed blocks of up to 1,032 bytes, each for the next call that wants just so
 /// many, instead of joining them. In steps of 16 there are so many sizes of them.
-const SMALL_SIZES: usize = 64;
+const KEPT_SIZES: usize = 64;
 
-/// A block that is kept apart isn't one of these.
+/// A block of this size isn't one of these.
 const APART: usize = 2_048;
 
 /// All memory that there is, in blocks that nobody uses.
 #[derive(Drop)]
 struct Hoard {
     blocks: Vec<Vec<u8>>,
+    /// How many blocks there are at most.
+    most: usize,
     /// How many blocks stay when the room is given back.
     kept: usize,
 }
@@ -41,19 +46,26 @@ impl Hoard {
 
     /// Takes blocks of so many bytes until there are no more.
     fn take_blocks(&mut self, alloc: Global, size: usize) {
-        for _ in self.blocks.len()..BLOCKS {
+        for _ in self.blocks.len()..self.most {
             if !self.take_block(alloc, size) {
                 return;
             }
         }
     }
 
-    /// Takes all memory that is left, the greatest blocks first, of 2 to this power bytes.
-    fn take_all(&mut self, alloc: Global, greatest: u32) {
-        for power in (11..=greatest).rev() {
+    /// Takes all blocks that aren't small.
+    fn take_large(&mut self, alloc: Global) {
+        for power in (GREATEST_SMALL + 1..=GREATEST).rev() {
             self.take_blocks(alloc, 1usize.wrapping_shl(power));
         }
-        for less in 0..SMALL_SIZES {
+    }
+
+    /// Takes all small blocks.
+    fn take_small(&mut self, alloc: Global) {
+        for power in (11..=GREATEST_SMALL).rev() {
+            self.take_blocks(alloc, 1usize.wrapping_shl(power));
+        }
+        for less in 0..KEPT_SIZES {
             self.take_blocks(alloc, 1_032 - 16 * less);
         }
     }
@@ -65,12 +77,15 @@ impl Hoard {
             room.push(Vec::with_capacity(alloc, size).ok()?).ok()?;
         }
         let mut hoard = Hoard {
-            blocks: Vec::with_capacity(alloc, BLOCKS).ok()?,
+            blocks: Vec::with_capacity(alloc, LARGE_BLOCKS + SMALL_BLOCKS).ok()?,
+            most: LARGE_BLOCKS,
             kept: 0,
         };
-        hoard.take_all(alloc, GREATEST);
+        hoard.take_large(alloc);
+        hoard.most = hoard.blocks.len().saturating_add(SMALL_BLOCKS);
+        hoard.take_small(alloc);
         hoard.kept = hoard.blocks.len();
-        if hoard.kept < BLOCKS {
+        if hoard.kept < hoard.most {
             Some(hoard)
         } else {
             None
@@ -81,7 +96,7 @@ impl Hoard {
     /// itself.
     fn leave(&mut self, alloc: Global, bytes: usize) {
         let gap: Result<Vec<u8>, _> = Vec::with_capacity(alloc, bytes.saturating_add(APART));
-        self.take_all(alloc, GREATEST_OF_ROOM);
+        self.take_small(alloc);
         drop(gap);
         self.take_block(alloc, APART);
     }

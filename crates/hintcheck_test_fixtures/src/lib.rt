@@ -7,6 +7,7 @@ pub mod families;
 pub mod font_calls;
 pub mod fonts;
 pub mod hex_bytes;
+pub mod paths;
 pub mod programs;
 pub mod section_calls;
 pub mod stored_certificates;

@@ -144,7 +144,9 @@ const PROGRAMS: [Case<'static>; 5] = [
         "",
         &["21", "18", "59"],
         1,
-        "refused g0 at g0:0: 26 underflow\nrefused g2 at g2:0: 21 structure\nrefused: 2 of 5 programs\n",
+        "refused g0 at g0:0: 26 underflow\n\
+         refused g2 at g2:0: 21 structure\n\
+         refused: 2 of 5 programs\n",
     ),
     (
         "21",

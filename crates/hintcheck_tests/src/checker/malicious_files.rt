@@ -1,13 +1,13 @@
 //! Files that are made to break a font server: each is answered by a verdict, or by a fault 1 to 8
 //! or 43.
 
-use crate::checker::certificate_commands::path_of;
 use crate::checker::certificates::with_byte;
 use crate::checker::outputs::{Asked, answers, answers_on_file};
 use crate::font::glyphs::{OF_FIRST, OF_SECOND, font_of_many, tower};
 use hintcheck_test_fixtures::font_calls::{Told, checked, found, judged};
 use hintcheck_test_fixtures::fonts::font_of;
 use hintcheck_test_fixtures::hex_bytes::bytes_of;
+use hintcheck_test_fixtures::paths::path_of;
 use hintcheck_test_fixtures::stored_certificates::{FONT, FORM_4};
 use hintcheck_test_fixtures::streams::ALL;
 use std::alloc::Global;
@@ -137,8 +137,8 @@ fn is_printed(
 #[test]
 fn certificates(rt: HostRuntime) -> Result<(), Fail> {
     let (font, certificate) = (
-        path_of(&rt, "malicious.ttf")?,
-        path_of(&rt, "malicious.cert")?,
+        path_of(&rt, "malicious.ttf").ok_or("a path")?,
+        path_of(&rt, "malicious.cert").ok_or("a path")?,
     );
     let paths = (font.as_str(), certificate.as_str());
     let bytes = bytes_of(rt.alloc(), &FORM_4).expect(&rt, "certificate");

@@ -1,5 +1,6 @@
 //! Old certificates that are upgraded, in memory.
 
+use crate::checker::outputs::ROOM;
 use hintcheck_test_fixtures::font_calls::{Told, checked, upgraded};
 use hintcheck_test_fixtures::hex_bytes::bytes_of;
 use hintcheck_test_fixtures::stored_certificates::{
@@ -7,11 +8,8 @@ use hintcheck_test_fixtures::stored_certificates::{
 };
 use std::alloc::Global;
 
-/// More bytes than any certificate here has.
-const ROOM: usize = 10_000;
-
 /// The stored certificates, and what they are in the newest form.
-const STORED: [(&[&str], &[&str]); 4] = [
+pub(crate) const STORED: [(&[&str], &[&str]); 4] = [
     (&FORM_1, &FORM_1_UPGRADED),
     (&FORM_2, &FORM_4),
     (&FORM_3, &FORM_4),
