@@ -31,7 +31,8 @@ pub record IsTextOf (form : Form) (called : Name) (family : Contents) (text : Li
 
 -- The family of a font program or a CVT program is as required, this is its section's text, and
 -- these functions are known where the program ends.
-pub record IsEndedText (Is : Asked) (form : Form) (x : Subject) (instructions : List Instruction) (text : List ℕ) (functions : List (ℕ × ℕ)) : Type 0 where
+pub record IsEndedText (Is : Asked) (form : Form) (x : Subject) (instructions : List Instruction)
+    (text : List ℕ) (functions : List (ℕ × ℕ)) : Type 0 where
   pub family : Contents
   pub is_asked : Is x instructions family
   pub text_of : IsTextOf form x.name family text
@@ -68,13 +69,16 @@ pub record IsCertificate (Is : Asked) (form : Form) (d : FontData) (bytes : List
   pub cvt_text : List ℕ
   pub cvt : IsEndedText Is form (cvt_subject d font_program functions) cvt_program cvt_text known
   pub glyph_texts : List ℕ
-  pub glyphs : AreGlyphTexts Is form (font_of d font_program cvt_program) known 0 d.glyphs glyph_texts
-  pub text_is : bytes ≡ header_text form (length d.glyphs + 2) ++ (font_text ++ (cvt_text ++ glyph_texts))
+  pub glyphs : AreGlyphTexts Is form
+      (font_of d font_program cvt_program) known 0 d.glyphs glyph_texts
+  pub text_is : bytes ≡ header_text form (length d.glyphs + 2)
+      ++ (font_text ++ (cvt_text ++ glyph_texts))
 
 -- The family is the least one that is good, and lists no state that could be left out.
 abbrev pub IsLeastListing : Subject → List Instruction → Contents → Type 0
 IsLeastListing x instructions family =
-    IsAccepted x instructions (family_of family) × NeedsAll (x.setting instructions) x.functions (family_of family)
+    IsAccepted x instructions (family_of family)
+    × NeedsAll (x.setting instructions) x.functions (family_of family)
 
 -- a certificate with the least families
 abbrev pub IsLeastCertificate : Form → FontData → List ℕ → Type 0

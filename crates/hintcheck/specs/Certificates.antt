@@ -43,12 +43,14 @@ IsListingBrokenFirst Three s functions family = IsFillingBrokenFirst s functions
 IsListingBrokenFirst Four s functions family = IsFillingBrokenFirst s functions family
 
 -- The program has these instructions, and the family is good for it.
-pub record Passes (form : Form) (x : Subject) (instructions : List Instruction) (family : Contents) : Type 0 where
+pub record Passes (form : Form) (x : Subject) (instructions : List Instruction)
+    (family : Contents) : Type 0 where
   pub cut : IsCutInto x instructions
   pub good : IsGoodListing form (x.setting instructions) x.functions family
 
 -- And these functions are known where it ends.
-pub record PassesToEnd (form : Form) (x : Subject) (instructions : List Instruction) (family : Contents) (functions : List (ℕ × ℕ)) : Type 0 where
+pub record PassesToEnd (form : Form) (x : Subject) (instructions : List Instruction)
+    (family : Contents) (functions : List (ℕ × ℕ)) : Type 0 where
   pub passes : Passes form x instructions family
   pub end : State
   pub at_end : family_of family ([], size instructions) ≡ Some end
@@ -68,7 +70,8 @@ pub data IsBreak (form : Form) (x : Subject) (family : Contents) : Place → ℕ
       → IsBreak form x family p (saturated_offset p.1) r
 
 -- The program is refused: the first break is named with its place, and it doesn't pass.
-pub record IsCheckRefusal (form : Form) (x : Subject) (family : Contents) (r : Refused) : Type 0 where
+pub record IsCheckRefusal (form : Form) (x : Subject) (family : Contents)
+    (r : Refused) : Type 0 where
   pub program : r.program ≡ x.name
   pub at : Place
   pub spot : r.place.program ≡ program_at x.name (spot_of at.0)
@@ -76,7 +79,8 @@ pub record IsCheckRefusal (form : Form) (x : Subject) (family : Contents) (r : R
   pub not_passed : (instructions : List Instruction) → Passes form x instructions family → ⊥
 
 -- The section of this program is read, which lists this family, with its contexts in order.
-pub record IsSectionOf (form : Form) (i : Input) (called : Name) (family : Contents) (after : Input) : Type 0 where
+pub record IsSectionOf (form : Form) (i : Input) (called : Name) (family : Contents)
+    (after : Input) : Type 0 where
   pub in_order : IsFinished family
   pub is_read : section_at form i ≡ Ok (section_of called family, after)
 
@@ -107,12 +111,14 @@ pub data AreChecked (form : Form) (font : Font) (functions : List (ℕ × ℕ)) 
   no_section : (id : ℕ) (g : GlyphData) (gs : List GlyphData) (i : Input) (place : ℕ)
       → HasNoSection form i (name.Glyph id) place
       → AreChecked form font functions id (g ∷ gs) i (Err place)
-  passed : (id : ℕ) (g : GlyphData) (gs : List GlyphData) (i after : Input) (family : Contents) (instructions : List Instruction) (finding : Finding)
+  passed : (id : ℕ) (g : GlyphData) (gs : List GlyphData) (i after : Input) (family : Contents)
+      (instructions : List Instruction) (finding : Finding)
       → IsSectionOf form i (name.Glyph id) family after
       → Passes form (glyph_subject font functions id g) instructions family
       → AreChecked form font functions (id + 1) gs after finding
       → AreChecked form font functions id (g ∷ gs) i finding
-  refused : (id : ℕ) (g : GlyphData) (gs : List GlyphData) (i after : Input) (family : Contents) (r : Refused) (finding : Finding)
+  refused : (id : ℕ) (g : GlyphData) (gs : List GlyphData) (i after : Input) (family : Contents)
+      (r : Refused) (finding : Finding)
       → IsSectionOf form i (name.Glyph id) family after
       → IsCheckRefusal form (glyph_subject font functions id g) family r
       → AreChecked form font functions (id + 1) gs after finding
@@ -126,15 +132,18 @@ pub data AreSectionsChecked (d : FontData) (form : Form) (i : Input) : Finding �
   font_refused : (family : Contents) (after : Input) (r : Refused)
       → IsSectionOf form i name.Font family after
       → IsCheckRefusal form (font_subject d) family r → AreSectionsChecked d form i (Ok (r ∷ []))
-  no_cvt_section : (family : Contents) (after : Input) (f : List Instruction) (functions : List (ℕ × ℕ)) (place : ℕ) → IsSectionOf form i name.Font family after
+  no_cvt_section : (family : Contents) (after : Input) (f : List Instruction)
+      (functions : List (ℕ × ℕ)) (place : ℕ) → IsSectionOf form i name.Font family after
       → PassesToEnd form (font_subject d) f family functions
       → HasNoSection form after name.Cvt place → AreSectionsChecked d form i (Err place)
-  cvt_refused : (family other : Contents) (after end : Input) (f : List Instruction) (functions : List (ℕ × ℕ)) (r : Refused) → IsSectionOf form i name.Font family after
+  cvt_refused : (family other : Contents) (after end : Input) (f : List Instruction)
+      (functions : List (ℕ × ℕ)) (r : Refused) → IsSectionOf form i name.Font family after
       → PassesToEnd form (font_subject d) f family functions
       → IsSectionOf form after name.Cvt other end
       → IsCheckRefusal form (cvt_subject d f functions) other r
       → AreSectionsChecked d form i (Ok (r ∷ []))
-  both_passed : (family other : Contents) (after end : Input) (f p : List Instruction) (functions known : List (ℕ × ℕ)) (glyphs : Finding)
+  both_passed : (family other : Contents) (after end : Input) (f p : List Instruction)
+      (functions known : List (ℕ × ℕ)) (glyphs : Finding)
       → IsSectionOf form i name.Font family after
       → PassesToEnd form (font_subject d) f family functions
       → IsSectionOf form after name.Cvt other end

@@ -20,7 +20,8 @@ use Rattle.tt_cert_file.specs.declared.form.Form.{Form}
 
 -- The program has these instructions, a family of abstract states is good for it, and these
 -- functions are known where it ends.
-pub record EndsGood (x : Subject) (instructions : List Instruction) (functions : List (ℕ × ℕ)) : Type 0 where
+pub record EndsGood (x : Subject) (instructions : List Instruction)
+    (functions : List (ℕ × ℕ)) : Type 0 where
   pub cut : IsCutInto x instructions
   pub family : Place → Option State
   pub good : IsGoodFamily (x.setting instructions) x.functions family
@@ -29,7 +30,8 @@ pub record EndsGood (x : Subject) (instructions : List Instruction) (functions :
   pub functions_are : end.functions ≡ functions
 
 -- These functions are listed by ascending numbers.
-pub record IsGoodAtEnd (x : Subject) (instructions : List Instruction) (functions : List (ℕ × ℕ)) : Type 0 where
+pub record IsGoodAtEnd (x : Subject) (instructions : List Instruction)
+    (functions : List (ℕ × ℕ)) : Type 0 where
   pub ends : EndsGood x instructions functions
   pub rises : Rises functions
 

@@ -25,7 +25,8 @@ use Rattle.hintcheck.specs.declared.session.Outcome.{Outcome}
 -- could be left out, with the contexts that it comes to, and as many updates as `find` counts.
 pub record IsFoundFor (x : Subject) (instructions : List Instruction) (found : Found) : Type 0 where
   pub listing : IsLeastListing x instructions found.certificate
-  pub filling : HasLeastFilling (x.setting instructions) x.functions found.updates (family_of found.certificate)
+  pub filling : HasLeastFilling (x.setting instructions) x.functions found.updates
+      (family_of found.certificate)
   pub contexts : AreLeastContexts (x.setting instructions) x.functions found.certificate.contexts
 
 -- the same for a program whose instructions aren't named
@@ -33,7 +34,8 @@ abbrev pub IsFound : Subject → Found → Type 0
 IsFound x found = (instructions : List Instruction) × IsFoundFor x instructions found
 
 -- and these functions are known where the program ends
-pub record IsFoundToEnd (x : Subject) (instructions : List Instruction) (found : Found) (functions : List (ℕ × ℕ)) : Type 0 where
+pub record IsFoundToEnd (x : Subject) (instructions : List Instruction) (found : Found)
+    (functions : List (ℕ × ℕ)) : Type 0 where
   pub is_found : IsFoundFor x instructions found
   pub end : State
   pub at_end : family_of found.certificate ([], size instructions) ≡ Some end
@@ -51,17 +53,22 @@ pub data IsOutcomeByFinding (d : FontData) : Stage → Outcome → Option Found 
       → IsOutcomeByFinding d at_start (refused_as name.Font r) None over
   cvt_found : (f p : List Instruction) (functions known : List (ℕ × ℕ)) (found : Found)
       → IsFoundToEnd (cvt_subject d f functions) p found known
-      → IsOutcomeByFinding d (after_font f functions) (accepted_as name.Cvt) (Some found) (at_glyph f p known 0)
+      → IsOutcomeByFinding d (after_font f functions) (accepted_as name.Cvt) (Some found)
+      (at_glyph f p known 0)
   cvt_refused : (f : List Instruction) (functions : List (ℕ × ℕ)) (r : Refused)
       → IsRefusal (cvt_subject d f functions) r
       → IsOutcomeByFinding d (after_font f functions) (refused_as name.Cvt r) None over
-  glyph_found : (f p : List Instruction) (known : List (ℕ × ℕ)) (id : ℕ) (g : GlyphData) (instructions : List Instruction) (found : Found)
+  glyph_found : (f p : List Instruction) (known : List (ℕ × ℕ)) (id : ℕ) (g : GlyphData)
+      (instructions : List Instruction) (found : Found)
       → slice_get d.glyphs id ≡ Some g
       → IsFoundFor (glyph_subject (font_of d f p) known id g) instructions found
-      → IsOutcomeByFinding d (at_glyph f p known id) (accepted_as (name.Glyph id)) (Some found) (at_glyph f p known (id + 1))
-  glyph_refused : (f p : List Instruction) (known : List (ℕ × ℕ)) (id : ℕ) (g : GlyphData) (r : Refused)
+      → IsOutcomeByFinding d (at_glyph f p known id) (accepted_as (name.Glyph id)) (Some found)
+      (at_glyph f p known (id + 1))
+  glyph_refused : (f p : List Instruction) (known : List (ℕ × ℕ)) (id : ℕ) (g : GlyphData)
+      (r : Refused)
       → slice_get d.glyphs id ≡ Some g → IsRefusal (glyph_subject (font_of d f p) known id g) r
-      → IsOutcomeByFinding d (at_glyph f p known id) (refused_as (name.Glyph id) r) None (at_glyph f p known (id + 1))
+      → IsOutcomeByFinding d (at_glyph f p known id) (refused_as (name.Glyph id) r) None
+      (at_glyph f p known (id + 1))
 
 -- the same for an answer, which is none where no program is left
 abbrev pub IsFoundAnswer : FontData → Stage → Option (Outcome × Option Found) → Stage → Type 0

@@ -43,7 +43,8 @@ pub record IsSafeGlyph (font : Font) (glyph : GlyphData) : Type 0 where
   pub instructions : List Instruction
   pub is_cut : IsCut glyph.program instructions
   pub structured : IsStructured instructions
-  pub never_faults : NeverFaults (glyph_setting font glyph.points glyph.contours instructions) (StartsGlyphProgram font)
+  pub never_faults : NeverFaults (glyph_setting font glyph.points glyph.contours instructions)
+      (StartsGlyphProgram font)
 
 -- The same for the font program, the CVT program and each glyph program of a font.
 pub record IsSafeFont (d : FontData) : Type 0 where
@@ -53,8 +54,10 @@ pub record IsSafeFont (d : FontData) : Type 0 where
   pub cvt_program : List Instruction
   pub cvt_cut : IsCut d.prep cvt_program
   pub cvt_structured : IsStructured cvt_program
-  pub font_never_faults : NeverFaults (font_setting (font_of d font_program cvt_program)) (StartsFontProgram (font_of d font_program cvt_program))
-  pub cvt_never_faults : NeverFaults (cvt_setting (font_of d font_program cvt_program)) (StartsCvtProgram (font_of d font_program cvt_program))
+  pub font_never_faults : NeverFaults (font_setting (font_of d font_program cvt_program))
+      (StartsFontProgram (font_of d font_program cvt_program))
+  pub cvt_never_faults : NeverFaults (cvt_setting (font_of d font_program cvt_program))
+      (StartsCvtProgram (font_of d font_program cvt_program))
   pub glyphs : (id : ℕ) (g : GlyphData) → slice_get d.glyphs id ≡ Some g
       → IsSafeGlyph (font_of d font_program cvt_program) g
 

@@ -65,7 +65,8 @@ refused_in called offset reason =
 
 -- Why the program by this name isn't listed was reported in one line, where the written bytes are
 -- known.
-pub record TellsUnlisted (called : Name) (program : List ℕ) (old new : Option (List ℕ)) : Type 0 where
+pub record TellsUnlisted (called : Name) (program : List ℕ)
+    (old new : Option (List ℕ)) : Type 0 where
   pub offset : ℕ
   pub reason : Reason
   pub why : IsUnlistedAt program offset reason
@@ -131,7 +132,8 @@ pub record HoldListedProgram (bytes word : List ℕ) (old new : Option (List ℕ
 
 -- The lines of the instructions before an offset were written. (Representation: no public clause
 -- cites it.)
-pub record IsListedBefore (is : List Instruction) (offset : ℕ) (old new : Option (List ℕ)) : Type 0 where
+pub record IsListedBefore (is : List Instruction) (offset : ℕ)
+    (old new : Option (List ℕ)) : Type 0 where
   pub before : List Instruction
   pub after : List Instruction
   pub whole : is ≡ before ++ after

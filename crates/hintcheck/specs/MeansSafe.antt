@@ -11,7 +11,8 @@ use Rattle.hintcheck.specs.Programs.{HasGoodFamily, IsRefusal}
 use Rattle.hintcheck.specs.Verdicts.{Judgement}
 
 -- The words spell a `maxp` table and a glyph program, which is safe in a font of only this glyph.
-pub record SpellSafeGlyph (maxp : List ℕ) (cvt points contours : ℕ) (program : List ℕ) : Type 0 where
+pub record SpellSafeGlyph (maxp : List ℕ) (cvt points contours : ℕ)
+    (program : List ℕ) : Type 0 where
   pub table : List ℕ
   pub table_spelled : Spells maxp table
   pub glyph : GlyphData
@@ -54,7 +55,8 @@ pub record MeansSafe (words : List (List ℕ)) : Type 0 where
 
 -- The words spell a `maxp` table and a glyph program for which no family of abstract states is
 -- good, in a font of only this glyph.
-pub record SpellRefusedGlyph (maxp : List ℕ) (cvt points contours : ℕ) (program : List ℕ) : Type 0 where
+pub record SpellRefusedGlyph (maxp : List ℕ) (cvt points contours : ℕ)
+    (program : List ℕ) : Type 0 where
   pub table : List ℕ
   pub table_spelled : Spells maxp table
   pub glyph : GlyphData
@@ -79,7 +81,8 @@ pub record HoldFont (bytes : List ℕ) : Type 0 where
 -- The words spell a `maxp` table and a glyph program, of which the verdict is this one: it names no
 -- refused program exactly where a family of abstract states is good for the glyph program, and
 -- otherwise that one, with what refuses it.
-pub record SpellVerdict (maxp : List ℕ) (cvt points contours : ℕ) (program : List ℕ) (judgement : Judgement) : Type 0 where
+pub record SpellVerdict (maxp : List ℕ) (cvt points contours : ℕ) (program : List ℕ)
+    (judgement : Judgement) : Type 0 where
   pub table : List ℕ
   pub table_spelled : Spells maxp table
   pub glyph : GlyphData

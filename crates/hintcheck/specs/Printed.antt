@@ -42,7 +42,8 @@ Prints (list font program) status old new = PrintsListing program status old new
 Prints (upgrade before after) status old new = PrintsUpgrade old new
 
 -- The words ask for something, which is answered in these lines.
-pub record MeansPrinted (words : List (List ℕ)) (status : ℕ) (old new : Option (List ℕ)) : Type 0 where
+pub record MeansPrinted (words : List (List ℕ)) (status : ℕ)
+    (old new : Option (List ℕ)) : Type 0 where
   pub request : Request
   pub meant : meaning words ≡ Some request
   pub printed : Prints request status old new

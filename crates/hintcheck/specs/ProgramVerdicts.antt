@@ -30,7 +30,8 @@ pub record IsSubjectOf (x : Subject) (s : Setting) : Type 0 where
 
 -- The program has these instructions, and the family's filling is good for it, the least that is,
 -- and within the font's limits; so every machine that a run comes to is covered, and doesn't fault.
-pub record IsAccepted (x : Subject) (instructions : List Instruction) (family : Place → Option State) : Type 0 where
+pub record IsAccepted (x : Subject) (instructions : List Instruction)
+    (family : Place → Option State) : Type 0 where
   pub cut : IsCutInto x instructions
   pub filling : Place → Option State
   pub fills : IsFilling (x.setting instructions) family filling

@@ -47,7 +47,8 @@ pub record HasLeastFamily (x : Subject) : Type 0 where
   pub least : IsLeast (x.setting instructions) x.functions family
 
 -- of its instructions and its least family: these functions are known where it ends
-pub record EndsWith (x : Subject) (instructions : List Instruction) (functions : List (ℕ × ℕ)) : Type 0 where
+pub record EndsWith (x : Subject) (instructions : List Instruction)
+    (functions : List (ℕ × ℕ)) : Type 0 where
   pub cut : IsCutInto x instructions
   pub family : Place → Option State
   pub good : IsGoodFamily (x.setting instructions) x.functions family

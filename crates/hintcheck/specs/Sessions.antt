@@ -72,19 +72,24 @@ pub data IsOutcomeBySection (d : FontData) (form : Form) (i after : Input) : Sta
   cvt_passes : (f p : List Instruction) (functions known : List (ℕ × ℕ)) (family : Contents)
       → IsSectionOf form i name.Cvt family after
       → PassesToEnd form (cvt_subject d f functions) p family known
-      → IsOutcomeBySection d form i after (after_font f functions) (accepted_as name.Cvt) (at_glyph f p known 0)
+      → IsOutcomeBySection d form i after (after_font f functions) (accepted_as name.Cvt)
+      (at_glyph f p known 0)
   cvt_fails : (f : List Instruction) (functions : List (ℕ × ℕ)) (family : Contents) (r : Refused)
       → IsSectionOf form i name.Cvt family after
       → IsCheckRefusal form (cvt_subject d f functions) family r
       → IsOutcomeBySection d form i after (after_font f functions) (refused_as name.Cvt r) over
-  glyph_passes : (f p : List Instruction) (known : List (ℕ × ℕ)) (id : ℕ) (g : GlyphData) (family : Contents) (instructions : List Instruction)
+  glyph_passes : (f p : List Instruction) (known : List (ℕ × ℕ)) (id : ℕ) (g : GlyphData)
+      (family : Contents) (instructions : List Instruction)
       → slice_get d.glyphs id ≡ Some g → IsSectionOf form i (name.Glyph id) family after
       → Passes form (glyph_subject (font_of d f p) known id g) instructions family
-      → IsOutcomeBySection d form i after (at_glyph f p known id) (accepted_as (name.Glyph id)) (at_glyph f p known (id + 1))
-  glyph_fails : (f p : List Instruction) (known : List (ℕ × ℕ)) (id : ℕ) (g : GlyphData) (family : Contents) (r : Refused)
+      → IsOutcomeBySection d form i after (at_glyph f p known id) (accepted_as (name.Glyph id))
+      (at_glyph f p known (id + 1))
+  glyph_fails : (f p : List Instruction) (known : List (ℕ × ℕ)) (id : ℕ) (g : GlyphData)
+      (family : Contents) (r : Refused)
       → slice_get d.glyphs id ≡ Some g → IsSectionOf form i (name.Glyph id) family after
       → IsCheckRefusal form (glyph_subject (font_of d f p) known id g) family r
-      → IsOutcomeBySection d form i after (at_glyph f p known id) (refused_as (name.Glyph id) r) (at_glyph f p known (id + 1))
+      → IsOutcomeBySection d form i after (at_glyph f p known id) (refused_as (name.Glyph id) r)
+      (at_glyph f p known (id + 1))
 
 -- There is no further program: none was left, or all sections were read and nothing follows.
 pub data IsNothingLeft (d : FontData) (i : Input) : Stage → Type 0 where
@@ -119,7 +124,8 @@ pub data ReadsOn (s : Standing) (bytes : Option (List ℕ)) : Form → Input →
 
 -- The answer of a call of a session to which a source tells its bytes, and where the session is
 -- then.
-pub record AnswersNext (s : Standing) (bytes : Option (List ℕ)) (answer : Option Outcome) (t : Standing) (left : Option (List ℕ)) : Type 0 where
+pub record AnswersNext (s : Standing) (bytes : Option (List ℕ)) (answer : Option Outcome)
+    (t : Standing) (left : Option (List ℕ)) : Type 0 where
   pub form : Form
   pub from : Input
   pub reads_on : ReadsOn s bytes form from
@@ -159,10 +165,12 @@ pub data IsSoundOutcome (d : FontData) : Stage → Outcome → Stage → Type 0 
   good_glyph : (f p : List Instruction) (known : List (ℕ × ℕ)) (id : ℕ) (g : GlyphData)
       → slice_get d.glyphs id ≡ Some g
       → HasGoodFamily (glyph_subject (font_of d f p) known id g)
-      → IsSoundOutcome d (at_glyph f p known id) (accepted_as (name.Glyph id)) (at_glyph f p known (id + 1))
+      → IsSoundOutcome d (at_glyph f p known id) (accepted_as (name.Glyph id))
+      (at_glyph f p known (id + 1))
   glyph_goes_on : (f p : List Instruction) (known : List (ℕ × ℕ)) (id : ℕ) (r : Refused)
       → id < length d.glyphs
-      → IsSoundOutcome d (at_glyph f p known id) (refused_as (name.Glyph id) r) (at_glyph f p known (id + 1))
+      → IsSoundOutcome d (at_glyph f p known id) (refused_as (name.Glyph id) r)
+      (at_glyph f p known (id + 1))
 
 -- No program is next, or none after the last glyph's.
 pub data IsLast (d : FontData) : Stage → Type 0 where

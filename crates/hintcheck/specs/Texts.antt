@@ -30,7 +30,8 @@ abbrev pub refused_line : ℕ → ℕ → Name → List ℕ
 refused_line count programs name.Font = codes "refused: font program\n"
 refused_line count programs name.Cvt = codes "refused: cvt program\n"
 refused_line count programs (name.Glyph id) =
-    codes "refused: " ++ (decimal count ++ (codes " of " ++ (decimal programs ++ codes " programs\n")))
+    codes "refused: " ++ (decimal count
+    ++ (codes " of " ++ (decimal programs ++ codes " programs\n")))
 
 -- the last line of a verdict
 abbrev pub end_line : ℕ → List Refused → List ℕ

@@ -21,7 +21,8 @@ name_at (suc zero) = name.Cvt
 name_at (suc (suc id)) = name.Glyph id
 
 -- The section of the program whose turn it is can be read.
-pub record IsNext (form : Form) (number : ℕ) (i : Input) (s : Section) (after : Input) : Type 0 where
+pub record IsNext (form : Form) (number : ℕ) (i : Input) (s : Section)
+    (after : Input) : Type 0 where
   pub is_read : section_at form i ≡ Ok (s, after)
   pub in_turn : s.name ≡ name_at number
 
@@ -44,7 +45,8 @@ pub record IsNumberOfPrograms (count : ℕ) : Type 0 where
 
 -- The bytes begin with the header of a certificate for this many programs and with these sections,
 -- and reading goes on after them.
-pub record BeginWith (bytes : List ℕ) (form : Form) (count : ℕ) (sections : List Section) (at : Input) : Type 0 where
+pub record BeginWith (bytes : List ℕ) (form : Form) (count : ℕ) (sections : List Section)
+    (at : Input) : Type 0 where
   pub after : Input
   pub header : header_in bytes ≡ Ok ((form, count), after)
   pub programs : IsNumberOfPrograms count
@@ -94,7 +96,8 @@ pub data IsUpgradeBegunOf (bytes : List ℕ) : List ℕ → Type 0 where
 
 -- This many sections were read from that of a number on, and their texts written in form 4.
 -- (Representation: no public clause cites it.)
-pub record AreUpgraded (form : Form) (number count : ℕ) (from at : Input) (old new : Option (List ℕ)) : Type 0 where
+pub record AreUpgraded (form : Form) (number count : ℕ) (from at : Input)
+    (old new : Option (List ℕ)) : Type 0 where
   pub sections : List Section
   pub are_read : AreRead form number from sections at
   pub all : length sections ≡ count
@@ -102,7 +105,8 @@ pub record AreUpgraded (form : Form) (number count : ℕ) (from at : Input) (old
 
 -- At most this many were read, and a beginning of their texts was written. (Representation: no
 -- public clause cites it.)
-pub record AreBegun (form : Form) (number count : ℕ) (from : Input) (old new : Option (List ℕ)) : Type 0 where
+pub record AreBegun (form : Form) (number count : ℕ) (from : Input)
+    (old new : Option (List ℕ)) : Type 0 where
   pub sections : List Section
   pub at : Input
   pub are_read : AreRead form number from sections at

@@ -27,7 +27,8 @@ ComesToEnd CvtProgram = Unit {0}
 ComesToEnd (GlyphProgram points contours) = ⊥
 
 -- these functions are known at the program's end, by ascending numbers and within the limits
-pub record IsKnownAtEnd (x : Subject) (instructions : List Instruction) (functions : List (ℕ × ℕ)) : Type 0 where
+pub record IsKnownAtEnd (x : Subject) (instructions : List Instruction)
+    (functions : List (ℕ × ℕ)) : Type 0 where
   pub ends : EndsWith x instructions functions
   pub rises : Rises functions
   pub fits : FunctionsFit (x.setting instructions) functions

@@ -66,7 +66,8 @@ abbrev pub KeepsGood : FontData → Stage → Type 0
 KeepsGood d at_start = Unit {0}
 KeepsGood d (after_font f functions) = IsGoodAtEnd (font_subject d) f functions
 KeepsGood d (at_glyph f p known id) =
-    ((functions : List (ℕ × ℕ)) × IsGoodAtEnd (font_subject d) f functions × IsGoodAtEnd (cvt_subject d f functions) p known) × (id ≤ length d.glyphs)
+    ((functions : List (ℕ × ℕ)) × IsGoodAtEnd (font_subject d) f functions
+    × IsGoodAtEnd (cvt_subject d f functions) p known) × (id ≤ length d.glyphs)
 KeepsGood d over = Unit {0}
 
 -- The same for the least families, where no certificate is read.
@@ -74,7 +75,8 @@ abbrev pub KeepsKnown : FontData → Stage → Type 0
 KeepsKnown d at_start = Unit {0}
 KeepsKnown d (after_font f functions) = IsKnownAtEnd (font_subject d) f functions
 KeepsKnown d (at_glyph f p known id) =
-    ((functions : List (ℕ × ℕ)) × IsKnownAtEnd (font_subject d) f functions × IsKnownAtEnd (cvt_subject d f functions) p known) × (id ≤ length d.glyphs)
+    ((functions : List (ℕ × ℕ)) × IsKnownAtEnd (font_subject d) f functions
+    × IsKnownAtEnd (cvt_subject d f functions) p known) × (id ≤ length d.glyphs)
 KeepsKnown d over = Unit {0}
 
 -- what a session that has read no certificate keeps
@@ -116,7 +118,8 @@ pub data AreSectionsFrom (d : FontData) : Stage → List ℕ → Type 0 where
       → IsEndedText IsReadableListing Four (cvt_subject d f functions) p text known
       → AreSectionsFrom d (at_glyph f p known 0) rest
       → AreSectionsFrom d (after_font f functions) (text ++ rest)
-  glyph_next : (f p : List Instruction) (known : List (ℕ × ℕ)) (id : ℕ) (g : GlyphData) (text rest : List ℕ) → slice_get d.glyphs id ≡ Some g
+  glyph_next : (f p : List Instruction) (known : List (ℕ × ℕ)) (id : ℕ) (g : GlyphData)
+      (text rest : List ℕ) → slice_get d.glyphs id ≡ Some g
       → IsGlyphText IsReadableListing Four (glyph_subject (font_of d f p) known id g) text
       → AreSectionsFrom d (at_glyph f p known (id + 1)) rest
       → AreSectionsFrom d (at_glyph f p known id) (text ++ rest)
