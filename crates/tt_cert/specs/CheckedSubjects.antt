@@ -41,4 +41,3 @@ NamesBrokenFirst x contents = Names (IsBrokenFirst (setting_of x) x.start.now co
 abbrev pub NamesFillingBrokenFirst : Subject → Contents → ProgramFault → Type 0
 NamesFillingBrokenFirst x contents =
     Names (IsFillingBrokenFirst (setting_of x) x.start.now contents)
-

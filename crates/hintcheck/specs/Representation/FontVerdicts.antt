@@ -47,7 +47,7 @@ glyph_in c id part = subject_in c id (glyph_data part)
 abbrev pub AreRefusedBelow : Font → List (ℕ × ℕ) → List GlyphData → ℕ → List Refused → Type 0
 AreRefusedBelow font functions glyphs id rs =
     (others : List Refused) → AreRefused font functions id (drop id glyphs) others
-        → AreRefused font functions 0 glyphs (rs ++ others)
+    → AreRefused font functions 0 glyphs (rs ++ others)
 
 -- the verdict on the font is that these programs are refused
 abbrev pub AreAllRefused : FontData → List Refused → Type 0

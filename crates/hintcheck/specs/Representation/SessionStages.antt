@@ -167,7 +167,7 @@ abbrev pub GlyphBySection : FontData → Ended → Ended → ℕ → Progress �
     → Option (List ℕ) → Result Outcome CheckFontFault → Type 0
 GlyphBySection d fpgm prep id from old to new result = IsTold old → Finds result
     (λ outcome. AnswersBySection d (at_glyph_program fpgm prep id) from old to new (Some outcome)
-        (at_glyph_program fpgm prep (id + 1)))
+    (at_glyph_program fpgm prep (id + 1)))
     (IsFaultInSection d (at_glyph_program fpgm prep id) from old)
 
 -- A failed read: what was read is at fault nowhere but at its end.

@@ -304,4 +304,3 @@ IsFoundSoundFor x listing contents = IsFoundSound (setting_of x) x.start.now lis
 -- the fault names what a check of either listing finds broken first
 abbrev pub NamesFirstFor : Subject → Listing → Contents → ProgramFault → Type 0
 NamesFirstFor x listing contents = NamesFirst (setting_of x) x.start.now listing contents
-

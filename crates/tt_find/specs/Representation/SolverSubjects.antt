@@ -77,4 +77,3 @@ abbrev pub LeadsAlong : Subject → Solver → Walk → ℕ → Moves → Type 0
 LeadsAlong x solver walk offset ways =
     IsLeadingAt (setting_of x) x.start.now solver walk offset
     (places_from (calls_of solver walk) ways 0)
-
