@@ -89,8 +89,8 @@ fn set_rest(
     store_cells(state, storage)
 }
 
-/// The state that was read last, in whose memory the next one is made, and the lists of which it was made, in whose memory those of the next
-/// one are read.
+/// The state that was read last, in whose memory the next one is made, and the lists of which it
+/// was made, in whose memory those of the next one are read.
 #[derive(Drop)]
 struct LastState {
     state: State,
