@@ -2,7 +2,7 @@ use Rattle.std.proofs.Common.{◌++◌, ◌∷◌, ◌∙◌, List, [], ap, appe
 use Rattle.std.proofs.lemmas.List.{take_more}
 use Rattle.tt_abs.specs.declared.cells.Cell.{Cell}
 use Rattle.tt_abs.specs.declared.cells.Cell.TheVariants.{Known}
-use Rattle.tt_cert_file.specs.SharedCells.{AreCellsKept}
+use Rattle.tt_cert_file.specs.Representation.SharedCells.{AreCellsKept}
 use Rattle.tt_cert_file.proofs.SharedCells.{kept_more}
 use Rattle.tt_cert_file.proofs.shared_cells.keep_cells.Goals as goal
 

@@ -1,6 +1,6 @@
 use Rattle.std.proofs.Common.{List, ◌++◌, take}
 use Rattle.tt_abs.specs.declared.cells.Cell.{Cell}
-use Rattle.tt_cert_file.specs.SharedCells.{AreCellsKept}
+use Rattle.tt_cert_file.specs.Representation.SharedCells.{AreCellsKept}
 use Rattle.tt_cert_file.proofs.shared_cells.keep_cells.Given as goal
 
 abbrev pub invariant-loop-cell : goal.invariant-loop-cell

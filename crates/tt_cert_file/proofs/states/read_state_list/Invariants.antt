@@ -1,7 +1,7 @@
 use Rattle.std.proofs.Common.{◌≡◌, length}
 use Rattle.tt_cert_file.specs.Reading.{entry_at}
 use Rattle.tt_cert_file.specs.Rules.{last_place}
-use Rattle.tt_cert_file.specs.SharedCells.{IsLast}
+use Rattle.tt_cert_file.specs.Representation.SharedCells.{IsLast}
 use Rattle.tt_cert_file.proofs.Loops.{IsReading}
 use Rattle.tt_cert_file.proofs.states.read_state_list.Given as goal
 
