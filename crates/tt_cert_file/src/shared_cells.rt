@@ -24,7 +24,7 @@ const FEWER: usize = 8;
 
 /// The text of the stack that was read last, by which its lowest cells are known again.
 #[derive(Drop)]
-pub(crate) struct StackText {
+pub(crate) struct LastStack {
     /// The texts of the cells, from the bottom up.
     pub(crate) text: Vec<u8>,
     /// Where the text of each cell ends.
@@ -34,12 +34,12 @@ pub(crate) struct StackText {
     read: Vec<Cell>,
 }
 
-impl StackText {
+impl LastStack {
     /// Makes the text of the empty stack.
     pub(crate) fn new(alloc: Global) -> Self
         ensures { AreCellsKept result.text.items result.ends.items [] }
     {
-        StackText {
+        LastStack {
             text: Vec::new(alloc),
             ends: Vec::new(alloc),
             read: Vec::new(alloc),
@@ -135,8 +135,8 @@ fn read_stack_cells<S: Source>(
     place: u64,
     count: u16,
     state: &mut State,
-    others: StackText,
-) -> Result<(StackText, u64), DecodeFault>
+    others: LastStack,
+) -> Result<(LastStack, u64), DecodeFault>
     requires { IsStackKept others.text.items others.ends.items state.old }
     ensures reads { Gives (λ _. reverse state.new.stack) (S.remaining source.old)
         (S.remaining source.new) result
@@ -148,7 +148,7 @@ fn read_stack_cells<S: Source>(
         (StopsAtEnd place (S.remaining source.old) (S.remaining source.new) (cells_at [] count)) }
     ensures failures { CountsRead result (S.failures source.old) (S.failures source.new) }
 {
-    let StackText {
+    let LastStack {
         mut text,
         mut ends,
         read,
@@ -158,7 +158,7 @@ fn read_stack_cells<S: Source>(
     let (read, after) = read_cells(source, at, count - state.depth(), read)?;
     keep_cells(&read, &mut text, &mut ends)?;
     state.push_cells(&read)?;
-    Ok((StackText { text, ends, read }, after))
+    Ok((LastStack { text, ends, read }, after))
 }
 
 /// Reads a stack's cells into a state, from the bottom up, after another stack, whose text is
@@ -168,8 +168,8 @@ pub(crate) fn read_stack<S: Source>(
     source: &mut S,
     place: u64,
     state: &mut State,
-    others: StackText,
-) -> Result<(StackText, u64), DecodeFault>
+    others: LastStack,
+) -> Result<(LastStack, u64), DecodeFault>
     requires { IsStackKept others.text.items others.ends.items state.old }
     ensures reads { Gives (λ _. reverse state.new.stack) (S.remaining source.old)
         (S.remaining source.new) result (stack_at (input_at place (S.remaining source.old))) }

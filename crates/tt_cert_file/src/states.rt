@@ -13,7 +13,7 @@ ghost use Rattle.tt_cert_file.specs.Representation.SharedCells.{IsLast};
 use crate::fault::DecodeFault;
 use crate::form::Form;
 use crate::lists::{Functions, read_functions, read_storage};
-use crate::shared_cells::{StackText, read_stack};
+use crate::shared_cells::{LastStack, read_stack};
 use crate::units::{read_graphics, read_long, read_pair};
 use std::alloc::{AllocError, Global};
 use tt_abs::{Cell, State, ZoneCell};
@@ -94,7 +94,7 @@ fn set_rest(
 #[derive(Drop)]
 struct LastState {
     state: State,
-    stack: StackText,
+    stack: LastStack,
     functions: Functions,
     storage: Vec<(u16, i32)>,
 }
@@ -109,7 +109,7 @@ impl LastState {
     {
         Ok(LastState {
             state: State::start(alloc, &[])?,
-            stack: StackText::new(alloc),
+            stack: LastStack::new(alloc),
             functions: Functions::new(alloc),
             storage: Vec::new(alloc),
         })
