@@ -5,8 +5,7 @@ use Rattle.std.proofs.lemmas.Option.{slice_get-get_or}
 use Rattle.std.proofs.Common.{◌≡◌, ℕ, zero, suc, ◌+◌, List, [], ◌∷◌, ◌++◌, Some, length, drop, sym, ◌∙◌, ap, subst, arith, append_assoc, append-nil, refl}
 use Rattle.std.proofs.lemmas.List.{drop_all}
 use Rattle.tt_code.specs.Fonts.{Font}
-use Rattle.tt_font.specs.Reading.{glyph_data}
-use Rattle.tt_font.specs.Reading.{GlyphData}
+use Rattle.tt_font.specs.Reading.{glyph_data, GlyphData}
 use Rattle.tt_font.specs.declared.glyph_part.GlyphPart.{GlyphPart}
 use Rattle.hintcheck.specs.Representation.FontVerdicts.{AreRefusedBelow}
 use Rattle.hintcheck.specs.FontPrograms.{AreRefused, accepted, no_glyph_left, glyph_subject, refused}

@@ -5,9 +5,8 @@ ghost use Rattle.hintcheck.specs.FontPrograms.{IsSafeGlyph, glyph_subject};
 ghost use Rattle.hintcheck.specs.BarePrograms.{IsJudged, IsMemory, bare_font, bare_subject, font_around, glyph_with};
 ghost use Rattle.hintcheck.specs.Programs.{HasGoodFamily, IsRefusal};
 ghost use Rattle.tt_code.specs.Faults.{IsMemory as IsMemoryAlone};
-ghost use Rattle.tt_font.specs.Reading.{GlyphData};
+ghost use Rattle.tt_font.specs.Reading.{GlyphData, glyph_data};
 ghost use Rattle.tt_font.specs.Conditions.{maxp_fault};
-ghost use Rattle.tt_font.specs.Reading.{glyph_data};
 
 use crate::font::{Common, judge_glyph};
 use crate::program::{Search, list_refused};

@@ -66,17 +66,28 @@ fn refusals(heap: &mut Heap, trial: &Trial<'_>, ample: Told) -> Option<u32> {
     None
 }
 
-/// Asserts that a call is refused memory, and tells so, until it is left enough. Where the heap
-/// can't be used up, it is made with ample memory alone.
-pub(crate) fn assert_refused(rt: &impl Abort, heap: &mut Heap, name: &str, trial: &Trial<'_>) {
+/// Asserts that a call tells of each refusal until it is left enough, and returns how many there
+/// were. Where the heap can't be used up, it is made with ample memory alone.
+pub(crate) fn refusals_of(rt: &impl Abort, heap: &mut Heap, name: &str, trial: &Trial<'_>) -> u32 {
     heap.leave(None);
     let ample = told_of(heap, trial);
     assert!(rt;
         matches!(ample, Told::Answer(_)),
         "{name}: {ample:?} with ample memory"
     );
-    if heap.is_used_up() {
-        let count = refusals(heap, trial, ample);
-        assert!(rt; matches!(count, Some(1..)), "{name}: {count:?}");
+    if !heap.is_used_up() {
+        return 0;
     }
+    let count = refusals(heap, trial, ample);
+    assert!(rt;
+        count.is_some(),
+        "{name}: another answer than out of memory"
+    );
+    count.unwrap_or(0)
+}
+
+/// Asserts that a call is refused memory and tells so, until it is left enough.
+pub(crate) fn assert_refused(rt: &impl Abort, heap: &mut Heap, name: &str, trial: &Trial<'_>) {
+    let count = refusals_of(rt, heap, name, trial);
+    assert!(rt; count > 0 || !heap.is_used_up(), "{name}: no refusal");
 }

@@ -62,7 +62,7 @@ fn execute(
     if state.stack.len() > usize::from(setting.limits.stack) {
         return Err(Refusal::Refused(Reason::Overflow));
     }
-    state.rises();
+    state.order_facts();
     Ok(moves)
 }
 

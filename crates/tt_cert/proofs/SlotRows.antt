@@ -20,7 +20,7 @@ use Rattle.tt_cert.specs.Representation.SlotRows.{Point, Offsets, row_points, ro
 use Rattle.tt_cert.proofs.Puts.{places_apart}
 use Rattle.tt_cert.proofs.Putting.{place_total}
 use Rattle.tt_cert.proofs.RowEnds.{listed_below, listed_pushed, rises_pushed, below_first}
-use Rattle.tt_cert.proofs.SlotEntries.{merged_found, merged_points, merged_rest, merged_rises, insert_found, insert_length, insert_rises, place_exact}
+use Rattle.tt_cert.proofs.PlaceEntries.{merged_found, merged_points, merged_rest, merged_rises, insert_found, insert_length, insert_rises, place_exact}
 
 -- places by their parts
 

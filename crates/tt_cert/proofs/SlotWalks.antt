@@ -15,7 +15,7 @@ use Rattle.std.proofs.lemmas.Map.Keys.{sorted_head, sorted_tail}
 use Rattle.tt_cert.specs.Places.{place_cmp, states_of}
 use Rattle.tt_cert.specs.Representation.SlotRows.{Point, merged, AreApart, with_first, comes_first}
 use Rattle.tt_cert.proofs.Putting.{place_total}
-use Rattle.tt_cert.proofs.SlotEntries.{merged_first, merged_other, below_below, place_exact}
+use Rattle.tt_cert.proofs.PlaceEntries.{merged_first, merged_other, below_below, place_exact}
 
 -- a list whose first point was taken out
 pub taken_first : (r : Option Point) (old new : List Point) → (r ≡ None → old ≡ []) → IfSome r (λ e. old ≡ e ∷ new) → with_first r new ≡ old

@@ -23,7 +23,7 @@ use Rattle.tt_cert.specs.Puts.{ReweighsStates}
 use Rattle.tt_cert.specs.Representation.StateSlots.{state_in, states_in, AreSlots, AgreesBelow, AreFirstSlots}
 use Rattle.tt_cert.proofs.Puts.{cases_place, places_apart}
 use Rattle.tt_cert.proofs.Putting.{place_total, sums_written, sums_added}
-use Rattle.tt_cert.proofs.SlotEntries.{insert_rises, insert_here, insert_elsewhere, insert_length}
+use Rattle.tt_cert.proofs.PlaceEntries.{insert_rises, insert_here, insert_elsewhere, insert_length}
 
 abbrev Slots : Type 0
 Slots = List ((ℕ × ℕ) × ℕ)

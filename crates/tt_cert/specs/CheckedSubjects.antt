@@ -1,4 +1,5 @@
--- What the check says of a subject: a setting, with the functions that are known where its program starts.
+-- What the check says of a subject: a setting, with the functions that are known where its program
+-- starts.
 use Rattle.tt_abs.specs.Settings.{setting_of}
 use Rattle.tt_abs.specs.Soundness.{IsSafe}
 use Rattle.tt_abs.specs.declared.setting.Setting.{Setting as Subject}
@@ -38,5 +39,5 @@ NamesBrokenFirst x contents = Names (IsBrokenFirst (setting_of x) x.start.now co
 
 -- the fault names what is broken first of a family that may leave states out
 abbrev pub NamesFillingBrokenFirst : Subject → Contents → ProgramFault → Type 0
-NamesFillingBrokenFirst x contents = Names (IsFillingBrokenFirst (setting_of x) x.start.now contents)
-
+NamesFillingBrokenFirst x contents =
+    Names (IsFillingBrokenFirst (setting_of x) x.start.now contents)

@@ -25,11 +25,14 @@ TellsNewAt contents context offset joined = TellsNew joined (family_state conten
 -- the state was put at the point, with this answer
 abbrev pub PutsState : Contents → Contents → ℕ → ℕ → State → Joined → Type 0
 PutsState old new context offset state joined =
-    PutsAt state_order (family_of old) (family_of new) (place_of old context offset) state (is_change joined)
+    PutsAt state_order (family_of old) (family_of new) (place_of old context offset) state
+    (is_change joined)
 
 -- the same in a list of states by context and offset
-abbrev pub PutsListed : List ((ℕ × ℕ) × State) → List ((ℕ × ℕ) × State) → ℕ × ℕ → State → Joined → Type 0
-PutsListed old new point state joined = PutsAt state_order (states_of old) (states_of new) point state (is_change joined)
+abbrev pub PutsListed : List ((ℕ × ℕ) × State) → List ((ℕ × ℕ) × State) → ℕ × ℕ → State → Joined
+    → Type 0
+PutsListed old new point state joined =
+    PutsAt state_order (states_of old) (states_of new) point state (is_change joined)
 
 -- there is a state, and it differs from this one in depth
 abbrev pub HasOtherDepth : Option State → State → Type 0

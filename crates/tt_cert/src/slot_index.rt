@@ -69,25 +69,25 @@ fn add_rows(rows: &mut Vec<OffsetList>, context: u32) -> Result<(), AllocError>
 fn put(
     rows: &mut Vec<OffsetList>,
     rest: &mut BTreeMap<PointKey, u32>,
-    place: PointKey,
+    point: PointKey,
     slot: u32,
 ) -> Result<(), AllocError>
     requires places { AreSlotRows rows.old.items rest.old.entries }
-    requires within { place.0 < length rows.old.items }
-    requires absent { states_of (points_in rows.old.items rest.old.entries) place ≡ None }
+    requires within { point.0 < length rows.old.items }
+    requires absent { states_of (points_in rows.old.items rest.old.entries) point ≡ None }
     ensures places { AreSlotRows rows.new.items rest.new.entries }
     ensures ok { OnOk result (points_in rows.new.items rest.new.entries
-        ≡ insert_entry place_cmp (points_in rows.old.items rest.old.entries) place slot) }
+        ≡ insert_entry place_cmp (points_in rows.old.items rest.old.entries) point slot) }
     ensures err { OnErr result
         (points_in rows.new.items rest.new.entries ≡ points_in rows.old.items rest.old.entries) }
-    ensures behind { (used : ℕ) → place.0 < used
+    ensures behind { (used : ℕ) → point.0 < used
         → AreEmptyFrom used rows.old.items → AreEmptyFrom used rows.new.items }
 {
-    let row = &mut rows[place.0 as usize];
-    if row.is_below(place.1) {
-        return row.push(place.1, slot);
+    let row = &mut rows[point.0 as usize];
+    if row.is_below(point.1) {
+        return row.push(point.1, slot);
     }
-    rest.insert(place, slot)?;
+    rest.insert(point, slot)?;
     Ok(())
 }
 
@@ -251,8 +251,8 @@ fn next_in(rest: &mut Iter<'_, PointKey, u32>) -> Option<(PointKey, u32)>
     ensures none { result ≡ None → rest.old ≡ [] }
     ensures some { IfSome result (λ e. rest.old ≡ e ∷ rest.new) }
 {
-    let (place, slot) = rest.next()?;
-    Some((*place, *slot))
+    let (point, slot) = rest.next()?;
+    Some((*point, *slot))
 }
 
 /// Whether the first point beside the rows comes before the first point of the rows.

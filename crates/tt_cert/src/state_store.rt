@@ -27,7 +27,7 @@ const MOST_STATES: u32 = 4_294_967_295;
 #[derive(Drop)]
 pub(crate) struct StateStore {
     /// The slot of each point. The points have the first slots, one each.
-    places: SlotIndex,
+    index: SlotIndex,
     /// The states in the slots. Those after the slots of the points are kept only for their memory.
     slots: Vec<State>,
 }
@@ -39,9 +39,9 @@ impl Model for StateStore {
 
     ghost Value = { List ((ℕ × ℕ) × StateValue) };
 
-    ghost view = { λ t. states_in t.slots.items t.places };
+    ghost view = { λ t. states_in t.slots.items t.index };
 
-    ghost invariant = { λ t. AreFirstSlots t.slots.items t.places };
+    ghost invariant = { λ t. AreFirstSlots t.slots.items t.index };
 }
 
 /// Makes an existing slot, or the next one, hold a copy of a state.
@@ -69,7 +69,7 @@ impl StateStore {
         ensures { result ≡ [] }
     {
         StateStore {
-            places: SlotIndex::new(alloc),
+            index: SlotIndex::new(alloc),
             slots: Vec::new(alloc),
         }
     }
@@ -78,14 +78,14 @@ impl StateStore {
     pub(crate) fn len(&self) -> u32
         ensures { result ≡ length self.now }
     {
-        self.places.len()
+        self.index.len()
     }
 
     /// Returns the state at a point.
     pub(crate) fn get(&self, context: u32, offset: u32) -> Option<&State>
         ensures { option_copied result ≡ states_of self.now (context, offset) }
     {
-        match self.places.get(context, offset) {
+        match self.index.get(context, offset) {
             Some(number) => Some(&self.slots[number as usize]),
             None => None,
         }
@@ -95,7 +95,7 @@ impl StateStore {
     pub(crate) fn order_facts(&self)
         ensures { IsStrictlySortedBy place_cmp (keys_of self.now) }
     {
-        self.places.len();
+        self.index.len();
     }
 
     /// Returns the states with their contexts and offsets, by ascending context, and by ascending
@@ -106,7 +106,7 @@ impl StateStore {
         ensures found { All (λ e. states_of self.now e.0 ≡ Some e.1) self.now }
     {
         States {
-            places: self.places.iter(),
+            points: self.index.iter(),
             slots: self.slots.as_slice(),
         }
     }
@@ -137,7 +137,7 @@ impl StateStore {
         ensures kept { OnErr result (self.new ≡ self.old) }
         ensures fits { OnOk result (length self.new ≤ 4294967295) }
     {
-        if let Some(number) = self.places.get(context, offset) {
+        if let Some(number) = self.index.get(context, offset) {
             let slot = &mut self.slots[number as usize];
             let Ok(changed) = slot.join(state) else {
                 return Err(JoinFault::DepthMismatch);
@@ -161,14 +161,14 @@ impl StateStore {
         ensures kept { OnErr result (self.new ≡ self.old) }
         ensures fits { OnOk result (length self.new ≤ 4294967295) }
     {
-        let number = self.places.len();
+        let number = self.index.len();
         if number >= MOST_STATES {
             return Err(JoinFault::OutOfMemory);
         }
         if let Err(_) = write_slot(&mut self.slots, number as usize, state) {
             return Err(JoinFault::OutOfMemory);
         }
-        if let Err(_) = self.places.insert(context, offset, number) {
+        if let Err(_) = self.index.insert(context, offset, number) {
             return Err(JoinFault::OutOfMemory);
         }
         Ok(())
@@ -178,6 +178,6 @@ impl StateStore {
     pub(crate) fn clear(&mut self)
         ensures { self.new ≡ [] }
     {
-        self.places.clear();
+        self.index.clear();
     }
 }

@@ -10,7 +10,7 @@ use tt_abs::State;
 #[derive(Drop)]
 pub struct States<'a> {
     /// The slots of the points that are still to come.
-    pub(crate) places: SlotIndexIter<'a>,
+    pub(crate) points: SlotIndexIter<'a>,
     /// The states in the slots.
     pub(crate) slots: &'a [State],
 }
@@ -22,9 +22,9 @@ impl<'a> Model for States<'a> {
 
     ghost Value = { List ((ℕ × ℕ) × StateValue) };
 
-    ghost view = { λ s. states_in s.slots.now s.places };
+    ghost view = { λ s. states_in s.slots.now s.points };
 
-    ghost invariant = { λ s. AreSlots s.slots.now s.places };
+    ghost invariant = { λ s. AreSlots s.slots.now s.points };
 }
 
 impl<'a> States<'a> {
@@ -35,7 +35,7 @@ impl<'a> States<'a> {
         ensures done { result ≡ None → self.new ≡ [] }
         ensures some { IfSome result (λ e. self.old ≡ ((e.0, e.1), e.2.now) ∷ self.new) }
     {
-        let (place, number) = self.places.take_first()?;
-        Some((place.0, place.1, &self.slots[number as usize]))
+        let (point, number) = self.points.take_first()?;
+        Some((point.0, point.1, &self.slots[number as usize]))
     }
 }

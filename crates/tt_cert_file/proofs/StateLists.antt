@@ -17,7 +17,7 @@ use Rattle.tt_abs.specs.States.{state_order}
 use Rattle.tt_cert.specs.Contents.{Contents, IsFamily, family_of, frames_at}
 use Rattle.tt_cert.specs.Places.{PutGives, PutsAt, place_cmp, states_of}
 use Rattle.tt_cert.specs.Puts.{family_at, place_of}
-use Rattle.tt_cert.proofs.SlotEntries.{same_points}
+use Rattle.tt_cert.proofs.PlaceEntries.{same_points}
 use Rattle.tt_cert.proofs.Puts.{cases_place, places_apart}
 use Rattle.tt_cert.proofs.Putting.{place_total}
 use Rattle.tt_cert_file.specs.Rules.{is_next_place, last_of, last_place}

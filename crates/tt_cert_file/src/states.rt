@@ -13,7 +13,7 @@ ghost use Rattle.tt_cert_file.specs.Representation.SharedCells.{IsLast};
 use crate::fault::DecodeFault;
 use crate::form::Form;
 use crate::lists::{Functions, read_functions, read_storage};
-use crate::shared_cells::{StackText, read_stack};
+use crate::shared_cells::{LastStack, read_stack};
 use crate::units::{read_graphics, read_long, read_pair};
 use std::alloc::{AllocError, Global};
 use tt_abs::{Cell, State, ZoneCell};
@@ -51,10 +51,11 @@ fn store_cells(state: &mut State, cells: &[(u16, i32)]) -> Result<(), AllocError
 
 /// Makes exactly these functions known, unless they are known already.
 fn set_functions(state: &mut State, functions: &Functions) -> Result<(), AllocError>
-    requires rises { Rises functions.list.items }
-    requires same { functions.is_same ≡ true → state.old.functions ≡ functions.list.items }
+    requires rises { Rises functions.now.list.items }
+    requires same { functions.now.is_same ≡ true
+        → state.old.functions ≡ functions.now.list.items }
     ensures set { OnOk result
-        (state.new ≡ record state.old { functions = functions.list.items }) }
+        (state.new ≡ record state.old { functions = functions.now.list.items }) }
     ensures in_range { OnOk result (state_order.InRange state.old → state_order.InRange state.new) }
 {
     if functions.is_same {
@@ -70,13 +71,14 @@ fn set_rest(
     functions: &Functions,
     storage: &[(u16, i32)],
 ) -> Result<(), AllocError>
-    requires rises { Rises functions.list.items }
-    requires same { functions.is_same ≡ true → state.old.functions ≡ functions.list.items }
+    requires rises { Rises functions.now.list.items }
+    requires same { functions.now.is_same ≡ true
+        → state.old.functions ≡ functions.now.list.items }
     requires storage { Rises storage.now }
     ensures set { OnOk result (state.new ≡ record {
       stack = state.old.stack;
       graphics = graphics.now;
-      functions = functions.list.items;
+      functions = functions.now.list.items;
       storage = storage.now;
     }) }
     ensures in_range { OnOk result (state_order.InRange state.old → state_order.InRange state.new) }
@@ -87,12 +89,12 @@ fn set_rest(
     store_cells(state, storage)
 }
 
-/// The state that was read last, in whose memory the next one is made, and the lists of which it was made, in whose memory those of the next
-/// one are read.
+/// The state that was read last, in whose memory the next one is made, and the lists of which it
+/// was made, in whose memory those of the next one are read.
 #[derive(Drop)]
 struct LastState {
     state: State,
-    stack: StackText,
+    stack: LastStack,
     functions: Functions,
     storage: Vec<(u16, i32)>,
 }
@@ -107,7 +109,7 @@ impl LastState {
     {
         Ok(LastState {
             state: State::start(alloc, &[])?,
-            stack: StackText::new(alloc),
+            stack: LastStack::new(alloc),
             functions: Functions::new(alloc),
             storage: Vec::new(alloc),
         })

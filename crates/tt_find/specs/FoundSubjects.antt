@@ -1,4 +1,5 @@
--- What the finder says of a subject: a setting, with the functions that are known where its program starts.
+-- What the finder says of a subject: a setting, with the functions that are known where its program
+-- starts.
 use Rattle.std.specs.Prelude.{◌⊎◌, Option, Result, IfErr, IfOk}
 use Rattle.tt_abs.specs.declared.setting.Setting.{Setting as Subject}
 use Rattle.tt_abs.specs.declared.state.State.{State}
@@ -12,7 +13,8 @@ use Rattle.tt_find.specs.declared.finder.Found.{Found}
 
 -- the found family can be filled up to the least good one, by so many updates
 abbrev pub IsLeastFor : Subject → Found → Type 0
-IsLeastFor x found = HasLeastFilling (setting_of x) x.start.now found.updates (family_of found.certificate)
+IsLeastFor x found =
+    HasLeastFilling (setting_of x) x.start.now found.updates (family_of found.certificate)
 
 -- each good family has states in all contexts that were found
 abbrev pub HasLeastContexts : Subject → Found → Type 0
@@ -28,7 +30,8 @@ IsJustifiedFor x = NamesPlace (IsJustified (setting_of x) x.start.now)
 
 -- no family is good, unless memory ran out, or the end alone isn't reached
 abbrev pub TellsNoneIsGood : Subject → ProgramFault → Type 0
-TellsNoneIsGood x fault = IsOutOfMemory fault ⊎ IsNeverEnding fault ⊎ NoneIsGood (setting_of x) x.start.now
+TellsNoneIsGood x fault =
+    IsOutOfMemory fault ⊎ IsNeverEnding fault ⊎ NoneIsGood (setting_of x) x.start.now
 
 -- where the least family is good except for the end, the answer says so, unless memory ran out
 abbrev pub TellsNoEnd : Subject → Result Found ProgramFault → Type 0

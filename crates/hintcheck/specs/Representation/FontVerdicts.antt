@@ -7,8 +7,7 @@ use Rattle.tt_abs.specs.Entries.{Rises}
 use Rattle.tt_abs.specs.Settings.{programs_of}
 use Rattle.tt_abs.specs.StateFlow.{FunctionsFit}
 use Rattle.tt_abs.specs.declared.setting.Setting.{Setting}
-use Rattle.tt_font.specs.Reading.{glyph_data}
-use Rattle.tt_font.specs.Reading.{FontData, GlyphData}
+use Rattle.tt_font.specs.Reading.{glyph_data, FontData, GlyphData}
 use Rattle.tt_font.specs.declared.glyph_part.GlyphPart.{GlyphPart}
 use Rattle.hintcheck.specs.FontPrograms.{AreRefused, IsVerdict, glyph_subject, judgement_on}
 use Rattle.hintcheck.specs.ProgramVerdicts.{IsSubjectOf}

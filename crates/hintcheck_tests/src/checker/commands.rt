@@ -6,9 +6,9 @@ use std::rt::Files;
 
 /// A `maxp` table, a program or none, and the line of the fault.
 const FAULTS: [(&str, Option<&str>, &str); 9] = [
-    ("0", Some("00"), "fault: words: MAXP_WORD\n"),
-    ("0x", Some("00"), "fault: words: MAXP_WORD\n"),
-    ("0", Some("0"), "fault: words: MAXP_WORD\n"),
+    ("0", Some("00"), "fault: words: MAXP\n"),
+    ("0x", Some("00"), "fault: words: MAXP\n"),
+    ("0", Some("0"), "fault: words: MAXP\n"),
     (MAXP_WORD, Some("0"), "fault: words: PROGRAM\n"),
     (MAXP_WORD, Some("zz"), "fault: words: PROGRAM\n"),
     ("000100", Some("0"), "fault: words: PROGRAM\n"),

@@ -21,7 +21,8 @@ abbrev pub row_points : ℕ → Offsets → List Point
 row_points context [] = []
 row_points context (e ∷ es) = ((context, e.0), e.1) ∷ row_points context es
 
--- the points of the rows one after the other: the first row is this context's, and each other one is the next context's
+-- the points of the rows one after the other: the first row is this context's, and each other one
+-- is the next context's
 abbrev pub rows_points : ℕ → List Offsets → List Point
 rows_points context [] = []
 rows_points context (row ∷ rows) = row_points context row ++ rows_points (suc context) rows
@@ -49,7 +50,8 @@ pub record AreApart (points rest : List Point) : Type 0 where
   pub rest_rises : IsStrictlySortedBy place_cmp (keys_of rest)
   pub once : (p : ℕ × ℕ) (n : ℕ) → states_of rest p ≡ Some n → states_of points p ≡ None
 
--- the offsets of each row ascend, and a point beside the rows comes after none of them: its row has a greater offset, and not its own
+-- the offsets of each row ascend, and a point beside the rows comes after none of them: its row has
+-- a greater offset, and not its own
 pub record AreSlotRows (rows : List Offsets) (rest : List Point) : Type 0 where
   pub rise : (c : ℕ) → Rises (row_of rows c)
   pub rest_rises : IsStrictlySortedBy place_cmp (keys_of rest)

@@ -16,7 +16,8 @@ list_of marks Prep = marks.prep.items
 
 -- what is known of an offset of a program
 abbrev pub mark_of : OffsetMarks → Spot → ℕ → Mark
-mark_of marks spot offset = cond marks.everywhere Kept (slice_index_or (list_of marks spot) offset Kept)
+mark_of marks spot offset =
+    cond marks.everywhere Kept (slice_index_or (list_of marks spot) offset Kept)
 
 -- what is known of a place
 abbrev pub mark_at : OffsetMarks → Place → Mark
@@ -25,5 +26,6 @@ mark_at marks p = mark_of marks (spot_of p.0) p.1
 -- the offset has this mark from then on, and every other offset has the same as before
 pub record SetsMark (old new : OffsetMarks) (spot : Spot) (offset : ℕ) (mark : Mark) : Type 0 where
   pub here : mark_of new spot offset ≡ mark
-  pub elsewhere : (other : Spot) (at : ℕ) → ((other ≡ spot) × (at ≡ offset) → ⊥) → mark_of new other at ≡ mark_of old other at
+  pub elsewhere : (other : Spot) (at : ℕ) → ((other ≡ spot) × (at ≡ offset) → ⊥)
+      → mark_of new other at ≡ mark_of old other at
   pub everywhere : new.everywhere ≡ old.everywhere

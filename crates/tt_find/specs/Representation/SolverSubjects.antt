@@ -1,4 +1,5 @@
--- What the finder keeps on the way for a subject: a setting, with the functions that are known where its program starts.
+-- What the finder keeps on the way for a subject: a setting, with the functions that are known where
+-- its program starts.
 use Rattle.std.specs.Prelude.{ℕ, Bool, Option, [], ◌∷◌}
 use Rattle.tt_abs.specs.declared.instruction.Stepped.{Stepped}
 use Rattle.tt_abs.specs.declared.moves.Moves.{Moves}
@@ -18,7 +19,8 @@ use Rattle.tt_find.specs.declared.walk.Walk.{Walk}
 abbrev pub HasLawsFor : Subject → Type 0
 HasLawsFor x = HasLaws (setting_of x) x.start.now
 
--- the finder stops with a fault that is right, or starts again, which it doesn't where states are kept everywhere
+-- the finder stops with a fault that is right, or starts again, which it doesn't where states are
+-- kept everywhere
 abbrev pub StopsFor : Subject → Bool → Stop → Type 0
 StopsFor x everywhere = NamesStop (IsJustified (setting_of x) x.start.now) everywhere
 
@@ -58,17 +60,20 @@ abbrev pub IsNextAfter : Subject → Contents → Walk → ℕ → ℕ → Type 
 IsNextAfter x contents walk offset next =
     Precedes (setting_of x) (here_of contents walk offset) (here_of contents walk next)
 
--- where the instruction at an offset of the walk's context ends, if only this one leads there as to the place just after it
+-- where the instruction at an offset of the walk's context ends, if only this one leads there as to
+-- the place just after it
 abbrev pub EndsJustBefore : Subject → Contents → Walk → ℕ → Option ℕ → Type 0
-EndsJustBefore x contents walk offset after = IsJustAfter (setting_of x) (here_of contents walk offset) after
+EndsJustBefore x contents walk offset after =
+    IsJustAfter (setting_of x) (here_of contents walk offset) after
 
 -- the walk's state is still to be led to the offset just after
 abbrev pub LeadsOver : Subject → Solver → Walk → ℕ → ℕ → Type 0
 LeadsOver x solver walk offset next =
-    IsLeadingAt (setting_of x) x.start.now solver walk offset (here_of solver.builder walk next ∷ [])
+    IsLeadingAt (setting_of x) x.start.now solver walk offset
+    (here_of solver.builder walk next ∷ [])
 
 -- the walk's state is still to be led to where all these ways lead
 abbrev pub LeadsAlong : Subject → Solver → Walk → ℕ → Moves → Type 0
 LeadsAlong x solver walk offset ways =
-    IsLeadingAt (setting_of x) x.start.now solver walk offset (places_from (calls_of solver walk) ways 0)
-
+    IsLeadingAt (setting_of x) x.start.now solver walk offset
+    (places_from (calls_of solver walk) ways 0)
