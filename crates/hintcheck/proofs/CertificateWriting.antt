@@ -16,16 +16,16 @@ use Rattle.tt_font.specs.Reading.{FontData, GlyphData}
 use Rattle.tt_stream.specs.Streams.{AppendsBeginning}
 use Rattle.hintcheck.specs.CertificateTexts.{AreGlyphTexts, IsCertificate, IsEndedText, IsPassingCertificate, IsReadableListing, IsTextOf, WritesBeginning, WritesText, no_glyphs, one_more}
 use Rattle.hintcheck.specs.FindingSessions.{AreFirstSections, IsCertificateBegun, IsForFinding, IsFoundAnswer, IsFoundFor, IsFoundToEnd, IsOutcomeByFinding, cvt_found, cvt_refused, font_found, font_refused, glyph_found, glyph_refused, none_yet, one_program_more}
-use Rattle.hintcheck.specs.FontVerdicts.{AreAllRefused}
+use Rattle.hintcheck.specs.Representation.FontVerdicts.{AreAllRefused}
 use Rattle.hintcheck.specs.FontPrograms.{cvt_subject, font_of, font_subject, glyph_subject}
 use Rattle.hintcheck.specs.Programs.{Subject}
-use Rattle.hintcheck.specs.SessionStages.{AreSectionsFrom, AreSomeSections, all_there, cvt_next, font_first, glyph_next}
+use Rattle.hintcheck.specs.Representation.SessionStages.{AreSectionsFrom, AreSomeSections, all_there, cvt_next, font_first, glyph_next}
 use Rattle.hintcheck.specs.Sessions.{IsLast, Stage, Standing, after_font, at_glyph, at_start, last_glyph, new_standing, none_is_left, over}
 use Rattle.hintcheck.specs.declared.session.Outcome.{Outcome}
 use Rattle.hintcheck.proofs.CheckedSections.{all_dropped, dropped}
 use Rattle.hintcheck.proofs.CheckedTexts.{is_passing}
-use Rattle.hintcheck.proofs.LookLemmas.{calls_in_turn}
-use Rattle.hintcheck.proofs.SecondLooks.{AreLeastFrom, none_refused_at_start, none_refused_next}
+use Rattle.hintcheck.proofs.ProgramVerdictLemmas.{calls_in_turn}
+use Rattle.hintcheck.proofs.SecondFindings.{AreLeastFrom, none_refused_at_start, none_refused_next}
 use Rattle.hintcheck.proofs.SessionRuns.{calls_left}
 use Rattle.hintcheck.proofs.TextBeginnings.{begins_any, begins_on, begins_whole}
 

@@ -20,12 +20,12 @@ use Rattle.tt_cert_file.specs.declared.form.Form.{Form}
 use Rattle.tt_cert_file.specs.declared.form.Form.TheVariants.{Two, Three, Four}
 use Rattle.hintcheck.specs.Certificates.{IsBreak, IsCheckRefusal, IsGoodListing, IsListingBrokenFirst, Passes, PassesToEnd, not_good}
 use Rattle.hintcheck.specs.CheckedFonts.{IsRefusedBy}
-use Rattle.hintcheck.specs.ProgramVerdicts.{IsLookedAt, told_at}
+use Rattle.hintcheck.specs.ProgramVerdicts.{IsSubjectOf, reported_at}
 use Rattle.hintcheck.specs.Programs.{Subject, program_at}
-use Rattle.hintcheck.proofs.LookLemmas.{known_cut, of_subject}
+use Rattle.hintcheck.proofs.ProgramVerdictLemmas.{known_cut, of_subject}
 
 pub check_refusal : (form : Form) (x : Subject) (family : Contents) (at : Place) (spot : Spot) (offset : ℕ) (r : Reason) → spot ≡ spot_of at.0
-    → IsBreak form x family at offset r → ((instructions : List Instruction) → Passes form x instructions family → ⊥) → IsCheckRefusal form x family (told_at x.name spot offset r)
+    → IsBreak form x family at offset r → ((instructions : List Instruction) → Passes form x instructions family → ⊥) → IsCheckRefusal form x family (reported_at x.name spot offset r)
 check_refusal form x family at spot offset r es broken none = record {
   program = refl;
   at = at;
@@ -42,47 +42,47 @@ pub has_fault : (form : Form) (x : Subject) (family : Contents) (is : List Instr
 has_fault form x family is offset cut at instructions p = no_fault x.bytes is instructions offset cut p.cut.is_cut p.cut.structured at
 
 -- the family isn't good for the program
-pub broken_listing : (form : Form) (x : Subject) (s : Setting) (family : Contents) (f : ProgramFault) → IsLookedAt x s
+pub broken_listing : (form : Form) (x : Subject) (s : Setting) (family : Contents) (f : ProgramFault) → IsSubjectOf x s
     → Names (IsListingBrokenFirst form (setting_of s) s.start.now family) f
     → (IsGoodListing form (setting_of s) s.start.now family → IsOutOfMemory f) → IsRefusedBy form x family f
-broken_listing form x s family (fault.OutOfMemory e) looked names exact = tt
-broken_listing form x s family (fault.Refused spot offset r) looked (at, es, eo, first) exact =
+broken_listing form x s family (fault.OutOfMemory e) subject names exact = tt
+broken_listing form x s family (fault.Refused spot offset r) subject (at, es, eo, first) exact =
     let is = s.main.now in
     let B : MachineSetting → List (ℕ × ℕ) → Type 0 = λ t fs. IsListingBrokenFirst form t fs family at r in
-    let broken = of_subject B x is (setting_of s) s.start.now looked.setting looked.functions first in
+    let broken = of_subject B x is (setting_of s) s.start.now subject.setting subject.functions first in
     let B' : ℕ → Type 0 = λ n. IsBreak form x family at n r in
-    check_refusal form x family at spot offset r es (subst B' (sym eo) (not_good is at r looked.cut broken))
+    check_refusal form x family at spot offset r es (subst B' (sym eo) (not_good is at r subject.cut broken))
     (λ js p.
     let G : List Instruction → Type 0 = λ k. IsGoodListing form (x.setting k) x.functions family in
-    let same : js ≡ is = known_cut x is js looked.cut p.cut in
+    let same : js ≡ is = known_cut x is js subject.cut p.cut in
     let good : IsGoodListing form (x.setting is) x.functions family = subst G same p.good in
     let F : List (ℕ × ℕ) → Type 0 = λ fs. IsGoodListing form (x.setting is) fs family in
     let S : MachineSetting → Type 0 = λ t. IsGoodListing form t s.start.now family in
-    exact (subst S looked.setting (subst F looked.functions good)))
+    exact (subst S subject.setting (subst F subject.functions good)))
 
 -- the same of what a check returns
-pub broken_result : {T : Type 0} (form : Form) (x : Subject) (s : Setting) (family : Contents) (r : Result T ProgramFault) → IsLookedAt x s
+pub broken_result : {T : Type 0} (form : Form) (x : Subject) (s : Setting) (family : Contents) (r : Result T ProgramFault) → IsSubjectOf x s
     → IfErr r (Names (IsListingBrokenFirst form (setting_of s) s.start.now family))
     → (IsGoodListing form (setting_of s) s.start.now family → IfErr r IsOutOfMemory) → IfErr r (IsRefusedBy form x family)
-broken_result form x s family (Ok y) looked names exact = tt
-broken_result form x s family (Err f) looked names exact = broken_listing form x s family f looked names exact
+broken_result form x s family (Ok y) subject names exact = tt
+broken_result form x s family (Err f) subject names exact = broken_listing form x s family f subject names exact
 
 -- a program whose family is good passes
-pub passes : (form : Form) (x : Subject) (s : Setting) (family : Contents) → IsLookedAt x s → IsGoodListing form (setting_of s) s.start.now family → Passes form x s.main.now family
-passes form x s family looked good =
+pub passes : (form : Form) (x : Subject) (s : Setting) (family : Contents) → IsSubjectOf x s → IsGoodListing form (setting_of s) s.start.now family → Passes form x s.main.now family
+passes form x s family subject good =
     let G : MachineSetting → List (ℕ × ℕ) → Type 0 = λ t fs. IsGoodListing form t fs family in
-    record { cut = looked.cut; good = of_subject G x s.main.now (setting_of s) s.start.now looked.setting looked.functions good }
+    record { cut = subject.cut; good = of_subject G x s.main.now (setting_of s) s.start.now subject.setting subject.functions good }
 
 -- and what is known where it ends
 pub passes_to_end : (form : Form) (x : Subject) (s : Setting) (family : Contents) (n : ℕ) (found : Option (Bor (List (ℕ × ℕ)))) (functions : Bor (List (ℕ × ℕ))) (copy : List (ℕ × ℕ))
-    → IsLookedAt x s → IsGoodListing form (setting_of s) s.start.now family → n ≡ size s.main.now
+    → IsSubjectOf x s → IsGoodListing form (setting_of s) s.start.now family → n ≡ size s.main.now
     → IfSome found (λ fs. (end : State) × (family_of family ([], n) ≡ Some end) × (fs.now ≡ end.functions)) → found ≡ Some functions → copy ≡ functions.now
     → PassesToEnd form x s.main.now family copy
-passes_to_end form x s family n found functions copy looked good size_is some e copied =
+passes_to_end form x s family n found functions copy subject good size_is some e copied =
     let S : Option (Bor (List (ℕ × ℕ))) → Type 0 = λ o. IfSome o (λ fs. (end : State) × (family_of family ([], n) ≡ Some end) × (fs.now ≡ end.functions)) in
     let (end, at, same) = subst S e some in
     record {
-      passes = passes form x s family looked good;
+      passes = passes form x s family subject good;
       end = end;
       at_end = ap (λ (k : ℕ). family_of family ([], k)) (sym size_is) ∙ at;
       functions_are = sym (copied ∙ same);

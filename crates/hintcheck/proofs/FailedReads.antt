@@ -1,4 +1,4 @@
--- Calls of a session look at no byte past what they read, so that what was read before a failed read is refused nowhere but at its end.
+-- Calls of a session read no byte past what they read, so that what was read before a failed read is refused nowhere but at its end.
 use Rattle.std.proofs.Common.{◌≡◌, ℕ, ◌+◌, Bool, cond, true, false, List, [], ◌++◌, length, Option, Some, None, Result, Ok, Err, refl, sym, ◌∙◌, ap, subst, arith, append_assoc, zero-add}
 use Rattle.std.specs.Prelude.{IfErr}
 use Rattle.std.specs.Int.{w16, w32, from_be_bytes}
@@ -25,7 +25,7 @@ use Rattle.hintcheck.specs.CertificateFaults.{fault_of_decoding}
 use Rattle.hintcheck.specs.Certificates.{HasNoSection, IsSectionOf, not_read}
 use Rattle.hintcheck.specs.CheckedFonts.{IsTold}
 use Rattle.hintcheck.specs.FailedReads.{EndsInCall, EndsInSection, HasRead, IsCutHeader, after_all, in_header, in_section, in_sections}
-use Rattle.hintcheck.specs.SessionStages.{TellsRefusal, read_of}
+use Rattle.hintcheck.specs.Representation.SessionStages.{TellsRefusal, read_of}
 use Rattle.hintcheck.specs.Sessions.{AnswersNext, IsFaultAt, IsLast, IsOutcomeBySection, ReadsOn, Stage, Standing, at_header, cvt_fails, cvt_passes, font_fails, font_passes, glyph_fails, glyph_passes, standing_at, where_it_was}
 use Rattle.hintcheck.specs.declared.font_check.CheckFontFault.{CheckFontFault}
 use Rattle.hintcheck.specs.declared.font_check.CheckFontFault.TheVariants as check

@@ -14,11 +14,11 @@ use Rattle.tt_find.specs.declared.finder.Found.{Found}
 use Rattle.tt_font.specs.Reading.{FontData, GlyphData}
 use Rattle.hintcheck.specs.CheckedFonts.{IsGoodAtEnd}
 use Rattle.hintcheck.specs.FindingSessions.{IsFoundAnswer, IsFoundFor, IsFoundToEnd, IsOutcomeByFinding, cvt_found, cvt_refused, font_found, font_refused, glyph_found, glyph_refused}
-use Rattle.hintcheck.specs.FontVerdicts.{IsKnownAtEnd}
+use Rattle.hintcheck.specs.Representation.FontVerdicts.{IsKnownAtEnd}
 use Rattle.hintcheck.specs.FontPrograms.{cvt_subject, font_of, font_subject, glyph_subject}
-use Rattle.hintcheck.specs.ProgramVerdicts.{IfRefused, told_at}
+use Rattle.hintcheck.specs.ProgramVerdicts.{IfRefused, reported_at}
 use Rattle.hintcheck.specs.Programs.{IsRefusal, Subject}
-use Rattle.hintcheck.specs.SessionStages.{KeepsFound, KeepsGood, KeepsKnown, TellsOutcome}
+use Rattle.hintcheck.specs.Representation.SessionStages.{KeepsFound, KeepsGood, KeepsKnown, TellsOutcome}
 use Rattle.hintcheck.specs.Sessions.{Stage, accepted_as, after_font, at_glyph, at_start, over, refused_as}
 use Rattle.hintcheck.specs.declared.report.Refused.{Refused}
 use Rattle.hintcheck.specs.declared.session.Outcome.{Outcome}
@@ -28,7 +28,7 @@ use Rattle.hintcheck.proofs.FontSafety.{good_end}
 -- what is reported of a refused program
 tells : (called : Name) (fault : ProgramFault) (o : Outcome) (Is : Refused → Type 0) → TellsOutcome called fault (Ok o) → IfRefused called fault Is
     → (r : Refused) × Is r × (o ≡ refused_as called r)
-tells called (program.Refused spot offset reason) o Is told is = (told_at called spot offset reason, is, one o (refused_as called (told_at called spot offset reason)) told)
+tells called (program.Refused spot offset reason) o Is told is = (reported_at called spot offset reason, is, one o (refused_as called (reported_at called spot offset reason)) told)
   where
     one : (a b : Outcome) → ◌≡◌ {A = Result Outcome AllocError} (Ok a) (Ok b) → a ≡ b
     one a b e = cc
@@ -68,7 +68,7 @@ second_refused d f functions fault o told refused =
 
 module _ (d : FontData) (f p : List Instruction) (known : List (ℕ × ℕ)) (font : Font) (kept : List (ℕ × ℕ)) (font_is : font ≡ font_of d f p) (kept_is : kept ≡ known)
     (id : ℕ) (g : GlyphData) (there : slice_get d.glyphs id ≡ Some g) where
-  -- what is said of the glyph as its program is looked at
+  -- what is said of the glyph and its program
   of_glyph : (P : Subject → Type 0) → P (glyph_subject font kept id g) → P (glyph_subject (font_of d f p) known id g)
   of_glyph P h =
       let F : Font → Type 0 = λ t. P (glyph_subject t kept id g) in

@@ -1,6 +1,5 @@
 -- Each program of a font that was read is a list of fewer than 2^31 bytes.
-use Rattle.std.specs.Prelude.{◌==◌, nat_le, if◌then◌else◌, ◌&&◌, ◌-◌, ◌*◌, ◌^◌, slice_get, slice_range}
-use Rattle.std.specs.Prelude.{IfOk, Result, Ok, Err}
+use Rattle.std.specs.Prelude.{◌==◌, nat_le, if◌then◌else◌, ◌&&◌, ◌-◌, ◌*◌, ◌^◌, slice_get, slice_range, IfOk, Result, Ok, Err}
 use Rattle.std.specs.Option.{option_map_or}
 use Rattle.std.proofs.Common.{◌≡◌, ℕ, zero, suc, ◌+◌, ◌<◌, ◌≤◌, List, [], ◌∷◌, Option, None, Some, Bool, true, false, length, take, drop, get_or, refl, sym, subst, arith}
 use Rattle.std.proofs.lemmas.Bool.{leb-true}

@@ -1,4 +1,4 @@
--- What is known at the ends of a font's programs, and what the next program is looked at with.
+-- What is known at the ends of a font's programs, and what the next program starts with.
 use Rattle.std.specs.Prelude.{IfSome, is_some}
 use Rattle.std.proofs.Common.{◌≡◌, ℕ, List, [], Option, Some, None, refl, sym, ◌∙◌, ap, subst, true, Bor}
 use Rattle.tt_code.specs.Cut.{Instruction, size}
@@ -19,12 +19,12 @@ use Rattle.tt_font.specs.Reading.{FontData}
 use Rattle.tt_cert.specs.Contents.{family_of}
 use Rattle.tt_find.specs.declared.finder.Found.{Found}
 use Rattle.hintcheck.specs.FindingSessions.{IsFoundFor, IsFoundToEnd}
-use Rattle.hintcheck.specs.FontVerdicts.{AreAllRefused, ComesToEnd, IsKnownAtEnd}
+use Rattle.hintcheck.specs.Representation.FontVerdicts.{AreAllRefused, ComesToEnd, IsKnownAtEnd}
 use Rattle.hintcheck.specs.FontPrograms.{cvt_refused, cvt_subject, font_refused, font_subject}
-use Rattle.hintcheck.specs.ProgramVerdicts.{IfRefused, IsAccepted, IsListed, IsLookedAt, told_at}
+use Rattle.hintcheck.specs.ProgramVerdicts.{IfRefused, IsAccepted, IsListed, IsSubjectOf, reported_at}
 use Rattle.hintcheck.specs.CheckedFonts.{IsGoodAtEnd}
 use Rattle.hintcheck.specs.Programs.{EndsWith, HasGoodFamily, HasLeastFamily, IsCutInto, IsRefusal, Subject}
-use Rattle.hintcheck.proofs.LookLemmas.{looked_at, of_subject}
+use Rattle.hintcheck.proofs.ProgramVerdictLemmas.{is_subject, of_subject}
 use Rattle.tt_cert_file.specs.declared.name.Name.TheVariants as name
 use Rattle.hintcheck.specs.declared.report.Refused.{Refused as AnyRefused}
 
@@ -71,27 +71,27 @@ found_at_end x is family s n found a same comes long none =
     listed_at_end s x.functions family a.filling n found (subst F same a.fills) (subst G same a.good) comes long none
 
 -- what a program by a good family of a filling knows at its end
-pub good_at_end : (x : Subject) (s : Setting) (family : Place → Option State) (n : ℕ) (found : Option (Bor (List (ℕ × ℕ)))) (functions : Bor (List (ℕ × ℕ))) (copy : List (ℕ × ℕ)) → IsLookedAt x s
+pub good_at_end : (x : Subject) (s : Setting) (family : Place → Option State) (n : ℕ) (found : Option (Bor (List (ℕ × ℕ)))) (functions : Bor (List (ℕ × ℕ))) (copy : List (ℕ × ℕ)) → IsSubjectOf x s
     → HasGoodFilling (setting_of s) s.start.now family → n ≡ size s.main.now
     → IfSome found (λ fs. (end : State) × (family ([], n) ≡ Some end) × (fs.now ≡ end.functions)) → found ≡ Some functions → copy ≡ functions.now → IsGoodAtEnd x s.main.now copy
-good_at_end x s family n found functions copy looked (filling, fills, good) size_is some e copied =
+good_at_end x s family n found functions copy subject (filling, fills, good) size_is some e copied =
     let S : Option (Bor (List (ℕ × ℕ))) → Type 0 = λ o. IfSome o (λ fs. (end : State) × (family ([], n) ≡ Some end) × (fs.now ≡ end.functions)) in
     let (end, at, same) = subst S e some in
-    let x_good : IsGoodFamily (x.setting s.main.now) x.functions filling = of_subject (λ t fs. IsGoodFamily t fs filling) x s.main.now (setting_of s) s.start.now looked.setting looked.functions good in
+    let x_good : IsGoodFamily (x.setting s.main.now) x.functions filling = of_subject (λ t fs. IsGoodFamily t fs filling) x s.main.now (setting_of s) s.start.now subject.setting subject.functions good in
     let kept : filling ([], size s.main.now) ≡ Some end = fills.keeps ([], size s.main.now) end (ap (λ (k : ℕ). family ([], k)) (sym size_is) ∙ at) in
     let R : List (ℕ × ℕ) → Type 0 = λ fs. Rises fs in
     record {
-      ends = record { cut = looked.cut; family = filling; good = x_good; end = end; at_end = kept; functions_are = sym (copied ∙ same) };
+      ends = record { cut = subject.cut; family = filling; good = x_good; end = end; at_end = kept; functions_are = sym (copied ∙ same) };
       rises = subst R (sym (copied ∙ same)) (functions_rise (x.setting s.main.now) x.functions filling ([], size s.main.now) end x_good kept);
     }
 
 -- a program with a good filling has a good family
-pub good_of_filling : (x : Subject) (s : Setting) (family : Place → Option State) → IsLookedAt x s → HasGoodFilling (setting_of s) s.start.now family → HasGoodFamily x
-good_of_filling x s family looked (filling, fills, good) = record {
+pub good_of_filling : (x : Subject) (s : Setting) (family : Place → Option State) → IsSubjectOf x s → HasGoodFilling (setting_of s) s.start.now family → HasGoodFamily x
+good_of_filling x s family subject (filling, fills, good) = record {
   instructions = s.main.now;
-  cut = looked.cut;
+  cut = subject.cut;
   family = filling;
-  good = of_subject (λ t fs. IsGoodFamily t fs filling) x s.main.now (setting_of s) s.start.now looked.setting looked.functions good;
+  good = of_subject (λ t fs. IsGoodFamily t fs filling) x s.main.now (setting_of s) s.start.now subject.setting subject.functions good;
 }
 
 -- a good family is its own good filling
@@ -102,17 +102,17 @@ own_filling s functions family good = (family, record { keeps = λ p a at. at; a
 pub least_of : (x : Subject) (is : List Instruction) (family : Place → Option State) → IsAccepted x is family → HasLeastFamily x
 least_of x is family a = record { instructions = is; cut = a.cut; family = a.filling; good = a.good; least = a.least }
 
--- a refused font program and a refused CVT program end the look
+-- a refused font program and a refused CVT program end the verdict
 
-pub font_ends_look : (d : FontData) (fault : ProgramFault) (rs : List AnyRefused) → IfRefused name.Font fault (IsRefusal (font_subject d)) → IsListed name.Font fault [] rs → AreAllRefused d rs
-font_ends_look d (Refused spot offset r) rs is listed = let A : List AnyRefused → Type 0 = λ t. AreAllRefused d t in subst A (sym listed) (font_refused (told_at name.Font spot offset r) is)
-font_ends_look d (OutOfMemory e) rs is listed = absurd listed
+pub font_ends_verdict : (d : FontData) (fault : ProgramFault) (rs : List AnyRefused) → IfRefused name.Font fault (IsRefusal (font_subject d)) → IsListed name.Font fault [] rs → AreAllRefused d rs
+font_ends_verdict d (Refused spot offset r) rs is listed = let A : List AnyRefused → Type 0 = λ t. AreAllRefused d t in subst A (sym listed) (font_refused (reported_at name.Font spot offset r) is)
+font_ends_verdict d (OutOfMemory e) rs is listed = absurd listed
 
-pub cvt_ends_look : (d : FontData) (f : List Instruction) (functions : List (ℕ × ℕ)) (fault : ProgramFault) (rs : List AnyRefused) → EndsWith (font_subject d) f functions
+pub cvt_ends_verdict : (d : FontData) (f : List Instruction) (functions : List (ℕ × ℕ)) (fault : ProgramFault) (rs : List AnyRefused) → EndsWith (font_subject d) f functions
     → IfRefused name.Cvt fault (IsRefusal (cvt_subject d f functions)) → IsListed name.Cvt fault [] rs → AreAllRefused d rs
-cvt_ends_look d f functions (Refused spot offset r) rs ends is listed =
-    let A : List AnyRefused → Type 0 = λ t. AreAllRefused d t in subst A (sym listed) (cvt_refused f functions (told_at name.Cvt spot offset r) ends is)
-cvt_ends_look d f functions (OutOfMemory e) rs ends is listed = absurd listed
+cvt_ends_verdict d f functions (Refused spot offset r) rs ends is listed =
+    let A : List AnyRefused → Type 0 = λ t. AreAllRefused d t in subst A (sym listed) (cvt_refused f functions (reported_at name.Cvt spot offset r) ends is)
+cvt_ends_verdict d f functions (OutOfMemory e) rs ends is listed = absurd listed
 
 -- the functions of an accepted program, as the code reads and copies them
 pub known_of_accepted : (x : Subject) (is : List Instruction) (family : Place → Option State) (n : ℕ) (found : Option (Bor (List (ℕ × ℕ)))) (functions : Bor (List (ℕ × ℕ))) (copy : List (ℕ × ℕ))
@@ -138,11 +138,11 @@ pub known_of_found : (x : Subject) (is : List Instruction) (found : Found) (func
 known_of_found x is found functions ends =
     known_at_end x is (family_of found.certificate) ends.end functions ends.is_found.listing.0 ends.at_end (sym ends.functions_are)
 
--- the font program is looked at in its setting
-pub font_looked : (d : FontData) (s : Setting) (is : List Instruction) (limits : Limits) (cvt : ℕ) → IsCutInto (font_subject d) is → setting_of s ≡ font_setting (programs_of s)
+-- the font program is that of its setting
+pub is_font_subject : (d : FontData) (s : Setting) (is : List Instruction) (limits : Limits) (cvt : ℕ) → IsCutInto (font_subject d) is → setting_of s ≡ font_setting (programs_of s)
     → programs_of s ≡ record { limits = limits; cvt = cvt; font_program = is; cvt_program = is } → limits ≡ d.limits → cvt ≡ d.cvt_count → s.main.now ≡ is → s.start.now ≡ []
-    → IsLookedAt (font_subject d) s
-font_looked d s is limits cvt cut setting programs el ec main start =
+    → IsSubjectOf (font_subject d) s
+is_font_subject d s is limits cvt cut setting programs el ec main start =
     let F : Limits → ℕ → Font = λ l n. record { limits = l; cvt = n; font_program = is; cvt_program = is } in
     let same : programs_of s ≡ F d.limits d.cvt_count = programs ∙ (λ i. F (el i) (ec i)) in
-    looked_at (font_subject d) s is cut main (setting ∙ ap font_setting same) start
+    is_subject (font_subject d) s is cut main (setting ∙ ap font_setting same) start

@@ -5,13 +5,12 @@ use Rattle.std.proofs.lemmas.Option.{slice_get-get_or}
 use Rattle.std.proofs.Common.{◌≡◌, ℕ, zero, suc, ◌+◌, List, [], ◌∷◌, ◌++◌, Some, length, drop, sym, ◌∙◌, ap, subst, arith, append_assoc, append-nil, refl}
 use Rattle.std.proofs.lemmas.List.{drop_all}
 use Rattle.tt_code.specs.Fonts.{Font}
-use Rattle.tt_font.specs.GlyphParts.{glyph_data}
-use Rattle.tt_font.specs.Reading.{GlyphData}
+use Rattle.tt_font.specs.Reading.{glyph_data, GlyphData}
 use Rattle.tt_font.specs.declared.glyph_part.GlyphPart.{GlyphPart}
-use Rattle.hintcheck.specs.FontVerdicts.{AreRefusedBelow}
-use Rattle.hintcheck.specs.FontPrograms.{AreRefused, accepted, all_looked_at, glyph_subject, refused}
+use Rattle.hintcheck.specs.Representation.FontVerdicts.{AreRefusedBelow}
+use Rattle.hintcheck.specs.FontPrograms.{AreRefused, accepted, no_glyph_left, glyph_subject, refused}
 use Rattle.hintcheck.specs.Programs.{HasLeastFamily, IsRefusal}
-use Rattle.hintcheck.specs.ProgramVerdicts.{IfRefused, IsListed, told_at}
+use Rattle.hintcheck.specs.ProgramVerdicts.{IfRefused, IsListed, reported_at}
 use Rattle.tt_cert_file.specs.declared.name.Name.TheVariants as name
 use Rattle.hintcheck.specs.declared.report.Refused.{Refused}
 use Rattle.tt_cert.specs.declared.fault.ProgramFault.{ProgramFault}
@@ -55,11 +54,11 @@ module _ (font : Font) (functions : List (ℕ × ℕ)) (gs : List GlyphData) whe
       → IfRefused (name.Glyph id) f (IsRefusal (glyph_subject font functions id g)) → IsListed (name.Glyph id) f rs rs' → AreRefusedBelow font functions gs (id + 1) rs'
   listed_next id g rs rs' (fault.Refused spot offset r) below at is listed =
       let B : List Refused → Type 0 = λ t. AreRefusedBelow font functions gs (id + 1) t in
-      subst B (sym listed) (refused_next id g rs (told_at (name.Glyph id) spot offset r) below at is)
+      subst B (sym listed) (refused_next id g rs (reported_at (name.Glyph id) spot offset r) below at is)
   listed_next id g rs rs' (fault.OutOfMemory e) below at is listed = absurd listed
 
   pub all_below : (rs : List Refused) → AreRefusedBelow font functions gs (length gs) rs → AreRefused font functions 0 gs rs
   all_below rs below =
       let R : List GlyphData → Type 0 = λ xs. AreRefused font functions (length gs) xs [] in
       let Q : List Refused → Type 0 = λ qs. AreRefused font functions 0 gs qs in
-      subst Q (append-nil rs) (below [] (subst R (sym (drop_all (length gs) gs (omega arith))) (all_looked_at (length gs))))
+      subst Q (append-nil rs) (below [] (subst R (sym (drop_all (length gs) gs (omega arith))) (no_glyph_left (length gs))))

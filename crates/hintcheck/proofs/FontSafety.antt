@@ -14,7 +14,7 @@ use Rattle.tt_abs.specs.StateFlow.{Place}
 use Rattle.tt_abs.proofs.Soundness.{good_is_safe}
 use Rattle.tt_cert.specs.GoodFamilies.{IsGoodFamily}
 use Rattle.tt_font.specs.Reading.{FontData, GlyphData}
-use Rattle.hintcheck.specs.FontPrograms.{AreFewBytes, AreRefused, IsFontInRange, IsSafeFont, IsSafeGlyph, IsVerdict, accepted, all_looked_at, cvt_refused, cvt_subject, font_of, font_refused, font_subject, glyph_subject, looked_at_all, one_glyph_font, refused}
+use Rattle.hintcheck.specs.FontPrograms.{AreFewBytes, AreRefused, IsFontInRange, IsSafeFont, IsSafeGlyph, IsVerdict, accepted, no_glyph_left, cvt_refused, cvt_subject, font_of, font_refused, font_subject, glyph_subject, none_ended, one_glyph_font, refused}
 use Rattle.hintcheck.specs.CheckedFonts.{EndsGood, HasGoodFamilies}
 use Rattle.hintcheck.specs.Programs.{EndsWith, HasGoodFamily, HasLeastFamily, Subject}
 use Rattle.hintcheck.specs.Verdicts.{Judgement}
@@ -77,7 +77,7 @@ module _ (font : Font) (depth : font.limits.stack < 2 ^ 16) (font_range : AreInR
 -- where none of the glyph programs is refused, each has its least family
 none_refused : (font : Font) (known : List (ℕ × ℕ)) (id : ℕ) (gs : List GlyphData) (rs : List Refused) → AreRefused font known id gs rs → rs ≡ []
     → (k : ℕ) (g : GlyphData) → slice_get gs k ≡ Some g → (n : ℕ) × HasLeastFamily (glyph_subject font known n g)
-none_refused font known id gs rs (all_looked_at n) e k g at = absurd (cc)
+none_refused font known id gs rs (no_glyph_left n) e k g at = absurd (cc)
 none_refused font known id gs rs (accepted n x xs qs least rest) e zero g at =
     let G : GlyphData → Type 0 = λ y. HasLeastFamily (glyph_subject font known n y) in
     let same : x ≡ g = cc in (n, subst G same least)
@@ -151,7 +151,7 @@ none_is_refused d f p functions known font cvt glyphs = record {
 pub font_is_safe : (d : FontData) → IsFontInRange d → (v : Judgement) → IsVerdict d v → v.refused ≡ [] → IsSafeFont d
 font_is_safe d range v (font_refused r is) e = absurd (cc)
 font_is_safe d range v (cvt_refused f functions r ends is) e = absurd (cc)
-font_is_safe d range v (looked_at_all f p functions known rs font cvt glyphs) e =
+font_is_safe d range v (none_ended f p functions known rs font cvt glyphs) e =
     let N : List Refused → Type 0 = λ rs. AreRefused (font_of d f p) known 0 d.glyphs rs in
     good_families_are_safe d range (none_is_refused d f p functions known font cvt (subst N e glyphs))
 

@@ -1,5 +1,5 @@
-pub mod LookLemmas
-pub mod JudgeLemmas
+pub mod ProgramVerdictLemmas
+pub mod BareProgramLemmas
 pub mod FontEnds
 pub mod FontRuns
 pub mod FontBytes
@@ -22,6 +22,6 @@ pub mod UpgradeSteps
 pub mod SessionSteps
 pub mod SessionRuns
 pub mod FindingSteps
-pub mod SecondLooks
+pub mod SecondFindings
 pub mod FailedReads
 pub mod UpgradeReads

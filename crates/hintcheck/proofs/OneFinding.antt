@@ -16,7 +16,7 @@ use Rattle.hintcheck.specs.Certificates.{AreChecked, AreSectionsChecked, Finding
 use Rattle.hintcheck.specs.FontPrograms.{cvt_subject, font_of, font_subject, glyph_subject}
 use Rattle.hintcheck.specs.Programs.{Subject}
 use Rattle.hintcheck.specs.declared.report.Refused.{Refused}
-use Rattle.hintcheck.proofs.LookLemmas.{known_cut}
+use Rattle.hintcheck.proofs.ProgramVerdictLemmas.{known_cut}
 
 -- answers
 

@@ -13,15 +13,14 @@ use Rattle.tt_cert_file.specs.declared.form.Form.{Form}
 use Rattle.tt_cert_file.specs.declared.name.Name.TheVariants as name
 use Rattle.tt_cert_file.specs.Readers.{Input, place_after}
 use Rattle.tt_font.specs.Reading.{FontData, GlyphData}
-use Rattle.hintcheck.specs.Certificates.{AreChecked, AreSectionsChecked, Finding, IsChecked, IsSectionOf, PassesToEnd, at_end, both_passed, cvt_refused, followed, font_refused, no_cvt_section, no_font_section, no_section, passed, refused, refused_before, sections_checked}
+use Rattle.hintcheck.specs.Certificates.{AreChecked, AreSectionsChecked, Finding, IsChecked, IsSectionOf, PassesToEnd, at_end, both_passed, cvt_refused, followed, font_refused, no_cvt_section, no_font_section, no_section, passed, refused, refused_before, sections_checked, no_header, other_number}
 use Rattle.hintcheck.specs.CheckedFonts.{EndsGood, HasGoodFamilies, IsTold, all_refused, bytes_in}
 use Rattle.hintcheck.specs.FontPrograms.{cvt_subject, font_of, font_subject, glyph_subject}
 use Rattle.hintcheck.specs.FailedReads.{EndsInCall, EndsInSection, HasRead, IsUnbroken, after_all, in_section, in_sections}
 use Rattle.hintcheck.specs.FailedReads as cut
 use Rattle.hintcheck.specs.Programs.{HasGoodFamily}
-use Rattle.hintcheck.specs.SessionStages.{ListsOutcome}
+use Rattle.hintcheck.specs.Representation.SessionStages.{ListsOutcome}
 use Rattle.hintcheck.specs.Sessions.{AnswersNext, IsFaultAt, IsLast, IsNextFault, IsNothingLeft, IsOutcomeBySection, IsSoundAnswer, IsSoundOutcome, ReadsOn, Stage, Standing, after_font, all_read, already_over, another_number, at_glyph, at_header, at_section, at_start, cvt_ends, cvt_fails, cvt_passes, font_ends, font_fails, font_passes, glyph_fails, glyph_goes_on, glyph_passes, good_cvt, good_font, good_glyph, in_header, last_glyph, more_follows, new_standing, no_cvt, no_font, no_glyph, no_header_read, none_is_left, over, where_it_was}
-use Rattle.hintcheck.specs.Certificates.{no_header, other_number}
 use Rattle.hintcheck.specs.declared.font_check.CheckFontFault.{CheckFontFault}
 use Rattle.hintcheck.specs.declared.font_check.CheckFontFault.TheVariants as fault
 use Rattle.hintcheck.specs.declared.report.Refused.{Refused}

@@ -22,9 +22,9 @@ use Rattle.hintcheck.specs.CertificateFaults.{fault_of_decoding}
 use Rattle.hintcheck.specs.Certificates.{IsCheckRefusal, IsSectionOf, Passes, PassesToEnd}
 use Rattle.hintcheck.specs.CheckedFonts.{Finds, IsGoodAtEnd, IsRefusedBy, IsTold}
 use Rattle.hintcheck.specs.FontPrograms.{cvt_subject, font_of, font_subject, glyph_subject}
-use Rattle.hintcheck.specs.ProgramVerdicts.{IfRefused, told_at}
+use Rattle.hintcheck.specs.ProgramVerdicts.{IfRefused, reported_at}
 use Rattle.hintcheck.specs.Programs.{HasGoodFamily}
-use Rattle.hintcheck.specs.SessionStages.{HasHeader, KeepsGood, TellsRefusal, read_of}
+use Rattle.hintcheck.specs.Representation.SessionStages.{HasHeader, KeepsGood, TellsRefusal, read_of}
 use Rattle.hintcheck.specs.Sessions.{AnswersNext, IsFaultAt, IsHeaderFault, IsLast, IsNextFault, IsNothingLeft, IsOutcomeBySection, IsSoundAnswer, IsSoundOutcome, ReadsOn, Stage, Standing, accepted_as, after_font, all_read, already_over, another_number, at_glyph, at_header, at_start, cvt_ends, cvt_fails, cvt_passes, font_ends, font_fails, font_passes, glyph_fails, glyph_goes_on, glyph_passes, good_cvt, good_font, good_glyph, in_header, more_follows, no_header_read, none_is_left, over, refused_as, standing_at, where_it_was}
 use Rattle.hintcheck.specs.declared.font_check.CheckFontFault.{CheckFontFault}
 use Rattle.hintcheck.specs.declared.font_check.CheckFontFault.TheVariants as check
@@ -49,7 +49,7 @@ other_number_read d old new form sections gives differs told =
 -- what is reported of a refused program
 tells : (called : Name) (fault : ProgramFault) (o : Outcome) (Is : Refused → Type 0) → TellsRefusal called fault (Ok o) → IfRefused called fault Is
     → (r : Refused) × Is r × (o ≡ refused_as called r)
-tells called (program.Refused spot offset reason) o Is told is = (told_at called spot offset reason, is, one o (refused_as called (told_at called spot offset reason)) told)
+tells called (program.Refused spot offset reason) o Is told is = (reported_at called spot offset reason, is, one o (refused_as called (reported_at called spot offset reason)) told)
   where
     one : (a b : Outcome) → ◌≡◌ {A = Result Outcome CheckFontFault} (Ok a) (Ok b) → a ≡ b
     one a b e = cc

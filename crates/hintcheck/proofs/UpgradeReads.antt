@@ -1,4 +1,4 @@
--- An upgrade looks at no byte past what it reads, so that what was read before a failed read is at fault nowhere but at its end.
+-- An upgrade reads no byte past what it reads, so that what was read before a failed read is at fault nowhere but at its end.
 use Rattle.std.proofs.Common.{◌≡◌, ℕ, ◌+◌, ◌<◌, List, [], ◌∷◌, ◌++◌, length, Option, Some, None, Ok, Err, refl, sym, ◌∙◌, ap, subst, arith, append_assoc, append-nil, zero-add}
 use Rattle.std.specs.Io.KnownBytes.{Consumes, Keeps}
 use Rattle.std.proofs.KnownBytes.{Consumes-trans}

@@ -2,8 +2,10 @@
 use Rattle.std.specs.Prelude.{ℕ, List, [], ◌∷◌}
 use Rattle.tt_code.specs.Fonts.{Font}
 use Rattle.tt_code.specs.declared.limits.Limits.{Limits}
+use Rattle.tt_font.specs.Reading.{GlyphData}
 use Rattle.tt_font.specs.declared.fault.FontFault.{FontFault}
 use Rattle.tt_font.specs.declared.fault.FontFault.TheVariants.{OutOfMemory}
+use Rattle.hintcheck.specs.FontPrograms.{font_of, glyph_subject, one_glyph_font}
 use Rattle.hintcheck.specs.Programs.{HasGoodFamily, HasLeastFamily, IsRefusal, Subject}
 use Rattle.hintcheck.specs.declared.report.Refused.{Refused}
 
@@ -16,7 +18,22 @@ IsMemory _ = ⊥
 abbrev pub font_around : Limits → ℕ → Font
 font_around limits cvt = record { limits = limits; cvt = cvt; font_program = []; cvt_program = [] }
 
--- These are the refused ones of the only program: none, and it has its least family; or itself, and it has no good one.
+-- the glyph with these numbers of points and contours and with this program
+abbrev pub glyph_with : ℕ → ℕ → List ℕ → GlyphData
+glyph_with points contours program =
+    record { points = points; contours = contours; program = program }
+
+-- the font that has only this glyph, by the fields of a `maxp` table and the number of control
+-- values
+abbrev pub bare_font : List ℕ → ℕ → GlyphData → Font
+bare_font maxp cvt glyph = font_of (one_glyph_font maxp cvt glyph) [] []
+
+-- the glyph's program, as it is checked in that font
+abbrev pub bare_subject : List ℕ → ℕ → GlyphData → Subject
+bare_subject maxp cvt glyph = glyph_subject (bare_font maxp cvt glyph) [] 0 glyph
+
+-- These are the refused ones of the only program: none, and it has its least family; or itself, and
+-- it has no good one.
 abbrev pub IsJudged : Subject → List Refused → Type 0
 IsJudged x [] = HasLeastFamily x
 IsJudged x (r ∷ []) = IsRefusal x r × (HasGoodFamily x → ⊥)

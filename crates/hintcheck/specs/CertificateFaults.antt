@@ -12,7 +12,8 @@ use Rattle.hintcheck.specs.declared.certificate.FindFontFault.{FindFontFault}
 use Rattle.hintcheck.specs.declared.certificate.FindFontFault.TheVariants as find
 use Rattle.hintcheck.specs.Verdicts.{Judgement}
 
--- What holds of what is read, or of the place that a fault of form names; a failed read and out of memory are unspecified.
+-- What holds of what is read, or of the place that a fault of form names; a failed read and out of
+-- memory are unspecified.
 abbrev pub Decodes : {T : Type 0} → Result T DecodeFault → (T → Type 0) → (ℕ → Type 0) → Type 0
 Decodes (Ok x) Is At = Is x
 Decodes (Err (decode.Form place)) Is At = At place
@@ -33,11 +34,12 @@ CountsCheck (Err (fault.Font font)) old new = new ≡ old
 CountsCheck (Err (fault.Form place)) old new = new ≡ old
 CountsCheck (Err (fault.OutOfMemory error)) old new = new ≡ old
 
--- The check of a font tests the condition on its bytes: a fault of the font's is the one that holds, unless memory ran out, and any other answer
--- means that none does.
+-- The check of a font tests the condition on its bytes: a fault of the font's is the one that
+-- holds, unless memory ran out, and any other answer means that none does.
 abbrev pub TestsInCheck : {T : Type 0} → Condition → Result T CheckFontFault → Type 0
 TestsInCheck condition (Ok done) = condition ≡ None
-TestsInCheck condition (Err (fault.Font font)) = font ≢ OutOfMemory alloc_error → condition ≡ Some font
+TestsInCheck condition (Err (fault.Font font)) =
+    font ≢ OutOfMemory alloc_error → condition ≡ Some font
 TestsInCheck condition (Err (fault.Form place)) = condition ≡ None
 TestsInCheck condition (Err fault.Read) = condition ≡ None
 TestsInCheck condition (Err (fault.OutOfMemory error)) = condition ≡ None
@@ -64,7 +66,8 @@ CountsFind (Err (find.OutOfMemory error)) old new = new ≡ old
 -- so does the search for its certificate
 abbrev pub TestsInFind : {T : Type 0} → Condition → Result T FindFontFault → Type 0
 TestsInFind condition (Ok done) = condition ≡ None
-TestsInFind condition (Err (find.Font font)) = font ≢ OutOfMemory alloc_error → condition ≡ Some font
+TestsInFind condition (Err (find.Font font)) =
+    font ≢ OutOfMemory alloc_error → condition ≡ Some font
 TestsInFind condition (Err find.Write) = condition ≡ None
 TestsInFind condition (Err (find.OutOfMemory error)) = condition ≡ None
 

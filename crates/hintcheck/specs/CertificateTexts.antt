@@ -29,8 +29,10 @@ pub record IsTextOf (form : Form) (called : Name) (family : Contents) (text : Li
   pub in_order : IsFinished family
   pub text_is : text ≡ section_text form (section_of called family)
 
--- The family of a font program or a CVT program is as required, this is its section's text, and these functions are known where the program ends.
-pub record IsEndedText (Is : Asked) (form : Form) (x : Subject) (instructions : List Instruction) (text : List ℕ) (functions : List (ℕ × ℕ)) : Type 0 where
+-- The family of a font program or a CVT program is as required, this is its section's text, and
+-- these functions are known where the program ends.
+pub record IsEndedText (Is : Asked) (form : Form) (x : Subject) (instructions : List Instruction)
+    (text : List ℕ) (functions : List (ℕ × ℕ)) : Type 0 where
   pub family : Contents
   pub is_asked : Is x instructions family
   pub text_of : IsTextOf form x.name family text
@@ -46,13 +48,17 @@ pub record IsGlyphText (Is : Asked) (form : Form) (x : Subject) (text : List ℕ
   pub text_of : IsTextOf form x.name family text
 
 -- The texts of the glyph programs' sections from a number on, whose families are as required.
-pub data AreGlyphTexts (Is : Asked) (form : Form) (font : Font) (functions : List (ℕ × ℕ)) : ℕ → List GlyphData → List ℕ → Type 0 where
+pub data AreGlyphTexts (Is : Asked) (form : Form) (font : Font) (functions : List (ℕ × ℕ)) : ℕ
+    → List GlyphData → List ℕ → Type 0 where
   no_glyphs : (id : ℕ) → AreGlyphTexts Is form font functions id [] []
-  one_more : (id : ℕ) (g : GlyphData) (gs : List GlyphData) (text rest : List ℕ) → IsGlyphText Is form (glyph_subject font functions id g) text
-      → AreGlyphTexts Is form font functions (id + 1) gs rest → AreGlyphTexts Is form font functions id (g ∷ gs) (text ++ rest)
+  one_more : (id : ℕ) (g : GlyphData) (gs : List GlyphData) (text rest : List ℕ)
+      → IsGlyphText Is form (glyph_subject font functions id g) text
+      → AreGlyphTexts Is form font functions (id + 1) gs rest
+      → AreGlyphTexts Is form font functions id (g ∷ gs) (text ++ rest)
 
--- The bytes are a certificate of this form for the font, whose families are as required. The CVT program starts with the functions that are
--- known where the font program ends, and a glyph program with those that are known where the CVT program ends.
+-- The bytes are a certificate of this form for the font, whose families are as required. The CVT
+-- program starts with the functions that are known where the font program ends, and a glyph program
+-- with those that are known where the CVT program ends.
 pub record IsCertificate (Is : Asked) (form : Form) (d : FontData) (bytes : List ℕ) : Type 0 where
   pub font_program : List Instruction
   pub functions : List (ℕ × ℕ)
@@ -63,12 +69,16 @@ pub record IsCertificate (Is : Asked) (form : Form) (d : FontData) (bytes : List
   pub cvt_text : List ℕ
   pub cvt : IsEndedText Is form (cvt_subject d font_program functions) cvt_program cvt_text known
   pub glyph_texts : List ℕ
-  pub glyphs : AreGlyphTexts Is form (font_of d font_program cvt_program) known 0 d.glyphs glyph_texts
-  pub text_is : bytes ≡ header_text form (length d.glyphs + 2) ++ (font_text ++ (cvt_text ++ glyph_texts))
+  pub glyphs : AreGlyphTexts Is form
+      (font_of d font_program cvt_program) known 0 d.glyphs glyph_texts
+  pub text_is : bytes ≡ header_text form (length d.glyphs + 2)
+      ++ (font_text ++ (cvt_text ++ glyph_texts))
 
 -- The family is the least one that is good, and lists no state that could be left out.
 abbrev pub IsLeastListing : Subject → List Instruction → Contents → Type 0
-IsLeastListing x instructions family = IsAccepted x instructions (family_of family) × NeedsAll (x.setting instructions) x.functions (family_of family)
+IsLeastListing x instructions family =
+    IsAccepted x instructions (family_of family)
+    × NeedsAll (x.setting instructions) x.functions (family_of family)
 
 -- a certificate with the least families
 abbrev pub IsLeastCertificate : Form → FontData → List ℕ → Type 0
@@ -78,9 +88,11 @@ IsLeastCertificate form d bytes = IsCertificate IsLeastListing form d bytes
 abbrev pub IsPassingCertificate : FontData → List ℕ → Type 0
 IsPassingCertificate d bytes = IsLeastCertificate Four d bytes × IsChecked d bytes (Ok [])
 
--- such a family, whose section keeps the rules by which it is read (Representation: no public clause cites it.)
+-- such a family, whose section keeps the rules by which it is read (Representation: no public
+-- clause cites it.)
 abbrev pub IsReadableListing : Subject → List Instruction → Contents → Type 0
-IsReadableListing x instructions family = IsLeastListing x instructions family × Fits Four (section_of x.name family)
+IsReadableListing x instructions family =
+    IsLeastListing x instructions family × Fits Four (section_of x.name family)
 
 -- such a text is appended
 abbrev pub WritesText : Option (List ℕ) → Option (List ℕ) → (List ℕ → Type 0) → Type 0

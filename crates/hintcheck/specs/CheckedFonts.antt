@@ -8,7 +8,7 @@ use Rattle.tt_cert.specs.GoodFamilies.{IsGoodFamily}
 use Rattle.tt_font.specs.Reading.{FontData, GlyphData}
 use Rattle.hintcheck.specs.FontPrograms.{cvt_subject, font_of, font_subject, glyph_subject, judgement_on}
 use Rattle.hintcheck.specs.Programs.{HasGoodFamily, IsCutInto, Subject}
-use Rattle.hintcheck.specs.Certificates.{Finding, IsCheckRefusal, IsChecked}
+use Rattle.hintcheck.specs.Certificates.{Finding, IsCheckRefusal, IsChecked, Passes}
 use Rattle.hintcheck.specs.ProgramVerdicts.{IfRefused}
 use Rattle.hintcheck.specs.Verdicts.{Judgement}
 use Rattle.hintcheck.specs.declared.font_check.CheckFontFault.{CheckFontFault}
@@ -18,8 +18,10 @@ use Rattle.tt_cert.specs.Contents.{Contents}
 use Rattle.tt_cert.specs.declared.fault.ProgramFault.{ProgramFault}
 use Rattle.tt_cert_file.specs.declared.form.Form.{Form}
 
--- The program has these instructions, a family of abstract states is good for it, and these functions are known where it ends.
-pub record EndsGood (x : Subject) (instructions : List Instruction) (functions : List (ℕ × ℕ)) : Type 0 where
+-- The program has these instructions, a family of abstract states is good for it, and these
+-- functions are known where it ends.
+pub record EndsGood (x : Subject) (instructions : List Instruction)
+    (functions : List (ℕ × ℕ)) : Type 0 where
   pub cut : IsCutInto x instructions
   pub family : Place → Option State
   pub good : IsGoodFamily (x.setting instructions) x.functions family
@@ -28,12 +30,13 @@ pub record EndsGood (x : Subject) (instructions : List Instruction) (functions :
   pub functions_are : end.functions ≡ functions
 
 -- These functions are listed by ascending numbers.
-pub record IsGoodAtEnd (x : Subject) (instructions : List Instruction) (functions : List (ℕ × ℕ)) : Type 0 where
+pub record IsGoodAtEnd (x : Subject) (instructions : List Instruction)
+    (functions : List (ℕ × ℕ)) : Type 0 where
   pub ends : EndsGood x instructions functions
   pub rises : Rises functions
 
--- Each program of the font has a good family: the CVT program's starts with what is known where the font program ends, and a glyph program's with
--- what is known where the CVT program ends.
+-- Each program of the font has a good family: the CVT program's starts with what is known where the
+-- font program ends, and a glyph program's with what is known where the CVT program ends.
 pub record HasGoodFamilies (d : FontData) : Type 0 where
   pub font_program : List Instruction
   pub functions : List (ℕ × ℕ)
@@ -41,7 +44,8 @@ pub record HasGoodFamilies (d : FontData) : Type 0 where
   pub cvt_program : List Instruction
   pub known : List (ℕ × ℕ)
   pub cvt : EndsGood (cvt_subject d font_program functions) cvt_program known
-  pub glyphs : (id : ℕ) (g : GlyphData) → slice_get d.glyphs id ≡ Some g → HasGoodFamily (glyph_subject (font_of d font_program cvt_program) known id g)
+  pub glyphs : (id : ℕ) (g : GlyphData) → slice_get d.glyphs id ≡ Some g
+      → HasGoodFamily (glyph_subject (font_of d font_program cvt_program) known id g)
 
 -- a source tells its bytes
 abbrev pub IsTold : Option (List ℕ) → Type 0
@@ -51,7 +55,8 @@ IsTold known = is_some known ≡ true
 abbrev pub bytes_in : Option (List ℕ) → List ℕ
 bytes_in known = unwrap_or known []
 
--- What holds of an answer, or of the place that a fault of form names; a failed read, out of memory and the font's own faults are unspecified.
+-- What holds of an answer, or of the place that a fault of form names; a failed read, out of memory
+-- and the font's own faults are unspecified.
 abbrev pub Finds : {T : Type 0} → Result T CheckFontFault → (T → Type 0) → (ℕ → Type 0) → Type 0
 Finds (Ok x) Is At = Is x
 Finds (Err (fault.Form place)) Is At = At place
@@ -67,6 +72,10 @@ all_refused rs (Err place) = Err place
 -- the fault refuses the program as the check of its section does; out of memory is unspecified
 abbrev pub IsRefusedBy : Form → Subject → Contents → ProgramFault → Type 0
 IsRefusedBy form x family fault = IfRefused x.name fault (IsCheckRefusal form x family)
+
+-- the program passes the check by this family
+abbrev pub IsPassed : Form → Subject → Contents → Type 0
+IsPassed form x family = (instructions : List Instruction) × Passes form x instructions family
 
 -- the verdict on the font by these bytes is what their check comes to
 abbrev pub AnswersFinding : FontData → List ℕ → Judgement → Type 0

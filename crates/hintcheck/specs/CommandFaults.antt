@@ -1,4 +1,5 @@
--- Which fault a command reports, and when: each tells that of its input, and out of memory is unspecified.
+-- Which fault a command reports, and when: each tells that of its input, and out of memory is
+-- unspecified.
 use Rattle.std.specs.Prelude.{◌≡◌, ◌≢◌, ◌⊎◌, ℕ, List, Option, Some, None, alloc_error, true, unwrap_or, []}
 use Rattle.tt_font.specs.Conditions.{maxp_fault}
 use Rattle.tt_font.specs.FileFaults.{font_fault}
@@ -20,11 +21,13 @@ IsFaultOfFont bytes f = f ≢ OutOfMemory alloc_error → font_fault bytes ≡ S
 abbrev pub IsFaultOfSomeFont : FontFault → Type 0
 IsFaultOfSomeFont f = (bytes : List ℕ) × IsFaultOfFont bytes f
 
--- Why there is no verdict on the bytes of a source: a read failed, or all of them were read, and this is their first fault.
+-- Why there is no verdict on the bytes of a source: a read failed, or all of them were read, and
+-- this is their first fault.
 abbrev pub IsFaultOfSource : Option (List ℕ) → Option (List ℕ) → CommandFault → Type 0
 IsFaultOfSource old new fault.Read = Unit {0}
 IsFaultOfSource old new fault.OutOfMemory = Unit {0}
-IsFaultOfSource old new (fault.Font numbered) = (bytes : List ℕ) × ReadsToEnd old new bytes × IsFaultOfFont bytes numbered.0
+IsFaultOfSource old new (fault.Font numbered) =
+    (bytes : List ℕ) × ReadsToEnd old new bytes × IsFaultOfFont bytes numbered.0
 IsFaultOfSource old new other = ⊥
 
 -- all bytes were read, and have no fault as those of a font
@@ -42,14 +45,16 @@ pub record SpellNoFault (maxp program : List ℕ) : Type 0 where
   pub spelled : Spells maxp table
   pub none : maxp_fault table ≡ None
 
--- The words spell a program and a `maxp` table of which this is the first fault; or memory ran out at one without a fault.
+-- The words spell a program and a `maxp` table of which this is the first fault; or memory ran out
+-- at one without a fault.
 pub record SpellFault (maxp program : List ℕ) (f : FontFault) : Type 0 where
   pub words : AreHexWords maxp program
   pub table : List ℕ
   pub spelled : Spells maxp table
   pub first : (maxp_fault table ≡ Some f) ⊎ (IsMemory f × (maxp_fault table ≡ None))
 
--- Why there is no verdict on one glyph program: the first of the words that spells no bytes, or else the fault of `maxp`.
+-- Why there is no verdict on one glyph program: the first of the words that spells no bytes, or
+-- else the fault of `maxp`.
 abbrev pub IsFaultOfGlyph : List ℕ → List ℕ → CommandFault → Type 0
 IsFaultOfGlyph maxp program fault.MaxpWord = IsHexWord maxp → ⊥
 IsFaultOfGlyph maxp program fault.ProgramWord = IsHexWord maxp × (IsHexWord program → ⊥)
@@ -76,10 +81,11 @@ IsFaultOfCertifying (fault.Font numbered) = IsFaultOfSomeFont numbered.0
 IsFaultOfCertifying fault.File = Unit {0}
 IsFaultOfCertifying other = IsFaultOfReading other
 
--- The same for a font file and a certificate's file with these names. One name stands for one file; two names may, and no contract of the runtime
--- tells which do.
+-- The same for a font file and a certificate's file with these names. One name stands for one file;
+-- two names may, and no contract of the runtime tells which do.
 abbrev pub IsFaultOfFinding : List ℕ → List ℕ → CommandFault → Type 0
-IsFaultOfFinding font certificate told = (told ≡ fault.CertificateWord) ⊎ (font ≢ certificate × IsFaultOfCertifying told)
+IsFaultOfFinding font certificate reported =
+    (reported ≡ fault.CertificateWord) ⊎ (font ≢ certificate × IsFaultOfCertifying reported)
 
 -- why there is none on a font file by its certificate
 abbrev pub IsFaultOfChecking : CommandFault → Type 0
@@ -93,9 +99,11 @@ IsFaultOfRewriting (fault.Form place) = Unit {0}
 IsFaultOfRewriting fault.File = Unit {0}
 IsFaultOfRewriting other = IsFaultOfReading other
 
--- The same for an old certificate's file and a new one's with these names, which stand for files as those of a font and its certificate do.
+-- The same for an old certificate's file and a new one's with these names, which stand for files as
+-- those of a font and its certificate do.
 abbrev pub IsFaultOfUpgrading : List ℕ → List ℕ → CommandFault → Type 0
-IsFaultOfUpgrading old new told = (told ≡ fault.NewWord) ⊎ (old ≢ new × IsFaultOfRewriting told)
+IsFaultOfUpgrading old new reported =
+    (reported ≡ fault.NewWord) ⊎ (old ≢ new × IsFaultOfRewriting reported)
 
 -- a text isn't printed
 abbrev pub IsFaultOfPrinting : CommandFault → Type 0
@@ -116,16 +124,18 @@ IsFaultOfListing bytes word other = IsFaultOfLines other
 
 -- why the program with this name of a font file isn't listed
 abbrev pub IsFaultOfFileListing : List ℕ → CommandFault → Type 0
-IsFaultOfFileListing word told = IsFaultOfReading told ⊎ ((bytes : List ℕ) × IsFaultOfListing bytes word told)
+IsFaultOfFileListing word reported =
+    IsFaultOfReading reported ⊎ ((bytes : List ℕ) × IsFaultOfListing bytes word reported)
 
 -- Why what is asked for isn't answered.
 abbrev pub IsFaultOfRequest : Request → CommandFault → Type 0
-IsFaultOfRequest (bare maxp cvt points contours program) told = IsFaultOfGlyph maxp (unwrap_or program []) told
-IsFaultOfRequest (verdict font) told = IsFaultOfFontFile told
-IsFaultOfRequest (find font certificate) told = IsFaultOfFinding font certificate told
-IsFaultOfRequest (check font certificate) told = IsFaultOfChecking told
-IsFaultOfRequest (list font program) told = IsFaultOfFileListing program told
-IsFaultOfRequest (upgrade old new) told = IsFaultOfUpgrading old new told
+IsFaultOfRequest (bare maxp cvt points contours program) reported =
+    IsFaultOfGlyph maxp (unwrap_or program []) reported
+IsFaultOfRequest (verdict font) reported = IsFaultOfFontFile reported
+IsFaultOfRequest (find font certificate) reported = IsFaultOfFinding font certificate reported
+IsFaultOfRequest (check font certificate) reported = IsFaultOfChecking reported
+IsFaultOfRequest (list font program) reported = IsFaultOfFileListing program reported
+IsFaultOfRequest (upgrade old new) reported = IsFaultOfUpgrading old new reported
 
 -- The words of `bare` have no fault; and those of `find` and of `upgrade` are two different ones.
 abbrev pub HasNoFault : Request → Type 0
@@ -138,18 +148,22 @@ HasNoFault (upgrade old new) = old ≢ new
 
 -- the request has this fault; or it has none, and its answer isn't printed
 abbrev pub IsFaultOfTask : Request → CommandFault → Type 0
-IsFaultOfTask request told = IsFaultOfRequest request told ⊎ (HasNoFault request × IsFaultOfPrinting told)
+IsFaultOfTask request reported =
+    IsFaultOfRequest request reported ⊎ (HasNoFault request × IsFaultOfPrinting reported)
 
--- clap's text, which is told or isn't printed
+-- clap's text, which is reported or isn't printed
 abbrev pub IsFaultOfUsage : CommandFault → Type 0
 IsFaultOfUsage (fault.Usage text) = Unit {0}
 IsFaultOfUsage other = IsFaultOfPrinting other
 
--- Why words get no answer: memory ran out; or the command line doesn't take them; or they ask for something that has this fault.
+-- Why words get no answer: memory ran out; or the command line doesn't take them; or they ask for
+-- something that has this fault.
 pub data IsFaultOfWords (words : List (List ℕ)) : CommandFault → Type 0 where
   no_memory : IsFaultOfWords words fault.OutOfMemory
-  not_taken : (told : CommandFault) → (is_taken words ≡ true → ⊥) → IsFaultOfUsage told → IsFaultOfWords words told
-  of_request : (told : CommandFault) (request : Request) → meaning words ≡ Some request → IsFaultOfTask request told → IsFaultOfWords words told
+  not_taken : (reported : CommandFault) → (is_taken words ≡ true → ⊥) → IsFaultOfUsage reported
+      → IsFaultOfWords words reported
+  of_request : (reported : CommandFault) (request : Request) → meaning words ≡ Some request
+      → IsFaultOfTask request reported → IsFaultOfWords words reported
 
 -- The words ask for something that has no fault.
 pub record MeansNoFault (words : List (List ℕ)) : Type 0 where
@@ -159,6 +173,6 @@ pub record MeansNoFault (words : List (List ℕ)) : Type 0 where
 
 -- A fault of the words gives this status.
 pub record TellsFault (words : List (List ℕ)) (status : ℕ) : Type 0 where
-  pub told : CommandFault
-  pub why : IsFaultOfWords words told
-  pub status_is : status ≡ status_of told
+  pub reported : CommandFault
+  pub why : IsFaultOfWords words reported
+  pub status_is : status ≡ status_of reported

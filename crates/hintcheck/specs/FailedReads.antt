@@ -27,7 +27,8 @@ HasRead old new Is (fault.Font font) = Unit {0}
 HasRead old new Is (fault.OutOfMemory error) = Unit {0}
 
 -- and in an upgrade
-abbrev pub HasReadOld : Option (List ℕ) → Option (List ℕ) → (List ℕ → Type 0) → UpgradeFault → Type 0
+abbrev pub HasReadOld : Option (List ℕ) → Option (List ℕ) → (List ℕ → Type 0) → UpgradeFault
+    → Type 0
 HasReadOld old new Is upgrade.Read = OfRead old new Is
 HasReadOld old new Is upgrade.Write = Unit {0}
 HasReadOld old new Is (upgrade.Form place) = Unit {0}
@@ -41,15 +42,18 @@ end_of i = place_after i.place (length i.bytes)
 abbrev pub IsCutHeader : List ℕ → Type 0
 IsCutHeader front = header_at (input_at 0 (Some front)) ≡ Err (place_after 0 (length front))
 
--- The input ends too early for the program that is next: at its end, and nowhere before, it has no section; or all sections were read.
+-- The input ends too early for the program that is next: at its end, and nowhere before, it has no
+-- section; or all sections were read.
 pub data EndsInSection (d : FontData) (form : Form) (stage : Stage) (i : Input) : Type 0 where
   in_section : IsFaultAt d form i stage (end_of i) → EndsInSection d form stage i
   after_all : IsLast d stage → i.bytes ≡ [] → EndsInSection d form stage i
 
--- The bytes end too early for a call of a session: in the header, or in what the call reads after it.
+-- The bytes end too early for a call of a session: in the header, or in what the call reads after
+-- it.
 pub data EndsInCall (s : Standing) (front : List ℕ) : Type 0 where
   in_header : s.read ≡ None → IsCutHeader front → EndsInCall s front
-  in_sections : (form : Form) (from : Input) → ReadsOn s (Some front) form from → EndsInSection s.font form s.stage from → EndsInCall s front
+  in_sections : (form : Form) (from : Input) → ReadsOn s (Some front) form from
+      → EndsInSection s.font form s.stage from → EndsInCall s front
 
 -- it names no place before the end of this many bytes
 abbrev pub IsAtEndOnly : {T : Type 0} → ℕ → Result T ℕ → Type 0

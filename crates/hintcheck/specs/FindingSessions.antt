@@ -21,37 +21,54 @@ use Rattle.hintcheck.specs.declared.certificate.FindFontFault.TheVariants as fin
 use Rattle.hintcheck.specs.declared.report.Refused.{Refused}
 use Rattle.hintcheck.specs.declared.session.Outcome.{Outcome}
 
--- What is found for a program with these instructions: its least family, which lists no state that could be left out, with the contexts that it comes
--- to, and as many updates as `find` counts.
+-- What is found for a program with these instructions: its least family, which lists no state that
+-- could be left out, with the contexts that it comes to, and as many updates as `find` counts.
 pub record IsFoundFor (x : Subject) (instructions : List Instruction) (found : Found) : Type 0 where
   pub listing : IsLeastListing x instructions found.certificate
-  pub filling : HasLeastFilling (x.setting instructions) x.functions found.updates (family_of found.certificate)
+  pub filling : HasLeastFilling (x.setting instructions) x.functions found.updates
+      (family_of found.certificate)
   pub contexts : AreLeastContexts (x.setting instructions) x.functions found.certificate.contexts
 
+-- the same for a program whose instructions aren't named
+abbrev pub IsFound : Subject → Found → Type 0
+IsFound x found = (instructions : List Instruction) × IsFoundFor x instructions found
+
 -- and these functions are known where the program ends
-pub record IsFoundToEnd (x : Subject) (instructions : List Instruction) (found : Found) (functions : List (ℕ × ℕ)) : Type 0 where
+pub record IsFoundToEnd (x : Subject) (instructions : List Instruction) (found : Found)
+    (functions : List (ℕ × ℕ)) : Type 0 where
   pub is_found : IsFoundFor x instructions found
   pub end : State
   pub at_end : family_of found.certificate ([], size instructions) ≡ Some end
   pub functions_are : end.functions ≡ functions
 
--- The outcome of the next program, with what is found for it, and which one is next afterwards. The functions that are known at the end of an
--- accepted font program or CVT program are kept by all calls after it, up to those at the end of the CVT program. A refused font program or CVT
--- program is the last one.
+-- The outcome of the next program, with what is found for it, and which one is next afterwards. The
+-- functions that are known at the end of an accepted font program or CVT program are kept by all
+-- calls after it, up to those at the end of the CVT program. A refused font program or CVT program
+-- is the last one.
 pub data IsOutcomeByFinding (d : FontData) : Stage → Outcome → Option Found → Stage → Type 0 where
-  font_found : (f : List Instruction) (functions : List (ℕ × ℕ)) (found : Found) → IsFoundToEnd (font_subject d) f found functions
+  font_found : (f : List Instruction) (functions : List (ℕ × ℕ)) (found : Found)
+      → IsFoundToEnd (font_subject d) f found functions
       → IsOutcomeByFinding d at_start (accepted_as name.Font) (Some found) (after_font f functions)
-  font_refused : (r : Refused) → IsRefusal (font_subject d) r → IsOutcomeByFinding d at_start (refused_as name.Font r) None over
-  cvt_found : (f p : List Instruction) (functions known : List (ℕ × ℕ)) (found : Found) → IsFoundToEnd (cvt_subject d f functions) p found known
-      → IsOutcomeByFinding d (after_font f functions) (accepted_as name.Cvt) (Some found) (at_glyph f p known 0)
-  cvt_refused : (f : List Instruction) (functions : List (ℕ × ℕ)) (r : Refused) → IsRefusal (cvt_subject d f functions) r
+  font_refused : (r : Refused) → IsRefusal (font_subject d) r
+      → IsOutcomeByFinding d at_start (refused_as name.Font r) None over
+  cvt_found : (f p : List Instruction) (functions known : List (ℕ × ℕ)) (found : Found)
+      → IsFoundToEnd (cvt_subject d f functions) p found known
+      → IsOutcomeByFinding d (after_font f functions) (accepted_as name.Cvt) (Some found)
+      (at_glyph f p known 0)
+  cvt_refused : (f : List Instruction) (functions : List (ℕ × ℕ)) (r : Refused)
+      → IsRefusal (cvt_subject d f functions) r
       → IsOutcomeByFinding d (after_font f functions) (refused_as name.Cvt r) None over
-  glyph_found : (f p : List Instruction) (known : List (ℕ × ℕ)) (id : ℕ) (g : GlyphData) (instructions : List Instruction) (found : Found)
-      → slice_get d.glyphs id ≡ Some g → IsFoundFor (glyph_subject (font_of d f p) known id g) instructions found
-      → IsOutcomeByFinding d (at_glyph f p known id) (accepted_as (name.Glyph id)) (Some found) (at_glyph f p known (id + 1))
-  glyph_refused : (f p : List Instruction) (known : List (ℕ × ℕ)) (id : ℕ) (g : GlyphData) (r : Refused)
+  glyph_found : (f p : List Instruction) (known : List (ℕ × ℕ)) (id : ℕ) (g : GlyphData)
+      (instructions : List Instruction) (found : Found)
+      → slice_get d.glyphs id ≡ Some g
+      → IsFoundFor (glyph_subject (font_of d f p) known id g) instructions found
+      → IsOutcomeByFinding d (at_glyph f p known id) (accepted_as (name.Glyph id)) (Some found)
+      (at_glyph f p known (id + 1))
+  glyph_refused : (f p : List Instruction) (known : List (ℕ × ℕ)) (id : ℕ) (g : GlyphData)
+      (r : Refused)
       → slice_get d.glyphs id ≡ Some g → IsRefusal (glyph_subject (font_of d f p) known id g) r
-      → IsOutcomeByFinding d (at_glyph f p known id) (refused_as (name.Glyph id) r) None (at_glyph f p known (id + 1))
+      → IsOutcomeByFinding d (at_glyph f p known id) (refused_as (name.Glyph id) r) None
+      (at_glyph f p known (id + 1))
 
 -- the same for an answer, which is none where no program is left
 abbrev pub IsFoundAnswer : FontData → Stage → Option (Outcome × Option Found) → Stage → Type 0
@@ -68,20 +85,23 @@ out_of_memory_here = fault.OutOfMemory alloc_error
 -- the only fault of a session that finds is that memory ran out
 abbrev pub IsMemoryAlone : Option CheckFontFault → Type 0
 IsMemoryAlone None = Unit {0}
-IsMemoryAlone (Some met) = met ≡ out_of_memory_here
+IsMemoryAlone (Some other) = other ≡ out_of_memory_here
 
 -- a session that was used for no other calls than those that find: no certificate was read
 pub record IsForFinding (s : Standing) : Type 0 where
   pub unread : s.read ≡ None
   pub memory : IsMemoryAlone s.fault
 
--- The sections of the programs that are accepted one after the other, from the font program up to a stage.
+-- The sections of the programs that are accepted one after the other, from the font program up to a
+-- stage.
 pub data AreFirstSections (d : FontData) : Stage → List ℕ → Type 0 where
   none_yet : AreFirstSections d at_start []
-  one_program_more : (s t : Stage) (o : Outcome) (found : Found) (text : List ℕ) → AreFirstSections d s text → IsOutcomeByFinding d s o (Some found) t
+  one_program_more : (s t : Stage) (o : Outcome) (found : Found) (text : List ℕ)
+      → AreFirstSections d s text → IsOutcomeByFinding d s o (Some found) t
       → AreFirstSections d t (text ++ section_text Four (section_of o.program found.certificate))
 
--- The text is as much of a font's certificate as was made: the header, and the sections of the first programs.
+-- The text is as much of a font's certificate as was made: the header, and the sections of the
+-- first programs.
 pub record IsCertificateBegun (d : FontData) (text : List ℕ) : Type 0 where
   pub stage : Stage
   pub sections : List ℕ
@@ -90,4 +110,5 @@ pub record IsCertificateBegun (d : FontData) (text : List ℕ) : Type 0 where
 
 -- nothing is appended, or a beginning of such a text of the font in these bytes
 abbrev pub BeginsCertificate : List ℕ → Option (List ℕ) → Option (List ℕ) → Type 0
-BeginsCertificate bytes old new = (new ≡ old) ⊎ ((d : FontData) × Reads bytes d × WritesBeginning old new (IsCertificateBegun d))
+BeginsCertificate bytes old new =
+    (new ≡ old) ⊎ ((d : FontData) × Reads bytes d × WritesBeginning old new (IsCertificateBegun d))

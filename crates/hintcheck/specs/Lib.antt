@@ -3,7 +3,6 @@ pub mod Texts
 pub mod Programs
 pub mod FontPrograms
 pub mod ProgramVerdicts
-pub mod FontVerdicts
 pub mod BarePrograms
 pub mod Listing
 pub mod Commands
@@ -18,5 +17,5 @@ pub mod Upgrades
 pub mod UpgradeFaults
 pub mod Sessions
 pub mod FindingSessions
-pub mod SessionStages
 pub mod FailedReads
+pub mod Representation

@@ -42,7 +42,8 @@ pub record Names (word : List ℕ) (d : FontData) (program : List ℕ) : Type 0 
 abbrev pub CannotBeListed : List ℕ → Type 0
 CannotBeListed program = (is : List Instruction) → IsCut program is → IsStructured is → ⊥
 
--- The bytes hold a font, and the word is the name of a program of it that can't be cut or isn't structured.
+-- The bytes hold a font, and the word is the name of a program of it that can't be cut or isn't
+-- structured.
 pub record HoldUnlistedProgram (bytes word : List ℕ) : Type 0 where
   pub font : FontData
   pub reads : Reads bytes font
@@ -50,23 +51,29 @@ pub record HoldUnlistedProgram (bytes word : List ℕ) : Type 0 where
   pub named : Names word font program
   pub unlisted : CannotBeListed program
 
--- why a program isn't listed, and at which of its offsets: it can't be cut, or its structure is at fault
+-- why a program isn't listed, and at which of its offsets: it can't be cut, or its structure is at
+-- fault
 pub data IsUnlistedAt (program : List ℕ) : ℕ → Reason → Type 0 where
   no_cut : (offset : ℕ) → CannotBeCut program offset → IsUnlistedAt program offset CannotCut
-  no_structure : (is : List Instruction) (offset : ℕ) → IsCut program is → IsFault is offset → IsUnlistedAt program offset Structure
+  no_structure : (is : List Instruction) (offset : ℕ) → IsCut program is → IsFault is offset
+      → IsUnlistedAt program offset Structure
 
 -- a program by this name, refused at this offset of its own
 abbrev pub refused_in : Name → ℕ → Reason → Refused
-refused_in called offset reason = record { program = called; place = record { program = called; offset = offset }; reason = reason }
+refused_in called offset reason =
+    record { program = called; place = record { program = called; offset = offset }; reason = reason }
 
--- Why the program by this name isn't listed was told in one line, where the written bytes are known.
-pub record TellsUnlisted (called : Name) (program : List ℕ) (old new : Option (List ℕ)) : Type 0 where
+-- Why the program by this name isn't listed was reported in one line, where the written bytes are
+-- known.
+pub record TellsUnlisted (called : Name) (program : List ℕ)
+    (old new : Option (List ℕ)) : Type 0 where
   pub offset : ℕ
   pub reason : Reason
   pub why : IsUnlistedAt program offset reason
   pub written : Appends old new (refused_text (refused_in called offset reason) ++ codes "\n")
 
--- The bytes hold a font, and the word is the name of a program of it of which one line tells why it isn't listed.
+-- The bytes hold a font, and the word is the name of a program of it of which one line tells why it
+-- isn't listed.
 pub record HoldToldProgram (bytes word : List ℕ) (old new : Option (List ℕ)) : Type 0 where
   pub font : FontData
   pub reads : Reads bytes font
@@ -86,7 +93,8 @@ pub record HoldNoSuchProgram (bytes word : List ℕ) : Type 0 where
 
 -- two hexadecimal digits for each byte
 abbrev pub hex_digits : List ℕ → List ℕ
-hex_digits bytes = flat_map (λ b. digit_glyph false (b / 16) ∷ digit_glyph false (b % 16) ∷ []) bytes
+hex_digits bytes =
+    flat_map (λ b. digit_glyph false (b / 16) ∷ digit_glyph false (b % 16) ∷ []) bytes
 
 -- the name of the instruction's code, `?` where it has none
 unfoldable pub shown_name : Instruction → List ℕ
@@ -94,7 +102,8 @@ shown_name i = unwrap_or (option_and_then name_of (code_of i)) (codes "?")
 
 -- the line of the instruction at an offset
 unfoldable pub line_of : ℕ → Instruction → List ℕ
-line_of offset i = decimal offset ++ (codes ": " ++ (hex_digits i ++ (codes " " ++ (shown_name i ++ codes "\n"))))
+line_of offset i =
+    decimal offset ++ (codes ": " ++ (hex_digits i ++ (codes " " ++ (shown_name i ++ codes "\n"))))
 
 -- the lines of instructions, the first of which is at an offset
 abbrev pub lines_of : ℕ → List Instruction → List ℕ
@@ -105,7 +114,8 @@ lines_of offset (i ∷ is) = line_of offset i ++ lines_of (offset + length i) is
 unfoldable pub last_line : List Instruction → List ℕ
 last_line is = codes "end: " ++ (decimal (size is) ++ codes "\n")
 
--- The program is cut into structured instructions, and their lines and the last one were written, where the written bytes are known.
+-- The program is cut into structured instructions, and their lines and the last one were written,
+-- where the written bytes are known.
 pub record IsListed (program : List ℕ) (old new : Option (List ℕ)) : Type 0 where
   pub instructions : List Instruction
   pub is_cut : IsCut program instructions
@@ -120,8 +130,10 @@ pub record HoldListedProgram (bytes word : List ℕ) (old new : Option (List ℕ
   pub named : Names word font program
   pub listed : IsListed program old new
 
--- The lines of the instructions before an offset were written. (Representation: no public clause cites it.)
-pub record IsListedBefore (is : List Instruction) (offset : ℕ) (old new : Option (List ℕ)) : Type 0 where
+-- The lines of the instructions before an offset were written. (Representation: no public clause
+-- cites it.)
+pub record IsListedBefore (is : List Instruction) (offset : ℕ)
+    (old new : Option (List ℕ)) : Type 0 where
   pub before : List Instruction
   pub after : List Instruction
   pub whole : is ≡ before ++ after

@@ -4,22 +4,25 @@ use Rattle.tt_font.specs.Reading.{FontData, GlyphData, Reads}
 use Rattle.hintcheck_words.specs.HexWords.{Spells}
 use Rattle.hintcheck_words.specs.Requests.{Request, bare, check, find, is_taken, list, meaning, upgrade, verdict}
 use Rattle.hintcheck.specs.CommandFaults.{MeansNoFault, TellsFault}
-use Rattle.hintcheck.specs.FontPrograms.{IsSafeFont, IsSafeGlyph, IsVerdict, font_of, glyph_subject, one_glyph_font}
+use Rattle.hintcheck.specs.BarePrograms.{bare_font, bare_subject}
+use Rattle.hintcheck.specs.FontPrograms.{IsSafeFont, IsSafeGlyph, IsVerdict}
 use Rattle.hintcheck.specs.Listing.{HoldUnlistedProgram}
 use Rattle.hintcheck.specs.Programs.{HasGoodFamily, IsRefusal}
 use Rattle.hintcheck.specs.Verdicts.{Judgement}
 
 -- The words spell a `maxp` table and a glyph program, which is safe in a font of only this glyph.
-pub record SpellSafeGlyph (maxp : List ℕ) (cvt points contours : ℕ) (program : List ℕ) : Type 0 where
+pub record SpellSafeGlyph (maxp : List ℕ) (cvt points contours : ℕ)
+    (program : List ℕ) : Type 0 where
   pub table : List ℕ
   pub table_spelled : Spells maxp table
   pub glyph : GlyphData
   pub points_are : glyph.points ≡ points
   pub contours_are : glyph.contours ≡ contours
   pub program_spelled : Spells program glyph.program
-  pub safe : IsSafeGlyph (font_of (one_glyph_font table cvt glyph) [] []) glyph
+  pub safe : IsSafeGlyph (bare_font table cvt glyph) glyph
 
--- The verdict is the one on the font that is in the bytes; where it names no refused program, the font is safe.
+-- The verdict is the one on the font that is in the bytes; where it names no refused program, the
+-- font is safe.
 pub record IsVerdictOn (bytes : List ℕ) (judgement : Judgement) : Type 0 where
   pub font : FontData
   pub reads : Reads bytes font
@@ -32,10 +35,12 @@ pub record HoldSafeFont (bytes : List ℕ) : Type 0 where
   pub reads : Reads bytes font
   pub safe : IsSafeFont font
 
--- What is asked for is safe: the glyph program of `bare`, no digits being no bytes. For `verdict`, `find` and `check`, some bytes hold a safe
--- font: no contract of the runtime tells which bytes a file has, so that these can't be named here. A listing and an upgrade tell nothing of safety.
+-- What is asked for is safe: the glyph program of `bare`, no digits being no bytes. For `verdict`,
+-- `find` and `check`, some bytes hold a safe font: no contract of the runtime tells which bytes a
+-- file has, so that these can't be named here. A listing and an upgrade tell nothing of safety.
 abbrev pub IsSafeRequest : Request → Type 0
-IsSafeRequest (bare maxp cvt points contours program) = SpellSafeGlyph maxp cvt points contours (unwrap_or program [])
+IsSafeRequest (bare maxp cvt points contours program) =
+    SpellSafeGlyph maxp cvt points contours (unwrap_or program [])
 IsSafeRequest (verdict font) = (bytes : List ℕ) × HoldSafeFont bytes
 IsSafeRequest (find font certificate) = (bytes : List ℕ) × HoldSafeFont bytes
 IsSafeRequest (check font certificate) = (bytes : List ℕ) × HoldSafeFont bytes
@@ -48,15 +53,17 @@ pub record MeansSafe (words : List (List ℕ)) : Type 0 where
   pub meant : meaning words ≡ Some request
   pub safe : IsSafeRequest request
 
--- The words spell a `maxp` table and a glyph program for which no family of abstract states is good, in a font of only this glyph.
-pub record SpellRefusedGlyph (maxp : List ℕ) (cvt points contours : ℕ) (program : List ℕ) : Type 0 where
+-- The words spell a `maxp` table and a glyph program for which no family of abstract states is
+-- good, in a font of only this glyph.
+pub record SpellRefusedGlyph (maxp : List ℕ) (cvt points contours : ℕ)
+    (program : List ℕ) : Type 0 where
   pub table : List ℕ
   pub table_spelled : Spells maxp table
   pub glyph : GlyphData
   pub points_are : glyph.points ≡ points
   pub contours_are : glyph.contours ≡ contours
   pub program_spelled : Spells program glyph.program
-  pub none_good : HasGoodFamily (glyph_subject (font_of (one_glyph_font table cvt glyph) [] []) [] 0 glyph) → ⊥
+  pub none_good : HasGoodFamily (bare_subject table cvt glyph) → ⊥
 
 -- The bytes hold a font, and its verdict names refused programs.
 pub record HoldRefusedFont (bytes : List ℕ) : Type 0 where
@@ -71,9 +78,11 @@ pub record HoldFont (bytes : List ℕ) : Type 0 where
   pub font : FontData
   pub reads : Reads bytes font
 
--- The words spell a `maxp` table and a glyph program, of which the verdict is this one: it names no refused program exactly where a family of
--- abstract states is good for the glyph program, and otherwise that one, with what refuses it.
-pub record SpellVerdict (maxp : List ℕ) (cvt points contours : ℕ) (program : List ℕ) (judgement : Judgement) : Type 0 where
+-- The words spell a `maxp` table and a glyph program, of which the verdict is this one: it names no
+-- refused program exactly where a family of abstract states is good for the glyph program, and
+-- otherwise that one, with what refuses it.
+pub record SpellVerdict (maxp : List ℕ) (cvt points contours : ℕ) (program : List ℕ)
+    (judgement : Judgement) : Type 0 where
   pub table : List ℕ
   pub table_spelled : Spells maxp table
   pub glyph : GlyphData
@@ -82,30 +91,35 @@ pub record SpellVerdict (maxp : List ℕ) (cvt points contours : ℕ) (program :
   pub program_spelled : Spells program glyph.program
   pub one : judgement.programs ≡ 1
   pub few : length judgement.refused ≤ 1
-  pub exact : judgement.refused ≡ [] ↔ HasGoodFamily (glyph_subject (font_of (one_glyph_font table cvt glyph) [] []) [] 0 glyph)
-  pub refused : All (IsRefusal (glyph_subject (font_of (one_glyph_font table cvt glyph) [] []) [] 0 glyph)) judgement.refused
+  pub exact : judgement.refused ≡ [] ↔ HasGoodFamily (bare_subject table cvt glyph)
+  pub refused : All (IsRefusal (bare_subject table cvt glyph)) judgement.refused
 
--- The verdict is one on the programs of the font that is in the bytes; where it names none, the font is safe. No contract of the runtime tells which
--- ones a check by a certificate refuses, since it doesn't tell the bytes of that.
+-- The verdict is one on the programs of the font that is in the bytes; where it names none, the
+-- font is safe. No contract of the runtime tells which ones a check by a certificate refuses, since
+-- it doesn't tell the bytes of that.
 pub record IsCheckOn (bytes : List ℕ) (judgement : Judgement) : Type 0 where
   pub font : FontData
   pub reads : Reads bytes font
   pub programs : judgement.programs ≡ length font.glyphs + 2
   pub safe : judgement.refused ≡ [] → IsSafeFont font
 
--- The verdict is the one that is asked for: on the glyph program of `bare`; and for the others on a font that some bytes hold.
+-- The verdict is the one that is asked for: on the glyph program of `bare`; and for the others on a
+-- font that some bytes hold.
 abbrev pub IsVerdictAsked : Request → Judgement → Type 0
-IsVerdictAsked (bare maxp cvt points contours program) judgement = SpellVerdict maxp cvt points contours (unwrap_or program []) judgement
+IsVerdictAsked (bare maxp cvt points contours program) judgement =
+    SpellVerdict maxp cvt points contours (unwrap_or program []) judgement
 IsVerdictAsked (verdict font) judgement = (bytes : List ℕ) × IsVerdictOn bytes judgement
 IsVerdictAsked (find font certificate) judgement = (bytes : List ℕ) × IsVerdictOn bytes judgement
 IsVerdictAsked (check font certificate) judgement = (bytes : List ℕ) × IsCheckOn bytes judgement
 IsVerdictAsked (list font program) judgement = ⊥
 IsVerdictAsked (upgrade old new) judgement = ⊥
 
--- What is asked for is refused, as it is safe above; for `check` this tells no more than that some bytes hold a font. For `list`, some bytes hold a
--- font whose program of this name can't be cut or isn't structured. An upgrade is never refused.
+-- What is asked for is refused, as it is safe above; for `check` this tells no more than that some
+-- bytes hold a font. For `list`, some bytes hold a font whose program of this name can't be cut or
+-- isn't structured. An upgrade is never refused.
 abbrev pub IsRefusedRequest : Request → Type 0
-IsRefusedRequest (bare maxp cvt points contours program) = SpellRefusedGlyph maxp cvt points contours (unwrap_or program [])
+IsRefusedRequest (bare maxp cvt points contours program) =
+    SpellRefusedGlyph maxp cvt points contours (unwrap_or program [])
 IsRefusedRequest (verdict font) = (bytes : List ℕ) × HoldRefusedFont bytes
 IsRefusedRequest (find font certificate) = (bytes : List ℕ) × HoldRefusedFont bytes
 IsRefusedRequest (check font certificate) = (bytes : List ℕ) × HoldFont bytes
@@ -118,8 +132,9 @@ pub record MeansRefused (words : List (List ℕ)) : Type 0 where
   pub meant : meaning words ≡ Some request
   pub refused : IsRefusedRequest request
 
--- What an exit status tells of the words of a command line: they ask for something safe where it is 0 and they are taken, and for something
--- refused where it is 1; where it is more, they have a fault, which gives it, and otherwise, where they are taken, none.
+-- What an exit status tells of the words of a command line: they ask for something safe where it is
+-- 0 and they are taken, and for something refused where it is 1; where it is more, they have a
+-- fault, which gives it, and otherwise, where they are taken, none.
 pub record IsStatusOf (words : List (List ℕ)) (status : ℕ) : Type 0 where
   pub few : status ≤ 3
   pub safe : status ≡ 0 → is_taken words ≡ true → MeansSafe words

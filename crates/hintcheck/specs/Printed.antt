@@ -8,8 +8,8 @@ use Rattle.hintcheck.specs.Texts.{upgraded_line, verdict_text}
 use Rattle.hintcheck.specs.Upgrades.{IsNumberOfPrograms}
 use Rattle.hintcheck.specs.Verdicts.{Judgement}
 
--- The lines of the verdict that is asked for were written, where the written bytes are known: of one that refuses no program where the status is 0,
--- and of one that refuses some where it is 1.
+-- The lines of the verdict that is asked for were written, where the written bytes are known: of
+-- one that refuses no program where the status is 0, and of one that refuses some where it is 1.
 pub record PrintsVerdict (request : Request) (status : ℕ) (old new : Option (List ℕ)) : Type 0 where
   pub judgement : Judgement
   pub given : IsVerdictAsked request judgement
@@ -17,28 +17,33 @@ pub record PrintsVerdict (request : Request) (status : ℕ) (old new : Option (L
   pub refused : status ≡ 1 → judgement.refused ≢ []
   pub written : Appends old new (verdict_text judgement)
 
--- Some bytes hold a font, and the word is the name of a program of it: its lines were written where the status is 0, and where it is 1 the line that
--- tells why it isn't listed.
+-- Some bytes hold a font, and the word is the name of a program of it: its lines were written where
+-- the status is 0, and where it is 1 the line that tells why it isn't listed.
 pub record PrintsListing (word : List ℕ) (status : ℕ) (old new : Option (List ℕ)) : Type 0 where
   pub bytes : List ℕ
   pub listed : status ≡ 0 → HoldListedProgram bytes word old new
   pub told : status ≡ 1 → HoldToldProgram bytes word old new
 
--- the line of an upgrade was written, whose certificate has a section for each program that a font may have
+-- the line of an upgrade was written, whose certificate has a section for each program that a font
+-- may have
 abbrev pub PrintsUpgrade : Option (List ℕ) → Option (List ℕ) → Type 0
-PrintsUpgrade old new = (count : ℕ) × IsNumberOfPrograms count × Appends old new (upgraded_line count)
+PrintsUpgrade old new =
+    (count : ℕ) × IsNumberOfPrograms count × Appends old new (upgraded_line count)
 
 -- What was asked for is answered in these lines.
 abbrev pub Prints : Request → ℕ → Option (List ℕ) → Option (List ℕ) → Type 0
-Prints (bare maxp cvt points contours program) status old new = PrintsVerdict (bare maxp cvt points contours program) status old new
+Prints (bare maxp cvt points contours program) status old new =
+    PrintsVerdict (bare maxp cvt points contours program) status old new
 Prints (verdict font) status old new = PrintsVerdict (verdict font) status old new
 Prints (find font certificate) status old new = PrintsVerdict (find font certificate) status old new
-Prints (check font certificate) status old new = PrintsVerdict (check font certificate) status old new
+Prints (check font certificate) status old new =
+    PrintsVerdict (check font certificate) status old new
 Prints (list font program) status old new = PrintsListing program status old new
 Prints (upgrade before after) status old new = PrintsUpgrade old new
 
 -- The words ask for something, which is answered in these lines.
-pub record MeansPrinted (words : List (List ℕ)) (status : ℕ) (old new : Option (List ℕ)) : Type 0 where
+pub record MeansPrinted (words : List (List ℕ)) (status : ℕ)
+    (old new : Option (List ℕ)) : Type 0 where
   pub request : Request
   pub meant : meaning words ≡ Some request
   pub printed : Prints request status old new

@@ -1,4 +1,4 @@
--- What the look at one program returns, and what is reported of it.
+-- What the verdict on one program is, and what is reported of it.
 use Rattle.std.specs.Prelude.{◌≡◌, ℕ, List, [], ◌∷◌, ◌++◌, Option, Some}
 use Rattle.tt_code.specs.Cut.{Instruction}
 use Rattle.tt_code.specs.declared.reason.Reason.{Reason}
@@ -7,27 +7,31 @@ use Rattle.tt_abs.specs.declared.state.State.{State}
 use Rattle.tt_abs.specs.Settings.{setting_of}
 use Rattle.tt_abs.specs.Soundness.{IsSafe}
 use Rattle.tt_abs.specs.StateFlow.{FitsLimits, Place}
-use Rattle.tt_cert.specs.Fillings.{IsFilling}
+use Rattle.tt_cert.specs.Contents.{Contents, family_of}
+use Rattle.tt_cert.specs.Fillings.{HasGoodFilling, IsFilling}
 use Rattle.tt_cert.specs.GoodFamilies.{IsGoodFamily}
 use Rattle.tt_cert.specs.declared.fault.ProgramFault.{ProgramFault}
 use Rattle.tt_cert.specs.declared.fault.ProgramFault.TheVariants.{Refused, OutOfMemory}
 use Rattle.tt_cert.specs.declared.spot.Spot.{Spot}
 use Rattle.tt_find.specs.Found.{IsLeast}
-use Rattle.hintcheck.specs.Programs.{IsCutInto, Subject, program_at}
+use Rattle.hintcheck.specs.Certificates.{IsGoodListing}
+use Rattle.hintcheck.specs.Programs.{HasGoodFamily, IsCutInto, IsRefusal, Subject, program_at}
+use Rattle.tt_cert_file.specs.declared.form.Form.{Form}
 use Rattle.tt_cert_file.specs.declared.name.Name.{Name}
 use Rattle.hintcheck.specs.declared.program.Search.{Search}
 use Rattle.hintcheck.specs.declared.program.Search.TheVariants as search
 use Rattle.hintcheck.specs.declared.report.Refused.{Refused as AnyRefused}
 
--- this is the program that is looked at in this setting
-pub record IsLookedAt (x : Subject) (s : Setting) : Type 0 where
+-- this is the program of this setting
+pub record IsSubjectOf (x : Subject) (s : Setting) : Type 0 where
   pub cut : IsCutInto x s.main.now
   pub setting : x.setting s.main.now ≡ setting_of s
   pub functions : x.functions ≡ s.start.now
 
--- The program has these instructions, and the family's filling is good for it, the least that is, and within the font's limits; so every
--- machine that a run comes to is covered, and doesn't fault.
-pub record IsAccepted (x : Subject) (instructions : List Instruction) (family : Place → Option State) : Type 0 where
+-- The program has these instructions, and the family's filling is good for it, the least that is,
+-- and within the font's limits; so every machine that a run comes to is covered, and doesn't fault.
+pub record IsAccepted (x : Subject) (instructions : List Instruction)
+    (family : Place → Option State) : Type 0 where
   pub cut : IsCutInto x instructions
   pub filling : Place → Option State
   pub fills : IsFilling (x.setting instructions) family filling
@@ -37,20 +41,38 @@ pub record IsAccepted (x : Subject) (instructions : List Instruction) (family : 
   pub safe : IsSafe (x.setting instructions) x.functions filling
 
 -- what is reported of a program by this name that is refused at a place
-abbrev pub told_at : Name → Spot → ℕ → Reason → AnyRefused
-told_at called spot offset r = record { program = called; place = record { program = program_at called spot; offset = offset }; reason = r }
+abbrev pub reported_at : Name → Spot → ℕ → Reason → AnyRefused
+reported_at called spot offset r =
+    record { program = called; place = record { program = program_at called spot; offset = offset }; reason = r }
 
--- the same of what is reported of a program by this name, where the fault refuses it; out of memory is unspecified
+-- the same of what is reported of a program by this name, where the fault refuses it; out of memory
+-- is unspecified
 abbrev pub IfRefused : Name → ProgramFault → (AnyRefused → Type 0) → Type 0
-IfRefused called (Refused spot offset r) Is = Is (told_at called spot offset r)
+IfRefused called (Refused spot offset r) Is = Is (reported_at called spot offset r)
 IfRefused called (OutOfMemory e) Is = Unit {0}
+
+-- the fault names why the program is refused; out of memory is unspecified
+abbrev pub IsFaultOfProgram : Subject → ProgramFault → Type 0
+IsFaultOfProgram x fault = IfRefused x.name fault (IsRefusal x)
+
+-- where the fault refuses the program, no family is good for it
+abbrev pub NoneIsGoodFor : Subject → ProgramFault → Type 0
+NoneIsGoodFor x fault = IfRefused x.name fault (λ _. HasGoodFamily x → ⊥)
+
+-- the family has a good filling in this setting
+abbrev pub IsFilledIn : Setting → Contents → Type 0
+IsFilledIn s family = HasGoodFilling (setting_of s) s.start.now (family_of family)
+
+-- the family is good in this setting, as a certificate of this form lists it
+abbrev pub IsListedIn : Form → Setting → Contents → Type 0
+IsListedIn form s family = IsGoodListing form (setting_of s) s.start.now family
 
 -- the fault refuses a program by this name, which is last in the list
 abbrev pub IsListed : Name → ProgramFault → List AnyRefused → List AnyRefused → Type 0
-IsListed called (Refused spot offset r) old new = new ≡ old ++ told_at called spot offset r ∷ []
+IsListed called (Refused spot offset r) old new = new ≡ old ++ reported_at called spot offset r ∷ []
 IsListed called (OutOfMemory e) old new = ⊥
 
--- a program is looked at for its certificate
+-- a family is searched for a certificate
 abbrev pub IsForCertificate : Search → Type 0
 IsForCertificate search.Verdict = ⊥
 IsForCertificate search.Certificate = Unit {0}

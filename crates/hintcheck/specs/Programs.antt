@@ -1,4 +1,5 @@
--- A program that is looked at, what it means that it has a family of abstract states, and why it is refused.
+-- A program as it is checked, what it means that it has a family of abstract states, and why it is
+-- refused.
 use Rattle.std.specs.Prelude.{◌≡◌, ◌⊎◌, ℕ, List, [], Option, Some}
 use Rattle.tt_code.specs.Cut.{Instruction, IsCut, CannotBeCut, size}
 use Rattle.tt_code.specs.Grammar.{IsStructured, IsFault}
@@ -16,8 +17,9 @@ use Rattle.tt_cert_file.specs.declared.name.Name.{Name}
 use Rattle.tt_cert_file.specs.declared.name.Name.TheVariants as name
 use Rattle.hintcheck.specs.declared.report.Refused.{Refused}
 
--- A program that is looked at: its name; its bytes; what it is checked against, once its instructions are known; and the functions that
--- are known to be defined where it starts, by ascending numbers, each with its body.
+-- A program as it is checked: its name; its bytes; what it is checked against, once its
+-- instructions are known; and the functions that are known to be defined where it starts, by
+-- ascending numbers, each with its body.
 pub record Subject : Type 0 where
   pub name : Name
   pub bytes : List ℕ
@@ -45,7 +47,8 @@ pub record HasLeastFamily (x : Subject) : Type 0 where
   pub least : IsLeast (x.setting instructions) x.functions family
 
 -- of its instructions and its least family: these functions are known where it ends
-pub record EndsWith (x : Subject) (instructions : List Instruction) (functions : List (ℕ × ℕ)) : Type 0 where
+pub record EndsWith (x : Subject) (instructions : List Instruction)
+    (functions : List (ℕ × ℕ)) : Type 0 where
   pub cut : IsCutInto x instructions
   pub family : Place → Option State
   pub good : IsGoodFamily (x.setting instructions) x.functions family
@@ -54,10 +57,12 @@ pub record EndsWith (x : Subject) (instructions : List Instruction) (functions :
   pub at_end : family ([], size instructions) ≡ Some end
   pub functions_are : end.functions ≡ functions
 
--- Why a program is refused, and where: it can't be cut; its structure is at fault; no family is found for it.
+-- Why a program is refused, and where: it can't be cut; its structure is at fault; no family is
+-- found for it.
 pub data IsCause (x : Subject) : Place → Reason → Type 0 where
   no_cut : (offset : ℕ) → CannotBeCut x.bytes offset → IsCause x ([], offset) reason.CannotCut
-  no_structure : (instructions : List Instruction) (offset : ℕ) → IsCut x.bytes instructions → IsFault instructions offset
+  no_structure : (instructions : List Instruction) (offset : ℕ) → IsCut x.bytes instructions
+      → IsFault instructions offset
       → IsCause x ([], offset) reason.Structure
   no_family : (instructions : List Instruction) (p : Place) (r : Reason) → IsCutInto x instructions
       → IsJustified (x.setting instructions) x.functions p r → IsCause x p r
@@ -68,8 +73,8 @@ program_at x spot.Main = x
 program_at x spot.Font = name.Font
 program_at x spot.Prep = name.Cvt
 
--- The program is refused: a cause is named with its place, and the program has no least family; for each cause except that it never ends, it has
--- no good one either.
+-- The program is refused: a cause is named with its place, and the program has no least family; for
+-- each cause except that it never ends, it has no good one either.
 pub record IsRefusal (x : Subject) (r : Refused) : Type 0 where
   pub program : r.program ≡ x.name
   pub at : Place

@@ -16,18 +16,22 @@ place_text p = text_of p.program ++ (codes ":" ++ decimal p.offset)
 
 -- which program is refused, where and why, as `refused g12 at g12:73: 26 underflow`
 abbrev pub refused_text : Refused → List ℕ
-refused_text r = codes "refused " ++ (text_of r.program ++ (codes " at " ++ (place_text r.place ++ (codes ": " ++
+refused_text r =
+    codes "refused " ++ (text_of r.program ++ (codes " at " ++ (place_text r.place ++ (codes ": " ++
     (decimal (number_of r.reason) ++ (codes " " ++ reason_text r.reason))))))
 
 -- a line for each refused program
 abbrev pub refused_lines : List Refused → List ℕ
 refused_lines rs = flat_map (λ r. refused_text r ++ codes "\n") rs
 
--- the last line where a program is refused: the font program or the CVT program, which end the look, or this many of the glyph programs
+-- the last line where a program is refused: the font program or the CVT program, which end the
+-- verdict, or this many of the glyph programs
 abbrev pub refused_line : ℕ → ℕ → Name → List ℕ
 refused_line count programs name.Font = codes "refused: font program\n"
 refused_line count programs name.Cvt = codes "refused: cvt program\n"
-refused_line count programs (name.Glyph id) = codes "refused: " ++ (decimal count ++ (codes " of " ++ (decimal programs ++ codes " programs\n")))
+refused_line count programs (name.Glyph id) =
+    codes "refused: " ++ (decimal count
+    ++ (codes " of " ++ (decimal programs ++ codes " programs\n")))
 
 -- the last line of a verdict
 abbrev pub end_line : ℕ → List Refused → List ℕ

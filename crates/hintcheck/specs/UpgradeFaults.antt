@@ -18,7 +18,8 @@ abbrev pub fault_of_new : EncodeFault → UpgradeFault
 fault_of_new encode.Write = upgrade.Write
 fault_of_new (encode.OutOfMemory error) = upgrade.OutOfMemory error
 
--- What holds of an answer, or of the place that a fault of form names; a failed read or write and out of memory are unspecified.
+-- What holds of an answer, or of the place that a fault of form names; a failed read or write and
+-- out of memory are unspecified.
 abbrev pub ComesTo : {T : Type 0} → Result T UpgradeFault → (T → Type 0) → (ℕ → Type 0) → Type 0
 ComesTo (Ok x) Is At = Is x
 ComesTo (Err (upgrade.Form place)) Is At = At place

@@ -1,13 +1,12 @@
 //! The verdict on one program.
 
 ghost use Rattle.std.specs.Prelude.{◌≡◌, ◌≤◌, ◌<◌, ◌^◌, ◌⊎◌, ◌↔◌, [], All, IfErr, IfOk, None, OnOk, length};
-ghost use Rattle.hintcheck.specs.FontPrograms.{IsSafeGlyph, font_of, glyph_subject, one_glyph_font};
-ghost use Rattle.hintcheck.specs.BarePrograms.{IsJudged, IsMemory, font_around};
+ghost use Rattle.hintcheck.specs.FontPrograms.{IsSafeGlyph, glyph_subject};
+ghost use Rattle.hintcheck.specs.BarePrograms.{IsJudged, IsMemory, bare_font, bare_subject, font_around, glyph_with};
 ghost use Rattle.hintcheck.specs.Programs.{HasGoodFamily, IsRefusal};
 ghost use Rattle.tt_code.specs.Faults.{IsMemory as IsMemoryAlone};
-ghost use Rattle.tt_font.specs.Reading.{GlyphData};
+ghost use Rattle.tt_font.specs.Reading.{GlyphData, glyph_data};
 ghost use Rattle.tt_font.specs.Conditions.{maxp_fault};
-ghost use Rattle.tt_font.specs.GlyphParts.{glyph_data};
 
 use crate::font::{Common, judge_glyph};
 use crate::program::{Search, list_refused};
@@ -40,7 +39,8 @@ fn empty_program(alloc: Global) -> Result<Program<'static>, AllocError>
     }
 }
 
-/// Returns the refused ones of the only program, that of the glyph `g0` in a font whose font program and CVT program are empty.
+/// Returns the refused ones of the only program, that of the glyph `g0` in a font whose font
+/// program and CVT program are empty.
 fn refused_programs(
     alloc: Global,
     limits: Limits,
@@ -48,7 +48,8 @@ fn refused_programs(
     glyph: &GlyphPart<'_>,
 ) -> Result<Vec<Refused>, AllocError>
     requires { length glyph.now.program.now < 2 ^ 31 }
-    ensures { IfOk result (λ refused. IsJudged (glyph_subject (font_around limits cvt) [] 0 (glyph_data glyph.now)) refused.items) }
+    ensures { IfOk result (λ refused. IsJudged
+        (glyph_subject (font_around limits cvt) [] 0 (glyph_data glyph.now)) refused.items) }
 {
     let empty = empty_program(alloc)?;
     let font_setting = Setting::for_font_program(limits, u32::from(cvt), &empty);
@@ -65,9 +66,9 @@ fn refused_programs(
     Ok(refused)
 }
 
-/// Returns the verdict on one glyph program, `g0`, of at most 65,535 bytes, in a font whose font program and CVT program are empty:
-/// against the limits of a `maxp` table, a number of control values, and a glyph's numbers of points, without the four
-/// phantom points, and contours.
+/// Returns the verdict on one glyph program, `g0`, of at most 65,535 bytes, in a font whose font
+/// program and CVT program are empty: against the limits of a `maxp` table, a number of control
+/// values, and a glyph's numbers of points, without the four phantom points, and contours.
 ///
 /// # Errors
 /// The faults of `read_maxp`; `OutOfMemory`.
@@ -80,15 +81,16 @@ pub fn bare(
     program: &[u8],
 ) -> Result<Verdict, FontFault>
     requires { length program.now ≤ 65535 }
-    ensures accepted { let glyph : GlyphData = record { points = points; contours = contours; program = program.now } in
-        IfOk result (λ v. v.refused ≡ [] → IsSafeGlyph (font_of (one_glyph_font maxp.now cvt glyph) [] []) glyph) }
-    ensures exact { let glyph : GlyphData = record { points = points; contours = contours; program = program.now } in
-        IfOk result (λ v. v.refused ≡ [] ↔ HasGoodFamily (glyph_subject (font_of (one_glyph_font maxp.now cvt glyph) [] []) [] 0 glyph)) }
-    ensures refused { let glyph : GlyphData = record { points = points; contours = contours; program = program.now } in
-        IfOk result (λ v. All (IsRefusal (glyph_subject (font_of (one_glyph_font maxp.now cvt glyph) [] []) [] 0 glyph)) v.refused) }
+    ensures accepted { let glyph : GlyphData = glyph_with points contours program.now in
+        IfOk result (λ v. v.refused ≡ [] → IsSafeGlyph (bare_font maxp.now cvt glyph) glyph) }
+    ensures exact { let glyph : GlyphData = glyph_with points contours program.now in
+        IfOk result (λ v. v.refused ≡ [] ↔ HasGoodFamily (bare_subject maxp.now cvt glyph)) }
+    ensures refused { let glyph : GlyphData = glyph_with points contours program.now in
+        IfOk result (λ v. All (IsRefusal (bare_subject maxp.now cvt glyph)) v.refused) }
     ensures one { IfOk result (λ v. (v.programs ≡ 1) × (length v.refused ≤ 1)) }
     ensures fields { OnOk result (maxp_fault maxp.now ≡ None) }
-    ensures faults { IfErr result (λ e. (maxp_fault maxp.now ≡ Some e) ⊎ (IsMemory e × (maxp_fault maxp.now ≡ None))) }
+    ensures faults { IfErr result
+        (λ e. (maxp_fault maxp.now ≡ Some e) ⊎ (IsMemory e × (maxp_fault maxp.now ≡ None))) }
 {
     let limits = read_maxp(maxp)?;
     let glyph = GlyphPart {

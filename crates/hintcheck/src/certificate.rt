@@ -6,9 +6,9 @@ ghost use Rattle.tt_font.specs.Reading.{FontData, Reads};
 ghost use Rattle.hintcheck.specs.CertificateFaults.{CountsFind, IsNoFaultOfFont, TestsInFind, WritesNothing};
 ghost use Rattle.hintcheck.specs.CertificateTexts.{IsPassingCertificate, WritesBeginning, WritesText};
 ghost use Rattle.hintcheck.specs.FindingSessions.{BeginsCertificate, IsCertificateBegun};
-ghost use Rattle.hintcheck.specs.FontVerdicts.{AreAllRefused};
+ghost use Rattle.hintcheck.specs.Representation.FontVerdicts.{AreAllRefused};
 ghost use Rattle.hintcheck.specs.FontPrograms.{IsFontInRange, IsSafeFont, IsVerdict};
-ghost use Rattle.hintcheck.specs.SessionStages.{AreSectionsFrom, AreSomeSections};
+ghost use Rattle.hintcheck.specs.Representation.SessionStages.{AreSectionsFrom, AreSomeSections};
 ghost use Rattle.hintcheck.specs.Sessions.{at_start};
 
 use crate::font::{read_font, refused_programs};
@@ -72,7 +72,8 @@ impl From<EncodeFault> for FindFontFault {
     }
 }
 
-/// Writes the sections of a font's programs, none of which is refused. Each program's family is found once more, so that one is held at a time.
+/// Writes the sections of a font's programs, none of which is refused. Each program's family is
+/// found once more, so that one is held at a time.
 fn write_sections<W: Sink>(
     alloc: Global,
     font: &Font<'_>,
@@ -80,17 +81,19 @@ fn write_sections<W: Sink>(
 ) -> Result<(), FindFontFault>
     requires range { IsFontInRange font.now }
     requires accepted { AreAllRefused font.now [] }
-    ensures written { OnOk result (WritesText (W.contents sink.old) (W.contents sink.new) (AreSectionsFrom font.now at_start)) }
-    ensures begun { OnErr result (WritesBeginning (W.contents sink.old) (W.contents sink.new) (AreSomeSections font.now)) }
+    ensures written { OnOk result (WritesText (W.contents sink.old) (W.contents sink.new)
+        (AreSectionsFrom font.now at_start)) }
+    ensures begun { OnErr result (WritesBeginning (W.contents sink.old) (W.contents sink.new)
+        (AreSomeSections font.now)) }
     ensures failures { CountsFind result (W.failures sink.old) (W.failures sink.new) }
     ensures font { IfErr result IsNoFaultOfFont }
 {
     let mut session = Session::new(font);
     let mut finder = Finder::new(alloc);
-    while let Some((outcome, found)) = session.look_next(alloc, &mut finder, Search::Writing)? {
-        // No program was refused at the first look, so none is now.
+    while let Some((outcome, found)) = session.search_next(alloc, &mut finder, Search::Writing)? {
+        // No program was refused when the families were found first, so none is now.
         let found = found.unwrap();
-        found.certificate.is_in_order();
+        found.certificate.order_facts();
         encode(alloc, outcome.program, &found.certificate, sink)?;
         finder.take_back(found.certificate);
     }
@@ -105,8 +108,10 @@ fn write_certificate<W: Sink>(
 ) -> Result<(), FindFontFault>
     requires range { IsFontInRange font.now }
     requires accepted { AreAllRefused font.now [] }
-    ensures written { OnOk result (WritesText (W.contents sink.old) (W.contents sink.new) (IsPassingCertificate font.now)) }
-    ensures begun { OnErr result (WritesBeginning (W.contents sink.old) (W.contents sink.new) (IsCertificateBegun font.now)) }
+    ensures written { OnOk result (WritesText (W.contents sink.old) (W.contents sink.new)
+        (IsPassingCertificate font.now)) }
+    ensures begun { OnErr result (WritesBeginning (W.contents sink.old) (W.contents sink.new)
+        (IsCertificateBegun font.now)) }
     ensures failures { CountsFind result (W.failures sink.old) (W.failures sink.new) }
     ensures font { IfErr result IsNoFaultOfFont }
 {
@@ -114,7 +119,8 @@ fn write_certificate<W: Sink>(
     write_sections(alloc, font, sink)
 }
 
-/// Returns the verdict on the programs of a font that was read, whose certificate is written where no program is refused.
+/// Returns the verdict on the programs of a font that was read, whose certificate is written where
+/// no program is refused.
 pub(crate) fn find_programs<W: Sink>(
     alloc: Global,
     font: &Font<'_>,
@@ -122,9 +128,11 @@ pub(crate) fn find_programs<W: Sink>(
 ) -> Result<Verdict, FindFontFault>
     requires { IsFontInRange font.now }
     ensures exact { IfOk result (λ v. IsVerdict font.now v) }
-    ensures written { IfOk result (λ v. v.refused ≡ [] → WritesText (W.contents sink.old) (W.contents sink.new) (IsPassingCertificate font.now)) }
-    ensures begun { OnErr result (WritesBeginning (W.contents sink.old) (W.contents sink.new) (IsCertificateBegun font.now)) }
-    ensures unwritten { IfOk result (λ v. WritesNothing (W.contents sink.old) (W.contents sink.new) v) }
+    ensures written { IfOk result (λ v. v.refused ≡ []
+        → WritesText (W.contents sink.old) (W.contents sink.new) (IsPassingCertificate font.now)) }
+    ensures begun { OnErr result (WritesBeginning (W.contents sink.old) (W.contents sink.new)
+        (IsCertificateBegun font.now)) }
+    ensures unwritten { IfOk result (WritesNothing (W.contents sink.old) (W.contents sink.new)) }
     ensures failures { CountsFind result (W.failures sink.old) (W.failures sink.new) }
     ensures font { IfErr result IsNoFaultOfFont }
 {
@@ -135,26 +143,33 @@ pub(crate) fn find_programs<W: Sink>(
     Ok(Verdict::new(u32::from(font.glyph_count()) + 2, refused))
 }
 
-/// Returns the verdict on the programs of a font file, as `verdict` gives it. Where no program is refused, the font's certificate is written to the
-/// sink: the family that was found for each program, without the states that can be left out. Where one is, nothing is written.
+/// Returns the verdict on the programs of a font file, as `verdict` gives it. Where no program is
+/// refused, the font's certificate is written to the sink: the family that was found for each
+/// program, without the states that can be left out. Where one is, nothing is written.
 ///
 /// # Errors
-/// The faults of `Font::read`; `Write` exactly where a write failed; `OutOfMemory`. With the last two a beginning of the certificate was written,
-/// perhaps an empty one.
+/// The faults of `Font::read`; `Write` exactly where a write failed; `OutOfMemory`. With the last
+/// two a beginning of the certificate was written, perhaps an empty one.
 pub fn find_font<W: Sink>(
     alloc: Global,
     font: &[u8],
     sink: &mut W,
 ) -> Result<Verdict, FindFontFault>
-    ensures exact { IfOk result (λ v. (d : FontData) × Reads font.now d × IsVerdict d v × (v.refused ≡ [] → IsSafeFont d)) }
-    // Where no program is refused, what is appended is the certificate of the least families, and the check of the font by it refuses nothing.
+    ensures exact { IfOk result (λ v. (d : FontData) × Reads font.now d × IsVerdict d v
+        × (v.refused ≡ [] → IsSafeFont d)) }
+    // Where no program is refused, what is appended is the certificate of the least families, and
+    // the check of the font by it refuses nothing.
     ensures written { IfOk result (λ v. v.refused ≡ []
-        → (d : FontData) × Reads font.now d × WritesText (W.contents sink.old) (W.contents sink.new) (IsPassingCertificate d)) }
-    ensures unwritten { IfOk result (λ v. WritesNothing (W.contents sink.old) (W.contents sink.new) v) }
-    // After a fault a beginning of the certificate was written: of the header and of the sections that were made.
-    ensures begun { OnErr result (BeginsCertificate font.now (W.contents sink.old) (W.contents sink.new)) }
+        → (d : FontData) × Reads font.now d
+        × WritesText (W.contents sink.old) (W.contents sink.new) (IsPassingCertificate d)) }
+    ensures unwritten { IfOk result (WritesNothing (W.contents sink.old) (W.contents sink.new)) }
+    // After a fault a beginning of the certificate was written: of the header and of the sections
+    // that were made.
+    ensures begun { OnErr result
+        (BeginsCertificate font.now (W.contents sink.old) (W.contents sink.new)) }
     ensures failures { CountsFind result (W.failures sink.old) (W.failures sink.new) }
-    // A fault of the font is the first one of its bytes, unless memory ran out; any other answer means that they have none.
+    // A fault of the font is the first one of its bytes, unless memory ran out; any other answer
+    // means that they have none.
     ensures faults { TestsInFind (font_fault font.now) result }
 {
     let read = read_font(alloc, font)?;

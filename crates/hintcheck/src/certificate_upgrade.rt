@@ -1,7 +1,7 @@
 //! Old certificates, written again in the newest form.
 
-ghost use Rattle.std.specs.Prelude.{◌≡◌, ℕ, ◌+◌, ◌<◌, ◌≤◌, ◌^◌, List, [], IfErr, IfOk, Ok, Err, OnErr, Some, length};
-ghost use Rattle.tt_cert_file.specs.Answers.{AreBytes, input_at};
+ghost use Rattle.std.specs.Prelude.{◌≡◌, ◌<◌, ◌≤◌, ◌^◌, [], IfErr, IfOk, Ok, Err, OnErr, Some, length};
+ghost use Rattle.tt_cert_file.specs.Answers.{AreBytes};
 ghost use Rattle.tt_cert_file.specs.Readers.{place_after};
 ghost use Rattle.tt_font.specs.Reading.{FontData};
 ghost use Rattle.tt_stream.specs.Reads.{ConsumesBeginning};
@@ -11,6 +11,7 @@ ghost use Rattle.hintcheck.specs.CheckedFonts.{IsTold, bytes_in};
 ghost use Rattle.hintcheck.specs.FailedReads.{HasReadOld, IsUnbrokenOld};
 ghost use Rattle.hintcheck.specs.Upgrades.{AreBegun, AreUpgraded, IsNumberOfPrograms, IsUpgradeBegunOf, IsUpgradeOf, LackSection, UpgradesTo, name_at};
 ghost use Rattle.hintcheck.specs.UpgradeFaults.{ComesTo, CountsReads, CountsWrites};
+ghost use Rattle.hintcheck.specs.Representation.ReadProgress.{input_from};
 
 use crate::report::Name;
 use crate::sections::{HEADER, Progress, SECTIONS, next_section};
@@ -19,7 +20,8 @@ use thiserror::Error;
 use tt_cert_file::{DecodeFault, EncodeFault, encode, read_end, read_header, write_header};
 use tt_stream::{Sink, Source};
 
-/// How many sections a certificate has at least: those of a font program, a CVT program and no glyph.
+/// How many sections a certificate has at least: those of a font program, a CVT program and no
+/// glyph.
 const FEWEST: u32 = 2;
 
 /// How many sections a certificate has at most: a font has up to 65,535 glyphs.
@@ -28,7 +30,8 @@ const MOST: u32 = 65_537;
 /// Why a certificate isn't upgraded.
 #[derive(Debug, Drop, Error)]
 pub enum UpgradeFault {
-    /// The bytes are no certificate of any font: the place of the first byte of what is wrong, or of their end where that comes too early.
+    /// The bytes are no certificate of any font: the place of the first byte of what is wrong, or
+    /// of their end where that comes too early.
     #[error("certificate form at byte {0}")]
     Form(u64),
     /// The old certificate can't be read.
@@ -93,14 +96,20 @@ fn upgrade_section<S: Source, W: Sink>(
 ) -> Result<(), UpgradeFault>
     requires { number < 65537 }
     ensures section { IsTold (S.remaining source.old) → ComesTo result
-        (λ _. IsTold (S.remaining source.new) × AreUpgraded progress.old.form number 1 (input_at progress.old.place (S.remaining source.old)) (input_at progress.new.place (S.remaining source.new)) (W.contents sink.old) (W.contents sink.new))
-        (HasNoSection progress.old.form (input_at progress.old.place (S.remaining source.old)) (name_at number)) }
+        (λ _. IsTold (S.remaining source.new) × AreUpgraded progress.old.form number 1
+        (input_from progress.old (S.remaining source.old))
+        (input_from progress.new (S.remaining source.new))
+        (W.contents sink.old) (W.contents sink.new))
+        (HasNoSection progress.old.form (input_from progress.old (S.remaining source.old))
+        (name_at number)) }
     ensures begun { IsTold (S.remaining source.old) → OnErr result
-        (AreBegun progress.old.form number 1 (input_at progress.old.place (S.remaining source.old)) (W.contents sink.old) (W.contents sink.new)) }
+        (AreBegun progress.old.form number 1 (input_from progress.old (S.remaining source.old))
+        (W.contents sink.old) (W.contents sink.new)) }
     ensures form { progress.new.form ≡ progress.old.form }
     ensures beginning { ConsumesBeginning (S.remaining source.old) (S.remaining source.new) }
     ensures stopped { IfErr result (HasReadOld (S.remaining source.old) (S.remaining source.new)
-        (λ front. HasNoSection progress.old.form (input_at progress.old.place (Some front)) (name_at number) (place_after progress.old.place (length front)))) }
+        (λ front. HasNoSection progress.old.form (input_from progress.old (Some front))
+        (name_at number) (place_after progress.old.place (length front)))) }
     ensures reads { CountsReads result (S.failures source.old) (S.failures source.new) }
     ensures writes { CountsWrites result (W.failures sink.old) (W.failures sink.new) }
 {
@@ -120,13 +129,19 @@ fn upgrade_sections<S: Source, W: Sink>(
 ) -> Result<(), UpgradeFault>
     requires { count ≤ 65537 }
     ensures sections { IsTold (S.remaining source.old) → ComesTo result
-        (λ _. IsTold (S.remaining source.new) × AreUpgraded progress.old.form 0 count (input_at progress.old.place (S.remaining source.old)) (input_at progress.new.place (S.remaining source.new)) (W.contents sink.old) (W.contents sink.new))
-        (LackSection progress.old.form 0 count (input_at progress.old.place (S.remaining source.old))) }
+        (λ _. IsTold (S.remaining source.new) × AreUpgraded progress.old.form 0 count
+        (input_from progress.old (S.remaining source.old))
+        (input_from progress.new (S.remaining source.new))
+        (W.contents sink.old) (W.contents sink.new))
+        (LackSection progress.old.form 0 count
+        (input_from progress.old (S.remaining source.old))) }
     ensures begun { IsTold (S.remaining source.old) → OnErr result
-        (AreBegun progress.old.form 0 count (input_at progress.old.place (S.remaining source.old)) (W.contents sink.old) (W.contents sink.new)) }
+        (AreBegun progress.old.form 0 count (input_from progress.old (S.remaining source.old))
+        (W.contents sink.old) (W.contents sink.new)) }
     ensures beginning { ConsumesBeginning (S.remaining source.old) (S.remaining source.new) }
     ensures stopped { IfErr result (HasReadOld (S.remaining source.old) (S.remaining source.new)
-        (λ front. LackSection progress.old.form 0 count (input_at progress.old.place (Some front)) (place_after progress.old.place (length front)))) }
+        (λ front. LackSection progress.old.form 0 count (input_from progress.old (Some front))
+        (place_after progress.old.place (length front)))) }
     ensures reads { CountsReads result (S.failures source.old) (S.failures source.new) }
     ensures writes { CountsWrites result (W.failures sink.old) (W.failures sink.new) }
 {
@@ -136,36 +151,49 @@ fn upgrade_sections<S: Source, W: Sink>(
     Ok(())
 }
 
-/// Reads a certificate of any form, which is all that is left in the source, and writes one of the newest form: with the same sections, of the same
-/// names and families. Returns how many sections there are. One of them is held at a time.
+/// Reads a certificate of any form, which is all that is left in the source, and writes one of the
+/// newest form: with the same sections, of the same names and families. Returns how many sections
+/// there are. One of them is held at a time.
 ///
 /// # Errors
-/// `Form` where the bytes are no certificate of any font; `Read` exactly where a read failed; `Write` exactly where a write failed; `OutOfMemory`.
-/// Then a beginning of the new certificate was written, perhaps an empty one.
+/// `Form` where the bytes are no certificate of any font; `Read` exactly where a read failed;
+/// `Write` exactly where a write failed; `OutOfMemory`. Then a beginning of the new certificate was
+/// written, perhaps an empty one.
 pub fn upgrade<S: Source, W: Sink>(
     alloc: Global,
     source: &mut S,
     sink: &mut W,
 ) -> Result<u32, UpgradeFault>
-    // How many sections the bytes have, where the source tells them, or the place at which they are no certificate.
+    // How many sections the bytes have, where the source tells them, or the place at which they are
+    // no certificate.
     ensures exact { IsTold (S.remaining source.old) → ComesTo result
-        (λ count. UpgradesTo (bytes_in (S.remaining source.old)) (Ok count)) (λ place. UpgradesTo (bytes_in (S.remaining source.old)) (Err place)) }
+        (λ count. UpgradesTo (bytes_in (S.remaining source.old)) (Ok count))
+        (λ place. UpgradesTo (bytes_in (S.remaining source.old)) (Err place)) }
     // A font may have this many programs, whatever the source tells.
     ensures number { IfOk result IsNumberOfPrograms }
     // What is appended is the certificate of form 4 with the sections that were read.
     ensures written { IsTold (S.remaining source.old)
-        → IfOk result (λ _. WritesText (W.contents sink.old) (W.contents sink.new) (IsUpgradeOf (bytes_in (S.remaining source.old)))) }
-    // Where the check of a font by the bytes refuses nothing, they are a certificate, and the check by what is appended refuses nothing either.
-    ensures accepts { IsTold (S.remaining source.old) → AreBytes (bytes_in (S.remaining source.old)) → (d : FontData) → length d.glyphs < 2 ^ 16
+        → IfOk result (λ _. WritesText (W.contents sink.old) (W.contents sink.new)
+        (IsUpgradeOf (bytes_in (S.remaining source.old)))) }
+    // Where the check of a font by the bytes refuses nothing, they are a certificate, and the check
+    // by what is appended refuses nothing either.
+    ensures accepts { IsTold (S.remaining source.old) → AreBytes (bytes_in (S.remaining source.old))
+        → (d : FontData) → length d.glyphs < 2 ^ 16
         → IsChecked d (bytes_in (S.remaining source.old)) (Ok []) → ComesTo result
-        (λ _. WritesText (W.contents sink.old) (W.contents sink.new) (λ text. IsChecked d text (Ok []))) (λ _. ⊥) }
-    // Whatever comes of it, a beginning of the old certificate was read; and after a fault a beginning of the new one was written, as far as that can
-    // be made of the sections that were read.
+        (λ _. WritesText (W.contents sink.old) (W.contents sink.new)
+        (λ text. IsChecked d text (Ok [])))
+        (λ _. ⊥) }
+    // Whatever comes of it, a beginning of the old certificate was read; and after a fault a
+    // beginning of the new one was written, as far as that can be made of the sections that were
+    // read.
     ensures beginning { ConsumesBeginning (S.remaining source.old) (S.remaining source.new) }
     ensures begun { IsTold (S.remaining source.old)
-        → OnErr result (WritesBeginning (W.contents sink.old) (W.contents sink.new) (IsUpgradeBegunOf (bytes_in (S.remaining source.old)))) }
-    // Where a read failed, what was read is at fault nowhere but at its end: no unit that was read whole breaks a rule.
-    ensures whole_units { IfErr result (HasReadOld (S.remaining source.old) (S.remaining source.new) IsUnbrokenOld) }
+        → OnErr result (WritesBeginning (W.contents sink.old) (W.contents sink.new)
+        (IsUpgradeBegunOf (bytes_in (S.remaining source.old)))) }
+    // Where a read failed, what was read is at fault nowhere but at its end: no unit that was read
+    // whole breaks a rule.
+    ensures whole_units { IfErr result
+        (HasReadOld (S.remaining source.old) (S.remaining source.new) IsUnbrokenOld) }
     ensures reads { CountsReads result (S.failures source.old) (S.failures source.new) }
     ensures writes { CountsWrites result (W.failures sink.old) (W.failures sink.new) }
 {

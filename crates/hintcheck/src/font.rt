@@ -1,20 +1,19 @@
 //! The verdict on a font.
 
-ghost use Rattle.std.specs.Prelude.{◌≡◌, ℕ, ◌<◌, ◌^◌, List, [], IfErr, IfOk, length};
+ghost use Rattle.std.specs.Prelude.{◌≡◌, ℕ, ◌<◌, ◌^◌, [], IfErr, IfOk, length};
 ghost use Rattle.tt_abs.specs.Entries.{Rises};
 ghost use Rattle.tt_abs.specs.Settings.{programs_of, setting_of};
 ghost use Rattle.tt_abs.specs.StateFlow.{FunctionsFit};
-ghost use Rattle.tt_code.specs.Cut.{Instruction};
 ghost use Rattle.tt_code.specs.Fonts.{cvt_setting as setting_of_cvt_program, font_setting};
 ghost use Rattle.tt_font.specs.Conditions.{TestsWithMemory};
 ghost use Rattle.tt_font.specs.FileFaults.{font_fault};
-ghost use Rattle.tt_font.specs.GlyphParts.{glyph_data};
 ghost use Rattle.tt_font.specs.Reading.{FontData, Reads};
-ghost use Rattle.hintcheck.specs.FindingSessions.{IsFoundFor, IsFoundToEnd};
-ghost use Rattle.hintcheck.specs.FontVerdicts.{AreAllRefused, ComesToEnd, IsKnownAtEnd, IsOfSubject, font_in, subject_in};
-ghost use Rattle.hintcheck.specs.FontPrograms.{AreRefused, IsFontInRange, IsSafeFont, IsVerdict, cvt_subject, font_of, font_subject};
-ghost use Rattle.hintcheck.specs.ProgramVerdicts.{IfRefused, IsForCertificate, IsListed, IsLookedAt};
-ghost use Rattle.hintcheck.specs.Programs.{HasGoodFamily, HasLeastFamily, IsRefusal, Subject};
+ghost use Rattle.hintcheck.specs.FindingSessions.{IsFound, IsFoundToEnd};
+ghost use Rattle.hintcheck.specs.Representation.FontVerdicts.{AreAllRefused, ComesToEnd, HasSubject, IsKnownAtEnd, font_in, glyph_in};
+ghost use Rattle.hintcheck.specs.FontPrograms.{AreRefused, IsFontInRange, IsSafeFont, IsVerdict, font_of, font_subject};
+ghost use Rattle.hintcheck.specs.ProgramVerdicts.{IsFaultOfProgram, IsForCertificate, IsListed, IsSubjectOf, NoneIsGoodFor};
+ghost use Rattle.hintcheck.specs.Programs.{HasLeastFamily, Subject};
+ghost use Rattle.hintcheck.specs.Representation.ProgramEnds.{IsFoundEnd, IsKnownEnd, cvt_after};
 
 use crate::program::{Search, cut, find_and_check, list_refused};
 use crate::report::{Name, Refused, Verdict};
@@ -25,21 +24,24 @@ use tt_code::Program;
 use tt_find::{Finder, Found};
 use tt_font::{Font, FontFault, GlyphPart};
 
-/// Looks at the font program or the CVT program of this setting: returns what is found for it, and the functions that are known where it ends.
+/// Finds the family of the font program or the CVT program of this setting: returns what is found,
+/// and the functions that are known where it ends.
 fn find_to_end(
     alloc: Global,
     finder: &mut Finder,
     setting: &Setting<'_>,
     search: Search,
 ) -> Result<(Vec<(u16, u32)>, Found), ProgramFault>
-    requires subject { IsOfSubject setting.now }
+    requires subject { HasSubject setting.now }
     requires ends { ComesToEnd (setting_of setting.now).kind }
     requires rises { Rises setting.now.start.now }
     requires fits { FunctionsFit (setting_of setting.now) setting.now.start.now }
-    ensures known { (x : Subject) → IsLookedAt x setting.now → IfOk result (λ e. IsKnownAtEnd x setting.now.main.now e.0.items) }
-    ensures found { IsForCertificate search → (x : Subject) → IsLookedAt x setting.now
+    ensures known { (x : Subject) → IsSubjectOf x setting.now
+        → IfOk result (λ e. IsKnownAtEnd x setting.now.main.now e.0.items) }
+    ensures found { IsForCertificate search → (x : Subject) → IsSubjectOf x setting.now
         → IfOk result (λ e. IsFoundToEnd x setting.now.main.now e.1 e.0.items) }
-    ensures refused { (x : Subject) → IsLookedAt x setting.now → IfErr result (λ fault. IfRefused x.name fault (IsRefusal x)) }
+    ensures refused { (x : Subject) → IsSubjectOf x setting.now
+        → IfErr result (IsFaultOfProgram x) }
 {
     let found = find_and_check(alloc, finder, setting, search)?;
     // An accepted font program or CVT program has a state at its end.
@@ -48,14 +50,15 @@ fn find_to_end(
     Ok((copy, found))
 }
 
-/// A font program or a CVT program, and the functions that are known where it ends, by ascending number.
+/// A font program or a CVT program, and the functions that are known where it ends, by ascending
+/// number.
 #[derive(Drop)]
 pub(crate) struct Ended<'a> {
     pub(crate) program: Program<'a>,
     pub(crate) functions: Vec<(u16, u32)>,
 }
 
-/// Looks at the font program: returns what is known where it ends, and what is found for it.
+/// Finds the family of the font program: returns what is known where it ends, and what is found.
 ///
 /// # Errors
 /// `Refused`; `OutOfMemory`.
@@ -66,10 +69,10 @@ pub(crate) fn find_font_program<'a>(
     search: Search,
 ) -> Result<(Ended<'a>, Found), ProgramFault>
     requires { IsFontInRange font.now }
-    ensures known { IfOk result (λ e. IsKnownAtEnd (font_subject font.now) e.0.program e.0.functions.items) }
+    ensures known { IfOk result (λ e. IsKnownEnd (font_subject font.now) e.0) }
     ensures found { IsForCertificate search
-        → IfOk result (λ e. IsFoundToEnd (font_subject font.now) e.0.program e.1 e.0.functions.items) }
-    ensures refused { IfErr result (λ fault. IfRefused Name.Font fault (IsRefusal (font_subject font.now))) }
+        → IfOk result (λ e. IsFoundEnd (font_subject font.now) e.0 e.1) }
+    ensures refused { IfErr result (IsFaultOfProgram (font_subject font.now)) }
 {
     let program = cut(alloc, font.fpgm())?;
     let setting = Setting::for_font_program(font.limits(), font.cvt_count(), &program);
@@ -77,14 +80,17 @@ pub(crate) fn find_font_program<'a>(
     Ok((Ended { program, functions }, found))
 }
 
-/// Returns the setting of the CVT program, which starts with the functions that are known where the font program ends.
+/// Returns the setting of the CVT program, which starts with the functions that are known where the
+/// font program ends.
 pub(crate) fn cvt_setting<'a>(
     font: &Font<'_>,
     fpgm: &'a Ended<'_>,
     program: &'a Program<'_>,
 ) -> Setting<'a>
-    ensures setting { setting_of result ≡ setting_of_cvt_program (font_of font.now fpgm.entry.now.program program.entry.now) }
-    ensures programs { programs_of result ≡ font_of font.now fpgm.entry.now.program program.entry.now }
+    ensures setting { setting_of result
+        ≡ setting_of_cvt_program (font_of font.now fpgm.entry.now.program program.entry.now) }
+    ensures programs { programs_of result
+        ≡ font_of font.now fpgm.entry.now.program program.entry.now }
     ensures main { result.main.now ≡ program.entry.now }
     ensures start { result.start.now ≡ fpgm.entry.now.functions.items }
 {
@@ -92,7 +98,8 @@ pub(crate) fn cvt_setting<'a>(
     setting.for_cvt_program(program, &fpgm.functions)
 }
 
-/// Looks at the CVT program, in a font with this font program: returns what is known where it ends, and what is found for it.
+/// Finds the family of the CVT program, in a font with this font program: returns what is known
+/// where it ends, and what is found.
 ///
 /// # Errors
 /// `Refused`; `OutOfMemory`.
@@ -104,11 +111,11 @@ pub(crate) fn find_cvt_program<'a>(
     search: Search,
 ) -> Result<(Ended<'a>, Found), ProgramFault>
     requires range { IsFontInRange font.now }
-    requires ended { IsKnownAtEnd (font_subject font.now) fpgm.now.program fpgm.now.functions.items }
-    ensures known { IfOk result (λ e. IsKnownAtEnd (cvt_subject font.now fpgm.now.program fpgm.now.functions.items) e.0.program e.0.functions.items) }
+    requires ended { IsKnownEnd (font_subject font.now) fpgm.now }
+    ensures known { IfOk result (λ e. IsKnownEnd (cvt_after font.now fpgm.now) e.0) }
     ensures found { IsForCertificate search
-        → IfOk result (λ e. IsFoundToEnd (cvt_subject font.now fpgm.now.program fpgm.now.functions.items) e.0.program e.1 e.0.functions.items) }
-    ensures refused { IfErr result (λ fault. IfRefused Name.Cvt fault (IsRefusal (cvt_subject font.now fpgm.now.program fpgm.now.functions.items))) }
+        → IfOk result (λ e. IsFoundEnd (cvt_after font.now fpgm.now) e.0 e.1) }
+    ensures refused { IfErr result (IsFaultOfProgram (cvt_after font.now fpgm.now)) }
 {
     let program = cut(alloc, font.prep())?;
     let setting = cvt_setting(font, fpgm, &program);
@@ -116,15 +123,15 @@ pub(crate) fn find_cvt_program<'a>(
     Ok((Ended { program, functions }, found))
 }
 
-/// What the glyph programs of a font share: the setting of its CVT program, and the functions that are known where that one ends, by
-/// ascending number.
+/// What the glyph programs of a font share: the setting of its CVT program, and the functions that
+/// are known where that one ends, by ascending number.
 #[derive(Clone, Copy)]
 pub(crate) struct Common<'a> {
     pub(crate) setting: Setting<'a>,
     pub(crate) functions: &'a [(u16, u32)],
 }
 
-/// Looks at the program of a glyph: returns what is found for it.
+/// Finds the family of a glyph program: returns what is found.
 ///
 /// # Errors
 /// `Refused`; `OutOfMemory`.
@@ -138,11 +145,13 @@ pub(crate) fn find_glyph_program(
     requires few { length glyph.now.program.now < 2 ^ 31 }
     requires rises { Rises common.now.functions.now }
     requires fits { FunctionsFit (font_setting (font_in common.now)) common.now.functions.now }
-    ensures least { (id : ℕ) → IfOk result (λ _. HasLeastFamily (subject_in common.now id (glyph_data glyph.now))) }
+    ensures least { (id : ℕ)
+        → IfOk result (λ _. HasLeastFamily (glyph_in common.now id glyph.now)) }
     ensures found { IsForCertificate search → (id : ℕ)
-        → IfOk result (λ found. (instructions : List Instruction) × IsFoundFor (subject_in common.now id (glyph_data glyph.now)) instructions found) }
-    ensures refused { (id : ℕ) → IfErr result (λ fault. IfRefused (Name.Glyph id) fault (IsRefusal (subject_in common.now id (glyph_data glyph.now)))) }
-    ensures none_good { (id : ℕ) → IfErr result (λ fault. IfRefused (Name.Glyph id) fault (λ _. HasGoodFamily (subject_in common.now id (glyph_data glyph.now)) → ⊥)) }
+        → IfOk result (IsFound (glyph_in common.now id glyph.now)) }
+    ensures refused { (id : ℕ)
+        → IfErr result (IsFaultOfProgram (glyph_in common.now id glyph.now)) }
+    ensures none_good { (id : ℕ) → IfErr result (NoneIsGoodFor (glyph_in common.now id glyph.now)) }
 {
     let program = cut(alloc, glyph.program)?;
     let setting = common
@@ -151,7 +160,8 @@ pub(crate) fn find_glyph_program(
     find_and_check(alloc, finder, &setting, search)
 }
 
-/// Looks at the program of a glyph, if it has instructions, in a finder's memory, which the finder gets back unless memory runs out.
+/// Judges the program of a glyph, if it has instructions, in a finder's memory, which the finder
+/// gets back unless memory runs out.
 ///
 /// # Errors
 /// `Refused`; `OutOfMemory`.
@@ -165,9 +175,11 @@ pub(crate) fn judge_glyph(
     requires few { length glyph.now.program.now < 2 ^ 31 }
     requires rises { Rises common.now.functions.now }
     requires fits { FunctionsFit (font_setting (font_in common.now)) common.now.functions.now }
-    ensures least { (id : ℕ) → IfOk result (λ _. HasLeastFamily (subject_in common.now id (glyph_data glyph.now))) }
-    ensures refused { (id : ℕ) → IfErr result (λ fault. IfRefused (Name.Glyph id) fault (IsRefusal (subject_in common.now id (glyph_data glyph.now)))) }
-    ensures none_good { (id : ℕ) → IfErr result (λ fault. IfRefused (Name.Glyph id) fault (λ _. HasGoodFamily (subject_in common.now id (glyph_data glyph.now)) → ⊥)) }
+    ensures least { (id : ℕ)
+        → IfOk result (λ _. HasLeastFamily (glyph_in common.now id glyph.now)) }
+    ensures refused { (id : ℕ)
+        → IfErr result (IsFaultOfProgram (glyph_in common.now id glyph.now)) }
+    ensures none_good { (id : ℕ) → IfErr result (NoneIsGoodFor (glyph_in common.now id glyph.now)) }
 {
     // A glyph without instructions: nothing can be refused.
     if glyph.program.is_empty() {
@@ -178,7 +190,7 @@ pub(crate) fn judge_glyph(
     Ok(())
 }
 
-/// Looks at each glyph program: returns the refused ones, by ascending numbers of their glyphs.
+/// Judges each glyph program: returns the refused ones, by ascending numbers of their glyphs.
 fn refused_glyphs(
     alloc: Global,
     finder: &mut Finder,
@@ -189,7 +201,8 @@ fn refused_glyphs(
     requires range { IsFontInRange font.now }
     requires rises { Rises common.now.functions.now }
     requires fits { FunctionsFit (font_setting (font_in common.now)) common.now.functions.now }
-    ensures { IfOk result (λ refused. AreRefused (font_in common.now) common.now.functions.now 0 font.now.glyphs refused.items) }
+    ensures { IfOk result (λ refused. AreRefused (font_in common.now) common.now.functions.now 0
+        font.now.glyphs refused.items) }
 {
     let mut refused = Vec::new(alloc);
     for id in 0..font.glyph_count() {
@@ -202,7 +215,8 @@ fn refused_glyphs(
     Ok(refused)
 }
 
-/// Returns the program of this name as the only refused one: the fault refuses it, and ends the look.
+/// Returns the program of this name as the only refused one: the fault refuses it, and ends the
+/// verdict.
 fn refused_alone(alloc: Global, name: Name, fault: ProgramFault) -> Result<Vec<Refused>, AllocError>
     ensures { IfOk result (λ refused. IsListed name fault [] refused.items) }
 {
@@ -211,7 +225,8 @@ fn refused_alone(alloc: Global, name: Name, fault: ProgramFault) -> Result<Vec<R
     Ok(refused)
 }
 
-/// Looks at the programs of a font, one after the other, each in the memory of those before: returns the refused ones, in their order.
+/// Judges the programs of a font, one after the other, each in the memory of those before:
+/// returns the refused ones, in their order.
 pub(crate) fn refused_programs(
     alloc: Global,
     font: &Font<'_>,
@@ -222,12 +237,12 @@ pub(crate) fn refused_programs(
 {
     let mut finder = Finder::new(alloc);
     let (fpgm, found) = match find_font_program(alloc, &mut finder, font, search) {
-        Ok(looked_at) => looked_at,
+        Ok(answer) => answer,
         Err(fault) => return refused_alone(alloc, Name::Font, fault),
     };
     finder.take_back(found.certificate);
     let (prep, found) = match find_cvt_program(alloc, &mut finder, font, &fpgm, search) {
-        Ok(looked_at) => looked_at,
+        Ok(answer) => answer,
         Err(fault) => return refused_alone(alloc, Name::Cvt, fault),
     };
     finder.take_back(found.certificate);
@@ -250,14 +265,16 @@ pub fn read_font<'a>(alloc: Global, bytes: &'a [u8]) -> Result<Font<'a>, FontFau
     Font::read(alloc, bytes)
 }
 
-/// Returns the verdict on the programs of a font file: on the font program, then on the CVT program, then on each glyph program. The CVT program
-/// starts with the functions that are known where the font program ends, and a glyph program with those that are known where the CVT
-/// program ends. A refused font program or CVT program ends the look; a refused glyph program doesn't.
+/// Returns the verdict on the programs of a font file: on the font program, then on the CVT
+/// program, then on each glyph program. The CVT program starts with the functions that are known
+/// where the font program ends, and a glyph program with those that are known where the CVT program
+/// ends. A refused font program or CVT program ends the verdict; a refused glyph program doesn't.
 ///
 /// # Errors
 /// The faults of `Font::read`; `OutOfMemory`.
 pub fn verdict(alloc: Global, font: &[u8]) -> Result<Verdict, FontFault>
-    ensures exact { IfOk result (λ v. (d : FontData) × Reads font.now d × IsVerdict d v × (v.refused ≡ [] → IsSafeFont d)) }
+    ensures exact { IfOk result (λ v. (d : FontData) × Reads font.now d × IsVerdict d v
+        × (v.refused ≡ [] → IsSafeFont d)) }
     ensures faults { TestsWithMemory (font_fault font.now) result }
 {
     let read = read_font(alloc, font)?;

@@ -1,27 +1,23 @@
 //! The check of a font by its certificate: each program by the family that its section lists.
 
-ghost use Rattle.std.specs.Prelude.{◌≡◌, ℕ, ◌+◌, ◌<◌, ◌^◌, List, [], IfErr, IfOk, Ok, Err, OnOk, length};
-ghost use Rattle.tt_code.specs.Cut.{Instruction};
+ghost use Rattle.std.specs.Prelude.{◌≡◌, ℕ, ◌+◌, ◌<◌, ◌^◌, [], IfErr, IfOk, Ok, Err, OnOk, length};
 ghost use Rattle.tt_abs.specs.Entries.{Rises};
 ghost use Rattle.tt_abs.specs.Settings.{setting_of};
 ghost use Rattle.tt_cert.specs.Checks.{IsOutOfMemory, Names};
-ghost use Rattle.tt_cert.specs.Contents.{family_of};
-ghost use Rattle.tt_cert.specs.Fillings.{HasGoodFilling};
-ghost use Rattle.tt_cert_file.specs.Answers.{input_at};
 ghost use Rattle.tt_font.specs.FileFaults.{font_fault};
-ghost use Rattle.tt_font.specs.GlyphParts.{glyph_data};
 ghost use Rattle.tt_font.specs.Reading.{FontData, Reads};
 ghost use Rattle.tt_stream.specs.Reads.{ConsumesBeginning};
 ghost use Rattle.hintcheck.specs.CertificateFaults.{CountsCheck, IsNoFontFault, TestsInCheck};
-ghost use Rattle.hintcheck.specs.Certificates.{IsChecked, IsGoodListing, IsListingBrokenFirst, Passes, PassesToEnd};
-ghost use Rattle.hintcheck.specs.CheckedFonts.{AnswersFinding, Finds, HasGoodFamilies, IsGoodAtEnd, IsRefusedBy, IsTold, bytes_in};
+ghost use Rattle.hintcheck.specs.Certificates.{IsChecked, IsListingBrokenFirst, PassesToEnd};
+ghost use Rattle.hintcheck.specs.CheckedFonts.{AnswersFinding, Finds, HasGoodFamilies, IsGoodAtEnd, IsPassed, IsRefusedBy, IsTold, bytes_in};
 ghost use Rattle.hintcheck.specs.FailedReads.{HasRead, IsCutHeader, IsUnbroken, IsUnbrokenFor};
-ghost use Rattle.hintcheck.specs.FontVerdicts.{ComesToEnd, IsOfSubject, subject_in};
-ghost use Rattle.hintcheck.specs.FontPrograms.{IsFontInRange, IsSafeFont, cvt_subject, font_subject};
-ghost use Rattle.hintcheck.specs.ProgramVerdicts.{IsLookedAt};
+ghost use Rattle.hintcheck.specs.Representation.FontVerdicts.{ComesToEnd, HasSubject, glyph_in};
+ghost use Rattle.hintcheck.specs.FontPrograms.{IsFontInRange, IsSafeFont, font_subject};
+ghost use Rattle.hintcheck.specs.ProgramVerdicts.{IsFilledIn, IsListedIn, IsSubjectOf};
 ghost use Rattle.hintcheck.specs.Programs.{HasGoodFamily, Subject};
-ghost use Rattle.hintcheck.specs.SessionStages.{HasHeader, ListsOutcome};
+ghost use Rattle.hintcheck.specs.Representation.SessionStages.{HasHeader, ListsOutcome};
 ghost use Rattle.hintcheck.specs.Sessions.{IsHeaderFault};
+ghost use Rattle.hintcheck.specs.Representation.ProgramEnds.{IsGoodEnd, IsPassedEnd, cvt_after};
 
 use crate::font::{Common, Ended, cvt_setting, read_font};
 use crate::program::cut;
@@ -42,8 +38,8 @@ pub enum CheckFontFault {
     /// The font's own fault.
     #[error(transparent)]
     Font(FontFault),
-    /// The bytes are no certificate for the font: the place of the first byte of what is wrong, or of the certificate's end where that comes too
-    /// early.
+    /// The bytes are no certificate for the font: the place of the first byte of what is wrong, or
+    /// of the certificate's end where that comes too early.
     #[error("certificate form at byte {0}")]
     Form(u64),
     /// The certificate can't be read.
@@ -96,10 +92,13 @@ pub(crate) fn read_start<S: Source>(
     font: &Font<'_>,
     source: &mut S,
 ) -> Result<Progress, CheckFontFault>
-    ensures header { IsTold (S.remaining source.old) → Finds result (λ p. IsTold (S.remaining source.new) × (p.place ≡ 10)
-        × HasHeader font.now p.form (S.remaining source.old) (S.remaining source.new)) (IsHeaderFault font.now (S.remaining source.old)) }
+    ensures header { IsTold (S.remaining source.old) → Finds result
+        (λ p. IsTold (S.remaining source.new) × (p.place ≡ 10)
+        × HasHeader font.now p.form (S.remaining source.old) (S.remaining source.new))
+        (IsHeaderFault font.now (S.remaining source.old)) }
     ensures beginning { ConsumesBeginning (S.remaining source.old) (S.remaining source.new) }
-    ensures stopped { IfErr result (HasRead (S.remaining source.old) (S.remaining source.new) IsCutHeader) }
+    ensures stopped { IfErr result
+        (HasRead (S.remaining source.old) (S.remaining source.new) IsCutHeader) }
     ensures failures { CountsCheck result (S.failures source.old) (S.failures source.new) }
     ensures font { IfErr result IsNoFontFault }
 {
@@ -113,7 +112,8 @@ pub(crate) fn read_start<S: Source>(
     })
 }
 
-/// Checks a program by its section of this form: a family that lists each state is checked as a whole.
+/// Checks a program by its section of this form: a family that lists each state is checked as a
+/// whole.
 ///
 /// # Errors
 /// `Refused` where the family has no good filling, or isn't good as a whole; `OutOfMemory`.
@@ -124,10 +124,11 @@ fn check_section(
     form: Form,
 ) -> Result<(), ProgramFault>
     requires { Rises setting.now.start.now }
-    ensures good { OnOk result (HasGoodFilling (setting_of setting.now) setting.now.start.now (family_of certificate.now)) }
-    ensures listing { OnOk result (IsGoodListing form (setting_of setting.now) setting.now.start.now certificate.now) }
-    ensures first { IfErr result (Names (IsListingBrokenFirst form (setting_of setting.now) setting.now.start.now certificate.now)) }
-    ensures exact { IsGoodListing form (setting_of setting.now) setting.now.start.now certificate.now → IfErr result IsOutOfMemory }
+    ensures good { OnOk result (IsFilledIn setting.now certificate.now) }
+    ensures listing { OnOk result (IsListedIn form setting.now certificate.now) }
+    ensures first { IfErr result (Names (IsListingBrokenFirst form (setting_of setting.now)
+        setting.now.start.now certificate.now)) }
+    ensures exact { IsListedIn form setting.now certificate.now → IfErr result IsOutOfMemory }
 {
     match form {
         Form::One => check_full(alloc, setting, certificate),
@@ -135,20 +136,23 @@ fn check_section(
     }
 }
 
-/// Returns the functions that are known where the font program or the CVT program of this setting ends, by its certificate.
+/// Returns the functions that are known where the font program or the CVT program of this setting
+/// ends, by its certificate.
 fn certified_functions(
     alloc: Global,
     setting: &Setting<'_>,
     certificate: &Certificate,
     form: Form,
 ) -> Result<Vec<(u16, u32)>, ProgramFault>
-    requires subject { IsOfSubject setting.now }
+    requires subject { HasSubject setting.now }
     requires ends { ComesToEnd (setting_of setting.now).kind }
     requires rises { Rises setting.now.start.now }
-    ensures known { (x : Subject) → IsLookedAt x setting.now → IfOk result (λ functions. IsGoodAtEnd x setting.now.main.now functions.items) }
-    ensures passed { (x : Subject) → IsLookedAt x setting.now
-        → IfOk result (λ functions. PassesToEnd form x setting.now.main.now certificate.now functions.items) }
-    ensures refused { (x : Subject) → IsLookedAt x setting.now → IfErr result (IsRefusedBy form x certificate.now) }
+    ensures known { (x : Subject) → IsSubjectOf x setting.now
+        → IfOk result (λ functions. IsGoodAtEnd x setting.now.main.now functions.items) }
+    ensures passed { (x : Subject) → IsSubjectOf x setting.now → IfOk result
+        (λ functions. PassesToEnd form x setting.now.main.now certificate.now functions.items) }
+    ensures refused { (x : Subject) → IsSubjectOf x setting.now
+        → IfErr result (IsRefusedBy form x certificate.now) }
 {
     check_section(alloc, setting, certificate, form)?;
     // A checked font program or CVT program has a state at its end.
@@ -167,8 +171,8 @@ pub(crate) fn check_font_program<'a>(
     form: Form,
 ) -> Result<Ended<'a>, ProgramFault>
     requires { IsFontInRange font.now }
-    ensures known { IfOk result (λ fpgm. IsGoodAtEnd (font_subject font.now) fpgm.program fpgm.functions.items) }
-    ensures passed { IfOk result (λ fpgm. PassesToEnd form (font_subject font.now) fpgm.program certificate.now fpgm.functions.items) }
+    ensures known { IfOk result (IsGoodEnd (font_subject font.now)) }
+    ensures passed { IfOk result (IsPassedEnd form (font_subject font.now) certificate.now) }
     ensures refused { IfErr result (IsRefusedBy form (font_subject font.now) certificate.now) }
 {
     let program = cut(alloc, font.fpgm())?;
@@ -190,9 +194,10 @@ pub(crate) fn check_cvt_program<'a>(
 ) -> Result<Ended<'a>, ProgramFault>
     requires range { IsFontInRange font.now }
     requires rises { Rises fpgm.now.functions.items }
-    ensures known { IfOk result (λ prep. IsGoodAtEnd (cvt_subject font.now fpgm.now.program fpgm.now.functions.items) prep.program prep.functions.items) }
-    ensures passed { IfOk result (λ prep. PassesToEnd form (cvt_subject font.now fpgm.now.program fpgm.now.functions.items) prep.program certificate.now prep.functions.items) }
-    ensures refused { IfErr result (IsRefusedBy form (cvt_subject font.now fpgm.now.program fpgm.now.functions.items) certificate.now) }
+    ensures known { IfOk result (IsGoodEnd (cvt_after font.now fpgm.now)) }
+    ensures passed { IfOk result (IsPassedEnd form (cvt_after font.now fpgm.now) certificate.now) }
+    ensures refused { IfErr result
+        (IsRefusedBy form (cvt_after font.now fpgm.now) certificate.now) }
 {
     let program = cut(alloc, font.prep())?;
     let setting = cvt_setting(font, fpgm, &program);
@@ -213,9 +218,11 @@ pub(crate) fn check_glyph_program(
 ) -> Result<(), ProgramFault>
     requires few { length glyph.now.program.now < 2 ^ 31 }
     requires rises { Rises common.now.functions.now }
-    ensures good { (id : ℕ) → OnOk result (HasGoodFamily (subject_in common.now id (glyph_data glyph.now))) }
-    ensures passed { (id : ℕ) → OnOk result ((instructions : List Instruction) × Passes form (subject_in common.now id (glyph_data glyph.now)) instructions certificate.now) }
-    ensures refused { (id : ℕ) → IfErr result (IsRefusedBy form (subject_in common.now id (glyph_data glyph.now)) certificate.now) }
+    ensures good { (id : ℕ) → OnOk result (HasGoodFamily (glyph_in common.now id glyph.now)) }
+    ensures passed { (id : ℕ)
+        → OnOk result (IsPassed form (glyph_in common.now id glyph.now) certificate.now) }
+    ensures refused { (id : ℕ)
+        → IfErr result (IsRefusedBy form (glyph_in common.now id glyph.now) certificate.now) }
 {
     let program = cut(alloc, glyph.program)?;
     let setting = common
@@ -234,7 +241,8 @@ fn list_outcome(refused: &mut Vec<Refused>, outcome: Outcome) -> Result<(), Allo
     Ok(())
 }
 
-/// Checks the programs of a font, one after the other, by the sections that the source still has: returns the refused ones, in their order.
+/// Checks the programs of a font, one after the other, by the sections that the source still has:
+/// returns the refused ones, in their order.
 fn check_programs<S: Source>(
     alloc: Global,
     font: &Font<'_>,
@@ -242,10 +250,12 @@ fn check_programs<S: Source>(
 ) -> Result<Vec<Refused>, CheckFontFault>
     requires { IsFontInRange font.now }
     ensures good { IfOk result (λ refused. refused.items ≡ [] → HasGoodFamilies font.now) }
-    ensures exact { IsTold (S.remaining source.old) → Finds result (λ refused. IsChecked font.now (bytes_in (S.remaining source.old)) (Ok refused.items))
+    ensures exact { IsTold (S.remaining source.old) → Finds result
+        (λ refused. IsChecked font.now (bytes_in (S.remaining source.old)) (Ok refused.items))
         (λ place. IsChecked font.now (bytes_in (S.remaining source.old)) (Err place)) }
     ensures beginning { ConsumesBeginning (S.remaining source.old) (S.remaining source.new) }
-    ensures whole_units { IfErr result (HasRead (S.remaining source.old) (S.remaining source.new) (IsUnbroken font.now)) }
+    ensures whole_units { IfErr result
+        (HasRead (S.remaining source.old) (S.remaining source.new) (IsUnbroken font.now)) }
     ensures failures { CountsCheck result (S.failures source.old) (S.failures source.new) }
     ensures font { IfErr result IsNoFontFault }
 {
@@ -266,10 +276,12 @@ pub(crate) fn check_read_font<S: Source>(
     requires { IsFontInRange font.now }
     ensures safe { IfOk result (λ v. v.refused ≡ [] → IsSafeFont font.now) }
     ensures programs { IfOk result (λ v. v.programs ≡ length font.now.glyphs + 2) }
-    ensures exact { IsTold (S.remaining source.old) → Finds result (AnswersFinding font.now (bytes_in (S.remaining source.old)))
+    ensures exact { IsTold (S.remaining source.old) → Finds result
+        (AnswersFinding font.now (bytes_in (S.remaining source.old)))
         (λ place. IsChecked font.now (bytes_in (S.remaining source.old)) (Err place)) }
     ensures beginning { ConsumesBeginning (S.remaining source.old) (S.remaining source.new) }
-    ensures whole_units { IfErr result (HasRead (S.remaining source.old) (S.remaining source.new) (IsUnbroken font.now)) }
+    ensures whole_units { IfErr result
+        (HasRead (S.remaining source.old) (S.remaining source.new) (IsUnbroken font.now)) }
     ensures failures { CountsCheck result (S.failures source.old) (S.failures source.new) }
     ensures font { IfErr result IsNoFontFault }
 {
@@ -277,13 +289,15 @@ pub(crate) fn check_read_font<S: Source>(
     Ok(Verdict::new(u32::from(font.glyph_count()) + 2, refused))
 }
 
-/// Returns the verdict on the programs of a font file by its certificate, which is all that is left in the source: each program is checked by the
-/// family that its section lists, and where the certificate came from isn't trusted. The CVT program starts with the functions that are known
-/// where the font program ends, and a glyph program with those that are known where the CVT program ends. A refused font program or CVT program
-/// ends the check; a refused glyph program doesn't.
+/// Returns the verdict on the programs of a font file by its certificate, which is all that is left
+/// in the source: each program is checked by the family that its section lists, and where the
+/// certificate came from isn't trusted. The CVT program starts with the functions that are known
+/// where the font program ends, and a glyph program with those that are known where the CVT program
+/// ends. A refused font program or CVT program ends the check; a refused glyph program doesn't.
 ///
 /// # Errors
-/// The faults of `Font::read`; `Form` where the bytes are no certificate for the font; `Read` exactly where a read failed; `OutOfMemory`.
+/// The faults of `Font::read`; `Form` where the bytes are no certificate for the font; `Read`
+/// exactly where a read failed; `OutOfMemory`.
 pub fn check_font<S: Source>(
     alloc: Global,
     font: &[u8],
@@ -292,18 +306,27 @@ pub fn check_font<S: Source>(
     // Whatever comes of it, a beginning of the certificate was read.
     ensures beginning { ConsumesBeginning (S.remaining source.old) (S.remaining source.new) }
     // Where no program is refused, no run of any of them reaches a fault.
-    ensures safe { IfOk result (λ v. (d : FontData) × Reads font.now d × (v.refused ≡ [] → IsSafeFont d)) }
-    // What the check comes to, where the source tells its bytes: the refused programs, or the place at which the bytes are no certificate.
+    ensures safe { IfOk result (λ v. (d : FontData) × Reads font.now d
+        × (v.refused ≡ [] → IsSafeFont d)) }
+    // What the check comes to, where the source tells its bytes: the refused programs, or the place
+    // at which the bytes are no certificate.
     ensures exact { IsTold (S.remaining source.old) → Finds result
-        (λ v. (d : FontData) × Reads font.now d × AnswersFinding d (bytes_in (S.remaining source.old)) v)
-        (λ place. (d : FontData) × Reads font.now d × IsChecked d (bytes_in (S.remaining source.old)) (Err place)) }
-    // Where the check of the font by the bytes refuses nothing, no program is refused and the form isn't at fault: `find_font` writes such bytes.
+        (λ v. (d : FontData) × Reads font.now d
+        × AnswersFinding d (bytes_in (S.remaining source.old)) v)
+        (λ place. (d : FontData) × Reads font.now d
+        × IsChecked d (bytes_in (S.remaining source.old)) (Err place)) }
+    // Where the check of the font by the bytes refuses nothing, no program is refused and the form
+    // isn't at fault: `find_font` writes such bytes.
     ensures accepts { IsTold (S.remaining source.old) → (d : FontData) → Reads font.now d
-        → IsChecked d (bytes_in (S.remaining source.old)) (Ok []) → Finds result (λ v. v.refused ≡ []) (λ _. ⊥) }
-    // Where a read failed, what was read is at fault nowhere but at its end: no unit that was read whole breaks a rule.
-    ensures whole_units { IfErr result (HasRead (S.remaining source.old) (S.remaining source.new) (IsUnbrokenFor font.now)) }
+        → IsChecked d (bytes_in (S.remaining source.old)) (Ok [])
+        → Finds result (λ v. v.refused ≡ []) (λ _. ⊥) }
+    // Where a read failed, what was read is at fault nowhere but at its end: no unit that was read
+    // whole breaks a rule.
+    ensures whole_units { IfErr result
+        (HasRead (S.remaining source.old) (S.remaining source.new) (IsUnbrokenFor font.now)) }
     ensures failures { CountsCheck result (S.failures source.old) (S.failures source.new) }
-    // A fault of the font is the first one of its bytes, unless memory ran out; any other answer means that they have none.
+    // A fault of the font is the first one of its bytes, unless memory ran out; any other answer
+    // means that they have none.
     ensures faults { TestsInCheck (font_fault font.now) result }
 {
     let read = read_font(alloc, font)?;

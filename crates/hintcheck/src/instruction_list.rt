@@ -38,10 +38,12 @@ fn is_plain(text: &[u8]) -> bool
     }
 }
 
-/// Returns the number that the text is in decimal digits, with no sign and no needless zero in front.
+/// Returns the number that the text is in decimal digits, with no sign and no needless zero in
+/// front.
 fn read_number(text: &str) -> Option<u16>
     ensures read { IfSome result (λ number. text.now ≡ decimal number) }
-    ensures each { (number : ℕ) → number < 2 ^ 16 → text.now ≡ decimal number → result ≡ Some number }
+    ensures each { (number : ℕ) → number < 2 ^ 16 → text.now ≡ decimal number
+        → result ≡ Some number }
 {
     if !is_plain(text.as_bytes()) {
         return None;
@@ -84,7 +86,8 @@ fn named_program<'a>(font: &Font<'a>, word: &str) -> Option<Named<'a>>
     requires { length font.now.glyphs < 2 ^ 16 }
     ensures there { IfSome result (λ named. Names word.now font.now named.bytes.now) }
     ensures text { IfSome result (λ named. word.now ≡ text_of named.name) }
-    ensures program { IfSome result (λ named. program_in font.now named.name ≡ Some named.bytes.now) }
+    ensures program { IfSome result
+        (λ named. program_in font.now named.name ≡ Some named.bytes.now) }
     ensures none { IfNone result ((program : List ℕ) → Names word.now font.now program → ⊥) }
 {
     let name = read_name(word)?;
@@ -126,7 +129,8 @@ fn print_instruction<O: Sink>(
     offset: u32,
     instruction: &Instr<'_>,
 ) -> Result<(), PrintFailed>
-    ensures written { OnOk result (Appends (O.contents out.old) (O.contents out.new) (line_of offset instruction.now)) }
+    ensures written { OnOk result
+        (Appends (O.contents out.old) (O.contents out.new) (line_of offset instruction.now)) }
     ensures failures { CountsPrintFailure result (O.failures out.old) (O.failures out.new) }
 {
     let digits = Digits(instruction.bytes());
@@ -136,17 +140,20 @@ fn print_instruction<O: Sink>(
 
 /// Prints the line after those of the instructions.
 fn print_last_line<O: Sink>(out: &mut O, program: &Program<'_>) -> Result<(), PrintFailed>
-    ensures written { OnOk result (Appends (O.contents out.old) (O.contents out.new) (last_line program.now)) }
+    ensures written { OnOk result
+        (Appends (O.contents out.old) (O.contents out.new) (last_line program.now)) }
     ensures failures { CountsPrintFailure result (O.failures out.old) (O.failures out.new) }
 {
     let length = program.len();
     writeln!(out, "end: {length}")
 }
 
-/// Prints a line for each instruction, one after the other, and a last line with the program's length.
+/// Prints a line for each instruction, one after the other, and a last line with the program's
+/// length.
 fn print_program<O: Sink>(out: &mut O, program: &Program<'_>) -> Result<(), PrintFailed>
     requires { AllByRecursion IsInstruction program.now }
-    ensures written { OnOk result (Appends (O.contents out.old) (O.contents out.new) (lines_of 0 program.now ++ last_line program.now)) }
+    ensures written { OnOk result (Appends (O.contents out.old) (O.contents out.new)
+        (lines_of 0 program.now ++ last_line program.now)) }
     ensures failures { CountsPrintFailure result (O.failures out.old) (O.failures out.new) }
 {
     let _length = program.len();
@@ -173,9 +180,11 @@ fn refused_at(program: Name, offset: u32, reason: Reason) -> Refused
 fn list_named<O: Sink>(alloc: Global, named: Named<'_>, out: &mut O) -> Result<u8, CommandFault>
     requires { length named.bytes.now < 2 ^ 31 }
     ensures status { IfOk result (λ status. status ≤ 1) }
-    ensures listed { IfOk result (λ status. status ≡ 0 → IsListed named.entry.bytes.now (O.contents out.old) (O.contents out.new)) }
+    ensures listed { IfOk result (λ status. status ≡ 0
+        → IsListed named.entry.bytes.now (O.contents out.old) (O.contents out.new)) }
     ensures unlisted { IfOk result (λ status. status ≡ 1 → CannotBeListed named.entry.bytes.now) }
-    ensures told { IfOk result (λ status. status ≡ 1 → TellsUnlisted named.entry.name named.entry.bytes.now (O.contents out.old) (O.contents out.new)) }
+    ensures told { IfOk result (λ status. status ≡ 1 → TellsUnlisted named.entry.name
+        named.entry.bytes.now (O.contents out.old) (O.contents out.new)) }
     ensures named { result ≢ Err CommandFault.ProgramWord }
     ensures failures { TellsFailure result (O.failures out.old) (O.failures out.new) }
     ensures faults { IfErr result IsFaultOfLines }
@@ -194,12 +203,13 @@ fn list_named<O: Sink>(alloc: Global, named: Named<'_>, out: &mut O) -> Result<u
     }
 }
 
-/// Lists the program of the font in these bytes whose name the word is, and returns the exit status: 0 listed, 1 where the program can't
-/// be cut or isn't structured, which one line reports. Printing takes no memory.
+/// Lists the program of the font in these bytes whose name the word is, and returns the exit
+/// status: 0 listed, 1 where the program can't be cut or isn't structured, which one line reports.
+/// Printing takes no memory.
 ///
 /// # Errors
-/// The faults of `Font::read`; `ProgramWord` where the word is the name of none of the font's programs; `Write` exactly where a write to
-/// `out` failed; `OutOfMemory`.
+/// The faults of `Font::read`; `ProgramWord` where the word is the name of none of the font's
+/// programs; `Write` exactly where a write to `out` failed; `OutOfMemory`.
 pub fn list_program<O: Sink>(
     alloc: Global,
     font: &[u8],
@@ -207,9 +217,11 @@ pub fn list_program<O: Sink>(
     out: &mut O,
 ) -> Result<u8, CommandFault>
     ensures status { IfOk result (λ status. status ≤ 1) }
-    ensures listed { IfOk result (λ status. status ≡ 0 → HoldListedProgram font.now word.now (O.contents out.old) (O.contents out.new)) }
+    ensures listed { IfOk result (λ status. status ≡ 0
+        → HoldListedProgram font.now word.now (O.contents out.old) (O.contents out.new)) }
     ensures unlisted { IfOk result (λ status. status ≡ 1 → HoldUnlistedProgram font.now word.now) }
-    ensures told { IfOk result (λ status. status ≡ 1 → HoldToldProgram font.now word.now (O.contents out.old) (O.contents out.new)) }
+    ensures told { IfOk result (λ status. status ≡ 1
+        → HoldToldProgram font.now word.now (O.contents out.old) (O.contents out.new)) }
     ensures unnamed { result ≡ Err CommandFault.ProgramWord → HoldNoSuchProgram font.now word.now }
     ensures failures { TellsFailure result (O.failures out.old) (O.failures out.new) }
     ensures faults { IfErr result (IsFaultOfListing font.now word.now) }

@@ -1,4 +1,5 @@
-//! The look at one program: it is cut, a family of abstract states is found for it, and the check of that family decides.
+//! The verdict on one program: it is cut, a family of abstract states is found for it, and the
+//! check of that family decides.
 
 ghost use Rattle.std.specs.Prelude.{◌≡◌, ◌⊎◌, ℕ, ◌<◌, ◌^◌, List, IfErr, IfOk, OnOk, length};
 ghost use Rattle.tt_code.specs.Cut.{Instruction, IsCut};
@@ -9,13 +10,12 @@ ghost use Rattle.tt_abs.specs.Settings.{setting_of};
 ghost use Rattle.tt_abs.specs.StateFlow.{FunctionsFit};
 ghost use Rattle.tt_cert.specs.Checks.{IsOutOfMemory};
 ghost use Rattle.tt_cert.specs.Contents.{Contents, family_of};
-ghost use Rattle.tt_cert.specs.Fillings.{HasGoodFilling};
 ghost use Rattle.tt_cert_file.specs.declared.form.Form.{Form};
 ghost use Rattle.tt_find.specs.Found.{AreLeastContexts, HasLeastFilling, IsJustified, IsNeverEnding, NamesPlace, NeedsAll, NoneIsGood};
 ghost use Rattle.hintcheck.specs.CheckedFonts.{IsRefusedBy};
 ghost use Rattle.hintcheck.specs.FindingSessions.{IsFoundFor};
-ghost use Rattle.hintcheck.specs.Programs.{HasGoodFamily, IsCutInto, IsRefusal, Subject, program_at as program_at_spot};
-ghost use Rattle.hintcheck.specs.ProgramVerdicts.{IfRefused, IsAccepted, IsForCertificate, IsListed, IsLookedAt, told_at};
+ghost use Rattle.hintcheck.specs.Programs.{IsCutInto, Subject, program_at as program_at_spot};
+ghost use Rattle.hintcheck.specs.ProgramVerdicts.{IsAccepted, IsFaultOfProgram, IsFilledIn, IsForCertificate, IsListed, IsSubjectOf, NoneIsGoodFor, reported_at};
 
 use crate::report::{Name, Place, Refused};
 use std::alloc::{AllocError, Global};
@@ -36,8 +36,8 @@ fn program_at(name: Name, spot: Spot) -> Name
 }
 
 /// Returns what is reported of the program of this name that is refused at an offset.
-pub(crate) fn told(name: Name, spot: Spot, offset: u32, reason: Reason) -> Refused
-    ensures { result ≡ told_at name spot offset reason }
+pub(crate) fn reported(name: Name, spot: Spot, offset: u32, reason: Reason) -> Refused
+    ensures { result ≡ reported_at name spot offset reason }
 {
     Refused {
         program: name,
@@ -66,7 +66,7 @@ pub(crate) fn list_refused(
             offset,
             reason,
         } => {
-            refused.push(told(name, spot, offset, reason))?;
+            refused.push(reported(name, spot, offset, reason))?;
             Ok(())
         }
         ProgramFault::OutOfMemory(error) => Err(error),
@@ -90,11 +90,16 @@ fn refused_at(offset: u32, reason: Reason) -> ProgramFault
 /// `Refused` where they can't be cut or their structure is wrong; `OutOfMemory`.
 pub(crate) fn cut<'a>(alloc: Global, bytes: &'a [u8]) -> Result<Program<'a>, ProgramFault>
     requires { length bytes.now < 2 ^ 31 }
-    ensures cut { (x : Subject) → x.bytes ≡ bytes.entry.now → IfOk result (λ program. IsCutInto x program) }
-    ensures refused { (x : Subject) → x.bytes ≡ bytes.entry.now → IfErr result (λ fault. IfRefused x.name fault (IsRefusal x)) }
-    ensures none_good { (x : Subject) → x.bytes ≡ bytes.entry.now → IfErr result (λ fault. IfRefused x.name fault (λ _. HasGoodFamily x → ⊥)) }
-    ensures uncut { (x : Subject) (form : Form) (family : Contents) → x.bytes ≡ bytes.entry.now → IfErr result (IsRefusedBy form x family) }
-    ensures only { (instructions : List Instruction) → IsCut bytes.entry.now instructions → IsStructured instructions → IfErr result IsOutOfMemory }
+    ensures cut { (x : Subject) → x.bytes ≡ bytes.entry.now
+        → IfOk result (λ program. IsCutInto x program) }
+    ensures refused { (x : Subject) → x.bytes ≡ bytes.entry.now
+        → IfErr result (IsFaultOfProgram x) }
+    ensures none_good { (x : Subject) → x.bytes ≡ bytes.entry.now
+        → IfErr result (NoneIsGoodFor x) }
+    ensures uncut { (x : Subject) (form : Form) (family : Contents) → x.bytes ≡ bytes.entry.now
+        → IfErr result (IsRefusedBy form x family) }
+    ensures only { (instructions : List Instruction) → IsCut bytes.entry.now instructions
+        → IsStructured instructions → IfErr result IsOutOfMemory }
 {
     match Program::cut(alloc, bytes) {
         Ok(program) => Ok(program),
@@ -104,7 +109,8 @@ pub(crate) fn cut<'a>(alloc: Global, bytes: &'a [u8]) -> Result<Program<'a>, Pro
     }
 }
 
-/// Returns what is found for a program, if the check accepts it; where it doesn't, the finder has its memory.
+/// Returns what is found for a program, if the check accepts it; where it doesn't, the finder has
+/// its memory.
 fn checked(
     alloc: Global,
     finder: &mut Finder,
@@ -114,8 +120,8 @@ fn checked(
     requires { Rises setting.now.start.now }
     ensures same { IfOk result (λ accepted. accepted ≡ found) }
     // The check accepts it: this relies on no promise of the finder's.
-    ensures good { OnOk result (HasGoodFilling (setting_of setting.now) setting.now.start.now (family_of found.certificate)) }
-    ensures exact { HasGoodFilling (setting_of setting.now) setting.now.start.now (family_of found.certificate) → IfErr result IsOutOfMemory }
+    ensures good { OnOk result (IsFilledIn setting.now found.certificate) }
+    ensures exact { IsFilledIn setting.now found.certificate → IfErr result IsOutOfMemory }
 {
     match check(alloc, setting, &found.certificate) {
         Ok(()) => Ok(found),
@@ -126,20 +132,23 @@ fn checked(
     }
 }
 
-/// What a program is looked at for.
+/// What a family is searched for.
 #[derive(Clone, Copy)]
 pub(crate) enum Search {
     /// Only for the verdict, by a family that is checked.
     Verdict,
     /// For its certificate, which lists no state that could be left out, and is checked.
     Certificate,
-    /// For whether a certificate of the font can be written. Nothing is checked: that the family has a good filling is the finder's promise.
+    /// For whether a certificate of the font can be written. Nothing is checked: that the family
+    /// has a good filling is the finder's promise.
     BeforeWriting,
-    /// For its certificate, as it is written. Nothing is checked: that the family has a good filling is the finder's promise.
+    /// For its certificate, as it is written. Nothing is checked: that the family has a good
+    /// filling is the finder's promise.
     Writing,
 }
 
-/// Finds the family of abstract states of the program of this setting, with no state that could be left out where it is for a certificate.
+/// Finds the family of abstract states of the program of this setting, with no state that could be
+/// left out where it is for a certificate.
 ///
 /// # Errors
 /// As `Finder::find`.
@@ -151,12 +160,17 @@ fn find(
 ) -> Result<Found, ProgramFault>
     requires rises { Rises setting.now.start.now }
     requires fits { FunctionsFit (setting_of setting.now) setting.now.start.now }
-    ensures filling { IfOk result (λ found. HasLeastFilling (setting_of setting.now) setting.now.start.now found.updates (family_of found.certificate)) }
-    ensures contexts { IfOk result (λ found. AreLeastContexts (setting_of setting.now) setting.now.start.now found.certificate.contexts) }
+    ensures filling { IfOk result (λ found. HasLeastFilling (setting_of setting.now)
+        setting.now.start.now found.updates (family_of found.certificate)) }
+    ensures contexts { IfOk result (λ found. AreLeastContexts (setting_of setting.now)
+        setting.now.start.now found.certificate.contexts) }
     ensures needed { IsForCertificate search
-        → IfOk result (λ found. NeedsAll (setting_of setting.now) setting.now.start.now (family_of found.certificate)) }
-    ensures justified { IfErr result (NamesPlace (IsJustified (setting_of setting.now) setting.now.start.now)) }
-    ensures none_good { IfErr result (λ fault. IsOutOfMemory fault ⊎ IsNeverEnding fault ⊎ NoneIsGood (setting_of setting.now) setting.now.start.now) }
+        → IfOk result (λ found. NeedsAll (setting_of setting.now) setting.now.start.now
+        (family_of found.certificate)) }
+    ensures justified { IfErr result
+        (NamesPlace (IsJustified (setting_of setting.now) setting.now.start.now)) }
+    ensures none_good { IfErr result (λ fault. IsOutOfMemory fault ⊎ IsNeverEnding fault
+        ⊎ NoneIsGood (setting_of setting.now) setting.now.start.now) }
 {
     match search {
         Search::Verdict | Search::BeforeWriting => finder.find(alloc, setting),
@@ -164,9 +178,9 @@ fn find(
     }
 }
 
-/// Looks at the program of this setting, whose family of abstract states is found and then, where that is asked, checked. A family that is
-/// found passes the check. What is found has the finder's memory, which `Finder::take_back` gives back; where the program is refused, the finder
-/// keeps it.
+/// Finds the family of abstract states of the program of this setting, and checks it where that is
+/// asked. A family that is found passes the check. What is found has the finder's
+/// memory, which `Finder::take_back` gives back; where the program is refused, the finder keeps it.
 ///
 /// # Errors
 /// `Refused` where no family is found; `OutOfMemory`.
@@ -178,11 +192,15 @@ pub(crate) fn find_and_check(
 ) -> Result<Found, ProgramFault>
     requires rises { Rises setting.now.start.now }
     requires fits { FunctionsFit (setting_of setting.now) setting.now.start.now }
-    ensures accepted { (x : Subject) → IsLookedAt x setting.now → IfOk result (λ found. IsAccepted x setting.now.main.now (family_of found.certificate)) }
-    ensures found { IsForCertificate search → (x : Subject) → IsLookedAt x setting.now → IfOk result (IsFoundFor x setting.now.main.now) }
-    ensures refused { (x : Subject) → IsLookedAt x setting.now → IfErr result (λ fault. IfRefused x.name fault (IsRefusal x)) }
-    ensures none_good { (x : Subject) (points contours : ℕ) → IsLookedAt x setting.now → (setting_of setting.now).kind ≡ GlyphProgram points contours
-        → IfErr result (λ fault. IfRefused x.name fault (λ _. HasGoodFamily x → ⊥)) }
+    ensures accepted { (x : Subject) → IsSubjectOf x setting.now → IfOk result
+        (λ found. IsAccepted x setting.now.main.now (family_of found.certificate)) }
+    ensures found { IsForCertificate search → (x : Subject) → IsSubjectOf x setting.now
+        → IfOk result (IsFoundFor x setting.now.main.now) }
+    ensures refused { (x : Subject) → IsSubjectOf x setting.now
+        → IfErr result (IsFaultOfProgram x) }
+    ensures none_good { (x : Subject) (points contours : ℕ) → IsSubjectOf x setting.now
+        → (setting_of setting.now).kind ≡ GlyphProgram points contours
+        → IfErr result (NoneIsGoodFor x) }
 {
     setting.range_facts();
     let found = find(alloc, finder, setting, search)?;

@@ -11,7 +11,8 @@ use tt_code::Reason;
 /// An offset in a program.
 #[derive(Clone, Copy, Debug, PartialEq, Eq)]
 pub struct Place {
-    /// The program in which the offset is: for a function's instruction the one in which its body is.
+    /// The program in which the offset is: for a function's instruction the one in which its body
+    /// is.
     pub program: Name,
     pub offset: u32,
 }
@@ -53,7 +54,7 @@ impl fmt::Display for Refused {
     }
 }
 
-/// How many programs were looked at, and which of them are refused, in their order.
+/// How many programs there are, and which of them are refused, in their order.
 #[derive(Drop)]
 pub struct Verdict {
     programs: u32,

@@ -1,12 +1,13 @@
 //! The sections of a certificate, read one after the other.
 
 ghost use Rattle.std.specs.Prelude.{◌≡◌, ◌↔◌, IfErr, IsTrue};
-ghost use Rattle.tt_cert_file.specs.Answers.{CountsRead, StopsAtEnd, input_at};
+ghost use Rattle.tt_cert_file.specs.Answers.{CountsRead, StopsAtEnd};
 ghost use Rattle.tt_cert_file.specs.Reading.{section_at};
 ghost use Rattle.tt_stream.specs.Reads.{ConsumesBeginning};
 ghost use Rattle.hintcheck.specs.CertificateFaults.{Decodes};
 ghost use Rattle.hintcheck.specs.Certificates.{HasNoSection, IsSectionOf};
 ghost use Rattle.hintcheck.specs.CheckedFonts.{IsTold};
+ghost use Rattle.hintcheck.specs.Representation.ReadProgress.{input_from};
 
 use crate::report::Name;
 use std::alloc::Global;
@@ -37,7 +38,8 @@ fn is_same(one: Name, other: Name) -> bool
 /// Reads the section of the program with this name, and goes on to the next one.
 ///
 /// # Errors
-/// `Form`, also where the section is another program's; `Read` exactly where a read failed; `OutOfMemory`.
+/// `Form`, also where the section is another program's; `Read` exactly where a read failed;
+/// `OutOfMemory`.
 pub(crate) fn next_section<S: Source>(
     alloc: Global,
     source: &mut S,
@@ -45,11 +47,14 @@ pub(crate) fn next_section<S: Source>(
     name: Name,
 ) -> Result<Certificate, DecodeFault>
     ensures section { IsTold (S.remaining source.old) → Decodes result
-        (λ c. IsTold (S.remaining source.new) × IsSectionOf progress.old.form (input_at progress.old.place (S.remaining source.old)) name c (input_at progress.new.place (S.remaining source.new)))
-        (HasNoSection progress.old.form (input_at progress.old.place (S.remaining source.old)) name) }
+        (λ c. IsTold (S.remaining source.new) × IsSectionOf progress.old.form
+        (input_from progress.old (S.remaining source.old)) name c
+        (input_from progress.new (S.remaining source.new)))
+        (HasNoSection progress.old.form (input_from progress.old (S.remaining source.old)) name) }
     ensures form { progress.new.form ≡ progress.old.form }
     ensures beginning { ConsumesBeginning (S.remaining source.old) (S.remaining source.new) }
-    ensures stopped { IfErr result (StopsAtEnd progress.old.place (S.remaining source.old) (S.remaining source.new) (section_at progress.old.form)) }
+    ensures stopped { IfErr result (StopsAtEnd progress.old.place (S.remaining source.old)
+        (S.remaining source.new) (section_at progress.old.form)) }
     ensures failures { CountsRead result (S.failures source.old) (S.failures source.new) }
 {
     let start = progress.place;
@@ -57,7 +62,7 @@ pub(crate) fn next_section<S: Source>(
     if !is_same(named, name) {
         return Err(DecodeFault::Form(start));
     }
-    certificate.is_in_order();
+    certificate.order_facts();
     progress.place = after;
     Ok(certificate)
 }

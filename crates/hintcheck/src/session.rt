@@ -1,18 +1,20 @@
-//! The programs of a font, one a call, each checked by its section of a certificate or found anew: a session holds one certificate at a time.
+//! The programs of a font, one a call, each checked by its section of a certificate or found anew:
+//! a session holds one certificate at a time.
 
 ghost use Rattle.std.specs.Prelude.{◌≡◌, ◌+◌, ◌<◌, ◌↔◌, IfErr, IfOk, IsTrue, None, Ok, Err, Option, Some, length};
 ghost use Rattle.tt_abs.specs.Entries.{Rises};
-ghost use Rattle.tt_cert_file.specs.Answers.{input_at};
 ghost use Rattle.tt_stream.specs.Reads.{ConsumesBeginning};
 ghost use Rattle.hintcheck.specs.CertificateFaults.{CountsCheck, IsNoFontFault};
 ghost use Rattle.hintcheck.specs.CheckedFonts.{Finds, IsTold};
-ghost use Rattle.hintcheck.specs.FailedReads.{EndsInCall, EndsInSection, HasRead};
+ghost use Rattle.hintcheck.specs.FailedReads.{EndsInCall, HasRead};
 ghost use Rattle.hintcheck.specs.FindingSessions.{IsForFinding, IsFoundAnswer, out_of_memory, out_of_memory_here};
 ghost use Rattle.hintcheck.specs.FontPrograms.{IsFontInRange};
 ghost use Rattle.hintcheck.specs.ProgramVerdicts.{IsForCertificate};
-ghost use Rattle.hintcheck.specs.Sessions.{AnswersAt, AnswersNext, IsFaultAt, IsForChecking, IsNextFault, IsSoundAnswer, ReadsOn, Stage, accepted_as, after_font, at_glyph, at_start, new_standing, over, standing_at};
-ghost use Rattle.hintcheck.specs.SessionStages.{KeepsFound, KeepsGood, TellsRefusal, fault_of, read_of, stage_of};
+ghost use Rattle.hintcheck.specs.Sessions.{AnswersNext, IsForChecking, IsNextFault, IsSoundAnswer, ReadsOn, Stage, accepted_as, at_start, new_standing, over, standing_at};
+ghost use Rattle.hintcheck.specs.Representation.SessionStages.{GlyphBySection, IsSoundGlyph, IsSoundStep, KeepsFound, KeepsGood, StepsBySection, StopsInSection, TellsRefusal, fault_of, read_of, stage_of, standing_of};
 ghost use Rattle.hintcheck.specs.declared.font_check.CheckFontFault.{CheckFontFault as AnyFault};
+ghost use Rattle.hintcheck.specs.Representation.ReadProgress.{input_from};
+ghost use Rattle.hintcheck.specs.Representation.ProgramEnds.{after_font_program, at_glyph_program};
 
 mod find;
 
@@ -21,7 +23,7 @@ use crate::font::{Common, Ended, cvt_setting};
 use crate::font_check::{
     CheckFontFault, check_cvt_program, check_font_program, check_glyph_program, read_start,
 };
-use crate::program::{Search, told};
+use crate::program::{Search, reported};
 use crate::report::{Name, Refused};
 use crate::sections::{Progress, next_section};
 use crate::session::find::find_from;
@@ -63,7 +65,7 @@ impl SessionFault {
     }
 
     /// Returns the fault as each call returns it.
-    fn told(self) -> CheckFontFault
+    fn reported(self) -> CheckFontFault
         ensures { result ≡ fault_of self }
     {
         match self {
@@ -77,7 +79,7 @@ impl SessionFault {
 /// What a session keeps of the accepted programs, and thereby which program is next.
 #[derive(Drop)]
 enum Kept<'a> {
-    /// None was looked at.
+    /// None yet.
     Start,
     /// The font program.
     AfterFont(Ended<'a>),
@@ -130,7 +132,7 @@ fn refused(program: Name, fault: ProgramFault) -> Result<Outcome, CheckFontFault
             reason,
         } => Ok(Outcome {
             program,
-            refused: Some(told(program, spot, offset, reason)),
+            refused: Some(reported(program, spot, offset, reason)),
         }),
         ProgramFault::OutOfMemory(error) => Err(CheckFontFault::OutOfMemory(error)),
     }
@@ -144,15 +146,13 @@ fn check_first<'a, S: Source>(
     progress: &mut Progress,
 ) -> Result<CheckedStep<'a>, CheckFontFault>
     requires { IsFontInRange font.now }
-    ensures sound { IfOk result (λ step. IsSoundAnswer font.now at_start step.answer (stage_of step.kept)) }
-    ensures exact { IsTold (S.remaining source.old) → Finds result
-        (λ step. IsTold (S.remaining source.new) × AnswersAt font.now progress.old.form at_start (input_at progress.old.place (S.remaining source.old))
-        step.answer (stage_of step.kept) (input_at progress.new.place (S.remaining source.new)))
-        (IsFaultAt font.now progress.old.form (input_at progress.old.place (S.remaining source.old)) at_start) }
+    ensures sound { IfOk result (IsSoundStep font.now at_start) }
+    ensures exact { StepsBySection font.now at_start
+        progress.old (S.remaining source.old) progress.new (S.remaining source.new) result }
     ensures form { progress.new.form ≡ progress.old.form }
     ensures beginning { ConsumesBeginning (S.remaining source.old) (S.remaining source.new) }
-    ensures stopped { IfErr result (HasRead (S.remaining source.old) (S.remaining source.new)
-        (λ front. EndsInSection font.now progress.old.form at_start (input_at progress.old.place (Some front)))) }
+    ensures stopped { IfErr result (StopsInSection font.now at_start
+        progress.old (S.remaining source.old) (S.remaining source.new)) }
     ensures failures { CountsCheck result (S.failures source.old) (S.failures source.new) }
     ensures font { IfErr result IsNoFontFault }
 {
@@ -182,15 +182,13 @@ fn check_second<'a, S: Source>(
 ) -> Result<CheckedStep<'a>, CheckFontFault>
     requires range { IsFontInRange font.now }
     requires rises { Rises fpgm.functions.items }
-    ensures sound { IfOk result (λ step. IsSoundAnswer font.now (after_font fpgm.entry.program fpgm.entry.functions.items) step.answer (stage_of step.kept)) }
-    ensures exact { IsTold (S.remaining source.old) → Finds result
-        (λ step. IsTold (S.remaining source.new) × AnswersAt font.now progress.old.form (after_font fpgm.entry.program fpgm.entry.functions.items)
-        (input_at progress.old.place (S.remaining source.old)) step.answer (stage_of step.kept) (input_at progress.new.place (S.remaining source.new)))
-        (IsFaultAt font.now progress.old.form (input_at progress.old.place (S.remaining source.old)) (after_font fpgm.entry.program fpgm.entry.functions.items)) }
+    ensures sound { IfOk result (IsSoundStep font.now (after_font_program fpgm.entry)) }
+    ensures exact { StepsBySection font.now (after_font_program fpgm.entry)
+        progress.old (S.remaining source.old) progress.new (S.remaining source.new) result }
     ensures form { progress.new.form ≡ progress.old.form }
     ensures beginning { ConsumesBeginning (S.remaining source.old) (S.remaining source.new) }
-    ensures stopped { IfErr result (HasRead (S.remaining source.old) (S.remaining source.new)
-        (λ front. EndsInSection font.now progress.old.form (after_font fpgm.entry.program fpgm.entry.functions.items) (input_at progress.old.place (Some front)))) }
+    ensures stopped { IfErr result (StopsInSection font.now (after_font_program fpgm.entry)
+        progress.old (S.remaining source.old) (S.remaining source.new)) }
     ensures failures { CountsCheck result (S.failures source.old) (S.failures source.new) }
     ensures font { IfErr result IsNoFontFault }
 {
@@ -223,18 +221,13 @@ fn check_glyph<S: Source>(
     requires range { IsFontInRange font.now }
     requires rises { Rises prep.now.functions.items }
     requires there { id < length font.now.glyphs }
-    ensures sound { IfOk result (λ outcome. IsSoundAnswer font.now (at_glyph fpgm.now.program prep.now.program prep.now.functions.items id) (Some outcome)
-        (at_glyph fpgm.now.program prep.now.program prep.now.functions.items (id + 1))) }
-    ensures exact { IsTold (S.remaining source.old) → Finds result
-        (λ outcome. IsTold (S.remaining source.new) × AnswersAt font.now progress.old.form
-        (at_glyph fpgm.now.program prep.now.program prep.now.functions.items id) (input_at progress.old.place (S.remaining source.old)) (Some outcome)
-        (at_glyph fpgm.now.program prep.now.program prep.now.functions.items (id + 1)) (input_at progress.new.place (S.remaining source.new)))
-        (IsFaultAt font.now progress.old.form (input_at progress.old.place (S.remaining source.old))
-        (at_glyph fpgm.now.program prep.now.program prep.now.functions.items id)) }
+    ensures sound { IfOk result (IsSoundGlyph font.now fpgm.now prep.now id) }
+    ensures exact { GlyphBySection font.now fpgm.now prep.now id
+        progress.old (S.remaining source.old) progress.new (S.remaining source.new) result }
     ensures form { progress.new.form ≡ progress.old.form }
     ensures beginning { ConsumesBeginning (S.remaining source.old) (S.remaining source.new) }
-    ensures stopped { IfErr result (HasRead (S.remaining source.old) (S.remaining source.new)
-        (λ front. EndsInSection font.now progress.old.form (at_glyph fpgm.now.program prep.now.program prep.now.functions.items id) (input_at progress.old.place (Some front)))) }
+    ensures stopped { IfErr result (StopsInSection font.now (at_glyph_program fpgm.now prep.now id)
+        progress.old (S.remaining source.old) (S.remaining source.new)) }
     ensures failures { CountsCheck result (S.failures source.old) (S.failures source.new) }
     ensures font { IfErr result IsNoFontFault }
 {
@@ -261,16 +254,15 @@ fn check_third<'a, S: Source>(
     progress: &mut Progress,
 ) -> Result<CheckedStep<'a>, CheckFontFault>
     requires range { IsFontInRange font.now }
-    requires good { KeepsGood font.now (at_glyph fpgm.program prep.program prep.functions.items id) }
-    ensures sound { IfOk result (λ step. IsSoundAnswer font.now (at_glyph fpgm.entry.program prep.entry.program prep.entry.functions.items id) step.answer (stage_of step.kept)) }
-    ensures exact { IsTold (S.remaining source.old) → Finds result
-        (λ step. IsTold (S.remaining source.new) × AnswersAt font.now progress.old.form (at_glyph fpgm.entry.program prep.entry.program prep.entry.functions.items id)
-        (input_at progress.old.place (S.remaining source.old)) step.answer (stage_of step.kept) (input_at progress.new.place (S.remaining source.new)))
-        (IsFaultAt font.now progress.old.form (input_at progress.old.place (S.remaining source.old)) (at_glyph fpgm.entry.program prep.entry.program prep.entry.functions.items id)) }
+    requires good { KeepsGood font.now (at_glyph_program fpgm prep id) }
+    ensures sound { IfOk result (IsSoundStep font.now (at_glyph_program fpgm.entry prep.entry id)) }
+    ensures exact { StepsBySection font.now (at_glyph_program fpgm.entry prep.entry id)
+        progress.old (S.remaining source.old) progress.new (S.remaining source.new) result }
     ensures form { progress.new.form ≡ progress.old.form }
     ensures beginning { ConsumesBeginning (S.remaining source.old) (S.remaining source.new) }
-    ensures stopped { IfErr result (HasRead (S.remaining source.old) (S.remaining source.new)
-        (λ front. EndsInSection font.now progress.old.form (at_glyph fpgm.entry.program prep.entry.program prep.entry.functions.items id) (input_at progress.old.place (Some front)))) }
+    ensures stopped { IfErr result (StopsInSection font.now
+        (at_glyph_program fpgm.entry prep.entry id)
+        progress.old (S.remaining source.old) (S.remaining source.new)) }
     ensures failures { CountsCheck result (S.failures source.old) (S.failures source.new) }
     ensures font { IfErr result IsNoFontFault }
 {
@@ -298,15 +290,13 @@ fn check_on<'a, S: Source>(
 ) -> Result<CheckedStep<'a>, CheckFontFault>
     requires range { IsFontInRange font.now }
     requires good { KeepsGood font.now (stage_of kept) }
-    ensures sound { IfOk result (λ step. IsSoundAnswer font.now (stage_of kept.entry) step.answer (stage_of step.kept)) }
-    ensures exact { IsTold (S.remaining source.old) → Finds result
-        (λ step. IsTold (S.remaining source.new) × AnswersAt font.now progress.old.form (stage_of kept.entry)
-        (input_at progress.old.place (S.remaining source.old)) step.answer (stage_of step.kept) (input_at progress.new.place (S.remaining source.new)))
-        (IsFaultAt font.now progress.old.form (input_at progress.old.place (S.remaining source.old)) (stage_of kept.entry)) }
+    ensures sound { IfOk result (IsSoundStep font.now (stage_of kept.entry)) }
+    ensures exact { StepsBySection font.now (stage_of kept.entry)
+        progress.old (S.remaining source.old) progress.new (S.remaining source.new) result }
     ensures form { progress.new.form ≡ progress.old.form }
     ensures beginning { ConsumesBeginning (S.remaining source.old) (S.remaining source.new) }
-    ensures stopped { IfErr result (HasRead (S.remaining source.old) (S.remaining source.new)
-        (λ front. EndsInSection font.now progress.old.form (stage_of kept.entry) (input_at progress.old.place (Some front)))) }
+    ensures stopped { IfErr result (StopsInSection font.now (stage_of kept.entry)
+        progress.old (S.remaining source.old) (S.remaining source.new)) }
     ensures failures { CountsCheck result (S.failures source.old) (S.failures source.new) }
     ensures font { IfErr result IsNoFontFault }
 {
@@ -323,17 +313,22 @@ fn check_on<'a, S: Source>(
     }
 }
 
-/// Returns how far the certificate was read: this far, or its header, which is read if it wasn't yet.
+/// Returns how far the certificate was read: this far, or its header, which is read if it wasn't
+/// yet.
 fn progress_of<S: Source>(
     font: &Font<'_>,
     known: Option<Progress>,
     source: &mut S,
 ) -> Result<Progress, CheckFontFault>
     ensures exact { (stage : Stage) → IsTold (S.remaining source.old) → Finds result
-        (λ p. IsTold (S.remaining source.new) × ReadsOn (standing_at font.now stage (read_of known)) (S.remaining source.old) p.form (input_at p.place (S.remaining source.new)))
+        (λ p. IsTold (S.remaining source.new)
+        × ReadsOn (standing_at font.now stage (read_of known)) (S.remaining source.old)
+        p.form (input_from p (S.remaining source.new)))
         (IsNextFault (standing_at font.now stage (read_of known)) (S.remaining source.old)) }
     ensures beginning { ConsumesBeginning (S.remaining source.old) (S.remaining source.new) }
-    ensures stopped { (stage : Stage) → IfErr result (HasRead (S.remaining source.old) (S.remaining source.new) (EndsInCall (standing_at font.now stage (read_of known)))) }
+    ensures stopped { (stage : Stage) → IfErr result
+        (HasRead (S.remaining source.old) (S.remaining source.new)
+        (EndsInCall (standing_at font.now stage (read_of known)))) }
     ensures failures { CountsCheck result (S.failures source.old) (S.failures source.new) }
     ensures font { IfErr result IsNoFontFault }
 {
@@ -343,7 +338,8 @@ fn progress_of<S: Source>(
     }
 }
 
-/// Returns what a call of a session that keeps this, and has read this far, comes to; and what it keeps then.
+/// Returns what a call of a session that keeps this, and has read this far, comes to; and what it
+/// keeps then.
 fn check_from<'a, S: Source>(
     alloc: Global,
     font: &Font<'a>,
@@ -353,17 +349,20 @@ fn check_from<'a, S: Source>(
 ) -> Result<Option<Outcome>, CheckFontFault>
     requires range { IsFontInRange font.now }
     requires good { KeepsGood font.now (stage_of kept.old) }
-    ensures sound { IfOk result (λ answer. IsSoundAnswer font.now (stage_of kept.old) answer (stage_of kept.new)) }
+    ensures sound { IfOk result
+        (λ answer. IsSoundAnswer font.now (stage_of kept.old) answer (stage_of kept.new)) }
     ensures good { KeepsGood font.now (stage_of kept.new) }
-    ensures found { KeepsFound (read_of read.old) font.now (stage_of kept.old) → KeepsFound (read_of read.new) font.now (stage_of kept.new) }
+    ensures found { KeepsFound (read_of read.old) font.now (stage_of kept.old)
+        → KeepsFound (read_of read.new) font.now (stage_of kept.new) }
     ensures read { IfOk result (λ _. read_of read.new ≡ None → ⊥) }
     ensures exact { IsTold (S.remaining source.old) → Finds result
-        (λ answer. IsTold (S.remaining source.new) × AnswersNext (standing_at font.now (stage_of kept.old) (read_of read.old)) (S.remaining source.old) answer
-        (standing_at font.now (stage_of kept.new) (read_of read.new)) (S.remaining source.new))
-        (IsNextFault (standing_at font.now (stage_of kept.old) (read_of read.old)) (S.remaining source.old)) }
+        (λ answer. IsTold (S.remaining source.new)
+        × AnswersNext (standing_of font.now kept.old read.old) (S.remaining source.old)
+        answer (standing_of font.now kept.new read.new) (S.remaining source.new))
+        (IsNextFault (standing_of font.now kept.old read.old) (S.remaining source.old)) }
     ensures beginning { ConsumesBeginning (S.remaining source.old) (S.remaining source.new) }
     ensures stopped { IfErr result (HasRead (S.remaining source.old) (S.remaining source.new)
-        (EndsInCall (standing_at font.now (stage_of kept.old) (read_of read.old)))) }
+        (EndsInCall (standing_of font.now kept.old read.old))) }
     ensures failures { CountsCheck result (S.failures source.old) (S.failures source.new) }
     ensures font { IfErr result IsNoFontFault }
 {
@@ -376,24 +375,29 @@ fn check_from<'a, S: Source>(
     Ok(answer)
 }
 
-/// The programs of a font, looked at one by one: the font program, the CVT program, and each glyph program. It keeps which program is next and what
-/// the next ones start with, and no certificate.
+/// The programs of a font, one after the other: the font program, the CVT program, and each glyph
+/// program. It keeps which program is next and what the next ones start with, and no certificate.
 #[derive(Drop)]
 pub struct Session<'a> {
     font: &'a Font<'a>,
     kept: Kept<'a>,
     progress: Option<Progress>,
-    met: Option<SessionFault>,
+    fault: Option<SessionFault>,
 }
 
 impl<'a> Model for Session<'a> {
     ghost use Rattle.hintcheck.specs.Sessions.{Standing};
     ghost use Rattle.hintcheck.specs.FontPrograms.{IsFontInRange};
-    ghost use Rattle.hintcheck.specs.SessionStages.{KeepsFound, KeepsGood, fault_in, read_of, stage_of};
+    ghost use Rattle.hintcheck.specs.Representation.SessionStages.{KeepsFound, KeepsGood, fault_in, read_of, stage_of};
 
     ghost Value = { Standing };
 
-    ghost view = { λ s. record { font = s.font.now; stage = stage_of s.kept; read = read_of s.progress; fault = fault_in s.met } };
+    ghost view = { λ s. record {
+      font = s.font.now;
+      stage = stage_of s.kept;
+      read = read_of s.progress;
+      fault = fault_in s.fault;
+    } };
 
     ghost invariant = { λ s. IsFontInRange s.font.now × KeepsGood s.font.now (stage_of s.kept)
         × KeepsFound (read_of s.progress) s.font.now (stage_of s.kept) };
@@ -409,17 +413,19 @@ impl<'a> Session<'a> {
             font,
             kept: Kept::Start,
             progress: None,
-            met: None,
+            fault: None,
         }
     }
 
-    /// Reads the section of the next program, and checks the program by it: returns its outcome. The first call reads the certificate's header first.
-    /// After the last section, or after a refused font program or CVT program, there is none; the first time after the last section the call reads on
-    /// to see the certificate's end, and otherwise nothing is read then. A session on which this is called is used for no other calls.
+    /// Reads the section of the next program, and checks the program by it: returns its outcome.
+    /// The first call reads the certificate's header first. After the last section, or after a
+    /// refused font program or CVT program, there is none; the first time after the last section
+    /// the call reads on to see the certificate's end, and otherwise nothing is read then. A
+    /// session on which this is called is used for no other calls.
     ///
     /// # Errors
-    /// `Form` where the bytes are no certificate for the font; `Read` exactly where a read failed; `OutOfMemory`. After a fault each call returns it,
-    /// and reads nothing.
+    /// `Form` where the bytes are no certificate for the font; `Read` exactly where a read failed;
+    /// `OutOfMemory`. After a fault each call returns it, and reads nothing.
     pub fn check_next<S: Source>(
         &mut self,
         alloc: Global,
@@ -427,41 +433,50 @@ impl<'a> Session<'a> {
     ) -> Result<Option<Outcome>, CheckFontFault>
         requires { IsForChecking self.old }
         // The outcome is the next program's, and an accepted one has a good family.
-        ensures sound { IfOk result (λ answer. IsSoundAnswer self.old.font self.old.stage answer self.new.stage) }
-        // It comes from the program's section, where the source tells its bytes, which is read from where the call before ended.
+        ensures sound { IfOk result
+            (λ answer. IsSoundAnswer self.old.font self.old.stage answer self.new.stage) }
+        // It comes from the program's section, where the source tells its bytes, which is read from
+        // where the call before ended.
         ensures exact { self.old.fault ≡ None → IsTold (S.remaining source.old) → Finds result
-            (λ answer. IsTold (S.remaining source.new) × AnswersNext self.old (S.remaining source.old) answer self.new (S.remaining source.new))
+            (λ answer. IsTold (S.remaining source.new)
+            × AnswersNext self.old (S.remaining source.old)
+            answer self.new (S.remaining source.new))
             (IsNextFault self.old (S.remaining source.old)) }
-        ensures after_fault { (fault : AnyFault) → self.old.fault ≡ Some fault → (result ≡ Err fault) × (self.new ≡ self.old) × (source.new ≡ source.old) }
-        ensures after_none { self.old.fault ≡ None → self.old.stage ≡ over → (result ≡ Ok None) × (self.new ≡ self.old) × (source.new ≡ source.old) }
+        ensures after_fault { (fault : AnyFault) → self.old.fault ≡ Some fault
+            → (result ≡ Err fault) × (self.new ≡ self.old) × (source.new ≡ source.old) }
+        ensures after_none { self.old.fault ≡ None → self.old.stage ≡ over
+            → (result ≡ Ok None) × (self.new ≡ self.old) × (source.new ≡ source.old) }
         ensures fault { IfErr result (λ fault. self.new.fault ≡ Some fault) }
         ensures no_fault { IfOk result (λ _. self.new.fault ≡ None) }
         ensures font { self.new.font ≡ self.old.font }
         ensures checking { IsForChecking self.new }
         ensures beginning { ConsumesBeginning (S.remaining source.old) (S.remaining source.new) }
         // Where a read failed, the call read no unit whole that breaks a rule.
-        ensures whole_units { self.old.fault ≡ None → IfErr result (HasRead (S.remaining source.old) (S.remaining source.new) (EndsInCall self.old)) }
-        ensures failures { self.old.fault ≡ None → CountsCheck result (S.failures source.old) (S.failures source.new) }
+        ensures whole_units { self.old.fault ≡ None → IfErr result
+            (HasRead (S.remaining source.old) (S.remaining source.new) (EndsInCall self.old)) }
+        ensures failures { self.old.fault ≡ None
+            → CountsCheck result (S.failures source.old) (S.failures source.new) }
         ensures no_font_fault { self.old.fault ≡ None → IfErr result IsNoFontFault }
     {
-        if let Some(met) = self.met {
-            return Err(met.told());
+        if let Some(fault) = self.fault {
+            return Err(fault.reported());
         }
         if self.kept.is_over() {
             return Ok(None);
         }
         let answer = check_from(alloc, self.font, &mut self.kept, &mut self.progress, source);
         if let Err(fault) = &answer {
-            self.met = Some(SessionFault::of(fault));
+            self.fault = Some(SessionFault::of(fault));
         }
         answer
     }
 
-    /// Looks at the next program for what is asked: returns its outcome, and what is found for it where it is accepted.
+    /// Searches the family of the next program for what is asked: returns its outcome, and what is
+    /// found for it where it is accepted.
     ///
     /// # Errors
     /// `OutOfMemory`.
-    pub(crate) fn look_next(
+    pub(crate) fn search_next(
         &mut self,
         alloc: Global,
         finder: &mut Finder,
@@ -469,15 +484,19 @@ impl<'a> Session<'a> {
     ) -> Result<Option<(Outcome, Option<Found>)>, FindFontFault>
         requires finding { IsForFinding self.old }
         requires search { IsForCertificate search }
-        ensures found { IfOk result (λ answer. IsFoundAnswer self.old.font self.old.stage answer self.new.stage) }
-        ensures after_fault { (fault : AnyFault) → self.old.fault ≡ Some fault → (result ≡ Err out_of_memory) × (self.new ≡ self.old) }
-        ensures after_none { self.old.fault ≡ None → self.old.stage ≡ over → (result ≡ Ok None) × (self.new ≡ self.old) }
-        ensures fault { IfErr result (λ fault. (fault ≡ out_of_memory) × (self.new.fault ≡ Some out_of_memory_here)) }
+        ensures found { IfOk result
+            (λ answer. IsFoundAnswer self.old.font self.old.stage answer self.new.stage) }
+        ensures after_fault { (fault : AnyFault) → self.old.fault ≡ Some fault
+            → (result ≡ Err out_of_memory) × (self.new ≡ self.old) }
+        ensures after_none { self.old.fault ≡ None → self.old.stage ≡ over
+            → (result ≡ Ok None) × (self.new ≡ self.old) }
+        ensures fault { IfErr result
+            (λ fault. (fault ≡ out_of_memory) × (self.new.fault ≡ Some out_of_memory_here)) }
         ensures no_fault { IfOk result (λ _. self.new.fault ≡ None) }
         ensures font { self.new.font ≡ self.old.font }
         ensures finding { IsForFinding self.new }
     {
-        if self.met.is_some() {
+        if self.fault.is_some() {
             return Err(FindFontFault::OutOfMemory(AllocError));
         }
         if self.kept.is_over() {
@@ -485,14 +504,15 @@ impl<'a> Session<'a> {
         }
         let answer = find_from(alloc, finder, self.font, &mut self.kept, search);
         if answer.is_err() {
-            self.met = Some(SessionFault::OutOfMemory);
+            self.fault = Some(SessionFault::OutOfMemory);
         }
         Ok(answer?)
     }
 
-    /// Finds the next program in a finder's memory, and checks it: returns its outcome, and where it is accepted, what is found for it, whose memory
-    /// `Finder::take_back` gives back. After the last program, or after a refused font program or CVT program, there is none. A session on which this
-    /// is called is used for no other calls.
+    /// Finds the next program in a finder's memory, and checks it: returns its outcome, and where
+    /// it is accepted, what is found for it, whose memory `Finder::take_back` gives back. After the
+    /// last program, or after a refused font program or CVT program, there is none. A session on
+    /// which this is called is used for no other calls.
     ///
     /// # Errors
     /// `OutOfMemory`, which each call returns from then on.
@@ -502,15 +522,20 @@ impl<'a> Session<'a> {
         finder: &mut Finder,
     ) -> Result<Option<(Outcome, Option<Found>)>, FindFontFault>
         requires { IsForFinding self.old }
-        // The outcome is the next program's: what is found for an accepted one is its least family, and a refused one has none.
-        ensures found { IfOk result (λ answer. IsFoundAnswer self.old.font self.old.stage answer self.new.stage) }
-        ensures after_fault { (fault : AnyFault) → self.old.fault ≡ Some fault → (result ≡ Err out_of_memory) × (self.new ≡ self.old) }
-        ensures after_none { self.old.fault ≡ None → self.old.stage ≡ over → (result ≡ Ok None) × (self.new ≡ self.old) }
-        ensures fault { IfErr result (λ fault. (fault ≡ out_of_memory) × (self.new.fault ≡ Some out_of_memory_here)) }
+        // The outcome is the next program's: what is found for an accepted one is its least family,
+        // and a refused one has none.
+        ensures found { IfOk result
+            (λ answer. IsFoundAnswer self.old.font self.old.stage answer self.new.stage) }
+        ensures after_fault { (fault : AnyFault) → self.old.fault ≡ Some fault
+            → (result ≡ Err out_of_memory) × (self.new ≡ self.old) }
+        ensures after_none { self.old.fault ≡ None → self.old.stage ≡ over
+            → (result ≡ Ok None) × (self.new ≡ self.old) }
+        ensures fault { IfErr result
+            (λ fault. (fault ≡ out_of_memory) × (self.new.fault ≡ Some out_of_memory_here)) }
         ensures no_fault { IfOk result (λ _. self.new.fault ≡ None) }
         ensures font { self.new.font ≡ self.old.font }
         ensures finding { IsForFinding self.new }
     {
-        self.look_next(alloc, finder, Search::Certificate)
+        self.search_next(alloc, finder, Search::Certificate)
     }
 }

@@ -50,7 +50,8 @@ fn run_own_words(rt: &HostRuntime) -> io::Result<u8>
     Ok(status)
 }
 
-/// Returns what the process ends with: the command's status, 3 where memory ran out for the words, and 2 where a word isn't text.
+/// Returns what the process ends with: the command's status, 3 where memory ran out for the words,
+/// and 2 where a word isn't text.
 fn exit_code(answer: io::Result<u8>) -> ExitCode
     ensures ok { IfOk answer (λ status. exit_status result ≡ status) }
     ensures err { IfErr answer (λ _. (exit_status result ≡ 2) ⊎ (exit_status result ≡ 3)) }
@@ -62,8 +63,8 @@ fn exit_code(answer: io::Result<u8>) -> ExitCode
     }
 }
 
-/// Does what the program's own words ask for, on its own streams. No contract of the runtime tells what the words are: the status is that
-/// of some words, or 2 or 3 where they can't be read.
+/// Does what the program's own words ask for, on its own streams. No contract of the runtime tells
+/// what the words are: the status is that of some words, or 2 or 3 where they can't be read.
 pub fn program(rt: &HostRuntime) -> ExitCode
     ensures { IsStatus (exit_status result) }
 {

@@ -4,4 +4,3 @@ mod builders;
 mod certificates;
 mod checking;
 mod fillings;
-pub(crate) mod fixtures;

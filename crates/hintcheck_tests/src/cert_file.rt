@@ -1,8 +1,7 @@
-//! Tests of `tt_cert_file`: sections and headers of certificate files, whose bytes were worked out by hand.
+//! Tests of `tt_cert_file`: sections and headers of certificate files, whose bytes were worked out
+//! by hand.
 
 mod ahead;
-mod bytes;
-pub(crate) mod calls;
 mod decoding;
 mod encoding;
 mod failing;

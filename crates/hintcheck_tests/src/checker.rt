@@ -1,6 +1,5 @@
 //! Tests of the verdicts, and of what the command prints of them.
 
-pub(crate) mod certificate_calls;
 pub(crate) mod certificate_commands;
 mod certificates;
 mod commands;
@@ -15,6 +14,5 @@ mod listing;
 mod malicious_files;
 pub(crate) mod outputs;
 mod sessions;
-mod stored_certificates;
 mod upgrade_commands;
 mod upgrades;

@@ -1,5 +1,5 @@
-//! Tests of `tt_find`: how large the least families of small programs are and which of their states are listed, why there is none, and one
-//! finder for many programs.
+//! Tests of `tt_find`: how large the least families of small programs are and which of their states
+//! are listed, why there is none, and one finder for many programs.
 
 mod families;
 mod fillings;

@@ -1,4 +1,5 @@
-//! The tests of all crates, a module for each. They are one crate, since each crate of tests reads the libraries below it once more.
+//! The tests of all crates, a module for each. They are one crate, since each crate of tests reads
+//! the libraries below it once more.
 #![tactic(auto)]
 
 #[cfg(test)]

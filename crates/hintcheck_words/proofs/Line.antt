@@ -75,7 +75,8 @@ meets_one words name rows e found =
 pub fault_is : (a : App) (words : List Text) → a ≡ hintcheck → (is_simple_and_free a ≡ true → fault_of a words ≡ []) → fault_of hintcheck words ≡ []
 fault_is a words same none = sym (ap (λ (b : App). fault_of b words) same) ∙ none (ap is_simple_and_free same ∙ simple_and_free)
 
--- an error of a kind that clap may report for this command line, other than out of memory, is among the faults of the words
+-- an error of a kind that clap may report for this command line, other than out of memory, is among
+-- the faults of the words
 pub kind_among : (a : App) (words : List Text) (e : Error) → a ≡ hintcheck → (is_simple_and_free a ≡ true → HasKind (fault_of a words) e)
     → (kind_of e ≡ kind.OutOfMemory → ⊥) → IsAmong (kind_of e) (fault_of hintcheck words)
 kind_among a words e same has other =

@@ -1,5 +1,5 @@
--- A walk over words that has no fault keeps rows that fit, and meets no `help`. For commands with no
--- flag except for help.
+-- A walk over words that has no fault keeps rows that fit, and meets no `help`. For commands with
+-- no flag except for help.
 use Rattle.std.proofs.Common.{◌≡◌, ℕ, zero, suc, Bool, true, false, List, [], ◌∷◌, Option, Some, None, length, refl, sym, ap, subst, ◌∙◌, ◌⊎◌, inl, inr, codes}
 use Rattle.std.specs.Prelude.{fold, slice_get, is_some, ◌&&◌, if◌then◌else◌}
 use Rattle.std.specs.List.{list_all}

@@ -9,14 +9,15 @@ use Rattle.std.specs.Prelude.{codes, fold, List, [], ◌∷◌, true, pos, Some}
 use Rattle.clap.specs.Words.{App, Rule, Text, new_app, new_rule, with_rule, with_subcommand}
 use Rattle.clap.specs.declared.builder.value_parser.ValueParser.TheVariants as parser
 
--- an argument that may be left out, one that must be given, and one that must be a number of 16
--- bits
+-- an argument that may be left out
 abbrev pub optional : Text → Rule
 optional id = new_rule id
 
+-- an argument that must be given
 abbrev pub needed : Text → Rule
 needed id = record (new_rule id) { required = true }
 
+-- an argument that must be given a number of 16 bits
 abbrev pub needed_number : Text → Rule
 needed_number id = record (needed id) { parser = Some (parser.Signed (pos 0) (pos 65535)) }
 
@@ -24,23 +25,29 @@ needed_number id = record (needed id) { parser = Some (parser.Signed (pos 0) (po
 abbrev pub of_texts : Text → List Text → App
 of_texts name ids = fold (λ a id. with_rule a (needed id)) (new_app name) ids
 
+-- the subcommand `bare`, which checks one glyph program
 abbrev pub bare : App
 bare = with_rule (with_rule (with_rule (with_rule (with_rule (new_app (codes "bare"))
     (needed (codes "MAXP"))) (needed_number (codes "CVT"))) (needed_number (codes "POINTS")))
     (needed_number (codes "CONTOURS"))) (optional (codes "PROGRAM"))
 
+-- the subcommand `verdict`, which checks all programs of a font file
 abbrev pub verdict : App
 verdict = of_texts (codes "verdict") (codes "FONT" ∷ [])
 
+-- the subcommand `find`, which writes the certificate of a font file
 abbrev pub find : App
 find = of_texts (codes "find") (codes "FONT" ∷ codes "CERT" ∷ [])
 
+-- the subcommand `check`, which checks a font file by its certificate
 abbrev pub check : App
 check = of_texts (codes "check") (codes "FONT" ∷ codes "CERT" ∷ [])
 
+-- the subcommand `list`, which lists the instructions of one program
 abbrev pub list : App
 list = of_texts (codes "list") (codes "FONT" ∷ codes "PROGRAM" ∷ [])
 
+-- the subcommand `upgrade`, which writes a certificate in the newest form
 abbrev pub upgrade : App
 upgrade = of_texts (codes "upgrade") (codes "OLD" ∷ codes "NEW" ∷ [])
 
@@ -50,5 +57,7 @@ program = record (new_app (codes "hintcheck")) {
   top = record (new_app (codes "hintcheck")).top { subcommand_required = true };
 }
 
+-- the command line: the program with its subcommands
 unfoldable pub hintcheck : App
-hintcheck = fold (λ a s. with_subcommand a s.top) program (bare ∷ verdict ∷ find ∷ check ∷ list ∷ upgrade ∷ [])
+hintcheck = fold (λ a s. with_subcommand a s.top) program
+    (bare ∷ verdict ∷ find ∷ check ∷ list ∷ upgrade ∷ [])

@@ -29,14 +29,15 @@ pub data Request : Type 0 where
   list : Text → Text → Request
   upgrade : Text → Text → Request
 
--- the first text that an argument got, the number that it spells, and the text of one that may be
--- left out
+-- the first text that an argument got, empty where it got none
 abbrev pub text_in : List Row → Text → Text
 text_in rows id = unwrap_or (first_of id rows) []
 
+-- the number that the text of an argument spells
 abbrev pub number_in : List Row → Text → ℕ
 number_in rows id = digits_value 10 (without_leading_plus (unwrap_or (one_of id rows) []))
 
+-- the text that an argument got, if it got one
 abbrev pub optional_in : List Row → Text → Option Text
 optional_in rows id = first_of id rows
 
@@ -46,9 +47,12 @@ pub record HasNumber (rows : List Row) (id : Text) : Type 0 where
   pub found : one_of id rows ≡ Some (without_minus text)
   pub number : IsSignedIn (pos 0) (pos 65535) text
 
+-- what `bare` asks for, by what its arguments got
 unfoldable pub bare_request : List Row → Request
-bare_request rows = bare (text_in rows (codes "MAXP")) (number_in rows (codes "CVT")) (number_in rows (codes "POINTS"))
-    (number_in rows (codes "CONTOURS")) (optional_in rows (codes "PROGRAM"))
+bare_request rows =
+    bare (text_in rows (codes "MAXP")) (number_in rows (codes "CVT"))
+    (number_in rows (codes "POINTS")) (number_in rows (codes "CONTOURS"))
+    (optional_in rows (codes "PROGRAM"))
 
 -- each subcommand, and what it asks for by what its arguments got
 unfoldable pub requests : List (Text × (List Row → Request))
@@ -57,7 +61,8 @@ requests = (codes "bare", bare_request)
     ∷ (codes "find", λ rows. find (text_in rows (codes "FONT")) (text_in rows (codes "CERT")))
     ∷ (codes "check", λ rows. check (text_in rows (codes "FONT")) (text_in rows (codes "CERT")))
     ∷ (codes "list", λ rows. list (text_in rows (codes "FONT")) (text_in rows (codes "PROGRAM")))
-    ∷ (codes "upgrade", λ rows. upgrade (text_in rows (codes "OLD")) (text_in rows (codes "NEW"))) ∷ []
+    ∷ (codes "upgrade", λ rows. upgrade (text_in rows (codes "OLD")) (text_in rows (codes "NEW")))
+    ∷ []
 
 -- what a subcommand asks for
 unfoldable pub request_of : Text × List Row → Option Request
@@ -96,7 +101,8 @@ MeetsSubcommand found = IsSomeAnd found IsReadable
 
 -- a task apart from where its texts lie in memory
 unfoldable pub asked : Task → Request
-asked (task.Bare maxp cvt points contours program) = bare (string_bytes maxp) cvt points contours (option_map (λ s. string_bytes s) program)
+asked (task.Bare maxp cvt points contours program) =
+    bare (string_bytes maxp) cvt points contours (option_map (λ s. string_bytes s) program)
 asked (task.Verdict font) = verdict (string_bytes font)
 asked (task.Find font certificate) = find (string_bytes font) (string_bytes certificate)
 asked (task.Check font certificate) = check (string_bytes font) (string_bytes certificate)

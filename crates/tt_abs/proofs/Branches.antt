@@ -23,7 +23,7 @@ use Rattle.tt_abs.specs.Cells.{Covers, CoversStack, CoversFunctions, Abstract}
 use Rattle.tt_abs.specs.Covers.{Stands, Becomes, IsSmallestCover, At, AreSmallestCovers, TransfersTo}
 use Rattle.tt_abs.specs.Entries.{with_entry}
 use Rattle.tt_abs.specs.Transfers.{Next, one_way, two_ways, known, leaves_cells, jump_target, jumps_cells, jumps_by, jumps_if_cells, controlled_cells}
-use Rattle.tt_abs.specs.Followed.{is_followed}
+use Rattle.tt_abs.specs.Representation.Followed.{is_followed}
 use Rattle.tt_abs.proofs.Choosing.{zero_is_number, one_is_number, minus_one_is_number, some_covered, some_stack}
 use Rattle.tt_abs.proofs.Bests.{IsBestStack, best_drop, covered_length}
 use Rattle.tt_abs.proofs.Machines.{May, some_machine, with_stack, stack_best, registers_best, transfers_ok, transfers_same}

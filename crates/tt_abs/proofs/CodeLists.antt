@@ -8,7 +8,7 @@ use Rattle.std.proofs.lemmas.List.{get_or-map, get_or_past, get_or-set_other, ge
 use Rattle.tt_abs.specs.declared.cells.Cell.{Cell}
 use Rattle.tt_abs.specs.declared.cells.Cell.TheVariants.{Unknown}
 use Rattle.tt_abs.specs.CellOrders.{CellBelow}
-use Rattle.tt_abs.specs.Codes.{cell_of_code, cells_of}
+use Rattle.tt_abs.specs.Representation.Codes.{cell_of_code, cells_of}
 use Rattle.tt_abs.specs.Stacks.{cell_at, IsLeastCell, StackBelow}
 
 -- the cell of a place's code

@@ -8,7 +8,7 @@ use Rattle.std.proofs.lemmas.List.{append-nil, drop-map, drop_more, length-drop,
 use Rattle.std.proofs.lemmas.List.Edits.{remove-append_left, remove-append_right}
 use Rattle.tt_abs.specs.declared.cells.Cell.{Cell}
 use Rattle.tt_abs.specs.declared.cells.Cell.TheVariants.{Unknown}
-use Rattle.tt_abs.specs.Codes.{cell_of_code, cells_of, kept_cells}
+use Rattle.tt_abs.specs.Representation.Codes.{cell_of_code, cells_of, kept_cells}
 use Rattle.tt_abs.specs.Transfers.{cells_on}
 use Rattle.tt_abs.specs.CellOrders.{CellInRange}
 use Rattle.tt_abs.specs.Stacks.{cell_at, IsLeastCell, StackInRange}

@@ -1,18 +1,17 @@
 -- What is left of a stack when operands were taken.
-use Rattle.std.specs.Prelude.{ℤ}
+use Rattle.std.specs.Prelude.{ℤ, Result, IfOk, IfErr}
 use Rattle.std.proofs.Common.{◌≡◌, ℕ, zero, suc, ◌+◌, ◌-◌, ◌<◌, ◌≤◌, List, [], ◌∷◌, ◌++◌, append_assoc, Some, None, Ok, Err, Bool, true, false, get_or, refl, sym, ◌∙◌, ap, subst, arith, length, drop, add-one}
 use Rattle.tt_code.specs.Refusals.{Tested}
 use Rattle.tt_code.specs.Settings.{Setting}
 use Rattle.tt_code.specs.Operands.{Taking, then_take, take_one, times, pair, pairs}
 use Rattle.tt_code.specs.Changes.{taken_at}
 use Rattle.tt_code.specs.declared.reason.Reason.{Reason}
-use Rattle.std.specs.Prelude.{Result, IfOk, IfErr}
 use Rattle.std.specs.Result.{IsErrAnd}
 use Rattle.std.proofs.Math.Seq.{drop-cons}
 use Rattle.tt_code.specs.declared.kinds.Operand.{Operand}
 use Rattle.tt_abs.specs.Cells.{Cells}
 use Rattle.tt_abs.specs.Stacks.{first}
-use Rattle.tt_abs.specs.Taken.{TakesTo, GoesOn}
+use Rattle.tt_abs.specs.Representation.Taken.{TakesTo, GoesOn}
 use Rattle.tt_abs.specs.declared.cells.Cell.{Cell}
 use Rattle.tt_abs.specs.declared.cells.Cell.TheVariants.{Known}
 use Rattle.tt_abs.specs.Transfers.{tested_cell, take_cell, take_cells, known_count}

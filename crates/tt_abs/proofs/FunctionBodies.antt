@@ -17,7 +17,7 @@ use Rattle.tt_abs.specs.declared.cells.Cell.{Cell}
 use Rattle.tt_abs.specs.declared.state.State.{State}
 use Rattle.tt_abs.specs.Cells.{Abstract}
 use Rattle.tt_abs.specs.Entries.{listed, with_entry}
-use Rattle.tt_abs.specs.EntryFacts.{listed-with}
+use Rattle.tt_abs.specs.Representation.EntryFacts.{listed-with}
 use Rattle.tt_abs.specs.Families.{Derived, started, moved, joined}
 use Rattle.tt_abs.specs.FunctionBodies.{AreFunctionBodies, AreProgramsOfFont, IsFunctionBody, RunsAsItsKind, of_cvt_program, of_font_program}
 use Rattle.tt_abs.specs.StateFlow.{AreProgramsShort, Place, flow_of}

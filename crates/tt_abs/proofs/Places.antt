@@ -17,7 +17,7 @@ use Rattle.tt_abs.specs.declared.cells.Cell.{Cell}
 use Rattle.tt_abs.specs.declared.cells.Cell.TheVariants.{Known, Unknown}
 use Rattle.tt_abs.specs.Cells.{Abstract}
 use Rattle.tt_abs.specs.Covers.{TransfersTo, has_body_twice, SomeRecurs, StandsFor}
-use Rattle.tt_abs.specs.Followed.{is_followed}
+use Rattle.tt_abs.specs.Representation.Followed.{is_followed}
 use Rattle.tt_abs.specs.Transfers.{Next, one_way, two_ways, known, leaves_cells, jump_target, jumps_cells, jumps_by, jumps_if_cells, if_ways, goes_on_cells, plain_cells, shuffled_cells, computed_cells, controlled_cells, does_cells, are_within, within_cells}
 use Rattle.tt_abs.proofs.Depth.{depth_of_ways}
 

@@ -20,8 +20,8 @@ use Rattle.tt_code.specs.declared.kinds.Pushed.TheVariants as pushed
 use Rattle.tt_abs.specs.declared.cells.Cell.{Cell}
 use Rattle.tt_abs.specs.declared.cells.Cell.TheVariants.{Known, Unknown}
 use Rattle.tt_abs.specs.Cells.{Abstract, Cells}
-use Rattle.tt_abs.specs.Stored.{is_single, is_storage, is_storage_at, stores_tested, reads_tested, is_tested_line, changes_or_pushes, IsIndex, AreIndexed, AreIndexedPushes}
-use Rattle.tt_abs.specs.Taken.{TakesTo}
+use Rattle.tt_abs.specs.Representation.Stored.{is_single, is_storage, is_storage_at, stores_tested, reads_tested, is_tested_line, changes_or_pushes, IsIndex, AreIndexed, AreIndexedPushes}
+use Rattle.tt_abs.specs.Representation.Taken.{TakesTo}
 use Rattle.tt_abs.specs.Transfers.{tested_cell, take_cell, take_cells, test_cell_uses, plain_cells, leaves_cells, cells_pushed, cells_on, cells}
 use Rattle.tt_abs.proofs.Rows.{is_single as is_one}
 use Rattle.tt_abs.proofs.Takes.{StandsFor, operands_stand}

@@ -16,8 +16,8 @@ use Rattle.tt_abs.specs.declared.refusal.Refusal.{Refusal}
 use Rattle.tt_abs.specs.declared.refusal.Refusal.TheVariants.{Refused, OutOfMemory}
 use Rattle.tt_abs.specs.Cells.{Abstract}
 use Rattle.tt_abs.specs.Stacks.{first}
-use Rattle.tt_abs.specs.Steps.{Restacks, RefusesStack, takes_one}
-use Rattle.tt_abs.specs.Computes.{one_result, two_results}
+use Rattle.tt_abs.specs.Representation.Steps.{Restacks, RefusesStack, takes_one}
+use Rattle.tt_abs.specs.Representation.Computes.{one_result, two_results}
 use Rattle.tt_abs.specs.Transfers.{known, shuffled_cells, computed_cells, of_one_cell, of_two_cells}
 use Rattle.tt_abs.proofs.Fronts.{first_is, left_after}
 

@@ -13,7 +13,7 @@ use Rattle.tt_abs.specs.declared.state.State.{State}
 use Rattle.tt_abs.specs.CellOrders.{CellInRange}
 use Rattle.tt_abs.specs.Cells.{Abstract}
 use Rattle.tt_abs.specs.Entries.{Rises, listed, with_entry, known_or_not, storage_of, with_cell}
-use Rattle.tt_abs.specs.EntryFacts.{listed-all, listed-with, storage-with_cell}
+use Rattle.tt_abs.specs.Representation.EntryFacts.{listed-all, listed-with, storage-with_cell}
 use Rattle.tt_abs.specs.EntryLaws.{listed-here, listed-there, number-above, Rises-filter, entry_laws}
 use Rattle.tt_abs.specs.EntryLists.{EntriesBelow}
 use Rattle.tt_abs.specs.Ranges.{IsInRange, AreInRange, IsStateInRange, IsSettingInRange}

@@ -3,7 +3,7 @@ use Rattle.std.proofs.Common.{◌≡◌, ℕ, List, [], ◌∷◌, refl, sym, �
 use Rattle.std.specs.Prelude.{◌&&◌, if◌then◌else◌}
 use Rattle.std.proofs.lemmas.Bool.{and_parts}
 use Rattle.tt_code.specs.Table.{Meaning, Plain, Lists, Line, table, meaning_in, effect_of, is_among}
-use Rattle.tt_abs.specs.Stored.{is_of_one_kind, is_tested_line}
+use Rattle.tt_abs.specs.Representation.Stored.{is_of_one_kind, is_tested_line}
 use Rattle.tt_abs.proofs.Rows.{is_readable_line}
 
 -- whether a plain line passes a test

@@ -105,8 +105,9 @@ ControlsTo setting point op old new moves =
 abbrev pub IsControlRefusedFor : Setting → Point → Control → State → Refusal → Type 0
 IsControlRefusedFor setting point op old e = IsRefusedFor (control_at setting point old op) e
 
--- no machine that the old state covers fails at the point, and the new one, at each place to which
--- the moves lead, is the smallest that covers what they become there
+-- of the machines that the old state covers, none faults at the point or comes to run a body twice;
+-- the moves are at most two, and at each place to which they lead, and nowhere else, those machines
+-- come: the new state is the smallest that covers them there
 abbrev pub GivesByMachines : Setting → Point → State → State → Moves → Type 0
 GivesByMachines setting point old new moves =
     Gives (abstract_of old) (frames_of point) point.offset (outcome (setting_of setting))

@@ -64,6 +64,10 @@ list_order = product function_order storage_order
 abbrev pub state_order : Order State
 state_order = along parts (product stack_order (product graphics_order list_order))
 
+-- a change keeps the state's numbers in range
+abbrev pub KeepsRange : State → State → Type 0
+KeepsRange old new = state_order.InRange old → state_order.InRange new
+
 pub state_laws : OrderLaws state_order
 state_laws =
     along_laws parts state_from (λ _. refl)

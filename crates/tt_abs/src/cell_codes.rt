@@ -1,10 +1,11 @@
-//! How the stack keeps most of its cells: in numbers of 16 bits, so that cells are compared many at a time.
+//! Cell codes: most cells of a stack are kept as numbers of 16 bits, so that cells are compared
+//! many at a time.
 
-ghost use Rattle.std.specs.Prelude.{◌≡◌, ◌≢◌, ℕ, ◌^◌, ◌<◌, ◌≤◌, ◌↔◌, ◌+◌, ◌++◌, [], ◌∷◌, IsTrue, MatchOption, take, length, slice_index, map, pos, vec_len, vec_capacity};
+ghost use Rattle.std.specs.Prelude.{◌≡◌, ℕ, ◌<◌, ◌≤◌, ◌↔◌, ◌+◌, ◌++◌, [], ◌∷◌, IsTrue, MatchOption, take, length, map, pos, vec_len, vec_capacity};
 ghost use Rattle.smallvec.specs.SmallVec.{HasRoomFor, small_vec_len};
 ghost use Rattle.tt_abs.specs.declared.cells.Cell.TheVariants.{Known};
 ghost use Rattle.tt_abs.specs.CellOrders.{CellBelow, CellInRange};
-ghost use Rattle.tt_abs.specs.Codes.{cell_of_code, cells_of};
+ghost use Rattle.tt_abs.specs.Representation.Codes.{AreLeastCodes, HasNoCode, cell_of_code, cells_of};
 ghost use Rattle.tt_abs.specs.Stacks.{IsLeastCell, StackBelow, cell_at};
 
 use crate::cells::Cell;
@@ -19,9 +20,10 @@ pub type Codes = SmallVec<u16, INLINE_CELLS>;
 /// The code of an unknown cell. Each other code is the two's complement of its cell's number.
 pub const UNKNOWN: u16 = 0x8000;
 
-/// Returns the code of the cell, if it has one: an unknown cell, or a number from -32,767 to 32,767.
+/// Returns the code of the cell, if it has one: an unknown cell, or a number from -32,767 to
+/// 32,767.
 pub fn code_of(cell: Cell) -> Option<u16>
-    ensures { MatchOption result ((code : ℕ) → code < 2 ^ 16 → cell_of_code code ≢ cell) (λ code. cell_of_code code ≡ cell) }
+    ensures { MatchOption result (HasNoCode cell) (λ code. cell_of_code code ≡ cell) }
 {
     match cell {
         Cell::Known(number) if -32_768 < number && number < 32_768 => {
@@ -43,7 +45,8 @@ pub fn cell_of(code: u16) -> Cell
     }
 }
 
-/// Whether each code is the same as its partner. Compares bits only, so that the loop becomes vector code.
+/// Whether each code is the same as its partner. Compares bits only, so that the loop becomes
+/// vector code.
 pub fn are_equal(mine: &[u16], theirs: &[u16]) -> bool
     requires { length mine.now ≡ length theirs.now }
     ensures { IsTrue result ↔ (mine.now ≡ theirs.now) }
@@ -95,7 +98,7 @@ fn joined_code(mine: u16, theirs: u16) -> u16
 /// Makes each cell the least one above it and its partner, of two equally long lists.
 pub fn join_codes(mine: &mut [u16], theirs: &[u16])
     requires { length mine.old ≡ length theirs.now }
-    ensures { (k : ℕ) → k < length mine.old → IsLeastCell (cell_of_code (slice_index mine.old k)) (cell_of_code (slice_index theirs.now k)) (cell_of_code (slice_index mine.new k)) }
+    ensures { AreLeastCodes mine.old theirs.now mine.new }
 {
     for i in 0..mine.len() {
         mine[i] = joined_code(mine[i], theirs[i]);
@@ -115,7 +118,8 @@ fn append(codes: &mut Codes, byte: u8)
 /// Appends bytes, for which there is room.
 pub fn append_bytes(codes: &mut Codes, bytes: &[u8])
     requires { HasRoomFor codes.old (length bytes.now) }
-    ensures cells { cells_of codes.new.items ≡ cells_of codes.old.items ++ map Known (map pos bytes.now) }
+    ensures cells { cells_of codes.new.items
+        ≡ cells_of codes.old.items ++ map Known (map pos bytes.now) }
     ensures len { small_vec_len codes.new ≡ small_vec_len codes.old + length bytes.now }
 {
     for byte in bytes {
@@ -133,8 +137,8 @@ fn append_code(codes: &mut Codes, code: u16)
     codes.push_reserved(code);
 }
 
-/// Appends the codes of cells, for which there is room, up to the first cell that has none, and returns
-/// how many codes were appended.
+/// Appends the codes of cells, for which there is room, up to the first cell that has none, and
+/// returns how many codes were appended.
 pub fn append_codes(codes: &mut Codes, cells: &[Cell]) -> usize
     requires { HasRoomFor codes.old (length cells.now) }
     ensures count { result ≤ length cells.now }

@@ -2,8 +2,8 @@
 
 ghost use Rattle.std.specs.Prelude.{◌≡◌, IfOk, OnOk, pos, take};
 ghost use Rattle.tt_code.specs.Changes.{taken_at};
-ghost use Rattle.tt_abs.specs.Steps.{ChangesAllTo, ChangesTo, all_pushed_from, pushed_from};
-ghost use Rattle.tt_abs.specs.Stored.{AreIndexed, AreIndexedPushes, IndexedPush, IndexedUpdate, IsIndex};
+ghost use Rattle.tt_abs.specs.Representation.Steps.{ChangesAllTo, ChangesTo, all_pushed_from, pushed_from};
+ghost use Rattle.tt_abs.specs.Representation.Stored.{AreIndexed, AreIndexedPushes, IndexedPush, IndexedUpdate, IsIndex};
 ghost use Rattle.tt_abs.specs.Transfers.{index_in, zone_in};
 ghost use Rattle.tt_abs.specs.declared.cells.Cell.TheVariants.{Known};
 

@@ -1,8 +1,8 @@
 //! The arithmetic and logical instructions.
 
 ghost use Rattle.std.specs.Prelude.{◌≡◌, IfErr, OnOk};
-ghost use Rattle.tt_abs.specs.Computes.{one_computed, two_computed, one_result, two_results};
-ghost use Rattle.tt_abs.specs.Steps.{IsStackRefusedFor, Restacks, takes_one};
+ghost use Rattle.tt_abs.specs.Representation.Computes.{one_computed, two_computed, one_result, two_results};
+ghost use Rattle.tt_abs.specs.Representation.Steps.{IsStackRefusedFor, Restacks, takes_one};
 ghost use Rattle.tt_abs.specs.Transfers.{computed_cells};
 
 use crate::arithmetic;

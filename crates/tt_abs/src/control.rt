@@ -3,7 +3,7 @@
 ghost use Rattle.std.specs.Prelude.{◌≡◌, ◌+◌, ◌<◌, ◌^◌, Err, IfErr, IfOk, Ok, reverse, ℕ};
 ghost use Rattle.tt_code.specs.declared.kinds.Control.TheVariants as control;
 ghost use Rattle.tt_abs.specs.Moves.{ControlsTo, IsControlRefusedFor, IsRefusedFor, LeadsBy};
-ghost use Rattle.tt_abs.specs.Steps.{JumpsNowhere, JumpsTo, Leads, LeadsNowhere, called_at, enter_at, if_at, jump_at, jump_if_at, loop_at};
+ghost use Rattle.tt_abs.specs.Representation.Steps.{JumpsNowhere, JumpsTo, Leads, LeadsNowhere, called_at, enter_at, if_at, jump_at, jump_if_at, loop_at};
 ghost use Rattle.tt_abs.specs.Transfers.{is_running as runs_already};
 
 use crate::arithmetic::is_true;

@@ -5,7 +5,7 @@ ghost use Rattle.tt_abs.specs.Moves.{IsStepRefusedFor, StartsAt, StepsTo, point_
 ghost use Rattle.tt_abs.specs.Lines.{EndsAt};
 ghost use Rattle.tt_abs.specs.Settings.{frames_of, setting_of};
 ghost use Rattle.tt_abs.specs.States.{state_order};
-ghost use Rattle.tt_abs.specs.Steps.{DoesTo, IsDoingRefusedFor};
+ghost use Rattle.tt_abs.specs.Representation.Steps.{DoesTo, IsDoingRefusedFor};
 
 use crate::compute::compute;
 use crate::control::execute_control;
@@ -62,7 +62,7 @@ fn execute(
     if state.stack.len() > usize::from(setting.limits.stack) {
         return Err(Refusal::Refused(Reason::Overflow));
     }
-    state.rises();
+    state.order_facts();
     Ok(moves)
 }
 

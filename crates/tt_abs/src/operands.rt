@@ -4,7 +4,7 @@ ghost use Rattle.std.specs.Prelude.{◌≡◌, Err, IfErr, IfOk, Ok, OnOk};
 ghost use Rattle.tt_code.specs.Operands.{pair, take_one, times};
 ghost use Rattle.tt_abs.specs.declared.cells.Cell.TheVariants.{Known};
 ghost use Rattle.tt_abs.specs.Settings.{setting_of};
-ghost use Rattle.tt_abs.specs.Taken.{IsCountUnder, IsNumberUnder, IsTakingRefused, NoCountUnder, NoNumberUnder, TakesFrom, TakesTo, cvt_pairs, loop_points, one_contour, one_cvt, one_index, one_operand, one_point, one_zone, point_pairs};
+ghost use Rattle.tt_abs.specs.Representation.Taken.{IsCountUnder, IsNumberUnder, IsTakingRefused, NoCountUnder, NoNumberUnder, TakesFrom, TakesTo, cvt_pairs, loop_points, one_contour, one_cvt, one_index, one_operand, one_point, one_zone, point_pairs};
 ghost use Rattle.tt_abs.specs.Transfers.{known, known_count, take_cells, test_cell_uses};
 
 use crate::cells::{Cell, ZoneCell};

@@ -3,8 +3,8 @@
 ghost use Rattle.std.specs.Prelude.{◌≡◌, IfErr, Ok, OnOk, true};
 ghost use Rattle.tt_abs.specs.Moves.{IsRefusedFor};
 ghost use Rattle.tt_abs.specs.States.{abstract_of};
-ghost use Rattle.tt_abs.specs.Steps.{line_of, plain_at};
-ghost use Rattle.tt_abs.specs.Stored.{is_of_one_kind, is_tested_line};
+ghost use Rattle.tt_abs.specs.Representation.Steps.{line_of, plain_at};
+ghost use Rattle.tt_abs.specs.Representation.Stored.{is_of_one_kind, is_tested_line};
 
 use crate::changes::{pushed_cells, update_all};
 use crate::operands::{take_operands, test_uses};

@@ -4,7 +4,7 @@ ghost use Rattle.std.specs.Prelude.{◌≡◌, ◌+◌, ◌∷◌, [], Err, IfEr
 ghost use Rattle.tt_code.specs.Computing.{element};
 ghost use Rattle.tt_code.specs.declared.kinds.StackOp.TheVariants as op;
 ghost use Rattle.tt_code.specs.declared.reason.Reason.TheVariants as reason;
-ghost use Rattle.tt_abs.specs.Steps.{IsNamedCell, IsStackRefusedFor, NamesNoCell, Restacks};
+ghost use Rattle.tt_abs.specs.Representation.Steps.{IsNamedCell, IsStackRefusedFor, NamesNoCell, Restacks};
 ghost use Rattle.tt_abs.specs.Transfers.{shuffled_cells};
 ghost use Rattle.tt_abs.specs.declared.cells.Cell.{Cell as AnyCell};
 

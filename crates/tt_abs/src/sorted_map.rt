@@ -1,4 +1,5 @@
-//! Lists of entries in ascending order of their numbers: functions with their bodies, storage cells with their numbers.
+//! Sorted maps: entries in ascending order of their numbers, as functions with their bodies and
+//! storage cells with their numbers.
 
 ghost use Rattle.std.specs.Prelude.{◌≡◌, ◌↔◌, ℕ, ◌<◌, ◌≤◌, List, [], ◌∷◌, IsTrue, IfOk, MatchResult, OnOk, OnErr, take, length};
 ghost use Rattle.std.specs.Option.{IsSome};
@@ -12,7 +13,7 @@ use crate::order::{AbsFault, Order};
 use std::alloc::{AllocError, Global};
 use std::marker::Model;
 
-/// How many entries are kept at most.
+/// How many entries a map has at most.
 const MOST_ENTRIES: usize = 65_535;
 
 /// A value of an entry: it is copied, and `==` tells equal values from others.
@@ -28,7 +29,8 @@ pub trait EntryValue: Copy + PartialEq {
     ghost decides: { IsEquality Self.eq };
 }
 
-/// Whether functions with their bodies are the same, in two lists of one length. Compares bits only, so that no entry takes a branch.
+/// Whether functions with their bodies are the same, in two lists of one length. Compares bits
+/// only, so that no entry takes a branch.
 fn are_equal(mine: &[(u16, u32)], theirs: &[(u16, u32)]) -> bool
     requires { length mine.now ≡ length theirs.now }
     ensures { IsTrue result ↔ (mine.now ≡ theirs.now) }
@@ -157,7 +159,7 @@ fn begins_with<T: EntryValue>(entries: &[(u16, T)], entry: &(u16, T)) -> bool
 }
 
 /// Returns the entries after the first, if that is this one, and all of them otherwise.
-fn behind<'a, T: EntryValue>(entries: &'a [(u16, T)], entry: &(u16, T)) -> &'a [(u16, T)]
+fn rest_after<'a, T: EntryValue>(entries: &'a [(u16, T)], entry: &(u16, T)) -> &'a [(u16, T)]
     ensures { result.now ≡ behind_entry T.eq entry.now entries.now }
 {
     match entries {
@@ -174,13 +176,13 @@ fn passes_all<T: EntryValue>(mine: &[(u16, T)], theirs: &[(u16, T)]) -> bool
 {
     let mut missing = theirs;
     for entry in mine {
-        missing = behind(missing, entry);
+        missing = rest_after(missing, entry);
     }
     missing.is_empty()
 }
 
-/// Whether the first list has all the entries of the second. Of two lists of one length, each has all those of the other exactly if
-/// they are the same.
+/// Whether the first list has all the entries of the second. Of two lists of one length, each has
+/// all those of the other exactly if they are the same.
 fn lists_all<T: EntryValue>(mine: &[(u16, T)], theirs: &[(u16, T)]) -> bool
     requires mine_rise { Rises mine.now }
     requires theirs_rise { Rises theirs.now }
@@ -198,11 +200,11 @@ fn from_number<T>(entries: &[(u16, T)], number: u16) -> &[(u16, T)]
     ensures { result.now ≡ entries_from number entries.now }
 {
     let mut rest = entries;
-    while let [first, behind @ ..] = rest {
+    while let [first, after @ ..] = rest {
         if first.0 >= number {
             break;
         }
-        rest = behind;
+        rest = after;
     }
     rest
 }
@@ -238,7 +240,7 @@ fn keep_common<T: EntryValue>(mine: &mut Vec<(u16, T)>, theirs: &[(u16, T)])
 }
 
 impl<T: Copy> SortedMap<T> {
-    /// Makes a list without entries. Takes no memory.
+    /// Makes the empty map. Takes no memory.
     pub fn new(alloc: Global) -> SortedMap<T>
         ensures { result ≡ [] }
     {
@@ -247,7 +249,7 @@ impl<T: Copy> SortedMap<T> {
         }
     }
 
-    /// Makes a list of these entries.
+    /// Makes a map of these entries.
     ///
     /// # Errors
     /// If memory runs out.
@@ -260,7 +262,7 @@ impl<T: Copy> SortedMap<T> {
         })
     }
 
-    /// Makes a list with the same entries.
+    /// Makes a map with the same entries.
     ///
     /// # Errors
     /// If memory runs out.
@@ -273,7 +275,7 @@ impl<T: Copy> SortedMap<T> {
     /// Becomes a list of these entries, in the memory that it has where that is enough.
     ///
     /// # Errors
-    /// If memory runs out; then the list's entries are unspecified.
+    /// If memory runs out; then the map's entries are unspecified.
     pub fn replace(&mut self, entries: &[(u16, T)]) -> Result<(), AllocError>
         requires { Rises entries.now }
         ensures { OnOk result (self.new ≡ entries.now) }
@@ -286,10 +288,10 @@ impl<T: Copy> SortedMap<T> {
         self.entries.extend_from_slice(entries)
     }
 
-    /// Becomes a list with the same entries, in the memory that it has where that is enough.
+    /// Becomes a map with the same entries, in the memory that it has where that is enough.
     ///
     /// # Errors
-    /// If memory runs out; then the list's entries are unspecified.
+    /// If memory runs out; then the map's entries are unspecified.
     pub fn copy_from(&mut self, other: &SortedMap<T>) -> Result<(), AllocError>
         ensures { OnOk result (self.new ≡ other.now) }
     {
@@ -321,8 +323,8 @@ impl<T: Copy> SortedMap<T> {
     /// Puts an entry at its place, instead of the one of its number.
     ///
     /// # Errors
-    /// If memory runs out, or there are 65,535 other entries; then the list stays as it is. An entry of a number that is listed is
-    /// never refused.
+    /// If memory runs out, or there are 65,535 other entries; then the map stays as it is. An entry
+    /// of a number that is listed is never refused.
     pub fn put(&mut self, number: u16, value: T) -> Result<(), AllocError>
         ensures ok { OnOk result (self.new ≡ with_entry number value self.old) }
         ensures err { OnErr result (self.new ≡ self.old) }

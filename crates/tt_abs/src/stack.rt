@@ -7,7 +7,7 @@ ghost use Rattle.tt_abs.specs.Transfers.{cells_on};
 ghost use Rattle.tt_abs.specs.declared.cells.Cell.TheVariants.{Known};
 ghost use Rattle.tt_abs.specs.CellOrders.{CellInRange};
 ghost use Rattle.tt_abs.specs.Orders.{IsLeastAbove};
-ghost use Rattle.tt_abs.specs.Codes.{kept_cells};
+ghost use Rattle.tt_abs.specs.Representation.Codes.{kept_cells};
 ghost use Rattle.tt_abs.specs.Stacks.{IsLeastCell, StackBelow, StackInRange, cell_at, first, stack_order};
 
 use crate::cell_codes::{
@@ -23,11 +23,12 @@ use std::marker::Model;
 /// How many cells a stack may have at most.
 const MOST_CELLS: usize = 0x7fff_ffff;
 
-/// Up to so many codes are removed one by one: `truncate` clears what it removes by a call, which isn't worth it for a few.
+/// Up to so many codes are removed one by one: `truncate` clears what it removes by a call, which
+/// isn't worth it for a few.
 const FEW: usize = 8;
 
-/// A stack of cells, which contracts see top first. Up to 32 cells need no allocation, if each is unknown or has a number from
-/// -32,767 to 32,767.
+/// A stack of cells, which contracts see top first. Up to 32 cells need no allocation, if each is
+/// unknown or has a number from -32,767 to 32,767.
 #[derive(Drop)]
 pub struct Stack {
     /// The cells from the bottom up to the uppermost that has no code; usually none.
@@ -39,7 +40,7 @@ pub struct Stack {
 impl Model for Stack {
     ghost use Rattle.std.specs.Prelude.{List, length, reverse, ◌+◌, ◌<◌, ◌^◌};
     ghost use Rattle.tt_abs.specs.declared.cells.Cell.{Cell};
-    ghost use Rattle.tt_abs.specs.Codes.{kept_cells};
+    ghost use Rattle.tt_abs.specs.Representation.Codes.{kept_cells};
 
     ghost Value = { List Cell };
 
@@ -60,7 +61,7 @@ pub struct StackCells<'a> {
 impl<'a> Model for StackCells<'a> {
     ghost use Rattle.std.specs.Prelude.{List};
     ghost use Rattle.tt_abs.specs.declared.cells.Cell.{Cell};
-    ghost use Rattle.tt_abs.specs.Codes.{kept_cells};
+    ghost use Rattle.tt_abs.specs.Representation.Codes.{kept_cells};
 
     ghost Value = { List Cell };
 
@@ -68,7 +69,8 @@ impl<'a> Model for StackCells<'a> {
 }
 
 impl<'a> StackCells<'a> {
-    /// Takes the first of the cells that are still to come: `None` exactly where there is none, and from then on always.
+    /// Takes the first of the cells that are still to come: `None` exactly where there is none, and
+    /// from then on always.
     pub fn take_first(&mut self) -> Option<Cell>
         ensures none { result ≡ None → self.old ≡ [] }
         ensures done { result ≡ None → self.new ≡ [] }
@@ -102,7 +104,8 @@ fn make_room(codes: &mut Codes, wide: usize, more: usize) -> Result<(), AllocErr
 /// Puts a cell on top that has no code: it and those below it become wide cells.
 fn push_wide(wide: &mut Vec<Cell>, codes: &mut Codes, cell: Cell) -> Result<(), AllocError>
     requires { length wide.old.items + length codes.old.items < 2 ^ 31 }
-    ensures cells { OnOk result (kept_cells wide.new.items codes.new.items ≡ kept_cells wide.old.items codes.old.items ++ cell ∷ []) }
+    ensures cells { OnOk result (kept_cells wide.new.items codes.new.items
+        ≡ kept_cells wide.old.items codes.old.items ++ cell ∷ []) }
     ensures wide { OnErr result (wide.new.items ≡ wide.old.items) }
     ensures codes { OnErr result (codes.new.items ≡ codes.old.items) }
 {
@@ -136,7 +139,7 @@ fn word_of(high: u8, low: u8) -> i32
 }
 
 /// States that a cell's number is one of the machine, as it always is.
-fn is_in_range(cell: Cell)
+fn number_facts(cell: Cell)
     ensures { CellInRange cell }
 {}
 
@@ -201,7 +204,8 @@ impl Stack {
         }
     }
 
-    /// Puts cells on top, one after the other, up to the first that has no code, and returns how many they are.
+    /// Puts cells on top, one after the other, up to the first that has no code, and returns how
+    /// many they are.
     fn push_coded(&mut self, cells: &[Cell]) -> Result<usize, AllocError>
         ensures count { IfOk result (λ n. n ≤ length cells.now) }
         ensures pushed { IfOk result (λ n. self.new ≡ cells_on (take n cells.now) self.old) }
@@ -223,7 +227,7 @@ impl Stack {
         let rest = &cells[coded..];
         for i in 0..rest.len() {
             let cell = rest[i];
-            is_in_range(cell);
+            number_facts(cell);
             self.push(cell)?;
         }
         Ok(())
@@ -384,7 +388,8 @@ impl Stack {
         self.wide.extend_from_slice(other.wide.as_slice())
     }
 
-    /// Whether the cells are kept in the same way, which is fast to find. Usually they are, if they are the same.
+    /// Whether the cells are kept in the same way, which is fast to find. Usually they are, if they
+    /// are the same.
     fn has_same_parts(&self, other: &Stack) -> bool
         ensures { IsTrue result → self.now ≡ other.now }
     {
@@ -394,8 +399,8 @@ impl Stack {
             && cells_equal(self.wide.as_slice(), other.wide.as_slice())
     }
 
-    /// Whether so many cells at the bottom are found to be the same in both stacks. Those that have no code are compared only
-    /// where all of them are among these cells.
+    /// Whether so many cells at the bottom are found to be the same in both stacks. Those that have
+    /// no code are compared only where all of them are among these cells.
     pub fn shares_bottom(&self, other: &Stack, count: usize) -> bool
         ensures enough { IsTrue result → count ≤ length self.now }
         ensures enough_there { IsTrue result → count ≤ length other.now }
@@ -459,8 +464,10 @@ impl Stack {
     fn join_at(&mut self, place: usize, other: Cell)
         requires { place < length self.old }
         ensures depth { length self.new ≡ length self.old }
-        ensures cell { IsLeastCell (cell_at (reverse self.old) place) other (cell_at (reverse self.new) place) }
-        ensures others { (k : ℕ) → k ≢ place → cell_at (reverse self.new) k ≡ cell_at (reverse self.old) k }
+        ensures cell { IsLeastCell (cell_at (reverse self.old) place) other
+            (cell_at (reverse self.new) place) }
+        ensures others { (k : ℕ) → k ≢ place
+            → cell_at (reverse self.new) k ≡ cell_at (reverse self.old) k }
     {
         let wide = self.wide.len();
         if place < wide {

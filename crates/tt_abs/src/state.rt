@@ -35,11 +35,12 @@ impl State {
     ghost use Rattle.std.specs.Prelude.{◌≡◌, ◌<◌, ◌≤◌, ◌+◌, ◌∷◌, ◌↔◌, length, reverse, take, slice_get, IsTrue, IfOk, OnOk, OnErr, [], drop};
     ghost use Rattle.tt_code.specs.States.{pointer, reference, with_pointer, with_reference};
     ghost use Rattle.tt_abs.specs.Entries.{Rises, storage_of, with_cell, with_entry};
-    ghost use Rattle.tt_abs.specs.States.{start_of, state_order};
+    ghost use Rattle.tt_abs.specs.States.{KeepsRange, start_of, state_order};
     ghost use Rattle.tt_abs.specs.Transfers.{cells_on};
 
-    /// Makes the state in which a program starts: an empty stack, the default graphics state, and these functions, in ascending
-    /// order of their numbers, each with its body. Of the storage area nothing is known.
+    /// Makes the state in which a program starts: an empty stack, the default graphics state, and
+    /// these functions, in ascending order of their numbers, each with its body. Of the storage
+    /// area nothing is known.
     ///
     /// # Errors
     /// If memory runs out.
@@ -95,15 +96,16 @@ impl State {
             && self.storage.is_same(&other.storage)
     }
 
-    /// Whether the same functions are known in the other state, with the same bodies. Takes no memory.
+    /// Whether the same functions are known in the other state, with the same bodies. Takes no
+    /// memory.
     pub fn has_same_functions(&self, other: &State) -> bool
         ensures { IsTrue result ↔ (self.now.functions ≡ other.now.functions) }
     {
         self.functions.is_same(&other.functions)
     }
 
-    /// Whether so many cells at the bottom of the stack are found to be the same in both states, as they are where it answers
-    /// `true`. Takes no memory.
+    /// Whether so many cells at the bottom of the stack are found to be the same in both states, as
+    /// they are where it answers `true`. Takes no memory.
     pub fn shares_bottom(&self, other: &State, count: usize) -> bool
         ensures enough { IsTrue result → count ≤ length self.now.stack }
         ensures enough_there { IsTrue result → count ≤ length other.now.stack }
@@ -163,7 +165,8 @@ impl State {
         self.graphics.loop_number
     }
 
-    /// Returns the functions that are known, in ascending order of their numbers, each with its body.
+    /// Returns the functions that are known, in ascending order of their numbers, each with its
+    /// body.
     pub fn functions(&self) -> &[(u16, u32)]
         ensures value { result.now ≡ self.now.functions }
         ensures rises { Rises result.now }
@@ -171,15 +174,17 @@ impl State {
         self.functions.as_slice()
     }
 
-    /// Returns the storage cells that are known, in ascending order of their indexes, each with its number.
+    /// Returns the storage cells that are known, in ascending order of their indexes, each with its
+    /// number.
     pub fn stored(&self) -> &[(u16, i32)]
         ensures { result.now ≡ self.now.storage }
     {
         self.storage.as_slice()
     }
 
-    /// States that the lists of a state are in ascending order of their numbers, as they always are.
-    pub(crate) fn rises(&self)
+    /// States that the lists of a state are in ascending order of their numbers, as they always
+    /// are.
+    pub(crate) fn order_facts(&self)
         ensures functions { Rises self.now.functions }
         ensures storage { Rises self.now.storage }
     {
@@ -205,7 +210,7 @@ impl State {
         requires { length self.old.stack < 65535 }
         ensures ok { OnOk result (self.new ≡ record self.old { stack = cell ∷ self.old.stack }) }
         ensures err { OnErr result (self.new ≡ self.old) }
-        ensures in_range { state_order.InRange self.old → state_order.InRange self.new }
+        ensures in_range { KeepsRange self.old self.new }
     {
         self.stack.push(cell)
     }
@@ -218,8 +223,7 @@ impl State {
         requires { length self.old.stack + length cells.now ≤ 65535 }
         ensures pushed { OnOk result
             (self.new ≡ record self.old { stack = cells_on cells.now self.old.stack }) }
-        ensures in_range { OnOk result
-            (state_order.InRange self.old → state_order.InRange self.new) }
+        ensures in_range { OnOk result (KeepsRange self.old self.new) }
     {
         self.stack.push_cells(cells)
     }
@@ -227,15 +231,16 @@ impl State {
     /// Removes so many cells from the top of the stack, or all of them if there are fewer.
     pub fn cut_stack(&mut self, count: usize)
         ensures value { self.new ≡ record self.old { stack = drop count self.old.stack } }
-        ensures in_range { state_order.InRange self.old → state_order.InRange self.new }
+        ensures in_range { KeepsRange self.old self.new }
     {
         self.stack.cut(count);
     }
 
     /// Sets what is known of a reference point.
     pub fn set_rp(&mut self, which: Reference, cell: Cell)
-        ensures value { self.new ≡ record self.old { graphics = with_reference which cell self.old.graphics } }
-        ensures in_range { state_order.InRange self.old → state_order.InRange self.new }
+        ensures value { self.new
+            ≡ record self.old { graphics = with_reference which cell self.old.graphics } }
+        ensures in_range { KeepsRange self.old self.new }
     {
         match which {
             Reference::Rp0 => self.graphics.rp0 = cell,
@@ -246,8 +251,9 @@ impl State {
 
     /// Sets what is known of a zone pointer.
     pub fn set_zone(&mut self, which: Pointer, zone: ZoneCell)
-        ensures value { self.new ≡ record self.old { graphics = with_pointer which zone self.old.graphics } }
-        ensures in_range { state_order.InRange self.old → state_order.InRange self.new }
+        ensures value { self.new
+            ≡ record self.old { graphics = with_pointer which zone self.old.graphics } }
+        ensures in_range { KeepsRange self.old self.new }
     {
         match which {
             Pointer::Zp0 => self.graphics.zp0 = zone,
@@ -258,34 +264,36 @@ impl State {
 
     /// Sets what is known of the loop number.
     pub fn set_loop(&mut self, cell: Cell)
-        ensures value { self.new ≡ record self.old { graphics = record self.old.graphics { loop_number = cell } } }
-        ensures in_range { state_order.InRange self.old → state_order.InRange self.new }
+        ensures value { self.new
+            ≡ record self.old { graphics = record self.old.graphics { loop_number = cell } } }
+        ensures in_range { KeepsRange self.old self.new }
     {
         self.graphics.loop_number = cell;
     }
 
-    /// Makes a function known by its number, with its body, instead of any other one of that number.
+    /// Makes a function known by its number, with its body, instead of any other one of that
+    /// number.
     ///
     /// # Errors
     /// If memory runs out, or there are 65,535 other functions; then the state stays as it is.
     pub fn define(&mut self, number: u16, body: u32) -> Result<(), AllocError>
-        ensures ok { OnOk result (self.new ≡ record self.old { functions = with_entry number body self.old.functions }) }
+        ensures ok { OnOk result (self.new
+            ≡ record self.old { functions = with_entry number body self.old.functions }) }
         ensures err { OnErr result (self.new ≡ self.old) }
-        ensures in_range { state_order.InRange self.old → state_order.InRange self.new }
+        ensures in_range { KeepsRange self.old self.new }
     {
         self.functions.put(number, body)
     }
 
-    /// Makes exactly these functions known, in ascending order of their numbers, each with its body, in the memory that it has
-    /// where that is enough.
+    /// Makes exactly these functions known, in ascending order of their numbers, each with its
+    /// body, in the memory that it has where that is enough.
     ///
     /// # Errors
     /// If memory runs out; then the functions that are known are unspecified.
     pub fn set_functions(&mut self, functions: &[(u16, u32)]) -> Result<(), AllocError>
         requires { Rises functions.now }
         ensures value { OnOk result (self.new ≡ record self.old { functions = functions.now }) }
-        ensures in_range { OnOk result
-            (state_order.InRange self.old → state_order.InRange self.new) }
+        ensures in_range { OnOk result (KeepsRange self.old self.new) }
     {
         self.functions.replace(functions)
     }
@@ -295,9 +303,10 @@ impl State {
     /// # Errors
     /// If memory runs out, or 65,535 other cells are known; then the state stays as it is.
     pub fn set_storage(&mut self, index: u16, cell: Cell) -> Result<(), AllocError>
-        ensures ok { OnOk result (self.new ≡ record self.old { storage = with_cell index cell self.old.storage }) }
+        ensures ok { OnOk result (self.new
+            ≡ record self.old { storage = with_cell index cell self.old.storage }) }
         ensures err { OnErr result (self.new ≡ self.old) }
-        ensures in_range { state_order.InRange self.old → state_order.InRange self.new }
+        ensures in_range { KeepsRange self.old self.new }
     {
         match cell {
             Cell::Known(number) => self.storage.put(index, number),
@@ -311,7 +320,7 @@ impl State {
     /// Makes all storage cells unknown. Takes no memory.
     pub fn forget_storage(&mut self)
         ensures value { self.new ≡ record self.old { storage = [] } }
-        ensures in_range { state_order.InRange self.old → state_order.InRange self.new }
+        ensures in_range { KeepsRange self.old self.new }
     {
         self.storage.clear();
     }

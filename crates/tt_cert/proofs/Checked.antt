@@ -24,11 +24,12 @@ use Rattle.tt_abs.proofs.StateParts.{one_state}
 use Rattle.tt_cert.specs.Checks.{AreCovered, AreMet, BreaksAt, IsFirstGap, IsGap, IsMet, IsSoundAt, Names, NamesAt, place_of_next, saturated_offset, stores, refused, leaves}
 use Rattle.tt_cert.specs.GoodFamilies.{IsStoredWithin}
 use Rattle.tt_cert.specs.Spots.{spot_of}
-use Rattle.tt_cert.specs.Cursors.{AreMetBy, IsAfter, IsLeftOut, IsMetBy, IsNextState, IsPassed, met_both}
+use Rattle.tt_cert.specs.Representation.Cursors.{AreMetBy, IsLeftOut, IsMetBy, IsNextState, IsPassed, coverage_of_both}
+use Rattle.tt_cert.specs.Fillings.{IsAfter}
 use Rattle.tt_cert.specs.declared.fault.ProgramFault.{ProgramFault}
 use Rattle.tt_cert.specs.declared.fault.ProgramFault.TheVariants.{Refused, OutOfMemory}
 use Rattle.tt_cert.specs.declared.meeting.Coverage.{Coverage}
-use Rattle.tt_cert.specs.declared.meeting.Coverage.TheVariants as met
+use Rattle.tt_cert.specs.declared.meeting.Coverage.TheVariants as coverage
 
 pub ok_map : {T E : Type 0} (r : Result T E) (P Q : T → Type 0) → ((x : T) → P x → Q x) → IfOk r P → IfOk r Q
 ok_map (Ok x) P Q f p = f x p
@@ -43,9 +44,9 @@ err_map (Err e) P Q f p = f e p
 -- where what may be left out is said of the same places in other words
 pub met_by_same : (family : Place → Option State) (L L' : Type 0) (next : Option (ℕ × ℕ × Bor State)) (q : Place) (t : State) → (L → L') → (m : Coverage) → IsMetBy family L next q t m
     → IsMetBy family L' next q t m
-met_by_same family L L' next q t f met.Next h = h
-met_by_same family L L' next q t f met.Listed h = h
-met_by_same family L L' next q t f met.Added (none, may) = (none, f may)
+met_by_same family L L' next q t f coverage.Next h = h
+met_by_same family L L' next q t f coverage.Listed h = h
+met_by_same family L L' next q t f coverage.Added (none, may) = (none, f may)
 
 pub gap_same : (family : Place → Option State) (L L' : Type 0) (q : Place) (t : State) → (L' → L) → (r : Reason) → IsGap family L q t r → IsGap family L' q t r
 gap_same family L L' q t f MissingPoint (none, not) = (none, λ may. not (f may))
@@ -94,9 +95,9 @@ module _ (family : Place → Option State) (fs : List Frame) (after : Option ℕ
   IsMetAt q m = IsMetBy family (IsAfter fs after q) next q t m
 
   is_met : (q : Place) (m : Coverage) → IsMetAt q m → IsMet family (IsAfter fs after q) q t
-  is_met q met.Next (covered, same) = inl covered
-  is_met q met.Listed covered = inl covered
-  is_met q met.Added (none, may) = inr (none, may)
+  is_met q coverage.Next (covered, same) = inl covered
+  is_met q coverage.Listed covered = inl covered
+  is_met q coverage.Added (none, may) = inr (none, may)
 
   -- of the places with the numbers below a bound
   abbrev AreAllBelow : (Next → Type 0) → List Next → ℕ → Type 0
@@ -110,9 +111,9 @@ module _ (family : Place → Option State) (fs : List Frame) (after : Option ℕ
 
   -- how a state is met at these places
   abbrev pub AreMetBelow : List Next → ℕ → Coverage → Type 0
-  AreMetBelow ns k met.Next = AreAllBelow IsCoveredAt ns k × IsNextState next t
-  AreMetBelow ns k met.Listed = AreAllBelow IsCoveredAt ns k
-  AreMetBelow ns k met.Added = AreAllBelow IsMetThere ns k × IsLeftOut family fs after ns
+  AreMetBelow ns k coverage.Next = AreAllBelow IsCoveredAt ns k × IsNextState next t
+  AreMetBelow ns k coverage.Listed = AreAllBelow IsCoveredAt ns k
+  AreMetBelow ns k coverage.Added = AreAllBelow IsMetThere ns k × IsLeftOut family fs after ns
 
   module _ (ns : List Next) (k : ℕ) (n : Next) (at : slice_get ns k ≡ Some n) where
     one_more : (P : Next → Type 0) → P n → AreAllBelow P ns k → AreAllBelow P ns (k + 1)
@@ -124,17 +125,17 @@ module _ (family : Place → Option State) (fs : List Frame) (after : Option ℕ
           let is : n ≡ x = cc in subst P is here
     ]
 
-    added_now : IsMetAt (place_of_next n) met.Added → AreAllBelow IsMetThere ns k → AreMetBelow ns (k + 1) met.Added
+    added_now : IsMetAt (place_of_next n) coverage.Added → AreAllBelow IsMetThere ns k → AreMetBelow ns (k + 1) coverage.Added
     added_now (none, may) before = (one_more IsMetThere (inr (none, may)) before, record { index = k; next = n; found = at; just_after = may; none = none })
 
-    pub met_more : (j m : Coverage) → AreMetBelow ns k j → IsMetAt (place_of_next n) m → AreMetBelow ns (k + 1) (met_both j m)
-    met_more met.Added m (before, left) here = (one_more IsMetThere (is_met (place_of_next n) m here) before, left)
-    met_more met.Next met.Added (covered, same) here = added_now here (λ i x lt e. inl (covered i x lt e))
-    met_more met.Listed met.Added covered here = added_now here (λ i x lt e. inl (covered i x lt e))
-    met_more met.Next met.Next first second = (one_more IsCoveredAt second.0 first.0, first.1)
-    met_more met.Next met.Listed first second = (one_more IsCoveredAt second first.0, first.1)
-    met_more met.Listed met.Next first second = one_more IsCoveredAt second.0 first
-    met_more met.Listed met.Listed first second = one_more IsCoveredAt second first
+    pub met_more : (j m : Coverage) → AreMetBelow ns k j → IsMetAt (place_of_next n) m → AreMetBelow ns (k + 1) (coverage_of_both j m)
+    met_more coverage.Added m (before, left) here = (one_more IsMetThere (is_met (place_of_next n) m here) before, left)
+    met_more coverage.Next coverage.Added (covered, same) here = added_now here (λ i x lt e. inl (covered i x lt e))
+    met_more coverage.Listed coverage.Added covered here = added_now here (λ i x lt e. inl (covered i x lt e))
+    met_more coverage.Next coverage.Next first second = (one_more IsCoveredAt second.0 first.0, first.1)
+    met_more coverage.Next coverage.Listed first second = (one_more IsCoveredAt second first.0, first.1)
+    met_more coverage.Listed coverage.Next first second = one_more IsCoveredAt second.0 first
+    met_more coverage.Listed coverage.Listed first second = one_more IsCoveredAt second first
 
     -- it isn't met at the next one
     pub gap_next : AreAllBelow IsMetThere ns k → (fault : ProgramFault) → NamesAt (place_of_next n) (IsGap family (IsAfter fs after (place_of_next n)) (place_of_next n) t) fault
@@ -150,20 +151,20 @@ module _ (family : Place → Option State) (fs : List Frame) (after : Option ℕ
   none_all_below = none_below IsMetThere
 
   pub met_first : (ns : List Next) (n : Next) → slice_get ns 0 ≡ Some n → (m : Coverage) → IsMetAt (place_of_next n) m → AreMetBelow ns 1 m
-  met_first ns n at met.Next (covered, same) = (one_more ns 0 n at IsCoveredAt covered (none_below IsCoveredAt ns), same)
-  met_first ns n at met.Listed covered = one_more ns 0 n at IsCoveredAt covered (none_below IsCoveredAt ns)
-  met_first ns n at met.Added here = added_now ns 0 n at here (none_below IsMetThere ns)
+  met_first ns n at coverage.Next (covered, same) = (one_more ns 0 n at IsCoveredAt covered (none_below IsCoveredAt ns), same)
+  met_first ns n at coverage.Listed covered = one_more ns 0 n at IsCoveredAt covered (none_below IsCoveredAt ns)
+  met_first ns n at coverage.Added here = added_now ns 0 n at here (none_below IsMetThere ns)
 
   pub met_below : (ns : List Next) (k : ℕ) (m : Coverage) → AreMetBelow ns k m → AreAllBelow IsMetThere ns k
-  met_below ns k met.Next (covered, same) = λ i n lt e. inl (covered i n lt e)
-  met_below ns k met.Listed covered = λ i n lt e. inl (covered i n lt e)
-  met_below ns k met.Added (before, left) = before
+  met_below ns k coverage.Next (covered, same) = λ i n lt e. inl (covered i n lt e)
+  met_below ns k coverage.Listed covered = λ i n lt e. inl (covered i n lt e)
+  met_below ns k coverage.Added (before, left) = before
 
   -- after the last of them
   pub met_all : (ns : List Next) (k : ℕ) → slice_get ns k ≡ None → (m : Coverage) → AreMetBelow ns k m → AreMetBy family fs after next ns t m
-  met_all ns k none met.Next (covered, same) = ((λ i n e. covered i n (below_none ns k i n none e) e), same)
-  met_all ns k none met.Listed covered = λ i n e. covered i n (below_none ns k i n none e) e
-  met_all ns k none met.Added (before, left) = ((λ i n e. before i n (below_none ns k i n none e) e), left)
+  met_all ns k none coverage.Next (covered, same) = ((λ i n e. covered i n (below_none ns k i n none e) e), same)
+  met_all ns k none coverage.Listed covered = λ i n e. covered i n (below_none ns k i n none e) e
+  met_all ns k none coverage.Added (before, left) = ((λ i n e. before i n (below_none ns k i n none e) e), left)
 
 -- where a way leads
 pub next_found : (fs : List Frame) (ways : Moves) (a : Abstract) (k : ℕ) (way : Move) → slice_get (ways_of ways) k ≡ Some way → slice_get (nexts_of fs ways a) k ≡ Some (next_by fs a way)
@@ -257,11 +258,11 @@ module _ (s : Setting) (family : Place → Option State) (L : Place → Type 0) 
           record { gives = gives; none = none; may = may };
     }
 
-    pub passed_here : (next : Option (ℕ × ℕ × Bor State)) (m : Coverage) (carried : Option ℕ) → ((m ≡ met.Added → ⊥) → carried ≡ None) → (m ≡ met.Added → carried ≡ after)
+    pub passed_here : (next : Option (ℕ × ℕ × Bor State)) (m : Coverage) (carried : Option ℕ) → ((m ≡ coverage.Added → ⊥) → carried ≡ None) → (m ≡ coverage.Added → carried ≡ after)
         → AreMetBy family p.0 after next (nexts_of p.0 ways (abstract_of t)) t m → IsPassed s family L p a carried t
-    passed_here next met.Next carried none is (covered, same) = passed_covered carried (none (λ e. cc)) covered
-    passed_here next met.Listed carried none is covered = passed_covered carried (none (λ e. cc)) covered
-    passed_here next met.Added carried none is (met, out) = passed_added carried (is refl) met out
+    passed_here next coverage.Next carried none is (covered, same) = passed_covered carried (none (λ e. cc)) covered
+    passed_here next coverage.Listed carried none is covered = passed_covered carried (none (λ e. cc)) covered
+    passed_here next coverage.Added carried none is (met, out) = passed_added carried (is refl) met out
 
     gap_where : (q : Place) (u : State) (r : Reason) → IsGap family (IsAfter p.0 after q) q u r → IsGap family (L q) q u r
     gap_where q u r gap = gap_same family (IsAfter p.0 after q) (L q) q u (same_places q).1 r gap

@@ -15,7 +15,7 @@ use Rattle.tt_cert.specs.Contexts.{frames_of}
 use Rattle.tt_cert.specs.Contents.{Contents, frames_at}
 use Rattle.tt_cert.specs.Built.{Key, key_cmp, key_of, IsBuilt}
 use Rattle.tt_cert.specs.Rising.{StandsAt, IsRising}
-use Rattle.tt_cert.specs.FileOrder.{in_order, IsFileOrder}
+use Rattle.tt_cert.specs.Representation.FileOrder.{in_order, IsFileOrder}
 use Rattle.tt_cert.proofs.Adding.{at_entry, length_is, family_is, cons_same, key_same, frame_same}
 use Rattle.tt_cert.proofs.Queues.{IsQueue, under, map_back, map_at, is_number}
 use Rattle.tt_cert.proofs.Rising.{entry_at, key_total}

@@ -17,7 +17,7 @@ use Rattle.tt_cert.specs.Contents.{Contents, IsFamily, family_of, number_of}
 use Rattle.tt_cert.specs.Fillings.{HasGoodFilling, HasSafeFilling}
 use Rattle.tt_cert.specs.GoodFamilies.{EndsWell, HasFewContexts, IsGoodFamily, IsShortEnough}
 use Rattle.tt_cert.specs.Checks.{AreSound, IsBrokenBy, IsBrokenFirst, IsFilledBy, IsFillingBrokenFirst, IsFirstBreak, IsFirstBreakOnTheWay, IsGap, IsMet, IsSoundAt, IsOutOfMemory, Names, NamesAt, Nowhere, too_long, no_start, no_end, no_way}
-use Rattle.tt_cert.specs.Cursors.{IsFoundSound, IsWalkedThrough, MayLeaveOut}
+use Rattle.tt_cert.specs.Representation.Cursors.{IsFoundSound, IsWalkedThrough, MayLeaveOut}
 use Rattle.tt_cert.specs.declared.fault.ProgramFault.{ProgramFault}
 use Rattle.tt_cert.specs.declared.fault.ProgramFault.TheVariants.{Refused, OutOfMemory}
 use Rattle.tt_cert.specs.declared.listing.Listing.TheVariants.{Whole, Sparse}

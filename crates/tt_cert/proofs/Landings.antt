@@ -10,7 +10,7 @@ use Rattle.tt_cert.specs.Contents.{Contents, IsFamily, family_of, frames_at, num
 use Rattle.tt_cert.specs.Numbers.{number_of-is}
 use Rattle.tt_cert.specs.Places.{states_of}
 use Rattle.tt_cert.specs.Checks.{AreToldBefore}
-use Rattle.tt_cert.specs.Cursors.{IsComing, IsEntry, IsNextState}
+use Rattle.tt_cert.specs.Representation.Cursors.{IsComing, IsEntry, IsNextState}
 
 -- a context's state is the family's
 pub state_there : (v : Contents) (p : Place) (n o : ℕ) → IsFamily v → n < length v.contexts → frames_at v.contexts n ≡ p.0 → o ≡ p.1

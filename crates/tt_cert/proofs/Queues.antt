@@ -18,7 +18,7 @@ use Rattle.std.proofs.lemmas.Map.Entries.{btree_map_get_place, place_from_lookup
 use Rattle.std.proofs.lemmas.Map.Keys.{Less-from_sorted}
 use Rattle.std.proofs.lemmas.Option.{slice_get_within, get_or_from_slice_get}
 use Rattle.tt_cert.specs.Built.{Key, key_cmp}
-use Rattle.tt_cert.specs.FileOrder.{children}
+use Rattle.tt_cert.specs.Representation.FileOrder.{children}
 use Rattle.tt_cert.proofs.Adding.{keys_apart, cases_key}
 use Rattle.tt_cert.proofs.Rising.{key_total}
 

@@ -13,7 +13,7 @@ use Rattle.tt_cert.specs.declared.fault.ContextFault.TheVariants as context
 use Rattle.tt_cert.specs.declared.fault.JoinFault.{JoinFault}
 use Rattle.tt_cert.specs.declared.fault.JoinFault.TheVariants.{DepthMismatch}
 use Rattle.tt_cert.specs.declared.fault.JoinFault.TheVariants as join
-use Rattle.tt_cert.specs.FileOrder.{IsFileOrder, ArePlaces, in_order}
+use Rattle.tt_cert.specs.Representation.FileOrder.{IsFileOrder, ArePlaces, in_order}
 use Rattle.tt_cert.proofs.Adding.{cons_same}
 use Rattle.tt_cert.proofs.FileOrders.{at_most, frames_in_order, length-in_order, number_in_order}
 use Rattle.tt_cert.proofs.Moves.{has_context}

@@ -7,7 +7,7 @@ use Rattle.std.proofs.lemmas.Option.{slice_get_within, get_or_from_slice_get}
 use Rattle.tt_abs.specs.Entries.{Rises, listed}
 use Rattle.tt_abs.specs.EntryLaws.{listed-here, listed-there}
 use Rattle.tt_abs.proofs.EntryEdits.{all-at}
-use Rattle.tt_cert.specs.PlaceRows.{Offsets, AreBelow}
+use Rattle.tt_cert.specs.Representation.SlotRows.{Offsets, AreBelow}
 
 -- the last offset
 

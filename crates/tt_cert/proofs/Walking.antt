@@ -22,8 +22,9 @@ use Rattle.tt_cert.specs.Contents.{Contents, HasContext, IsFamily, family_of, fr
 use Rattle.tt_cert.specs.Numbers.{at-number_of, same_frames-decides}
 use Rattle.tt_cert.specs.Places.{IsLess, place_cmp, states_of}
 use Rattle.tt_cert.specs.Puts.{number_at, place_of}
-use Rattle.tt_cert.specs.Checks.{AreToldBefore, BreaksAt, IsFilledBy, IsFirstBreakOnTheWay, IsSoundAt, Names, WasAdded, key_of}
-use Rattle.tt_cert.specs.Cursors.{Entry, IsAfter, IsAtPoint, IsCarried, IsComingAfter, IsEntry, IsOnWay, IsPassed, IsRead, IsUnlisted, IsWalkedThrough, IsWalkedTo, MayLeaveOut, to_come}
+use Rattle.tt_cert.specs.Checks.{AreToldBefore, BreaksAt, IsFilledBy, IsFirstBreakOnTheWay, IsSoundAt, Names, WasAdded, point_key_of}
+use Rattle.tt_cert.specs.Representation.Cursors.{Entry, IsAtPoint, IsCarried, IsComingAfter, IsEntry, IsOnWay, IsPassed, IsRead, IsUnlisted, IsWalkedThrough, IsWalkedTo, MayLeaveOut, to_come}
+use Rattle.tt_cert.specs.Fillings.{IsAfter}
 use Rattle.tt_cert.specs.declared.fault.ProgramFault.{ProgramFault}
 use Rattle.tt_cert.specs.declared.fault.ProgramFault.TheVariants.{Refused, OutOfMemory}
 use Rattle.tt_cert.specs.declared.listing.Listing.{Listing}
@@ -295,17 +296,17 @@ added_there s p end ends goes_on q = (
 -- The walk.
 
 module _ (s : Setting) (listing : Listing) (v : Contents) (family : IsFamily v) where
-  place_at : (p : Place) (c o : ℕ) → HasContext v.contexts p.0 → ◌≡◌ {A = ℕ × ℕ} (key_of v p) (c, o) → p ≡ place_of v c o
+  place_at : (p : Place) (c o : ℕ) → HasContext v.contexts p.0 → ◌≡◌ {A = ℕ × ℕ} (point_key_of v p) (c, o) → p ≡ place_of v c o
   place_at p c o has e =
       let number : number_of v.contexts p.0 ≡ c = ap (λ (k : ℕ × ℕ). k.0) e in
       let offset : p.1 ≡ o = ap (λ (k : ℕ × ℕ). k.1) e in
       let frames : p.0 ≡ frames_at v.contexts c = sym (at-number_of v.contexts p.0 has) ∙ ap (frames_at v.contexts) number in
       λ i. (frames i, offset i)
 
-  key_at : (c o : ℕ) → c < length v.contexts → ◌≡◌ {A = ℕ × ℕ} (key_of v (place_of v c o)) (c, o)
+  key_at : (c o : ℕ) → c < length v.contexts → ◌≡◌ {A = ℕ × ℕ} (point_key_of v (place_of v c o)) (c, o)
   key_at c o lt = λ i. (number_at v c family lt i, o)
 
-  listed_key : (p : Place) (a : State) → family_of v p ≡ Some a → states_of v.states (key_of v p) ≡ Some a
+  listed_key : (p : Place) (a : State) → family_of v p ≡ Some a → states_of v.states (point_key_of v p) ≡ Some a
   listed_key p a at = at
 
   -- at the start nothing is walked
@@ -333,8 +334,8 @@ module _ (s : Setting) (listing : Listing) (v : Contents) (family : IsFamily v) 
   }
 
   module _ (filled : Place → Option State) (reached k : ℕ × ℕ) (walked : IsWalkedTo s listing v filled reached)
-      (back : (p : Place) (a : State) → filled p ≡ Some a → IsLess (key_of v p) k → IsLess (key_of v p) reached)
-      (on : (p : Place) → IsLess (key_of v p) reached → IsLess (key_of v p) k) where
+      (back : (p : Place) (a : State) → filled p ≡ Some a → IsLess (point_key_of v p) k → IsLess (point_key_of v p) reached)
+      (on : (p : Place) → IsLess (point_key_of v p) reached → IsLess (point_key_of v p) k) where
     -- the same walk, said of another bound
     walked_on : IsWalkedTo s listing v filled k
     walked_on = record {
@@ -352,13 +353,13 @@ module _ (s : Setting) (listing : Listing) (v : Contents) (family : IsFamily v) 
   module _ (rises : IsStrictlySortedBy place_cmp (keys_of v.states)) (walk : Cursor) (others : List Entry) (way : IsOnWay s listing v walk others) where
     -- The walk goes on where a state was carried.
     module _ (o : ℕ) (there : walk.context < length v.contexts) (carried : walk.carried ≡ Some o) (after : IsComingAfter walk.next (walk.context, o)) where
-      at_carried_back : (p : Place) (a : State) → way.filled p ≡ Some a → IsLess (key_of v p) (walk.context, o) → IsLess (key_of v p) way.reached
+      at_carried_back : (p : Place) (a : State) → way.filled p ≡ Some a → IsLess (point_key_of v p) (walk.context, o) → IsLess (point_key_of v p) way.reached
       at_carried_back p a at less = elim (some_or_none (family_of v p)) [
-        | inl (u, listed) ↦ elim (read_or_after v rises walk.next others way.reached way.read (walk.context, o) after (key_of v p) u listed) [
+        | inl (u, listed) ↦ elim (read_or_after v rises walk.next others way.reached way.read (walk.context, o) after (point_key_of v p) u listed) [
           | inl less' ↦ less'
-          | inr more ↦ absurd (less_self (key_of v p) (less_trans (key_of v p) (walk.context, o) (key_of v p) less more))
+          | inr more ↦ absurd (less_self (point_key_of v p) (less_trans (point_key_of v p) (walk.context, o) (point_key_of v p) less more))
         ]
-        | inr none ↦ elim (less_or_not (key_of v p) way.reached) [
+        | inr none ↦ elim (less_or_not (point_key_of v p) way.reached) [
           | inl less' ↦ less'
           | inr past ↦ absurd (at_it (way.carried_all p a at none past))
         ]
@@ -368,7 +369,7 @@ module _ (s : Setting) (listing : Listing) (v : Contents) (family : IsFamily v) 
           at_it (o', is, same) =
               let both : Some o' ≡ Some o = sym is ∙ carried in
               let offset : o' ≡ o = cc in
-              let key : ◌≡◌ {A = ℕ × ℕ} (key_of v p) (walk.context, o) = ap (key_of v) same ∙ key_at walk.context o' there ∙ ap (λ x. (walk.context, x)) offset in
+              let key : ◌≡◌ {A = ℕ × ℕ} (point_key_of v p) (walk.context, o) = ap (point_key_of v) same ∙ key_at walk.context o' there ∙ ap (λ x. (walk.context, x)) offset in
               less_self (walk.context, o) (subst (λ x. IsLess x (walk.context, o)) key less)
 
       pub at_carried : IsAtPoint s listing v walk others o
@@ -376,17 +377,17 @@ module _ (s : Setting) (listing : Listing) (v : Contents) (family : IsFamily v) 
           let (here, none, past) = way.carries o carried in
           record {
             filled = way.filled;
-            walked = walked_on way.filled way.reached (walk.context, o) way.walked at_carried_back (λ p less. less_past (key_of v p) (walk.context, o) way.reached less past);
+            walked = walked_on way.filled way.reached (walk.context, o) way.walked at_carried_back (λ p less. less_past (point_key_of v p) (walk.context, o) way.reached less past);
             here = here;
             read = read_carried v rises walk.next others way.reached walk.context o way.read past after;
-            nothing_after = λ p a at none' far. absurd (go p a at far (way.carried_all p a at none' (λ less. far (less_on (key_of v p) walk.context o (less_past (key_of v p) (walk.context, o) way.reached less past)))));
+            nothing_after = λ p a at none' far. absurd (go p a at far (way.carried_all p a at none' (λ less. far (less_on (point_key_of v p) walk.context o (less_past (point_key_of v p) (walk.context, o) way.reached less past)))));
           }
         where
-          go : (p : Place) (a : State) → way.filled p ≡ Some a → (IsLess (key_of v p) (walk.context, o + 1) → ⊥) → (o' : ℕ) × (walk.carried ≡ Some o') × (p ≡ place_of v walk.context o') → ⊥
+          go : (p : Place) (a : State) → way.filled p ≡ Some a → (IsLess (point_key_of v p) (walk.context, o + 1) → ⊥) → (o' : ℕ) × (walk.carried ≡ Some o') × (p ≡ place_of v walk.context o') → ⊥
           go p a at far (o', is, same) =
               let both : Some o' ≡ Some o = sym is ∙ carried in
               let offset : o' ≡ o = cc in
-              let key : ◌≡◌ {A = ℕ × ℕ} (key_of v p) (walk.context, o) = ap (key_of v) same ∙ key_at walk.context o' there ∙ ap (λ x. (walk.context, x)) offset in
+              let key : ◌≡◌ {A = ℕ × ℕ} (point_key_of v p) (walk.context, o) = ap (point_key_of v) same ∙ key_at walk.context o' there ∙ ap (λ x. (walk.context, x)) offset in
               far (subst (λ x. IsLess x (walk.context, o + 1)) (sym key) (here_on walk.context o))
 
     -- The walk goes on to the next entry.
@@ -414,22 +415,22 @@ module _ (s : Setting) (listing : Listing) (v : Contents) (family : IsFamily v) 
       carried_past : (o : ℕ) → walk.carried ≡ Some o → IsLess (walk.context, o) (x.0, x.1) → ⊥
       carried_past o carried less = not_carried o carried (subst (λ n. IsComingAfter n (walk.context, o)) (sym next) less)
 
-      at_listed_back : (p : Place) (a : State) → way.filled p ≡ Some a → IsLess (key_of v p) (x.0, x.1) → IsLess (key_of v p) way.reached
+      at_listed_back : (p : Place) (a : State) → way.filled p ≡ Some a → IsLess (point_key_of v p) (x.0, x.1) → IsLess (point_key_of v p) way.reached
       at_listed_back p a at less = elim (some_or_none (family_of v p)) [
         | inl (u, listed) ↦
-            let (i, e, at_i, key_is, how) = read_or_coming v rises (entry ∷ others) way.reached read_here (key_of v p) u listed in
+            let (i, e, at_i, key_is, how) = read_or_coming v rises (entry ∷ others) way.reached read_here (point_key_of v p) u listed in
             elim how [
               | inl (less', small') ↦ less'
               | inr le ↦ absurd (elim (coming_from_first v rises entry others read_here.done read_here.split i e le at_i) [
                 | inl (same, one) ↦
-                    let key : ◌≡◌ {A = ℕ × ℕ} (key_of v p) (x.0, x.1) = sym key_is ∙ ap (λ (y : Entry). y.0) one in
+                    let key : ◌≡◌ {A = ℕ × ℕ} (point_key_of v p) (x.0, x.1) = sym key_is ∙ ap (λ (y : Entry). y.0) one in
                     less_self (x.0, x.1) (subst (λ k. IsLess k (x.0, x.1)) key less)
                 | inr more ↦
-                    let more' : IsLess (x.0, x.1) (key_of v p) = subst (λ k. IsLess (x.0, x.1) k) key_is more in
-                    less_self (key_of v p) (less_trans (key_of v p) (x.0, x.1) (key_of v p) less more')
+                    let more' : IsLess (x.0, x.1) (point_key_of v p) = subst (λ k. IsLess (x.0, x.1) k) key_is more in
+                    less_self (point_key_of v p) (less_trans (point_key_of v p) (x.0, x.1) (point_key_of v p) less more')
               ])
             ]
-        | inr none ↦ elim (less_or_not (key_of v p) way.reached) [
+        | inr none ↦ elim (less_or_not (point_key_of v p) way.reached) [
           | inl less' ↦ less'
           | inr past ↦ absurd (at_it (way.carried_all p a at none past))
         ]
@@ -437,7 +438,7 @@ module _ (s : Setting) (listing : Listing) (v : Contents) (family : IsFamily v) 
         where
           at_it : (o : ℕ) × (walk.carried ≡ Some o) × (p ≡ place_of v walk.context o) → ⊥
           at_it (o, is, same) =
-              let key : ◌≡◌ {A = ℕ × ℕ} (key_of v p) (walk.context, o) = ap (key_of v) same ∙ key_at walk.context o there in
+              let key : ◌≡◌ {A = ℕ × ℕ} (point_key_of v p) (walk.context, o) = ap (point_key_of v) same ∙ key_at walk.context o there in
               carried_past o is (subst (λ k. IsLess k (x.0, x.1)) key less)
 
       -- what was carried past the entry has it between, so that it is refused
@@ -446,9 +447,9 @@ module _ (s : Setting) (listing : Listing) (v : Contents) (family : IsFamily v) 
       lost p a at none (o, is, same) b =
           let add = way.walked.filled_by.added p a at none in
           let before = line_of s listing add.before p add.just_before in
-          let key_p : ◌≡◌ {A = ℕ × ℕ} (key_of v p) (walk.context, o) = ap (key_of v) same ∙ key_at walk.context o there in
+          let key_p : ◌≡◌ {A = ℕ × ℕ} (point_key_of v p) (walk.context, o) = ap (point_key_of v) same ∙ key_at walk.context o there in
           let number : number_of v.contexts add.before.0 ≡ walk.context = ap (number_of v.contexts) (sym before.calls) ∙ ap (λ (k : ℕ × ℕ). k.0) key_p in
-          let less : IsLess (key_of v add.before) (x.0, x.1) = less_past (key_of v add.before) (x.0, x.1) way.reached add.walked not_before in
+          let less : IsLess (point_key_of v add.before) (x.0, x.1) = less_past (point_key_of v add.before) (x.0, x.1) way.reached add.walked not_before in
           let offset : p.1 ≡ o = ap (λ (k : ℕ × ℕ). k.1) key_p in
           let (context_is, lt, lt') = between add.before.1 number less o is offset in
           let refused = between_refused s add.before p x.1 b before lt (omega (arith, lt')) in
@@ -485,12 +486,12 @@ module _ (s : Setting) (listing : Listing) (v : Contents) (family : IsFamily v) 
           record {
             filled = way.filled;
             walked = subst (λ c. IsWalkedTo s listing v way.filled (c, x.1)) (sym context)
-                (walked_on way.filled way.reached (x.0, x.1) way.walked at_listed_back (λ p less. less_past (key_of v p) (x.0, x.1) way.reached less not_before));
+                (walked_on way.filled way.reached (x.0, x.1) way.walked at_listed_back (λ p less. less_past (point_key_of v p) (x.0, x.1) way.reached less not_before));
             here = ap (λ c. way.filled (place_of v c x.1)) context ∙ way.walked.filled_by.keeps (place_of v x.0 x.1) x.2.now family_here ∙ ap Some (sym made);
             read = subst (λ (y : ℕ × List Entry). IsRead v y.1 (y.0, x.1 + 1)) (λ i. (sym context i, rest i)) (read_next v rises entry others way.reached read_here small);
             nothing_after = λ p a at none far b.
-                let far' : IsLess (key_of v p) (x.0, x.1 + 1) → ⊥ = subst (λ c. IsLess (key_of v p) (c, x.1 + 1) → ⊥) context far in
-                let past : IsLess (key_of v p) way.reached → ⊥ = λ less. far' (less_on (key_of v p) x.0 x.1 (less_past (key_of v p) (x.0, x.1) way.reached less not_before)) in
+                let far' : IsLess (point_key_of v p) (x.0, x.1 + 1) → ⊥ = subst (λ c. IsLess (point_key_of v p) (c, x.1 + 1) → ⊥) context far in
+                let past : IsLess (point_key_of v p) way.reached → ⊥ = λ less. far' (less_on (point_key_of v p) x.0 x.1 (less_past (point_key_of v p) (x.0, x.1) way.reached less not_before)) in
                 subst (λ c. (r : Reason) × RefusesState s (place_of v c x.1) b r) (sym context) (lost p a at none (way.carried_all p a at none past) b);
           }
 
@@ -509,15 +510,15 @@ module _ (s : Setting) (listing : Listing) (v : Contents) (family : IsFamily v) 
       held = way.walked.held;
     }
       where
-        reached : (p : Place) (a : State) → way.filled p ≡ Some a → IsLess (key_of v p) way.reached
+        reached : (p : Place) (a : State) → way.filled p ≡ Some a → IsLess (point_key_of v p) way.reached
         reached p a at = elim (some_or_none (family_of v p)) [
           | inl (u, listed) ↦
-              let (i, e, at_i, key_is, how) = read_or_coming v rises (to_come walk.next others) way.reached way.read (key_of v p) u listed in
+              let (i, e, at_i, key_is, how) = read_or_coming v rises (to_come walk.next others) way.reached way.read (point_key_of v p) u listed in
               elim how [
                 | inl (less, small) ↦ less
                 | inr le ↦ absurd (nothing_past v rises way.read.done (way.read.split ∙ ap (λ n. way.read.done ++ to_come n others) next) i e le at_i)
               ]
-          | inr none' ↦ elim (less_or_not (key_of v p) way.reached) [
+          | inr none' ↦ elim (less_or_not (point_key_of v p) way.reached) [
             | inl less ↦ less
             | inr past ↦ let (o, is, same) = way.carried_all p a at none' past in absurd (cc)
           ]
@@ -538,7 +539,7 @@ module _ (s : Setting) (listing : Listing) (v : Contents) (family : IsFamily v) 
         place = here_is;
         state = walk.made;
         filled = point.filled;
-        filled_by = subst (λ (k : ℕ × ℕ). IsFilledBy s (MayLeaveOut listing s) (family_of v) (λ p. IsLess (key_of v p) k) point.filled) (sym (key_at walk.context offset there)) point.walked.filled_by;
+        filled_by = subst (λ (k : ℕ × ℕ). IsFilledBy s (MayLeaveOut listing s) (family_of v) (λ p. IsLess (point_key_of v p) k) point.filled) (sym (key_at walk.context offset there)) point.walked.filled_by;
         here = point.here;
         breaks = breaks;
       },
@@ -548,8 +549,8 @@ module _ (s : Setting) (listing : Listing) (v : Contents) (family : IsFamily v) 
     module _ (new : Cursor) (context : new.context ≡ walk.context) (next : new.next ≡ walk.next)
         (passed : IsPassed s (family_of v) (MayLeaveOut listing s here_is) here_is walk.made new.carried new.made) where
       -- a walked place is the point or came before
-      walked_or_here : (p : Place) (a : State) → point.filled p ≡ Some a → IsLess (key_of v p) (walk.context, offset + 1) → IsLess (key_of v p) (walk.context, offset) ⊎ ((p ≡ here_is) × (a ≡ walk.made))
-      walked_or_here p a at less = elim (less_next (key_of v p) walk.context offset less) [
+      walked_or_here : (p : Place) (a : State) → point.filled p ≡ Some a → IsLess (point_key_of v p) (walk.context, offset + 1) → IsLess (point_key_of v p) (walk.context, offset) ⊎ ((p ≡ here_is) × (a ≡ walk.made))
+      walked_or_here p a at less = elim (less_next (point_key_of v p) walk.context offset less) [
         | inl less' ↦ inl less'
         | inr same ↦
             let place = place_at p walk.context offset (point.walked.held p a at) same in
@@ -559,7 +560,7 @@ module _ (s : Setting) (listing : Listing) (v : Contents) (family : IsFamily v) 
             inr (place, state)
       ]
 
-      on_sound : (p : Place) (a : State) → IsLess (key_of v p) (walk.context, offset + 1) → point.filled p ≡ Some a → IsSoundAt s (family_of v) (MayLeaveOut listing s p) p a
+      on_sound : (p : Place) (a : State) → IsLess (point_key_of v p) (walk.context, offset + 1) → point.filled p ≡ Some a → IsSoundAt s (family_of v) (MayLeaveOut listing s p) p a
       on_sound p a less at = elim (walked_or_here p a at less) [
         | inl less' ↦ point.walked.filled_by.sound p a less' at
         | inr (place, state) ↦
@@ -571,7 +572,7 @@ module _ (s : Setting) (listing : Listing) (v : Contents) (family : IsFamily v) 
       gives_here p a q t place state gives = let G : Place × State → Type 0 = λ x. GivesState s x.0 x.1 q t in subst G (λ i. (place i, state i)) gives
 
       -- nothing was added after the point
-      added_before : (p : Place) (a : State) → point.filled p ≡ Some a → family_of v p ≡ None → (IsLess (key_of v p) (walk.context, offset + 1) → ⊥) → ⊥
+      added_before : (p : Place) (a : State) → point.filled p ≡ Some a → family_of v p ≡ None → (IsLess (point_key_of v p) (walk.context, offset + 1) → ⊥) → ⊥
       added_before p a at none far = let (r, refused) = point.nothing_after p a at none far walk.made in passed.sound.safe r refused
 
       read_on : IsRead v (to_come new.next others) (walk.context, offset + 1)
@@ -589,7 +590,7 @@ module _ (s : Setting) (listing : Listing) (v : Contents) (family : IsFamily v) 
                 record {
                   before = add.before;
                   state = add.state;
-                  walked = less_on (key_of v add.before) walk.context offset add.walked;
+                  walked = less_on (point_key_of v add.before) walk.context offset add.walked;
                   there = add.there;
                   just_before = add.just_before;
                   gives = add.gives;
@@ -617,12 +618,12 @@ module _ (s : Setting) (listing : Listing) (v : Contents) (family : IsFamily v) 
         ahead : offset < o
         ahead = (line_of s listing here_is to c.may).ends.forward
 
-        key_to : ◌≡◌ {A = ℕ × ℕ} (key_of v to) (walk.context, o)
+        key_to : ◌≡◌ {A = ℕ × ℕ} (point_key_of v to) (walk.context, o)
         key_to = key_at walk.context o there
 
-        far_to : (p : Place) → p ≡ to → IsLess (key_of v p) (walk.context, offset + 1) → ⊥
+        far_to : (p : Place) → p ≡ to → IsLess (point_key_of v p) (walk.context, offset + 1) → ⊥
         far_to p same less =
-            let less' : IsLess (walk.context, o) (walk.context, offset + 1) = subst (λ k. IsLess k (walk.context, offset + 1)) (ap (key_of v) same ∙ key_to) less in
+            let less' : IsLess (walk.context, o) (walk.context, offset + 1) = subst (λ k. IsLess k (walk.context, offset + 1)) (ap (point_key_of v) same ∙ key_to) less in
             let lt = ahead in
             elim less' [ inl lt' ↦ omega arith | inr (same', lt') ↦ omega arith ]
 
@@ -641,7 +642,7 @@ module _ (s : Setting) (listing : Listing) (v : Contents) (family : IsFamily v) 
         back : (p : Place) (a : State) → p ≢ to → filled' p ≡ Some a → point.filled p ≡ Some a
         back p a apart at = sym (with_other point.filled to new.made p apart) ∙ at
 
-        walked_back : (p : Place) (a : State) → IsLess (key_of v p) (walk.context, offset + 1) → filled' p ≡ Some a → point.filled p ≡ Some a
+        walked_back : (p : Place) (a : State) → IsLess (point_key_of v p) (walk.context, offset + 1) → filled' p ≡ Some a → point.filled p ≡ Some a
         walked_back p a less at = back p a (λ same. far_to p same less) at
 
         -- what the point gives at a place without a state is what is carried
@@ -693,21 +694,21 @@ module _ (s : Setting) (listing : Listing) (v : Contents) (family : IsFamily v) 
           ];
         }
           where
-            new_added : (q : Place) (t : State) → q ≡ to → filled' q ≡ Some t → WasAdded s (MayLeaveOut listing s) (λ p. IsLess (key_of v p) (walk.context, offset + 1)) filled' q t
+            new_added : (q : Place) (t : State) → q ≡ to → filled' q ≡ Some t → WasAdded s (MayLeaveOut listing s) (λ p. IsLess (point_key_of v p) (walk.context, offset + 1)) filled' q t
             new_added q t same at =
                 let at' : Some new.made ≡ Some t = sym (with_here point.filled to new.made) ∙ ap filled' (sym same) ∙ at in
                 let state : new.made ≡ t = cc in
                 let here : filled' here_is ≡ Some walk.made = kept here_is walk.made point.here in
-                let less : IsLess (key_of v here_is) (walk.context, offset + 1) = subst (λ k. IsLess k (walk.context, offset + 1)) (sym (key_at walk.context offset there)) (here_on walk.context offset) in
-                let W : Place × State → Type 0 = λ x. WasAdded s (MayLeaveOut listing s) (λ p. IsLess (key_of v p) (walk.context, offset + 1)) filled' x.0 x.1 in
+                let less : IsLess (point_key_of v here_is) (walk.context, offset + 1) = subst (λ k. IsLess k (walk.context, offset + 1)) (sym (key_at walk.context offset there)) (here_on walk.context offset) in
+                let W : Place × State → Type 0 = λ x. WasAdded s (MayLeaveOut listing s) (λ p. IsLess (point_key_of v p) (walk.context, offset + 1)) filled' x.0 x.1 in
                 subst W (λ i. (sym same i, state i)) (record { before = here_is; state = walk.made; walked = less; there = here; just_before = c.may; gives = c.gives })
 
-            old_added : (q : Place) (t : State) → WasAdded s (MayLeaveOut listing s) (λ p. IsLess (key_of v p) (walk.context, offset)) point.filled q t
-                → WasAdded s (MayLeaveOut listing s) (λ p. IsLess (key_of v p) (walk.context, offset + 1)) filled' q t
+            old_added : (q : Place) (t : State) → WasAdded s (MayLeaveOut listing s) (λ p. IsLess (point_key_of v p) (walk.context, offset)) point.filled q t
+                → WasAdded s (MayLeaveOut listing s) (λ p. IsLess (point_key_of v p) (walk.context, offset + 1)) filled' q t
             old_added q t add = record {
               before = add.before;
               state = add.state;
-              walked = less_on (key_of v add.before) walk.context offset add.walked;
+              walked = less_on (point_key_of v add.before) walk.context offset add.walked;
               there = kept add.before add.state add.there;
               just_before = add.just_before;
               gives = add.gives;

@@ -16,9 +16,11 @@ frames_of entries = grow ([] ∷ []) entries
 pub grow-push : {F : Type 0} (lists : List (List F)) (entries : List (ℕ × F)) (x : ℕ × F)
     → grow lists (entries ++ x ∷ []) ≡ grow lists entries ++ (x.1 ∷ slice_index_or (grow lists entries) x.0 []) ∷ []
 grow-push lists [] x = refl
-grow-push lists (e ∷ entries) x = grow-push (lists ++ (e.1 ∷ slice_index_or lists e.0 []) ∷ []) entries x
+grow-push lists (e ∷ entries) x =
+    grow-push (lists ++ (e.1 ∷ slice_index_or lists e.0 []) ∷ []) entries x
 
-pub length-grow : {F : Type 0} (lists : List (List F)) (entries : List (ℕ × F)) → length (grow lists entries) ≡ length lists + length entries
+pub length-grow : {F : Type 0} (lists : List (List F)) (entries : List (ℕ × F))
+    → length (grow lists entries) ≡ length lists + length entries
 length-grow lists [] = omega arith
 length-grow lists (e ∷ entries) =
     let ih = length-grow (lists ++ (e.1 ∷ slice_index_or lists e.0 []) ∷ []) entries in
@@ -26,7 +28,8 @@ length-grow lists (e ∷ entries) =
     omega arith
 
 -- the first lists stay the same
-pub grow-keeps : {F : Type 0} (lists : List (List F)) (entries : List (ℕ × F)) (j : ℕ) → j < length lists
+pub grow-keeps : {F : Type 0} (lists : List (List F)) (entries : List (ℕ × F)) (j : ℕ)
+    → j < length lists
     → slice_index_or (grow lists entries) j [] ≡ slice_index_or lists j []
 grow-keeps lists [] j lt = refl
 grow-keeps lists (e ∷ entries) j lt =
@@ -36,7 +39,8 @@ grow-keeps lists (e ∷ entries) j lt =
     ∙ get_or-append lists ((e.1 ∷ slice_index_or lists e.0 []) ∷ []) [] j lt
 
 -- an entry's list is its parent's with its frame
-pub grow-at : {F : Type 0} (lists : List (List F)) (entries : List (ℕ × F)) (i : ℕ) (e : ℕ × F) → slice_get entries i ≡ Some e → e.0 < length lists + i
+pub grow-at : {F : Type 0} (lists : List (List F)) (entries : List (ℕ × F)) (i : ℕ) (e : ℕ × F)
+    → slice_get entries i ≡ Some e → e.0 < length lists + i
     → slice_index_or (grow lists entries) (length lists + i) [] ≡ e.1 ∷ slice_index_or (grow lists entries) e.0 []
 grow-at lists [] i e at lt = cc
 grow-at {F} lists (x ∷ entries) zero e at lt =

@@ -1,5 +1,5 @@
 -- What a family tells of the functions that are defined where a program ends.
-use Rattle.std.specs.Prelude.{◌≡◌, ℕ, List, Option}
+use Rattle.std.specs.Prelude.{◌≡◌, ℕ, List, [], Option, Some}
 use Rattle.tt_code.specs.Cut.{size}
 use Rattle.tt_code.specs.Fonts.{Leaves}
 use Rattle.tt_code.specs.Settings.{Setting}
@@ -12,9 +12,16 @@ use Rattle.tt_abs.specs.Soundness.{StartsWith}
 use Rattle.tt_abs.specs.StateFlow.{AreProgramsShort, Place, flow_of}
 use Rattle.tt_abs.specs.States.{state_order}
 
--- Where the family is good for a program of this length, each run that reaches the program's end has each of these functions there, with
--- its body.
+-- Where the family is good for a program of this length, each run that reaches the program's end
+-- has each of these functions there, with its body.
 abbrev pub AreDefinedAtEnd : (Place → Option State) → ℕ → List (ℕ × ℕ) → Type 0
 AreDefinedAtEnd family length functions =
-    (s : Setting) (start : List (ℕ × ℕ)) → IsSettingInRange s → AreProgramsShort s → Rises start → IsGood state_order (flow_of s start) family
-    → size s.main ≡ length → (left : List (ℕ × ℕ)) → Leaves s (StartsWith start) left → CoversFunctions functions left
+    (s : Setting) (start : List (ℕ × ℕ)) → IsSettingInRange s → AreProgramsShort s → Rises start
+    → IsGood state_order (flow_of s start) family
+    → size s.main ≡ length → (left : List (ℕ × ℕ)) → Leaves s (StartsWith start) left
+    → CoversFunctions functions left
+
+-- the family has a state at the end of a program of this length, which knows these functions
+abbrev pub AreKnownAtEnd : (Place → Option State) → ℕ → List (ℕ × ℕ) → Type 0
+AreKnownAtEnd family length functions =
+    (end : State) × (family ([], length) ≡ Some end) × (functions ≡ end.functions)

@@ -1,4 +1,5 @@
--- What a checked family is: good, its stored indexes in range, with its end, and of a program that isn't too long.
+-- What a checked family is: good, its stored indexes in range, with its end, and of a program that
+-- isn't too long.
 use Rattle.std.specs.Prelude.{◌≡◌, ℕ, ℤ, ◌<◌, ◌≤◌, Option, Some, List, [], length}
 use Rattle.tt_code.specs.Cut.{size}
 use Rattle.tt_code.specs.declared.machine.Frame.{Frame}
@@ -36,10 +37,13 @@ IsShortEnough s (GlyphProgram points contours) = size s.main ≤ s.limits.progra
 
 -- at most 65,535 contexts have states
 abbrev pub HasFewContexts : (Place → Option State) → Type 0
-HasFewContexts family = (contexts : List (List Frame)) × (length contexts ≤ 65535) × ((p : Place) (a : State) → family p ≡ Some a → HasContext contexts p.0)
+HasFewContexts family =
+    (contexts : List (List Frame)) × (length contexts ≤ 65535)
+    × ((p : Place) (a : State) → family p ≡ Some a → HasContext contexts p.0)
 
 -- all that a checked family is
-pub record IsGoodFamily (s : Setting) (functions : List (ℕ × ℕ)) (family : Place → Option State) : Type 0 where
+pub record IsGoodFamily (s : Setting) (functions : List (ℕ × ℕ)) (family : Place → Option State)
+    : Type 0 where
   pub short : IsShortEnough s s.kind
   pub good : IsGood state_order (flow_of s functions) family
   pub ends : EndsWell s s.kind family

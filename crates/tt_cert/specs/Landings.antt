@@ -16,11 +16,13 @@ use Rattle.tt_cert.specs.declared.landing.Landing.TheVariants.{In, Body, Beyond}
 
 -- the place to which a way leads from a context
 abbrev pub place_from : List (List Frame) → ℕ → Move → Place
-place_from contexts context way = (frames_behind (frames_at contexts context) way, offset_behind (frames_at contexts context) way)
+place_from contexts context way =
+    (frames_behind (frames_at contexts context) way, offset_behind (frames_at contexts context) way)
 
 -- the innermost call's next turn is a number of 32 bits, if its count is one
 abbrev pub IsTurnCountable : List Frame → Type 0
-IsTurnCountable frames = (f : Frame) (fs : List Frame) → frames ≡ f ∷ fs → f.count < 2 ^ 32 → f.turn + 1 < 2 ^ 32
+IsTurnCountable frames =
+    (f : Frame) (fs : List Frame) → frames ≡ f ∷ fs → f.count < 2 ^ 32 → f.turn + 1 < 2 ^ 32
 
 -- the innermost call is at the greatest offset of 32 bits
 abbrev pub IsCalledLast : List Frame → Type 0
@@ -28,14 +30,21 @@ IsCalledLast frames = (f : Frame) × (fs : List Frame) × (frames ≡ f ∷ fs) 
 
 -- the number of a context that has the place's calls, and the place's offset
 abbrev pub IsPointOf : List (List Frame) → Place → ℕ × ℕ → Type 0
-IsPointOf contexts place point = (point.0 < length contexts) × (frames_at contexts point.0 ≡ place.0) × (point.1 ≡ place.1)
+IsPointOf contexts place point =
+    (point.0 < length contexts) × (frames_at contexts point.0 ≡ place.0) × (point.1 ≡ place.1)
 
 -- the landing stands for the place, which is reached from this context
 abbrev pub IsLanding : List (List Frame) → ℕ → Place → Landing → Type 0
 IsLanding contexts from place (In context offset) = IsPointOf contexts place (context, offset)
-IsLanding contexts from place (Body parent frame) = (parent < length contexts) × (frame ∷ frames_at contexts parent ≡ place.0) × (body_offset frame.body ≡ place.1)
-IsLanding contexts from place (Beyond context) = (context < from) × (frames_at contexts context ≡ place.0) × (2 ^ 32 ≤ place.1) × IsCalledLast (frames_at contexts from)
+IsLanding contexts from place (Body parent frame) =
+    (parent < length contexts) × (frame ∷ frames_at contexts parent ≡ place.0)
+    × (body_offset frame.body ≡ place.1)
+IsLanding contexts from place (Beyond context) =
+    (context < from) × (frames_at contexts context ≡ place.0) × (2 ^ 32 ≤ place.1)
+    × IsCalledLast (frames_at contexts from)
 
 -- the family has no state at the place, and the fault says so
 abbrev pub IsMissing : Contents → Place → ProgramFault → Type 0
-IsMissing contents place fault = (family_of contents place ≡ None) × (fault ≡ Refused (spot_of place.0) (saturated_offset place.1) MissingPoint)
+IsMissing contents place fault =
+    (family_of contents place ≡ None)
+    × (fault ≡ Refused (spot_of place.0) (saturated_offset place.1) MissingPoint)

@@ -1,6 +1,4 @@
 pub mod Places
-pub mod PlaceRows
-pub mod Tables
 pub mod Contexts
 pub mod Contents
 pub mod Numbers
@@ -8,11 +6,11 @@ pub mod Built
 pub mod Puts
 pub mod Joins
 pub mod Rising
-pub mod FileOrder
 pub mod GoodFamilies
 pub mod Spots
 pub mod Fillings
 pub mod Checks
 pub mod Landings
-pub mod Cursors
+pub mod CheckedSubjects
 pub mod Ends
+pub mod Representation

@@ -36,7 +36,8 @@ number_of-le (x ∷ xs) frames = elim (same_frames x frames) as (λ b. cond b 0 
 ]
 
 -- the frames at the number
-pub at-number_of : (xs : List (List Frame)) (frames : List Frame) → number_of xs frames < length xs → slice_index_or xs (number_of xs frames) [] ≡ frames
+pub at-number_of : (xs : List (List Frame)) (frames : List Frame) → number_of xs frames < length xs
+    → slice_index_or xs (number_of xs frames) [] ≡ frames
 at-number_of [] frames lt = absurd (omega arith)
 at-number_of (x ∷ xs) frames lt = elim (cases_Bool (same_frames x frames)) [
   | inl e ↦
@@ -49,7 +50,8 @@ at-number_of (x ∷ xs) frames lt = elim (cases_Bool (same_frames x frames)) [
 ]
 
 -- a list that is at an index has a number, at most that index
-pub number_of-place : (xs : List (List Frame)) (frames : List Frame) (i : ℕ) → i < length xs → slice_index_or xs i [] ≡ frames → number_of xs frames ≤ i
+pub number_of-place : (xs : List (List Frame)) (frames : List Frame) (i : ℕ) → i < length xs
+    → slice_index_or xs i [] ≡ frames → number_of xs frames ≤ i
 number_of-place [] frames i lt at = absurd (omega arith)
 number_of-place (x ∷ xs) frames zero lt at =
     let e : same_frames x frames ≡ true = (same_frames-decides x frames).1 at in
@@ -70,7 +72,8 @@ number_of-is xs frames i distinct lt at =
     distinct (number_of xs frames) i within lt (at-number_of xs frames within ∙ sym at)
 
 -- one more context: the others keep their numbers
-pub number_of-append : (xs : List (List Frame)) (y frames : List Frame) → number_of xs frames < length xs → number_of (xs ++ y ∷ []) frames ≡ number_of xs frames
+pub number_of-append : (xs : List (List Frame)) (y frames : List Frame)
+    → number_of xs frames < length xs → number_of (xs ++ y ∷ []) frames ≡ number_of xs frames
 number_of-append [] y frames lt = absurd (omega arith)
 number_of-append (x ∷ xs) y frames lt = elim (cases_Bool (same_frames x frames)) [
   | inl e ↦ ap (λ c. cond c 0 (1 + number_of (xs ++ y ∷ []) frames)) e ∙ sym (ap (λ c. cond c 0 (1 + number_of xs frames)) e)
@@ -82,7 +85,8 @@ number_of-append (x ∷ xs) y frames lt = elim (cases_Bool (same_frames x frames
 ]
 
 -- and a list that had none is after the old ones
-pub number_of-append_past : (xs : List (List Frame)) (y frames : List Frame) → number_of xs frames ≡ length xs → length xs ≤ number_of (xs ++ y ∷ []) frames
+pub number_of-append_past : (xs : List (List Frame)) (y frames : List Frame)
+    → number_of xs frames ≡ length xs → length xs ≤ number_of (xs ++ y ∷ []) frames
 number_of-append_past [] y frames e = omega arith
 number_of-append_past (x ∷ xs) y frames e = elim (cases_Bool (same_frames x frames)) [
   | inl t ↦ absurd (let zero_is : number_of (x ∷ xs) frames ≡ 0 = ap (λ c. cond c 0 (1 + number_of xs frames)) t in omega arith)

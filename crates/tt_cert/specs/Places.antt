@@ -31,6 +31,7 @@ PutGives o (Some s) t None changed = ⊥
 PutGives o (Some s) t (Some u) changed = IsLeastAbove o s t u × (changed ≡ false ↔ (u ≡ s))
 
 -- new is old with the state put at a place, and the same elsewhere
-pub record PutsAt {P S : Type 0} (o : Order S) (old new : P → Option S) (place : P) (state : S) (changed : Bool) : Type 0 where
+pub record PutsAt {P S : Type 0} (o : Order S) (old new : P → Option S) (place : P) (state : S)
+    (changed : Bool) : Type 0 where
   pub here : PutGives o (old place) state (new place) changed
   pub elsewhere : (p : P) → p ≢ place → new p ≡ old p

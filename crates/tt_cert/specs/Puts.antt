@@ -17,24 +17,36 @@ weigh w (Some s) = w s
 
 -- whatever states weigh, all together weigh more by what the state at the place adds
 abbrev pub ReweighsStates : List ((ℕ × ℕ) × State) → List ((ℕ × ℕ) × State) → ℕ × ℕ → Type 0
-ReweighsStates old new place = (w : State → ℕ) → sum_by w (values_of new) + weigh w (states_of old place) ≡ sum_by w (values_of old) + weigh w (states_of new place)
+ReweighsStates old new place =
+    (w : State → ℕ) → sum_by w (values_of new) + weigh w (states_of old place)
+    ≡ sum_by w (values_of old) + weigh w (states_of new place)
 
 -- the same of the contents and a point
 abbrev pub Reweighs : Contents → Contents → List Frame × ℕ → Type 0
-Reweighs old new place = (w : State → ℕ) → total w new + weigh w (family_of old place) ≡ total w old + weigh w (family_of new place)
+Reweighs old new place =
+    (w : State → ℕ)
+    → total w new + weigh w (family_of old place) ≡ total w old + weigh w (family_of new place)
 
 -- the point of a context and an offset
 abbrev pub place_of : Contents → ℕ → ℕ → List Frame × ℕ
 place_of contents context offset = (frames_at contents.contexts context, offset)
 
-pub number_at : (v : Contents) (c : ℕ) → IsFamily v → c < length v.contexts → number_of v.contexts (frames_at v.contexts c) ≡ c
+-- the family's state at that point
+abbrev pub family_state : Contents → ℕ → ℕ → Option State
+family_state contents context offset = family_of contents (place_of contents context offset)
+
+pub number_at : (v : Contents) (c : ℕ) → IsFamily v → c < length v.contexts
+    → number_of v.contexts (frames_at v.contexts c) ≡ c
 number_at v c family lt = number_of-is v.contexts (frames_at v.contexts c) c family.distinct lt refl
 
-pub family_at : (v : Contents) (c o : ℕ) → IsFamily v → c < length v.contexts → family_of v (place_of v c o) ≡ states_of v.states (c, o)
+pub family_at : (v : Contents) (c o : ℕ) → IsFamily v → c < length v.contexts
+    → family_of v (place_of v c o) ≡ states_of v.states (c, o)
 family_at v c o family lt = ap (λ n. states_of v.states (n, o)) (number_at v c family lt)
 
-pub PutsAt-family : (o : Order State) (old new : Contents) (c off : ℕ) (t : State) (changed : Bool) → IsFamily old → new.contexts ≡ old.contexts → c < length old.contexts
-    → PutsAt o (states_of old.states) (states_of new.states) (c, off) t changed → PutsAt o (family_of old) (family_of new) (place_of old c off) t changed
+pub PutsAt-family : (o : Order State) (old new : Contents) (c off : ℕ) (t : State) (changed : Bool)
+    → IsFamily old → new.contexts ≡ old.contexts → c < length old.contexts
+    → PutsAt o (states_of old.states) (states_of new.states) (c, off) t changed
+    → PutsAt o (family_of old) (family_of new) (place_of old c off) t changed
 PutsAt-family o old new c off t changed family same lt put =
     let n_is = number_at old c family lt in
     let new_at : (p : List Frame × ℕ) → family_of new p ≡ states_of new.states (number_of old.contexts p.0, p.1) =
@@ -49,7 +61,8 @@ PutsAt-family o old new c off t changed family same lt put =
       elsewhere = λ p apart. new_at p ∙ put.elsewhere (number_of old.contexts p.0, p.1) (λ e. apart (back p e));
     }
   where
-    back : (p : List Frame × ℕ) → ◌≡◌ {A = ℕ × ℕ} (number_of old.contexts p.0, p.1) (c, off) → p ≡ place_of old c off
+    back : (p : List Frame × ℕ) → ◌≡◌ {A = ℕ × ℕ} (number_of old.contexts p.0, p.1) (c, off)
+        → p ≡ place_of old c off
     back p e =
         let first : number_of old.contexts p.0 ≡ c = ap (λ (x : ℕ × ℕ). x.0) e in
         let second : p.1 ≡ off = ap (λ (x : ℕ × ℕ). x.1) e in
@@ -57,7 +70,8 @@ PutsAt-family o old new c off t changed family same lt put =
         let frames : p.0 ≡ frames_at old.contexts c = sym at ∙ ap (frames_at old.contexts) first in
         λ i. (frames i, second i)
 
-pub Reweighs-family : (old new : Contents) (c off : ℕ) → IsFamily old → new.contexts ≡ old.contexts → c < length old.contexts
+pub Reweighs-family : (old new : Contents) (c off : ℕ) → IsFamily old → new.contexts ≡ old.contexts
+    → c < length old.contexts
     → ReweighsStates old.states new.states (c, off) → Reweighs old new (place_of old c off)
 Reweighs-family old new c off family same lt sums w =
     let old_is : states_of old.states (c, off) ≡ family_of old (place_of old c off) = sym (family_at old c off family lt) in

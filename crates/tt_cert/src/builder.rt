@@ -5,17 +5,16 @@ ghost use Rattle.std.specs.List.{All};
 ghost use Rattle.std.specs.List.Sorted.{IsStrictlySortedBy};
 ghost use Rattle.std.specs.Map.{keys_of};
 ghost use Rattle.tt_abs.specs.Entries.{Rises};
-ghost use Rattle.tt_abs.specs.declared.state.State.{State as StateValue};
 ghost use Rattle.tt_abs.specs.States.{state_order};
-ghost use Rattle.tt_cert.specs.Joins.{TellsNew, is_change};
-ghost use Rattle.tt_cert.specs.Places.{PutsAt, place_cmp, states_of};
-ghost use Rattle.tt_cert.specs.Puts.{Reweighs, place_of};
+ghost use Rattle.tt_cert.specs.Joins.{HasOtherDepth, HasSameDepth, PutsState, TellsNewAt};
+ghost use Rattle.tt_cert.specs.Places.{place_cmp, states_of};
+ghost use Rattle.tt_cert.specs.Puts.{Reweighs, family_state, place_of};
 ghost use Rattle.tt_cert.specs.Built.{RisesByKey, key_cmp, key_of as key_of_entry};
 ghost use Rattle.std.specs.BTreeMap.{IsOrdered, get};
-ghost use Rattle.tt_cert.specs.FileOrder.{IsFileOrder, children};
-ghost use Rattle.tt_cert.specs.Rising.{IsFinished};
-ghost use Rattle.tt_cert.specs.Ends.{AreDefinedAtEnd};
-ghost use Rattle.tt_cert.specs.Contents.{AddsContext, HasContext, IsFamily, family_of, frames_at, points_of};
+ghost use Rattle.tt_cert.specs.Representation.FileOrder.{IsFileOrder, children};
+ghost use Rattle.tt_cert.specs.Rising.{IsFinished, StandsAt};
+ghost use Rattle.tt_cert.specs.Ends.{AreDefinedAtEnd, AreKnownAtEnd};
+ghost use Rattle.tt_cert.specs.Contents.{AddsChild, HasChild, IsChild, IsFamily, family_of, frames_at, points_of, state_at};
 ghost use Rattle.tt_cert.specs.Spots.{spot_of};
 
 use crate::fault::{ContextFault, JoinFault};
@@ -32,8 +31,9 @@ use tt_code::Frame;
 /// How many contexts are kept at most, including the empty one.
 const MOST_CONTEXTS: u32 = 65_535;
 
-/// A family of states that grows. A context is a list of calls that haven't returned; contexts have numbers in the order in
-/// which they were added, and the empty one is number 0. A point is a context and an offset.
+/// A family of states that grows. A context is a list of calls that haven't returned; contexts have
+/// numbers in the order in which they were added, and the empty one is number 0. A point is a
+/// context and an offset.
 #[derive(Drop)]
 pub struct Builder {
     /// The contexts except for the empty one, each with its parent's number and its last frame.
@@ -98,7 +98,8 @@ fn push_children(
     order: &mut Vec<u32>,
 ) -> Result<(), AllocError>
     requires { parent < 65535 }
-    ensures pushed { IfOk result (λ _. order.new.items ≡ order.old.items ++ children index.now.entries parent) }
+    ensures pushed { IfOk result (λ _.
+        order.new.items ≡ order.old.items ++ children index.now.entries parent) }
     ensures ordered { IsOrdered key_cmp index.now }
 {
     for (_, number) in index.range((parent, 0, 0, 0, 0)..(parent + 1, 0, 0, 0, 0)) {
@@ -121,18 +122,18 @@ impl Builder {
         }
     }
 
-    /// Shows that the contexts and the states are a family, as they always are.
-    pub fn is_family(&self)
+    /// States that the contexts and the states are a family, as they always are.
+    pub fn family_facts(&self)
         ensures { IsFamily self.now }
     {
         self.contexts();
     }
 
-    /// Shows that the states ascend by context and offset, as they always do.
-    pub fn states_rise(&self)
+    /// States that the states ascend by context and offset, as they always do.
+    pub fn order_facts(&self)
         ensures { IsStrictlySortedBy place_cmp (keys_of self.now.states) }
     {
-        self.states.rise();
+        self.states.order_facts();
     }
 
     /// Returns how many contexts there are, including the empty one.
@@ -151,10 +152,11 @@ impl Builder {
         self.states.len()
     }
 
-    /// Returns a context's parent and last frame. The empty context has none, nor has a number under which there is no context.
+    /// Returns a context's parent and last frame. The empty context has none, nor has a number
+    /// under which there is no context.
     pub fn context(&self, number: u32) -> Option<(u32, Frame)>
         ensures none { result ≡ None → (number ≡ 0) ⊎ (length self.now.contexts ≤ number) }
-        ensures some { IfSome result (λ e. (number < length self.now.contexts) × (e.0 < number) × (frames_at self.now.contexts number ≡ e.1 ∷ frames_at self.now.contexts e.0)) }
+        ensures some { IfSome result (StandsAt self.now.contexts number) }
     {
         if number == 0 {
             return None;
@@ -170,7 +172,7 @@ impl Builder {
         requires { context < length self.now.contexts }
         ensures { result ≡ spot_of (frames_at self.now.contexts context) }
     {
-        self.is_family();
+        self.family_facts();
         match self.context(context) {
             Some((_, frame)) => Spot::of_body(frame.body),
             None => Spot::Main,
@@ -179,23 +181,28 @@ impl Builder {
 
     /// Returns the number of the context that has the parent's frames and one more.
     pub fn number(&self, parent: u32, frame: Frame) -> Option<u32>
-        ensures none { parent < length self.now.contexts → result ≡ None → HasContext self.now.contexts (frame ∷ frames_at self.now.contexts parent) → ⊥ }
-        ensures some { IfSome result (λ number. (number < length self.now.contexts) × (frames_at self.now.contexts number ≡ frame ∷ frames_at self.now.contexts parent)) }
+        ensures none { parent < length self.now.contexts → result ≡ None
+            → HasChild self.now.contexts parent frame → ⊥ }
+        ensures some { IfSome result (IsChild self.now.contexts parent frame) }
     {
         let key = (parent, frame.call, frame.body, frame.turn, frame.count);
         number_of(&self.index, key)
     }
 
-    /// Returns the number of the context that has the parent's frames and one more, which is added if it isn't there.
+    /// Returns the number of the context that has the parent's frames and one more, which is added
+    /// if it isn't there.
     ///
     /// # Errors
-    /// `TooManyContexts` exactly if it isn't there and there are 65,535 contexts; `OutOfMemory`. Then the builder stays as it is.
+    /// `TooManyContexts` exactly if it isn't there and there are 65,535 contexts; `OutOfMemory`.
+    /// Then the builder stays as it is.
     pub fn add_context(&mut self, parent: u32, frame: Frame) -> Result<u32, ContextFault>
         requires { parent < length self.old.contexts }
-        ensures added { IfOk result (AddsContext self.old.contexts self.new.contexts (frame ∷ frames_at self.old.contexts parent)) }
+        ensures added { IfOk result (AddsChild self.old.contexts self.new.contexts parent frame) }
         ensures states { self.new.states ≡ self.old.states }
-        ensures full { result ≡ Err ContextFault.TooManyContexts → (HasContext self.old.contexts (frame ∷ frames_at self.old.contexts parent) → ⊥) × (length self.old.contexts ≡ 65535) }
-        ensures room { (HasContext self.old.contexts (frame ∷ frames_at self.old.contexts parent) → ⊥) → length self.old.contexts ≡ 65535 → result ≡ Err ContextFault.TooManyContexts }
+        ensures full { result ≡ Err ContextFault.TooManyContexts
+            → (HasChild self.old.contexts parent frame → ⊥) × (length self.old.contexts ≡ 65535) }
+        ensures room { (HasChild self.old.contexts parent frame → ⊥)
+            → length self.old.contexts ≡ 65535 → result ≡ Err ContextFault.TooManyContexts }
         ensures kept { OnErr result (self.new ≡ self.old) }
         ensures family { IsFamily self.new }
     {
@@ -223,7 +230,8 @@ impl Builder {
     /// If memory runs out.
     pub fn frames(&self, alloc: Global, number: u32) -> Result<Vec<Frame>, AllocError>
         requires { number < length self.now.contexts }
-        ensures { IfOk result (λ frames. frames.items ≡ reverse (frames_at self.now.contexts number)) }
+        ensures { IfOk result (λ frames.
+            frames.items ≡ reverse (frames_at self.now.contexts number)) }
     {
         let mut frames = Vec::new(alloc);
         self.read_frames(number, &mut frames)?;
@@ -251,16 +259,17 @@ impl Builder {
 
     /// Returns the state at a point.
     pub fn state(&self, context: u32, offset: u32) -> Option<&State>
-        ensures none { result ≡ None → states_of self.now.states (context, offset) ≡ None }
-        ensures some { IfSome result (λ state. states_of self.now.states (context, offset) ≡ Some state.now) }
-        ensures at { context < length self.now.contexts → family_of self.now (place_of self.now context offset) ≡ states_of self.now.states (context, offset) }
+        ensures none { result ≡ None → state_at self.now context offset ≡ None }
+        ensures some { IfSome result (λ state. state_at self.now context offset ≡ Some state.now) }
+        ensures at { context < length self.now.contexts
+            → family_state self.now context offset ≡ state_at self.now context offset }
         ensures family { IsFamily self.now }
     {
         self.states.get(context, offset)
     }
 
-    /// Returns the states with their contexts and offsets, by ascending context, and by ascending offset within one: each point that has a
-    /// state comes once.
+    /// Returns the states with their contexts and offsets, by ascending context, and by ascending
+    /// offset within one: each point that has a state comes once.
     pub fn states(&self) -> States<'_>
         ensures rest { result ≡ self.now.states }
         ensures rises { IsStrictlySortedBy place_cmp (keys_of self.now.states) }
@@ -270,14 +279,17 @@ impl Builder {
         self.states.iter()
     }
 
-    /// Returns the functions that are known at the end of a program of this length, where no call is open: by ascending numbers, each
-    /// with its body. None if the end has no state. Where the family is good for the program, each run of it that reaches its end
-    /// has these functions there, with these bodies.
+    /// Returns the functions that are known at the end of a program of this length, where no call
+    /// is open: by ascending numbers, each with its body. None if the end has no state. Where the
+    /// family is good for the program, each run of it that reaches its end has these functions
+    /// there, with these bodies.
     pub fn end_functions(&self, length: u32) -> Option<&[(u16, u32)]>
         ensures none { result ≡ None → family_of self.now ([], length) ≡ None }
-        ensures some { IfSome result (λ functions. (end : StateValue) × (family_of self.now ([], length) ≡ Some end) × (functions.now ≡ end.functions)) }
+        ensures some { IfSome result (λ functions.
+            AreKnownAtEnd (family_of self.now) length functions.now) }
         ensures rises { IfSome result (λ functions. Rises functions.now) }
-        ensures defined { IfSome result (λ functions. AreDefinedAtEnd (family_of self.now) length functions.now) }
+        ensures defined { IfSome result (λ functions.
+            AreDefinedAtEnd (family_of self.now) length functions.now) }
     {
         match self.state(0, length) {
             Some(state) => Some(state.functions()),
@@ -285,10 +297,12 @@ impl Builder {
         }
     }
 
-    /// Puts a state at a point, by a join where there is one and by a copy otherwise, and returns what that makes of the state there.
+    /// Puts a state at a point, by a join where there is one and by a copy otherwise, and returns
+    /// what that makes of the state there.
     ///
     /// # Errors
-    /// `DepthMismatch` exactly if a state of another depth is there; `OutOfMemory`. Then the builder stays as it is.
+    /// `DepthMismatch` exactly if a state of another depth is there; `OutOfMemory`. Then the
+    /// builder stays as it is.
     pub fn join_state(
         &mut self,
         context: u32,
@@ -297,11 +311,14 @@ impl Builder {
     ) -> Result<Joined, JoinFault>
         requires there { context < length self.old.contexts }
         requires theirs { state_order.InRange state.now }
-        ensures put { IfOk result (λ joined. PutsAt state_order (family_of self.old) (family_of self.new) (place_of self.old context offset) state.now (is_change joined)) }
-        ensures new { IfOk result (λ joined. TellsNew joined (family_of self.old (place_of self.old context offset))) }
-        ensures sums { IfOk result (λ _. Reweighs self.old self.new (place_of self.old context offset)) }
-        ensures depth { result ≡ Err JoinFault.DepthMismatch → (s : StateValue) × (family_of self.old (place_of self.old context offset) ≡ Some s) × (state_order.SameDepth s state.now → ⊥) }
-        ensures joined { IfOk result (λ _. (s : StateValue) → family_of self.old (place_of self.old context offset) ≡ Some s → state_order.SameDepth s state.now) }
+        ensures put { IfOk result (PutsState self.old self.new context offset state.now) }
+        ensures new { IfOk result (TellsNewAt self.old context offset) }
+        ensures sums { IfOk result (λ _.
+            Reweighs self.old self.new (place_of self.old context offset)) }
+        ensures depth { result ≡ Err JoinFault.DepthMismatch
+            → HasOtherDepth (family_state self.old context offset) state.now }
+        ensures joined { IfOk result (λ _.
+            HasSameDepth (family_state self.old context offset) state.now) }
         ensures contexts { self.new.contexts ≡ self.old.contexts }
         ensures kept { OnErr result (self.new ≡ self.old) }
         ensures family { IsFamily self.new }
@@ -309,7 +326,8 @@ impl Builder {
         self.states.join(context, offset, state)
     }
 
-    /// Removes all states and all contexts except for the empty one, and keeps their memory, except for that of the maps by key.
+    /// Removes all states and all contexts except for the empty one, and keeps their memory, except
+    /// for that of the maps by key.
     pub fn clear(&mut self)
         ensures contexts { self.new.contexts ≡ [] ∷ [] }
         ensures states { self.new.states ≡ [] }
@@ -332,8 +350,8 @@ impl Builder {
         *self.entries.allocator()
     }
 
-    /// Returns the numbers of the contexts in the order of the file: each after its parent's, by depth, and then by the order of the
-    /// parents and of the frames.
+    /// Returns the numbers of the contexts in the order of the file: each after its parent's, by
+    /// depth, and then by the order of the parents and of the frames.
     pub(crate) fn file_order(&self) -> Result<Vec<u32>, AllocError>
         ensures { IfOk result (λ order. IsFileOrder self.now.contexts order.items) }
     {

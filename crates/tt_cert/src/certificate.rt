@@ -5,12 +5,11 @@ ghost use Rattle.std.specs.List.{All};
 ghost use Rattle.std.specs.List.Sorted.{IsStrictlySortedBy};
 ghost use Rattle.std.specs.Map.{keys_of};
 ghost use Rattle.tt_abs.specs.Entries.{Rises};
-ghost use Rattle.tt_abs.specs.declared.state.State.{State as StateValue};
 ghost use Rattle.tt_cert.specs.Places.{place_cmp, states_of};
-ghost use Rattle.tt_cert.specs.Puts.{place_of};
-ghost use Rattle.tt_cert.specs.Ends.{AreDefinedAtEnd};
-ghost use Rattle.tt_cert.specs.Contents.{HasContext, IsFamily, family_of, frames_at, points_of};
-ghost use Rattle.tt_cert.specs.Rising.{IsFinished};
+ghost use Rattle.tt_cert.specs.Puts.{family_state};
+ghost use Rattle.tt_cert.specs.Ends.{AreDefinedAtEnd, AreKnownAtEnd};
+ghost use Rattle.tt_cert.specs.Contents.{HasChild, IsChild, IsFamily, family_of, frames_at, points_of, state_at};
+ghost use Rattle.tt_cert.specs.Rising.{IsFinished, StandsAt};
 ghost use Rattle.tt_cert.specs.Spots.{spot_of};
 
 use crate::builder::Builder;
@@ -21,8 +20,8 @@ use std::marker::Model;
 use tt_abs::State;
 use tt_code::Frame;
 
-/// A family of states whose contexts have their numbers in order: the empty one is number 0, and the others ascend by parent,
-/// call, body, turn and count.
+/// A family of states whose contexts have their numbers in order: the empty one is number 0, and
+/// the others ascend by parent, call, body, turn and count.
 #[derive(Drop)]
 pub struct Certificate {
     builder: Builder,
@@ -55,8 +54,8 @@ impl Certificate {
         &self.builder
     }
 
-    /// Shows that the contexts are in order, as they always are.
-    pub fn is_in_order(&self)
+    /// States that the contexts are in order, as they always are.
+    pub fn order_facts(&self)
         ensures { IsFinished self.now }
     {
         self.contexts();
@@ -77,10 +76,11 @@ impl Certificate {
         self.builder.points()
     }
 
-    /// Returns a context's parent and last frame. The empty context has none, nor has a number under which there is no context.
+    /// Returns a context's parent and last frame. The empty context has none, nor has a number
+    /// under which there is no context.
     pub fn context(&self, number: u32) -> Option<(u32, Frame)>
         ensures none { result ≡ None → (number ≡ 0) ⊎ (length self.now.contexts ≤ number) }
-        ensures some { IfSome result (λ e. (number < length self.now.contexts) × (e.0 < number) × (frames_at self.now.contexts number ≡ e.1 ∷ frames_at self.now.contexts e.0)) }
+        ensures some { IfSome result (StandsAt self.now.contexts number) }
     {
         self.builder.context(number)
     }
@@ -95,8 +95,9 @@ impl Certificate {
 
     /// Returns the number of the context that has the parent's frames and one more.
     pub fn number(&self, parent: u32, frame: Frame) -> Option<u32>
-        ensures none { parent < length self.now.contexts → result ≡ None → HasContext self.now.contexts (frame ∷ frames_at self.now.contexts parent) → ⊥ }
-        ensures some { IfSome result (λ number. (number < length self.now.contexts) × (frames_at self.now.contexts number ≡ frame ∷ frames_at self.now.contexts parent)) }
+        ensures none { parent < length self.now.contexts → result ≡ None
+            → HasChild self.now.contexts parent frame → ⊥ }
+        ensures some { IfSome result (IsChild self.now.contexts parent frame) }
     {
         self.builder.number(parent, frame)
     }
@@ -107,7 +108,8 @@ impl Certificate {
     /// If memory runs out.
     pub fn frames(&self, alloc: Global, number: u32) -> Result<Vec<Frame>, AllocError>
         requires { number < length self.now.contexts }
-        ensures { IfOk result (λ frames. frames.items ≡ reverse (frames_at self.now.contexts number)) }
+        ensures { IfOk result (λ frames.
+            frames.items ≡ reverse (frames_at self.now.contexts number)) }
     {
         self.builder.frames(alloc, number)
     }
@@ -125,15 +127,16 @@ impl Certificate {
 
     /// Returns the state at a point.
     pub fn state(&self, context: u32, offset: u32) -> Option<&State>
-        ensures none { result ≡ None → states_of self.now.states (context, offset) ≡ None }
-        ensures some { IfSome result (λ state. states_of self.now.states (context, offset) ≡ Some state.now) }
-        ensures at { context < length self.now.contexts → family_of self.now (place_of self.now context offset) ≡ states_of self.now.states (context, offset) }
+        ensures none { result ≡ None → state_at self.now context offset ≡ None }
+        ensures some { IfSome result (λ state. state_at self.now context offset ≡ Some state.now) }
+        ensures at { context < length self.now.contexts
+            → family_state self.now context offset ≡ state_at self.now context offset }
     {
         self.builder.state(context, offset)
     }
 
-    /// Returns the states with their contexts and offsets, by ascending context, and by ascending offset within one: each point that has a
-    /// state comes once.
+    /// Returns the states with their contexts and offsets, by ascending context, and by ascending
+    /// offset within one: each point that has a state comes once.
     pub fn states(&self) -> States<'_>
         ensures rest { result ≡ self.now.states }
         ensures rises { IsStrictlySortedBy place_cmp (keys_of self.now.states) }
@@ -154,14 +157,17 @@ impl Certificate {
         builder
     }
 
-    /// Returns the functions that are known at the end of a program of this length, where no call is open: by ascending numbers, each
-    /// with its body. None if the end has no state. Where the family is good for the program, each run of it that reaches its end
-    /// has these functions there, with these bodies.
+    /// Returns the functions that are known at the end of a program of this length, where no call
+    /// is open: by ascending numbers, each with its body. None if the end has no state. Where the
+    /// family is good for the program, each run of it that reaches its end has these functions
+    /// there, with these bodies.
     pub fn end_functions(&self, length: u32) -> Option<&[(u16, u32)]>
         ensures none { result ≡ None → family_of self.now ([], length) ≡ None }
-        ensures some { IfSome result (λ functions. (end : StateValue) × (family_of self.now ([], length) ≡ Some end) × (functions.now ≡ end.functions)) }
+        ensures some { IfSome result (λ functions.
+            AreKnownAtEnd (family_of self.now) length functions.now) }
         ensures rises { IfSome result (λ functions. Rises functions.now) }
-        ensures defined { IfSome result (λ functions. AreDefinedAtEnd (family_of self.now) length functions.now) }
+        ensures defined { IfSome result (λ functions.
+            AreDefinedAtEnd (family_of self.now) length functions.now) }
     {
         self.builder.end_functions(length)
     }

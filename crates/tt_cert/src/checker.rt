@@ -1,19 +1,19 @@
-//! The check of a certificate: whether its family is good for a program, or can be filled up to a good one.
+//! The check of a certificate: whether its family is good for a program, or can be filled up to a
+//! good one.
 
 ghost use Rattle.std.specs.Prelude.{◌≡◌, ◌↔◌, ◌<◌, ◌^◌, [], None, IfOk, IfErr, IsFalse, IsTrue};
 ghost use Rattle.std.specs.List.{All};
 ghost use Rattle.tt_abs.specs.Entries.{Rises};
 ghost use Rattle.tt_abs.specs.Families.{CoversAt};
 ghost use Rattle.tt_abs.specs.Lines.{EndsAt};
-ghost use Rattle.tt_abs.specs.Settings.{frames_of, setting_of};
-ghost use Rattle.tt_abs.specs.Soundness.{IsSafe};
-ghost use Rattle.tt_abs.specs.StateFlow.{Place};
+ghost use Rattle.tt_abs.specs.Settings.{setting_of};
 ghost use Rattle.tt_abs.specs.States.{state_order};
-ghost use Rattle.tt_cert.specs.Checks.{AreToldBefore, IsBrokenFirst, IsFillingBrokenFirst, IsGap, IsOutOfMemory, Names, NamesAt};
+ghost use Rattle.tt_cert.specs.CheckedSubjects.{EndsWellFor, HasGoodFillingFor, HasSafeFillingFor, IsGoodFor, IsSafeFor, IsShortFor, NamesBrokenFirst, NamesFillingBrokenFirst};
+ghost use Rattle.tt_cert.specs.Representation.Cursors.{IsFoundSoundFor, NamesFirstFor, AreToCome, AreUnlisted, IsLeftOutAfter, IsWalk, IsWalkedThrough, NamesBreak, NamesFirstBreak, PassesPoint, to_come};
+ghost use Rattle.tt_cert.specs.Checks.{AreToldBefore, IsOutOfMemory, NamesGap};
 ghost use Rattle.tt_cert.specs.Contents.{family_of};
-ghost use Rattle.tt_cert.specs.Fillings.{HasGoodFilling, HasOneGoodFilling, HasSafeFilling};
-ghost use Rattle.tt_cert.specs.GoodFamilies.{EndsWell, HasEnd, IsGoodFamily, IsShortEnough};
-ghost use Rattle.tt_cert.specs.Cursors.{AreToCome, AreUnlisted, IsAfter, IsFoundSound, IsWalk, IsWalkedThrough, MayLeaveOut, NamesBreak, NamesFirst, NamesFirstBreak, PassesPoint, to_come};
+ghost use Rattle.tt_cert.specs.Fillings.{HasOneGoodFilling, place_of_point};
+ghost use Rattle.tt_cert.specs.GoodFamilies.{HasEnd};
 
 use crate::builder::Builder;
 use crate::certificate::Certificate;
@@ -36,7 +36,7 @@ fn are_stored_within(stored: &[(u16, i32)], limit: u16) -> bool
 
 /// Whether a glyph program is within maxSizeOfInstructions.
 pub fn is_short(setting: &Setting<'_>) -> bool
-    ensures { IsTrue result ↔ IsShortEnough (setting_of setting.now) (setting_of setting.now).kind }
+    ensures { IsTrue result ↔ IsShortFor setting.now }
 {
     match setting.kind {
         Kind::Font => true,
@@ -54,7 +54,7 @@ fn has_end(setting: &Setting<'_>, builder: &Builder) -> bool
 
 /// Whether the program, if it is a font program or a CVT program, has a state at its end.
 pub fn ends_well(setting: &Setting<'_>, builder: &Builder) -> bool
-    ensures { IsTrue result ↔ EndsWell (setting_of setting.now) (setting_of setting.now).kind (family_of builder.now) }
+    ensures { IsTrue result ↔ EndsWellFor setting.now builder.now }
 {
     match setting.kind {
         Kind::Font => has_end(setting, builder),
@@ -63,18 +63,20 @@ pub fn ends_well(setting: &Setting<'_>, builder: &Builder) -> bool
     }
 }
 
-/// Checks that the state with which the walk begins is covered at the program's start. The walk is told whether that is the very state that
-/// comes first, as it mostly is: then there is nothing to copy.
+/// Checks that the state with which the walk begins is covered at the program's start. The walk is
+/// told whether that is the very state that comes first, as it mostly is: then there is nothing to
+/// copy.
 fn check_start(certificate: &Certificate, walk: &mut Cursor<'_>) -> Result<(), ProgramFault>
     requires walk { IsWalk certificate.now walk.old }
     requires apart { IsFalse walk.old.is_next }
-    ensures covered { IfOk result (λ _. CoversAt state_order (family_of certificate.now) ([], 0) walk.old.made) }
-    ensures gap { IfErr result (NamesAt ([], 0) (IsGap (family_of certificate.now) ⊥ ([], 0) walk.old.made)) }
+    ensures covered { IfOk result (λ _.
+        CoversAt state_order (family_of certificate.now) ([], 0) walk.old.made) }
+    ensures gap { IfErr result (NamesGap (family_of certificate.now) ⊥ ([], 0) walk.old.made) }
     ensures walk { IsWalk certificate.now walk.new }
     ensures next { walk.new.next ≡ walk.old.next }
     ensures carried { walk.new.carried ≡ walk.old.carried }
 {
-    certificate.is_in_order();
+    certificate.order_facts();
     match check_covered(certificate, walk.next, 0, 0, &walk.made, false) {
         Ok(Coverage::Next) => walk.is_next = true,
         Ok(_) => {}
@@ -83,15 +85,16 @@ fn check_start(certificate: &Certificate, walk: &mut Cursor<'_>) -> Result<(), P
     Ok(())
 }
 
-/// Returns the offset just after an instruction, if a state may be left out there: in no whole family, and not at the main program's end.
+/// Returns the offset just after an instruction, if a state may be left out there: in no whole
+/// family, and not at the main program's end.
 fn left_out_after(
     setting: &Setting<'_>,
     listing: Listing,
     point: &Point<'_>,
     end: u32,
 ) -> Option<u32>
-    requires { EndsAt (setting_of setting.now) (frames_of point.now, point.now.offset) end }
-    ensures { (q : Place) → IsAfter (frames_of point.now) result q ↔ MayLeaveOut listing (setting_of setting.now) (frames_of point.now, point.now.offset) q }
+    requires { EndsAt (setting_of setting.now) (place_of_point point.now) end }
+    ensures { IsLeftOutAfter listing (setting_of setting.now) (place_of_point point.now) result }
 {
     match listing {
         Listing::Whole => None,
@@ -99,8 +102,8 @@ fn left_out_after(
     }
 }
 
-/// Checks that the walk's state is sound at its point, an offset of the walk's context. What it gives is made in the same memory, and is
-/// carried on where it is added just after the point.
+/// Checks that the walk's state is sound at its point, an offset of the walk's context. What it
+/// gives is made in the same memory, and is carried on where it is added just after the point.
 fn check_point(
     setting: &Setting<'_>,
     listing: Listing,
@@ -112,8 +115,10 @@ fn check_point(
     requires told { AreToldBefore certificate.now walk.old.context }
     requires in_range { state_order.InRange walk.old.made }
     requires unlisted { AreUnlisted certificate.now walk.old.next walk.old.context offset }
-    ensures passed { IfOk result (λ _. PassesPoint (setting_of setting.now) listing certificate.now walk.old walk.new offset) }
-    ensures broken { IfErr result (NamesBreak (setting_of setting.now) listing certificate.now walk.old offset) }
+    ensures passed { IfOk result (λ _.
+        PassesPoint (setting_of setting.now) listing certificate.now walk.old walk.new offset) }
+    ensures broken { IfErr result
+        (NamesBreak (setting_of setting.now) listing certificate.now walk.old offset) }
     ensures walk { IfOk result (λ _. IsWalk certificate.now walk.new) }
     ensures next { walk.new.next ≡ walk.old.next }
     ensures context { walk.new.context ≡ walk.old.context }
@@ -148,8 +153,9 @@ fn check_point(
     Ok(())
 }
 
-/// Checks that all points are sound, including those that are left out, by ascending contexts, and by ascending offsets within one. The walk
-/// comes to the first of the listed ones, and these are the others.
+/// Checks that all points are sound, including those that are left out, by ascending contexts, and
+/// by ascending offsets within one. The walk comes to the first of the listed ones, and these are
+/// the others.
 fn check_points<'a>(
     setting: &Setting<'_>,
     listing: Listing,
@@ -161,10 +167,12 @@ fn check_points<'a>(
     requires to_come { AreToCome certificate.now walk.old.next states }
     requires all { certificate.now.states ≡ to_come walk.old.next states }
     requires carried { walk.old.carried ≡ None }
-    ensures sound { IfOk result (λ _. IsWalkedThrough (setting_of setting.now) listing certificate.now) }
-    ensures broken { IfErr result (NamesFirstBreak (setting_of setting.now) listing certificate.now) }
+    ensures sound { IfOk result (λ _.
+        IsWalkedThrough (setting_of setting.now) listing certificate.now) }
+    ensures broken { IfErr result
+        (NamesFirstBreak (setting_of setting.now) listing certificate.now) }
 {
-    certificate.is_in_order();
+    certificate.order_facts();
     while let Some(offset) = walk.go_on(certificate, &mut states)? {
         if let Err(fault) = check_point(setting, listing, certificate, walk, offset) {
             return Err(fault);
@@ -184,10 +192,10 @@ fn check_listed(
     certificate: &Certificate,
 ) -> Result<(), ProgramFault>
     requires rises { Rises setting.now.start.now }
-    ensures sound { IfOk result (λ _. IsFoundSound (setting_of setting.now) setting.now.start.now listing certificate.now) }
-    ensures first { IfErr result (NamesFirst (setting_of setting.now) setting.now.start.now listing certificate.now) }
+    ensures sound { IfOk result (λ _. IsFoundSoundFor setting.now listing certificate.now) }
+    ensures first { IfErr result (NamesFirstFor setting.now listing certificate.now) }
 {
-    certificate.is_in_order();
+    certificate.order_facts();
     if !is_short(setting) {
         return Err(ProgramFault::Refused {
             spot: Spot::Main,
@@ -210,11 +218,13 @@ fn check_listed(
     check_points(setting, listing, certificate, &mut walk, states)
 }
 
-/// Checks that the family is good for the program of this setting, which is all that a certificate has to be. The first fault in the
-/// order of the walk is named: a glyph program longer than maxSizeOfInstructions; a start that isn't covered; a font program or a CVT program
-/// without a state at its end; then, by ascending contexts and by ascending offsets within one, a state that lists a storage index that isn't
-/// below maxStorage, that is refused at its place, or whose successor isn't covered, the smaller offset first. The contexts may hold any
-/// frames: after a call at offset 4,294,967,295 there is no state, and the place there is named with that offset.
+/// Checks that the family is good for the program of this setting, which is all that a certificate
+/// has to be. The first fault in the order of the walk is named: a glyph program longer than
+/// maxSizeOfInstructions; a start that isn't covered; a font program or a CVT program without a
+/// state at its end; then, by ascending contexts and by ascending offsets within one, a state that
+/// lists a storage index that isn't below maxStorage, that is refused at its place, or whose
+/// successor isn't covered, the smaller offset first. The contexts may hold any frames: after a
+/// call at offset 4,294,967,295 there is no state, and the place there is named with that offset.
 ///
 /// # Errors
 /// `Refused` with what is broken first; `OutOfMemory`.
@@ -224,20 +234,21 @@ pub fn check_full(
     certificate: &Certificate,
 ) -> Result<(), ProgramFault>
     requires rises { Rises setting.now.start.now }
-    ensures family { IfOk result (λ _. IsGoodFamily (setting_of setting.now) setting.now.start.now (family_of certificate.now)) }
-    ensures safe { IfOk result (λ _. IsSafe (setting_of setting.now) setting.now.start.now (family_of certificate.now)) }
-    ensures exact { IsGoodFamily (setting_of setting.now) setting.now.start.now (family_of certificate.now) → IfErr result IsOutOfMemory }
-    ensures first { IfErr result (Names (IsBrokenFirst (setting_of setting.now) setting.now.start.now certificate.now)) }
+    ensures family { IfOk result (λ _. IsGoodFor setting.now certificate.now) }
+    ensures safe { IfOk result (λ _. IsSafeFor setting.now certificate.now) }
+    ensures exact { IsGoodFor setting.now certificate.now → IfErr result IsOutOfMemory }
+    ensures first { IfErr result (NamesBrokenFirst setting.now certificate.now) }
 {
     setting.range_facts();
-    certificate.is_in_order();
+    certificate.order_facts();
     check_listed(alloc, setting, Listing::Whole, certificate)
 }
 
-/// Checks that the family, filled up with the states that it leaves out, is good for the program of this setting, which is all that a
-/// certificate has to be. A state may be left out where only the state at the point just before leads, except for the main program's end:
-/// there it is what that one gives. The order is that of `check_full`, and what is added is checked as if it were listed, but kept only until
-/// what it gives is known.
+/// Checks that the family, filled up with the states that it leaves out, is good for the program of
+/// this setting, which is all that a certificate has to be. A state may be left out where only the
+/// state at the point just before leads, except for the main program's end: there it is what that
+/// one gives. The order is that of `check_full`, and what is added is checked as if it were listed,
+/// but kept only until what it gives is known.
 ///
 /// # Errors
 /// `Refused` with what is broken first; `OutOfMemory`.
@@ -247,17 +258,18 @@ pub fn check(
     certificate: &Certificate,
 ) -> Result<(), ProgramFault>
     requires rises { Rises setting.now.start.now }
-    ensures filling { IfOk result (λ _. HasGoodFilling (setting_of setting.now) setting.now.start.now (family_of certificate.now)) }
-    ensures safe { IfOk result (λ _. HasSafeFilling (setting_of setting.now) setting.now.start.now (family_of certificate.now)) }
-    ensures exact { HasGoodFilling (setting_of setting.now) setting.now.start.now (family_of certificate.now) → IfErr result IsOutOfMemory }
-    ensures first { IfErr result (Names (IsFillingBrokenFirst (setting_of setting.now) setting.now.start.now certificate.now)) }
+    ensures filling { IfOk result (λ _. HasGoodFillingFor setting.now certificate.now) }
+    ensures safe { IfOk result (λ _. HasSafeFillingFor setting.now certificate.now) }
+    ensures exact { HasGoodFillingFor setting.now certificate.now → IfErr result IsOutOfMemory }
+    ensures first { IfErr result (NamesFillingBrokenFirst setting.now certificate.now) }
 {
     setting.range_facts();
-    certificate.is_in_order();
+    certificate.order_facts();
     check_listed(alloc, setting, Listing::Sparse, certificate)
 }
 
-/// Shows that a family has at most one good filling. The function does nothing: its contract is the law.
+/// States that a family has at most one good filling. The function does nothing: its contract is
+/// the law.
 pub fn one_good_filling()
     ensures { HasOneGoodFilling }
 {}

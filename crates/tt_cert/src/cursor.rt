@@ -5,7 +5,7 @@ ghost use Rattle.tt_code.specs.Settings.{Setting as AnySetting};
 ghost use Rattle.tt_abs.specs.Entries.{Rises};
 ghost use Rattle.tt_abs.specs.States.{start_of};
 ghost use Rattle.tt_cert.specs.Contents.{Contents, IsFamily};
-ghost use Rattle.tt_cert.specs.Cursors.{AreToCome, IsAtNext, IsComing, IsComingAfter, IsEntry, IsOnWay, IsShorter, IsWalk};
+ghost use Rattle.tt_cert.specs.Representation.Cursors.{AreToCome, IsAtNext, IsComing, IsComingAfter, IsEntry, IsOnWay, IsShorter, IsWalk};
 ghost use Rattle.tt_cert.specs.declared.listing.Listing.{Listing as AnyListing};
 
 use crate::certificate::Certificate;
@@ -14,17 +14,20 @@ use std::alloc::{AllocError, Global};
 use tt_abs::State;
 use tt_code::Frame;
 
-/// Where a walk through the points is: a context and its calls, the outermost first, and the listed state that comes next.
+/// Where a walk through the points is: a context and its calls, the outermost first, and the listed
+/// state that comes next.
 #[derive(Drop)]
 pub(crate) struct Cursor<'a> {
     pub context: u32,
     pub frames: Vec<Frame>,
     pub next: Option<(u32, u32, &'a State)>,
-    /// The state in which the program starts; then the state at the point that is checked, and what it gives, in the same memory.
+    /// The state in which the program starts; then the state at the point that is checked, and what
+    /// it gives, in the same memory.
     pub made: State,
     /// Whether what was made is the very state that comes next: then that one needs no copy.
     pub is_next: bool,
-    /// The offset of the context at which what was made is the state, where the certificate lists none.
+    /// The offset of the context at which what was made is the state, where the certificate lists
+    /// none.
     pub carried: Option<u32>,
 }
 
@@ -58,14 +61,16 @@ pub(crate) fn is_coming_after(next: Option<(u32, u32, &State)>, context: u32, of
 }
 
 impl<'a> Cursor<'a> {
-    /// Makes a walk that begins in the empty context, with the state in which a program starts that knows these functions.
+    /// Makes a walk that begins in the empty context, with the state in which a program starts that
+    /// knows these functions.
     pub(crate) fn start(
         alloc: Global,
         functions: &[(u16, u32)],
         next: Option<(u32, u32, &'a State)>,
     ) -> Result<Cursor<'a>, AllocError>
         requires { Rises functions.now }
-        ensures walk { IfOk result (λ walk. (contents : Contents) → IsFamily contents → IsEntry contents next.entry → IsWalk contents walk) }
+        ensures walk { IfOk result (λ walk. (contents : Contents) → IsFamily contents
+            → IsEntry contents next.entry → IsWalk contents walk) }
         ensures next { IfOk result (λ walk. walk.next ≡ next.entry) }
         ensures made { IfOk result (λ walk. walk.made ≡ start_of functions.now) }
         ensures apart { IfOk result (λ walk. IsFalse walk.is_next) }
@@ -114,8 +119,9 @@ impl<'a> Cursor<'a> {
         Ok(())
     }
 
-    /// Goes on to the point that comes next, and takes its state: what was made, where that is carried there, and otherwise the listed
-    /// state that comes next, these being the others. Returns the point's offset, `None` after the last point.
+    /// Goes on to the point that comes next, and takes its state: what was made, where that is
+    /// carried there, and otherwise the listed state that comes next, these being the others.
+    /// Returns the point's offset, `None` after the last point.
     pub(crate) fn go_on(
         &mut self,
         certificate: &Certificate,
@@ -125,10 +131,13 @@ impl<'a> Cursor<'a> {
         requires to_come { AreToCome certificate.now self.old.next states.old }
         ensures walk { IfOk result (λ _. IsWalk certificate.now self.new) }
         ensures to_come { IfOk result (λ _. AreToCome certificate.now self.new.next states.new) }
-        ensures point { IfOk result (λ to. (s : AnySetting) (listing : AnyListing) → IsOnWay s listing certificate.now self.old states.old → IsAtNext s listing certificate.now self.new states.new to) }
-        ensures shorter { IfOk result (λ to. IfSome to (IsShorter self.old self.new states.old states.new)) }
+        ensures point { IfOk result (λ to. (s : AnySetting) (listing : AnyListing)
+            → IsOnWay s listing certificate.now self.old states.old
+            → IsAtNext s listing certificate.now self.new states.new to) }
+        ensures shorter { IfOk result (λ to.
+            IfSome to (IsShorter self.old self.new states.old states.new)) }
     {
-        certificate.is_in_order();
+        certificate.order_facts();
         if let Some(offset) = self.carried {
             if is_coming_after(self.next, self.context, offset) {
                 return Ok(Some(offset));

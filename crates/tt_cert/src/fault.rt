@@ -27,10 +27,12 @@ pub enum JoinFault {
     OutOfMemory,
 }
 
-/// Why a program is refused: by the finder, since no family is good for it, or by the check, since its certificate's family isn't.
+/// Why a program is refused: by the finder, since no family is good for it, or by the check, since
+/// its certificate's family isn't.
 #[derive(Debug, Drop, Error)]
 pub enum ProgramFault {
-    /// What is broken first, and where: in which program, and at what offset there, 4,294,967,295 for one above that.
+    /// What is broken first, and where: in which program, and at what offset there, 4,294,967,295
+    /// for one above that.
     #[error("{reason}")]
     Refused {
         spot: Spot,

@@ -3,7 +3,7 @@
 ghost use Rattle.std.specs.Prelude.{◌≡◌, ℕ, ◌+◌, ◌<◌, List, [], ◌∷◌, IfOk, IfErr, length, take};
 ghost use Rattle.tt_code.specs.declared.machine.Frame.{Frame};
 ghost use Rattle.tt_cert.specs.Contents.{IsFamily, family_of, points_of};
-ghost use Rattle.tt_cert.specs.FileOrder.{ArePlaces, IsFileOrder, in_order};
+ghost use Rattle.tt_cert.specs.Representation.FileOrder.{ArePlaces, IsFileOrder, in_order};
 ghost use Rattle.tt_cert.specs.Rising.{AreMoved, IsFinished, SameContents, SameWithout, family_without};
 
 use crate::builder::Builder;
@@ -37,12 +37,13 @@ fn move_context(
     requires place { (0 < place) × (place < length order.now) }
     requires places { ArePlaces old.now.contexts order.now places.now }
     requires before { new.old.contexts ≡ in_order old.now.contexts (take place order.now) }
-    ensures moved { IfOk result (λ _. new.new.contexts ≡ in_order old.now.contexts (take (place + 1) order.now)) }
+    ensures moved { IfOk result (λ _.
+        new.new.contexts ≡ in_order old.now.contexts (take (place + 1) order.now)) }
     ensures states { new.new.states ≡ new.old.states }
     ensures family { IsFamily new.new }
     ensures memory { IfErr result (λ fault. fault ≡ ContextFault.OutOfMemory) }
 {
-    old.is_family();
+    old.family_facts();
     let Some((parent, frame)) = old.context(order[place]) else {
         return Ok(());
     };
@@ -66,14 +67,15 @@ fn move_contexts(
     ensures family { IsFamily new.new }
     ensures memory { IfErr result (λ fault. fault ≡ ContextFault.OutOfMemory) }
 {
-    old.is_family();
+    old.family_facts();
     for place in 1..order.len() {
         move_context(old, order, place, places, new)?;
     }
     Ok(())
 }
 
-/// Puts copies of all states, except for those at the spare points, into the new builder, which has the same contexts and no state.
+/// Puts copies of all states, except for those at the spare points, into the new builder, which has
+/// the same contexts and no state.
 fn move_states(
     old: &Builder,
     new: &mut Builder,
@@ -84,8 +86,10 @@ fn move_states(
     requires empty { new.old.states ≡ [] }
     requires moved { AreMoved old.now.contexts new.old.contexts numbers.now }
     ensures contexts { new.new.contexts ≡ new.old.contexts }
-    ensures same { IfOk result (λ _. (point : List Frame × ℕ) → family_of new.new point ≡ family_without old.now spare.now.keys point) }
-    ensures points { IfOk result (λ _. spare.now.keys ≡ [] → points_of new.new ≡ points_of old.now) }
+    ensures same { IfOk result (λ _. (point : List Frame × ℕ)
+        → family_of new.new point ≡ family_without old.now spare.now.keys point) }
+    ensures points { IfOk result (λ _. spare.now.keys ≡ []
+        → points_of new.new ≡ points_of old.now) }
     ensures family { IsFamily new.new }
     ensures memory { IfErr result (λ fault. fault ≡ JoinFault.OutOfMemory) }
 {
@@ -98,13 +102,14 @@ fn move_states(
     Ok(())
 }
 
-/// Returns the same family with its contexts in the order of the file, without the states at the spare points.
+/// Returns the same family with its contexts in the order of the file, without the states at the
+/// spare points.
 fn reordered(old: &Builder, spare: &BTreeSet<PointKey>) -> Result<Builder, AllocError>
     ensures same { IfOk result (λ new. SameWithout old.now new spare.now.keys) }
     ensures points { IfOk result (λ new. spare.now.keys ≡ [] → points_of new ≡ points_of old.now) }
     ensures finished { IfOk result (λ new. IsFinished new) }
 {
-    old.is_family();
+    old.family_facts();
     let order = old.file_order()?;
     let places = places_in(old, order.as_slice())?;
     let mut new = Builder::new(old.allocator());
@@ -118,7 +123,8 @@ fn reordered(old: &Builder, spare: &BTreeSet<PointKey>) -> Result<Builder, Alloc
 }
 
 impl Builder {
-    /// Returns the certificate of this family: its contexts get new numbers where theirs aren't in order.
+    /// Returns the certificate of this family: its contexts get new numbers where theirs aren't in
+    /// order.
     ///
     /// # Errors
     /// If memory runs out: then the builder comes back as it was.
@@ -132,13 +138,15 @@ impl Builder {
         self.finish_without(&none)
     }
 
-    /// Returns the certificate of this family without the states at the spare points, each a context's number and an offset.
+    /// Returns the certificate of this family without the states at the spare points, each a
+    /// context's number and an offset.
     ///
     /// # Errors
     /// If memory runs out: then the builder comes back as it was.
     pub fn finish_without(self, spare: &BTreeSet<PointKey>) -> Result<Certificate, Builder>
         ensures same { IfOk result (λ certificate. SameWithout self certificate spare.now.keys) }
-        ensures points { IfOk result (λ certificate. spare.now.keys ≡ [] → points_of certificate ≡ points_of self) }
+        ensures points { IfOk result (λ certificate. spare.now.keys ≡ []
+            → points_of certificate ≡ points_of self) }
         ensures finished { IfOk result (λ certificate. IsFinished certificate) }
         ensures kept { IfErr result (λ builder. builder ≡ self) }
     {

@@ -15,7 +15,8 @@ pub enum Joined {
 }
 
 impl Joined {
-    /// Returns what a join made of a state that was there: one that has risen, or one that is as it was.
+    /// Returns what a join made of a state that was there: one that has risen, or one that is as it
+    /// was.
     pub(crate) fn of(changed: bool) -> Joined
         ensures change { is_change_of result ≡ changed }
         ensures there { result ≢ Joined.New }

@@ -19,20 +19,22 @@ use tt_code::{Frame, Reason};
 pub enum Landing {
     /// To an offset of the context of this number.
     In { context: u32, offset: u32 },
-    /// To the start of a function's body, in the context that has one call more than the one of this number.
+    /// To the start of a function's body, in the context that has one call more than the one of
+    /// this number.
     Body { parent: u32, frame: Frame },
     /// After a call at the greatest offset of the context of this number: no program is that long.
     Beyond { context: u32 },
 }
 
-/// Returns where a way leads from a context, for all who follow ways: the check looks up the context in which a body starts, and the
-/// finder adds it.
+/// Returns where a way leads from a context, for all who follow ways: the check looks up the
+/// context in which a body starts, and the finder adds it.
 pub fn landing_of(builder: &Builder, context: u32, way: Move) -> Landing
     requires there { context < length builder.now.contexts }
     requires turn { way ≡ Move.NextTurn → IsTurnCountable (frames_at builder.now.contexts context) }
-    ensures { IsLanding builder.now.contexts context (place_from builder.now.contexts context way) result }
+    ensures { IsLanding builder.now.contexts context
+        (place_from builder.now.contexts context way) result }
 {
-    builder.is_family();
+    builder.family_facts();
     match way {
         Move::To(offset) => Landing::In { context, offset },
         Move::Enter(frame) => Landing::Body {
@@ -80,7 +82,8 @@ fn missing(spot: Spot, offset: u32) -> ProgramFault
 /// Returns the number of the context, and the offset, to which a way leads from a context.
 ///
 /// # Errors
-/// `MissingPoint` where the certificate can have no state: it lacks the context, or can't have such an offset.
+/// `MissingPoint` where the certificate can have no state: it lacks the context, or can't have such
+/// an offset.
 pub(crate) fn look_up_successor(
     certificate: &Certificate,
     context: u32,
@@ -89,10 +92,12 @@ pub(crate) fn look_up_successor(
     requires there { context < length certificate.now.contexts }
     requires told { AreToldBefore certificate.now context }
     requires turn { way ≡ Move.NextTurn → HasNextTurn (frames_at certificate.now.contexts context) }
-    ensures point { IfOk result (IsPointOf certificate.now.contexts (place_from certificate.now.contexts context way)) }
-    ensures missing { IfErr result (IsMissing certificate.now (place_from certificate.now.contexts context way)) }
+    ensures point { IfOk result
+        (IsPointOf certificate.now.contexts (place_from certificate.now.contexts context way)) }
+    ensures missing { IfErr result
+        (IsMissing certificate.now (place_from certificate.now.contexts context way)) }
 {
-    certificate.is_in_order();
+    certificate.order_facts();
     match landing_of(certificate.builder(), context, way) {
         Landing::In { context, offset } => Ok((context, offset)),
         Landing::Body { parent, frame } => {

@@ -1,10 +1,8 @@
 //! Which states a certificate lists.
 
-ghost use Rattle.std.specs.Prelude.{◌≡◌, ◌↔◌};
-ghost use Rattle.tt_abs.specs.Lines.{EndsAt, Precedes};
-ghost use Rattle.tt_abs.specs.Settings.{frames_of, setting_of};
-ghost use Rattle.tt_abs.specs.StateFlow.{Place};
-ghost use Rattle.tt_cert.specs.Cursors.{IsAfter};
+ghost use Rattle.tt_abs.specs.Lines.{EndsAt};
+ghost use Rattle.tt_abs.specs.Settings.{setting_of};
+ghost use Rattle.tt_cert.specs.Fillings.{IsJustAfter, place_of_point};
 
 use tt_abs::{Point, Setting};
 
@@ -17,10 +15,11 @@ pub(crate) enum Listing {
     Sparse,
 }
 
-/// Returns the offset just after an instruction that ends there, if a filling may add a state there: not at the main program's end.
+/// Returns the offset just after an instruction that ends there, if a filling may add a state
+/// there: not at the main program's end.
 pub fn added_after(setting: &Setting<'_>, point: &Point<'_>, end: u32) -> Option<u32>
-    requires { EndsAt (setting_of setting.now) (frames_of point.now, point.now.offset) end }
-    ensures { (q : Place) → IsAfter (frames_of point.now) result q ↔ Precedes (setting_of setting.now) (frames_of point.now, point.now.offset) q }
+    requires { EndsAt (setting_of setting.now) (place_of_point point.now) end }
+    ensures { IsJustAfter (setting_of setting.now) (place_of_point point.now) result }
 {
     if setting.is_end(point, end) {
         None

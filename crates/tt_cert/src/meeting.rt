@@ -1,11 +1,11 @@
-//! How a state is met at the places to which it goes.
+//! How a state is covered at the places to which it goes, or added there.
 
 ghost use Rattle.std.specs.Prelude.{◌≡◌, ◌<◌, IfErr, IfOk, IsTrue, Some, length};
-ghost use Rattle.tt_cert.specs.Checks.{AreToldBefore, HasNextTurn, IsGap, NamesAt, saturated_offset};
+ghost use Rattle.tt_cert.specs.Checks.{AreToldBefore, HasNextTurn, NamesGap, saturated_offset};
 ghost use Rattle.tt_cert.specs.Contents.{family_of, frames_at};
 ghost use Rattle.tt_cert.specs.Puts.{place_of};
 ghost use Rattle.tt_cert.specs.Spots.{spot_of};
-ghost use Rattle.tt_cert.specs.Cursors.{AreMadeMet, IsEntry, IsMadeMet, IsMetBy, IsPastStart, IsUnlisted, IsUnlistedAfter, IsWalk, MayTurn, NamesFirstGapMade, NamesGapMade, calls_of, met_both, place_behind as place_of_move, point_of};
+ghost use Rattle.tt_cert.specs.Representation.Cursors.{AreMadeMet, IsEntry, IsMadeMet, IsMetBy, IsPastStart, IsUnlisted, IsUnlistedAfter, IsWalk, MayTurn, NamesFirstGapMade, NamesGapMade, calls_of, coverage_of_both, place_behind as place_of_move, point_of};
 
 use crate::certificate::Certificate;
 use crate::cursor::{Cursor, is_coming, is_coming_after};
@@ -14,7 +14,7 @@ use crate::landing::look_up_successor;
 use tt_abs::{Move, Moves, Order, State};
 use tt_code::Reason;
 
-/// How a state is met at a place to which it goes.
+/// How a state is covered at a place to which it goes, or added there.
 #[derive(Clone, Copy)]
 pub(crate) enum Coverage {
     /// By the very state that comes next in the walk, which is the same.
@@ -25,9 +25,10 @@ pub(crate) enum Coverage {
     Added,
 }
 
-/// Returns one answer for two: that the state is added comes before all, otherwise how the first is met.
-fn met_by_both(first: Coverage, second: Coverage) -> Coverage
-    ensures { result ≡ met_both first second }
+/// Returns one answer for two: that the state is added comes before all, otherwise how the first is
+/// covered.
+fn both_coverages(first: Coverage, second: Coverage) -> Coverage
+    ensures { result ≡ coverage_of_both first second }
 {
     match first {
         Coverage::Added => Coverage::Added,
@@ -46,7 +47,8 @@ pub(crate) fn fault_in(
     reason: Reason,
 ) -> ProgramFault
     requires { context < length certificate.now.contexts }
-    ensures { result ≡ ProgramFault.Refused (spot_of (frames_at certificate.now.contexts context)) (saturated_offset offset) reason }
+    ensures { result ≡ ProgramFault.Refused (spot_of (frames_at certificate.now.contexts context))
+        (saturated_offset offset) reason }
 {
     ProgramFault::Refused {
         spot: certificate.spot(context),
@@ -55,8 +57,8 @@ pub(crate) fn fault_in(
     }
 }
 
-/// Returns how a state is met at an offset of a context, where it may be left out or not. Where the very state comes next in the walk,
-/// or comes after the place, there is nothing to look up.
+/// Returns how a state is covered at an offset of a context, where it may be left out or not. Where
+/// the very state comes next in the walk, or comes after the place, there is nothing to look up.
 pub(crate) fn check_covered(
     certificate: &Certificate,
     next: Option<(u32, u32, &State)>,
@@ -68,10 +70,12 @@ pub(crate) fn check_covered(
     requires there { context < length certificate.now.contexts }
     requires next { IsEntry certificate.now next }
     requires unlisted { IsTrue may_be_left_out → IsUnlisted certificate.now next context offset }
-    ensures met { IfOk result (IsMetBy (family_of certificate.now) (IsTrue may_be_left_out) next.entry (place_of certificate.now context offset) state.now) }
-    ensures gap { IfErr result (NamesAt (place_of certificate.now context offset) (IsGap (family_of certificate.now) (IsTrue may_be_left_out) (place_of certificate.now context offset) state.now)) }
+    ensures met { IfOk result (IsMetBy (family_of certificate.now) (IsTrue may_be_left_out)
+        next.entry (place_of certificate.now context offset) state.now) }
+    ensures gap { IfErr result (NamesGap (family_of certificate.now) (IsTrue may_be_left_out)
+        (place_of certificate.now context offset) state.now) }
 {
-    certificate.is_in_order();
+    certificate.order_facts();
     if may_be_left_out && is_coming_after(next, context, offset) {
         return Ok(Coverage::Added);
     }
@@ -96,7 +100,8 @@ pub(crate) fn check_covered(
     }
 }
 
-/// Returns how what was made is met at an offset of the walk's context, where `after` is the one at which it may be left out.
+/// Returns how what was made is covered at an offset of the walk's context, where `after` is the
+/// one at which it may be left out.
 fn check_offset(
     certificate: &Certificate,
     walk: &Cursor<'_>,
@@ -105,8 +110,10 @@ fn check_offset(
 ) -> Result<Coverage, ProgramFault>
     requires walk { IsWalk certificate.now walk.now }
     requires unlisted { IsUnlistedAfter certificate.now walk.now after }
-    ensures met { IfOk result (IsMetBy (family_of certificate.now) (after ≡ Some offset) walk.now.next (point_of certificate.now walk.now offset) walk.now.made) }
-    ensures gap { IfErr result (NamesAt (point_of certificate.now walk.now offset) (IsGap (family_of certificate.now) (after ≡ Some offset) (point_of certificate.now walk.now offset) walk.now.made)) }
+    ensures met { IfOk result (IsMetBy (family_of certificate.now) (after ≡ Some offset)
+        walk.now.next (point_of certificate.now walk.now offset) walk.now.made) }
+    ensures gap { IfErr result (NamesGap (family_of certificate.now) (after ≡ Some offset)
+        (point_of certificate.now walk.now offset) walk.now.made) }
 {
     check_covered(
         certificate,
@@ -118,7 +125,7 @@ fn check_offset(
     )
 }
 
-/// Returns how what was made is met at the place to which a move leads from the walk's context.
+/// Returns how what was made is covered at the place to which a move leads from the walk's context.
 fn check_successor(
     certificate: &Certificate,
     walk: &Cursor<'_>,
@@ -130,8 +137,10 @@ fn check_successor(
     requires turn { way ≡ Move.NextTurn → HasNextTurn (calls_of certificate.now walk.now) }
     requires unlisted { IsUnlistedAfter certificate.now walk.now after }
     requires forward { IsPastStart after }
-    ensures met { IfOk result (IsMadeMet certificate.now walk.now after (place_of_move certificate.now walk.now way)) }
-    ensures gap { IfErr result (NamesGapMade certificate.now walk.now after (place_of_move certificate.now walk.now way)) }
+    ensures met { IfOk result
+        (IsMadeMet certificate.now walk.now after (place_of_move certificate.now walk.now way)) }
+    ensures gap { IfErr result
+        (NamesGapMade certificate.now walk.now after (place_of_move certificate.now walk.now way)) }
 {
     if let Move::To(offset) = way {
         return check_offset(certificate, walk, offset, after);
@@ -144,8 +153,8 @@ fn check_successor(
     }
 }
 
-/// Returns how what was made is met at all places to which moves lead from the walk's context. `after` is the offset at which it may be
-/// left out, if there is one.
+/// Returns how what was made is covered at all places to which moves lead from the walk's context.
+/// `after` is the offset at which it may be left out, if there is one.
 pub(crate) fn check_successors(
     certificate: &Certificate,
     walk: &Cursor<'_>,
@@ -167,7 +176,7 @@ pub(crate) fn check_successors(
     let mut index = 1;
     while let Some(way) = moves.get(index) {
         match check_successor(certificate, walk, way, after) {
-            Ok(other) => met = met_by_both(met, other),
+            Ok(other) => met = both_coverages(met, other),
             Err(fault) => return Err(fault),
         }
         index += 1;

@@ -3,7 +3,7 @@
 ghost use Rattle.std.specs.Prelude.{◌≡◌, ◌↔◌, ◌<◌, ◌≤◌, length, [], ◌∷◌, ◌++◌, IsTrue, MatchResult, OnOk, OnErr};
 ghost use Rattle.tt_abs.specs.Entries.{Rises, listed};
 ghost use Rattle.tt_abs.specs.EntryLists.{IsAt, IsGap};
-ghost use Rattle.tt_cert.specs.PlaceRows.{AreBelow};
+ghost use Rattle.tt_cert.specs.Representation.SlotRows.{AreBelow};
 
 use std::alloc::{AllocError, Global};
 use std::marker::Model;
@@ -46,7 +46,7 @@ fn slot_at(points: &[(u32, u32)], offset: u32) -> Option<u32>
 }
 
 impl OffsetList {
-    /// Makes a row without offsets.
+    /// Makes a list without offsets.
     pub(crate) fn new(alloc: Global) -> Self
         ensures { result ≡ [] }
     {
@@ -62,7 +62,7 @@ impl OffsetList {
         self.points.as_slice()
     }
 
-    /// Whether each offset of the row is smaller than this one.
+    /// Whether each offset of the list is smaller than this one.
     pub(crate) fn is_below(&self, offset: u32) -> bool
         ensures { IsTrue result ↔ AreBelow offset self.now }
     {
@@ -85,7 +85,7 @@ impl OffsetList {
     /// Puts an offset after smaller ones.
     ///
     /// # Errors
-    /// If memory runs out; then the row stays as it is.
+    /// If memory runs out; then the list stays as it is.
     pub(crate) fn push(&mut self, offset: u32, slot: u32) -> Result<(), AllocError>
         requires { AreBelow offset self.old }
         ensures ok { OnOk result (self.new ≡ self.old ++ (offset, slot) ∷ []) }

@@ -3,7 +3,7 @@
 ghost use Rattle.std.specs.Prelude.{◌≡◌, ℕ, ◌<◌, ◌≤◌, None, [], ◌∷◌, IfSome, OnOk, OnErr, length};
 ghost use Rattle.std.specs.BTreeMap.{insert_entry};
 ghost use Rattle.tt_cert.specs.Places.{place_cmp, states_of};
-ghost use Rattle.tt_cert.specs.PlaceRows.{AddsRows, AreEmptyFrom, ArePlaces, merged, row_of, rows_points, comes_first};
+ghost use Rattle.tt_cert.specs.Representation.SlotRows.{AddsRows, AreEmptyFrom, AreSlotRows, comes_first, points_in, row_of, rows_points};
 
 use crate::offset_list::OffsetList;
 use std::alloc::{AllocError, Global};
@@ -17,13 +17,14 @@ const KEPT_ROWS: usize = 64;
 /// What a stored state is found by: its context's number and its offset.
 pub type PointKey = (u32, u32);
 
-/// The slots of points by context and offset. Within a context the points mostly come by ascending offset: those are in a row, and the
-/// others in a tree.
+/// The slots of points by context and offset. Within a context the points mostly come by ascending
+/// offset: those are in a row, and the others in a tree.
 #[derive(Drop)]
 pub(crate) struct SlotIndex {
     /// For each context the points that came after all others of the context.
     rows: Vec<OffsetList>,
-    /// How many rows may hold points. The rows after those are empty, and are kept only for their memory.
+    /// How many rows may hold points. The rows after those are empty, and are kept only for their
+    /// memory.
     used: usize,
     /// The points that came before a greater offset of their context.
     rest: BTreeMap<PointKey, u32>,
@@ -33,13 +34,15 @@ pub(crate) struct SlotIndex {
 
 impl Model for SlotIndex {
     ghost use Rattle.std.specs.Prelude.{◌≡◌, List, ℕ, length};
-    ghost use Rattle.tt_cert.specs.PlaceRows.{AreEmptyFrom, ArePlaces, merged, rows_points};
+    ghost use Rattle.tt_cert.specs.Representation.SlotRows.{AreEmptyFrom, AreSlotRows, points_in};
 
     ghost Value = { List ((ℕ × ℕ) × ℕ) };
 
-    ghost view = { λ p. merged (rows_points 0 p.rows.items) p.rest.entries };
+    ghost view = { λ p. points_in p.rows.items p.rest.entries };
 
-    ghost invariant = { λ p. ArePlaces p.rows.items p.rest.entries × (p.count ≡ length (merged (rows_points 0 p.rows.items) p.rest.entries)) × AreEmptyFrom p.used p.rows.items };
+    ghost invariant = { λ p. AreSlotRows p.rows.items p.rest.entries
+        × (p.count ≡ length (points_in p.rows.items p.rest.entries))
+        × AreEmptyFrom p.used p.rows.items };
 }
 
 /// Adds empty rows until there is one for a context.
@@ -66,26 +69,30 @@ fn add_rows(rows: &mut Vec<OffsetList>, context: u32) -> Result<(), AllocError>
 fn put(
     rows: &mut Vec<OffsetList>,
     rest: &mut BTreeMap<PointKey, u32>,
-    place: PointKey,
+    point: PointKey,
     slot: u32,
 ) -> Result<(), AllocError>
-    requires places { ArePlaces rows.old.items rest.old.entries }
-    requires within { place.0 < length rows.old.items }
-    requires absent { states_of (merged (rows_points 0 rows.old.items) rest.old.entries) place ≡ None }
-    ensures places { ArePlaces rows.new.items rest.new.entries }
-    ensures ok { OnOk result (merged (rows_points 0 rows.new.items) rest.new.entries ≡ insert_entry place_cmp (merged (rows_points 0 rows.old.items) rest.old.entries) place slot) }
-    ensures err { OnErr result (merged (rows_points 0 rows.new.items) rest.new.entries ≡ merged (rows_points 0 rows.old.items) rest.old.entries) }
-    ensures behind { (used : ℕ) → place.0 < used → AreEmptyFrom used rows.old.items → AreEmptyFrom used rows.new.items }
+    requires places { AreSlotRows rows.old.items rest.old.entries }
+    requires within { point.0 < length rows.old.items }
+    requires absent { states_of (points_in rows.old.items rest.old.entries) point ≡ None }
+    ensures places { AreSlotRows rows.new.items rest.new.entries }
+    ensures ok { OnOk result (points_in rows.new.items rest.new.entries
+        ≡ insert_entry place_cmp (points_in rows.old.items rest.old.entries) point slot) }
+    ensures err { OnErr result
+        (points_in rows.new.items rest.new.entries ≡ points_in rows.old.items rest.old.entries) }
+    ensures behind { (used : ℕ) → point.0 < used
+        → AreEmptyFrom used rows.old.items → AreEmptyFrom used rows.new.items }
 {
-    let row = &mut rows[place.0 as usize];
-    if row.is_below(place.1) {
-        return row.push(place.1, slot);
+    let row = &mut rows[point.0 as usize];
+    if row.is_below(point.1) {
+        return row.push(point.1, slot);
     }
-    rest.insert(place, slot)?;
+    rest.insert(point, slot)?;
     Ok(())
 }
 
-/// Empties the first `used` rows, after which all are empty, and keeps the memory of the first `KEPT_ROWS` rows.
+/// Empties the first `used` rows, after which all are empty, and keeps the memory of the first
+/// `KEPT_ROWS` rows.
 fn clear_rows(rows: &mut Vec<OffsetList>, used: usize)
     requires { AreEmptyFrom used rows.old.items }
     ensures empty { (c : ℕ) → row_of rows.new.items c ≡ [] }
@@ -133,7 +140,8 @@ impl SlotIndex {
         }
     }
 
-    /// Returns the points that are there, with their slots, by ascending context, and by ascending offset within one.
+    /// Returns the points that are there, with their slots, by ascending context, and by ascending
+    /// offset within one.
     pub(crate) fn iter(&self) -> SlotIndexIter<'_>
         ensures { result ≡ self.now }
     {
@@ -154,7 +162,8 @@ impl SlotIndex {
     pub(crate) fn insert(&mut self, context: u32, offset: u32, slot: u32) -> Result<(), AllocError>
         requires absent { states_of self.old (context, offset) ≡ None }
         requires few { length self.old < 4294967295 }
-        ensures ok { OnOk result (self.new ≡ insert_entry place_cmp self.old (context, offset) slot) }
+        ensures ok { OnOk result
+            (self.new ≡ insert_entry place_cmp self.old (context, offset) slot) }
         ensures err { OnErr result (self.new ≡ self.old) }
     {
         add_rows(&mut self.rows, context)?;
@@ -188,7 +197,7 @@ struct OffsetListsIter<'a> {
 
 impl<'a> Model for OffsetListsIter<'a> {
     ghost use Rattle.std.specs.Prelude.{List, ℕ, suc, ◌+◌, ◌++◌, ◌<◌, length};
-    ghost use Rattle.tt_cert.specs.PlaceRows.{row_points, rows_points};
+    ghost use Rattle.tt_cert.specs.Representation.SlotRows.{row_points, rows_points};
 
     ghost Value = { List ((ℕ × ℕ) × ℕ) };
 
@@ -242,8 +251,8 @@ fn next_in(rest: &mut Iter<'_, PointKey, u32>) -> Option<(PointKey, u32)>
     ensures none { result ≡ None → rest.old ≡ [] }
     ensures some { IfSome result (λ e. rest.old ≡ e ∷ rest.new) }
 {
-    let (place, slot) = rest.next()?;
-    Some((*place, *slot))
+    let (point, slot) = rest.next()?;
+    Some((*point, *slot))
 }
 
 /// Whether the first point beside the rows comes before the first point of the rows.
@@ -272,7 +281,7 @@ pub(crate) struct SlotIndexIter<'a> {
 
 impl<'a> Model for SlotIndexIter<'a> {
     ghost use Rattle.std.specs.Prelude.{List, ℕ};
-    ghost use Rattle.tt_cert.specs.PlaceRows.{AreApart, merged, with_first};
+    ghost use Rattle.tt_cert.specs.Representation.SlotRows.{AreApart, merged, with_first};
 
     ghost Value = { List ((ℕ × ℕ) × ℕ) };
 

@@ -10,7 +10,7 @@ use tt_abs::State;
 #[derive(Drop)]
 pub struct States<'a> {
     /// The slots of the points that are still to come.
-    pub(crate) places: SlotIndexIter<'a>,
+    pub(crate) points: SlotIndexIter<'a>,
     /// The states in the slots.
     pub(crate) slots: &'a [State],
 }
@@ -18,24 +18,24 @@ pub struct States<'a> {
 impl<'a> Model for States<'a> {
     ghost use Rattle.std.specs.Prelude.{List, ℕ};
     ghost use Rattle.tt_abs.specs.declared.state.State.{State as StateValue};
-    ghost use Rattle.tt_cert.specs.Tables.{AreSlots, table_of};
+    ghost use Rattle.tt_cert.specs.Representation.StateSlots.{AreSlots, states_in};
 
     ghost Value = { List ((ℕ × ℕ) × StateValue) };
 
-    ghost view = { λ s. table_of s.slots.now s.places };
+    ghost view = { λ s. states_in s.slots.now s.points };
 
-    ghost invariant = { λ s. AreSlots s.slots.now s.places };
+    ghost invariant = { λ s. AreSlots s.slots.now s.points };
 }
 
 impl<'a> States<'a> {
-    /// Takes the first of the states that are still to come, with its context's number and its offset: `None` exactly where there is none, and
-    /// then always from there on.
+    /// Takes the first of the states that are still to come, with its context's number and its
+    /// offset: `None` exactly where there is none, and then always from there on.
     pub fn take_first(&mut self) -> Option<(u32, u32, &'a State)>
         ensures none { result ≡ None → self.old ≡ [] }
         ensures done { result ≡ None → self.new ≡ [] }
         ensures some { IfSome result (λ e. self.old ≡ ((e.0, e.1), e.2.now) ∷ self.new) }
     {
-        let (place, number) = self.places.take_first()?;
-        Some((place.0, place.1, &self.slots[number as usize]))
+        let (point, number) = self.points.take_first()?;
+        Some((point.0, point.1, &self.slots[number as usize]))
     }
 }

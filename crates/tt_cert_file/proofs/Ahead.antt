@@ -8,7 +8,7 @@ use Rattle.tt_abs.specs.declared.cells.Cell.{Cell}
 use Rattle.tt_cert_file.specs.declared.fault.DecodeFault.{DecodeFault}
 use Rattle.tt_cert_file.specs.declared.fault.DecodeFault.TheVariants as fault
 use Rattle.tt_cert_file.specs.Answers.{Fails, Gives, input_at}
-use Rattle.tt_cert_file.specs.Blocks.{AreSomeCellsTaken, AreSpelled, AreTaken, IsTaking, ReadsBlock, ReadsCells, ReadsMoreCells, Takes, TakesSomeCells, cells_at, input_of}
+use Rattle.tt_cert_file.specs.Representation.Blocks.{AreSomeCellsTaken, AreSpelled, AreTaken, IsTaking, ReadsBlock, ReadsCells, ReadsMoreCells, Takes, TakesSomeCells, cells_at, input_of}
 use Rattle.tt_cert_file.specs.Readers.{Answer, list_at, place_after}
 use Rattle.tt_cert_file.specs.Reading.{cell_at, function_at}
 use Rattle.tt_cert_file.proofs.Blocks.{none_left}

@@ -10,7 +10,7 @@ use Rattle.tt_stream.proofs.Beginnings.{consumes_then}
 use Rattle.tt_cert_file.specs.declared.fault.DecodeFault.{DecodeFault}
 use Rattle.tt_cert_file.specs.declared.fault.DecodeFault.TheVariants as fault
 use Rattle.tt_cert_file.specs.Answers.{Fails, StopsAtEnd, input_at}
-use Rattle.tt_cert_file.specs.Blocks.{AreTaken, BreaksAt, FillsOn, IsTaking, ReadsBlock, Takes, input_held, input_of}
+use Rattle.tt_cert_file.specs.Representation.Blocks.{AreTaken, BreaksAt, FillsOn, IsTaking, ReadsBlock, Takes, input_held, input_of}
 use Rattle.tt_cert_file.specs.Readers.{Answer, Input, list_at, place_after, unit}
 use Rattle.tt_cert_file.specs.Reading.{function_at, pair_at, pair_from}
 use Rattle.tt_cert_file.specs.Rules.{is_above, last_of}

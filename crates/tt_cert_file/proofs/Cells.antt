@@ -14,7 +14,7 @@ use Rattle.tt_stream.proofs.Beginnings.{consumes_then}
 use Rattle.tt_cert_file.specs.declared.fault.DecodeFault.{DecodeFault}
 use Rattle.tt_cert_file.specs.declared.fault.DecodeFault.TheVariants as fault
 use Rattle.tt_cert_file.specs.Answers.{Fails, IsReadFault, StopsAtEnd, input_at}
-use Rattle.tt_cert_file.specs.Blocks.{AreCellsTaken, FillsOn, FillsRest, IsBegun, IsTakingCells, ReadsCells, ReadsRest, TakesCells, cells_at, input_begun, input_held, input_of}
+use Rattle.tt_cert_file.specs.Representation.Blocks.{AreCellsTaken, FillsOn, FillsRest, IsBegun, IsTakingCells, ReadsCells, ReadsRest, TakesCells, cells_at, input_begun, input_held, input_of}
 use Rattle.tt_cert_file.specs.Readers.{Answer, Input, list_at, place_after}
 use Rattle.tt_cert_file.specs.Reading.{cell_at}
 use Rattle.tt_cert_file.proofs.Codecs.{here}

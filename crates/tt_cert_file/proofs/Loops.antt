@@ -1,5 +1,6 @@
 -- Reading values one after the other, as a loop does.
-use Rattle.std.proofs.Common.{◌≡◌, ℕ, suc, ◌-◌, ◌+◌, ◌≤◌, ◌<◌, true, List, [], ◌∷◌, ◌++◌, Option, is_some, Ok, Err, refl, ◌∙◌, arith}
+use Rattle.std.proofs.Common.{◌≡◌, ℕ, suc, ◌-◌, ◌+◌, ◌≤◌, ◌<◌, true, List, [], ◌∷◌, ◌++◌, Option, is_some, Ok, Err, refl, sym, subst, ◌∙◌, arith}
+use Rattle.std.proofs.KnownBytes.{Consumes-nil}
 use Rattle.tt_stream.specs.Reads.{ConsumesBeginning}
 use Rattle.tt_stream.proofs.Beginnings.{consumes_then}
 use Rattle.tt_cert_file.specs.declared.fault.DecodeFault.{DecodeFault}
@@ -7,7 +8,7 @@ use Rattle.tt_cert_file.specs.declared.fault.DecodeFault.TheVariants as fault
 use Rattle.tt_cert_file.specs.Answers.{Fails, Gives, StopsAtEnd, input_at}
 use Rattle.tt_cert_file.specs.Readers.{Answer, Input, list_at}
 use Rattle.tt_cert_file.proofs.Steady.{IsSteady}
-use Rattle.tt_cert_file.proofs.Stops.{Reached, reached_known, reached_more, reached_then, stops_next, stops_there}
+use Rattle.tt_cert_file.proofs.Stops.{Reached, reached_known, reached_more, reached_none, reached_then, stops_next, stops_there}
 
 stops : {A : Type 0} (one : List A → Input → Answer A) (xs : List A) (count k : ℕ) (i : Input) (e : ℕ) → k < count → one xs i ≡ Err e → list_at one xs (count - k) i ≡ Err e
 unfolding list_at
@@ -22,6 +23,18 @@ pub record IsReading {A : Type 0} (one : List A → Input → Answer A) (old now
   pub reached : is_some old ≡ true → Reached start place old now (list_at one [] count) (list_at one xs (count - k))
   pub beginning : ConsumesBeginning old now
   pub failures_are : failures_now ≡ failures
+
+-- before the first one
+pub reads_none : {A : Type 0} (one : List A → Input → Answer A) (old : Option (List ℕ)) (start : ℕ) (xs : List A) (count failures : ℕ) → xs ≡ []
+    → IsReading one old old start xs count 0 start failures failures
+reads_none {A = A} one old start xs count failures empty =
+    let all : count ≡ count - 0 = omega arith in
+    subst (λ (l : List A). IsReading one old old start l count 0 start failures failures) (sym empty)
+    (record {
+      reached = λ known. subst (λ (n : ℕ). Reached start start old old (list_at one [] count) (list_at one [] n)) all (reached_none start old (list_at one [] count) known);
+      beginning = record { bytes = []; consumed = Consumes-nil old };
+      failures_are = refl;
+    })
 
 pub reads_on : {A : Type 0} (one : List A → Input → Answer A) (old now next : Option (List ℕ)) (start : ℕ) (xs ys : List A) (count k place after f g h : ℕ) (x : A) → IsSteady (one xs)
     → IsReading one old now start xs count k place f g → k < count

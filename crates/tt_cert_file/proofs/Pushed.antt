@@ -23,7 +23,7 @@ one_written {A} spell old head now new done x before one =
     one ∙ ap (λ (l : List ℕ). l ++ spell x) before ∙ append_assoc old (head ++ flat_map spell done) (spell x)
     ∙ ap (λ (l : List ℕ). old ++ l) (append_assoc head (flat_map spell done) (spell x) ∙ ap (λ (l : List ℕ). head ++ l) (sym more))
 
-taken_more : {A : Type 0} (xs : List A) (k : ℕ) (x : A) → slice_get xs k ≡ Some x → take (k + 1) xs ≡ take k xs ++ x ∷ []
+pub taken_more : {A : Type 0} (xs : List A) (k : ℕ) (x : A) → slice_get xs k ≡ Some x → take (k + 1) xs ≡ take k xs ++ x ∷ []
 taken_more {A} xs k x at =
     let within = slice_get_within xs k x at in
     let one : Some (slice_index_or xs k x) ≡ Some x = sym (slice_get-get_or xs k x within) ∙ at in

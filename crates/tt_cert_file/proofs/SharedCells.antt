@@ -1,5 +1,5 @@
 -- Stacks of which each has the lowest cells of the one before.
-use Rattle.std.proofs.Common.{◌≡◌, ℕ, zero, suc, ◌+◌, ◌-◌, ◌^◌, ◌<◌, ◌≤◌, true, List, [], ◌∷◌, ◌++◌, length, take, drop, get_or, Option, Some, None, is_some, Result, Ok, Err, inl, inr, refl, sym, ap, subst, ◌∙◌, arith, append_assoc, append-nil, take-append-drop}
+use Rattle.std.proofs.Common.{◌≡◌, ℕ, ℤ, zero, suc, ◌+◌, ◌-◌, ◌^◌, ◌<◌, ◌≤◌, true, List, [], ◌∷◌, ◌++◌, length, take, drop, get_or, Option, Some, None, is_some, Result, Ok, Err, inl, inr, refl, sym, ap, subst, ◌∙◌, arith, append_assoc, append-nil, take-append-drop}
 use Rattle.std.specs.Prelude.{IfErr, reverse, slice_index}
 use Rattle.std.specs.List.{flat_map}
 use Rattle.std.specs.Io.KnownBytes.{Consumes}
@@ -10,19 +10,21 @@ use Rattle.std.proofs.Math.ListN.{get_or-append}
 use Rattle.std.proofs.Math.Seq.{get_or-append_seam}
 use Rattle.tt_abs.specs.declared.cells.Cell.{Cell}
 use Rattle.tt_abs.specs.declared.state.State.{State}
-use Rattle.tt_abs.specs.States.{state_order}
+use Rattle.tt_abs.specs.Cells.{Cells}
+use Rattle.tt_abs.specs.States.{start_of, state_order}
 use Rattle.tt_abs.specs.Transfers.{cells_on}
 use Rattle.tt_abs.proofs.CodedCells.{cells_on_reversed}
 use Rattle.tt_abs.proofs.Reversed.{reverse-drop}
 use Rattle.tt_abs.proofs.StackOrders.{StackInRange-reverse}
 use Rattle.tt_cert_file.specs.declared.fault.DecodeFault.{DecodeFault}
 use Rattle.tt_cert_file.specs.declared.fault.DecodeFault.TheVariants as fault
+use Rattle.tt_cert_file.specs.declared.form.Form.{Form}
 use Rattle.tt_cert_file.specs.Answers.{Fails, StopsAtEnd, input_at}
-use Rattle.tt_cert_file.specs.Blocks.{ReadsMoreCells, cells_at}
+use Rattle.tt_cert_file.specs.Representation.Blocks.{ReadsMoreCells, cells_at}
 use Rattle.tt_cert_file.specs.Readers.{Answer, Input, list_at, place_after, ◌>>=◌}
-use Rattle.tt_cert_file.specs.Reading.{cell_at}
+use Rattle.tt_cert_file.specs.Reading.{cell_at, functions_at, graphics_at, stack_at, state_at, storage_at}
 use Rattle.tt_cert_file.specs.Rules.{CellFits, EachAfter}
-use Rattle.tt_cert_file.specs.SharedCells.{AreAhead, AreCellsKept, AreWithin, IsStackKept, end_of}
+use Rattle.tt_cert_file.specs.Representation.SharedCells.{AreAhead, AreCellsKept, AreWithin, IsStackKept, end_of}
 use Rattle.tt_cert_file.specs.Text.{cell_text}
 use Rattle.tt_cert_file.proofs.Cells.{none_of}
 use Rattle.tt_cert_file.proofs.Codecs.{here, list_again}
@@ -89,14 +91,14 @@ front_kept text ends front front_ends cells k kept le front_is ends_is = record 
 }
 
 -- one more cell is kept
-pub kept_more : (text ends now now_ends : List ℕ) (cells : List Cell) (x : Cell) → AreCellsKept text ends cells → now ≡ text ++ cell_text x
-    → now_ends ≡ ends ++ length now ∷ [] → AreCellsKept now now_ends (cells ++ x ∷ [])
-kept_more text ends now now_ends cells x kept now_is ends_is = record {
+pub kept_more : (text ends now now_ends : List ℕ) (end : ℕ) (cells : List Cell) (x : Cell) → AreCellsKept text ends cells → now ≡ text ++ cell_text x
+    → now_ends ≡ ends ++ end ∷ [] → end ≡ length now → AreCellsKept now now_ends (cells ++ x ∷ [])
+kept_more text ends now now_ends end cells x kept now_is ends_is end_is = record {
   text_is = whole;
-  long = ap length ends_is ∙ omega (arith, length-append ends (length now ∷ []), length-append cells (x ∷ []), kept.long);
+  long = ap length ends_is ∙ omega (arith, length-append ends (end ∷ []), length-append cells (x ∷ []), kept.long);
   end_is = λ j few. elim (cases_lt (length cells) j) [
     | inl more ↦ last j (omega (arith, more, few, length-append cells (x ∷ [])))
-    | inr less ↦ ap (λ (l : List ℕ). end_of l j) ends_is ∙ end_before j ends (length now ∷ []) (omega (arith, less, kept.long)) ∙ kept.end_is j less
+    | inr less ↦ ap (λ (l : List ℕ). end_of l j) ends_is ∙ end_before j ends (end ∷ []) (omega (arith, less, kept.long)) ∙ kept.end_is j less
         ∙ ap (λ (l : List Cell). length (flat_map cell_text l)) (sym (take-append-le j cells (x ∷ []) less))
   ];
 }
@@ -108,7 +110,8 @@ kept_more text ends now now_ends cells x kept now_is ends_is = record {
 
     last : (j : ℕ) → j ≡ suc (length cells) → end_of now_ends j ≡ length (flat_map cell_text (take j (cells ++ x ∷ [])))
     last j j_is =
-        let here_is : end_of now_ends (suc (length ends)) ≡ length now = ap (λ (l : List ℕ). end_of l (suc (length ends))) ends_is ∙ get_or-append_seam ends (length now) [] 0 in
+        let here_is : end_of now_ends (suc (length ends)) ≡ length now =
+        ap (λ (l : List ℕ). end_of l (suc (length ends))) ends_is ∙ get_or-append_seam ends end [] 0 ∙ end_is in
         let place : j ≡ suc (length ends) = omega (arith, j_is, kept.long) in
         let all : take j (cells ++ x ∷ []) ≡ cells ++ x ∷ [] = take_all j (cells ++ x ∷ []) (omega (arith, j_is, length-append cells (x ∷ []))) in
         ap (end_of now_ends) place ∙ here_is ∙ ap length whole ∙ ap (λ (l : List Cell). length (flat_map cell_text l)) (sym all)
@@ -148,32 +151,61 @@ shared_read old new text ends ahead cells place after most count kept fits share
     known (Some xs) None consumed e = absurd consumed
     known (Some xs) (Some ys) consumed e = (
       refl,
-      λ n. ap (λ (l : List ℕ). cells_at [] (length (take count cells) + n) (here place l)) (consumed ∙ ap (λ (l : List ℕ). l ++ ys) front_is)
+      λ n.
+          let all : (length (take count cells) - 0) + n ≡ length (take count cells) + n = omega arith in
+          ap (λ (k : ℕ). cells_at [] k (here place xs)) all
+          ∙ ap (λ (l : List ℕ). cells_at [] (length (take count cells) + n) (here place l)) (consumed ∙ ap (λ (l : List ℕ). l ++ ys) front_is)
           ∙ read_kept (take count cells) n place ys fits lt ∙ ap (λ (p : ℕ). cells_at (take count cells) n (here p ys)) there,
     )
 
 -- what is left of a stack that is cut down to so many cells
-pub cut_down : (stack left : List Cell) (k : ℕ) → k ≤ length stack → left ≡ drop (length stack - k) stack → reverse left ≡ take k (reverse stack)
+cut_down : (stack left : List Cell) (k : ℕ) → k ≤ length stack → left ≡ drop (length stack - k) stack → reverse left ≡ take k (reverse stack)
 cut_down stack left k le left_is = ap reverse left_is ∙ reverse-drop stack (length stack - k) k (omega arith)
 
 -- the cells of a state in range fit
-pub cells_fit : (s : State) → state_order.InRange s → EachAfter (λ _ c. CellFits c) [] (reverse s.stack)
+cells_fit : (s : State) → state_order.InRange s → EachAfter (λ _ c. CellFits c) [] (reverse s.stack)
 cells_fit s range = each_cell [] (reverse s.stack) (StackInRange-reverse s.stack range.0)
+
+-- the lowest cells of a state are taken
+pub shared_taken : (old new : Option (List ℕ)) (text ends ahead : List ℕ) (was now : State) (place after most count : ℕ) → IsStackKept text ends was
+    → AreAhead text ends ahead most count → now.stack ≡ drop (length was.stack - count) was.stack → state_order.InRange now
+    → Consumes old new (take (end_of ends count) ahead) → place < 2 ^ 64 → after ≡ place_after place (end_of ends count)
+    → ReadsMoreCells (Ok after) old new [] (reverse now.stack) place most
+shared_taken old new text ends ahead was now place after most count kept shared cut range consumed lt after_is =
+    let cells = reverse was.stack in
+    let left : reverse now.stack ≡ take count cells = cut_down was.stack now.stack count (omega (arith, shared.kept, kept.cells.long, length-reverse was.stack)) cut in
+    let fits : EachAfter (λ _ c. CellFits c) [] (take count cells) = subst (EachAfter (λ _ c. CellFits c) []) left (cells_fit now range) in
+    subst (λ (l : List Cell). ReadsMoreCells (Ok after) old new [] l place most) (sym left)
+    (shared_read old new text ends ahead cells place after most count kept.cells fits shared consumed lt after_is)
+
+pub shared_kept : (text ends ahead front front_ends : List ℕ) (was now : State) (most count : ℕ) → IsStackKept text ends was → AreAhead text ends ahead most count
+    → now.stack ≡ drop (length was.stack - count) was.stack → state_order.InRange now → front ≡ take (end_of ends count) text → front_ends ≡ take count ends
+    → IsStackKept front front_ends now
+shared_kept text ends ahead front front_ends was now most count kept shared cut range front_is ends_is =
+    let cells = reverse was.stack in
+    let long : length cells ≡ length was.stack = length-reverse was.stack in
+    let left : reverse now.stack ≡ take count cells = cut_down was.stack now.stack count (omega (arith, shared.kept, kept.cells.long, long)) cut in
+    record {
+      cells = subst (AreCellsKept front front_ends) (sym left)
+          (front_kept text ends front front_ends cells count kept.cells (omega (arith, shared.kept, kept.cells.long)) front_is ends_is);
+      in_range = range;
+    }
 
 -- the answer of reading a list, with other values before it
 abbrev pub onto : List Cell → Answer (List Cell) → Answer (List Cell)
 onto front (Ok x) = Ok (front ++ x.0, x.1)
 onto front (Err p) = Err p
 
+onto_next : (front xs : List Cell) (n : ℕ) (r : Answer Cell) → ((y : Cell) (j : Input) → cells_at (front ++ (xs ++ y ∷ [])) n j ≡ onto front (cells_at (xs ++ y ∷ []) n j))
+    → (r >>= (λ x. cells_at ((front ++ xs) ++ x.0 ∷ []) n x.1)) ≡ onto front (r >>= (λ x. cells_at (xs ++ x.0 ∷ []) n x.1))
+onto_next front xs n (Err p) more = refl
+onto_next front xs n (Ok x) more = ap (λ (l : List Cell). cells_at l n x.1) (append_assoc front xs (x.0 ∷ [])) ∙ more x.0 x.1
+
 -- cells are read the same after other ones
 cells_onto : (front xs : List Cell) (n : ℕ) (i : Input) → cells_at (front ++ xs) n i ≡ onto front (cells_at xs n i)
 unfolding list_at
 cells_onto front xs zero i = refl
-cells_onto front xs (suc n) i = next (cell_at i)
-  where
-    next : (r : Answer Cell) → (r >>= (λ x. cells_at ((front ++ xs) ++ x.0 ∷ []) n x.1)) ≡ onto front (r >>= (λ x. cells_at (xs ++ x.0 ∷ []) n x.1))
-    next (Err p) = refl
-    next (Ok x) = ap (λ (l : List Cell). cells_at l n x.1) (append_assoc front xs (x.0 ∷ [])) ∙ cells_onto front (xs ++ x.0 ∷ []) n x.1
+cells_onto front xs (suc n) i = onto_next front xs n (cell_at i) (λ y j. cells_onto front (xs ++ y ∷ []) n j)
 
 cells_from : (front : List Cell) (n : ℕ) (i : Input) → cells_at front n i ≡ onto front (cells_at [] n i)
 cells_from front n i = ap (λ (l : List Cell). cells_at l n i) (sym (append-nil front)) ∙ cells_onto front [] n i
@@ -193,6 +225,14 @@ rest_reached old mid front place at count left reads left_is known =
 pub stacked : (below stack cells : List Cell) → stack ≡ cells_on cells below → reverse stack ≡ reverse below ++ cells
 stacked below stack cells e =
     ap reverse (e ∙ ap (cells_on cells) (sym (reverse-reverse below)) ∙ sym (cells_on_reversed (reverse below) cells)) ∙ reverse-reverse (reverse below ++ cells)
+
+-- the cells that were pushed are kept too
+pub pushed_kept : (text ends : List ℕ) (below now : State) (cells : List Cell) → AreCellsKept text ends (reverse below.stack ++ cells)
+    → now.stack ≡ cells_on cells below.stack → state_order.InRange now → IsStackKept text ends now
+pushed_kept text ends below now cells kept pushed range = record {
+  cells = subst (AreCellsKept text ends) (sym (stacked below.stack now.stack cells pushed)) kept;
+  in_range = range;
+}
 
 -- all cells are read: the lowest ones, and the others
 pub stack_read : (old mid new : Option (List ℕ)) (below stack cells : List Cell) (place at after count left : ℕ) → ReadsMoreCells (Ok at) old mid [] (reverse below) place count
@@ -229,3 +269,28 @@ pub stack_stops : (e : DecodeFault) (old mid new : Option (List ℕ)) (front : L
 stack_stops e old mid new front place at count left reads left_is stops =
     stops_there place at old mid new (cells_at [] count) (cells_at front left) e (rest_reached old mid front place at count left reads left_is)
     (onto_stops e mid new front at left stops)
+
+-- the state before the first one
+pub first_kept : (text ends : List ℕ) (functions : List (ℕ × ℕ)) (s : State) → AreCellsKept text ends [] → s ≡ start_of functions → state_order.InRange s → IsStackKept text ends s
+first_kept text ends functions s kept start range = record {
+  cells = subst (λ (t : State). AreCellsKept text ends (reverse t.stack)) (sym start) kept;
+  in_range = range;
+}
+
+-- the stack stays
+pub rest_kept : (text ends : List ℕ) (was now : State) → IsStackKept text ends was → now.stack ≡ was.stack → state_order.InRange now → IsStackKept text ends now
+rest_kept text ends was now kept same range = record {
+  cells = subst (λ (l : List Cell). AreCellsKept text ends (reverse l)) (sym same) kept.cells;
+  in_range = range;
+}
+
+state_made : List Cell → Cells → List (ℕ × ℕ) → List (ℕ × ℤ) → State
+state_made stack graphics functions storage = record { stack = stack; graphics = graphics; functions = functions; storage = storage }
+
+-- a state is read part by part
+pub state_steps : (form : Form) (i i1 i2 i3 i4 : Input) (stack : List Cell) (graphics : Cells) (functions : List (ℕ × ℕ)) (storage : List (ℕ × ℤ)) (s : State)
+    → stack_at i ≡ Ok (reverse stack, i1) → graphics_at i1 ≡ Ok (graphics, i2) → functions_at i2 ≡ Ok (functions, i3) → storage_at form i3 ≡ Ok (storage, i4)
+    → s ≡ record { stack = stack; graphics = graphics; functions = functions; storage = storage } → state_at form i ≡ Ok (s, i4)
+unfolding state_at state_made
+state_steps form i i1 i2 i3 i4 stack graphics functions storage s e1 e2 e3 e4 made =
+    rw (e1, e2, e3, e4) (ap (λ (l : List Cell). Ok (state_made l graphics functions storage, i4)) (reverse-reverse stack) ∙ ap (λ (t : State). Ok (t, i4)) (sym made))

@@ -6,6 +6,4 @@ pub mod Rules
 pub mod Readers
 pub mod Reading
 pub mod Answers
-pub mod Blocks
-pub mod KeptTexts
-pub mod SharedCells
+pub mod Representation

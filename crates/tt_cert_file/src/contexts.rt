@@ -7,7 +7,8 @@ ghost use Rattle.tt_cert.specs.Contents.{IsFamily, frames_at};
 ghost use Rattle.tt_cert.specs.Rising.{IsFinished};
 ghost use Rattle.tt_cert.specs.Contexts.{frames_of};
 ghost use Rattle.tt_stream.specs.Reads.{ConsumesBeginning};
-ghost use Rattle.tt_cert_file.specs.Answers.{CountsRead, Gives, IsOutOfMemory, StopsAtEnd, input_at};
+ghost use Rattle.tt_cert_file.specs.Answers.{CountsRead, IsOutOfMemory};
+ghost use Rattle.tt_cert_file.specs.Representation.Clauses.{ReadsAs, ReadsBy, StopsWhole};
 ghost use Rattle.tt_cert_file.specs.Forms.{most_contexts};
 ghost use Rattle.tt_cert_file.specs.Readers.{list_at};
 ghost use Rattle.tt_cert_file.specs.Reading.{context_at, context_count_at, contexts_at};
@@ -85,10 +86,12 @@ fn read_context<S: Source>(
     before: &[(u32, Frame)],
 ) -> Result<((u32, Frame), u64), DecodeFault>
     requires { HaveParents before.now }
-    ensures reads { Gives (λ x. x) (S.remaining source.old) (S.remaining source.new) result (context_at before.now (input_at place (S.remaining source.old))) }
+    ensures reads { ReadsBy (context_at before.now) place result
+        (S.remaining source.old) (S.remaining source.new) }
     ensures follows { IfOk result (λ r. may_follow_after before.now r.0 ≡ true) }
     ensures beginning { ConsumesBeginning (S.remaining source.old) (S.remaining source.new) }
-    ensures stopped { IfErr result (StopsAtEnd place (S.remaining source.old) (S.remaining source.new) (context_at before.now)) }
+    ensures stopped { StopsWhole (context_at before.now) place result
+        (S.remaining source.old) (S.remaining source.new) }
     ensures failures { CountsRead result (S.failures source.old) (S.failures source.new) }
     ensures memory { IfErr result (λ fault. ¬ IsOutOfMemory fault) }
 {
@@ -112,10 +115,12 @@ fn read_context<S: Source>(
 
 /// Reads how many contexts a section has besides the main one.
 fn read_count<S: Source>(source: &mut S, place: u64, form: Form) -> Result<(u16, u64), DecodeFault>
-    ensures reads { Gives (λ x. x) (S.remaining source.old) (S.remaining source.new) result (context_count_at form (input_at place (S.remaining source.old))) }
+    ensures reads { ReadsBy (context_count_at form) place result
+        (S.remaining source.old) (S.remaining source.new) }
     ensures few { IfOk result (λ r. r.0 ≤ most_contexts form) }
     ensures beginning { ConsumesBeginning (S.remaining source.old) (S.remaining source.new) }
-    ensures stopped { IfErr result (StopsAtEnd place (S.remaining source.old) (S.remaining source.new) (context_count_at form)) }
+    ensures stopped { StopsWhole (context_count_at form) place result
+        (S.remaining source.old) (S.remaining source.new) }
     ensures failures { CountsRead result (S.failures source.old) (S.failures source.new) }
     ensures memory { IfErr result (λ fault. ¬ IsOutOfMemory fault) }
 {
@@ -133,11 +138,13 @@ fn read_context_list<S: Source>(
     place: u64,
     count: u16,
 ) -> Result<(Vec<(u32, Frame)>, u64), DecodeFault>
-    ensures reads { Gives (λ v. v.items) (S.remaining source.old) (S.remaining source.new) result (list_at context_at [] count (input_at place (S.remaining source.old))) }
+    ensures reads { ReadsAs (λ v. v.items) (list_at context_at [] count) place result
+        (S.remaining source.old) (S.remaining source.new) }
     ensures few { IfOk result (λ r. length r.0.items ≤ count) }
     ensures contexts { IfOk result (λ r. AreContexts r.0.items) }
     ensures beginning { ConsumesBeginning (S.remaining source.old) (S.remaining source.new) }
-    ensures stopped { IfErr result (StopsAtEnd place (S.remaining source.old) (S.remaining source.new) (list_at context_at [] count)) }
+    ensures stopped { StopsWhole (list_at context_at [] count) place result
+        (S.remaining source.old) (S.remaining source.new) }
     ensures failures { CountsRead result (S.failures source.old) (S.failures source.new) }
 {
     let mut contexts = Vec::new(alloc);
@@ -158,11 +165,13 @@ pub(crate) fn read_contexts<S: Source>(
     place: u64,
     form: Form,
 ) -> Result<(Vec<(u32, Frame)>, u64), DecodeFault>
-    ensures reads { Gives (λ v. v.items) (S.remaining source.old) (S.remaining source.new) result (contexts_at form (input_at place (S.remaining source.old))) }
+    ensures reads { ReadsAs (λ v. v.items) (contexts_at form) place result
+        (S.remaining source.old) (S.remaining source.new) }
     ensures few { IfOk result (λ r. length r.0.items ≤ most_contexts form) }
     ensures contexts { IfOk result (λ r. AreContexts r.0.items) }
     ensures beginning { ConsumesBeginning (S.remaining source.old) (S.remaining source.new) }
-    ensures stopped { IfErr result (StopsAtEnd place (S.remaining source.old) (S.remaining source.new) (contexts_at form)) }
+    ensures stopped { StopsWhole (contexts_at form) place result
+        (S.remaining source.old) (S.remaining source.new) }
     ensures failures { CountsRead result (S.failures source.old) (S.failures source.new) }
 {
     let (count, at) = read_count(source, place, form)?;

@@ -6,7 +6,8 @@ ghost use Rattle.tt_cert_file.specs.Forms.{form_number, form_of, most_contexts a
 /// A form of certificate files. Form 4 is written, all are read.
 #[derive(Clone, Copy, Debug, PartialEq, Eq)]
 pub enum Form {
-    /// Each state is listed, without its storage cells; at most 4,095 contexts besides the main one.
+    /// Each state is listed, without its storage cells; at most 4,095 contexts besides the main
+    /// one.
     One,
     /// States may be left out; otherwise as the first.
     Two,

@@ -4,7 +4,8 @@ ghost use Rattle.std.specs.Prelude.{◌≡◌, ℕ, IfErr, OnErr, OnOk};
 ghost use Rattle.std.specs.Io.KnownBytes.{Appends, IsAtEnd, Keeps};
 ghost use Rattle.tt_stream.specs.Reads.{ConsumesBeginning};
 ghost use Rattle.tt_stream.specs.Streams.{AppendsBeginning};
-ghost use Rattle.tt_cert_file.specs.Answers.{CountsRead, CountsWrite, Gives, GivesHeader, IsMore, IsOutOfMemory, StopsAtEnd, input_at};
+ghost use Rattle.tt_cert_file.specs.Answers.{CountsRead, CountsWrite, GivesHeader, IsMore, IsOutOfMemory, StopsAtEnd, input_at};
+ghost use Rattle.tt_cert_file.specs.Representation.Clauses.{ReadsBy, StopsWhole};
 ghost use Rattle.tt_cert_file.specs.Reading.{form_at, header_at, magic_at};
 ghost use Rattle.tt_cert_file.specs.Text.{header_text};
 
@@ -19,9 +20,11 @@ const MAGIC: u32 = 0x4843_5254;
 /// Reads what a certificate file begins with.
 #[tactic(auto, unfolding(crate::specs::Reading::magic_at))]
 fn read_magic<S: Source>(source: &mut S, place: u64) -> Result<(u32, u64), DecodeFault>
-    ensures reads { Gives (λ x. x) (S.remaining source.old) (S.remaining source.new) result (magic_at (input_at place (S.remaining source.old))) }
+    ensures reads { ReadsBy magic_at place result
+        (S.remaining source.old) (S.remaining source.new) }
     ensures beginning { ConsumesBeginning (S.remaining source.old) (S.remaining source.new) }
-    ensures stopped { IfErr result (StopsAtEnd place (S.remaining source.old) (S.remaining source.new) magic_at) }
+    ensures stopped { StopsWhole magic_at place result
+        (S.remaining source.old) (S.remaining source.new) }
     ensures failures { CountsRead result (S.failures source.old) (S.failures source.new) }
     ensures memory { IfErr result (λ fault. ¬ IsOutOfMemory fault) }
 {
@@ -35,9 +38,10 @@ fn read_magic<S: Source>(source: &mut S, place: u64) -> Result<(u32, u64), Decod
 /// Reads the number of a form.
 #[tactic(auto, unfolding(crate::specs::Reading::form_at))]
 fn read_form<S: Source>(source: &mut S, place: u64) -> Result<(Form, u64), DecodeFault>
-    ensures reads { Gives (λ x. x) (S.remaining source.old) (S.remaining source.new) result (form_at (input_at place (S.remaining source.old))) }
+    ensures reads { ReadsBy form_at place result (S.remaining source.old) (S.remaining source.new) }
     ensures beginning { ConsumesBeginning (S.remaining source.old) (S.remaining source.new) }
-    ensures stopped { IfErr result (StopsAtEnd place (S.remaining source.old) (S.remaining source.new) form_at) }
+    ensures stopped { StopsWhole form_at place result
+        (S.remaining source.old) (S.remaining source.new) }
     ensures failures { CountsRead result (S.failures source.old) (S.failures source.new) }
     ensures memory { IfErr result (λ fault. ¬ IsOutOfMemory fault) }
 {
@@ -51,9 +55,11 @@ fn read_form<S: Source>(source: &mut S, place: u64) -> Result<(Form, u64), Decod
 /// Reads a header at a place, and returns it with the place after it.
 #[tactic(auto, unfolding(crate::specs::Reading::header_at))]
 fn read_header_at<S: Source>(source: &mut S, place: u64) -> Result<((Form, u32), u64), DecodeFault>
-    ensures reads { Gives (λ x. x) (S.remaining source.old) (S.remaining source.new) result (header_at (input_at place (S.remaining source.old))) }
+    ensures reads { ReadsBy header_at place result
+        (S.remaining source.old) (S.remaining source.new) }
     ensures beginning { ConsumesBeginning (S.remaining source.old) (S.remaining source.new) }
-    ensures stopped { IfErr result (StopsAtEnd place (S.remaining source.old) (S.remaining source.new) header_at) }
+    ensures stopped { StopsWhole header_at place result
+        (S.remaining source.old) (S.remaining source.new) }
     ensures failures { CountsRead result (S.failures source.old) (S.failures source.new) }
     ensures memory { IfErr result (λ fault. ¬ IsOutOfMemory fault) }
 {
@@ -63,16 +69,20 @@ fn read_header_at<S: Source>(source: &mut S, place: u64) -> Result<((Form, u32),
     Ok(((form, sections), at))
 }
 
-/// Reads the header of a certificate file: its form, and how many sections follow. It has ten bytes.
+/// Reads the header of a certificate file: its form, and how many sections follow. It has ten
+/// bytes.
 ///
 /// # Errors
-/// `Form` with the place of the field that is wrong, or of the input's end where that comes too early; `Read` exactly where a read failed. Then
-/// some beginning of what is left was read, and at `Read` no field of it that is whole is wrong.
+/// `Form` with the place of the field that is wrong, or of the input's end where that comes too
+/// early; `Read` exactly where a read failed. Then some beginning of what is left was read, and at
+/// `Read` no field of it that is whole is wrong.
 pub fn read_header<S: Source>(source: &mut S) -> Result<(Form, u32), DecodeFault>
-    ensures exact { GivesHeader (S.remaining source.old) (S.remaining source.new) result (header_at (input_at 0 (S.remaining source.old))) }
+    ensures exact { GivesHeader (S.remaining source.old) (S.remaining source.new) result
+        (header_at (input_at 0 (S.remaining source.old))) }
     ensures beginning { ConsumesBeginning (S.remaining source.old) (S.remaining source.new) }
     // Where a read failed, no field that was read whole breaks a rule.
-    ensures whole_fields { IfErr result (StopsAtEnd 0 (S.remaining source.old) (S.remaining source.new) header_at) }
+    ensures whole_fields { IfErr result
+        (StopsAtEnd 0 (S.remaining source.old) (S.remaining source.new) header_at) }
     ensures failures { CountsRead result (S.failures source.old) (S.failures source.new) }
     ensures memory { IfErr result (λ fault. ¬ IsOutOfMemory fault) }
 {
@@ -83,11 +93,15 @@ pub fn read_header<S: Source>(source: &mut S) -> Result<(Form, u32), DecodeFault
 /// Checks that nothing follows at a place: the end of a certificate file.
 ///
 /// # Errors
-/// `Form` with the place of the first byte that follows; `Read` exactly where a read failed, and then nothing was read.
+/// `Form` with the place of the first byte that follows; `Read` exactly where a read failed, and
+/// then nothing was read.
 pub fn read_end<S: Source>(source: &mut S, place: u64) -> Result<(), DecodeFault>
-    ensures ended { OnOk result (IsAtEnd (S.remaining source.old) × IsAtEnd (S.remaining source.new)) }
-    ensures followed { IfErr result (λ fault. (p : ℕ) → fault ≡ DecodeFault.Form p → (p ≡ place) × IsMore (S.remaining source.old)) }
-    ensures unread { IfErr result (λ fault. fault ≡ DecodeFault.Read → Keeps (S.remaining source.old) (S.remaining source.new)) }
+    ensures ended { OnOk result
+        (IsAtEnd (S.remaining source.old) × IsAtEnd (S.remaining source.new)) }
+    ensures followed { IfErr result (λ fault. (p : ℕ) → fault ≡ DecodeFault.Form p
+        → (p ≡ place) × IsMore (S.remaining source.old)) }
+    ensures unread { IfErr result (λ fault. fault ≡ DecodeFault.Read
+        → Keeps (S.remaining source.old) (S.remaining source.new)) }
     ensures beginning { ConsumesBeginning (S.remaining source.old) (S.remaining source.new) }
     ensures failures { CountsRead result (S.failures source.old) (S.failures source.new) }
     ensures memory { IfErr result (λ fault. ¬ IsOutOfMemory fault) }
@@ -102,10 +116,13 @@ pub fn read_end<S: Source>(source: &mut S, place: u64) -> Result<(), DecodeFault
 /// Writes the header of a certificate file of form 4 with this many sections.
 ///
 /// # Errors
-/// `Write` exactly where a write failed; then a beginning of the header was written, perhaps an empty one.
+/// `Write` exactly where a write failed; then a beginning of the header was written, perhaps an
+/// empty one.
 pub fn write_header<W: Sink>(sections: u32, sink: &mut W) -> Result<(), EncodeFault>
-    ensures written { OnOk result (Appends (W.contents sink.old) (W.contents sink.new) (header_text Form.Four sections)) }
-    ensures beginning { OnErr result (AppendsBeginning (W.contents sink.old) (W.contents sink.new) (header_text Form.Four sections)) }
+    ensures written { OnOk result
+        (Appends (W.contents sink.old) (W.contents sink.new) (header_text Form.Four sections)) }
+    ensures beginning { OnErr result (AppendsBeginning (W.contents sink.old) (W.contents sink.new)
+        (header_text Form.Four sections)) }
     ensures failures { CountsWrite result (W.failures sink.old) (W.failures sink.new) }
     ensures memory { IfErr result (λ fault. fault ≡ EncodeFault.Write) }
 {

@@ -1,13 +1,14 @@
-//! Stacks, each read after another one. Mostly the lowest cells are those of the one before: they are known by their text, and stay in the state.
+//! Stacks, each read after another one. Mostly the lowest cells are those of the one before: they
+//! are known by their text, and stay in the state.
 
 ghost use Rattle.std.specs.Prelude.{◌≡◌, ◌≤◌, ◌++◌, List, [], true, length, reverse, IfErr, IfOk, OnOk};
 ghost use Rattle.std.specs.Io.{StartsWith};
 ghost use Rattle.tt_abs.specs.declared.cells.Cell.{Cell as AnyCell};
 ghost use Rattle.tt_stream.specs.Reads.{ConsumesBeginning};
 ghost use Rattle.tt_cert_file.specs.Answers.{CountsRead, Gives, StopsAtEnd, input_at};
-ghost use Rattle.tt_cert_file.specs.Blocks.{ReadsMoreCells, cells_at};
+ghost use Rattle.tt_cert_file.specs.Representation.Blocks.{ReadsMoreCells, cells_at};
 ghost use Rattle.tt_cert_file.specs.Reading.{stack_at};
-ghost use Rattle.tt_cert_file.specs.SharedCells.{AreAhead, AreCellsKept, AreWithin, IsStackKept, end_of};
+ghost use Rattle.tt_cert_file.specs.Representation.SharedCells.{AreAhead, AreCellsKept, AreWithin, IsStackKept, end_of};
 
 use crate::fault::DecodeFault;
 use crate::lists::read_cells;
@@ -17,26 +18,28 @@ use std::alloc::{AllocError, Global};
 use tt_abs::{Cell, State};
 use tt_stream::Source;
 
-/// How many cells fewer the second guess has. Each further guess has twice as many fewer than the one before.
+/// How many cells fewer the second guess has. Each further guess has twice as many fewer than the
+/// one before.
 const FEWER: usize = 8;
 
 /// The text of the stack that was read last, by which its lowest cells are known again.
 #[derive(Drop)]
-pub(crate) struct StackText {
+pub(crate) struct LastStack {
     /// The texts of the cells, from the bottom up.
     pub(crate) text: Vec<u8>,
     /// Where the text of each cell ends.
     pub(crate) ends: Vec<usize>,
-    /// The cells that were read, in whose memory the next ones are read: those that aren't the ones of the stack before.
+    /// The cells that were read, in whose memory the next ones are read: those that aren't the ones
+    /// of the stack before.
     read: Vec<Cell>,
 }
 
-impl StackText {
+impl LastStack {
     /// Makes the text of the empty stack.
     pub(crate) fn new(alloc: Global) -> Self
         ensures { AreCellsKept result.text.items result.ends.items [] }
     {
-        StackText {
+        LastStack {
             text: Vec::new(alloc),
             ends: Vec::new(alloc),
             read: Vec::new(alloc),
@@ -66,8 +69,9 @@ fn width_of(ends: &[usize], count: usize) -> usize
     }
 }
 
-/// Returns of how many of the lowest cells, at most of so many, the texts are read ahead. Few guesses are made, each at one comparison: so the
-/// cells may be fewer than those that are read ahead.
+/// Returns of how many of the lowest cells, at most of so many, the texts are read ahead. Few
+/// guesses are made, each at one comparison: so the cells may be fewer than those that are read
+/// ahead.
 fn count_ahead(text: &[u8], ends: &[usize], ahead: &[u8], most: usize) -> usize
     requires { AreWithin text.now ends.now }
     ensures { AreAhead text.now ends.now ahead.now most result }
@@ -84,8 +88,8 @@ fn count_ahead(text: &[u8], ends: &[usize], ahead: &[u8], most: usize) -> usize
     0
 }
 
-/// Takes the texts that are read ahead of the lowest cells, of at most so many. These cells stay in the state, and their text is kept. Returns
-/// the place after it.
+/// Takes the texts that are read ahead of the lowest cells, of at most so many. These cells stay in
+/// the state, and their text is kept. Returns the place after it.
 fn take_shared<S: Source>(
     source: &mut S,
     place: u64,
@@ -131,11 +135,12 @@ fn read_stack_cells<S: Source>(
     place: u64,
     count: u16,
     state: &mut State,
-    others: StackText,
-) -> Result<(StackText, u64), DecodeFault>
+    others: LastStack,
+) -> Result<(LastStack, u64), DecodeFault>
     requires { IsStackKept others.text.items others.ends.items state.old }
     ensures reads { Gives (λ _. reverse state.new.stack) (S.remaining source.old)
-        (S.remaining source.new) result (cells_at [] count (input_at place (S.remaining source.old))) }
+        (S.remaining source.new) result
+        (cells_at [] count (input_at place (S.remaining source.old))) }
     ensures others { OnOk result (state.new ≡ record state.old { stack = state.new.stack }) }
     ensures kept { IfOk result (λ r. IsStackKept r.0.text.items r.0.ends.items state.new) }
     ensures beginning { ConsumesBeginning (S.remaining source.old) (S.remaining source.new) }
@@ -143,7 +148,7 @@ fn read_stack_cells<S: Source>(
         (StopsAtEnd place (S.remaining source.old) (S.remaining source.new) (cells_at [] count)) }
     ensures failures { CountsRead result (S.failures source.old) (S.failures source.new) }
 {
-    let StackText {
+    let LastStack {
         mut text,
         mut ends,
         read,
@@ -153,17 +158,18 @@ fn read_stack_cells<S: Source>(
     let (read, after) = read_cells(source, at, count - state.depth(), read)?;
     keep_cells(&read, &mut text, &mut ends)?;
     state.push_cells(&read)?;
-    Ok((StackText { text, ends, read }, after))
+    Ok((LastStack { text, ends, read }, after))
 }
 
-/// Reads a stack's cells into a state, from the bottom up, after another stack, whose text is there.
+/// Reads a stack's cells into a state, from the bottom up, after another stack, whose text is
+/// there.
 #[tactic(auto, unfolding(crate::specs::Reading::stack_at))]
 pub(crate) fn read_stack<S: Source>(
     source: &mut S,
     place: u64,
     state: &mut State,
-    others: StackText,
-) -> Result<(StackText, u64), DecodeFault>
+    others: LastStack,
+) -> Result<(LastStack, u64), DecodeFault>
     requires { IsStackKept others.text.items others.ends.items state.old }
     ensures reads { Gives (λ _. reverse state.new.stack) (S.remaining source.old)
         (S.remaining source.new) result (stack_at (input_at place (S.remaining source.old))) }

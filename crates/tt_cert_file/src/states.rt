@@ -8,12 +8,12 @@ ghost use Rattle.tt_cert_file.specs.Answers.{CountsRead, Gives, IsOutOfMemory, S
 ghost use Rattle.tt_cert_file.specs.Readers.{list_at};
 ghost use Rattle.tt_cert_file.specs.Reading.{entry_after, entry_at, place_at, state_at, states_at};
 ghost use Rattle.tt_cert_file.specs.Rules.{is_next_place as is_next_place_after, last_place};
-ghost use Rattle.tt_cert_file.specs.SharedCells.{IsLast};
+ghost use Rattle.tt_cert_file.specs.Representation.SharedCells.{IsLast};
 
 use crate::fault::DecodeFault;
 use crate::form::Form;
 use crate::lists::{Functions, read_functions, read_storage};
-use crate::shared_cells::{StackText, read_stack};
+use crate::shared_cells::{LastStack, read_stack};
 use crate::units::{read_graphics, read_long, read_pair};
 use std::alloc::{AllocError, Global};
 use tt_abs::{Cell, State, ZoneCell};
@@ -51,10 +51,11 @@ fn store_cells(state: &mut State, cells: &[(u16, i32)]) -> Result<(), AllocError
 
 /// Makes exactly these functions known, unless they are known already.
 fn set_functions(state: &mut State, functions: &Functions) -> Result<(), AllocError>
-    requires rises { Rises functions.list.items }
-    requires same { functions.is_same ≡ true → state.old.functions ≡ functions.list.items }
+    requires rises { Rises functions.now.list.items }
+    requires same { functions.now.is_same ≡ true
+        → state.old.functions ≡ functions.now.list.items }
     ensures set { OnOk result
-        (state.new ≡ record state.old { functions = functions.list.items }) }
+        (state.new ≡ record state.old { functions = functions.now.list.items }) }
     ensures in_range { OnOk result (state_order.InRange state.old → state_order.InRange state.new) }
 {
     if functions.is_same {
@@ -70,13 +71,14 @@ fn set_rest(
     functions: &Functions,
     storage: &[(u16, i32)],
 ) -> Result<(), AllocError>
-    requires rises { Rises functions.list.items }
-    requires same { functions.is_same ≡ true → state.old.functions ≡ functions.list.items }
+    requires rises { Rises functions.now.list.items }
+    requires same { functions.now.is_same ≡ true
+        → state.old.functions ≡ functions.now.list.items }
     requires storage { Rises storage.now }
     ensures set { OnOk result (state.new ≡ record {
       stack = state.old.stack;
       graphics = graphics.now;
-      functions = functions.list.items;
+      functions = functions.now.list.items;
       storage = storage.now;
     }) }
     ensures in_range { OnOk result (state_order.InRange state.old → state_order.InRange state.new) }
@@ -87,12 +89,12 @@ fn set_rest(
     store_cells(state, storage)
 }
 
-/// The state that was read last, in whose memory the next one is made, and the lists of which it was made, in whose memory those of the next
-/// one are read.
+/// The state that was read last, in whose memory the next one is made, and the lists of which it
+/// was made, in whose memory those of the next one are read.
 #[derive(Drop)]
 struct LastState {
     state: State,
-    stack: StackText,
+    stack: LastStack,
     functions: Functions,
     storage: Vec<(u16, i32)>,
 }
@@ -107,7 +109,7 @@ impl LastState {
     {
         Ok(LastState {
             state: State::start(alloc, &[])?,
-            stack: StackText::new(alloc),
+            stack: LastStack::new(alloc),
             functions: Functions::new(alloc),
             storage: Vec::new(alloc),
         })
@@ -215,10 +217,10 @@ fn add_state(builder: &mut Builder, point: (u32, u32), state: &State) -> Result<
     ensures added { OnOk result (builder.new.states ≡ builder.old.states ++ (point, state.now) ∷ []) }
     ensures contexts { builder.new.contexts ≡ builder.old.contexts }
 {
-    builder.is_family();
-    builder.states_rise();
+    builder.family_facts();
+    builder.order_facts();
     let joined = builder.join_state(point.0, point.1, state);
-    builder.states_rise();
+    builder.order_facts();
     match joined {
         Ok(_) => Ok(()),
         Err(fault) => match fault {

@@ -2,7 +2,8 @@
 
 ghost use Rattle.std.specs.Prelude.{◌≡◌, ℕ, List, Option, IfErr};
 ghost use Rattle.tt_stream.specs.Reads.{ConsumesBeginning};
-ghost use Rattle.tt_cert_file.specs.Answers.{CountsRead, Gives, IsOutOfMemory, StopsAtEnd, input_at};
+ghost use Rattle.tt_cert_file.specs.Answers.{CountsRead, IsOutOfMemory};
+ghost use Rattle.tt_cert_file.specs.Representation.Clauses.{ReadsBy, StopsWhole};
 ghost use Rattle.tt_cert_file.specs.Readers.{unit};
 ghost use Rattle.tt_cert_file.specs.Reading.{cell_at, graphics_at, long_at, name_at, pair_at, pair_from, word_at, zone_at};
 
@@ -19,9 +20,11 @@ fn fetch_unit<S: Source, const N: usize>(
     source: &mut S,
     place: u64,
 ) -> Result<([u8; N], u64), DecodeFault>
-    ensures reads { Gives (λ x. x) (S.remaining source.old) (S.remaining source.new) result (unit N (input_at place (S.remaining source.old))) }
+    ensures reads { ReadsBy (unit N) place result
+        (S.remaining source.old) (S.remaining source.new) }
     ensures beginning { ConsumesBeginning (S.remaining source.old) (S.remaining source.new) }
-    ensures stopped { IfErr result (StopsAtEnd place (S.remaining source.old) (S.remaining source.new) (unit N)) }
+    ensures stopped { StopsWhole (unit N) place result
+        (S.remaining source.old) (S.remaining source.new) }
     ensures failures { CountsRead result (S.failures source.old) (S.failures source.new) }
     ensures memory { IfErr result (λ fault. ¬ IsOutOfMemory fault) }
 {
@@ -40,9 +43,11 @@ fn read_unit<S: Source, const N: usize>(
     source: &mut S,
     place: u64,
 ) -> Result<([u8; N], u64), DecodeFault>
-    ensures reads { Gives (λ x. x) (S.remaining source.old) (S.remaining source.new) result (unit N (input_at place (S.remaining source.old))) }
+    ensures reads { ReadsBy (unit N) place result
+        (S.remaining source.old) (S.remaining source.new) }
     ensures beginning { ConsumesBeginning (S.remaining source.old) (S.remaining source.new) }
-    ensures stopped { IfErr result (StopsAtEnd place (S.remaining source.old) (S.remaining source.new) (unit N)) }
+    ensures stopped { StopsWhole (unit N) place result
+        (S.remaining source.old) (S.remaining source.new) }
     ensures failures { CountsRead result (S.failures source.old) (S.failures source.new) }
     ensures memory { IfErr result (λ fault. ¬ IsOutOfMemory fault) }
 {
@@ -57,9 +62,10 @@ fn read_unit<S: Source, const N: usize>(
 /// Reads a number of 16 bits.
 #[tactic(auto, unfolding(crate::specs::Reading::word_at))]
 pub(crate) fn read_word<S: Source>(source: &mut S, place: u64) -> Result<(u16, u64), DecodeFault>
-    ensures reads { Gives (λ x. x) (S.remaining source.old) (S.remaining source.new) result (word_at (input_at place (S.remaining source.old))) }
+    ensures reads { ReadsBy word_at place result (S.remaining source.old) (S.remaining source.new) }
     ensures beginning { ConsumesBeginning (S.remaining source.old) (S.remaining source.new) }
-    ensures stopped { IfErr result (StopsAtEnd place (S.remaining source.old) (S.remaining source.new) word_at) }
+    ensures stopped { StopsWhole word_at place result
+        (S.remaining source.old) (S.remaining source.new) }
     ensures failures { CountsRead result (S.failures source.old) (S.failures source.new) }
     ensures memory { IfErr result (λ fault. ¬ IsOutOfMemory fault) }
 {
@@ -70,9 +76,10 @@ pub(crate) fn read_word<S: Source>(source: &mut S, place: u64) -> Result<(u16, u
 /// Reads a number of 32 bits.
 #[tactic(auto, unfolding(crate::specs::Reading::long_at))]
 pub(crate) fn read_long<S: Source>(source: &mut S, place: u64) -> Result<(u32, u64), DecodeFault>
-    ensures reads { Gives (λ x. x) (S.remaining source.old) (S.remaining source.new) result (long_at (input_at place (S.remaining source.old))) }
+    ensures reads { ReadsBy long_at place result (S.remaining source.old) (S.remaining source.new) }
     ensures beginning { ConsumesBeginning (S.remaining source.old) (S.remaining source.new) }
-    ensures stopped { IfErr result (StopsAtEnd place (S.remaining source.old) (S.remaining source.new) long_at) }
+    ensures stopped { StopsWhole long_at place result
+        (S.remaining source.old) (S.remaining source.new) }
     ensures failures { CountsRead result (S.failures source.old) (S.failures source.new) }
     ensures memory { IfErr result (λ fault. ¬ IsOutOfMemory fault) }
 {
@@ -96,9 +103,10 @@ pub(crate) fn read_pair<S: Source>(
     source: &mut S,
     place: u64,
 ) -> Result<((u16, u32), u64), DecodeFault>
-    ensures reads { Gives (λ x. x) (S.remaining source.old) (S.remaining source.new) result (pair_at (input_at place (S.remaining source.old))) }
+    ensures reads { ReadsBy pair_at place result (S.remaining source.old) (S.remaining source.new) }
     ensures beginning { ConsumesBeginning (S.remaining source.old) (S.remaining source.new) }
-    ensures stopped { IfErr result (StopsAtEnd place (S.remaining source.old) (S.remaining source.new) pair_at) }
+    ensures stopped { StopsWhole pair_at place result
+        (S.remaining source.old) (S.remaining source.new) }
     ensures failures { CountsRead result (S.failures source.old) (S.failures source.new) }
     ensures memory { IfErr result (λ fault. ¬ IsOutOfMemory fault) }
 {
@@ -109,9 +117,10 @@ pub(crate) fn read_pair<S: Source>(
 /// Reads the name of a section's program.
 #[tactic(auto, unfolding(crate::specs::Reading::name_at))]
 pub(crate) fn read_name<S: Source>(source: &mut S, place: u64) -> Result<(Name, u64), DecodeFault>
-    ensures reads { Gives (λ x. x) (S.remaining source.old) (S.remaining source.new) result (name_at (input_at place (S.remaining source.old))) }
+    ensures reads { ReadsBy name_at place result (S.remaining source.old) (S.remaining source.new) }
     ensures beginning { ConsumesBeginning (S.remaining source.old) (S.remaining source.new) }
-    ensures stopped { IfErr result (StopsAtEnd place (S.remaining source.old) (S.remaining source.new) name_at) }
+    ensures stopped { StopsWhole name_at place result
+        (S.remaining source.old) (S.remaining source.new) }
     ensures failures { CountsRead result (S.failures source.old) (S.failures source.new) }
     ensures memory { IfErr result (λ fault. ¬ IsOutOfMemory fault) }
 {
@@ -129,9 +138,10 @@ pub(crate) fn read_name<S: Source>(source: &mut S, place: u64) -> Result<(Name, 
 /// Reads what is known of a number.
 #[tactic(auto, unfolding(crate::specs::Reading::cell_at))]
 pub(crate) fn read_cell<S: Source>(source: &mut S, place: u64) -> Result<(Cell, u64), DecodeFault>
-    ensures reads { Gives (λ x. x) (S.remaining source.old) (S.remaining source.new) result (cell_at (input_at place (S.remaining source.old))) }
+    ensures reads { ReadsBy cell_at place result (S.remaining source.old) (S.remaining source.new) }
     ensures beginning { ConsumesBeginning (S.remaining source.old) (S.remaining source.new) }
-    ensures stopped { IfErr result (StopsAtEnd place (S.remaining source.old) (S.remaining source.new) cell_at) }
+    ensures stopped { StopsWhole cell_at place result
+        (S.remaining source.old) (S.remaining source.new) }
     ensures failures { CountsRead result (S.failures source.old) (S.failures source.new) }
     ensures memory { IfErr result (λ fault. ¬ IsOutOfMemory fault) }
 {
@@ -150,9 +160,10 @@ pub(crate) fn read_cell<S: Source>(source: &mut S, place: u64) -> Result<(Cell, 
 /// Reads what is known of a zone pointer.
 #[tactic(auto, unfolding(crate::specs::Reading::zone_at))]
 fn read_zone<S: Source>(source: &mut S, place: u64) -> Result<(ZoneCell, u64), DecodeFault>
-    ensures reads { Gives (λ x. x) (S.remaining source.old) (S.remaining source.new) result (zone_at (input_at place (S.remaining source.old))) }
+    ensures reads { ReadsBy zone_at place result (S.remaining source.old) (S.remaining source.new) }
     ensures beginning { ConsumesBeginning (S.remaining source.old) (S.remaining source.new) }
-    ensures stopped { IfErr result (StopsAtEnd place (S.remaining source.old) (S.remaining source.new) zone_at) }
+    ensures stopped { StopsWhole zone_at place result
+        (S.remaining source.old) (S.remaining source.new) }
     ensures failures { CountsRead result (S.failures source.old) (S.failures source.new) }
     ensures memory { IfErr result (λ fault. ¬ IsOutOfMemory fault) }
 {
@@ -172,9 +183,11 @@ pub(crate) fn read_graphics<S: Source>(
     source: &mut S,
     place: u64,
 ) -> Result<(Graphics<Cell, ZoneCell>, u64), DecodeFault>
-    ensures reads { Gives (λ x. x) (S.remaining source.old) (S.remaining source.new) result (graphics_at (input_at place (S.remaining source.old))) }
+    ensures reads { ReadsBy graphics_at place result
+        (S.remaining source.old) (S.remaining source.new) }
     ensures beginning { ConsumesBeginning (S.remaining source.old) (S.remaining source.new) }
-    ensures stopped { IfErr result (StopsAtEnd place (S.remaining source.old) (S.remaining source.new) graphics_at) }
+    ensures stopped { StopsWhole graphics_at place result
+        (S.remaining source.old) (S.remaining source.new) }
     ensures failures { CountsRead result (S.failures source.old) (S.failures source.new) }
     ensures memory { IfErr result (λ fault. ¬ IsOutOfMemory fault) }
 {

@@ -12,7 +12,8 @@ ghost use Rattle.tt_cert.specs.Places.{place_cmp};
 ghost use Rattle.tt_cert.specs.Rising.{IsFinished};
 ghost use Rattle.tt_stream.specs.Streams.{AppendsBeginning};
 ghost use Rattle.tt_cert_file.specs.Answers.{CountsWrite};
-ghost use Rattle.tt_cert_file.specs.KeptTexts.{IsStackText};
+ghost use Rattle.tt_cert_file.specs.Representation.Clauses.{Pushes};
+ghost use Rattle.tt_cert_file.specs.Representation.KeptTexts.{IsStackText};
 ghost use Rattle.tt_cert_file.specs.Rules.{AreCallsInTurn, CallFits, Fits, HasRoom, IsTextOf, NameFits, StateFits};
 ghost use Rattle.tt_cert_file.specs.Sections.{contexts_in, section_of};
 ghost use Rattle.tt_cert_file.specs.Text.{cell_text, context_text, counted, graphics_text, long, name_text, pair_text, section_text, state_text, stored_text, word, zone_text};
@@ -30,7 +31,8 @@ use tt_stream::{Sink, write_all};
 /// How many bytes of a section there is room for from the start: most sections have fewer.
 const ROOM: usize = 16_384;
 
-/// How many cells fewer are tried first, where not all of the lowest cells are the same in two states.
+/// How many cells fewer are tried first, where not all of the lowest cells are the same in two
+/// states.
 const FEWER: usize = 8;
 
 /// The texts of a state's lists, kept for the next state.
@@ -42,9 +44,9 @@ struct KeptTexts {
     stack: StackText,
 }
 
-/// Returns the kind of a program, and its glyph.
+/// Appends the kind of a program, and its glyph.
 fn push_name(out: &mut Vec<u8>, name: Name) -> Result<(), AllocError>
-    ensures written { OnOk result (out.new.items ≡ out.old.items ++ name_text name) }
+    ensures written { Pushes (name_text name) result out.old.items out.new.items }
     ensures fits { NameFits name }
 {
     let (kind, glyph) = match name {
@@ -57,21 +59,21 @@ fn push_name(out: &mut Vec<u8>, name: Name) -> Result<(), AllocError>
 }
 
 fn push_word(out: &mut Vec<u8>, number: u16) -> Result<(), AllocError>
-    ensures written { OnOk result (out.new.items ≡ out.old.items ++ word number) }
+    ensures written { Pushes (word number) result out.old.items out.new.items }
     ensures fits { number < 2 ^ 16 }
 {
     out.extend_from_slice(&number.to_be_bytes())
 }
 
 fn push_long(out: &mut Vec<u8>, number: u32) -> Result<(), AllocError>
-    ensures written { OnOk result (out.new.items ≡ out.old.items ++ long number) }
+    ensures written { Pushes (long number) result out.old.items out.new.items }
     ensures fits { number < 2 ^ 32 }
 {
     out.extend_from_slice(&number.to_be_bytes())
 }
 
 fn push_pair(out: &mut Vec<u8>, pair: (u16, u32)) -> Result<(), AllocError>
-    ensures written { OnOk result (out.new.items ≡ out.old.items ++ pair_text pair) }
+    ensures written { Pushes (pair_text pair) result out.old.items out.new.items }
     ensures fits { OnOk result ((pair.0 < 2 ^ 16) × (pair.1 < 2 ^ 32)) }
 {
     let [w1, w0] = pair.0.to_be_bytes();
@@ -80,7 +82,7 @@ fn push_pair(out: &mut Vec<u8>, pair: (u16, u32)) -> Result<(), AllocError>
 }
 
 pub(crate) fn push_cell(out: &mut Vec<u8>, cell: Cell) -> Result<(), AllocError>
-    ensures { OnOk result (out.new.items ≡ out.old.items ++ cell_text cell) }
+    ensures { Pushes (cell_text cell) result out.old.items out.new.items }
 {
     match cell {
         Cell::Unknown => {
@@ -95,7 +97,7 @@ pub(crate) fn push_cell(out: &mut Vec<u8>, cell: Cell) -> Result<(), AllocError>
 }
 
 fn push_zone(out: &mut Vec<u8>, zone: ZoneCell) -> Result<(), AllocError>
-    ensures { OnOk result (out.new.items ≡ out.old.items ++ zone_text zone) }
+    ensures { Pushes (zone_text zone) result out.old.items out.new.items }
 {
     let byte = match zone {
         ZoneCell::Zero => 0,
@@ -106,9 +108,10 @@ fn push_zone(out: &mut Vec<u8>, zone: ZoneCell) -> Result<(), AllocError>
     Ok(())
 }
 
-/// Returns how many values a list has. A list of 65,536 or more has no section: that it doesn't fit is reported as out of memory.
+/// Appends how many values a list has. A list of 65,536 or more has no section: that it doesn't fit
+/// is reported as out of memory.
 fn push_count(out: &mut Vec<u8>, count: usize) -> Result<(), AllocError>
-    ensures written { OnOk result (out.new.items ≡ out.old.items ++ word count) }
+    ensures written { Pushes (word count) result out.old.items out.new.items }
     ensures few { OnOk result (count < 2 ^ 16) }
 {
     let Ok(count) = u16::try_from(count) else {
@@ -117,7 +120,8 @@ fn push_count(out: &mut Vec<u8>, count: usize) -> Result<(), AllocError>
     push_word(out, count)
 }
 
-/// The text of a stack's cells, from the bottom up, kept for the next state, whose lowest cells are mostly the same.
+/// The text of a stack's cells, from the bottom up, kept for the next state, whose lowest cells are
+/// mostly the same.
 #[derive(Drop)]
 struct StackText {
     /// The texts of the cells, one after the other.
@@ -163,7 +167,8 @@ impl StackText {
         push_cell(&mut self.cells, cell)
     }
 
-    /// Keeps the text of the lowest cells that are found to be the same in the state before and in this one, and returns how many they are.
+    /// Keeps the text of the lowest cells that are found to be the same in the state before and in
+    /// this one, and returns how many they are.
     fn keep_shared(&mut self, before: Option<&State>, state: &State) -> usize
         requires text { IfSome before (λ s. IsStackText self.old (reverse s.now.stack)) }
         requires few { length state.now.stack < 2 ^ 16 }
@@ -191,8 +196,8 @@ impl StackText {
     }
 }
 
-/// Returns how many of the lowest cells are found to be the same in both states. All are tried first, then some fewer, and each time twice as many
-/// fewer and some more.
+/// Returns how many of the lowest cells are found to be the same in both states. All that both have
+/// are tried first, then some fewer, and each time more than twice as many fewer.
 fn shared_depth(before: &State, state: &State) -> usize
     requires { length state.now.stack < 2 ^ 16 }
     ensures { take result (reverse before.now.stack) ≡ take result (reverse state.now.stack) }
@@ -208,7 +213,8 @@ fn shared_depth(before: &State, state: &State) -> usize
     0
 }
 
-/// Appends the stack's cells after their number, from the bottom up. Only the text of those is made anew that aren't found to be as in the state before.
+/// Appends the stack's cells after their number, from the bottom up. Only the text of those is made
+/// anew that aren't found to be as in the state before.
 fn push_stack(
     out: &mut Vec<u8>,
     before: Option<&State>,
@@ -216,7 +222,8 @@ fn push_stack(
     text: &mut StackText,
 ) -> Result<(), AllocError>
     requires { IfSome before (λ s. IsStackText text.old (reverse s.now.stack)) }
-    ensures written { OnOk result (out.new.items ≡ out.old.items ++ counted cell_text (reverse state.now.stack)) }
+    ensures written { Pushes (counted cell_text (reverse state.now.stack))
+        result out.old.items out.new.items }
     ensures few { OnOk result (length state.now.stack < 2 ^ 16) }
     ensures kept { OnOk result (IsStackText text.new (reverse state.now.stack)) }
 {
@@ -228,7 +235,7 @@ fn push_stack(
 
 /// Appends what is known of the graphics state.
 fn push_graphics(out: &mut Vec<u8>, state: &State) -> Result<(), AllocError>
-    ensures { OnOk result (out.new.items ≡ out.old.items ++ graphics_text state.now.graphics) }
+    ensures { Pushes (graphics_text state.now.graphics) result out.old.items out.new.items }
 {
     push_cell(out, state.rp(Reference::Rp0))?;
     push_cell(out, state.rp(Reference::Rp1))?;
@@ -241,9 +248,10 @@ fn push_graphics(out: &mut Vec<u8>, state: &State) -> Result<(), AllocError>
 
 /// Appends the functions after their number.
 fn push_functions(out: &mut Vec<u8>, functions: &[(u16, u32)]) -> Result<(), AllocError>
-    ensures written { OnOk result (out.new.items ≡ out.old.items ++ counted pair_text functions.now) }
+    ensures written { Pushes (counted pair_text functions.now) result out.old.items out.new.items }
     ensures few { OnOk result (length functions.now < 2 ^ 16) }
-    ensures numbers { OnOk result (AllByRecursion (λ e. (e.0 < 2 ^ 16) × (e.1 < 2 ^ 32)) functions.now) }
+    ensures numbers { OnOk result
+        (AllByRecursion (λ e. (e.0 < 2 ^ 16) × (e.1 < 2 ^ 32)) functions.now) }
 {
     push_count(out, functions.len())?;
     out.reserve(6 * functions.len())?;
@@ -255,7 +263,7 @@ fn push_functions(out: &mut Vec<u8>, functions: &[(u16, u32)]) -> Result<(), All
 
 /// Appends a storage cell's index with its number.
 fn push_stored(out: &mut Vec<u8>, stored: (u16, i32)) -> Result<(), AllocError>
-    ensures written { OnOk result (out.new.items ≡ out.old.items ++ stored_text stored) }
+    ensures written { Pushes (stored_text stored) result out.old.items out.new.items }
     ensures fits { OnOk result ((stored.0 < 2 ^ 16) × FitsSigned w32 stored.1) }
 {
     push_word(out, stored.0)?;
@@ -264,9 +272,10 @@ fn push_stored(out: &mut Vec<u8>, stored: (u16, i32)) -> Result<(), AllocError>
 
 /// Appends the storage cells after their number.
 fn push_storage(out: &mut Vec<u8>, cells: &[(u16, i32)]) -> Result<(), AllocError>
-    ensures written { OnOk result (out.new.items ≡ out.old.items ++ counted stored_text cells.now) }
+    ensures written { Pushes (counted stored_text cells.now) result out.old.items out.new.items }
     ensures few { OnOk result (length cells.now < 2 ^ 16) }
-    ensures numbers { OnOk result (AllByRecursion (λ e. (e.0 < 2 ^ 16) × FitsSigned w32 e.1) cells.now) }
+    ensures numbers { OnOk result
+        (AllByRecursion (λ e. (e.0 < 2 ^ 16) × FitsSigned w32 e.1) cells.now) }
 {
     push_count(out, cells.len())?;
     for cell in cells {
@@ -285,8 +294,8 @@ fn has_same(before: Option<&State>, state: &State) -> bool
     }
 }
 
-/// Appends the functions of a state after their number: by their text where the state before has the same ones, as most have, and otherwise by
-/// one that is made anew.
+/// Appends the functions of a state after their number: by their text where the state before has
+/// the same ones, as most have, and otherwise by one that is made anew.
 fn push_known(
     out: &mut Vec<u8>,
     before: Option<&State>,
@@ -294,7 +303,8 @@ fn push_known(
     text: &mut Vec<u8>,
 ) -> Result<(), AllocError>
     requires { IfSome before (λ s. IsTextOf text.old.items s.now.functions) }
-    ensures written { OnOk result (out.new.items ≡ out.old.items ++ counted pair_text state.now.functions) }
+    ensures written { Pushes (counted pair_text state.now.functions)
+        result out.old.items out.new.items }
     ensures kept { OnOk result (IsTextOf text.new.items state.now.functions) }
 {
     if has_same(before, state) {
@@ -317,7 +327,8 @@ fn push_state(
     requires stack { IfSome before (λ s. IsStackText texts.old.stack (reverse s.now.stack)) }
     ensures functions { OnOk result (IsTextOf texts.new.functions.items state.now.functions) }
     ensures stack { OnOk result (IsStackText texts.new.stack (reverse state.now.stack)) }
-    ensures written { OnOk result (out.new.items ≡ out.old.items ++ state_text Form.Four (point, state.now)) }
+    ensures written { Pushes (state_text Form.Four (point, state.now))
+        result out.old.items out.new.items }
     ensures offset { OnOk result (point.1 < 2 ^ 32) }
     ensures fits { OnOk result (state_order.InRange state.now → StateFits Form.Four state.now) }
 {
@@ -330,7 +341,7 @@ fn push_state(
 
 /// Appends a context: its parent's number, and its last call.
 fn push_context(out: &mut Vec<u8>, parent: u16, frame: &Frame) -> Result<(), AllocError>
-    ensures written { OnOk result (out.new.items ≡ out.old.items ++ context_text (parent, frame.now)) }
+    ensures written { Pushes (context_text (parent, frame.now)) result out.old.items out.new.items }
     ensures numbers { OnOk result (CallFits (parent, frame.now)) }
 {
     push_word(out, parent)?;
@@ -342,7 +353,8 @@ fn push_context(out: &mut Vec<u8>, parent: u16, frame: &Frame) -> Result<(), All
 
 /// Appends the contexts except for the main one, after their number.
 fn push_contexts(out: &mut Vec<u8>, certificate: &Certificate) -> Result<(), AllocError>
-    ensures written { OnOk result (out.new.items ≡ out.old.items ++ counted context_text (contexts_in certificate.now.contexts)) }
+    ensures written { Pushes (counted context_text (contexts_in certificate.now.contexts))
+        result out.old.items out.new.items }
     ensures numbers { OnOk result (AllByRecursion CallFits (contexts_in certificate.now.contexts)) }
     ensures finished { IsFinished certificate.now }
 {
@@ -357,8 +369,11 @@ fn push_contexts(out: &mut Vec<u8>, certificate: &Certificate) -> Result<(), All
 
 /// Appends the states after their number.
 fn push_states(out: &mut Vec<u8>, certificate: &Certificate) -> Result<(), AllocError>
-    ensures written { OnOk result (out.new.items ≡ out.old.items ++ (long (length certificate.now.states) ++ flat_map (state_text Form.Four) certificate.now.states)) }
-    ensures room { OnOk result (AllByRecursion (HasRoom (length certificate.now.contexts)) certificate.now.states) }
+    ensures written { Pushes (long (length certificate.now.states)
+        ++ flat_map (state_text Form.Four) certificate.now.states)
+        result out.old.items out.new.items }
+    ensures room { OnOk result
+        (AllByRecursion (HasRoom (length certificate.now.contexts)) certificate.now.states) }
     ensures rises { OnOk result (IsStrictlySortedBy place_cmp (keys_of certificate.now.states)) }
 {
     push_long(out, certificate.points())?;
@@ -382,7 +397,8 @@ fn section_bytes(
     name: Name,
     certificate: &Certificate,
 ) -> Result<Vec<u8>, AllocError>
-    ensures text { IfOk result (λ bytes. bytes.items ≡ section_text Form.Four (section_of name certificate.now)) }
+    ensures text { IfOk result (λ bytes.
+        bytes.items ≡ section_text Form.Four (section_of name certificate.now)) }
     ensures fits { OnOk result (AreCallsInTurn certificate.now.contexts
         → Fits Form.Four (section_of name certificate.now)) }
 {
@@ -396,19 +412,24 @@ fn section_bytes(
 /// Writes the section of a program with this name and this family, in form 4.
 ///
 /// # Errors
-/// `Write` exactly where a write failed; `OutOfMemory`, also where a state's stack, or a list of functions or storage cells, has 65,536 values or
-/// more, for which the format has no room. Then a beginning of the section was written, perhaps an empty one.
+/// `Write` exactly where a write failed; `OutOfMemory`, also where a state's stack, or a list of
+/// functions or storage cells, has 65,536 values or more, for which the format has no room. Then a
+/// beginning of the section was written, perhaps an empty one.
 pub fn encode<W: Sink>(
     alloc: Global,
     name: Name,
     certificate: &Certificate,
     sink: &mut W,
 ) -> Result<(), EncodeFault>
-    ensures written { OnOk result (Appends (W.contents sink.old) (W.contents sink.new) (section_text Form.Four (section_of name certificate.now))) }
-    // The section keeps the rules by which it is read, if each context's calls are in their turns and no body runs twice in them.
+    ensures written { OnOk result (Appends (W.contents sink.old) (W.contents sink.new)
+        (section_text Form.Four (section_of name certificate.now))) }
+    // The section keeps the rules by which it is read, if each context's calls are in their turns
+    // and no body runs twice in them.
     ensures fits { OnOk result (AreCallsInTurn certificate.now.contexts
         → Fits Form.Four (section_of name certificate.now)) }
-    ensures beginning { OnErr result (AppendsBeginning (W.contents sink.old) (W.contents sink.new) (section_text Form.Four (section_of name certificate.now))) }
+    ensures beginning { OnErr result
+        (AppendsBeginning (W.contents sink.old) (W.contents sink.new)
+        (section_text Form.Four (section_of name certificate.now))) }
     ensures failures { CountsWrite result (W.failures sink.old) (W.failures sink.new) }
 {
     let bytes = section_bytes(alloc, name, certificate)?;

@@ -12,8 +12,8 @@ use Rattle.tt_code.specs.declared.machine.Body.TheVariants as body
 use Rattle.tt_code.specs.Cut.{Instruction, IsInstruction, size}
 use Rattle.tt_code.specs.Structure.{keyword}
 use Rattle.tt_code.specs.Grammar.{IsList, none, definition, begins_definition, Ends, GoesTo, StandsAt, InDefinition, IsBodyAt, IsStructured}
-use Rattle.tt_code.specs.Pass.{within, step, steps, body_of, place, closed, Head, Opened, Leaves}
-use Rattle.tt_code.specs.Slots.{body_found, Opens, IsOpenAt, IsTable}
+use Rattle.tt_code.specs.Representation.Pass.{within, step, steps, body_of, place, closed, Head, Opened, Leaves}
+use Rattle.tt_code.specs.Representation.Slots.{body_found, Opens, IsOpenAt, IsTable}
 use Rattle.tt_code.proofs.CutLemmas.{size-append, size_more, some_bytes}
 use Rattle.tt_code.proofs.NestingLemmas.{defined_by, whole_steps, steps-append, steps_list, within_main, within-false, Leaves-start, Leaves-step}
 use Rattle.tt_code.proofs.SlotLemmas.{each_split, GoesTo-append, Linked, Table-start, Table-step}
@@ -259,7 +259,7 @@ each_front : (a b : List Instruction) → AllByRecursion IsInstruction (a ++ b) 
 each_front [] b h = tt
 each_front (x ∷ a) b h = (h.0, each_front a b h.1)
 
--- the place lies past it, so the longer beginning has the instruction
+-- the place is past it, so the longer beginning has the instruction
 reaches : (x a r b : List Instruction) (d i : Instruction) → x ++ (d ∷ r) ≡ a ++ (i ∷ b) → size x < size a → AllByRecursion IsInstruction (x ++ (d ∷ r)) → (z : List Instruction) × (a ≡ x ++ (d ∷ z))
 reaches x a r b d i e l h = go l2.0 l2.1 l2.2
   where
@@ -270,7 +270,7 @@ reaches x a r b d i e l h = go l2.0 l2.1 l2.2
     go [] p q = let s : size a ≡ size x + size [] = ap size p ∙ size-append x [] in absurd (omega arith)
     go (c ∷ z) p q = let same : d ≡ c = cc in (z, p ∙ ap (λ y. x ++ (y ∷ z)) (sym same))
 
--- An instruction that lies in a definition has its body.
+-- An instruction in a definition has its body.
 in_definition_body : (is a b : List Instruction) (i : Instruction) (k t : ℕ) (o : Open) (s : List Open) → AllByRecursion IsInstruction is → is ≡ a ++ (i ∷ b) → steps a 0 [] ≡ Some s →
     GoesTo (keyword_for o) is k t → place o ≡ k → Defines (keyword_for o) → k < size a → size a < t → body_of s ≡ body_of (o ∷ [])
 in_definition_body is a b i k t o s each whole run g at def low high =
@@ -301,9 +301,9 @@ in_definition_body is a b i k t o s each whole run g at def low high =
         let l = ap size g.whole ∙ size-append g.before (g.i ∷ (g.inner ++ (g.e ∷ g.after))) in
         omega (arith, size-append g.inner (g.e ∷ g.after), g.target)
 
-definition_behind : (w : BlockKeyword) → Defines w → begins_definition w ≡ true
-definition_behind w (inl h) = rw h refl
-definition_behind w (inr h) = rw h refl
+definition_after : (w : BlockKeyword) → Defines w → begins_definition w ≡ true
+definition_after w (inl h) = rw h refl
+definition_after w (inr h) = rw h refl
 
 definition_ends : (w u : BlockKeyword) → Defines w → Ends w u → u ≡ Endf
 definition_ends w u (inl h) e = let f : Ends Fdef u = subst (λ w. Ends w u) h e in f
@@ -352,7 +352,7 @@ open_definition is a b i o s in_body goes each table whole run open_in def =
         let okb = each_front g.before (g.i ∷ (g.inner ++ (g.e ∷ g.after))) okg in
         let before = table_of g.before [] [] row.0 [] [] okb Leaves-start Table-start row.1 in
         closed_by_end (place o) t o g.before g.inner z.0 a g.i g.e row.0 s (subst Defines (sym g.opens) def)
-        (subst (λ x. IsList x g.inner) (definition_behind (keyword_for o) def) g.nested) (definition_ends (keyword_for o) (keyword g.e) def g.ends)
+        (subst (λ x. IsList x g.inner) (definition_after (keyword_for o) def) g.nested) (definition_ends (keyword_for o) (keyword g.e) def g.ends)
         row.1 before.0 okb z.1 run g.from (some_bytes g.i (each_split g.before (g.inner ++ (g.e ∷ g.after)) g.i okg)) (in_place o s open_in)
 
     found : (t : ℕ) → ((w : BlockKeyword) × GoesTo w is (size op.0) t) → (t : ℕ) × GoesTo (keyword_for o) is (place o) t × (place o < size a) × (size a < t)
@@ -377,7 +377,7 @@ body_starts is in_body goes k b table at =
     let o = table.starts k b at in
     (o.1, record { before = o.0; after = o.2; whole = o.3; offset = o.4 })
 
--- the body of a definition in which an instruction lies
+-- the body of a definition in which an instruction is
 pub inside_body : (is : List Instruction) (k : ℕ) (i : Instruction) (s : List Open) → AllByRecursion IsInstruction is →
     (stands : StandsAt is k i) → steps stands.before 0 [] ≡ Some s → (o : Open) (from : ℕ) → place o ≡ from → Defines (keyword_for o) → InDefinition (keyword_for o) is from k → body_of s ≡ body_of (o ∷ [])
 inside_body is k i s each stands run o from at def (to, goes_to, low, high) =

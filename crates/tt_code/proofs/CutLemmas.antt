@@ -8,7 +8,7 @@ use Rattle.std.proofs.lemmas.Bool.{lt-ltb, le-ltb}
 use Rattle.std.specs.List.{concat, AllByRecursion}
 use Rattle.tt_code.specs.Table.{Meaning, NoEntry, Plain, Pushes, Stack, Computes, Controls, effect_of}
 use Rattle.tt_code.specs.Cut.{data_length, IsInstruction, IsCut, BeginsWith, CannotBeCut, Instruction, instruction_at, size}
-use Rattle.tt_code.specs.Laid.{laid, pieces, IsLaid}
+use Rattle.tt_code.specs.Representation.Laid.{laid, pieces, IsLaid}
 use Rattle.tt_code.specs.declared.kinds.Push.TheVariants.{CountedBytes, CountedWords, Bytes, Words}
 
 -- what follows the data doesn't matter
@@ -68,7 +68,8 @@ pieces-laid ((x ∷ r) ∷ is) p =
     let rest : pieces (replicate (length r) 0 ++ laid is) (r ++ concat is) ≡ is = inside r (laid is) (concat is) ∙ pieces-laid is p.1 in
     rw sub-one (ap (λ t. (x ∷ t) ∷ pieces (replicate (length r) 0 ++ laid is) (r ++ concat is)) (take-append_seam r (concat is)) ∙ ap (λ t. (x ∷ r) ∷ t) rest)
 
--- other instructions that begin the bytes are no longer than these, if no instruction begins what is left
+-- other instructions that begin the bytes are no longer than these, if no instruction begins what
+-- is left
 pub no_longer : (is js : List Instruction) (rest other : List ℕ) → AllByRecursion IsInstruction is → AllByRecursion IsInstruction js
     → concat is ++ rest ≡ concat js ++ other → ((i more : List ℕ) → IsInstruction i → i ++ more ≡ rest → ⊥) → length (concat js) ≤ length (concat is)
 no_longer is [] rest other p q e none = omega arith
@@ -89,17 +90,18 @@ pub piece_at_some : (n : ℕ) (bytes : List ℕ) → 0 < n → piece_at n bytes 
 piece_at_some zero bytes h = absurd (omega arith)
 piece_at_some (suc n) bytes h = refl
 
--- among the lengths, an offset inside an instruction has 0, and one past it is an offset among the others
-inside_or_behind : (r ls : List ℕ) (o : ℕ) → ((o < length r) × (get_or (replicate (length r) 0 ++ ls) o 0 ≡ 0)) ⊎ ((length r ≤ o) × (get_or (replicate (length r) 0 ++ ls) o 0 ≡ get_or ls (o - length r) 0))
-inside_or_behind [] ls o = inr (omega arith, rw sub-zero refl)
-inside_or_behind (x ∷ r) ls zero = inl (omega arith, refl)
-inside_or_behind (x ∷ r) ls (suc o) = elim (inside_or_behind r ls o) [
+-- among the lengths, an offset inside an instruction has 0, and one past it is an offset among the
+-- others
+inside_or_after : (r ls : List ℕ) (o : ℕ) → ((o < length r) × (get_or (replicate (length r) 0 ++ ls) o 0 ≡ 0)) ⊎ ((length r ≤ o) × (get_or (replicate (length r) 0 ++ ls) o 0 ≡ get_or ls (o - length r) 0))
+inside_or_after [] ls o = inr (omega arith, rw sub-zero refl)
+inside_or_after (x ∷ r) ls zero = inl (omega arith, refl)
+inside_or_after (x ∷ r) ls (suc o) = elim (inside_or_after r ls o) [
   | inl h ↦ inl (omega arith, h.1)
   | inr h ↦ inr (omega arith, h.1 ∙ ap (λ k. get_or ls k 0) (omega arith))
 ]
 
-drop_behind : (r bs : List ℕ) (o : ℕ) → length r ≤ o → drop o (r ++ bs) ≡ drop (o - length r) bs
-drop_behind r bs o h =
+drop_after : (r bs : List ℕ) (o : ℕ) → length r ≤ o → drop o (r ++ bs) ≡ drop (o - length r) bs
+drop_after r bs o h =
     let split : length r + (o - length r) ≡ o = omega arith in
     ap (λ k. drop k (r ++ bs)) (sym split) ∙ drop-append-add r bs (o - length r)
 
@@ -111,14 +113,14 @@ at_is ((x ∷ r) ∷ is) p zero = ap (λ t. Some (x ∷ t)) (sym (take-append_se
 at_is ((x ∷ r) ∷ is) p (suc o) =
     let rest = at_is is p.1 (o - length r) in
     let there : get_or (laid ((x ∷ r) ∷ is)) (suc o) 0 ≡ get_or (replicate (length r) 0 ++ laid is) o 0 = rw sub-one refl in
-    rw there (elim (inside_or_behind r (laid is) o) [
+    rw there (elim (inside_or_after r (laid is) o) [
       | inl h ↦
           let test : nat_lt (suc o) (suc (length r)) ≡ true = lt-ltb (suc o) (suc (length r)) (omega arith) in
           rw (test, h.1) refl
       | inr h ↦
           let test : nat_lt (suc o) (suc (length r)) ≡ false = le-ltb (suc o) (suc (length r)) (omega arith) in
           let less : suc o - suc (length r) ≡ o - length r = omega arith in
-          rw (test, less, h.1, drop_behind r (concat is) o h.0) rest
+          rw (test, less, h.1, drop_after r (concat is) o h.0) rest
     ])
 
 -- a length stays within the bytes
@@ -130,7 +132,7 @@ at_fits ((x ∷ r) ∷ is) p (suc o) h =
     let rest = at_fits is p.1 (o - length r) in
     let there : get_or (laid ((x ∷ r) ∷ is)) (suc o) 0 ≡ get_or (replicate (length r) 0 ++ laid is) o 0 = rw sub-one refl in
     let sizes : length (concat ((x ∷ r) ∷ is)) ≡ suc (length r) + length (concat is) = length-append (x ∷ r) (concat is) in
-    elim (inside_or_behind r (laid is) o) [
+    elim (inside_or_after r (laid is) o) [
       | inl k ↦ absurd (omega arith)
       | inr k ↦
           let some : 0 < get_or (laid is) (o - length r) 0 = omega arith in
@@ -139,9 +141,9 @@ at_fits ((x ∷ r) ∷ is) p (suc o) h =
     ]
 
 -- what starts after an instruction starts in the rest
-found_behind : (x : Instruction) (is : List Instruction) (o : ℕ) (i : Instruction) → instruction_at (x ∷ is) (suc o) ≡ Some i
+found_after : (x : Instruction) (is : List Instruction) (o : ℕ) (i : Instruction) → instruction_at (x ∷ is) (suc o) ≡ Some i
     → instruction_at is (suc o - length x) ≡ Some i
-found_behind x is o i e = by_test (nat_lt (suc o) (length x)) refl
+found_after x is o i e = by_test (nat_lt (suc o) (length x)) refl
   where
     by_test : (b : Bool) → nat_lt (suc o) (length x) ≡ b → instruction_at is (suc o - length x) ≡ Some i
     by_test true h =
@@ -156,7 +158,7 @@ found_behind x is o i e = by_test (nat_lt (suc o) (length x)) refl
 pub found_is : (is : List Instruction) → AllByRecursion IsInstruction is → (o : ℕ) (i : Instruction) → instruction_at is o ≡ Some i → IsInstruction i
 found_is [] p o i e = let wrong : None ≡ Some i = e in cc
 found_is (x ∷ is) p zero i e = let same : x ≡ i = cc in subst IsInstruction same p.0
-found_is (x ∷ is) p (suc o) i e = found_is is p.1 (suc o - length x) i (found_behind x is o i e)
+found_is (x ∷ is) p (suc o) i e = found_is is p.1 (suc o - length x) i (found_after x is o i e)
 
 -- the same for a program as it is kept
 pub at_kept : (ls bs : List ℕ) (is : List Instruction) → IsLaid ls bs → pieces ls bs ≡ is → (o : ℕ) → instruction_at is o ≡ piece_at (get_or ls o 0) (drop o bs)

@@ -8,7 +8,7 @@ use Rattle.tt_code.specs.declared.machine.Body.TheVariants as body
 use Rattle.tt_code.specs.Cut.{Instruction, IsInstruction, size}
 use Rattle.tt_code.specs.Structure.{body_at, keyword}
 use Rattle.tt_code.specs.Grammar.{IsBodyAt, IsStructured, StandsAt}
-use Rattle.tt_code.specs.Pass.{body_of, follow, step, steps, within}
+use Rattle.tt_code.specs.Representation.Pass.{body_of, follow, step, steps, within}
 use Rattle.tt_code.proofs.NestingLemmas.{steps-append, whole_steps, within-false, within_main}
 use Rattle.tt_code.proofs.BodyLemmas.{first_step, inside_body, way_to}
 use Rattle.tt_code.proofs.StructureLawsOfBodies.{body_is}

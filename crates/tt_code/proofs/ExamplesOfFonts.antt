@@ -76,16 +76,16 @@ turns_of_an_empty_function_do_nothing :
 unfolding answer
 turns_of_an_empty_function_do_nothing = refl
 
-control_goes_on_behind_a_call :
+control_goes_on_after_a_call :
     font_answers (0xb0 ∷ 0x00 ∷ 0x2c ∷ 0x2d ∷ []) [] (0xb0 ∷ 0x00 ∷ 0x2b ∷ 0x28 ∷ []) (Refused InGlyph InGlyph 3 reason.Opcode)
 unfolding answer
-control_goes_on_behind_a_call = refl
+control_goes_on_after_a_call = refl
 
-control_goes_on_behind_a_loopcall :
+control_goes_on_after_a_loopcall :
     font_answers (0xb0 ∷ 0x00 ∷ 0x2c ∷ 0x2d ∷ []) [] (0xb1 ∷ 0x02 ∷ 0x00 ∷ 0x2a ∷ 0x28 ∷ [])
     (Refused InGlyph InGlyph 4 reason.Opcode)
 unfolding answer
-control_goes_on_behind_a_loopcall = refl
+control_goes_on_after_a_loopcall = refl
 
 a_recursion_has_no_fault_of_its_own :
     font_answers (0xb0 ∷ 0x00 ∷ 0x2c ∷ 0xb0 ∷ 0x00 ∷ 0x2b ∷ 0x2d ∷ []) [] (0xb0 ∷ 0x00 ∷ 0x2b ∷ []) (Endless InGlyph)
@@ -98,11 +98,11 @@ a_function_calls_another :
 unfolding answer
 a_function_calls_another = refl
 
-a_fault_behind_an_inner_call :
+a_fault_after_an_inner_call :
     font_answers (0xb0 ∷ 0x00 ∷ 0x2c ∷ 0x21 ∷ 0x2d ∷ 0xb0 ∷ 0x01 ∷ 0x2c ∷ 0xb0 ∷ 0x00 ∷ 0x2b ∷ 0x21 ∷ 0x2d ∷ []) []
     (0xb1 ∷ 0x06 ∷ 0x01 ∷ 0x2b ∷ []) (Refused InGlyph InFont 11 reason.Underflow)
 unfolding answer
-a_fault_behind_an_inner_call = refl
+a_fault_after_an_inner_call = refl
 
 a_function_leaves_reference_points_behind :
     font_answers (0xb0 ∷ 0x00 ∷ 0x2c ∷ 0xb0 ∷ 0x03 ∷ 0x10 ∷ 0x2d ∷ []) [] (0xb0 ∷ 0x00 ∷ 0x2b ∷ 0xb0 ∷ 0x00 ∷ 0xc0 ∷ [])
@@ -229,10 +229,10 @@ a_definition_in_an_if_that_is_taken :
 unfolding answer
 a_definition_in_an_if_that_is_taken = refl
 
-a_definition_goes_behind_its_body :
+a_definition_goes_past_its_body :
     font_answers (0xb0 ∷ 0x00 ∷ 0x2c ∷ 0x28 ∷ 0x2d ∷ 0x21 ∷ []) [] [] (Refused InFont InFont 5 reason.Underflow)
 unfolding answer
-a_definition_goes_behind_its_body = refl
+a_definition_goes_past_its_body = refl
 
 a_definition_needs_a_number : font_answers (0x2c ∷ 0x2d ∷ []) [] [] (Refused InFont InFont 0 reason.Underflow)
 unfolding answer
@@ -242,10 +242,10 @@ a_definition_of_the_last_number : font_answers (0xb0 ∷ 0x01 ∷ 0x2c ∷ 0x2d 
 unfolding answer
 a_definition_of_the_last_number = refl
 
-a_definition_of_a_number_behind_the_last :
+a_definition_of_a_number_after_the_last :
     font_answers (0xb0 ∷ 0x02 ∷ 0x2c ∷ 0x2d ∷ []) [] [] (Refused InFont InFont 2 reason.Function)
 unfolding answer
-a_definition_of_a_number_behind_the_last = refl
+a_definition_of_a_number_after_the_last = refl
 
 a_definition_of_a_negative_number :
     font_answers [] (0xb8 ∷ 0xff ∷ 0xff ∷ 0x2c ∷ 0x2d ∷ []) [] (Refused InCvt InCvt 3 reason.Function)

@@ -1,4 +1,5 @@
--- What the lines of the instruction table that push, move, compute and call do. Stacks have their top first.
+-- What the lines of the instruction table that push, move, compute and call do. Stacks have their
+-- top first.
 use Rattle.std.proofs.Common.{◌≡◌, [], ◌∷◌, Some, refl}
 use Rattle.std.specs.Prelude.{pos, negsuc}
 use Rattle.tt_code.specs.Settings.{One}
@@ -208,7 +209,7 @@ roll_needs_three_elements :
 unfolding computed
 roll_needs_three_elements = refl
 
--- Sums are exact where they are numbers of the machine, and else any number.
+-- Sums are exact where they are numbers of the machine, and otherwise any number.
 add_gives_the_sum :
     each_stack_leaves 0x60
     ((pos 1 ∷ pos 2147483646 ∷ pos 9 ∷ [], pos 2147483647 ∷ pos 9 ∷ [])
@@ -409,10 +410,10 @@ a_function_of_the_font_program_is_named_by_its_offset :
 unfolding computed
 a_function_of_the_font_program_is_named_by_its_offset = refl
 
-a_function_of_the_cvt_program_is_named_behind_all_offsets :
+a_function_of_the_cvt_program_is_named_after_all_offsets :
     functions_left [] (0xb0 ∷ 0x00 ∷ 0x2c ∷ 0x21 ∷ 0x2d ∷ []) ≡ Some ((0, 2147483651) ∷ [])
 unfolding computed
-a_function_of_the_cvt_program_is_named_behind_all_offsets = refl
+a_function_of_the_cvt_program_is_named_after_all_offsets = refl
 
 the_newest_definition_comes_first :
     functions_left (0xb0 ∷ 0x00 ∷ 0x2c ∷ 0x2d ∷ 0xb0 ∷ 0x01 ∷ 0x2c ∷ 0x18 ∷ 0x2d ∷ []) (0xb0 ∷ 0x00 ∷ 0x2c ∷ 0x2d ∷ []) ≡

@@ -1,4 +1,5 @@
--- What each line of the instruction table says, seen on one instruction by itself. Stacks have their top first.
+-- What each line of the instruction table says, seen on one instruction by itself. Stacks have
+-- their top first.
 use Rattle.std.proofs.Common.{[], ◌∷◌, refl}
 use Rattle.std.specs.Prelude.{pos, negsuc}
 use Rattle.tt_code.specs.Entries.{codes_from}
@@ -323,11 +324,11 @@ shp_uses_rp2_in_zp1 :
 unfolding performed
 shp_uses_rp2_in_zp1 = refl
 
-shp_tests_rp2_in_zp1_behind_its_points :
+shp_tests_rp2_in_zp1_after_its_points :
     each_faults (0x32 ∷ []) (record (zones Zero One Zero) { rp0 = pos 0; rp1 = pos 0; rp2 = pos 8 })
     ((pos 11 ∷ pos 10 ∷ []) ∷ []) reason.Point
 unfolding performed
-shp_tests_rp2_in_zp1_behind_its_points = refl
+shp_tests_rp2_in_zp1_after_its_points = refl
 
 shp_takes_its_points_before_it_tests_rp2 :
     each_faults (0x32 ∷ []) (record (zones Zero One Zero) { rp0 = pos 0; rp1 = pos 0; rp2 = pos 8 })
@@ -363,11 +364,11 @@ shp_uses_rp1_in_zp0 :
 unfolding performed
 shp_uses_rp1_in_zp0 = refl
 
-shp_tests_rp1_in_zp0_behind_its_points :
+shp_tests_rp1_in_zp0_after_its_points :
     each_faults (0x33 ∷ []) (record (zones One Zero Zero) { rp0 = pos 0; rp1 = pos 8; rp2 = pos 0 })
     ((pos 11 ∷ pos 10 ∷ []) ∷ []) reason.Point
 unfolding performed
-shp_tests_rp1_in_zp0_behind_its_points = refl
+shp_tests_rp1_in_zp0_after_its_points = refl
 
 shp_takes_its_points_before_it_tests_rp1 :
     each_faults (0x33 ∷ []) (record (zones One Zero Zero) { rp0 = pos 0; rp1 = pos 8; rp2 = pos 0 })
@@ -407,21 +408,21 @@ shc_by_rp2_takes_the_contour_of_the_twilight_zone :
 unfolding performed
 shc_by_rp2_takes_the_contour_of_the_twilight_zone = refl
 
-shc_by_rp2_refuses_a_contour_behind_the_last :
+shc_by_rp2_refuses_a_contour_after_the_last :
     each_faults (0x34 ∷ []) (record (zones Zero Zero One) { rp2 = pos 0 }) ((pos 2 ∷ []) ∷ (negsuc 0 ∷ []) ∷ []) reason.Contour
 unfolding performed
-shc_by_rp2_refuses_a_contour_behind_the_last = refl
+shc_by_rp2_refuses_a_contour_after_the_last = refl
 
 shc_by_rp2_refuses_a_second_contour_of_the_twilight_zone :
     each_faults (0x34 ∷ []) (record (zones One One Zero) { rp2 = pos 0 }) ((pos 1 ∷ []) ∷ []) reason.Contour
 unfolding performed
 shc_by_rp2_refuses_a_second_contour_of_the_twilight_zone = refl
 
-shc_tests_rp2_in_zp1_behind_its_contour :
+shc_tests_rp2_in_zp1_after_its_contour :
     each_faults (0x34 ∷ []) (record (zones Zero One Zero) { rp0 = pos 0; rp1 = pos 0; rp2 = pos 8 }) ((pos 0 ∷ []) ∷ [])
     reason.Point
 unfolding performed
-shc_tests_rp2_in_zp1_behind_its_contour = refl
+shc_tests_rp2_in_zp1_after_its_contour = refl
 
 shc_needs_a_contour_before_it_tests_rp2 :
     each_faults (0x34 ∷ []) (record (zones Zero One Zero) { rp0 = pos 0; rp1 = pos 0; rp2 = pos 8 }) ([] ∷ []) reason.Underflow
@@ -438,21 +439,21 @@ shc_by_rp1_takes_the_contour_of_the_twilight_zone :
 unfolding performed
 shc_by_rp1_takes_the_contour_of_the_twilight_zone = refl
 
-shc_by_rp1_refuses_a_contour_behind_the_last :
+shc_by_rp1_refuses_a_contour_after_the_last :
     each_faults (0x35 ∷ []) (record (zones Zero Zero One) { rp1 = pos 0 }) ((pos 2 ∷ []) ∷ (negsuc 0 ∷ []) ∷ []) reason.Contour
 unfolding performed
-shc_by_rp1_refuses_a_contour_behind_the_last = refl
+shc_by_rp1_refuses_a_contour_after_the_last = refl
 
 shc_by_rp1_refuses_a_second_contour_of_the_twilight_zone :
     each_faults (0x35 ∷ []) (record (zones One One Zero) { rp1 = pos 0 }) ((pos 1 ∷ []) ∷ []) reason.Contour
 unfolding performed
 shc_by_rp1_refuses_a_second_contour_of_the_twilight_zone = refl
 
-shc_tests_rp1_in_zp0_behind_its_contour :
+shc_tests_rp1_in_zp0_after_its_contour :
     each_faults (0x35 ∷ []) (record (zones One Zero Zero) { rp0 = pos 0; rp1 = pos 8; rp2 = pos 0 }) ((pos 0 ∷ []) ∷ [])
     reason.Point
 unfolding performed
-shc_tests_rp1_in_zp0_behind_its_contour = refl
+shc_tests_rp1_in_zp0_after_its_contour = refl
 
 shc_needs_a_contour_before_it_tests_rp1 :
     each_faults (0x35 ∷ []) (record (zones One Zero Zero) { rp0 = pos 0; rp1 = pos 8; rp2 = pos 0 }) ([] ∷ []) reason.Underflow
@@ -475,11 +476,11 @@ shz_by_rp2_refuses_other_zones_first :
 unfolding performed
 shz_by_rp2_refuses_other_zones_first = refl
 
-shz_tests_rp2_in_zp1_behind_its_zone :
+shz_tests_rp2_in_zp1_after_its_zone :
     each_faults (0x36 ∷ []) (record (zones Zero One Zero) { rp0 = pos 0; rp1 = pos 0; rp2 = pos 8 })
     ((pos 0 ∷ []) ∷ (pos 1 ∷ []) ∷ []) reason.Point
 unfolding performed
-shz_tests_rp2_in_zp1_behind_its_zone = refl
+shz_tests_rp2_in_zp1_after_its_zone = refl
 
 shz_needs_a_zone_before_it_tests_rp2 :
     each_faults (0x36 ∷ []) (record (zones Zero One Zero) { rp0 = pos 0; rp1 = pos 0; rp2 = pos 8 }) ([] ∷ []) reason.Underflow
@@ -502,11 +503,11 @@ shz_by_rp1_refuses_other_zones_first :
 unfolding performed
 shz_by_rp1_refuses_other_zones_first = refl
 
-shz_tests_rp1_in_zp0_behind_its_zone :
+shz_tests_rp1_in_zp0_after_its_zone :
     each_faults (0x37 ∷ []) (record (zones One Zero Zero) { rp0 = pos 0; rp1 = pos 8; rp2 = pos 0 })
     ((pos 0 ∷ []) ∷ (pos 1 ∷ []) ∷ []) reason.Point
 unfolding performed
-shz_tests_rp1_in_zp0_behind_its_zone = refl
+shz_tests_rp1_in_zp0_after_its_zone = refl
 
 shz_needs_a_zone_before_it_tests_rp1 :
     each_faults (0x37 ∷ []) (record (zones One Zero Zero) { rp0 = pos 0; rp1 = pos 8; rp2 = pos 0 }) ([] ∷ []) reason.Underflow

@@ -12,9 +12,9 @@ miap_takes_the_last_control_value : accepted (0xb1 ∷ 0x00 ∷ 0x09 ∷ 0x3e �
 unfolding answer
 miap_takes_the_last_control_value = refl
 
-miap_refuses_an_index_behind_the_control_values : refused_at 3 reason.Cvt (0xb1 ∷ 0x00 ∷ 0x0a ∷ 0x3e ∷ [])
+miap_refuses_an_index_after_the_control_values : refused_at 3 reason.Cvt (0xb1 ∷ 0x00 ∷ 0x0a ∷ 0x3e ∷ [])
 unfolding answer
-miap_refuses_an_index_behind_the_control_values = refl
+miap_refuses_an_index_after_the_control_values = refl
 
 miap_takes_the_control_value_before_the_point : refused_at 2 reason.Underflow (0xb0 ∷ 0x00 ∷ 0x3e ∷ [])
 unfolding answer
@@ -28,9 +28,9 @@ the_last_phantom_point_is_in_the_glyph_zone : accepted (0xb0 ∷ 0x07 ∷ 0x2e �
 unfolding answer
 the_last_phantom_point_is_in_the_glyph_zone = refl
 
-no_point_stands_behind_the_phantom_points : refused_at 2 reason.Point (0xb0 ∷ 0x08 ∷ 0x2e ∷ [])
+no_point_is_after_the_phantom_points : refused_at 2 reason.Point (0xb0 ∷ 0x08 ∷ 0x2e ∷ [])
 unfolding answer
-no_point_stands_behind_the_phantom_points = refl
+no_point_is_after_the_phantom_points = refl
 
 a_negative_number_is_no_point : refused_at 3 reason.Point (0xb8 ∷ 0xff ∷ 0xff ∷ 0x2e ∷ [])
 unfolding answer
@@ -44,9 +44,9 @@ the_last_storage_cell_is_written : accepted (0xb1 ∷ 0x03 ∷ 0x05 ∷ 0x42 ∷
 unfolding answer
 the_last_storage_cell_is_written = refl
 
-no_storage_cell_stands_behind_the_last : refused_at 3 reason.Storage (0xb1 ∷ 0x04 ∷ 0x05 ∷ 0x42 ∷ [])
+no_storage_cell_is_after_the_last : refused_at 3 reason.Storage (0xb1 ∷ 0x04 ∷ 0x05 ∷ 0x42 ∷ [])
 unfolding answer
-no_storage_cell_stands_behind_the_last = refl
+no_storage_cell_is_after_the_last = refl
 
 shc_takes_the_first_contour : accepted (0xb0 ∷ 0x00 ∷ 0x34 ∷ [])
 unfolding answer
@@ -143,9 +143,9 @@ the_last_twilight_point_is_in_the_twilight_zone : accepted (0xb0 ∷ 0x00 ∷ 0x
 unfolding answer
 the_last_twilight_point_is_in_the_twilight_zone = refl
 
-no_twilight_point_stands_behind_the_last : refused_at 5 reason.Point (0xb0 ∷ 0x00 ∷ 0x16 ∷ 0xb0 ∷ 0x04 ∷ 0x2e ∷ [])
+no_twilight_point_is_after_the_last : refused_at 5 reason.Point (0xb0 ∷ 0x00 ∷ 0x16 ∷ 0xb0 ∷ 0x04 ∷ 0x2e ∷ [])
 unfolding answer
-no_twilight_point_stands_behind_the_last = refl
+no_twilight_point_is_after_the_last = refl
 
 shz_needs_two_zones_for_the_twilight_zone :
     answers_by (record usual_limits { zones = 1 }) (0xb0 ∷ 0x00 ∷ 0x37 ∷ []) (Refused InGlyph InGlyph 2 reason.Zone)
@@ -273,9 +273,9 @@ an_undefined_function : refused_at 2 reason.Function (0xb0 ∷ 0x01 ∷ 0x2b ∷
 unfolding answer
 an_undefined_function = refl
 
-a_function_number_behind_the_last : refused_at 2 reason.Function (0xb0 ∷ 0x02 ∷ 0x2b ∷ [])
+a_function_number_after_the_last : refused_at 2 reason.Function (0xb0 ∷ 0x02 ∷ 0x2b ∷ [])
 unfolding answer
-a_function_number_behind_the_last = refl
+a_function_number_after_the_last = refl
 
 a_negative_function_number : refused_at 3 reason.Function (0xb8 ∷ 0xff ∷ 0xff ∷ 0x2b ∷ [])
 unfolding answer
@@ -303,13 +303,13 @@ if_goes_on_where_the_number_is_true : accepted (0xb1 ∷ 0x05 ∷ 0x01 ∷ 0x58 
 unfolding answer
 if_goes_on_where_the_number_is_true = refl
 
-if_goes_behind_else_where_the_number_is_zero : accepted (0xb1 ∷ 0x05 ∷ 0x00 ∷ 0x58 ∷ 0x28 ∷ 0x1b ∷ 0x21 ∷ 0x59 ∷ [])
+if_goes_past_else_where_the_number_is_zero : accepted (0xb1 ∷ 0x05 ∷ 0x00 ∷ 0x58 ∷ 0x28 ∷ 0x1b ∷ 0x21 ∷ 0x59 ∷ [])
 unfolding answer
-if_goes_behind_else_where_the_number_is_zero = refl
+if_goes_past_else_where_the_number_is_zero = refl
 
-if_goes_behind_eif_without_an_else : accepted (0xb1 ∷ 0x05 ∷ 0x00 ∷ 0x58 ∷ 0x28 ∷ 0x59 ∷ 0x21 ∷ [])
+if_goes_past_eif_without_an_else : accepted (0xb1 ∷ 0x05 ∷ 0x00 ∷ 0x58 ∷ 0x28 ∷ 0x59 ∷ 0x21 ∷ [])
 unfolding answer
-if_goes_behind_eif_without_an_else = refl
+if_goes_past_eif_without_an_else = refl
 
 if_takes_a_negative_number_as_true : accepted (0xb8 ∷ 0xff ∷ 0xff ∷ 0x58 ∷ 0x1b ∷ 0x28 ∷ 0x59 ∷ [])
 unfolding answer
@@ -331,9 +331,9 @@ else_takes_nothing : accepted (0xb1 ∷ 0x05 ∷ 0x01 ∷ 0x58 ∷ 0x1b ∷ 0x59
 unfolding answer
 else_takes_nothing = refl
 
-else_leads_behind_its_eif : accepted (0xb0 ∷ 0x01 ∷ 0x58 ∷ 0x18 ∷ 0x1b ∷ 0x28 ∷ 0x59 ∷ 0x18 ∷ [])
+else_leads_past_its_eif : accepted (0xb0 ∷ 0x01 ∷ 0x58 ∷ 0x18 ∷ 0x1b ∷ 0x28 ∷ 0x59 ∷ 0x18 ∷ [])
 unfolding answer
-else_leads_behind_its_eif = refl
+else_leads_past_its_eif = refl
 
 an_inner_else_is_not_the_outer_ones :
     accepted (0xb1 ∷ 0x05 ∷ 0x00 ∷ 0x58 ∷ 0xb0 ∷ 0x00 ∷ 0x58 ∷ 0x28 ∷ 0x1b ∷ 0x28 ∷ 0x59 ∷ 0x28 ∷ 0x1b ∷ 0x21 ∷ 0x59 ∷ [])
@@ -392,9 +392,9 @@ a_jump_to_the_end : accepted (0xb0 ∷ 0x02 ∷ 0x1c ∷ 0x21 ∷ [])
 unfolding answer
 a_jump_to_the_end = refl
 
-a_jump_behind_the_end : refused_at 2 reason.Target (0xb0 ∷ 0x03 ∷ 0x1c ∷ 0x21 ∷ [])
+a_jump_past_the_end : refused_at 2 reason.Target (0xb0 ∷ 0x03 ∷ 0x1c ∷ 0x21 ∷ [])
 unfolding answer
-a_jump_behind_the_end = refl
+a_jump_past_the_end = refl
 
 a_jump_before_the_first_instruction : refused_at 3 reason.Target (0xb8 ∷ 0xff ∷ 0xfc ∷ 0x1c ∷ [])
 unfolding answer
@@ -416,13 +416,13 @@ a_jump_over_an_else : accepted (0xb0 ∷ 0x01 ∷ 0x58 ∷ 0xb0 ∷ 0x03 ∷ 0x1
 unfolding answer
 a_jump_over_an_else = refl
 
-a_jump_behind_an_else : accepted (0xb0 ∷ 0x02 ∷ 0x1c ∷ 0x58 ∷ 0x1b ∷ 0x18 ∷ 0x59 ∷ [])
+a_jump_past_an_else : accepted (0xb0 ∷ 0x02 ∷ 0x1c ∷ 0x58 ∷ 0x1b ∷ 0x18 ∷ 0x59 ∷ [])
 unfolding answer
-a_jump_behind_an_else = refl
+a_jump_past_an_else = refl
 
-a_jump_behind_an_else_runs_it : refused_at 5 reason.Opcode (0xb0 ∷ 0x03 ∷ 0x1c ∷ 0x58 ∷ 0x1b ∷ 0x28 ∷ 0x59 ∷ [])
+a_jump_past_an_else_runs_it : refused_at 5 reason.Opcode (0xb0 ∷ 0x03 ∷ 0x1c ∷ 0x58 ∷ 0x1b ∷ 0x28 ∷ 0x59 ∷ [])
 unfolding answer
-a_jump_behind_an_else_runs_it = refl
+a_jump_past_an_else_runs_it = refl
 
 a_jump_needs_an_offset : refused_at 0 reason.Underflow (0x1c ∷ [])
 unfolding answer

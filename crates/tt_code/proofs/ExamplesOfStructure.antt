@@ -5,13 +5,13 @@ use Rattle.tt_code.specs.declared.reason.Reason.TheVariants as reason
 use Rattle.tt_code.proofs.Running.{structure, if_leads, else_leads, definition_leads, body_of_offset, instruction_of_offset, fault_at}
 
 -- A definition inside an IF.
-an_if_leads_behind_its_eif : if_leads (0x58 ∷ 0x2c ∷ 0x2d ∷ 0x59 ∷ []) 0 ≡ Some 4
+an_if_leads_past_its_eif : if_leads (0x58 ∷ 0x2c ∷ 0x2d ∷ 0x59 ∷ []) 0 ≡ Some 4
 unfolding structure
-an_if_leads_behind_its_eif = refl
+an_if_leads_past_its_eif = refl
 
-a_definition_leads_behind_its_endf : definition_leads (0x58 ∷ 0x2c ∷ 0x2d ∷ 0x59 ∷ []) 1 ≡ Some 3
+a_definition_leads_past_its_endf : definition_leads (0x58 ∷ 0x2c ∷ 0x2d ∷ 0x59 ∷ []) 1 ≡ Some 3
 unfolding structure
-a_definition_leads_behind_its_endf = refl
+a_definition_leads_past_its_endf = refl
 
 a_definition_belongs_to_the_main_program : body_of_offset (0x58 ∷ 0x2c ∷ 0x2d ∷ 0x59 ∷ []) 1 ≡ Some body.Main
 unfolding structure
@@ -21,18 +21,18 @@ an_endf_belongs_to_its_function : body_of_offset (0x58 ∷ 0x2c ∷ 0x2d ∷ 0x5
 unfolding structure
 an_endf_belongs_to_its_function = refl
 
-the_main_program_goes_on_behind_an_endf : body_of_offset (0x58 ∷ 0x2c ∷ 0x2d ∷ 0x59 ∷ []) 3 ≡ Some body.Main
+the_main_program_goes_on_after_an_endf : body_of_offset (0x58 ∷ 0x2c ∷ 0x2d ∷ 0x59 ∷ []) 3 ≡ Some body.Main
 unfolding structure
-the_main_program_goes_on_behind_an_endf = refl
+the_main_program_goes_on_after_an_endf = refl
 
 -- Pushed data aren't instructions.
-an_if_leads_behind_its_else : if_leads (0x58 ∷ 0x40 ∷ 0x01 ∷ 0x1b ∷ 0x1b ∷ 0x59 ∷ []) 0 ≡ Some 5
+an_if_leads_past_its_else : if_leads (0x58 ∷ 0x40 ∷ 0x01 ∷ 0x1b ∷ 0x1b ∷ 0x59 ∷ []) 0 ≡ Some 5
 unfolding structure
-an_if_leads_behind_its_else = refl
+an_if_leads_past_its_else = refl
 
-an_else_leads_behind_its_eif : else_leads (0x58 ∷ 0x40 ∷ 0x01 ∷ 0x1b ∷ 0x1b ∷ 0x59 ∷ []) 4 ≡ Some 6
+an_else_leads_past_its_eif : else_leads (0x58 ∷ 0x40 ∷ 0x01 ∷ 0x1b ∷ 0x1b ∷ 0x59 ∷ []) 4 ≡ Some 6
 unfolding structure
-an_else_leads_behind_its_eif = refl
+an_else_leads_past_its_eif = refl
 
 pushed_data_lead_nowhere : else_leads (0x58 ∷ 0x40 ∷ 0x01 ∷ 0x1b ∷ 0x1b ∷ 0x59 ∷ []) 3 ≡ None
 unfolding structure
@@ -60,29 +60,29 @@ unfolding structure
 the_end_is_no_instruction = refl
 
 -- IFs inside others.
-an_outer_if_leads_behind_its_own_else : if_leads (0x58 ∷ 0x58 ∷ 0x1b ∷ 0x59 ∷ 0x1b ∷ 0x58 ∷ 0x59 ∷ 0x59 ∷ []) 0 ≡ Some 5
+an_outer_if_leads_past_its_own_else : if_leads (0x58 ∷ 0x58 ∷ 0x1b ∷ 0x59 ∷ 0x1b ∷ 0x58 ∷ 0x59 ∷ 0x59 ∷ []) 0 ≡ Some 5
 unfolding structure
-an_outer_if_leads_behind_its_own_else = refl
+an_outer_if_leads_past_its_own_else = refl
 
-an_inner_if_leads_behind_its_own_else : if_leads (0x58 ∷ 0x58 ∷ 0x1b ∷ 0x59 ∷ 0x1b ∷ 0x58 ∷ 0x59 ∷ 0x59 ∷ []) 1 ≡ Some 3
+an_inner_if_leads_past_its_own_else : if_leads (0x58 ∷ 0x58 ∷ 0x1b ∷ 0x59 ∷ 0x1b ∷ 0x58 ∷ 0x59 ∷ 0x59 ∷ []) 1 ≡ Some 3
 unfolding structure
-an_inner_if_leads_behind_its_own_else = refl
+an_inner_if_leads_past_its_own_else = refl
 
-an_inner_else_leads_behind_its_own_eif : else_leads (0x58 ∷ 0x58 ∷ 0x1b ∷ 0x59 ∷ 0x1b ∷ 0x58 ∷ 0x59 ∷ 0x59 ∷ []) 2 ≡ Some 4
+an_inner_else_leads_past_its_own_eif : else_leads (0x58 ∷ 0x58 ∷ 0x1b ∷ 0x59 ∷ 0x1b ∷ 0x58 ∷ 0x59 ∷ 0x59 ∷ []) 2 ≡ Some 4
 unfolding structure
-an_inner_else_leads_behind_its_own_eif = refl
+an_inner_else_leads_past_its_own_eif = refl
 
-an_outer_else_leads_behind_its_own_eif : else_leads (0x58 ∷ 0x58 ∷ 0x1b ∷ 0x59 ∷ 0x1b ∷ 0x58 ∷ 0x59 ∷ 0x59 ∷ []) 4 ≡ Some 8
+an_outer_else_leads_past_its_own_eif : else_leads (0x58 ∷ 0x58 ∷ 0x1b ∷ 0x59 ∷ 0x1b ∷ 0x58 ∷ 0x59 ∷ 0x59 ∷ []) 4 ≡ Some 8
 unfolding structure
-an_outer_else_leads_behind_its_own_eif = refl
+an_outer_else_leads_past_its_own_eif = refl
 
-an_if_in_an_else_leads_behind_its_own_eif : if_leads (0x58 ∷ 0x58 ∷ 0x1b ∷ 0x59 ∷ 0x1b ∷ 0x58 ∷ 0x59 ∷ 0x59 ∷ []) 5 ≡ Some 7
+an_if_in_an_else_leads_past_its_own_eif : if_leads (0x58 ∷ 0x58 ∷ 0x1b ∷ 0x59 ∷ 0x1b ∷ 0x58 ∷ 0x59 ∷ 0x59 ∷ []) 5 ≡ Some 7
 unfolding structure
-an_if_in_an_else_leads_behind_its_own_eif = refl
+an_if_in_an_else_leads_past_its_own_eif = refl
 
-an_if_without_an_else_leads_behind_its_eif : if_leads (0x58 ∷ 0x58 ∷ 0x59 ∷ 0x59 ∷ 0x1b ∷ []) 0 ≡ Some 4
+an_if_without_an_else_leads_past_its_eif : if_leads (0x58 ∷ 0x58 ∷ 0x59 ∷ 0x59 ∷ 0x1b ∷ []) 0 ≡ Some 4
 unfolding structure
-an_if_without_an_else_leads_behind_its_eif = refl
+an_if_without_an_else_leads_past_its_eif = refl
 
 no_if_leads_from_an_else : if_leads (0x58 ∷ 0x1b ∷ 0x59 ∷ []) 1 ≡ None
 unfolding structure
@@ -101,10 +101,10 @@ unfolding structure
 an_eif_leads_nowhere = refl
 
 -- Bodies.
-a_definition_leads_behind_the_ifs_of_its_body :
+a_definition_leads_past_the_ifs_of_its_body :
     definition_leads (0xb0 ∷ 0x00 ∷ 0x2c ∷ 0x58 ∷ 0x1b ∷ 0x59 ∷ 0x2d ∷ 0x18 ∷ []) 2 ≡ Some 7
 unfolding structure
-a_definition_leads_behind_the_ifs_of_its_body = refl
+a_definition_leads_past_the_ifs_of_its_body = refl
 
 what_stands_before_a_definition_is_the_main_program :
     body_of_offset (0xb0 ∷ 0x00 ∷ 0x2c ∷ 0x58 ∷ 0x1b ∷ 0x59 ∷ 0x2d ∷ 0x18 ∷ []) 0 ≡ Some body.Main
@@ -143,9 +143,9 @@ the_endf_of_an_instruction_definition_is_no_function :
 unfolding structure
 the_endf_of_an_instruction_definition_is_no_function = refl
 
-the_main_program_goes_on_behind_an_instruction_definition : body_of_offset (0x89 ∷ 0x18 ∷ 0x2d ∷ 0x18 ∷ []) 3 ≡ Some body.Main
+the_main_program_goes_on_after_an_instruction_definition : body_of_offset (0x89 ∷ 0x18 ∷ 0x2d ∷ 0x18 ∷ []) 3 ≡ Some body.Main
 unfolding structure
-the_main_program_goes_on_behind_an_instruction_definition = refl
+the_main_program_goes_on_after_an_instruction_definition = refl
 
 an_instruction_definition_is_no_function_definition : definition_leads (0x89 ∷ 0x18 ∷ 0x2d ∷ 0x18 ∷ []) 0 ≡ None
 unfolding structure
@@ -182,6 +182,6 @@ no_machine_may_stand_in_another_function :
 unfolding structure
 no_machine_may_stand_in_another_function = refl
 
-no_machine_may_stand_behind_the_end : fault_at (0x18 ∷ []) [] 2 ≡ Some reason.Target
+no_machine_may_be_after_the_end : fault_at (0x18 ∷ []) [] 2 ≡ Some reason.Target
 unfolding structure
-no_machine_may_stand_behind_the_end = refl
+no_machine_may_be_after_the_end = refl

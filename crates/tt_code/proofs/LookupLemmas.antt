@@ -8,8 +8,8 @@ use Rattle.tt_code.specs.declared.machine.Body.{Body}
 use Rattle.tt_code.specs.Cut.{Instruction, IsInstruction, size}
 use Rattle.tt_code.specs.Structure.{keyword}
 use Rattle.tt_code.specs.Grammar.{IsList, Ends, GoesTo, StandsAt}
-use Rattle.tt_code.specs.Pass.{step, steps}
-use Rattle.tt_code.specs.Slots.{target_found, Opens, IsTable}
+use Rattle.tt_code.specs.Representation.Pass.{step, steps}
+use Rattle.tt_code.specs.Representation.Slots.{target_found, Opens, IsTable}
 use Rattle.tt_code.proofs.CutLemmas.{some_bytes}
 use Rattle.tt_code.proofs.NestingLemmas.{steps-append, whole_steps}
 use Rattle.tt_code.proofs.SlotLemmas.{weaken}

@@ -7,7 +7,7 @@ use Rattle.tt_code.specs.declared.nest.Open.{Open}
 use Rattle.tt_code.specs.declared.nest.Open.TheVariants.{InIf, InElse, InFunction, InInstruction}
 use Rattle.tt_code.specs.Table.{effect_of}
 use Rattle.tt_code.specs.Cut.{Instruction, IsInstruction, size}
-use Rattle.tt_code.specs.Pass.{inside_of, within, step, follow, steps, body_of, body_after, Head, Opened, Leaves}
+use Rattle.tt_code.specs.Representation.Pass.{inside_of, within, step, follow, steps, body_of, body_after, Head, Opened, Leaves}
 use Rattle.tt_code.specs.declared.machine.Body.TheVariants as body
 use Rattle.tt_code.proofs.CutLemmas.{size-append}
 use Rattle.tt_code.specs.Structure.{keyword}

@@ -11,8 +11,8 @@ use Rattle.tt_code.specs.declared.fault.CodeFault.TheVariants.{CannotCut, Struct
 use Rattle.tt_code.specs.Cut.{Instruction, IsInstruction, size, IsCut, BeginsWith}
 use Rattle.tt_code.specs.Faults.{IsMemory, IsMisnested}
 use Rattle.tt_code.specs.Grammar.{CanGoOn, IsStructured, IsFault}
-use Rattle.tt_code.specs.Pass.{Leaves}
-use Rattle.tt_code.specs.Slots.{IsRead, IsKept, IsTable, bodies, kept, lengths, targets}
+use Rattle.tt_code.specs.Representation.Pass.{Leaves}
+use Rattle.tt_code.specs.Representation.Slots.{IsRead, IsKept, IsTable, bodies, kept, lengths, targets}
 use Rattle.tt_code.proofs.CutLemmas.{kept_cut, one_cut, prefix_of_cut, size_is}
 use Rattle.tt_code.proofs.NestingLemmas.{goes_on, not_structured}
 use Rattle.tt_code.proofs.SlotLemmas.{read_size}

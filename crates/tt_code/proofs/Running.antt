@@ -1,5 +1,6 @@
--- Running programs on the machine's definitions, so that worked examples can be computed. Where any number may be pushed one
--- number is taken, usually 7, and cell i of the storage area holds 100 + i at the start.
+-- Running programs on the machine's definitions, so that worked examples can be computed. Where any
+-- number may be pushed one number is taken, usually 7, and cell i of the storage area holds 100 + i
+-- at the start.
 use Rattle.std.proofs.Common.{◌≡◌, ℕ, zero, suc, ◌+◌, List, [], ◌∷◌, Option, None, Some, Ok, Err, take, drop}
 use Rattle.std.specs.Prelude.{ℤ, pos, negsuc, true, false, map, option_map, nat_lt, if◌then◌else◌}
 use Rattle.tt_code.specs.Refusals.{Tested}
@@ -72,7 +73,8 @@ pub data Part : Type 0 where
   InCvt : Part
   InGlyph : Part
 
--- how a font's programs end: the program that runs at a fault, the one to which the faulting instruction belongs, and the offset there
+-- how a font's programs end: the program that runs at a fault, the one to which the faulting
+-- instruction belongs, and the offset there
 pub data Answer : Type 0 where
   Accepted : Answer
   Refused : Part → Part → ℕ → Reason → Answer
@@ -167,7 +169,8 @@ seen_at_end glyph = elim (run (pos 7) 60 (glyph_setting (font_of usual_limits []
 abbrev pub ends_with : List ℕ → List ℤ → Type 0
 ends_with glyph stack = option_map (λ (m : Seen). m.stack) (seen_at_end glyph) ≡ Some stack
 
--- One instruction of one byte by itself, at the start of a program of a glyph with 4 points and 2 contours.
+-- One instruction of one byte by itself, at the start of a program of a glyph with 4 points and 2
+-- contours.
 
 abbrev pub alone : Limits → ℕ → Setting
 alone limits code = glyph_setting (font_of limits [] []) 4 2 ((code ∷ []) ∷ [])
@@ -186,8 +189,8 @@ performed limits g stack code = elim (outcome (alone limits code) (before g stac
 abbrev pub wide_twilight : Limits
 wide_twilight = record usual_limits { twilight = 12 }
 
--- Reference points that no zone has, all different, and the loop number 2: what isn't used isn't tested, and what changes
--- is observed.
+-- Reference points that no zone has, all different, and the loop number 2: what isn't used isn't
+-- tested, and what changes is observed.
 abbrev pub zones : ZoneNumber → ZoneNumber → ZoneNumber → Graphics ℤ ZoneNumber
 zones a b c = record { rp0 = pos 20; rp1 = pos 21; rp2 = pos 22; zp0 = a; zp1 = b; zp2 = c; loop_number = pos 2 }
 

@@ -1,7 +1,6 @@
 -- How the slots grow by one instruction.
-use Rattle.std.proofs.Common.{◌≡◌, ◌⊎◌, inl, inr, ℕ, zero, suc, ◌+◌, ◌-◌, ◌<◌, List, [], ◌∷◌, ◌++◌, length, refl, sym, ◌∙◌, ap, arith, append_assoc, Bool, false, subst, Option, Some, None, get_or, slice_index, set, replicate, take, map}
+use Rattle.std.proofs.Common.{◌≡◌, ◌⊎◌, inl, inr, ℕ, zero, suc, ◌+◌, ◌-◌, ◌<◌, List, [], ◌∷◌, ◌++◌, length, refl, sym, ◌∙◌, ap, arith, append_assoc, Bool, false, subst, Option, Some, None, get_or, slice_index, set, replicate, take, map, length-append}
 use Rattle.std.specs.List.{AllByRecursion}
-use Rattle.std.proofs.Common.{length-append}
 use Rattle.std.proofs.lemmas.List.{length-set, length-replicate, length-map, map-append, map-set, take_all}
 use Rattle.std.proofs.Math.Seq.{map-set_same}
 use Rattle.tt_code.specs.declared.block_keyword.BlockKeyword.{BlockKeyword}
@@ -12,9 +11,9 @@ use Rattle.tt_code.specs.declared.slot.Slot.{Slot}
 use Rattle.tt_code.specs.Cut.{Instruction, IsInstruction, size}
 use Rattle.tt_code.specs.Structure.{keyword, keyword_of}
 use Rattle.tt_code.specs.Grammar.{CanGoOn, IsList, none, plain, if_eif, if_else_eif, definition, Ends, begins_definition, GoesTo}
-use Rattle.tt_code.specs.Pass.{within, step, body_of, body_after, closed, Opened, Leaves}
+use Rattle.tt_code.specs.Representation.Pass.{within, step, body_of, body_after, closed, Opened, Leaves}
 use Rattle.tt_code.specs.declared.machine.Body.{Body}
-use Rattle.tt_code.specs.Slots.{inside, body_in, target_in, lengths, bodies, targets, target_of, target_found, Opens, IsOpenAt, IsTable, IsRead}
+use Rattle.tt_code.specs.Representation.Slots.{inside, body_in, target_in, lengths, bodies, targets, target_of, target_found, Opens, IsOpenAt, IsTable, IsRead}
 use Rattle.tt_code.proofs.CutLemmas.{size-append, size_more, all_more, some_bytes, laid_more}
 use Rattle.tt_code.proofs.NestingLemmas.{within-false, Leaves-step, body_step, cannot_go_on}
 

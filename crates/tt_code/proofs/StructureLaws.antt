@@ -4,7 +4,7 @@ use Rattle.std.specs.Prelude.{IfSome, nat_eq, nat_lt, if◌then◌else◌}
 use Rattle.std.specs.List.{AllByRecursion}
 use Rattle.std.proofs.lemmas.Bool.{eqb-true, eq-eqb, ne_eqb, ltb-false, le-ltb}
 use Rattle.tt_code.specs.Cut.{Instruction, IsInstruction, size, instruction_at}
-use Rattle.tt_code.specs.Slots.{Opens}
+use Rattle.tt_code.specs.Representation.Slots.{Opens}
 use Rattle.tt_code.specs.Structure.{keyword, is_keyword, still_open, behind_end, leads_from, leads}
 use Rattle.tt_code.specs.Grammar.{IsDefinition, IsList, none, plain, if_eif, if_else_eif, definition, IsStructured, StandsAt, Ends, begins_definition, GoesTo}
 use Rattle.tt_code.specs.declared.block_keyword.BlockKeyword.{BlockKeyword}
@@ -24,9 +24,9 @@ pub each_before : (P : Instruction → Type 0) (is js : List Instruction) → Al
 each_before P [] js h = tt
 each_before P (i ∷ is) js h = (h.0, each_before P is js h.1)
 
-pub each_behind : (P : Instruction → Type 0) (is js : List Instruction) → AllByRecursion P (is ++ js) → AllByRecursion P js
-each_behind P [] js h = h
-each_behind P (i ∷ is) js h = each_behind P is js h.1
+pub each_after : (P : Instruction → Type 0) (is js : List Instruction) → AllByRecursion P (is ++ js) → AllByRecursion P js
+each_after P [] js h = h
+each_after P (i ∷ is) js h = each_after P is js h.1
 
 pub each_joined : (P : Instruction → Type 0) (is js : List Instruction) → AllByRecursion P is → AllByRecursion P js → AllByRecursion P (is ++ js)
 each_joined P [] js h k = k
@@ -363,15 +363,15 @@ leads_found (i ∷ is) opener start at to h = elim (taken (nat_eq start at) _ _ 
         }
         | inr bad ↦ let wrong : None ≡ Some to = bad.1 in cc
       ]
-  | inr behind ↦ found_more opener i is start at to (leads_found is opener (start + length i) at to behind.1)
+  | inr beyond ↦ found_more opener i is start at to (leads_found is opener (start + length i) at to beyond.1)
 ]
 
 -- Control goes where the grammar says.
 
 pub goes_leads : {opener : BlockKeyword} {is : List Instruction} {at to : ℕ} → AllByRecursion HasBytes is → GoesTo opener is at to → leads opener is at ≡ Some to
 goes_leads {opener} {is} {at} {to} each g =
-    let behind : List Instruction = g.i ∷ (g.inner ++ (g.e ∷ g.after)) in
-    let front = each_before HasBytes g.before behind (subst (λ x. AllByRecursion HasBytes x) g.whole each) in
+    let beyond : List Instruction = g.i ∷ (g.inner ++ (g.e ∷ g.after)) in
+    let front = each_before HasBytes g.before beyond (subst (λ x. AllByRecursion HasBytes x) g.whole each) in
     ap (λ x. leads opener x at) g.whole
     ∙ leads_there g.before g.i (g.inner ++ (g.e ∷ g.after)) 0 at opener front (omega (arith, g.from)) g.opens
     ∙ end_found opener g.inner g.e g.after (at + length g.i) g.nested g.ends
@@ -427,9 +427,9 @@ found_stands (j ∷ is) zero i h =
     record { before = []; after = is; whole = ap (λ x. x ∷ is) same; offset = refl }
 found_stands (j ∷ is) (suc k) i h = elim (taken (nat_lt (suc k) (length j)) None _ (Some i) h) [
   | inl bad ↦ let wrong : None ≡ Some i = bad.1 in cc
-  | inr behind ↦
-      let low : length j ≤ suc k = ltb-false (suc k) (length j) behind.0 in
-      let s = found_stands is (suc k - length j) i behind.1 in
+  | inr beyond ↦
+      let low : length j ≤ suc k = ltb-false (suc k) (length j) beyond.0 in
+      let s = found_stands is (suc k - length j) i beyond.1 in
       record { before = j ∷ s.before; after = s.after; whole = ap (λ x. j ∷ x) s.whole; offset = omega (arith, s.offset) }
 ]
 

@@ -1,11 +1,12 @@
--- The function that looks for the body of an instruction on a cut finds the one that the grammar says.
+-- The function that looks for the body of an instruction on a cut finds the one that the grammar
+-- says.
 use Rattle.std.proofs.Common.{Option, ◌≡◌, ◌⊎◌, ◌↔◌, inl, inr, ℕ, ◌+◌, ◌<◌, List, [], ◌∷◌, ◌++◌, length, refl, sym, ◌∙◌, ap, subst, arith, append_assoc, Some, None, Bool, true, false}
 use Rattle.std.specs.Prelude.{IfNone, IfSome, nat_eq, if◌then◌else◌}
 use Rattle.std.specs.List.{AllByRecursion}
 use Rattle.std.proofs.lemmas.Bool.{eqb-true, eq-eqb, ne_eqb}
 use Rattle.tt_code.specs.Cut.{Instruction, IsInstruction, size}
 use Rattle.tt_code.specs.Table.{effect_of}
-use Rattle.tt_code.specs.Slots.{Opens}
+use Rattle.tt_code.specs.Representation.Slots.{Opens}
 use Rattle.tt_code.specs.Structure.{keyword, keyword_of, body_behind, body_from, body_at}
 use Rattle.tt_code.specs.Grammar.{IsDefinition, IsList, none, plain, if_eif, if_else_eif, definition, IsStructured, StandsAt, Ends, begins_definition, GoesTo, InDefinition, IsBodyAt}
 use Rattle.tt_code.specs.declared.block_keyword.BlockKeyword.{BlockKeyword}
@@ -13,7 +14,7 @@ use Rattle.tt_code.specs.declared.block_keyword.BlockKeyword.TheVariants.{If, El
 use Rattle.tt_code.specs.declared.machine.Body.{Body}
 use Rattle.tt_code.specs.declared.machine.Body.TheVariants as body
 use Rattle.tt_code.proofs.CutLemmas.{size-append}
-use Rattle.tt_code.proofs.StructureLaws.{HasBytes, each_bytes, each_before, each_behind, each_joined, earlier, same, later, place, taken, Closed, opener_closed, closed_goes}
+use Rattle.tt_code.proofs.StructureLaws.{HasBytes, each_bytes, each_before, each_after, each_joined, earlier, same, later, place, taken, Closed, opener_closed, closed_goes}
 
 -- FDEF and IDEF have no operands.
 
@@ -103,8 +104,8 @@ after_kept (i ∷ is) here start k = after_kept is (body_behind here (keyword i)
 after_joined : (is js : List Instruction) (here : Body) (start : ℕ) → body_after here start (is ++ js) ≡ body_after (body_after here start is) (start + size is) js
 after_joined [] js here start = ap (λ n. body_after here n js) (omega arith)
 after_joined (i ∷ is) js here start =
-    let behind : Body = body_behind here (keyword i) (start + length i) in
-    after_joined is js behind (start + length i) ∙ ap (λ n. body_after (body_after behind (start + length i) is) n js) (omega arith)
+    let beyond : Body = body_behind here (keyword i) (start + length i) in
+    after_joined is js beyond (start + length i) ∙ ap (λ n. body_after (body_after beyond (start + length i) is) n js) (omega arith)
 
 body_there : (before : List Instruction) (i : Instruction) (rest : List Instruction) (here : Body) (start at : ℕ) → AllByRecursion HasBytes before → start + size before ≡ at
     → body_from here start (before ++ (i ∷ rest)) at ≡ Some (body_after here start before)
@@ -131,14 +132,15 @@ body_found (i ∷ is) here start at b h = elim (taken (nat_eq start at) _ _ (Som
   | inl found ↦
       let there : start ≡ at = eqb-true start at found.0 in
       record { before = []; i = i; rest = is; whole = refl; from = omega arith; is_body = (let e = found.1 in cc) }
-  | inr behind ↦
-      let f = body_found is (body_behind here (keyword i) (start + length i)) (start + length i) at b behind.1 in
+  | inr beyond ↦
+      let f = body_found is (body_behind here (keyword i) (start + length i)) (start + length i) at b beyond.1 in
       record { before = i ∷ f.before; i = f.i; rest = f.rest; whole = ap (λ x. i ∷ x) f.whole; from = omega (arith, f.from); is_body = f.is_body }
 ]
 
 -- What is in a definition has its body.
 
--- the beginning of a program up to a place in a definition: the definition's beginning, and a part of what it defines
+-- the beginning of a program up to a place in a definition: the definition's beginning, and a part
+-- of what it defines
 record Reaches (opener : BlockKeyword) (from : ℕ) (before : List Instruction) : Type 0 where
   outer : List Instruction
   d : Instruction
@@ -212,7 +214,7 @@ parted {i = i} s outer d part e = s.whole ∙ ap (λ x. x ++ (i ∷ s.after)) e 
 
 each_parted : {is : List Instruction} (outer : List Instruction) (d : Instruction) (rest : List Instruction) → AllByRecursion IsInstruction is → is ≡ outer ++ (d ∷ rest)
     → AllByRecursion IsInstruction (d ∷ rest)
-each_parted outer d rest each e = each_behind IsInstruction outer (d ∷ rest) (subst (λ x. AllByRecursion IsInstruction x) e each)
+each_parted outer d rest each e = each_after IsInstruction outer (d ∷ rest) (subst (λ x. AllByRecursion IsInstruction x) e each)
 
 definition_body : {opener : BlockKeyword} {is : List Instruction} {from at : ℕ} {i : Instruction} → AllByRecursion IsInstruction is → IsDefinition opener → (s : StandsAt is at i)
     → InDefinition opener is from at → body_after body.Main 0 s.before ≡ body_behind body.Main opener (from + 1)
@@ -330,14 +332,14 @@ begun_definition {opener} {is} {at} {first} {i} structured each d s b = (
     end_bytes : 0 < length closed.e
     end_bytes =
         let all = each_bytes (closed.inner ++ (closed.e ∷ closed.after)) (subst (λ x. AllByRecursion IsInstruction x) closed.whole each_there.1) in
-        (each_behind HasBytes closed.inner (closed.e ∷ closed.after) all).0
+        (each_after HasBytes closed.inner (closed.e ∷ closed.after) all).0
 
     within : size b.part < size closed.inner + length closed.e
     within = elim (place closed.inner closed.e closed.after b.part i s.after (sym closed.whole)) [
       | earlier between p r ↦ omega (arith, end_bytes, ap size p, size-append b.part (i ∷ between))
       | same p r t ↦ omega (arith, end_bytes, ap size p)
       | later between p r ↦
-          let kept = each_behind Keeps closed.inner (closed.e ∷ between) (subst (λ x. AllByRecursion Keeps x) p b.keeps) in
+          let kept = each_after Keeps closed.inner (closed.e ∷ between) (subst (λ x. AllByRecursion Keeps x) p b.keeps) in
           absurd (ends_body opener (keyword closed.e) d closed.ends kept.0)
     ]
 

@@ -16,9 +16,12 @@ use Rattle.tt_code.specs.declared.kinds.Arithmetic.TheVariants.{Add, Sub, Abs, N
 
 -- Pushes: bytes are unsigned, words are signed, the high byte first; the last one ends on top.
 
+-- the signed number of two bytes
 abbrev pub word_number : ℕ → ℕ → ℤ
-word_number high low = if nat_lt high 128 then pos (256 * high + low) else pos (256 * high + low) -ℤ pos 65536
+word_number high low =
+    if nat_lt high 128 then pos (256 * high + low) else pos (256 * high + low) -ℤ pos 65536
 
+-- the signed numbers of bytes, two bytes each
 abbrev pub words : List ℕ → List ℤ
 words (high ∷ low ∷ rest) = word_number high low ∷ words rest
 words _ = []
@@ -30,15 +33,18 @@ numbers_in CountedWords bytes = words bytes
 numbers_in (Bytes n) bytes = map pos bytes
 numbers_in (Words n) bytes = words bytes
 
+-- numbers that are known
 abbrev pub exactly : List ℤ → List Value
 exactly zs = map Exactly zs
 
+-- a push instruction: its data are pushed
 abbrev pub pushed : Push → Machine → List ℕ → Outcome
 pushed push m rest = leaves m m.stack (exactly (numbers_in push (data_behind push rest)))
 
 -- Stack instructions. For CINDEX and MINDEX the index counts from 1, the top once the index is
 -- taken; an index below 1 is a bad count, one above the depth an underflow (own).
 
+-- the element that an index from 1 names, or why there is none
 abbrev pub element : {N : Type 0} → ℤ → List N → Tested N
 element (negsuc n) stack = Err reason.Count
 element (pos zero) stack = Err reason.Count
@@ -51,6 +57,7 @@ abbrev pub place_of : ℤ → ℕ
 place_of (pos (suc n)) = n
 place_of _ = 0
 
+-- what a stack instruction does
 abbrev pub shuffled : StackOp → Machine → Tested Outcome
 shuffled Dup m = do
   t ← top m.stack
@@ -78,34 +85,41 @@ shuffled Roll m = do
   c ← top b.1
   Ok (leaves m c.1 (Exactly b.0 ∷ Exactly a.0 ∷ Exactly c.0 ∷ []))
 
--- Arithmetic. A result is exact where it is a number of the machine, else any number (own). Of two
--- operands the first is the one below the top. Comparisons are signed and give 1 or 0.
+-- Arithmetic. A result is exact where it is a number of the machine, otherwise any number (own). Of
+-- two operands the first is the one below the top. Comparisons are signed and give 1 or 0.
 
+-- a result that is a number of the machine is pushed as it is
 abbrev pub exact : ℤ → Value
 exact z = if is_number z then Exactly z else Anything
 
+-- a comparison that holds is 1, another one 0
 abbrev pub truth : Bool → Value
 truth true = Exactly (pos 1)
 truth false = Exactly (pos 0)
 
+-- a number without its sign
 abbrev pub absolute : ℤ → ℤ
 absolute (pos n) = pos n
 absolute (negsuc n) = pos (suc n)
 
+-- whether two numbers are equal
 abbrev pub equal : ℤ → ℤ → Bool
 equal a b = int_le a b && int_le b a
 
+-- an instruction that takes one number and pushes what it gives
 abbrev pub of_one : Machine → (ℤ → Value) → Tested Outcome
 of_one m f = do
   a ← top m.stack
   Ok (leaves m a.1 (f a.0 ∷ []))
 
+-- an instruction that takes two numbers and pushes what they give
 abbrev pub of_two : Machine → (ℤ → ℤ → Value) → Tested Outcome
 of_two m f = do
   b ← top m.stack
   a ← top b.1
   Ok (leaves m a.1 (f a.0 b.0 ∷ []))
 
+-- what an arithmetic instruction does
 abbrev pub computed : Arithmetic → Machine → Tested Outcome
 computed Add m = of_two m (λ a b. exact (a +ℤ b))
 computed Sub m = of_two m (λ a b. exact (a -ℤ b))

@@ -41,12 +41,17 @@ body_named (f ∷ fs) n = if nat_eq f.0 n then Some f.1 else body_named fs n
 -- the body that a called number names: it is below maxFunctionDefs and defined
 abbrev pub called : Setting → Machine → ℤ → Tested ℕ
 called s m (negsuc n) = Err reason.Function
-called s m (pos n) = if nat_lt n s.limits.functions then some_or (body_named m.functions n) reason.Function else Err reason.Function
+called s m (pos n) =
+    if nat_lt n s.limits.functions
+    then some_or (body_named m.functions n) reason.Function
+    else Err reason.Function
 
 -- into a body for so many turns; a count of 0 or less calls nothing (own)
 abbrev pub enters : Machine → ℕ → List ℤ → ℤ → Outcome
 enters m name stack (pos (suc n)) =
-    goes_to (record m { frames = record { body = name; call = m.offset; turn = 1; count = suc n } ∷ m.frames }) stack (body_offset name)
+    goes_to (record m {
+      frames = record { body = name; call = m.offset; turn = 1; count = suc n } ∷ m.frames;
+    }) stack (body_offset name)
 enters m name stack (pos zero) = goes_to m stack (m.offset + 1)
 enters m name stack (negsuc n) = goes_to m stack (m.offset + 1)
 
@@ -55,7 +60,8 @@ abbrev pub returns : Machine → List Frame → Tested Outcome
 returns m [] = Err reason.Target
 returns m (f ∷ fs) =
     if nat_lt f.turn f.count
-    then Ok (goes_to (record m { frames = record f { turn = f.turn + 1 } ∷ fs }) m.stack (body_offset f.body))
+    then Ok (goes_to (record m { frames = record f { turn = f.turn + 1 } ∷ fs }) m.stack
+    (body_offset f.body))
     else Ok (goes_to (record m { frames = fs }) m.stack (f.call + 1))
 
 -- Functions are defined in the font program and in the CVT program (own: not in glyph programs).
@@ -64,10 +70,13 @@ may_define FontProgram = true
 may_define CvtProgram = true
 may_define (GlyphProgram points contours) = false
 
+-- what an instruction does that leads elsewhere, or defines a function
 abbrev pub controlled : Setting → Machine → Control → Tested Outcome
 controlled s m If = do
   e ← top m.stack
-  after ← if is_true e.0 then Ok (m.offset + 1) else some_or (after_if (program_of s m.frames) m.offset) reason.Target
+  after ← if is_true e.0
+      then Ok (m.offset + 1)
+      else some_or (after_if (program_of s m.frames) m.offset) reason.Target
   Ok (goes_to m e.1 after)
 controlled s m Else = do
   after ← some_or (after_else (program_of s m.frames) m.offset) reason.Target
@@ -91,6 +100,8 @@ controlled s m FunctionDefinition = do
   n ← top m.stack
   ok ← holds_or (is_below n.0 s.limits.functions) reason.Function
   after ← some_or (after_fdef (program_of s m.frames) m.offset) reason.Target
-  Ok (goes_to (record m { functions = (natural n.0, body_name s.kind (m.offset + 1)) ∷ m.functions }) n.1 after)
+  Ok (goes_to (record m {
+    functions = (natural n.0, body_name s.kind (m.offset + 1)) ∷ m.functions;
+  }) n.1 after)
 controlled s m EndFunction = returns m m.frames
 controlled s m InstructionDefinition = Err reason.InstructionDefinition

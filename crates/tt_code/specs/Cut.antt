@@ -7,6 +7,7 @@ use Rattle.tt_code.specs.Table.{Meaning, NoEntry, Plain, Pushes, Stack, Computes
 use Rattle.tt_code.specs.declared.kinds.Push.{Push}
 use Rattle.tt_code.specs.declared.kinds.Push.TheVariants.{CountedBytes, CountedWords, Bytes, Words}
 
+-- the bytes of one instruction
 abbrev pub Instruction : Type 0
 Instruction = List ℕ
 
@@ -45,6 +46,7 @@ data_behind CountedWords rest = drop 1 rest
 data_behind (Bytes n) rest = rest
 data_behind (Words n) rest = rest
 
+-- the data among the bytes after a code: those of a push, otherwise none
 abbrev pub data_in : Meaning → List ℕ → List ℕ
 data_in (Pushes push) rest = data_behind push rest
 data_in NoEntry rest = []
@@ -53,11 +55,12 @@ data_in (Stack op) rest = []
 data_in (Computes op) rest = []
 data_in (Controls op) rest = []
 
--- an instruction's code, and its data: those of a push, else none
+-- an instruction's code
 abbrev pub code_of : Instruction → Option ℕ
 code_of [] = None
 code_of (code ∷ rest) = Some code
 
+-- an instruction's data: those of a push, otherwise none
 abbrev pub data_of : Instruction → List ℕ
 data_of [] = []
 data_of (code ∷ rest) = data_in (effect_of code) rest
@@ -86,11 +89,14 @@ pub record BeginsWith (bytes : List ℕ) (is : List Instruction) (rest : List �
 -- then refused, at this offset.)
 pub record CannotBeCut (bytes : List ℕ) (offset : ℕ) : Type 0 where
   pub uncut : (is : List Instruction) → IsCut bytes is → ⊥
-  pub reached : (is : List Instruction) × (rest : List ℕ) × BeginsWith bytes is rest × (size is ≡ offset)
-  pub longest : (is : List Instruction) (rest : List ℕ) → BeginsWith bytes is rest → size is ≤ offset
+  pub reached : (is : List Instruction) × (rest : List ℕ) × BeginsWith bytes is rest ×
+      (size is ≡ offset)
+  pub longest : (is : List Instruction) (rest : List ℕ) → BeginsWith bytes is rest →
+      size is ≤ offset
 
 -- the instruction that starts at the offset
 abbrev pub instruction_at : List Instruction → ℕ → Option Instruction
 instruction_at [] offset = None
 instruction_at (i ∷ is) zero = Some i
-instruction_at (i ∷ is) (suc k) = if nat_lt (suc k) (length i) then None else instruction_at is (suc k - length i)
+instruction_at (i ∷ is) (suc k) =
+    if nat_lt (suc k) (length i) then None else instruction_at is (suc k - length i)

@@ -9,7 +9,12 @@ use Rattle.tt_code.specs.declared.kinds.Effect.TheVariants as effect
 -- an effect, whose lists are slices
 abbrev pub view : Effect → Meaning
 view effect.NoEntry = NoEntry
-view (effect.Plain row) = Plain (record { operands = row.operands.now; uses = row.uses.now; updates = row.updates.now; pushes = row.pushes.now })
+view (effect.Plain row) = Plain (record {
+  operands = row.operands.now;
+  uses = row.uses.now;
+  updates = row.updates.now;
+  pushes = row.pushes.now;
+})
 view (effect.Push p) = Pushes p
 view (effect.Stack s) = Stack s
 view (effect.Arithmetic a) = Computes a
@@ -25,5 +30,6 @@ abbrev pub named : List ℕ → Option (List ℕ)
 named [] = None
 named (c ∷ cs) = Some (c ∷ cs)
 
+-- the name that a reference points to
 abbrev pub name_text : Bor (List ℕ) → Option (List ℕ)
 name_text n = named n.now

@@ -16,18 +16,42 @@ pub record Font : Type 0 where
   pub font_program : List Instruction
   pub cvt_program : List Instruction
 
+-- the setting of the font program
 abbrev pub font_setting : Font → Setting
-font_setting f = record { limits = f.limits; cvt = f.cvt; kind = FontProgram; main = f.font_program; font = f.font_program; prep = f.font_program }
+font_setting f = record {
+  limits = f.limits;
+  cvt = f.cvt;
+  kind = FontProgram;
+  main = f.font_program;
+  font = f.font_program;
+  prep = f.font_program;
+}
 
+-- the setting of the CVT program
 abbrev pub cvt_setting : Font → Setting
-cvt_setting f = record { limits = f.limits; cvt = f.cvt; kind = CvtProgram; main = f.cvt_program; font = f.font_program; prep = f.cvt_program }
+cvt_setting f = record {
+  limits = f.limits;
+  cvt = f.cvt;
+  kind = CvtProgram;
+  main = f.cvt_program;
+  font = f.font_program;
+  prep = f.cvt_program;
+}
 
+-- the setting of the program of a glyph with so many points and contours
 abbrev pub glyph_setting : Font → ℕ → ℕ → List Instruction → Setting
-glyph_setting f points contours program =
-    record { limits = f.limits; cvt = f.cvt; kind = GlyphProgram points contours; main = program; font = f.font_program; prep = f.cvt_program }
+glyph_setting f points contours program = record {
+  limits = f.limits;
+  cvt = f.cvt;
+  kind = GlyphProgram points contours;
+  main = program;
+  font = f.font_program;
+  prep = f.cvt_program;
+}
 
 -- a run from one of these machines reaches the end, and leaves these functions
-pub record Leaves (s : Setting) (Starts : Machine → Type 0) (functions : List (ℕ × ℕ)) : Type 0 where
+pub record Leaves
+    (s : Setting) (Starts : Machine → Type 0) (functions : List (ℕ × ℕ)) : Type 0 where
   pub first : Machine
   pub last : Machine
   pub starts : Starts first
@@ -35,11 +59,14 @@ pub record Leaves (s : Setting) (Starts : Machine → Type 0) (functions : List 
   pub ends : is_at_end s last ≡ true
   pub left : last.functions ≡ functions
 
+-- the font program starts with no function
 abbrev pub StartsFontProgram : Font → Machine → Type 0
 StartsFontProgram f m = IsFresh m × (m.functions ≡ [])
 
+-- the CVT program starts with what the font program leaves
 abbrev pub StartsCvtProgram : Font → Machine → Type 0
 StartsCvtProgram f m = IsFresh m × Leaves (font_setting f) (StartsFontProgram f) m.functions
 
+-- a glyph program starts with what the CVT program leaves
 abbrev pub StartsGlyphProgram : Font → Machine → Type 0
 StartsGlyphProgram f m = IsFresh m × Leaves (cvt_setting f) (StartsCvtProgram f) m.functions

@@ -25,13 +25,19 @@ pub data IsList : (inside : Bool) → List Instruction → Type 0 where
   none : {inside : Bool} → IsList inside []
   plain : {inside : Bool} {i : Instruction} {rest : List Instruction} →
       keyword i ≡ Other → IsList inside rest → IsList inside (i ∷ rest)
-  if_eif : {inside : Bool} {i : Instruction} {yes : List Instruction} (e : Instruction) {rest : List Instruction} →
-      keyword i ≡ If → IsList inside yes → keyword e ≡ Eif → IsList inside rest → IsList inside (i ∷ (yes ++ (e ∷ rest)))
-  if_else_eif : {inside : Bool} {i : Instruction} {yes : List Instruction} (l : Instruction) {otherwise : List Instruction} (e : Instruction) {rest : List Instruction} →
-      keyword i ≡ If → IsList inside yes → keyword l ≡ Else → IsList inside otherwise → keyword e ≡ Eif → IsList inside rest
-      → IsList inside (i ∷ (yes ++ (l ∷ (otherwise ++ (e ∷ rest)))))
-  definition : {d : Instruction} {defined : List Instruction} (e : Instruction) {rest : List Instruction} →
-      IsDefinition (keyword d) → IsList true defined → keyword e ≡ Endf → IsList false rest → IsList false (d ∷ (defined ++ (e ∷ rest)))
+  if_eif : {inside : Bool} {i : Instruction} {yes : List Instruction} (e : Instruction)
+      {rest : List Instruction} →
+      keyword i ≡ If → IsList inside yes → keyword e ≡ Eif → IsList inside rest →
+      IsList inside (i ∷ (yes ++ (e ∷ rest)))
+  if_else_eif : {inside : Bool} {i : Instruction} {yes : List Instruction} (l : Instruction)
+      {otherwise : List Instruction} (e : Instruction) {rest : List Instruction} →
+      keyword i ≡ If → IsList inside yes → keyword l ≡ Else → IsList inside otherwise →
+      keyword e ≡ Eif → IsList inside rest →
+      IsList inside (i ∷ (yes ++ (l ∷ (otherwise ++ (e ∷ rest)))))
+  definition : {d : Instruction} {defined : List Instruction} (e : Instruction)
+      {rest : List Instruction} →
+      IsDefinition (keyword d) → IsList true defined → keyword e ≡ Endf → IsList false rest →
+      IsList false (d ∷ (defined ++ (e ∷ rest)))
 
 -- a program is structured if it is a list outside all definitions
 abbrev pub IsStructured : List Instruction → Type 0
@@ -39,12 +45,14 @@ IsStructured is = IsList false is
 
 -- some list of the grammar begins with these
 abbrev pub CanGoOn : List Instruction → Type 0
-CanGoOn is = (rest : List Instruction) × AllByRecursion IsInstruction rest × IsStructured (is ++ rest)
+CanGoOn is =
+    (rest : List Instruction) × AllByRecursion IsInstruction rest × IsStructured (is ++ rest)
 
 -- The fault of a program that isn't structured: the first instruction such that no list of the
 -- grammar begins with the program up to and including it; or, if there is none, the program's end,
 -- where something is left open. (Own: the fault's place.)
 
+-- the fault is at an instruction: the ones before it can go on, with it they cannot
 pub record BreaksAt (is : List Instruction) (at : ℕ) : Type 0 where
   pub before : List Instruction
   pub i : Instruction
@@ -54,11 +62,13 @@ pub record BreaksAt (is : List Instruction) (at : ℕ) : Type 0 where
   pub cannot : CanGoOn (before ++ (i ∷ [])) → ⊥
   pub offset : size before ≡ at
 
+-- the fault is at the program's end: more instructions could follow, and something is open
 pub record OpenAtEnd (is : List Instruction) (at : ℕ) : Type 0 where
   pub can_go_on : CanGoOn is
   pub cannot : IsStructured is → ⊥
   pub offset : size is ≡ at
 
+-- the fault is one of the two
 abbrev pub IsFault : List Instruction → ℕ → Type 0
 IsFault is at = BreaksAt is at ⊎ OpenAtEnd is at
 
@@ -89,6 +99,7 @@ IsStartOrEnd is at = ((i : Instruction) × StandsAt is at i) ⊎ (at ≡ size is
 -- ELSE or its EIF, an ELSE by its EIF, an FDEF or IDEF by its ENDF. Control goes to just after that
 -- one, and what a definition defines is what is between.
 
+-- which keyword ends what a keyword begins
 abbrev pub Ends : BlockKeyword → BlockKeyword → Type 0
 Ends If w = (w ≡ Else) ⊎ (w ≡ Eif)
 Ends Else w = w ≡ Eif
@@ -105,6 +116,7 @@ begins_definition Fdef = true
 begins_definition Idef = true
 begins_definition _ = false
 
+-- the opening instruction at an offset leads to another offset: to just after the one that ends it
 pub record GoesTo (opener : BlockKeyword) (is : List Instruction) (at to : ℕ) : Type 0 where
   pub before : List Instruction
   pub i : Instruction
@@ -139,7 +151,12 @@ FindsEachTarget opener find =
 abbrev pub InDefinition : BlockKeyword → List Instruction → ℕ → ℕ → Type 0
 InDefinition opener is from at = (to : ℕ) × GoesTo opener is from to × (from < at) × (at < to)
 
+-- the body to which the instruction at an offset belongs
 abbrev pub IsBodyAt : List Instruction → ℕ → Body → Type 0
-IsBodyAt is at (body.Function first) = (from : ℕ) × (first ≡ from + 1) × InDefinition Fdef is from at
-IsBodyAt is at (body.Instruction first) = (from : ℕ) × (first ≡ from + 1) × InDefinition Idef is from at
-IsBodyAt is at body.Main = ((from : ℕ) → InDefinition Fdef is from at → ⊥) × ((from : ℕ) → InDefinition Idef is from at → ⊥)
+IsBodyAt is at (body.Function first) =
+    (from : ℕ) × (first ≡ from + 1) × InDefinition Fdef is from at
+IsBodyAt is at (body.Instruction first) =
+    (from : ℕ) × (first ≡ from + 1) × InDefinition Idef is from at
+IsBodyAt is at body.Main =
+    ((from : ℕ) → InDefinition Fdef is from at → ⊥)
+    × ((from : ℕ) → InDefinition Idef is from at → ⊥)

@@ -2,11 +2,8 @@ pub mod Refusals
 pub mod Table
 pub mod Entries
 pub mod Cut
-pub mod Laid
 pub mod Structure
 pub mod Grammar
-pub mod Pass
-pub mod Slots
 pub mod Faults
 pub mod Settings
 pub mod States
@@ -16,3 +13,4 @@ pub mod Computing
 pub mod Control
 pub mod Runs
 pub mod Fonts
+pub mod Representation

@@ -4,6 +4,7 @@ use Rattle.std.specs.Prelude.{ℕ, Bool, true, false, codes, List, Option, None,
 use Rattle.tt_code.specs.declared.reason.Reason.{Reason}
 use Rattle.tt_code.specs.declared.reason.Reason.TheVariants as reason
 
+-- a reason's number
 abbrev pub number_of : Reason → ℕ
 number_of reason.CannotCut = 20
 number_of reason.Structure = 21
@@ -65,10 +66,12 @@ abbrev pub ◌>>=◌ : {A B : Type 0} → Tested A → (A → Tested B) → Test
 (Ok x) >>= f = f x
 (Err r) >>= f = Err r
 
+-- a test, with the reason where it fails
 abbrev pub holds_or : Bool → Reason → Tested (Unit {0})
 holds_or true r = Ok tt
 holds_or false r = Err r
 
+-- a value, or the reason where there is none
 abbrev pub some_or : {A : Type 0} → Option A → Reason → Tested A
 some_or None r = Err r
 some_or (Some x) r = Ok x

@@ -34,19 +34,25 @@ within_depth s o = do
   ok ← holds_or (nat_le (length o.after.stack + length o.pushes) s.limits.stack) reason.Overflow
   Ok o
 
+-- what happens at an instruction, if there is one, and the test of the depth after it
 abbrev pub performs : Setting → Machine → Option Instruction → Tested Outcome
 performs s m None = Err reason.Target
 performs s m (Some []) = Err reason.Target
-performs s m (Some (code ∷ rest)) = does s m (effect_of code) rest (m.offset + suc (length rest)) >>= within_depth s
+performs s m (Some (code ∷ rest)) =
+    does s m (effect_of code) rest (m.offset + suc (length rest)) >>= within_depth s
 
 -- the instruction at the machine's offset, if one of its body starts there
 abbrev pub fetched : Setting → Machine → Option Instruction
-fetched s m = if starts_in_body s m.frames m.offset then instruction_at (program_of s m.frames) m.offset else None
+fetched s m =
+    if starts_in_body s m.frames m.offset
+    then instruction_at (program_of s m.frames) m.offset
+    else None
 
 -- what happens to a machine that isn't at the main program's end
 unfoldable pub outcome : Setting → Machine → Tested Outcome
 outcome s m = performs s m (fetched s m)
 
+-- whether the machine is at the main program's end
 abbrev pub is_at_end : Setting → Machine → Bool
 is_at_end s m = is_main_end s m.frames m.offset
 
@@ -60,6 +66,7 @@ pub record Faults (s : Setting) (m : Machine) (r : Reason) : Type 0 where
 abbrev pub Choices : Type 0
 Choices = ℕ → ℤ
 
+-- the number that a value is, by a choice
 abbrev pub value : Value → ℤ → ℤ
 value (Exactly z) choice = z
 value Anything choice = choice

@@ -33,18 +33,22 @@ pub record Setting : Type 0 where
 -- zone, zone 1 the glyph zone, which has the glyph's points and its four phantom points. (Own: in
 -- the font program and the CVT program it has none.)
 
+-- the twilight zone and the glyph zone
 pub data ZoneNumber : Type 0 where
   Zero : ZoneNumber
   One : ZoneNumber
 
+-- how many phantom points a glyph has
 abbrev pub PHANTOM_POINTS : ℕ
 PHANTOM_POINTS = 4
 
+-- how many points the glyph zone has
 abbrev pub glyph_points : Kind → ℕ
 glyph_points FontProgram = 0
 glyph_points CvtProgram = 0
 glyph_points (GlyphProgram points contours) = points + PHANTOM_POINTS
 
+-- how many contours the glyph zone has
 abbrev pub glyph_contours : Kind → ℕ
 glyph_contours FontProgram = 0
 glyph_contours CvtProgram = 0
@@ -70,6 +74,7 @@ zone_named s (negsuc n) = None
 -- Bodies of functions are named by their offset in the font program, or by 2^31 more than their
 -- offset in the CVT program.
 
+-- what is added to the offset of a body in the CVT program, 2^31
 abbrev pub CVT_BODIES : ℕ
 CVT_BODIES = 2147483648
 
@@ -93,6 +98,7 @@ abbrev pub body_of : List Frame → Body
 body_of [] = body.Main
 body_of (f ∷ fs) = body.Function (body_offset f.body)
 
+-- whether this is the body that was found
 abbrev pub is_body : Body → Option Body → Bool
 is_body body.Main (Some body.Main) = true
 is_body (body.Function a) (Some (body.Function b)) = nat_eq a b

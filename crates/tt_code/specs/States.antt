@@ -15,6 +15,7 @@ use Rattle.tt_code.specs.declared.kinds.Pointer.TheVariants.{Zp0, Zp1, Zp2}
 abbrev pub IsNumber : ℤ → Type 0
 IsNumber z = FitsSigned w32 z
 
+-- whether it is a number of the machine
 abbrev pub is_number : ℤ → Bool
 is_number (pos n) = nat_lt n (2 ^ 31)
 is_number (negsuc n) = nat_lt n (2 ^ 31)
@@ -36,6 +37,7 @@ pub record Registers (N Z : Type 0) : Type 0 where
   -- The area has no end here; a program reaches only the cells below maxStorage.
   pub storage : ℕ → N
 
+-- the state of the machine
 pub record Machine : Type 0 where
   -- the calls that haven't returned, the innermost first
   pub frames : List Frame
@@ -49,21 +51,25 @@ pub record Machine : Type 0 where
 
 -- Reading and setting a reference point or a zone pointer, of whatever numbers and zones are.
 
+-- a reference point's number
 abbrev pub reference : {N Z : Type 0} → Reference → Graphics N Z → N
 reference Rp0 g = g.rp0
 reference Rp1 g = g.rp1
 reference Rp2 g = g.rp2
 
+-- one reference point is set
 abbrev pub with_reference : {N Z : Type 0} → Reference → N → Graphics N Z → Graphics N Z
 with_reference Rp0 n g = record g { rp0 = n }
 with_reference Rp1 n g = record g { rp1 = n }
 with_reference Rp2 n g = record g { rp2 = n }
 
+-- a zone pointer's zone
 abbrev pub pointer : {N Z : Type 0} → Pointer → Graphics N Z → Z
 pointer Zp0 g = g.zp0
 pointer Zp1 g = g.zp1
 pointer Zp2 g = g.zp2
 
+-- one zone pointer is set
 abbrev pub with_pointer : {N Z : Type 0} → Pointer → Z → Graphics N Z → Graphics N Z
 with_pointer Zp0 z g = record g { zp0 = z }
 with_pointer Zp1 z g = record g { zp1 = z }
@@ -71,13 +77,23 @@ with_pointer Zp2 z g = record g { zp2 = z }
 
 -- the graphics state with which every program starts
 abbrev pub default_graphics : Graphics ℤ ZoneNumber
-default_graphics = record { rp0 = pos 0; rp1 = pos 0; rp2 = pos 0; zp0 = One; zp1 = One; zp2 = One; loop_number = pos 1 }
+default_graphics = record {
+  rp0 = pos 0;
+  rp1 = pos 0;
+  rp2 = pos 0;
+  zp0 = One;
+  zp1 = One;
+  zp2 = One;
+  loop_number = pos 1;
+}
 
+-- the machine is at another offset
 abbrev pub at_offset : Machine → ℕ → Machine
 at_offset m offset = record m { offset = offset }
 
 -- What an instruction pushes: a number, or a number of which nothing is known.
 
+-- what is pushed: this number, or any
 pub data Value : Type 0 where
   Exactly : ℤ → Value
   Anything : Value

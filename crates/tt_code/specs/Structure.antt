@@ -19,10 +19,12 @@ keyword_of code =
     else if nat_eq code 0x2d then Endf
     else Other
 
+-- an instruction's keyword, by its code
 unfoldable pub keyword : Instruction → BlockKeyword
 keyword [] = Other
 keyword (code ∷ rest) = keyword_of code
 
+-- whether two keywords are the same
 abbrev pub is_keyword : BlockKeyword → BlockKeyword → Bool
 is_keyword If If = true
 is_keyword Else Else = true
@@ -34,8 +36,8 @@ is_keyword Other Other = true
 is_keyword _ _ = false
 
 -- Looking for the instruction that ends what an opening one began, while so many IFs are open
--- inside: None where this is it, else how many are open after it. An IF ends at its ELSE or EIF, an
--- ELSE at its EIF, a definition at its ENDF.
+-- inside: None where this is it, otherwise how many are open after it. An IF ends at its ELSE or
+-- EIF, an ELSE at its EIF, a definition at its ENDF.
 abbrev pub still_open : BlockKeyword → BlockKeyword → ℕ → Option ℕ
 still_open If If inside = Some (suc inside)
 still_open If Else zero = None
@@ -67,6 +69,7 @@ leads_from start opener (i ∷ is) offset =
     then (if is_keyword opener (keyword i) then behind_end opener is (start + length i) 0 else None)
     else leads_from (start + length i) opener is offset
 
+-- where the opening instruction at an offset leads, in a whole program
 abbrev pub leads : BlockKeyword → List Instruction → ℕ → Option ℕ
 leads opener is offset = leads_from 0 opener is offset
 

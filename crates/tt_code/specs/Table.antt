@@ -56,48 +56,62 @@ pub record Line : Type 0 where
 
 -- Words to write lines with.
 
+-- one code with a name
 abbrev pub one : ℕ → List ℕ → Named
 one code name = record { first = code; count = 1; name = name }
 
+-- two codes with a name
 abbrev pub two : ℕ → List ℕ → Named
 two code name = record { first = code; count = 2; name = name }
 
+-- four codes with a name
 abbrev pub four : ℕ → List ℕ → Named
 four code name = record { first = code; count = 4; name = name }
 
+-- sixteen codes with a name
 abbrev pub sixteen : ℕ → List ℕ → Named
 sixteen code name = record { first = code; count = 16; name = name }
 
+-- the instructions of a line, and what they stand for
 abbrev pub line : List Named → Meaning → Line
 line instructions meaning = record { instructions = instructions; meaning = meaning }
 
+-- a line that takes operands, uses reference points, changes and pushes
 abbrev pub plain : List Operand → List Use → List Update → List Pushed → Meaning
-plain operands uses updates pushes = Plain (record { operands = operands; uses = uses; updates = updates; pushes = pushes })
+plain operands uses updates pushes =
+    Plain (record { operands = operands; uses = uses; updates = updates; pushes = pushes })
 
+-- a line that does nothing here
 abbrev pub nothing : Meaning
 nothing = plain [] [] [] []
 
+-- a line that only takes operands
 abbrev pub takes : List Operand → Meaning
 takes operands = plain operands [] [] []
 
+-- a line that takes operands and pushes any number
 abbrev pub measures : List Operand → Meaning
 measures operands = plain operands [] [] (Any ∷ [])
 
+-- a reference point as a point of a pointer's zone
 abbrev pub «in» : Reference → Pointer → Use
 «in» r p = record { reference = r; pointer = p }
 
 -- The table.
 
+-- all lines of the instruction set
 abbrev pub table : List Line
 table =
-    line (two 0x00 (codes "SVTCA") ∷ two 0x02 (codes "SPVTCA") ∷ two 0x04 (codes "SFVTCA") ∷ one 0x0e (codes "SFVTPV")
-    ∷ one 0x18 (codes "RTG") ∷ one 0x19 (codes "RTHG") ∷ two 0x30 (codes "IUP") ∷ one 0x3d (codes "RTDG")
-    ∷ one 0x4d (codes "FLIPON") ∷ one 0x4e (codes "FLIPOFF") ∷ one 0x59 (codes "EIF") ∷ one 0x7a (codes "ROFF")
+    line (two 0x00 (codes "SVTCA") ∷ two 0x02 (codes "SPVTCA") ∷ two 0x04 (codes "SFVTCA")
+    ∷ one 0x0e (codes "SFVTPV") ∷ one 0x18 (codes "RTG") ∷ one 0x19 (codes "RTHG")
+    ∷ two 0x30 (codes "IUP") ∷ one 0x3d (codes "RTDG") ∷ one 0x4d (codes "FLIPON")
+    ∷ one 0x4e (codes "FLIPOFF") ∷ one 0x59 (codes "EIF") ∷ one 0x7a (codes "ROFF")
     ∷ one 0x7c (codes "RUTG") ∷ one 0x7d (codes "RDTG") ∷ [])
     nothing ∷
-    line (one 0x1a (codes "SMD") ∷ one 0x1d (codes "SCVTCI") ∷ one 0x1e (codes "SSWCI") ∷ one 0x1f (codes "SSW")
-    ∷ one 0x4f (codes "DEBUG") ∷ one 0x5e (codes "SDB") ∷ one 0x5f (codes "SDS") ∷ one 0x76 (codes "SROUND")
-    ∷ one 0x77 (codes "S45ROUND") ∷ one 0x7e (codes "SANGW") ∷ one 0x7f (codes "AA") ∷ one 0x85 (codes "SCANCTRL")
+    line (one 0x1a (codes "SMD") ∷ one 0x1d (codes "SCVTCI") ∷ one 0x1e (codes "SSWCI")
+    ∷ one 0x1f (codes "SSW") ∷ one 0x4f (codes "DEBUG") ∷ one 0x5e (codes "SDB")
+    ∷ one 0x5f (codes "SDS") ∷ one 0x76 (codes "SROUND") ∷ one 0x77 (codes "S45ROUND")
+    ∷ one 0x7e (codes "SANGW") ∷ one 0x7f (codes "AA") ∷ one 0x85 (codes "SCANCTRL")
     ∷ one 0x8d (codes "SCANTYPE") ∷ [])
     (takes (Number ∷ [])) ∷
     line (one 0x0a (codes "SPVFS") ∷ one 0x0b (codes "SFVFS") ∷ one 0x8e (codes "INSTCTRL") ∷ [])
@@ -107,7 +121,8 @@ table =
     line (one 0x0c (codes "GPV") ∷ one 0x0d (codes "GFV") ∷ [])
     (plain [] [] [] (Any ∷ Any ∷ [])) ∷
     line (one 0x0f (codes "ISECT") ∷ [])
-    (takes (Point (In Zp0) ∷ Point (In Zp0) ∷ Point (In Zp1) ∷ Point (In Zp1) ∷ Point (In Zp2) ∷ [])) ∷
+    (takes (Point (In Zp0) ∷ Point (In Zp0) ∷ Point (In Zp1) ∷ Point (In Zp1)
+    ∷ Point (In Zp2) ∷ [])) ∷
     line (one 0x10 (codes "SRP0") ∷ [])
     (plain (Number ∷ []) [] (SetReference Rp0 (Taken 0) ∷ []) []) ∷
     line (one 0x11 (codes "SRP1") ∷ [])
@@ -129,7 +144,8 @@ table =
     line (one 0x29 (codes "UTP") ∷ [])
     (takes (Point (In Zp0) ∷ [])) ∷
     line (two 0x2e (codes "MDAP") ∷ [])
-    (plain (Point (In Zp0) ∷ []) [] (SetReference Rp0 (Taken 0) ∷ SetReference Rp1 (Taken 0) ∷ []) []) ∷
+    (plain (Point (In Zp0) ∷ []) []
+    (SetReference Rp0 (Taken 0) ∷ SetReference Rp1 (Taken 0) ∷ []) []) ∷
     line (one 0x32 (codes "SHP") ∷ [])
     (plain (LoopPoints (In Zp2) ∷ []) («in» Rp2 Zp1 ∷ []) (LoopIsOne ∷ []) []) ∷
     line (one 0x33 (codes "SHP") ∷ [])
@@ -151,11 +167,13 @@ table =
     (SetReference Rp1 (Same Rp0) ∷ SetReference Rp2 (Taken 1) ∷ []) []) ∷
     line (one 0x3b (codes "MSIRP") ∷ [])
     (plain (Number ∷ Point (In Zp1) ∷ []) («in» Rp0 Zp0 ∷ [])
-    (SetReference Rp1 (Same Rp0) ∷ SetReference Rp2 (Taken 1) ∷ SetReference Rp0 (Taken 1) ∷ []) []) ∷
+    (SetReference Rp1 (Same Rp0) ∷ SetReference Rp2 (Taken 1)
+    ∷ SetReference Rp0 (Taken 1) ∷ []) []) ∷
     line (one 0x3c (codes "ALIGNRP") ∷ [])
     (plain (LoopPoints (In Zp1) ∷ []) («in» Rp0 Zp0 ∷ []) (LoopIsOne ∷ []) []) ∷
     line (two 0x3e (codes "MIAP") ∷ [])
-    (plain (Cvt ∷ Point (In Zp0) ∷ []) [] (SetReference Rp0 (Taken 1) ∷ SetReference Rp1 (Taken 1) ∷ []) []) ∷
+    (plain (Cvt ∷ Point (In Zp0) ∷ []) []
+    (SetReference Rp0 (Taken 1) ∷ SetReference Rp1 (Taken 1) ∷ []) []) ∷
     line (one 0x42 (codes "WS") ∷ [])
     (plain (Number ∷ Storage ∷ []) [] (Store 1 0 ∷ []) []) ∷
     line (one 0x43 (codes "RS") ∷ [])
@@ -176,10 +194,12 @@ table =
     (takes (PointPairs (In Zp0) ∷ [])) ∷
     line (one 0x73 (codes "DELTAC1") ∷ one 0x74 (codes "DELTAC2") ∷ one 0x75 (codes "DELTAC3") ∷ [])
     (takes (CvtPairs ∷ [])) ∷
-    line (one 0x56 (codes "ODD") ∷ one 0x57 (codes "EVEN") ∷ one 0x66 (codes "FLOOR") ∷ one 0x67 (codes "CEILING")
-    ∷ four 0x68 (codes "ROUND") ∷ four 0x6c (codes "NROUND") ∷ one 0x88 (codes "GETINFO") ∷ [])
+    line (one 0x56 (codes "ODD") ∷ one 0x57 (codes "EVEN") ∷ one 0x66 (codes "FLOOR")
+    ∷ one 0x67 (codes "CEILING") ∷ four 0x68 (codes "ROUND")
+    ∷ four 0x6c (codes "NROUND") ∷ one 0x88 (codes "GETINFO") ∷ [])
     (measures (Number ∷ [])) ∷
-    line (one 0x62 (codes "DIV") ∷ one 0x63 (codes "MUL") ∷ one 0x8b (codes "MAX") ∷ one 0x8c (codes "MIN") ∷ [])
+    line (one 0x62 (codes "DIV") ∷ one 0x63 (codes "MUL") ∷ one 0x8b (codes "MAX")
+    ∷ one 0x8c (codes "MIN") ∷ [])
     (measures (Number ∷ Number ∷ [])) ∷
     line (one 0x80 (codes "FLIPPT") ∷ [])
     (plain (LoopPoints (GlyphAnd Zp0) ∷ []) [] (LoopIsOne ∷ []) []) ∷
@@ -190,13 +210,15 @@ table =
     (SetReference Rp1 (Same Rp0) ∷ SetReference Rp2 (Taken 0) ∷ []) []) ∷
     line (sixteen 0xd0 (codes "MDRP") ∷ [])
     (plain (Point (In Zp1) ∷ []) («in» Rp0 Zp0 ∷ [])
-    (SetReference Rp1 (Same Rp0) ∷ SetReference Rp2 (Taken 0) ∷ SetReference Rp0 (Taken 0) ∷ []) []) ∷
+    (SetReference Rp1 (Same Rp0) ∷ SetReference Rp2 (Taken 0)
+    ∷ SetReference Rp0 (Taken 0) ∷ []) []) ∷
     line (sixteen 0xe0 (codes "MIRP") ∷ [])
     (plain (Cvt ∷ Point (In Zp1) ∷ []) («in» Rp0 Zp0 ∷ [])
     (SetReference Rp1 (Same Rp0) ∷ SetReference Rp2 (Taken 1) ∷ []) []) ∷
     line (sixteen 0xf0 (codes "MIRP") ∷ [])
     (plain (Cvt ∷ Point (In Zp1) ∷ []) («in» Rp0 Zp0 ∷ [])
-    (SetReference Rp1 (Same Rp0) ∷ SetReference Rp2 (Taken 1) ∷ SetReference Rp0 (Taken 1) ∷ []) []) ∷
+    (SetReference Rp1 (Same Rp0) ∷ SetReference Rp2 (Taken 1)
+    ∷ SetReference Rp0 (Taken 1) ∷ []) []) ∷
     line (one 0x40 (codes "NPUSHB") ∷ []) (Pushes CountedBytes) ∷
     line (one 0x41 (codes "NPUSHW") ∷ []) (Pushes CountedWords) ∷
     line (one 0xb0 (codes "PUSHB") ∷ []) (Pushes (Bytes 1)) ∷
@@ -250,24 +272,30 @@ table =
 
 -- What a code stands for, and its name.
 
+-- whether a code is among codes with a name
 abbrev pub is_one_of : Named → ℕ → Bool
 is_one_of n code = nat_le n.first code && nat_lt code (n.first + n.count)
 
+-- the name of a code, among the instructions of a line
 abbrev pub name_among : List Named → ℕ → Option (List ℕ)
 name_among [] code = None
 name_among (n ∷ ns) code = if is_one_of n code then Some n.name else name_among ns code
 
+-- whether a code is of a line
 abbrev pub is_among : List Named → ℕ → Bool
 is_among [] code = false
 is_among (n ∷ ns) code = is_one_of n code || is_among ns code
 
+-- what a code stands for, by the lines
 abbrev pub meaning_in : List Line → ℕ → Meaning
 meaning_in [] code = NoEntry
 meaning_in (l ∷ ls) code = if is_among l.instructions code then l.meaning else meaning_in ls code
 
+-- a code's name, by the lines
 abbrev pub name_in : List Line → ℕ → Option (List ℕ)
 name_in [] code = None
-name_in (l ∷ ls) code = if is_among l.instructions code then name_among l.instructions code else name_in ls code
+name_in (l ∷ ls) code =
+    if is_among l.instructions code then name_among l.instructions code else name_in ls code
 
 -- what the code stands for
 unfoldable pub effect_of : ℕ → Meaning

@@ -2,7 +2,7 @@
 
 ghost use Rattle.std.specs.Prelude.{◌≡◌, ℕ, List, Some, length};
 ghost use Rattle.tt_code.specs.Cut.{code_of, data_of};
-ghost use Rattle.tt_code.specs.Laid.{IsHeld};
+ghost use Rattle.tt_code.specs.Representation.Laid.{IsHeld};
 
 use crate::kinds::{Effect, Push};
 use crate::table::entry;

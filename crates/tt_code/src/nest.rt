@@ -2,7 +2,7 @@
 //! control", "Defining and using functions and instructions").
 
 ghost use Rattle.std.specs.Prelude.{◌≡◌, ◌<◌, ◌-◌, ◌^◌, IfOk, reverse};
-ghost use Rattle.tt_code.specs.Pass.{Turns, body_of, body_after};
+ghost use Rattle.tt_code.specs.Representation.Pass.{Turns, body_of, body_after};
 
 use crate::block_keyword::BlockKeyword;
 use crate::machine::Body;

@@ -7,7 +7,7 @@ ghost use Rattle.std.specs.List.{AllByRecursion};
 ghost use Rattle.tt_code.specs.Cut.{CanBeCut, CannotBeCut, Instruction, IsCut, instruction_at, size};
 ghost use Rattle.tt_code.specs.Faults.{IsMemory, IsMisnested};
 ghost use Rattle.tt_code.specs.Grammar.{GoesTo, HasFault, IsBodyAt, IsStructured, NoKeywordAt, NoneStandsAt, StandsAt};
-ghost use Rattle.tt_code.specs.Slots.{IsKept, IsReading, Opens, kept};
+ghost use Rattle.tt_code.specs.Representation.Slots.{IsKept, IsReading, Opens, kept};
 ghost use Rattle.tt_code.specs.Structure.{body_at as body_on_cut, leads};
 
 use crate::block_keyword::{BlockKeyword, keyword_of_code};

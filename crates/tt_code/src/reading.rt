@@ -24,7 +24,7 @@ pub struct Reading {
 }
 
 impl Reading {
-    ghost use Rattle.tt_code.specs.Slots.{IsReading};
+    ghost use Rattle.tt_code.specs.Representation.Slots.{IsReading};
 
     /// Makes the state before anything is read, with room for so many bytes.
     pub fn new(alloc: Global, size: usize) -> Result<Reading, AllocError>

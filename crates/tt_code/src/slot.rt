@@ -3,7 +3,7 @@
 //! functions and instructions").
 
 ghost use Rattle.std.specs.Prelude.{◌≡◌, ◌<◌, Some, None, IfNone, IfSome, option_map, slice_index};
-ghost use Rattle.tt_code.specs.Slots.{bodies, body_found, body_in, inside, lengths, target_found, target_in, targets};
+ghost use Rattle.tt_code.specs.Representation.Slots.{bodies, body_found, body_in, inside, lengths, target_found, target_in, targets};
 
 use crate::machine::Body;
 

@@ -11,7 +11,7 @@ use Rattle.tt_abs.specs.StateFlow.{Place}
 use Rattle.tt_cert.specs.Contents.{Contents, IsFamily, family_of, number_of, total}
 use Rattle.tt_cert.specs.Places.{PutGives, PutsAt, states_of}
 use Rattle.tt_cert.specs.Puts.{Reweighs, place_of, weigh}
-use Rattle.tt_find.specs.Tables.{IsWithinBudget}
+use Rattle.tt_find.specs.Representation.Solvers.{IsWithinBudget}
 
 -- how many states there are, as a sum
 pub sum_ones : (xs : List ((ℕ × ℕ) × State)) → sum_by (λ _. 1) (values_of xs) ≡ length xs

@@ -15,7 +15,7 @@ use Rattle.tt_abs.specs.StateFlow.{FitsLimits, GivesState, Place, flow_of, heigh
 use Rattle.tt_abs.specs.States.{state_laws, state_order}
 use Rattle.tt_abs.proofs.FunctionBodies.{derived_bodies}
 use Rattle.tt_abs.proofs.LineLaws.{precedes_one, precedes_rises}
-use Rattle.tt_cert.specs.Checks.{IsOutOfMemory, key_of}
+use Rattle.tt_cert.specs.Checks.{IsOutOfMemory, point_key_of}
 use Rattle.tt_cert.specs.Contents.{HasContext, family_of, number_of}
 use Rattle.tt_cert.specs.Fillings.{IsFilling}
 use Rattle.tt_cert.specs.GoodFamilies.{EndsWell, HasEnd, HasFewContexts, IsGoodFamily, IsShortEnough}
@@ -27,7 +27,7 @@ use Rattle.tt_cert.specs.declared.fault.ProgramFault.{ProgramFault}
 use Rattle.tt_cert.specs.declared.fault.ProgramFault.TheVariants.{Refused, OutOfMemory}
 use Rattle.tt_find.specs.declared.solver.Solver.{Solver}
 use Rattle.tt_find.specs.Found.{AreDerivedContexts, AreLeastContexts, HasLeastFilling, KeepsBodies, IsDerived, IsJustified, IsLeast, IsNeverEnding, LacksEnd, NamesPlace, NeedsAll, NoneIsGood, too_long, refused, apart, too_many, never_ends}
-use Rattle.tt_find.specs.Tables.{HasLaws, IsAmong, IsListed, IsWhole, MayLead}
+use Rattle.tt_find.specs.Representation.Solvers.{HasLaws, IsAmong, IsListed, IsWhole, MayLead}
 use Rattle.tt_find.proofs.Many.{few_from_all}
 use Rattle.tt_find.proofs.Marking.{kept_state}
 use Rattle.tt_find.proofs.Needed.{needs_all}
@@ -239,7 +239,7 @@ module _ (s : Setting) (functions : List (ℕ × ℕ)) (laws : HasLaws s functio
 
     pub listed_without : (family : Place → Option State) → ((p : Place) → family p ≡ family_without solver.builder solver.spare.keys p) → (q : Place) (a : State) → family q ≡ Some a
         → IsListed solver.builder solver.spare.keys q
-    listed_without family same q a at = elim (cases_Bool (has_point solver.spare.keys (key_of solver.builder q))) [
+    listed_without family same q a at = elim (cases_Bool (has_point solver.spare.keys (point_key_of solver.builder q))) [
       | inl spare ↦ absurd (let no_such : None ≡ Some a = sym (same q ∙ ap (λ b. cond b None (family_of solver.builder q)) spare) ∙ at in cc)
       | inr not_spare ↦ record {
         state = a;

@@ -22,7 +22,8 @@ use Rattle.tt_cert.specs.declared.fault.ContextFault.TheVariants.{TooManyContext
 use Rattle.tt_cert.specs.declared.fault.ProgramFault.{ProgramFault}
 use Rattle.tt_cert.specs.declared.fault.ProgramFault.TheVariants.{Refused, OutOfMemory}
 use Rattle.tt_find.specs.Found.{IsJustified, NamesPlace}
-use Rattle.tt_find.specs.Tables.{ComesFrom, IsCountable, HasLaws, IsJustAfter, IsLeading, IsLeadingAt, IsLeadingOn, IsLeadingTo, IsOnWay, IsStored, IsWalk, IsWhole, TellsSource, calls_of, here_of, place_behind, place_over, places_from}
+use Rattle.tt_cert.specs.Fillings.{IsJustAfter}
+use Rattle.tt_find.specs.Representation.Solvers.{ComesFrom, IsCountable, HasLaws, IsLeading, IsLeadingAt, IsLeadingOn, IsLeadingTo, IsOnWay, IsStored, IsWalk, IsWhole, TellsSource, calls_of, here_of, place_behind, place_over, places_from}
 use Rattle.tt_find.specs.declared.origin.Origin.{Origin}
 use Rattle.tt_find.specs.declared.origin.Origin.TheVariants.{JustBefore, Elsewhere}
 use Rattle.tt_find.specs.declared.solver.Solver.{Solver}

@@ -6,7 +6,7 @@ use Rattle.tt_code.specs.declared.machine.Frame.{Frame}
 use Rattle.tt_abs.specs.declared.state.State.{State}
 use Rattle.tt_abs.specs.StateFlow.{Place}
 use Rattle.tt_abs.specs.States.{state_order}
-use Rattle.tt_cert.specs.Checks.{key_of}
+use Rattle.tt_cert.specs.Checks.{point_key_of}
 use Rattle.tt_cert.specs.Contents.{AddsContext, Contents, IsFamily, family_of, frames_at, number_of}
 use Rattle.tt_cert.specs.Joins.{TellsNew}
 use Rattle.tt_cert.specs.Numbers.{at-number_of}
@@ -16,7 +16,7 @@ use Rattle.tt_cert.specs.declared.joined.Joined.{Joined}
 use Rattle.tt_cert.specs.declared.joined.Joined.TheVariants.{New}
 use Rattle.tt_cert.proofs.FillingLaws.{some_or_none}
 use Rattle.tt_cert.proofs.Puts.{places_apart}
-use Rattle.tt_find.specs.Tables.{IsListed, SparesAt}
+use Rattle.tt_find.specs.Representation.Solvers.{IsListed, SparesAt}
 use Rattle.tt_find.specs.declared.origin.Origin.{Origin}
 use Rattle.tt_find.specs.declared.origin.Origin.TheVariants.{JustBefore, Elsewhere}
 use Rattle.tt_find.proofs.Points.{family_kept, has_number, key_kept, same_or_apart}
@@ -28,13 +28,13 @@ cases_source Elsewhere = inr refl
 module _ (v v' : Contents) (spare spare' : List (ℕ × ℕ)) (c off : ℕ) (t : State) (changed : Bool) (source : Origin) (family : IsFamily v) (lt : c < length v.contexts)
     (same : v'.contexts ≡ v.contexts) (put : PutsAt state_order (family_of v) (family_of v') (place_of v c off) t changed)
     (spares : SparesAt spare spare' (c, off) (family_of v (place_of v c off)) source) where
-  key_same : (p : Place) → ◌≡◌ {A = ℕ × ℕ} (key_of v' p) (key_of v p)
+  key_same : (p : Place) → ◌≡◌ {A = ℕ × ℕ} (point_key_of v' p) (point_key_of v p)
   key_same p = λ i. (number_of (same i) p.0, p.1)
 
-  key_here : ◌≡◌ {A = ℕ × ℕ} (key_of v (place_of v c off)) (c, off)
+  key_here : ◌≡◌ {A = ℕ × ℕ} (point_key_of v (place_of v c off)) (c, off)
   key_here = λ i. (number_at v c family lt i, off)
 
-  apart_key : (p : Place) (a : State) → family_of v p ≡ Some a → p ≢ place_of v c off → ◌≢◌ {A = ℕ × ℕ} (key_of v p) (c, off)
+  apart_key : (p : Place) (a : State) → family_of v p ≡ Some a → p ≢ place_of v c off → ◌≢◌ {A = ℕ × ℕ} (point_key_of v p) (c, off)
   apart_key p a at apart e =
       let n : number_of v.contexts p.0 ≡ c = ap (λ (x : ℕ × ℕ). x.0) e in
       let b : p.1 ≡ off = ap (λ (x : ℕ × ℕ). x.1) e in
@@ -50,7 +50,7 @@ module _ (v v' : Contents) (spare spare' : List (ℕ × ℕ)) (c off : ℕ) (t :
       go (Some a) None g e = absurd g
       go (Some a) (Some u) g e = (u, e)
 
-  spare_here : has_point spare' (key_of v' (place_of v c off)) ≡ has_point spare' (c, off)
+  spare_here : has_point spare' (point_key_of v' (place_of v c off)) ≡ has_point spare' (c, off)
   spare_here = ap (has_point spare') (key_same (place_of v c off) ∙ key_here)
 
   -- what is listed stays so
@@ -59,7 +59,7 @@ module _ (v v' : Contents) (spare spare' : List (ℕ × ℕ)) (c off : ℕ) (t :
     | inr apart ↦ record {
       state = listed.state;
       kept = put.elsewhere q apart ∙ listed.kept;
-      not_spare = ap (has_point spare') (key_same q) ∙ spares.elsewhere (key_of v q) (apart_key q listed.state listed.kept apart) ∙ listed.not_spare;
+      not_spare = ap (has_point spare') (key_same q) ∙ spares.elsewhere (point_key_of v q) (apart_key q listed.state listed.kept apart) ∙ listed.not_spare;
     }
     | inl here ↦
         let (u, is) = there_now in
@@ -71,7 +71,7 @@ module _ (v v' : Contents) (spare spare' : List (ℕ × ℕ)) (c off : ℕ) (t :
       not_spare_now here (inr away) = spares.listed away
       not_spare_now here (inl before) =
           spares.same before (λ none. let no_such : None ≡ Some listed.state = sym none ∙ ap (family_of v) (sym here) ∙ listed.kept in cc)
-          ∙ ap (has_point spare) (sym key_here) ∙ ap (λ p. has_point spare (key_of v p)) (sym here) ∙ listed.not_spare
+          ∙ ap (has_point spare) (sym key_here) ∙ ap (λ p. has_point spare (point_key_of v p)) (sym here) ∙ listed.not_spare
 
   -- where a state came from elsewhere it is listed
   pub listed_now : source ≡ Elsewhere → IsListed v' spare' (place_of v c off)
@@ -85,7 +85,7 @@ module _ (v v' : Contents) (spare spare' : List (ℕ × ℕ)) (c off : ℕ) (t :
         inl (record {
           state = listed.state;
           kept = at;
-          not_spare = sym (spares.elsewhere (key_of v q) (apart_key q listed.state at apart)) ∙ ap (has_point spare') (sym (key_same q)) ∙ listed.not_spare;
+          not_spare = sym (spares.elsewhere (point_key_of v q) (apart_key q listed.state at apart)) ∙ ap (has_point spare') (sym (key_same q)) ∙ listed.not_spare;
         })
     | inl here ↦ elim (cases_source source) [
       | inr away ↦ inr (here, away)
@@ -103,7 +103,7 @@ module _ (v v' : Contents) (spare spare' : List (ℕ × ℕ)) (c off : ℕ) (t :
   ]
     where
       was_not : q ≡ place_of v c off → has_point spare' (c, off) ≡ false
-      was_not here = sym spare_here ∙ ap (λ p. has_point spare' (key_of v' p)) (sym here) ∙ listed.not_spare
+      was_not here = sym spare_here ∙ ap (λ p. has_point spare' (point_key_of v' p)) (sym here) ∙ listed.not_spare
 
 -- one more context changes nothing
 module _ (v v' : Contents) (spare : List (ℕ × ℕ)) (frames : List Frame) (number : ℕ) (family : IsFamily v) (family' : IsFamily v')

@@ -9,8 +9,8 @@ use Rattle.tt_abs.specs.StateFlow.{Place}
 use Rattle.tt_cert.specs.Spots.{spot_of}
 use Rattle.tt_cert.specs.declared.spot.Spot.{Spot}
 use Rattle.tt_cert.specs.declared.spot.Spot.TheVariants.{Main, Font, Prep}
-use Rattle.tt_find.specs.Marks.{SetsMark, list_of, mark_at, mark_of}
-use Rattle.tt_find.specs.Tables.{AreKept}
+use Rattle.tt_find.specs.Representation.OffsetMarks.{SetsMark, list_of, mark_at, mark_of}
+use Rattle.tt_find.specs.Representation.Solvers.{AreKept}
 use Rattle.tt_find.specs.declared.marks.Mark.{Mark}
 use Rattle.tt_find.specs.declared.marks.Mark.TheVariants.{Free, Kept, Passed}
 use Rattle.tt_find.specs.declared.marks.OffsetMarks.{OffsetMarks}

@@ -18,7 +18,7 @@ use Rattle.tt_cert.specs.Fillings.{HasGoodFilling, IsFilling}
 use Rattle.tt_cert.specs.GoodFamilies.{EndsWell, IsGoodFamily}
 use Rattle.tt_cert.proofs.FillingLaws.{ends_listed, some_or_none}
 use Rattle.tt_find.specs.Found.{IsDerived, IsNeeded, IsWithout, LacksPoint, NeedsAll}
-use Rattle.tt_find.specs.Tables.{HasLaws}
+use Rattle.tt_find.specs.Representation.Solvers.{HasLaws}
 use Rattle.tt_find.proofs.Points.{same_or_apart}
 
 module _ (s : Setting) (functions : List (ℕ × ℕ)) (laws : HasLaws s functions) (family filled : Place → Option State) (fills : IsFilling s family filled) (good : IsGoodFamily s functions filled)

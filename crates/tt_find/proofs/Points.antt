@@ -12,13 +12,13 @@ use Rattle.tt_abs.specs.Orders.{Order, OrderLaws}
 use Rattle.tt_abs.specs.Flows.{Flow}
 use Rattle.tt_abs.specs.Families.{Derived}
 use Rattle.tt_abs.specs.StateFlow.{Place}
-use Rattle.tt_cert.specs.Checks.{key_of}
+use Rattle.tt_cert.specs.Checks.{point_key_of}
 use Rattle.tt_cert.specs.Contents.{AddsContext, Contents, IsFamily, family_of, frames_at, number_of, same_frames}
 use Rattle.tt_cert.specs.Numbers.{at-number_of, number_of-append, number_of-place, same_frames-decides}
 use Rattle.tt_cert.specs.Places.{PutGives, PutsAt, has_point, states_of}
 use Rattle.tt_cert.specs.Puts.{family_at, number_at, place_of}
 use Rattle.tt_cert.proofs.Puts.{cases_place}
-use Rattle.tt_find.specs.Tables.{IsAmong, IsTable, WaitsMore}
+use Rattle.tt_find.specs.Representation.Solvers.{IsAmong, IsSoundSoFar, WaitsMore}
 use Rattle.tt_find.proofs.Waits.{point_behind, point_here}
 use Rattle.tt_find.proofs.Sound.{sound_moved, sound_opened, sound_put}
 
@@ -74,7 +74,7 @@ module _ (v v' : Contents) (frames : List Frame) (number : ℕ) (adds : AddsCont
     | inr new ↦ ap (λ (x : List (List Frame)). number_of x fs) new.2 ∙ number_of-append v.contexts frames fs lt
   ]
 
-  pub key_kept : (p : Place) → number_of v.contexts p.0 < length v.contexts → ◌≡◌ {A = ℕ × ℕ} (key_of v' p) (key_of v p)
+  pub key_kept : (p : Place) → number_of v.contexts p.0 < length v.contexts → ◌≡◌ {A = ℕ × ℕ} (point_key_of v' p) (point_key_of v p)
   key_kept p lt = λ i. (number_kept p.0 lt i, p.1)
 
   -- each place has the states that it had
@@ -97,10 +97,10 @@ module _ (v v' : Contents) (frames : List Frame) (number : ℕ) (adds : AddsCont
 
 module _ (o : Order State) (f : Flow Place State) where
   -- a point is taken out of those that wait
-  pub table_popped : OrderLaws o → (v : Contents) (worklist worklist' : List (ℕ × ℕ)) (filled : Place → Option State) (MayLead : Place → Place → Type 0) (c off : ℕ)
-      → IsTable o f v worklist filled MayLead (λ _. ⊥) (λ _ _ _. ⊥) → worklist ≡ (c, off) ∷ worklist'
-      → IsTable o f v worklist' filled MayLead (λ p. p ≡ place_of v c off) (λ _ _ _. ⊥)
-  table_popped order v worklist worklist' filled MayLead c off solver is = record {
+  pub solver_popped : OrderLaws o → (v : Contents) (worklist worklist' : List (ℕ × ℕ)) (filled : Place → Option State) (MayLead : Place → Place → Type 0) (c off : ℕ)
+      → IsSoundSoFar o f v worklist filled MayLead (λ _. ⊥) (λ _ _ _. ⊥) → worklist ≡ (c, off) ∷ worklist'
+      → IsSoundSoFar o f v worklist' filled MayLead (λ p. p ≡ place_of v c off) (λ _ _ _. ⊥)
+  solver_popped order v worklist worklist' filled MayLead c off solver is = record {
     family = solver.family;
     entered = solver.entered;
     held = λ a b m. solver.held a b (stays (a, b) m);
@@ -118,8 +118,8 @@ module _ (o : Order State) (f : Flow Place State) where
       ]
 
       was : (p : Place) → IsAmong v worklist p → IsAmong v worklist' p ⊎ (p ≡ place_of v c off)
-      was p hit = elim (cases_place (key_of v p) (c, off)) [
-        | inr apart ↦ inl (sym (point_behind (c, off) (key_of v p) worklist' apart) ∙ sym (has_at (key_of v p)) ∙ hit)
+      was p hit = elim (cases_place (point_key_of v p) (c, off)) [
+        | inr apart ↦ inl (sym (point_behind (c, off) (point_key_of v p) worklist' apart) ∙ sym (has_at (point_key_of v p)) ∙ hit)
         | inl same ↦
             let n : number_of v.contexts p.0 ≡ c = ap (λ (x : ℕ × ℕ). x.0) same in
             let b : p.1 ≡ off = ap (λ (x : ℕ × ℕ). x.1) same in
@@ -129,11 +129,11 @@ module _ (o : Order State) (f : Flow Place State) where
       ]
 
   -- the point was carried on
-  pub table_opened : OrderLaws o → (v : Contents) (worklist : List (ℕ × ℕ)) (filled : Place → Option State) (MayLead : Place → Place → Type 0) (q : Place) (s : State) (Rest : Place → Place → State → Type 0)
-      → IsTable o f v worklist filled MayLead (λ p. p ≡ q) (λ _ _ _. ⊥) → filled q ≡ Some s → ((r : Reason) → f.Refuses q s r → ⊥)
+  pub solver_opened : OrderLaws o → (v : Contents) (worklist : List (ℕ × ℕ)) (filled : Place → Option State) (MayLead : Place → Place → Type 0) (q : Place) (s : State) (Rest : Place → Place → State → Type 0)
+      → IsSoundSoFar o f v worklist filled MayLead (λ p. p ≡ q) (λ _ _ _. ⊥) → filled q ≡ Some s → ((r : Reason) → f.Refuses q s r → ⊥)
       → ((p : Place) (t : State) → f.Gives q s p t → Rest q p t) → ((r p : Place) (t : State) → Rest r p t → f.Gives q s p t)
-      → IsTable o f v worklist filled MayLead (λ _. ⊥) Rest
-  table_opened order v worklist filled MayLead q s Rest solver at free gives back = record {
+      → IsSoundSoFar o f v worklist filled MayLead (λ _. ⊥) Rest
+  solver_opened order v worklist filled MayLead q s Rest solver at free gives back = record {
     family = solver.family;
     entered = solver.entered;
     held = solver.held;
@@ -142,11 +142,11 @@ module _ (o : Order State) (f : Flow Place State) where
   }
 
   -- a context may have been added
-  pub table_grown : OrderLaws o → (v v' : Contents) (worklist : List (ℕ × ℕ)) (filled : Place → Option State) (MayLead MayLead' : Place → Place → Type 0) (Rest : Place → Place → State → Type 0)
-      (frames : List Frame) (number off : ℕ) (t : State) → IsTable o f v worklist filled MayLead (λ _. ⊥) Rest → AddsContext v.contexts v'.contexts frames number → v'.states ≡ v.states
+  pub solver_grown : OrderLaws o → (v v' : Contents) (worklist : List (ℕ × ℕ)) (filled : Place → Option State) (MayLead MayLead' : Place → Place → Type 0) (Rest : Place → Place → State → Type 0)
+      (frames : List Frame) (number off : ℕ) (t : State) → IsSoundSoFar o f v worklist filled MayLead (λ _. ⊥) Rest → AddsContext v.contexts v'.contexts frames number → v'.states ≡ v.states
       → IsFamily v' → Derived o f (frames, off) t → ((p q : Place) → MayLead p q → MayLead' p q)
-      → IsTable o f v' worklist filled MayLead' (λ _. ⊥) Rest
-  table_grown order v v' worklist filled MayLead MayLead' Rest frames number off t solver adds states family' d leads = record {
+      → IsSoundSoFar o f v' worklist filled MayLead' (λ _. ⊥) Rest
+  solver_grown order v v' worklist filled MayLead MayLead' Rest frames number off t solver adds states family' d leads = record {
     family = family';
     entered = entered;
     held = λ c b m. let (a, at) = solver.held c b m in (a, ap (λ x. states_of x (c, b)) states ∙ at);
@@ -186,18 +186,18 @@ module _ (o : Order State) (f : Flow Place State) where
   -- what waits after a put
   module _ (v v' : Contents) (worklist worklist' : List (ℕ × ℕ)) (c off : ℕ) (changed : Bool) (same : v'.contexts ≡ v.contexts) (marks : WaitsMore worklist worklist' (c, off) changed)
       (family : IsFamily v) (lt : c < length v.contexts) where
-    key_same : (p : Place) → ◌≡◌ {A = ℕ × ℕ} (key_of v' p) (key_of v p)
+    key_same : (p : Place) → ◌≡◌ {A = ℕ × ℕ} (point_key_of v' p) (point_key_of v p)
     key_same p = λ i. (number_of (same i) p.0, p.1)
 
     pub waits_on : (p : Place) → IsAmong v worklist p → IsAmong v' worklist' p
-    waits_on p hit = ap (has_point worklist') (key_same p) ∙ marks.more (key_of v p) hit
+    waits_on p hit = ap (has_point worklist') (key_same p) ∙ marks.more (point_key_of v p) hit
 
     pub waits_here : changed ≡ true → IsAmong v' worklist' (place_of v c off)
     waits_here is = ap (has_point worklist') (key_same (place_of v c off) ∙ (λ i. (number_at v c family lt i, off))) ∙ marks.here is
 
     pub waits_back : ((a b : ℕ) → has_point worklist (a, b) ≡ true → a < length v.contexts) → (p : Place) → IsAmong v' worklist' p
         → IsAmong v worklist p ⊎ ((p ≡ place_of v c off) × (changed ≡ true))
-    waits_back held p hit = elim (marks.back (key_of v p) (ap (has_point worklist') (sym (key_same p)) ∙ hit)) [
+    waits_back held p hit = elim (marks.back (point_key_of v p) (ap (has_point worklist') (sym (key_same p)) ∙ hit)) [
       | inl old ↦ inl old
       | inr (here, is) ↦
           let n : number_of v.contexts p.0 ≡ c = ap (λ (x : ℕ × ℕ). x.0) here in
@@ -207,14 +207,14 @@ module _ (o : Order State) (f : Flow Place State) where
     ]
 
   -- the first of what is still to be put was put
-  pub table_put : OrderLaws o → (v v' : Contents) (worklist worklist' : List (ℕ × ℕ)) (filled filled' : Place → Option State) (MayLead MayLead' : Place → Place → Type 0) (c off : ℕ) (t : State) (changed : Bool)
+  pub solver_put : OrderLaws o → (v v' : Contents) (worklist worklist' : List (ℕ × ℕ)) (filled filled' : Place → Option State) (MayLead MayLead' : Place → Place → Type 0) (c off : ℕ) (t : State) (changed : Bool)
       (Rest Rest' : Place → Place → State → Type 0)
-      → IsTable o f v worklist filled MayLead (λ _. ⊥) Rest → c < length v.contexts → PutsAt o (family_of v) (family_of v') (place_of v c off) t changed
+      → IsSoundSoFar o f v worklist filled MayLead (λ _. ⊥) Rest → c < length v.contexts → PutsAt o (family_of v) (family_of v') (place_of v c off) t changed
       → PutsAt o filled filled' (place_of v c off) t changed → v'.contexts ≡ v.contexts → IsFamily v' → WaitsMore worklist worklist' (c, off) changed → Derived o f (place_of v c off) t
       → ((p r : Place) (s : State) → Rest p r s → Rest' p r s ⊎ ((r ≡ place_of v c off) × (s ≡ t) × MayLead' p (place_of v c off)))
       → ((p r : Place) (s : State) → Rest' p r s → Rest p r s) → ((p r : Place) → MayLead p r → MayLead' p r)
-      → IsTable o f v' worklist' filled' MayLead' (λ _. ⊥) Rest'
-  table_put order v v' worklist worklist' filled filled' MayLead MayLead' c off t changed Rest Rest' solver lt put fills same family marks d fewer back leads =
+      → IsSoundSoFar o f v' worklist' filled' MayLead' (λ _. ⊥) Rest'
+  solver_put order v v' worklist worklist' filled filled' MayLead MayLead' c off t changed Rest Rest' solver lt put fills same family marks d fewer back leads =
       let long = ap length same in
       let E : List (List Frame) → Type 0 = λ x. (i : ℕ) → i < length x → (a : ℕ) × (s : State) × Derived o f (frames_at x i, a) s in
       record {

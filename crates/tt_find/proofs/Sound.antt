@@ -6,7 +6,7 @@ use Rattle.tt_abs.specs.Orders.{Order, OrderLaws}
 use Rattle.tt_abs.specs.Flows.{Flow}
 use Rattle.tt_abs.specs.Families.{CoversAt, Derived, moved, joined, IsGood}
 use Rattle.tt_cert.specs.Places.{PutGives, PutsAt}
-use Rattle.tt_find.specs.Tables.{IsSoundFamily}
+use Rattle.tt_find.specs.Representation.Solvers.{IsSoundFamily}
 
 module _ {S : Type 0} (o : Order S) where
   pub gives_rises : (old : Option S) (t : S) (slot : Option S) (c : Bool) → PutGives o old t slot c → (s : S) → old ≡ Some s → (u : S) × (slot ≡ Some u) × o.Below s u

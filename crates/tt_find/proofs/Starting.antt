@@ -14,7 +14,7 @@ use Rattle.tt_cert.specs.Puts.{number_at, place_of}
 use Rattle.tt_find.specs.declared.origin.Origin.TheVariants.{Elsewhere}
 use Rattle.tt_find.specs.declared.solver.Solver.{Solver}
 use Rattle.tt_find.specs.Found.{IsDerived}
-use Rattle.tt_find.specs.Tables.{ArePoints, AreKept, AreVisits, HasLaws, IsAmong, IsEmptyTable, IsListed, IsStored, IsWhole, IsWithinBudget}
+use Rattle.tt_find.specs.Representation.Solvers.{ArePoints, AreKept, AreVisits, HasLaws, IsAmong, IsEmptySolver, IsListed, IsStored, IsWhole, IsWithinBudget}
 use Rattle.tt_find.proofs.Budget.{budget_start}
 use Rattle.tt_find.proofs.Listed.{listed_now}
 use Rattle.tt_find.proofs.Marking.{kept_put}
@@ -45,7 +45,7 @@ no_points family blank = record {
   most = omega arith;
 }
 
-module _ (s : Setting) (functions : List (ℕ × ℕ)) (laws : HasLaws s functions) (old new : Solver) (t : State) (start : t ≡ start_of functions) (empty : IsEmptyTable old) (stored : IsStored old new 0 0 t Elsewhere) where
+module _ (s : Setting) (functions : List (ℕ × ℕ)) (laws : HasLaws s functions) (old new : Solver) (t : State) (start : t ≡ start_of functions) (empty : IsEmptySolver old) (stored : IsStored old new 0 0 t Elsewhere) where
   abbrev Q : Place
   Q = place_of old.builder 0 0
 

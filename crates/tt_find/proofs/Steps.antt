@@ -16,7 +16,7 @@ use Rattle.tt_abs.specs.Lines.{Precedes}
 use Rattle.tt_abs.specs.StateFlow.{IsPlace, Place, flow_of, height_of}
 use Rattle.tt_abs.specs.States.{state_laws, state_order}
 use Rattle.tt_abs.proofs.LineLaws.{precedes_no_start, precedes_one}
-use Rattle.tt_cert.specs.Checks.{key_of}
+use Rattle.tt_cert.specs.Checks.{point_key_of}
 use Rattle.tt_cert.specs.Contents.{AddsContext, Contents, HasContext, IsFamily, family_of, frames_at, number_of}
 use Rattle.tt_cert.specs.Numbers.{at-number_of, number_of-place}
 use Rattle.tt_cert.specs.Places.{PutGives, PutsAt, has_point, states_of}
@@ -25,7 +25,7 @@ use Rattle.tt_cert.specs.Spots.{spot_of}
 use Rattle.tt_cert.proofs.Puts.{cases_place}
 use Rattle.tt_cert.specs.declared.fault.ProgramFault.{ProgramFault}
 use Rattle.tt_cert.specs.declared.fault.ProgramFault.TheVariants.{Refused, OutOfMemory}
-use Rattle.tt_find.specs.Marks.{SetsMark, mark_of}
+use Rattle.tt_find.specs.Representation.OffsetMarks.{SetsMark, mark_of}
 use Rattle.tt_find.specs.declared.marks.Mark.TheVariants.{Kept, Passed}
 use Rattle.tt_find.specs.declared.marks.OffsetMarks.{OffsetMarks}
 use Rattle.tt_find.specs.declared.origin.Origin.{Origin}
@@ -33,11 +33,11 @@ use Rattle.tt_find.specs.declared.stop.Stop.{Stop}
 use Rattle.tt_find.specs.declared.stop.Stop.TheVariants.{Fault, Restart}
 use Rattle.tt_find.specs.declared.solver.Solver.{Solver}
 use Rattle.tt_find.specs.Found.{AreDerivedContexts, IsDerived, IsJustified, IsNeeded, NamesPlace, NamesStop, refused, apart, too_many}
-use Rattle.tt_find.specs.Tables.{ArePoints, AreVisits, ComesFrom, HasLaws, HasRisen, IsAmong, IsApart, IsCarriedOn, IsCountable, IsLeading, IsListed, IsOnWay, IsPassed, IsPopped, IsPut, IsRefusedAt, IsSound, IsStored, IsTable, IsWhole, IsWithinBudget, KeepsRest, MayLead, Pends, PendsFrom, SparesAt, places_from}
+use Rattle.tt_find.specs.Representation.Solvers.{ArePoints, AreVisits, ComesFrom, HasLaws, HasRisen, IsAmong, IsApart, IsCarriedOn, IsCountable, IsLeading, IsListed, IsOnWay, IsPassed, IsPopped, IsPut, IsRefusedAt, IsSound, IsStored, IsSoundSoFar, IsWhole, IsWithinBudget, KeepsRest, MayLead, Pends, PendsFrom, SparesAt, places_from}
 use Rattle.tt_find.proofs.Budget.{budget_put, budget_same, room_for, updates_fit}
 use Rattle.tt_find.proofs.Listed.{cases_source, listed_back, listed_before, listed_grown, listed_now, listed_on, there_now}
 use Rattle.tt_find.proofs.Marking.{kept_here, kept_passed, kept_put, kept_state, none_kept}
-use Rattle.tt_find.proofs.Points.{family_kept, frames_stay, key_kept, same_or_apart, slot_elsewhere, slot_here, table_grown, table_opened, table_popped, table_put, waits_back, waits_here, waits_on, with_slot}
+use Rattle.tt_find.proofs.Points.{family_kept, frames_stay, key_kept, same_or_apart, slot_elsewhere, slot_here, solver_grown, solver_opened, solver_popped, solver_put, waits_back, waits_here, waits_on, with_slot}
 use Rattle.tt_find.proofs.Sound.{gives_same, sound_passed, stays}
 use Rattle.tt_find.proofs.Visits.{more_elsewhere, more_here, more_rises, one_more, points_more, points_same, visits_changed, visits_passed, visits_same}
 use Rattle.tt_find.proofs.Waits.{point_behind, point_here}
@@ -98,7 +98,7 @@ module _ (s : Setting) (functions : List (ℕ × ℕ)) (laws : HasLaws s functio
 
     waited_before : (q : Place) → IsAmong solver.builder rest q ⊎ (q ≡ place_of solver.builder c off) → IsAmong solver.builder solver.worklist q ⊎ ⊥
     waited_before q w = elim w [
-      | inl hit ↦ inl (waited_still (key_of solver.builder q) hit)
+      | inl hit ↦ inl (waited_still (point_key_of solver.builder q) hit)
       | inr same ↦ let W : Place → Type 0 = λ x. IsAmong solver.builder solver.worklist x in inl (subst W (sym same) waited_there)
     ]
 
@@ -106,7 +106,7 @@ module _ (s : Setting) (functions : List (ℕ × ℕ)) (laws : HasLaws s functio
     popped_left first = record {
       sound = record {
         filled = whole.filled;
-        kept = table_popped state_order (flow_of s functions) state_laws solver.builder solver.worklist rest whole.filled (MayLead s solver.builder solver.spare.keys) c off whole.kept is;
+        kept = solver_popped state_order (flow_of s functions) state_laws solver.builder solver.worklist rest whole.filled (MayLead s solver.builder solver.spare.keys) c off whole.kept is;
         marks = whole.marks;
         start = whole.start;
         needed = whole.needed;
@@ -144,7 +144,7 @@ module _ (s : Setting) (functions : List (ℕ × ℕ)) (laws : HasLaws s functio
       let sound = way.sound in
       record {
         filled = sound.filled;
-        kept = table_opened state_order (flow_of s functions) state_laws solver.builder solver.worklist sound.filled (MayLead s solver.builder solver.spare.keys) p a (λ _ _ _. ⊥) sound.kept way.here
+        kept = solver_opened state_order (flow_of s functions) state_laws solver.builder solver.worklist sound.filled (MayLead s solver.builder solver.spare.keys) p a (λ _ _ _. ⊥) sound.kept way.here
             (end_safe s p a ends) (λ q t g. (end_gives s p a ends q t).1 g) (λ _ _ _ never. absurd never);
         marks = sound.marks;
         start = sound.start;
@@ -169,7 +169,7 @@ module _ (s : Setting) (functions : List (ℕ × ℕ)) (laws : HasLaws s functio
         gives = λ q u h. (give q u).0 h;
         sound = record {
           filled = sound.filled;
-          kept = table_opened state_order (flow_of s functions) state_laws solver.builder solver.worklist sound.filled (MayLead s solver.builder solver.spare.keys) p a (PendsFrom p (places_from p.0 ways 0) t)
+          kept = solver_opened state_order (flow_of s functions) state_laws solver.builder solver.worklist sound.filled (MayLead s solver.builder solver.spare.keys) p a (PendsFrom p (places_from p.0 ways 0) t)
               sound.kept way.here (ways_safe s p a ways t on.running on.result on.in_range) (λ q u g. (refl, (give q u).1 g)) (λ r q u h. (give q u).0 h.1);
           marks = sound.marks;
           start = sound.start;
@@ -325,8 +325,8 @@ module _ (s : Setting) (functions : List (ℕ × ℕ)) (laws : HasLaws s functio
               }))
         ]
 
-    kept_now : IsTable state_order (flow_of s functions) new.builder new.worklist filled' (MayLead s new.builder new.spare.keys) (λ _. ⊥) (PendsFrom p qs t)
-    kept_now = table_put state_order (flow_of s functions) state_laws old.builder new.builder old.worklist new.worklist filled filled' (MayLead s old.builder old.spare.keys) (MayLead s new.builder new.spare.keys)
+    kept_now : IsSoundSoFar state_order (flow_of s functions) new.builder new.worklist filled' (MayLead s new.builder new.spare.keys) (λ _. ⊥) (PendsFrom p qs t)
+    kept_now = solver_put state_order (flow_of s functions) state_laws old.builder new.builder old.worklist new.worklist filled filled' (MayLead s old.builder old.spare.keys) (MayLead s new.builder new.spare.keys)
         c off t stored.put.changed (PendsFrom p (Q ∷ qs) t) (PendsFrom p qs t) leading.sound.kept lt stored.put.put fills stored.put.contexts stored.put.family stored.put.worklist derived_q
         (λ a r u h. elim h.1 [
           | inl now ↦ let M : Place → Type 0 = λ x. MayLead s new.builder new.spare.keys x Q in inr (now.0, now.1, subst M (sym h.0) leads_here)
@@ -558,7 +558,7 @@ module _ (s : Setting) (functions : List (ℕ × ℕ)) (laws : HasLaws s functio
       gives = leading.gives;
       sound = record {
         filled = leading.sound.filled;
-        kept = table_grown state_order (flow_of s functions) state_laws solver.builder v' solver.worklist leading.sound.filled (MayLead s solver.builder solver.spare.keys) (MayLead s v' solver.spare.keys)
+        kept = solver_grown state_order (flow_of s functions) state_laws solver.builder v' solver.worklist leading.sound.filled (MayLead s solver.builder solver.spare.keys) (MayLead s v' solver.spare.keys)
             (PendsFrom p ((frames, off) ∷ qs) t) frames number off t leading.sound.kept adds states family' (leading.sound.kept.sound.rest_derived p (frames, off) t (refl, inl (refl, refl)))
             (λ a b may. elim may [ inl just ↦ inl just | inr listed ↦ inr (listed_grown solver.builder v' solver.spare.keys frames number family_old family' adds states b listed) ]);
         marks = record {

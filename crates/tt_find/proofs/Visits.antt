@@ -12,7 +12,7 @@ use Rattle.tt_abs.proofs.LineLaws.{precedes_one, precedes_rises}
 use Rattle.tt_cert.specs.Places.{PutGives, PutsAt}
 use Rattle.tt_cert.proofs.FillingLaws.{some_or_none}
 use Rattle.tt_find.specs.Found.{HasPlace}
-use Rattle.tt_find.specs.Tables.{ArePoints, AreVisits}
+use Rattle.tt_find.specs.Representation.Solvers.{ArePoints, AreVisits}
 use Rattle.tt_find.proofs.Points.{same_or_apart}
 
 -- one more at a place

@@ -14,8 +14,8 @@ use Rattle.std.proofs.lemmas.List.Folds.{list_any_none}
 use Rattle.std.proofs.lemmas.Map.Views.{All-insert_key}
 use Rattle.tt_cert.specs.Places.{has_point, place_cmp}
 use Rattle.tt_cert.proofs.Puts.{cases_place, places_apart}
-use Rattle.tt_find.specs.Worklist.{AreInOrder, waiting_of}
-use Rattle.tt_find.specs.Tables.{WaitsMore}
+use Rattle.tt_find.specs.Representation.Worklist.{AreInOrder, waiting_of}
+use Rattle.tt_find.specs.Representation.Solvers.{WaitsMore}
 
 place_total : IsTotalOrder place_cmp
 place_total = then_total (on_total (λ (t : ℕ × ℕ). t.0) nat_cmp_total) (on_total (λ (t : ℕ × ℕ). t.1) nat_cmp_total)

@@ -14,7 +14,7 @@ use Rattle.tt_abs.specs.Transfers.{Next, outcome_on_cells}
 use Rattle.tt_abs.proofs.StateParts.{one_state}
 use Rattle.tt_cert.specs.Checks.{place_of_next}
 use Rattle.tt_cert.proofs.Checked.{same_states}
-use Rattle.tt_find.specs.Tables.{Pends, place_behind, places_from}
+use Rattle.tt_find.specs.Representation.Solvers.{Pends, place_behind, places_from}
 
 pends_at : (fs : List Frame) (ways : List Move) (t : State) (i : ℕ) (n : Next) → slice_get (map (next_by fs (abstract_of t)) ways) i ≡ Some n
     → Pends (map (place_behind fs) ways) t (place_of_next n) t

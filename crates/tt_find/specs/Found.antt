@@ -1,5 +1,5 @@
--- What the finder finds, and what makes its refusals right. (Cousot and Cousot, "Abstract interpretation": the least fixed point, by
--- chaotic iteration.)
+-- What the finder finds, and what makes its refusals right. (Cousot and Cousot, "Abstract
+-- interpretation": the least fixed point, by chaotic iteration.)
 use Rattle.std.specs.Prelude.{◌≡◌, ◌≢◌, ◌⊎◌, ℕ, ◌+◌, ◌*◌, ◌<◌, ◌≤◌, Bool, false, Option, Some, None, List, [], ◌∷◌, length}
 use Rattle.tt_code.specs.Settings.{Setting}
 use Rattle.tt_code.specs.declared.machine.Frame.{Frame}
@@ -28,20 +28,28 @@ abbrev pub IsDerived : Setting → List (ℕ × ℕ) → Place → State → Typ
 IsDerived s functions = Derived state_order (flow_of s functions)
 
 -- each state of the family is derived, and the family is below each that is good
-pub record IsLeast (s : Setting) (functions : List (ℕ × ℕ)) (family : Place → Option State) : Type 0 where
+pub record IsLeast (s : Setting) (functions : List (ℕ × ℕ)) (family : Place → Option State)
+    : Type 0 where
   pub derived : (p : Place) (a : State) → family p ≡ Some a → IsDerived s functions p a
-  pub below : (other : Place → Option State) → IsGood state_order (flow_of s functions) other → IsBelowFamily state_order family other
+  pub below : (other : Place → Option State) → IsGood state_order (flow_of s functions) other
+      → IsBelowFamily state_order family other
 
--- Each context has a derived state, and a state in every good family; its calls are in their turns, and no body runs twice.
-pub record AreLeastContexts (s : Setting) (functions : List (ℕ × ℕ)) (contexts : List (List Frame)) : Type 0 where
-  pub derived : (frames : List Frame) → HasContext contexts frames → (offset : ℕ) × (a : State) × IsDerived s functions (frames, offset) a
-  pub below : (other : Place → Option State) → IsGood state_order (flow_of s functions) other → (frames : List Frame) → HasContext contexts frames → HasStateIn other frames
+-- Each context has a derived state, and a state in every good family; its calls are in their turns,
+-- and no body runs twice.
+pub record AreLeastContexts (s : Setting) (functions : List (ℕ × ℕ)) (contexts : List (List Frame))
+    : Type 0 where
+  pub derived : (frames : List Frame) → HasContext contexts frames
+      → (offset : ℕ) × (a : State) × IsDerived s functions (frames, offset) a
+  pub below : (other : Place → Option State) → IsGood state_order (flow_of s functions) other
+      → (frames : List Frame) → HasContext contexts frames → HasStateIn other frames
   pub calls : (frames : List Frame) → HasContext contexts frames → FramesFit frames
 
--- Where the start lists functions with bodies in the font program or the CVT program, so does each state of the family.
+-- Where the start lists functions with bodies in the font program or the CVT program, so does each
+-- state of the family.
 abbrev pub KeepsBodies : Setting → List (ℕ × ℕ) → (Place → Option State) → Type 0
 KeepsBodies s functions family =
-    AreProgramsOfFont s → AreFunctionBodies s functions → (p : Place) (a : State) → family p ≡ Some a → AreFunctionBodies s a.functions
+    AreProgramsOfFont s → AreFunctionBodies s functions → (p : Place) (a : State)
+    → family p ≡ Some a → AreFunctionBodies s a.functions
 
 -- the place is one of these
 abbrev pub HasPlace : List Place → Place → Type 0
@@ -59,9 +67,11 @@ pub record ArePointsOf (family : Place → Option State) (points : List Place) :
   pub all : (p : Place) (a : State) → family p ≡ Some a → HasPlace points p
   pub only : (p : Place) → HasPlace points p → (a : State) × (family p ≡ Some a)
 
--- What is found: the family's filling is good, each of its states is derived, so that it is below each good family, and is within the limits; at
--- least one update was made for each of its points, and at most one more for each rise of its state.
-pub record HasLeastFilling (s : Setting) (functions : List (ℕ × ℕ)) (updates : ℕ) (family : Place → Option State) : Type 0 where
+-- What is found: the family's filling is good, each of its states is derived, so that it is below
+-- each good family, and is within the limits; at least one update was made for each of its points,
+-- and at most one more for each rise of its state.
+pub record HasLeastFilling (s : Setting) (functions : List (ℕ × ℕ)) (updates : ℕ)
+    (family : Place → Option State) : Type 0 where
   pub filling : Place → Option State
   pub fills : IsFilling s family filling
   pub good : IsGoodFamily s functions filling
@@ -82,7 +92,8 @@ pub record IsLedElsewhere (s : Setting) (functions : List (ℕ × ℕ)) (q : Pla
   pub gives : GivesState s from state q given
   pub elsewhere : Precedes s from q → ⊥
 
--- a filling has no state there that the family lacks: it is the start, or a place to which another one leads than the one just before
+-- a filling has no state there that the family lacks: it is the start, or a place to which another
+-- one leads than the one just before
 abbrev pub IsNeeded : Setting → List (ℕ × ℕ) → Place → Type 0
 IsNeeded s functions q = (q ≡ ([], 0)) ⊎ IsLedElsewhere s functions q
 
@@ -93,33 +104,45 @@ pub record IsWithout (family other : Place → Option State) (q : Place) : Type 
   pub gone : other q ≡ None
   pub same : (p : Place) → p ≢ q → other p ≡ family p
 
--- the family has no good filling, and what a check finds broken first is that there is no state at this place
-pub record LacksPoint (s : Setting) (functions : List (ℕ × ℕ)) (contents : Contents) (q : Place) : Type 0 where
+-- the family has no good filling, and what a check finds broken first is that there is no state at
+-- this place
+pub record LacksPoint (s : Setting) (functions : List (ℕ × ℕ)) (contents : Contents) (q : Place)
+    : Type 0 where
   pub none_good : HasGoodFilling s functions (family_of contents) → ⊥
-  pub missing : (p : Place) (r : Reason) → IsFillingBrokenFirst s functions contents p r → (p ≡ q) × (r ≡ MissingPoint)
+  pub missing : (p : Place) (r : Reason) → IsFillingBrokenFirst s functions contents p r
+      → (p ≡ q) × (r ≡ MissingPoint)
 
 -- no state of the family can be left out
 abbrev pub NeedsAll : Setting → List (ℕ × ℕ) → (Place → Option State) → Type 0
-NeedsAll s functions family = (q : Place) (other : Contents) → IsWithout family (family_of other) q → LacksPoint s functions other q
+NeedsAll s functions family =
+    (q : Place) (other : Contents) → IsWithout family (family_of other) q
+    → LacksPoint s functions other q
 
 -- no family of a program that isn't too long is good, whatever it has at the end
 abbrev pub NoneIsGood : Setting → List (ℕ × ℕ) → Type 0
-NoneIsGood s functions = (family : Place → Option State) → IsShortEnough s s.kind → IsGood state_order (flow_of s functions) family → HasFewContexts family → ⊥
+NoneIsGood s functions =
+    (family : Place → Option State) → IsShortEnough s s.kind
+    → IsGood state_order (flow_of s functions) family → HasFewContexts family → ⊥
 
--- The family is good except for a state at the end, which is required of a font program and of a CVT program; and each of its states is derived,
--- so that it has the joins of all derived states.
-pub record LacksEnd (s : Setting) (functions : List (ℕ × ℕ)) (family : Place → Option State) : Type 0 where
+-- The family is good except for a state at the end, which is required of a font program and of a
+-- CVT program; and each of its states is derived, so that it has the joins of all derived states.
+pub record LacksEnd (s : Setting) (functions : List (ℕ × ℕ)) (family : Place → Option State)
+    : Type 0 where
   pub derived : (p : Place) (a : State) → family p ≡ Some a → IsDerived s functions p a
   pub good : IsGood state_order (flow_of s functions) family
   pub few : HasFewContexts family
   pub endless : EndsWell s s.kind family → ⊥
 
 -- no two of these contexts are the same, and each has a derived state
-pub record AreDerivedContexts (s : Setting) (functions : List (ℕ × ℕ)) (contexts : List (List Frame)) : Type 0 where
-  pub distinct : (i j : ℕ) → i < length contexts → j < length contexts → frames_at contexts i ≡ frames_at contexts j → i ≡ j
-  pub derived : (i : ℕ) → i < length contexts → (offset : ℕ) × (a : State) × IsDerived s functions (frames_at contexts i, offset) a
+pub record AreDerivedContexts (s : Setting) (functions : List (ℕ × ℕ))
+    (contexts : List (List Frame)) : Type 0 where
+  pub distinct : (i j : ℕ) → i < length contexts → j < length contexts
+      → frames_at contexts i ≡ frames_at contexts j → i ≡ j
+  pub derived : (i : ℕ) → i < length contexts
+      → (offset : ℕ) × (a : State) × IsDerived s functions (frames_at contexts i, offset) a
 
--- more than 65,535 contexts have derived states, and a derived state at the place gives one in one of them
+-- more than 65,535 contexts have derived states, and a derived state at the place gives one in one
+-- of them
 pub record EntersTooMany (s : Setting) (functions : List (ℕ × ℕ)) (p : Place) : Type 0 where
   pub contexts : List (List Frame)
   pub derived : AreDerivedContexts s functions contexts
@@ -131,18 +154,24 @@ pub record EntersTooMany (s : Setting) (functions : List (ℕ × ℕ)) (p : Plac
   pub gives : GivesState s p state next next_state
   pub into : HasContext contexts next.0
 
--- Why no family is found, and where: a glyph program is too long; a derived state is refused; two states that are derived at one place
--- differ in depth; there are too many contexts; the joins of the derived states are a good family, except for the end.
+-- Why no family is found, and where: a glyph program is too long; a derived state is refused; two
+-- states that are derived at one place differ in depth; there are too many contexts; the joins of
+-- the derived states are a good family, except for the end.
 pub data IsJustified (s : Setting) (functions : List (ℕ × ℕ)) : Place → Reason → Type 0 where
-  too_long : (IsShortEnough s s.kind → ⊥) → IsJustified s functions ([], s.limits.program_size) ProgramTooLong
-  refused : (p : Place) (a : State) (r : Reason) → IsDerived s functions p a → RefusesState s p a r → IsJustified s functions p r
-  apart : (p : Place) (a b : State) → IsDerived s functions p a → IsDerived s functions p b → (state_order.SameDepth a b → ⊥) → IsJustified s functions p DepthMismatch
+  too_long : (IsShortEnough s s.kind → ⊥)
+      → IsJustified s functions ([], s.limits.program_size) ProgramTooLong
+  refused : (p : Place) (a : State) (r : Reason) → IsDerived s functions p a → RefusesState s p a r
+      → IsJustified s functions p r
+  apart : (p : Place) (a b : State) → IsDerived s functions p a → IsDerived s functions p b
+      → (state_order.SameDepth a b → ⊥) → IsJustified s functions p DepthMismatch
   too_many : (p : Place) → EntersTooMany s functions p → IsJustified s functions p TooManyContexts
-  never_ends : (family : Place → Option State) → LacksEnd s functions family → IsJustified s functions ([], 0) NeverEnds
+  never_ends : (family : Place → Option State) → LacksEnd s functions family
+      → IsJustified s functions ([], 0) NeverEnds
 
 -- the fault names such a place, and the reason; out of memory is unspecified
 abbrev pub NamesPlace : (Place → Reason → Type 0) → ProgramFault → Type 0
-NamesPlace Is (Refused spot offset reason) = (p : Place) × (spot ≡ spot_of p.0) × (offset ≡ p.1) × Is p reason
+NamesPlace Is (Refused spot offset reason) =
+    (p : Place) × (spot ≡ spot_of p.0) × (offset ≡ p.1) × Is p reason
 NamesPlace Is (OutOfMemory e) = Unit {0}
 
 -- a state came where states had passed; where states are kept everywhere this can't be

@@ -1,4 +1,3 @@
 pub mod Found
-pub mod Marks
-pub mod Tables
-pub mod Worklist
+pub mod FoundSubjects
+pub mod Representation

@@ -1,14 +1,13 @@
-//! The finder: from the start, the state at the smallest point that is new or has changed is carried on, until none is left.
+//! The finder: from the start, the state at the smallest point that is new or has changed is
+//! carried on, until none is left.
 
-ghost use Rattle.std.specs.Prelude.{◌≡◌, ◌⊎◌, ◌↔◌, ℕ, ◌+◌, ◌*◌, ◌≤◌, ◌<◌, [], ◌∷◌, Option, Some, IfOk, IfErr, IsTrue, OnOk};
-ghost use Rattle.tt_abs.specs.declared.state.State.{State as AnyState};
+ghost use Rattle.std.specs.Prelude.{◌≡◌, [], ◌∷◌, IfErr, IfOk};
 ghost use Rattle.tt_abs.specs.Entries.{Rises};
 ghost use Rattle.tt_abs.specs.Settings.{setting_of};
-ghost use Rattle.tt_abs.specs.StateFlow.{FunctionsFit, Place};
-ghost use Rattle.tt_cert.specs.Checks.{IsOutOfMemory};
-ghost use Rattle.tt_cert.specs.Contents.{family_of};
-ghost use Rattle.tt_find.specs.Found.{AreLeastContexts, HasLeastFilling, IsJustified, IsNeverEnding, LacksEnd, NamesPlace, NamesStop, NeedsAll, NoneIsGood};
-ghost use Rattle.tt_find.specs.Tables.{HasLaws, IsEmptyTable, IsFound, IsWhole};
+ghost use Rattle.tt_abs.specs.StateFlow.{FunctionsFit};
+ghost use Rattle.tt_find.specs.FoundSubjects.{HasLeastContexts, HasOnlyNeeded, IsJustifiedFor, IsLeastFor, TellsNoEnd, TellsNoneIsGood};
+ghost use Rattle.tt_find.specs.Representation.SolverSubjects.{HasLawsFor, IsFoundFor, IsWholeFor, StopsFor};
+ghost use Rattle.tt_find.specs.Representation.Solvers.{IsEmptySolver};
 
 use crate::origin::Origin;
 use crate::run::{run, store};
@@ -22,22 +21,24 @@ use tt_abs::laws::flow_laws;
 use tt_cert::{Builder, Certificate, ProgramFault, Spot, ends_well, is_short};
 use tt_code::Reason;
 
-/// How often the finder starts with the marks that it has found. After that it keeps states everywhere.
+/// How often the finder starts with the marks that it has found. After that it keeps states
+/// everywhere.
 const STARTS: u32 = 8;
 
-/// A family that was found, and how many updates made its filling: the first state of a point is one, and each time that another comes there is
-/// one more. Where states aren't kept, each that comes counts as another one: so a finder that has made other families may count otherwise.
+/// A family that was found, and how many updates made its filling: the first state of a point is
+/// one, and each time that another comes there is one more. Where states aren't kept, each that
+/// comes counts as another one: so a finder that has made other families may count otherwise.
 #[derive(Drop)]
 pub struct Found {
     pub certificate: Certificate,
     pub updates: u64,
 }
 
-/// Shows that the laws of the program's flow hold, and that no count of updates is too great, as it always is.
-fn has_laws(setting: &Setting<'_>)
+/// States that the laws of the program's flow hold, and that no count of updates is too great.
+fn law_facts(setting: &Setting<'_>)
     requires rises { Rises setting.now.start.now }
     requires fits { FunctionsFit (setting_of setting.now) setting.now.start.now }
-    ensures { HasLaws (setting_of setting.now) setting.now.start.now }
+    ensures { HasLawsFor setting.now }
 {
     flow_laws();
     setting.range_facts();
@@ -51,14 +52,14 @@ fn has_laws(setting: &Setting<'_>)
 /// As the run from each point.
 fn run_to_fixpoint(alloc: Global, solver: &mut Solver, setting: &Setting<'_>) -> Result<(), Stop>
     requires rises { Rises setting.now.start.now }
-    requires laws { HasLaws (setting_of setting.now) setting.now.start.now }
-    requires empty { IsEmptyTable solver.old }
-    ensures whole { IfOk result (λ _. IsWhole (setting_of setting.now) setting.now.start.now solver.new) }
+    requires laws { HasLawsFor setting.now }
+    requires empty { IsEmptySolver solver.old }
+    ensures whole { IfOk result (λ _. IsWholeFor setting.now solver.new) }
     ensures none { IfOk result (λ _. solver.new.worklist ≡ []) }
-    ensures stops { IfErr result (NamesStop (IsJustified (setting_of setting.now) setting.now.start.now) solver.old.marks.everywhere) }
+    ensures stops { IfErr result (StopsFor setting.now solver.old.marks.everywhere) }
 {
     let mut walk = Walk::start(alloc, setting.start)?;
-    solver.builder.is_family();
+    solver.builder.family_facts();
     if let Err(stop) = store(solver, &mut walk, 0, 0, Origin::Elsewhere) {
         return Err(stop);
     }
@@ -70,7 +71,8 @@ fn run_to_fixpoint(alloc: Global, solver: &mut Solver, setting: &Setting<'_>) ->
     Ok(())
 }
 
-/// Fills a solver anew, with states kept at the points where ways were found to meet, until no two ways meet elsewhere.
+/// Fills a solver anew, with states kept at the points where ways were found to meet, until no two
+/// ways meet elsewhere.
 ///
 /// # Errors
 /// As `find` refuses what comes on the way.
@@ -80,10 +82,10 @@ fn restart_to_fixpoint(
     setting: &Setting<'_>,
 ) -> Result<(), ProgramFault>
     requires rises { Rises setting.now.start.now }
-    requires laws { HasLaws (setting_of setting.now) setting.now.start.now }
-    ensures whole { IfOk result (λ _. IsWhole (setting_of setting.now) setting.now.start.now solver.new) }
+    requires laws { HasLawsFor setting.now }
+    ensures whole { IfOk result (λ _. IsWholeFor setting.now solver.new) }
     ensures none { IfOk result (λ _. solver.new.worklist ≡ []) }
-    ensures justified { IfErr result (NamesPlace (IsJustified (setting_of setting.now) setting.now.start.now)) }
+    ensures justified { IfErr result (IsJustifiedFor setting.now) }
 {
     solver.marks.begin(setting)?;
     for _ in 0..STARTS {
@@ -125,11 +127,11 @@ fn find_fixpoint(
 ) -> Result<u64, ProgramFault>
     requires rises { Rises setting.now.start.now }
     requires fits { FunctionsFit (setting_of setting.now) setting.now.start.now }
-    ensures laws { HasLaws (setting_of setting.now) setting.now.start.now }
-    ensures found { IfOk result (IsFound (setting_of setting.now) setting.now.start.now solver.new) }
-    ensures justified { IfErr result (NamesPlace (IsJustified (setting_of setting.now) setting.now.start.now)) }
+    ensures laws { HasLawsFor setting.now }
+    ensures found { IfOk result (IsFoundFor setting.now solver.new) }
+    ensures justified { IfErr result (IsJustifiedFor setting.now) }
 {
-    has_laws(setting);
+    law_facts(setting);
     if !is_short(setting) {
         let most = u32::from(setting.limits.program_size);
         return Err(refused_in_main(most, Reason::ProgramTooLong));
@@ -155,7 +157,8 @@ pub struct Finder {
 impl Finder {
     /// Makes a finder without memory.
     pub fn new(alloc: Global) -> Finder
-        ensures { IsEmptyTable result.solver }
+        ensures contexts { result.solver.builder.contexts ≡ [] ∷ [] }
+        ensures states { result.solver.builder.states ≡ [] }
     {
         Finder {
             solver: Solver::new(alloc),
@@ -170,20 +173,20 @@ impl Finder {
         self.solver.builder = certificate.into_builder();
     }
 
-    /// Returns the least family as `find` finds it, with the states that it has kept besides those that a filling needs. Its certificate has the
-    /// finder's memory for states, which `take_back` takes back.
+    /// Returns the least family as `find` finds it, with the states that it has kept besides those
+    /// that a filling needs. Its certificate has the finder's memory for states, which `take_back`
+    /// takes back.
     ///
     /// # Errors
     /// As `find`.
     pub fn find(&mut self, alloc: Global, setting: &Setting<'_>) -> Result<Found, ProgramFault>
         requires rises { Rises setting.now.start.now }
         requires fits { FunctionsFit (setting_of setting.now) setting.now.start.now }
-        ensures filling { IfOk result (λ found. HasLeastFilling (setting_of setting.now) setting.now.start.now found.updates (family_of found.certificate)) }
-        ensures contexts { IfOk result (λ found. AreLeastContexts (setting_of setting.now) setting.now.start.now found.certificate.contexts) }
-        ensures justified { IfErr result (NamesPlace (IsJustified (setting_of setting.now) setting.now.start.now)) }
-        ensures none_good { IfErr result (λ fault. IsOutOfMemory fault ⊎ IsNeverEnding fault ⊎ NoneIsGood (setting_of setting.now) setting.now.start.now) }
-        ensures never_ends { (family : Place → Option AnyState) → LacksEnd (setting_of setting.now) setting.now.start.now family
-            → IfOk result (λ _. ⊥) × IfErr result (λ fault. IsOutOfMemory fault ⊎ IsNeverEnding fault) }
+        ensures filling { IfOk result (IsLeastFor setting.now) }
+        ensures contexts { IfOk result (HasLeastContexts setting.now) }
+        ensures justified { IfErr result (IsJustifiedFor setting.now) }
+        ensures none_good { IfErr result (TellsNoneIsGood setting.now) }
+        ensures never_ends { TellsNoEnd setting.now result }
     {
         let updates = match find_fixpoint(alloc, &mut self.solver, setting) {
             Ok(updates) => updates,
@@ -199,8 +202,8 @@ impl Finder {
         }
     }
 
-    /// Returns the least family as `find` finds it, without the states that a filling adds. Its certificate has the finder's memory for states, which
-    /// `take_back` takes back.
+    /// Returns the least family as `find` finds it, without the states that a filling adds. Its
+    /// certificate has the finder's memory for states, which `take_back` takes back.
     ///
     /// # Errors
     /// As `find`.
@@ -211,13 +214,12 @@ impl Finder {
     ) -> Result<Found, ProgramFault>
         requires rises { Rises setting.now.start.now }
         requires fits { FunctionsFit (setting_of setting.now) setting.now.start.now }
-        ensures filling { IfOk result (λ found. HasLeastFilling (setting_of setting.now) setting.now.start.now found.updates (family_of found.certificate)) }
-        ensures contexts { IfOk result (λ found. AreLeastContexts (setting_of setting.now) setting.now.start.now found.certificate.contexts) }
-        ensures needed { IfOk result (λ found. NeedsAll (setting_of setting.now) setting.now.start.now (family_of found.certificate)) }
-        ensures justified { IfErr result (NamesPlace (IsJustified (setting_of setting.now) setting.now.start.now)) }
-        ensures none_good { IfErr result (λ fault. IsOutOfMemory fault ⊎ IsNeverEnding fault ⊎ NoneIsGood (setting_of setting.now) setting.now.start.now) }
-        ensures never_ends { (family : Place → Option AnyState) → LacksEnd (setting_of setting.now) setting.now.start.now family
-            → IfOk result (λ _. ⊥) × IfErr result (λ fault. IsOutOfMemory fault ⊎ IsNeverEnding fault) }
+        ensures filling { IfOk result (IsLeastFor setting.now) }
+        ensures contexts { IfOk result (HasLeastContexts setting.now) }
+        ensures needed { IfOk result (HasOnlyNeeded setting.now) }
+        ensures justified { IfErr result (IsJustifiedFor setting.now) }
+        ensures none_good { IfErr result (TellsNoneIsGood setting.now) }
+        ensures never_ends { TellsNoEnd setting.now result }
     {
         let updates = match find_fixpoint(alloc, &mut self.solver, setting) {
             Ok(updates) => updates,
@@ -234,24 +236,25 @@ impl Finder {
     }
 }
 
-/// Returns the least family that is good for the program of this setting, without the states that a filling adds. The smallest point that is new
-/// or has changed is taken first, by the number of its context, which is the order in which contexts were entered, and by its offset
-/// within one; of two ways the one to the smaller offset comes first.
+/// Returns the least family that is good for the program of this setting, without the states that a
+/// filling adds. The smallest point that is new or has changed is taken first, by the number of its
+/// context, which is the order in which contexts were entered, and by its offset within one; of two
+/// ways the one to the smaller offset comes first.
 ///
 /// # Errors
-/// `Refused`, for a glyph program longer than maxSizeOfInstructions, at that offset; for a state that an instruction refuses, with its reason,
-/// at that instruction; for two states of different depths, where they meet; for more than 65,535 contexts, at the instruction that
-/// enters one more; for a font program or a CVT program that comes nowhere to its end, at its start. `OutOfMemory`.
+/// `Refused`, for a glyph program longer than maxSizeOfInstructions, at that offset; for a state
+/// that an instruction refuses, with its reason, at that instruction; for two states of different
+/// depths, where they meet; for more than 65,535 contexts, at the instruction that enters one more;
+/// for a font program or a CVT program that comes nowhere to its end, at its start. `OutOfMemory`.
 pub fn find(alloc: Global, setting: &Setting<'_>) -> Result<Found, ProgramFault>
     requires rises { Rises setting.now.start.now }
     requires fits { FunctionsFit (setting_of setting.now) setting.now.start.now }
-    ensures filling { IfOk result (λ found. HasLeastFilling (setting_of setting.now) setting.now.start.now found.updates (family_of found.certificate)) }
-    ensures contexts { IfOk result (λ found. AreLeastContexts (setting_of setting.now) setting.now.start.now found.certificate.contexts) }
-    ensures needed { IfOk result (λ found. NeedsAll (setting_of setting.now) setting.now.start.now (family_of found.certificate)) }
-    ensures justified { IfErr result (NamesPlace (IsJustified (setting_of setting.now) setting.now.start.now)) }
-    ensures none_good { IfErr result (λ fault. IsOutOfMemory fault ⊎ IsNeverEnding fault ⊎ NoneIsGood (setting_of setting.now) setting.now.start.now) }
-    ensures never_ends { (family : Place → Option AnyState) → LacksEnd (setting_of setting.now) setting.now.start.now family
-        → IfOk result (λ _. ⊥) × IfErr result (λ fault. IsOutOfMemory fault ⊎ IsNeverEnding fault) }
+    ensures filling { IfOk result (IsLeastFor setting.now) }
+    ensures contexts { IfOk result (HasLeastContexts setting.now) }
+    ensures needed { IfOk result (HasOnlyNeeded setting.now) }
+    ensures justified { IfErr result (IsJustifiedFor setting.now) }
+    ensures none_good { IfErr result (TellsNoneIsGood setting.now) }
+    ensures never_ends { TellsNoEnd setting.now result }
 {
     let mut finder = Finder::new(alloc);
     finder.find_needed(alloc, setting)

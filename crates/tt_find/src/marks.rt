@@ -1,7 +1,7 @@
 //! At which offsets of the programs states are kept.
 
 ghost use Rattle.std.specs.Prelude.{◌≡◌, ◌≢◌, IsTrue, slice_index_or};
-ghost use Rattle.tt_find.specs.Marks.{SetsMark, mark_of};
+ghost use Rattle.tt_find.specs.Representation.OffsetMarks.{SetsMark, mark_of};
 
 use std::alloc::{AllocError, Global};
 use tt_abs::Setting;
@@ -18,8 +18,9 @@ pub(crate) enum Mark {
     Kept,
 }
 
-/// At which offsets of the three programs states are kept: those at which ways meet. Which they are is found on the way, and is remembered for
-/// the next program, which may call the same functions. After the end of a list states are kept.
+/// At which offsets of the three programs states are kept: those at which ways meet. Which they are
+/// is found on the way, and is remembered for the next program, which may call the same functions.
+/// After the end of a list states are kept.
 #[derive(Drop)]
 pub(crate) struct OffsetMarks {
     /// Whether states are kept at all offsets, whatever the lists tell.
@@ -60,8 +61,9 @@ impl OffsetMarks {
         }
     }
 
-    /// Begins with a program: nothing is known of its offsets, and what was known of those of the font program and of the CVT program stays, if those
-    /// are as long as before. What was known of other programs costs only time.
+    /// Begins with a program: nothing is known of its offsets, and what was known of those of the
+    /// font program and of the CVT program stays, if those are as long as before. What was known of
+    /// other programs costs only time.
     ///
     /// # Errors
     /// If memory runs out.
@@ -99,7 +101,8 @@ impl OffsetMarks {
         }
     }
 
-    /// Whether no state went over this offset. From now on states are kept there; those that went over it weren't.
+    /// Whether no state went over this offset. From now on states are kept there; those that went
+    /// over it weren't.
     pub(crate) fn keep(&mut self, spot: Spot, offset: u32) -> bool
         ensures kept { IsTrue result → SetsMark self.old self.new spot offset Mark.Kept }
         ensures was { IsTrue result → mark_of self.old spot offset ≢ Mark.Passed }

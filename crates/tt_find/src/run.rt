@@ -1,16 +1,11 @@
-//! A run: the state that is kept at a point is carried on in place, until it comes to where states are kept, or until it goes elsewhere.
+//! A run: the state that is kept at a point is carried on in place, until it comes to where states
+//! are kept, or until it goes elsewhere.
 
-ghost use Rattle.std.specs.Prelude.{◌≡◌, ◌↔◌, ◌<◌, IfErr, IfOk, IfSome, IsTrue, Some, [], ◌∷◌, length};
-ghost use Rattle.tt_abs.specs.Lines.{EndsAt, Precedes};
-ghost use Rattle.tt_abs.specs.Settings.{frames_of, setting_of};
-ghost use Rattle.tt_abs.specs.StateFlow.{Place};
+ghost use Rattle.std.specs.Prelude.{◌≡◌, ◌<◌, IfErr, IfOk, IfSome, IsTrue, length};
 ghost use Rattle.tt_abs.specs.States.{state_order};
 ghost use Rattle.tt_cert.specs.Checks.{IsOutOfMemory};
-ghost use Rattle.tt_cert.specs.Contents.{family_of, frames_at};
-ghost use Rattle.tt_cert.specs.Puts.{place_of};
-ghost use Rattle.tt_cert.specs.Spots.{spot_of};
-ghost use Rattle.tt_find.specs.Found.{IsJustified, NamesPlace, NamesStop};
-ghost use Rattle.tt_find.specs.Tables.{GoesOn, HasLaws, HasRisen, IsApart, IsCarried, IsJustAfter, IsLeadingAt, IsOnWay, IsPopped, IsRefusedAt, IsStored, IsWalk, IsWhole, TellsSource, calls_of, here_of, places_from};
+ghost use Rattle.tt_find.specs.Representation.SolverSubjects.{EndsJustBefore, GoesOnFor, HasLawsFor, IsNextAfter, IsOnWayFor, IsPoppedFor, IsSteppedAt, IsWholeFor, LeadsAlong, LeadsOver, NamesRefusalAt, StopsFor};
+ghost use Rattle.tt_find.specs.Representation.Solvers.{HasRisen, IsStored, IsWalk, KeepsEverywhere, StopsApart, TellsSource, refused_in};
 
 use crate::origin::Origin;
 use crate::solver::{Solver, refused_at};
@@ -22,7 +17,8 @@ use tt_abs::{Moves, Point, Refusal, Setting, Stepped, step_at};
 use tt_cert::{Builder, ContextFault, ProgramFault, added_after};
 use tt_code::Reason;
 
-/// Returns where the state at an offset of the walk's context leads; the walk then holds what it leads there. None at the main program's end.
+/// Returns where the state at an offset of the walk's context leads; the walk then holds what it
+/// leads there. None at the main program's end.
 fn step_state(
     builder: &Builder,
     walk: &mut Walk,
@@ -31,10 +27,10 @@ fn step_state(
 ) -> Result<Option<Stepped>, ProgramFault>
     requires walk { IsWalk builder.now walk.old }
     requires in_range { state_order.InRange walk.old.state }
-    ensures stepped { IfOk result (λ step. IsCarried (setting_of setting.now) (here_of builder.now walk.old offset) walk.old.state step walk.new.state) }
+    ensures stepped { IfOk result (IsSteppedAt setting.now builder.now walk.old walk.new offset) }
     ensures walk { IfOk result (λ _. IsWalk builder.now walk.new) }
     ensures context { IfOk result (λ _. walk.new.context ≡ walk.old.context) }
-    ensures refused { IfErr result (NamesPlace (IsRefusedAt (setting_of setting.now) (here_of builder.now walk.old offset) walk.old.state)) }
+    ensures refused { IfErr result (NamesRefusalAt setting.now builder.now walk.old offset) }
 {
     let point = Point {
         frames: walk.frames.as_slice(),
@@ -51,7 +47,8 @@ fn step_state(
     }
 }
 
-/// Returns from where a state comes to an offset of a context, if it leads there: from one in which an instruction ends at `after`.
+/// Returns from where a state comes to an offset of a context, if it leads there: from one in which
+/// an instruction ends at `after`.
 fn source_of(here: u32, context: u32, after: Option<u32>, next: u32) -> Origin
     ensures { TellsSource here context after next result }
 {
@@ -64,7 +61,8 @@ fn source_of(here: u32, context: u32, after: Option<u32>, next: u32) -> Origin
 /// Puts the walk's state at a point. From then on states are kept there.
 ///
 /// # Errors
-/// `Fault` with `Refused` for a state of another depth, at the point, or with `OutOfMemory`; `Restart` where states went over that offset.
+/// `Fault` with `Refused` for a state of another depth, at the point, or with `OutOfMemory`;
+/// `Restart` where states went over that offset.
 pub(crate) fn store(
     solver: &mut Solver,
     walk: &mut Walk,
@@ -76,8 +74,9 @@ pub(crate) fn store(
     requires in_range { state_order.InRange walk.old.state }
     requires room { solver.old.changes < 18446744073709551615 }
     requires walk { IsWalk solver.old.builder walk.old }
-    ensures stored { IfOk result (λ _. IsStored solver.old solver.new context offset walk.old.state source) }
-    ensures stops { IfErr result (NamesStop (IsApart (family_of solver.old.builder) (place_of solver.old.builder context offset) walk.old.state) solver.old.marks.everywhere) }
+    ensures stored { IfOk result (λ _.
+        IsStored solver.old solver.new context offset walk.old.state source) }
+    ensures stops { IfErr result (StopsApart solver.old context offset walk.old.state) }
     ensures state { IfOk result (λ _. walk.new.state ≡ walk.old.state) }
     ensures context { IfOk result (λ _. walk.new.context ≡ walk.old.context) }
     ensures walk { IfOk result (λ _. IsWalk solver.new.builder walk.new) }
@@ -106,7 +105,8 @@ fn goes_over(solver: &Solver, walk: &Walk, source: Origin, next: u32) -> bool
     }
 }
 
-/// Leads the state that an instruction left to the offset just after it: over it where states aren't kept there. Then it returns that offset.
+/// Leads the state that an instruction left to the offset just after it: over it where states
+/// aren't kept there. Then it returns that offset.
 fn step_over(
     solver: &mut Solver,
     walk: &mut Walk,
@@ -114,16 +114,16 @@ fn step_over(
     offset: u32,
     next: u32,
 ) -> Result<Option<u32>, Stop>
-    requires laws { HasLaws (setting_of setting.now) setting.now.start.now }
+    requires laws { HasLawsFor setting.now }
     requires walk { IsWalk solver.old.builder walk.old }
-    requires just { Precedes (setting_of setting.now) (here_of solver.old.builder walk.old offset) (here_of solver.old.builder walk.old next) }
-    requires leading { IsLeadingAt (setting_of setting.now) setting.now.start.now solver.old walk.old offset (here_of solver.old.builder walk.old next ∷ []) }
-    ensures goes { IfOk result (λ onward. GoesOn (setting_of setting.now) setting.now.start.now solver.new walk.new onward) }
+    requires just { IsNextAfter setting.now solver.old.builder walk.old offset next }
+    requires leading { LeadsOver setting.now solver.old walk.old offset next }
+    ensures goes { IfOk result (GoesOnFor setting.now solver.new walk.new) }
     ensures further { IfOk result (λ onward. IfSome onward (λ at. offset < at)) }
     ensures risen { IfOk result (λ _. HasRisen solver.old solver.new) }
     ensures walk { IfOk result (λ _. IsWalk solver.new.builder walk.new) }
-    ensures stops { IfErr result (NamesStop (IsJustified (setting_of setting.now) setting.now.start.now) solver.old.marks.everywhere) }
-    ensures everywhere { IfOk result (λ _. solver.new.marks.everywhere ≡ solver.old.marks.everywhere) }
+    ensures stops { IfErr result (StopsFor setting.now solver.old.marks.everywhere) }
+    ensures everywhere { IfOk result (λ _. KeepsEverywhere solver.old solver.new) }
 {
     let context = walk.context;
     if solver.may_pass(context, walk.spot, next) {
@@ -141,7 +141,8 @@ fn step_over(
 /// Returns the fault that a context can't be entered from an offset of another one.
 fn not_entered(builder: &Builder, context: u32, offset: u32, fault: ContextFault) -> ProgramFault
     requires { context < length builder.now.contexts }
-    ensures full { fault ≡ ContextFault.TooManyContexts → result ≡ ProgramFault.Refused (spot_of (frames_at builder.now.contexts context)) offset Reason.TooManyContexts }
+    ensures full { fault ≡ ContextFault.TooManyContexts
+        → result ≡ refused_in builder.now context offset Reason.TooManyContexts }
     ensures memory { fault ≡ ContextFault.OutOfMemory → IsOutOfMemory result }
 {
     match fault {
@@ -152,8 +153,8 @@ fn not_entered(builder: &Builder, context: u32, offset: u32, fault: ContextFault
     }
 }
 
-/// Leads the state that an instruction left to each place where its ways lead, one after the other, except for the one over which it goes last.
-/// Returns that one's offset.
+/// Leads the state that an instruction left to each place where its ways lead, one after the other,
+/// except for the one over which it goes last. Returns that one's offset.
 fn store_successors(
     solver: &mut Solver,
     walk: &mut Walk,
@@ -162,16 +163,16 @@ fn store_successors(
     after: Option<u32>,
     ways: Moves,
 ) -> Result<Option<u32>, Stop>
-    requires laws { HasLaws (setting_of setting.now) setting.now.start.now }
+    requires laws { HasLawsFor setting.now }
     requires walk { IsWalk solver.old.builder walk.old }
-    requires after { IsJustAfter (setting_of setting.now) (here_of solver.old.builder walk.old offset) after }
-    requires leading { IsLeadingAt (setting_of setting.now) setting.now.start.now solver.old walk.old offset (places_from (calls_of solver.old walk.old) ways 0) }
-    ensures goes { IfOk result (λ onward. GoesOn (setting_of setting.now) setting.now.start.now solver.new walk.new onward) }
+    requires after { EndsJustBefore setting.now solver.old.builder walk.old offset after }
+    requires leading { LeadsAlong setting.now solver.old walk.old offset ways }
+    ensures goes { IfOk result (GoesOnFor setting.now solver.new walk.new) }
     ensures further { IfOk result (λ onward. IfSome onward (λ at. offset < at)) }
     ensures risen { IfOk result (λ _. HasRisen solver.old solver.new) }
     ensures walk { IfOk result (λ _. IsWalk solver.new.builder walk.new) }
-    ensures stops { IfErr result (NamesStop (IsJustified (setting_of setting.now) setting.now.start.now) solver.old.marks.everywhere) }
-    ensures everywhere { IfOk result (λ _. solver.new.marks.everywhere ≡ solver.old.marks.everywhere) }
+    ensures stops { IfErr result (StopsFor setting.now solver.old.marks.everywhere) }
+    ensures everywhere { IfOk result (λ _. KeepsEverywhere solver.old solver.new) }
 {
     let here = walk.context;
     let mut over = None;
@@ -197,26 +198,28 @@ fn store_successors(
     }
 }
 
-/// Carries the walk's state on at an offset of its context. Returns the next offset, if the state goes on there in place.
+/// Carries the walk's state on at an offset of its context. Returns the next offset, if the state
+/// goes on there in place.
 ///
 /// # Errors
-/// `Fault` with `Refused`, if the state is refused there, or enters one context too many; or for two states of different depths, where they
-/// meet; or with `OutOfMemory`. `Restart` where a state is to be kept at an offset over which states went.
+/// `Fault` with `Refused`, if the state is refused there, or enters one context too many; or for
+/// two states of different depths, where they meet; or with `OutOfMemory`. `Restart` where a state
+/// is to be kept at an offset over which states went.
 fn step_point(
     solver: &mut Solver,
     walk: &mut Walk,
     setting: &Setting<'_>,
     offset: u32,
 ) -> Result<Option<u32>, Stop>
-    requires laws { HasLaws (setting_of setting.now) setting.now.start.now }
+    requires laws { HasLawsFor setting.now }
     requires walk { IsWalk solver.old.builder walk.old }
-    requires way { IsOnWay (setting_of setting.now) setting.now.start.now solver.old (here_of solver.old.builder walk.old offset) walk.old.state }
-    ensures goes { IfOk result (λ onward. GoesOn (setting_of setting.now) setting.now.start.now solver.new walk.new onward) }
+    requires way { IsOnWayFor setting.now solver.old walk.old offset }
+    ensures goes { IfOk result (GoesOnFor setting.now solver.new walk.new) }
     ensures further { IfOk result (λ onward. IfSome onward (λ at. offset < at)) }
     ensures risen { IfOk result (λ _. HasRisen solver.old solver.new) }
     ensures walk { IfOk result (λ _. IsWalk solver.new.builder walk.new) }
-    ensures stops { IfErr result (NamesStop (IsJustified (setting_of setting.now) setting.now.start.now) solver.old.marks.everywhere) }
-    ensures everywhere { IfOk result (λ _. solver.new.marks.everywhere ≡ solver.old.marks.everywhere) }
+    ensures stops { IfErr result (StopsFor setting.now solver.old.marks.everywhere) }
+    ensures everywhere { IfOk result (λ _. KeepsEverywhere solver.old solver.new) }
 {
     let step = match step_state(&solver.builder, walk, setting, offset) {
         Ok(Some(step)) => step,
@@ -242,14 +245,14 @@ pub(crate) fn run(
     context: u32,
     offset: u32,
 ) -> Result<(), Stop>
-    requires laws { HasLaws (setting_of setting.now) setting.now.start.now }
+    requires laws { HasLawsFor setting.now }
     requires walk { IsWalk solver.old.builder walk.old }
-    requires popped { IsPopped (setting_of setting.now) setting.now.start.now solver.old context offset }
-    ensures whole { IfOk result (λ _. IsWhole (setting_of setting.now) setting.now.start.now solver.new) }
+    requires popped { IsPoppedFor setting.now solver.old context offset }
+    ensures whole { IfOk result (λ _. IsWholeFor setting.now solver.new) }
     ensures risen { IfOk result (λ _. HasRisen solver.old solver.new) }
     ensures walk { IfOk result (λ _. IsWalk solver.new.builder walk.new) }
-    ensures stops { IfErr result (NamesStop (IsJustified (setting_of setting.now) setting.now.start.now) solver.old.marks.everywhere) }
-    ensures everywhere { IfOk result (λ _. solver.new.marks.everywhere ≡ solver.old.marks.everywhere) }
+    ensures stops { IfErr result (StopsFor setting.now solver.old.marks.everywhere) }
+    ensures everywhere { IfOk result (λ _. KeepsEverywhere solver.old solver.new) }
 {
     walk.go_to(&solver.builder, context)?;
     if !walk.take(&solver.builder, context, offset)? {

@@ -3,14 +3,10 @@
 ghost use Rattle.std.specs.Prelude.{◌≡◌, ◌≢◌, ◌<◌, IfOk, IfErr, IsTrue, OnOk, Option, Some, length};
 ghost use Rattle.tt_abs.specs.States.{state_order};
 ghost use Rattle.tt_abs.specs.declared.state.State.{State as StateValue};
-ghost use Rattle.tt_cert.specs.Contents.{family_of, frames_at};
-ghost use Rattle.tt_cert.specs.Joins.{TellsNew};
-ghost use Rattle.tt_cert.specs.Places.{states_of};
-ghost use Rattle.tt_cert.specs.Puts.{place_of};
-ghost use Rattle.tt_cert.specs.Spots.{spot_of};
-ghost use Rattle.tt_find.specs.Found.{NamesPlace};
-ghost use Rattle.tt_find.specs.Tables.{IsApart, IsEmptyTable, IsPassed, IsPut, KeepsRest, SparesAt};
-ghost use Rattle.tt_find.specs.Marks.{mark_of};
+ghost use Rattle.tt_cert.specs.Contents.{state_at};
+ghost use Rattle.tt_cert.specs.Joins.{TellsNew, TellsNewAt};
+ghost use Rattle.tt_find.specs.Representation.Solvers.{IsEmptySolver, IsPassed, IsPut, KeepsRest, NamesApart, SparesAt, refused_in};
+ghost use Rattle.tt_find.specs.Representation.OffsetMarks.{mark_of};
 
 use crate::marks::{Mark, OffsetMarks};
 use crate::origin::Origin;
@@ -21,7 +17,8 @@ use tt_abs::State;
 use tt_cert::{Builder, JoinFault, Joined, PointKey, ProgramFault, Spot};
 use tt_code::Reason;
 
-/// The family so far. Its states are kept at the points where ways meet; those in between are made again on the way.
+/// The family so far. Its states are kept at the points where ways meet; those in between are made
+/// again on the way.
 #[derive(Drop)]
 pub(crate) struct Solver {
     /// The states that are kept.
@@ -46,7 +43,7 @@ pub(crate) fn refused_at(
     reason: Reason,
 ) -> ProgramFault
     requires { context < length builder.now.contexts }
-    ensures { result ≡ ProgramFault.Refused (spot_of (frames_at builder.now.contexts context)) offset reason }
+    ensures { result ≡ refused_in builder.now context offset reason }
 {
     ProgramFault::Refused {
         spot: builder.spot(context),
@@ -58,7 +55,7 @@ pub(crate) fn refused_at(
 impl Solver {
     /// Makes a solver without states.
     pub(crate) fn new(alloc: Global) -> Solver
-        ensures { IsEmptyTable result }
+        ensures { IsEmptySolver result }
     {
         Solver {
             builder: Builder::new(alloc),
@@ -70,9 +67,10 @@ impl Solver {
         }
     }
 
-    /// Removes all states and all contexts except for the empty one, and keeps their memory and the marks.
+    /// Removes all states and all contexts except for the empty one, and keeps their memory and the
+    /// marks.
     pub(crate) fn clear(&mut self)
-        ensures empty { IsEmptyTable self.new }
+        ensures empty { IsEmptySolver self.new }
         ensures marks { self.new.marks ≡ self.old.marks }
     {
         self.builder.clear();
@@ -82,8 +80,8 @@ impl Solver {
         self.passes = 0;
     }
 
-    /// Puts a state at a point, and returns what that makes of the one there. If it is another one than before, the point waits, and
-    /// one change is counted.
+    /// Puts a state at a point, and returns what that makes of the one there. If it is another one
+    /// than before, the point waits, and one change is counted.
     ///
     /// # Errors
     /// `Refused` for a state of another depth, at the point; `OutOfMemory`.
@@ -98,9 +96,10 @@ impl Solver {
         requires room { self.old.changes < 18446744073709551615 }
         ensures put { IfOk result (λ _. IsPut self.old self.new context offset state.now) }
         ensures rest { IfOk result (λ _. KeepsRest self.old self.new) }
-        ensures new { IfOk result (λ joined. joined ≡ Joined.New → states_of self.new.builder.states (context, offset) ≡ Some state.now) }
-        ensures tells { IfOk result (λ joined. TellsNew joined (family_of self.old.builder (place_of self.old.builder context offset))) }
-        ensures apart { IfErr result (NamesPlace (IsApart (family_of self.old.builder) (place_of self.old.builder context offset) state.now)) }
+        ensures new { IfOk result (λ joined. joined ≡ Joined.New
+            → state_at self.new.builder context offset ≡ Some state.now) }
+        ensures tells { IfOk result (TellsNewAt self.old.builder context offset) }
+        ensures apart { IfErr result (NamesApart self.old.builder context offset state.now) }
     {
         let joined = match self.builder.join_state(context, offset, state) {
             Ok(joined) => joined,
@@ -130,7 +129,8 @@ impl Solver {
         source: Origin,
         joined: Joined,
     ) -> Result<(), AllocError>
-        ensures spare { IfOk result (λ _. (was : Option StateValue) → TellsNew joined was → SparesAt self.old.spare.keys self.new.spare.keys (context, offset) was source) }
+        ensures spare { IfOk result (λ _. (was : Option StateValue) → TellsNew joined was
+            → SparesAt self.old.spare.keys self.new.spare.keys (context, offset) was source) }
         ensures rest { IfOk result (λ _. self.new ≡ record self.old { spare = self.new.spare }) }
     {
         match source {
@@ -146,8 +146,8 @@ impl Solver {
         Ok(())
     }
 
-    /// Whether a state may go over a point where this context's program has this offset: not where states are kept, and not where a point before it
-    /// waits.
+    /// Whether a state may go over a point where this context's program has this offset: not where
+    /// states are kept, and not where a point before it waits.
     pub(crate) fn may_pass(&self, context: u32, spot: Spot, offset: u32) -> bool
         ensures { IsTrue result → mark_of self.now.marks spot offset ≢ Mark.Kept }
     {

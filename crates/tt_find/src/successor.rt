@@ -1,15 +1,16 @@
 //! The point to which a way leads.
 
 ghost use Rattle.std.specs.Prelude.{◌≡◌, ◌<◌, Err, IfOk, OnErr, length};
-ghost use Rattle.tt_abs.specs.Moves.{frames_behind, offset_behind};
-ghost use Rattle.tt_cert.specs.Contents.{AddsContext, HasContext, IsFamily, frames_at};
-ghost use Rattle.tt_find.specs.Tables.{IsCountable};
+ghost use Rattle.tt_cert.specs.Contents.{AddsContext, HasContext, IsFamily};
+ghost use Rattle.tt_cert.specs.Landings.{place_from};
+ghost use Rattle.tt_find.specs.Representation.Solvers.{IsCountable};
 
 use tt_abs::Move;
 use tt_abs::setting::body_offset;
 use tt_cert::{Builder, ContextFault, Landing, PointKey, landing_of};
 
-/// Returns the context's number and the offset to which a way leads from a context. A context that isn't there is added.
+/// Returns the context's number and the offset to which a way leads from a context. A context that
+/// isn't there is added.
 ///
 /// # Errors
 /// As `Builder::add_context`.
@@ -20,14 +21,17 @@ pub(crate) fn resolve_successor(
 ) -> Result<PointKey, ContextFault>
     requires there { context < length builder.old.contexts }
     requires countable { IsCountable builder.old.contexts context }
-    ensures added { IfOk result (λ at. AddsContext builder.old.contexts builder.new.contexts (frames_behind (frames_at builder.old.contexts context) way) at.0) }
-    ensures offset { IfOk result (λ at. at.1 ≡ offset_behind (frames_at builder.old.contexts context) way) }
+    ensures added { IfOk result (λ at. AddsContext builder.old.contexts builder.new.contexts
+        (place_from builder.old.contexts context way).0 at.0) }
+    ensures offset { IfOk result (λ at. at.1 ≡ (place_from builder.old.contexts context way).1) }
     ensures states { builder.new.states ≡ builder.old.states }
-    ensures full { result ≡ Err ContextFault.TooManyContexts → (HasContext builder.old.contexts (frames_behind (frames_at builder.old.contexts context) way) → ⊥) × (length builder.old.contexts ≡ 65535) }
+    ensures full { result ≡ Err ContextFault.TooManyContexts
+        → (HasContext builder.old.contexts (place_from builder.old.contexts context way).0 → ⊥)
+        × (length builder.old.contexts ≡ 65535) }
     ensures kept { OnErr result (builder.new ≡ builder.old) }
     ensures family { IsFamily builder.new }
 {
-    builder.is_family();
+    builder.family_facts();
     match landing_of(builder, context, way) {
         Landing::In { context, offset } => Ok((context, offset)),
         Landing::Body { parent, frame } => {

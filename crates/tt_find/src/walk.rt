@@ -3,12 +3,9 @@
 ghost use Rattle.std.specs.Prelude.{◌≡◌, ◌↔◌, ◌<◌, IfErr, IfOk, IsFalse, IsTrue, None, Some, length};
 ghost use Rattle.tt_abs.specs.Entries.{Rises};
 ghost use Rattle.tt_abs.specs.States.{start_of, state_order};
-ghost use Rattle.tt_cert.specs.Contents.{Contents, IsFamily, family_of};
-ghost use Rattle.tt_cert.specs.Joins.{TellsNew};
-ghost use Rattle.tt_cert.specs.Places.{states_of};
-ghost use Rattle.tt_cert.specs.Puts.{place_of};
-ghost use Rattle.tt_find.specs.Found.{NamesPlace};
-ghost use Rattle.tt_find.specs.Tables.{IsApart, IsPut, IsWalk, KeepsRest};
+ghost use Rattle.tt_cert.specs.Contents.{Contents, IsFamily, state_at};
+ghost use Rattle.tt_cert.specs.Joins.{TellsNewAt};
+ghost use Rattle.tt_find.specs.Representation.Solvers.{IsPut, IsWalk, KeepsRest, NamesApart};
 
 use crate::solver::Solver;
 use std::alloc::{AllocError, Global};
@@ -16,7 +13,8 @@ use tt_abs::State;
 use tt_cert::{Builder, Joined, PointKey, ProgramFault, Spot};
 use tt_code::Frame;
 
-/// The calls of a context, the outermost first, and a state in whose memory the state at a point is carried on.
+/// The calls of a context, the outermost first, and a state in whose memory the state at a point is
+/// carried on.
 #[derive(Drop)]
 pub(crate) struct Walk {
     pub context: u32,
@@ -29,13 +27,15 @@ pub(crate) struct Walk {
 }
 
 impl Walk {
-    /// Makes a walk that begins in the empty context, with the state in which a program starts with these functions.
+    /// Makes a walk that begins in the empty context, with the state in which a program starts with
+    /// these functions.
     ///
     /// # Errors
     /// If memory runs out.
     pub(crate) fn start(alloc: Global, functions: &[(u16, u32)]) -> Result<Walk, AllocError>
         requires { Rises functions.now }
-        ensures walk { IfOk result (λ walk. (contents : Contents) → IsFamily contents → IsWalk contents walk) }
+        ensures walk { IfOk result (λ walk.
+            (contents : Contents) → IsFamily contents → IsWalk contents walk) }
         ensures state { IfOk result (λ walk. walk.state ≡ start_of functions.now) }
         ensures in_range { IfOk result (λ walk. state_order.InRange walk.state) }
     {
@@ -77,8 +77,10 @@ impl Walk {
         offset: u32,
     ) -> Result<bool, AllocError>
         requires { IsWalk builder.now self.old }
-        ensures some { IfOk result (λ found. IsTrue found → states_of builder.now.states (context, offset) ≡ Some self.new.state) }
-        ensures none { IfOk result (λ found. IsFalse found → states_of builder.now.states (context, offset) ≡ None) }
+        ensures some { IfOk result (λ found. IsTrue found
+            → state_at builder.now context offset ≡ Some self.new.state) }
+        ensures none { IfOk result (λ found. IsFalse found
+            → state_at builder.now context offset ≡ None) }
         ensures walk { IfOk result (λ _. IsWalk builder.now self.new) }
         ensures context { self.new.context ≡ self.old.context }
     {
@@ -103,7 +105,8 @@ impl Walk {
         }
     }
 
-    /// Puts the state at a point, as `Solver::put` does. A point that is new has this state from then on.
+    /// Puts the state at a point, as `Solver::put` does. A point that is new has this state from
+    /// then on.
     ///
     /// # Errors
     /// As `Solver::put`.
@@ -119,13 +122,13 @@ impl Walk {
         requires walk { IsWalk solver.old.builder self.old }
         ensures put { IfOk result (λ _. IsPut solver.old solver.new context offset self.old.state) }
         ensures rest { IfOk result (λ _. KeepsRest solver.old solver.new) }
-        ensures tells { IfOk result (λ joined. TellsNew joined (family_of solver.old.builder (place_of solver.old.builder context offset))) }
-        ensures apart { IfErr result (NamesPlace (IsApart (family_of solver.old.builder) (place_of solver.old.builder context offset) self.old.state)) }
+        ensures tells { IfOk result (TellsNewAt solver.old.builder context offset) }
+        ensures apart { IfErr result (NamesApart solver.old.builder context offset self.old.state) }
         ensures state { self.new.state ≡ self.old.state }
         ensures context { self.new.context ≡ self.old.context }
         ensures walk { IfOk result (λ _. IsWalk solver.new.builder self.new) }
     {
-        solver.builder.is_family();
+        solver.builder.family_facts();
         let joined = match solver.put(context, offset, &self.state) {
             Ok(joined) => joined,
             Err(fault) => return Err(fault),

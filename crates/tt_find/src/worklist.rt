@@ -10,8 +10,8 @@ use std::collections::BTreeSet;
 use std::marker::Model;
 use tt_cert::PointKey;
 
-/// The points that are still to be carried on, in their order, each as its context's number and its offset. The first is kept apart, so that
-/// a single one takes no memory.
+/// The points that are still to be carried on, in their order, each as its context's number and its
+/// offset. The first is kept apart, so that a single one takes no memory.
 #[derive(Drop)]
 pub(crate) struct Worklist {
     next: Option<PointKey>,
@@ -21,7 +21,7 @@ pub(crate) struct Worklist {
 
 impl Model for Worklist {
     ghost use Rattle.std.specs.Prelude.{List, ℕ};
-    ghost use Rattle.tt_find.specs.Worklist.{AreInOrder, waiting_of};
+    ghost use Rattle.tt_find.specs.Representation.Worklist.{AreInOrder, waiting_of};
 
     ghost Value = { List (ℕ × ℕ) };
 

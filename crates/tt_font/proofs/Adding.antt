@@ -4,7 +4,7 @@ use Rattle.std.specs.List.{sum_by, list_any}
 use Rattle.std.proofs.Common.{refl, sym, ◌∙◌, ap, arith}
 use Rattle.std.proofs.lemmas.List.Sums.{sum_by-cons}
 use Rattle.tt_font.specs.declared.outline_size.OutlineSize.{OutlineSize}
-use Rattle.tt_font.specs.OutlineSizes.{size_at, AddsUp}
+use Rattle.tt_font.specs.Representation.OutlineSizes.{size_at, AddsUp}
 
 -- the sum over all numbers is what a sum so far and the sum over the rest make together
 pub record AddsOn (sizes : List OutlineSize) (all rest : List ℕ) (sum : OutlineSize) : Type 0 where

@@ -5,7 +5,7 @@ use Rattle.std.proofs.Common.{refl, sym, ◌∙◌, ap, subst, arith, get_or, in
 use Rattle.std.proofs.lemmas.List.Sums.{sum_by-cons, sum_by-append}
 use Rattle.std.proofs.lemmas.Bool.{lt-ltb, le-ltb}
 use Rattle.tt_font.specs.Outlines.{Outline, simple, composite, parts, own_points, own_contours, starts_chain, total}
-use Rattle.tt_font.specs.OutlineSizes.{has_parts}
+use Rattle.tt_font.specs.Representation.OutlineSizes.{has_parts}
 use Rattle.tt_font.specs.Chains.{part_of, IsChain, end_of, In, Distinct, SumsChains}
 
 -- ---- members

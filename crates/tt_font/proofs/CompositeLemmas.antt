@@ -11,8 +11,8 @@ use Rattle.tt_font.specs.declared.outline_size.OutlineSize.{OutlineSize}
 use Rattle.tt_font.specs.Glyphs.{is_composite, component_count, component_total}
 use Rattle.tt_font.specs.Components.{components, glyphs_named}
 use Rattle.tt_font.specs.Outlines.{Outline, outlines_of}
-use Rattle.tt_font.specs.OutlineSizes.{missing_size, size_at, AddsUp, NextSize, NextSizes}
-use Rattle.tt_font.specs.CompositeLists.{AreComposites, AgreeOnSimple}
+use Rattle.tt_font.specs.Representation.OutlineSizes.{missing_size, size_at, AddsUp, NextSize, NextSizes}
+use Rattle.tt_font.specs.Representation.CompositeLists.{AreComposites, AgreeOnSimple}
 use Rattle.tt_font.proofs.CountLemmas.{counts_components, counts_none, total_of_none, total_more, outline_below}
 use Rattle.tt_font.proofs.OutlineLemmas.{outline_is_simple, outline_is_composite}
 

@@ -9,7 +9,7 @@ use Rattle.tt_font.specs.Numbers.{u16_at, first_below}
 use Rattle.tt_font.specs.Components.{component_size, has_more, component_at, components_at, components, last_of}
 use Rattle.tt_font.specs.Outlines.{Outline, parts, leads_out, starts_chain}
 use Rattle.tt_font.specs.Chains.{part_of, end_of}
-use Rattle.tt_font.specs.Laws.{IsLeastBelow, FindsLeast, StandsAt, IsComponentList, ListsComponents, IsWay, HasWay, StartsWays, HasWayOut, FindsWaysOut}
+use Rattle.tt_font.specs.Laws.{IsLeastBelow, FindsLeast, IsAt, IsComponentList, ListsComponents, IsWay, HasWay, StartsWays, HasWayOut, FindsWaysOut}
 use Rattle.tt_font.proofs.ComponentLists.{none_is_there, one_is_there, more_are_there, last_is, last_goes_on}
 
 -- ---- the least number
@@ -27,23 +27,23 @@ finds_least test (suc n) = one_more test n (test n) (first_below test n) refl (f
 
 -- ---- the components
 
-component_stands : (bytes : List ℕ) (place : ℕ) (c : Component) (flags number size : ℕ) (b : Bool) → nat_le (place + size) (length bytes) ≡ b
+component_is_at : (bytes : List ℕ) (place : ℕ) (c : Component) (flags number size : ℕ) (b : Bool) → nat_le (place + size) (length bytes) ≡ b
     → (if b then Some (record { flags = flags; glyph = number; after = place + size }) else None) ≡ Some c
     → (c.flags ≡ flags) × (c.glyph ≡ number) × (c.after ≡ place + size) × (c.after ≤ length bytes)
-component_stands bytes place c flags number size true fits e =
+component_is_at bytes place c flags number size true fits e =
     let is : ◌≡◌ {A = Component} (record { flags = flags; glyph = number; after = place + size }) c = cc in
     let le : place + size ≤ length bytes = leb-true _ _ fits in
     let after : place + size ≡ c.after = ap (λ (x : Component). x.after) is in
     (sym (ap (λ (x : Component). x.flags) is), sym (ap (λ (x : Component). x.glyph) is), sym after, omega arith)
-component_stands bytes place c flags number size false fits e = absurd (cc)
+component_is_at bytes place c flags number size false fits e = absurd (cc)
 
-stands : (bytes : List ℕ) (place : ℕ) (c : Component) → component_at place bytes ≡ Some c → StandsAt bytes place c
+is_at : (bytes : List ℕ) (place : ℕ) (c : Component) → component_at place bytes ≡ Some c → IsAt bytes place c
 unfolding component_at
-stands bytes place c e =
-    let is = component_stands bytes place c _ _ (component_size (u16_at place bytes)) (nat_le (place + component_size (u16_at place bytes)) (length bytes)) refl e in
+is_at bytes place c e =
+    let is = component_is_at bytes place c _ _ (component_size (u16_at place bytes)) (nat_le (place + component_size (u16_at place bytes)) (length bytes)) refl e in
     record { flags = is.0; glyph = is.1; after = is.2; within = is.3 }
 
-is_there : (bytes : List ℕ) (place : ℕ) (c : Component) → StandsAt bytes place c → component_at place bytes ≡ Some c
+is_there : (bytes : List ℕ) (place : ℕ) (c : Component) → IsAt bytes place c → component_at place bytes ≡ Some c
 unfolding component_at
 is_there bytes place c at =
     let fits : nat_le (place + component_size (u16_at place bytes)) (length bytes) ≡ true = le-leb _ _ (let a = at.after in let b = at.within in omega arith) in
@@ -99,7 +99,7 @@ is_list : (bytes : List ℕ) (place : ℕ) (cs : List Component) (last : Compone
 is_list bytes place [] last e ends = cc
 is_list bytes place (c ∷ cs) last e ends =
     let on = read_on bytes place c cs (component_at place bytes) refl e in (
-      stands bytes place c on.0,
+      is_at bytes place c on.0,
       elim on.1 [
         | inl more ↦ inl (more.0, is_list bytes c.after cs last more.1 (sym (last_goes_on c cs more.0) ∙ ends))
         | inr one ↦ inr one

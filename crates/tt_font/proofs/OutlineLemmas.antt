@@ -6,7 +6,7 @@ use Rattle.tt_font.specs.declared.component.Component.{Component}
 use Rattle.tt_font.specs.Components.{components, glyphs_named, last_of}
 use Rattle.tt_font.specs.Glyphs.{is_composite, composite_program, simple_program, program_of, simple_points, simple_contours}
 use Rattle.tt_font.specs.Outlines.{simple, composite, outline_of}
-use Rattle.tt_font.specs.OutlineSizes.{has_parts}
+use Rattle.tt_font.specs.Representation.OutlineSizes.{has_parts}
 
 pub outline_is_simple : (glyph : List ℕ) → is_composite glyph ≡ false → outline_of glyph ≡ simple (simple_points glyph) (simple_contours glyph)
 unfolding outline_of

@@ -7,7 +7,7 @@ use Rattle.std.proofs.lemmas.Bool.{cases_eq}
 use Rattle.tt_font.proofs.FirstBelow.{none_yet, none_more, first_is, first_none}
 use Rattle.tt_font.specs.Glyphs.{program_of}
 use Rattle.tt_font.specs.Conditions.{truncated_glyph}
-use Rattle.tt_font.specs.GlyphParts.{program_in, ProgramsAre}
+use Rattle.tt_font.specs.Representation.GlyphParts.{program_in, ProgramsAre}
 
 pub no_programs : (glyphs : ℕ → List ℕ) (programs : List (List ℕ)) → programs ≡ [] → ProgramsAre glyphs 0 programs
 no_programs glyphs programs e = record { len = ap (λ xs. length xs) e; programs_at = λ id lt. absurd (omega arith) }

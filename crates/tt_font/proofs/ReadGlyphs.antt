@@ -9,11 +9,11 @@ use Rattle.tt_font.specs.Locations.{entry, glyph_bytes}
 use Rattle.tt_font.specs.Components.{has_more, component_at, listed, components_from, components_at, components}
 use Rattle.tt_font.specs.Glyphs.{is_composite, component_count, component_total}
 use Rattle.tt_font.specs.Outlines.{Outline, own_points, own_contours}
-use Rattle.tt_font.specs.OutlineSizes.{size_at, AreTotals}
+use Rattle.tt_font.specs.Representation.OutlineSizes.{size_at, AreTotals}
 use Rattle.tt_font.specs.Conditions.{refused_glyph}
 use Rattle.tt_font.specs.Chains.{SumsChains}
 use Rattle.tt_font.specs.Reading.{GlyphData, ReadsGlyph, ReadsGlyphs}
-use Rattle.tt_font.specs.GlyphParts.{ProgramsAre, PartsAre}
+use Rattle.tt_font.specs.Representation.GlyphParts.{ProgramsAre, PartsAre}
 use Rattle.tt_font.proofs.SizeLemmas.{all_taken}
 use Rattle.tt_font.proofs.ChainSums.{points_sum_chains, contours_sum_chains}
 

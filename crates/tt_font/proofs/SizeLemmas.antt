@@ -12,7 +12,7 @@ use Rattle.tt_font.specs.declared.outline_size.OutlineSize.{OutlineSize}
 use Rattle.tt_font.specs.Numbers.{first_below}
 use Rattle.tt_font.specs.Outlines.{Outline, simple, composite, parts, own_points, own_contours, leads_out, starts_chain, total, refused}
 use Rattle.tt_font.specs.Conditions.{refused_glyph}
-use Rattle.tt_font.specs.OutlineSizes.{has_parts, is_unresolved, missing_size, size_at, NextSize, NextSizes, SizeIs, SizesAre, size_refuses, AreTotals}
+use Rattle.tt_font.specs.Representation.OutlineSizes.{has_parts, is_unresolved, missing_size, size_at, NextSize, NextSizes, SizeIs, SizesAre, size_refuses, AreTotals}
 
 -- ---- one more size
 

@@ -1,4 +1,5 @@
--- The component list of a composite glyph (OpenType specification, `glyf`, "Composite glyph description").
+-- The component list of a composite glyph (OpenType specification, `glyf`, "Composite glyph
+-- description").
 use Rattle.std.specs.Prelude.{ℕ, zero, suc, ◌+◌, List, [], ◌∷◌, length, map, Bool, not, nat_le, ◌==◌, Option, Some, None, if◌then◌else◌}
 use Rattle.std.specs.Int.Bits.{bit_and}
 use Rattle.tt_font.specs.declared.component.Component.{Component}
@@ -12,9 +13,13 @@ has_flag flags mask = not (bit_and flags mask == 0)
 abbrev pub argument_size : ℕ → ℕ
 argument_size flags = if has_flag flags 0x0001 then 4 else 2
 
--- WE_HAVE_A_SCALE, WE_HAVE_AN_X_AND_Y_SCALE, WE_HAVE_A_TWO_BY_TWO: where several are set the first of them counts
+-- WE_HAVE_A_SCALE, WE_HAVE_AN_X_AND_Y_SCALE, WE_HAVE_A_TWO_BY_TWO: where several are set the first
+-- of them counts
 abbrev pub scale_size : ℕ → ℕ
-scale_size flags = if has_flag flags 0x0008 then 2 else (if has_flag flags 0x0040 then 4 else (if has_flag flags 0x0080 then 8 else 0))
+scale_size flags =
+    if has_flag flags 0x0008 then 2 else
+    (if has_flag flags 0x0040 then 4 else
+    (if has_flag flags 0x0080 then 8 else 0))
 
 -- MORE_COMPONENTS: another component follows
 abbrev pub has_more : ℕ → Bool
@@ -32,7 +37,11 @@ component_size flags = 4 + argument_size flags + scale_size flags
 unfoldable pub component_at : ℕ → List ℕ → Option Component
 component_at place glyph =
     if nat_le (place + component_size (u16_at place glyph)) (length glyph)
-    then Some (record { flags = u16_at place glyph; glyph = u16_at (place + 2) glyph; after = place + component_size (u16_at place glyph) })
+    then Some (record {
+      flags = u16_at place glyph;
+      glyph = u16_at (place + 2) glyph;
+      after = place + component_size (u16_at place glyph);
+    })
     else None
 
 -- a component, and those that follow where it says that another one does
@@ -43,9 +52,11 @@ listed more (Some c) = c ∷ (if has_more c.flags then more c.after else [])
 -- the components from a place on, as far as their bytes are there, at most n
 unfoldable pub components_from : ℕ → ℕ → List ℕ → List Component
 components_from zero place glyph = []
-components_from (suc n) place glyph = listed (λ after. components_from n after glyph) (component_at place glyph)
+components_from (suc n) place glyph =
+    listed (λ after. components_from n after glyph) (component_at place glyph)
 
--- the components from a place on, as far as their bytes are there: there are fewer of them than bytes
+-- the components from a place on, as far as their bytes are there: there are fewer of them than
+-- bytes
 unfoldable pub components_at : ℕ → List ℕ → List Component
 components_at place glyph = components_from (length glyph) place glyph
 

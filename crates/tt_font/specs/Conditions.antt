@@ -1,4 +1,5 @@
--- Conditions on which bytes are refused, each with its fault. Of a list of conditions the first that holds is the answer.
+-- Conditions on which bytes are refused, each with its fault. Of a list of conditions the first
+-- that holds is the answer. (OpenType specification, "Table directory", `maxp`, `loca` and `glyf`.)
 use Rattle.std.specs.Prelude.{◌≡◌, ◌≢◌, ℕ, ◌+◌, ◌*◌, ◌&&◌, ◌||◌, List, [], ◌∷◌, length, Bool, true, Option, Some, None, is_some, is_none, not, alloc_error, Result, MatchResult, nat_le, nat_lt, ◌==◌, if◌then◌else◌}
 use Rattle.std.specs.Option.{option_map, option_map_or, option_or}
 use Rattle.tt_font.specs.declared.fault.FontFault.{FontFault}
@@ -26,12 +27,14 @@ first (c ∷ cs) = option_or c (first cs)
 
 -- the answer is Ok exactly if the condition doesn't hold, and is else its fault
 abbrev pub Tests : {T : Type 0} → Condition → Result T FontFault → Type 0
-Tests condition answer = MatchResult answer (λ _. condition ≡ None) (λ fault. condition ≡ Some fault)
+Tests condition answer =
+    MatchResult answer (λ _. condition ≡ None) (λ fault. condition ≡ Some fault)
 
 -- the same of a call that takes memory: it may also answer that there is none left
 abbrev pub TestsWithMemory : {T : Type 0} → Condition → Result T FontFault → Type 0
 TestsWithMemory condition answer =
-    MatchResult answer (λ _. condition ≡ None) (λ fault. fault ≢ faults.OutOfMemory alloc_error → condition ≡ Some fault)
+    MatchResult answer (λ _. condition ≡ None)
+    (λ fault. fault ≢ faults.OutOfMemory alloc_error → condition ≡ Some fault)
 
 -- memory ran out
 abbrev pub IsOutOfMemory : FontFault → Type 0
@@ -49,7 +52,10 @@ no_sfnt bytes = unless (u32_at 0 bytes == 0x10000 || u32_at 0 bytes == 0x7472756
 
 unfoldable pub directory_fault : List ℕ → Condition
 directory_fault bytes =
-    first (ends_before 12 bytes ∷ no_sfnt bytes ∷ ends_before (12 + 16 * record_count bytes) bytes ∷ [])
+    first (
+    ends_before 12 bytes
+    ∷ no_sfnt bytes
+    ∷ ends_before (12 + 16 * record_count bytes) bytes ∷ [])
 
 -- ---- a table by its record
 
@@ -58,11 +64,14 @@ missing tag bytes = unless (is_some (extent tag bytes)) (faults.MissingTable tag
 
 -- a table lies in the file and has from `least` to `most` bytes
 abbrev pub lies_in : List ℕ → ℕ → ℕ → Extent → Bool
-lies_in bytes least most e = nat_le (e.offset + e.len) (length bytes) && (nat_le least e.len && nat_le e.len most)
+lies_in bytes least most e =
+    nat_le (e.offset + e.len) (length bytes) && (nat_le least e.len && nat_le e.len most)
 
 -- the table is there, and lies outside the file or hasn't from `least` to `most` bytes
 abbrev pub outside : Tag → ℕ → ℕ → List ℕ → Condition
-outside tag least most bytes = unless (option_map_or (lies_in bytes least most) (extent tag bytes) true) (faults.TableOutside tag)
+outside tag least most bytes =
+    unless (option_map_or (lies_in bytes least most) (extent tag bytes) true)
+    (faults.TableOutside tag)
 
 -- a table that every font has
 unfoldable pub table_fault : Tag → ℕ → List ℕ → Condition
@@ -90,11 +99,14 @@ unknown_format format = unless (nat_lt format 2) (faults.Loca 0)
 
 -- the first entry that doesn't fit
 abbrev pub misplaced_entry : ℕ → List ℕ → List ℕ → ℕ → Option ℕ
-misplaced_entry format loca glyf entries = first_below (λ i. not (entry_fits format loca glyf i)) entries
+misplaced_entry format loca glyf entries =
+    first_below (λ i. not (entry_fits format loca glyf i)) entries
 
 unfoldable pub loca_fault : ℕ → List ℕ → List ℕ → ℕ → Condition
 loca_fault format loca glyf glyph_count =
-    first (unknown_format format ∷ option_map (λ i. faults.Loca i) (misplaced_entry format loca glyf (glyph_count + 1)) ∷ [])
+    first (
+    unknown_format format
+    ∷ option_map (λ i. faults.Loca i) (misplaced_entry format loca glyf (glyph_count + 1)) ∷ [])
 
 -- ---- the glyphs, by their number and their bytes
 
@@ -103,15 +115,18 @@ unfoldable pub truncated_glyph : ℕ → (ℕ → List ℕ) → Option ℕ
 truncated_glyph count glyphs = first_below (λ id. is_none (program_of (glyphs id))) count
 
 abbrev pub glyph_fault : ℕ → (ℕ → List ℕ) → Condition
-glyph_fault count glyphs = option_map (λ id. faults.GlyphTruncated id) (truncated_glyph count glyphs)
+glyph_fault count glyphs =
+    option_map (λ id. faults.GlyphTruncated id) (truncated_glyph count glyphs)
 
 -- the first glyph that its components, points or contours refuse
 unfoldable pub refused_glyph : ℕ → (ℕ → Outline) → Option ℕ
 refused_glyph count outlines = first_below (refused count outlines) count
 
 abbrev pub composite_fault : ℕ → (ℕ → Outline) → Condition
-composite_fault count outlines = option_map (λ id. faults.Composite id) (refused_glyph count outlines)
+composite_fault count outlines =
+    option_map (λ id. faults.Composite id) (refused_glyph count outlines)
 
 -- first the bytes of all glyphs, then their components
 unfoldable pub glyphs_fault : ℕ → (ℕ → List ℕ) → (ℕ → Outline) → Condition
-glyphs_fault count glyphs outlines = first (glyph_fault count glyphs ∷ composite_fault count outlines ∷ [])
+glyphs_fault count glyphs outlines =
+    first (glyph_fault count glyphs ∷ composite_fault count outlines ∷ [])

@@ -1,4 +1,5 @@
--- The directory of a font file, and the tables that it names (OpenType specification, "Table directory").
+-- The directory of a font file, and the tables that it names (OpenType specification, "Table
+-- directory").
 use Rattle.std.specs.Prelude.{ℕ, ◌+◌, ◌*◌, List, [], take, drop, Option, ◌==◌}
 use Rattle.std.specs.Option.{option_map, option_map_or}
 use Rattle.tt_font.specs.declared.tag.Tag.{Tag}
@@ -20,7 +21,10 @@ pub record Extent : Type 0 where
 
 -- what the i-th record says of its table
 abbrev pub extent_of : List ℕ → ℕ → Extent
-extent_of bytes i = record { offset = u32_at (record_place i + 8) bytes; len = u32_at (record_place i + 12) bytes }
+extent_of bytes i = record {
+  offset = u32_at (record_place i + 8) bytes;
+  len = u32_at (record_place i + 12) bytes;
+}
 
 -- the first record with a number as its tag
 abbrev pub first_record : ℕ → List ℕ → ℕ → Option ℕ
@@ -28,7 +32,8 @@ first_record tag bytes count = first_below (λ i. u32_at (record_place i) bytes 
 
 -- where a table is: the first record with its tag counts
 unfoldable pub extent : Tag → List ℕ → Option Extent
-extent tag bytes = option_map (extent_of bytes) (first_record (tag_number tag) bytes (record_count bytes))
+extent tag bytes =
+    option_map (extent_of bytes) (first_record (tag_number tag) bytes (record_count bytes))
 
 -- the bytes of a table; a missing one is empty
 unfoldable pub table : Tag → List ℕ → List ℕ

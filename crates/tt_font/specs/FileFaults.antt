@@ -1,4 +1,5 @@
--- Why the bytes of a file aren't a font: the conditions in their order, of which the first that holds is the answer.
+-- Why the bytes of a file aren't a font: the conditions in their order, of which the first that
+-- holds is the answer.
 use Rattle.std.specs.Prelude.{ℕ, List, [], ◌∷◌}
 use Rattle.tt_font.specs.declared.tag.Tag.TheVariants.{Cvt, Fpgm, Glyf, Head, Loca, Maxp, Prep}
 use Rattle.tt_font.specs.Directory.{table}
@@ -19,8 +20,11 @@ tables_fault bytes = first (
     ∷ table_fault Loca 0 bytes ∷ table_fault Glyf 0 bytes
     ∷ optional_table_fault Cvt 0xFFFF_FFFF bytes
     ∷ optional_table_fault Fpgm program_most bytes ∷ optional_table_fault Prep program_most bytes
-    ∷ loca_fault (loca_format (table Head bytes)) (table Loca bytes) (table Glyf bytes) (font_glyph_count bytes) ∷ [])
+    ∷ loca_fault (loca_format (table Head bytes)) (table Loca bytes) (table Glyf bytes)
+    (font_glyph_count bytes) ∷ [])
 
 -- the file: its tables, and then its glyphs
 unfoldable pub font_fault : List ℕ → Condition
-font_fault bytes = first (tables_fault bytes ∷ glyphs_fault (font_glyph_count bytes) (font_glyphs bytes) (font_outlines bytes) ∷ [])
+font_fault bytes = first (
+    tables_fault bytes
+    ∷ glyphs_fault (font_glyph_count bytes) (font_glyphs bytes) (font_outlines bytes) ∷ [])

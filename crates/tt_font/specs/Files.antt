@@ -21,7 +21,8 @@ font_glyph_count bytes = glyph_count (table Maxp bytes)
 
 -- the bytes of each glyph
 abbrev pub font_glyphs : List ℕ → ℕ → List ℕ
-font_glyphs bytes id = glyph_bytes (loca_format (table Head bytes)) (table Loca bytes) (table Glyf bytes) id
+font_glyphs bytes id =
+    glyph_bytes (loca_format (table Head bytes)) (table Loca bytes) (table Glyf bytes) id
 
 -- the outline of each glyph
 abbrev pub font_outlines : List ℕ → ℕ → Outline

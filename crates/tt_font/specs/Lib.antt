@@ -5,16 +5,12 @@ pub mod Maxp
 pub mod Directory
 pub mod Locations
 pub mod Components
-pub mod ComponentReads
 pub mod Glyphs
 pub mod Outlines
 pub mod Chains
-pub mod OutlineSizes
 pub mod Conditions
-pub mod GlyphTables
 pub mod Files
 pub mod FileFaults
 pub mod Reading
-pub mod GlyphParts
 pub mod Laws
-pub mod CompositeLists
+pub mod Representation

@@ -17,8 +17,10 @@ entry format loca i = if format == 0 then 2 * u16_at (2 * i) loca else u32_at (4
 -- entry i is there, lies in `glyf`, and not below the entry before it
 abbrev pub entry_fits : ℕ → List ℕ → List ℕ → ℕ → Bool
 entry_fits format loca glyf i = nat_le (entry_size format * (i + 1)) (length loca)
-    && (nat_le (entry format loca i) (length glyf) && (i == 0 || nat_le (entry format loca (i - 1)) (entry format loca i)))
+    && (nat_le (entry format loca i) (length glyf)
+    && (i == 0 || nat_le (entry format loca (i - 1)) (entry format loca i)))
 
 -- the bytes of a glyph: those of `glyf` from its entry to the next one
 unfoldable pub glyph_bytes : ℕ → List ℕ → List ℕ → ℕ → List ℕ
-glyph_bytes format loca glyf id = slice_range glyf (entry format loca id) (entry format loca (id + 1))
+glyph_bytes format loca glyf id =
+    slice_range glyf (entry format loca id) (entry format loca (id + 1))

@@ -1,4 +1,5 @@
--- Glyphs as points and contours of their own, or as lists of other glyphs (OpenType specification, `glyf`).
+-- Glyphs as points and contours of their own, or as lists of other glyphs (OpenType specification,
+-- `glyf`).
 use Rattle.std.specs.Prelude.{ℕ, zero, suc, ◌+◌, ◌||◌, List, [], Bool, true, false, not, nat_lt, if◌then◌else◌}
 use Rattle.std.specs.List.{sum_by, list_any}
 use Rattle.tt_font.specs.Components.{components, glyphs_named}
@@ -24,10 +25,12 @@ abbrev pub parts : Outline → List ℕ
 parts (simple points contours) = []
 parts (composite numbers) = numbers
 
+-- its own points
 abbrev pub own_points : Outline → ℕ
 own_points (simple points contours) = points
 own_points (composite numbers) = 0
 
+-- its own contours
 abbrev pub own_contours : Outline → ℕ
 own_contours (simple points contours) = contours
 own_contours (composite numbers) = 0
@@ -37,21 +40,26 @@ own_contours (composite numbers) = 0
 -- a chain of at most k steps leads from a glyph to a number that isn't below the number of glyphs
 unfoldable pub leads_out : ℕ → (ℕ → Outline) → ℕ → ℕ → Bool
 leads_out count outlines zero id = false
-leads_out count outlines (suc k) id = list_any (λ part. not (nat_lt part count) || leads_out count outlines k part) (parts (outlines id))
+leads_out count outlines (suc k) id =
+    list_any (λ part. not (nat_lt part count) || leads_out count outlines k part)
+    (parts (outlines id))
 
 -- a chain of k steps starts from a glyph
 unfoldable pub starts_chain : (ℕ → Outline) → ℕ → ℕ → Bool
 starts_chain outlines zero id = true
 starts_chain outlines (suc k) id = list_any (starts_chain outlines k) (parts (outlines id))
 
--- the own points, or contours, of the glyphs to which the chains of at most k steps from a glyph lead, summed
+-- the own points, or contours, of the glyphs to which the chains of at most k steps from a glyph
+-- lead, summed
 unfoldable pub total : (Outline → ℕ) → (ℕ → Outline) → ℕ → ℕ → ℕ
 total own outlines zero id = own (outlines id)
-total own outlines (suc k) id = own (outlines id) + sum_by (total own outlines k) (parts (outlines id))
+total own outlines (suc k) id =
+    own (outlines id) + sum_by (total own outlines k) (parts (outlines id))
 
--- a glyph is refused: a chain of at most 16 steps leads out of the font, one of 17 steps starts, or there are more than 65,535
--- points or contours
+-- a glyph is refused: a chain of at most 16 steps leads out of the font, one of 17 steps starts, or
+-- there are more than 65,535 points or contours
 unfoldable pub refused : ℕ → (ℕ → Outline) → ℕ → Bool
 refused count outlines id =
     leads_out count outlines 16 id || (starts_chain outlines 17 id
-    || (nat_lt 65535 (total own_points outlines 16 id) || nat_lt 65535 (total own_contours outlines 16 id)))
+    || (nat_lt 65535 (total own_points outlines 16 id)
+    || nat_lt 65535 (total own_contours outlines 16 id)))

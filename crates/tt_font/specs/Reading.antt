@@ -1,6 +1,8 @@
--- What the bytes of a font file hold.
+-- What the bytes of a font file hold (OpenType specification, "Font tables").
 use Rattle.std.specs.Prelude.{◌≡◌, ℕ, ◌*◌, ◌<◌, ◌≤◌, List, [], length, slice_index_or, Some}
+use denote.Bor.{Bor}
 use Rattle.tt_code.specs.declared.limits.Limits.{Limits}
+use Rattle.tt_font.specs.declared.glyph_part.GlyphPart.{GlyphPart}
 use Rattle.tt_font.specs.declared.tag.Tag.TheVariants.{Fpgm, Prep}
 use Rattle.tt_font.specs.Directory.{table}
 use Rattle.tt_font.specs.Glyphs.{program_of, component_total}
@@ -14,8 +16,8 @@ pub record GlyphData : Type 0 where
   pub contours : ℕ
   pub program : List ℕ
 
--- a font: what it allows its programs, how many control values it has, its font program, its CVT program and its glyphs; and how
--- often a component was read to know this
+-- a font: what it allows its programs, how many control values it has, its font program, its CVT
+-- program and its glyphs; and how often a component was read to know this
 pub record FontData : Type 0 where
   pub limits : Limits
   pub cvt_count : ℕ
@@ -24,6 +26,7 @@ pub record FontData : Type 0 where
   pub glyphs : List GlyphData
   pub component_reads : ℕ
 
+-- a glyph without data
 abbrev pub no_glyph : GlyphData
 no_glyph = record { points = 0; contours = 0; program = [] }
 
@@ -31,8 +34,10 @@ no_glyph = record { points = 0; contours = 0; program = [] }
 abbrev pub glyph_at : List GlyphData → ℕ → GlyphData
 glyph_at glyphs id = slice_index_or glyphs id no_glyph
 
--- a glyph's program is in its bytes, and its points and contours are the sums over all chains of components
-pub record ReadsGlyph (glyph : List ℕ) (outlines : ℕ → Outline) (id : ℕ) (found : GlyphData) : Type 0 where
+-- a glyph's program is in its bytes, and its points and contours are the sums over all chains of
+-- components
+pub record ReadsGlyph (glyph : List ℕ) (outlines : ℕ → Outline) (id : ℕ) (found : GlyphData)
+    : Type 0 where
   pub program : program_of glyph ≡ Some found.program
   pub points : SumsChains own_points outlines id found.points
   pub contours : SumsChains own_contours outlines id found.contours
@@ -40,7 +45,8 @@ pub record ReadsGlyph (glyph : List ℕ) (outlines : ℕ → Outline) (id : ℕ)
   pub contours_most : found.contours ≤ 65535
 
 -- each glyph of a font is so
-pub record ReadsGlyphs (count : ℕ) (glyphs : ℕ → List ℕ) (outlines : ℕ → Outline) (found : List GlyphData) : Type 0 where
+pub record ReadsGlyphs (count : ℕ) (glyphs : ℕ → List ℕ) (outlines : ℕ → Outline)
+    (found : List GlyphData) : Type 0 where
   pub len : length found ≡ count
   pub each : (id : ℕ) → id < count → ReadsGlyph (glyphs id) outlines id (glyph_at found id)
 
@@ -50,9 +56,19 @@ pub record Reads (bytes : List ℕ) (font : FontData) : Type 0 where
   pub cvt_count : font.cvt_count ≡ font_cvt_count bytes
   pub fpgm : font.fpgm ≡ table Fpgm bytes
   pub prep : font.prep ≡ table Prep bytes
-  pub glyphs : ReadsGlyphs (font_glyph_count bytes) (font_glyphs bytes) (font_outlines bytes) font.glyphs
+  pub glyphs
+      : ReadsGlyphs (font_glyph_count bytes) (font_glyphs bytes) (font_outlines bytes) font.glyphs
 
 -- each component of each glyph was read, and none more than 17 times
 pub record ReadsComponents (bytes : List ℕ) (font : FontData) : Type 0 where
   pub at_least : component_total (font_glyphs bytes) (font_glyph_count bytes) ≤ font.component_reads
-  pub at_most : font.component_reads ≤ 17 * component_total (font_glyphs bytes) (font_glyph_count bytes)
+  pub at_most
+      : font.component_reads ≤ 17 * component_total (font_glyphs bytes) (font_glyph_count bytes)
+
+-- what a glyph's parts hold
+abbrev pub glyph_data : GlyphPart → GlyphData
+glyph_data part = record {
+  points = part.points;
+  contours = part.contours;
+  program = part.program.now;
+}

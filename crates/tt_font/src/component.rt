@@ -9,10 +9,29 @@ use crate::numbers::u16_at;
 /// How many bytes the header of a glyph has.
 pub(crate) const HEADER: usize = 10;
 
+/// The flag of a component whose two arguments have two bytes each, else one each.
+const ARG_1_AND_2_ARE_WORDS: u16 = 0x0001;
+
+/// The flag of a component with one scale.
+const WE_HAVE_A_SCALE: u16 = 0x0008;
+
+/// The flag of a component after which another one follows.
+const MORE_COMPONENTS: u16 = 0x0020;
+
+/// The flag of a component with a scale for each axis.
+const WE_HAVE_AN_X_AND_Y_SCALE: u16 = 0x0040;
+
+/// The flag of a component with a matrix of four numbers.
+const WE_HAVE_A_TWO_BY_TWO: u16 = 0x0080;
+
+/// The flag of a component after which the glyph's instructions follow.
+const WE_HAVE_INSTRUCTIONS: u16 = 0x0100;
+
 /// One of the glyphs of which a composite glyph is made (OpenType specification, `glyf`, "Composite
 /// glyph description").
 #[derive(Clone, Copy, Debug, PartialEq, Eq)]
 pub(crate) struct Component {
+    /// Its flags, which say what follows.
     pub(crate) flags: u16,
     /// The number of the component's glyph.
     pub(crate) glyph: u16,
@@ -27,12 +46,16 @@ fn size_of(flags: u16) -> usize
     ensures least { 6 ≤ result }
     ensures most { result ≤ 16 }
 {
-    let arguments = if flags & 0x0001 != 0 { 4 } else { 2 };
-    let scale = if flags & 0x0008 != 0 {
-        2
-    } else if flags & 0x0040 != 0 {
+    let arguments = if flags & ARG_1_AND_2_ARE_WORDS != 0 {
         4
-    } else if flags & 0x0080 != 0 {
+    } else {
+        2
+    };
+    let scale = if flags & WE_HAVE_A_SCALE != 0 {
+        2
+    } else if flags & WE_HAVE_AN_X_AND_Y_SCALE != 0 {
+        4
+    } else if flags & WE_HAVE_A_TWO_BY_TWO != 0 {
         8
     } else {
         0
@@ -48,27 +71,28 @@ impl Component {
     pub(crate) fn has_more(&self) -> bool
         ensures { result ≡ has_more self.now.flags }
     {
-        self.flags & 0x0020 != 0
+        self.flags & MORE_COMPONENTS != 0
     }
 
     /// Whether the instructions follow the last component.
     pub(crate) fn has_instructions(&self) -> bool
         ensures { result ≡ has_instructions self.now.flags }
     {
-        self.flags & 0x0100 != 0
+        self.flags & WE_HAVE_INSTRUCTIONS != 0
     }
 }
 
 /// Reads the components of glyphs, and counts how often it does.
 #[derive(Debug, Drop)]
 pub(crate) struct ComponentReader {
+    /// How many components have been read, one that is read again counted again.
     reads: u64,
 }
 
 impl ComponentReader {
-    ghost use Rattle.std.specs.Prelude.{◌≡◌, ℕ, ◌+◌, ◌^◌, ◌<◌, ◌≤◌, length, is_some, IfSome, if◌then◌else◌};
+    ghost use Rattle.std.specs.Prelude.{◌≡◌, ◌^◌, ◌<◌, ◌≤◌, length, is_some, IfSome, if◌then◌else◌};
     ghost use Rattle.tt_font.specs.Components.{component_at, components, last_of};
-    ghost use Rattle.tt_font.specs.ComponentReads.{HasRoom, HasRead};
+    ghost use Rattle.tt_font.specs.Representation.ComponentReads.{HasRoom, HasRead};
 
     /// Makes a reader that has read nothing.
     pub(crate) fn new() -> ComponentReader
@@ -77,22 +101,22 @@ impl ComponentReader {
         ComponentReader { reads: 0 }
     }
 
-    /// Returns how many components have been read, each time counted.
+    /// Returns how many components have been read, one that is read again counted again.
     pub(crate) fn reads(&self) -> u64
         ensures { result ≡ self.now.reads }
     {
         self.reads
     }
 
-    /// Reads the component at a place of a glyph, where its bytes are there, and counts it. No other
-    /// function reads a component.
-    #[tactic(auto, unfolding(crate::specs::Components::component_at), using(crate::proofs::ComponentLists::size_is_least))]
+    /// Reads the component at a place of a glyph, where its bytes are there, and counts it. No
+    /// other function reads a component.
+    #[tactic(auto, unfolding(crate::specs::Components::component_at))]
     pub(crate) fn read(&mut self, glyph: &[u8], place: usize) -> Option<Component>
         requires place { place < 2 ^ 33 }
         requires room { HasRoom self.old 0 }
         ensures component { result ≡ component_at place glyph.now }
         ensures within { IfSome result (λ component. component.after ≤ length glyph.now) }
-        ensures behind { IfSome result (λ component. place < component.after) }
+        ensures rises { IfSome result (λ component. place < component.after) }
         ensures counted { HasRead self.old self.new (if is_some result then 1 else 0) }
     {
         if glyph.len() < place + 4 {

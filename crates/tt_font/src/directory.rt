@@ -1,4 +1,5 @@
-//! The directory of a font file, which says where its tables are (OpenType specification, "Table directory").
+//! The directory of a font file, which says where its tables are (OpenType specification, "Table
+//! directory").
 
 ghost use Rattle.std.specs.Prelude.{◌≡◌, ◌==◌, ◌+◌, ◌*◌, ◌≤◌, ◌<◌, ◌^◌, length, IfOk, IfSome};
 ghost use Rattle.std.specs.Option.{option_map};
@@ -44,6 +45,11 @@ fn find_record(bytes: &[u8], count: u16, tag: u32) -> Option<u16>
 
 impl<'a> Directory<'a> {
     /// Reads the directory of a file, where it is that of a font and whole.
+    ///
+    /// # Errors
+    ///
+    /// `DirectoryTruncated` where fewer than 12 bytes are there, `NotSfnt` where the version isn't
+    /// that of TrueType outlines, `DirectoryTruncated` where the file ends before its records do.
     #[tactic(auto, unfolding(crate::specs::Conditions::directory_fault))]
     pub(crate) fn read(bytes: &'a [u8]) -> Result<Directory<'a>, FontFault>
         ensures fault { Tests (directory_fault bytes.now) result }
@@ -78,7 +84,12 @@ impl<'a> Directory<'a> {
     }
 
     /// Returns the bytes of a table that every font has, where they are at least `least`.
-    #[tactic(auto, unfolding(crate::specs::Conditions::table_fault, crate::specs::Directory::table))]
+    ///
+    /// # Errors
+    ///
+    /// `MissingTable` where the directory has no record of it, `TableOutside` where it doesn't lie
+    /// in the file or is too short.
+    #[tactic(auto, unfolding(crate::specs::Conditions::table_fault))]
     pub(crate) fn required(&self, tag: Tag, least: u32) -> Result<&'a [u8], FontFault>
         ensures fault { Tests (table_fault tag least self.now.bytes.now) result }
         ensures table { IfOk result (λ bytes. bytes.now ≡ table tag self.now.bytes.now) }
@@ -95,8 +106,13 @@ impl<'a> Directory<'a> {
         Ok(&self.bytes[extent.offset as usize..end])
     }
 
-    /// Returns the bytes of a table that a font may lack, where they are at most `most`.
-    #[tactic(auto, unfolding(crate::specs::Conditions::optional_table_fault, crate::specs::Directory::table))]
+    /// Returns the bytes of a table that a font may lack, where they are at most `most`; none where
+    /// it is missing.
+    ///
+    /// # Errors
+    ///
+    /// `TableOutside` where it doesn't lie in the file or is too long.
+    #[tactic(auto, unfolding(crate::specs::Conditions::optional_table_fault))]
     pub(crate) fn optional(&self, tag: Tag, most: u32) -> Result<&'a [u8], FontFault>
         ensures fault { Tests (optional_table_fault tag most self.now.bytes.now) result }
         ensures table { IfOk result (λ bytes. bytes.now ≡ table tag self.now.bytes.now) }

@@ -1,4 +1,5 @@
-//! Why a font file is refused (OpenType specification, "Table directory", `maxp`, `loca` and `glyf`).
+//! Why a font file is refused (OpenType specification, "Table directory", `maxp`, `loca` and
+//! `glyf`).
 
 ghost use Rattle.std.specs.Prelude.{◌≡◌};
 ghost use Rattle.tt_font.specs.FaultNumbers.{fault_number};
@@ -25,14 +26,15 @@ pub enum FontFault {
     /// `maxp` isn't of version 1.0.
     #[error("maxp version")]
     MaxpVersion,
-    /// An entry of `loca` is missing, points outside `glyf` or lies below the one before it; or, as entry 0, the format of
-    /// `loca` isn't known.
+    /// An entry of `loca` is missing, points outside `glyf` or lies below the one before it; or, as
+    /// entry 0, the format of `loca` isn't known.
     #[error("loca entry {0}")]
     Loca(u32),
     /// A glyph's bytes end too early.
     #[error("glyph {0} truncated")]
     GlyphTruncated(u16),
-    /// A composite glyph leads to no glyph or nests too deep, or a glyph has more than 65,535 points or contours.
+    /// A composite glyph leads to no glyph or nests too deep, or a glyph has more than 65,535
+    /// points or contours.
     #[error("composite {0}")]
     Composite(u16),
     /// Memory ran out.

@@ -2,9 +2,9 @@
 //! tables").
 
 ghost use Rattle.std.specs.Prelude.{◌≡◌, ◌*◌, IfOk, OnOk};
-ghost use Rattle.tt_font.specs.ComponentReads.{HasRoom, HasReadAtLeast, HasReadAtMost};
-ghost use Rattle.tt_font.specs.GlyphTables.{components_in, fault_in};
-ghost use Rattle.tt_font.specs.GlyphParts.{AreRead};
+ghost use Rattle.tt_font.specs.Representation.ComponentReads.{HasRoom, HasReadAtLeast, HasReadAtMost};
+ghost use Rattle.tt_font.specs.Representation.GlyphTables.{components_in, fault_in};
+ghost use Rattle.tt_font.specs.Representation.GlyphParts.{AreRead};
 ghost use Rattle.tt_font.specs.Conditions.{TestsWithMemory};
 
 use crate::component::ComponentReader;
@@ -33,15 +33,18 @@ fn read_glyphs<'a>(
     requires room { HasRoom reader.old (17 * components_in glyphs.now) }
     ensures fault { TestsWithMemory (fault_in glyphs.now) result }
     ensures glyphs { IfOk result (λ parts. AreRead glyphs.now parts.items) }
-    ensures at_least { OnOk result (HasReadAtLeast reader.old reader.new (components_in glyphs.now)) }
-    ensures at_most { OnOk result (HasReadAtMost reader.old reader.new (17 * components_in glyphs.now)) }
+    ensures at_least { OnOk result (HasReadAtLeast reader.old reader.new
+        (components_in glyphs.now)) }
+    ensures at_most { OnOk result (HasReadAtMost reader.old reader.new
+        (17 * components_in glyphs.now)) }
 {
     let programs = read_programs(alloc, glyphs, reader)?;
     let sizes = outline_sizes(alloc, glyphs, reader)?;
     put_together(alloc, &programs, &sizes, glyphs.count)
 }
 
-/// A font file, read: the limits of its programs, and its programs as slices of the file (OpenType specification, "Font tables").
+/// A font file, read: the limits of its programs, and its programs as slices of the file (OpenType
+/// specification, "Font tables").
 #[derive(Debug, Drop)]
 pub struct Font<'a> {
     limits: Limits,
@@ -54,8 +57,7 @@ pub struct Font<'a> {
 
 impl<'a> Model for Font<'a> {
     ghost use Rattle.std.specs.Prelude.{map, length, ◌<◌, ◌^◌};
-    ghost use Rattle.tt_font.specs.Reading.{FontData};
-    ghost use Rattle.tt_font.specs.GlyphParts.{glyph_data};
+    ghost use Rattle.tt_font.specs.Reading.{FontData, glyph_data};
 
     ghost Value = { FontData };
 
@@ -76,23 +78,29 @@ impl<'a> Font<'a> {
     ghost use Rattle.std.specs.Option.{option_map};
     ghost use Rattle.tt_font.specs.Conditions.{IsOutOfMemory, TestsWithMemory};
     ghost use Rattle.tt_font.specs.FileFaults.{font_fault, tables_fault};
-    ghost use Rattle.tt_font.specs.Reading.{Reads, ReadsComponents};
-    ghost use Rattle.tt_font.specs.GlyphParts.{glyph_data};
+    ghost use Rattle.tt_font.specs.Reading.{Reads, ReadsComponents, glyph_data};
 
-    /// Reads the bytes of a font file. No glyph and no program is copied, and the memory that is taken grows with the number of
-    /// glyphs only, once `loca` is known to have an entry for each.
+    /// Reads the bytes of a font file. No glyph and no program is copied, and the memory that is
+    /// taken grows with the number of glyphs only, once `loca` is known to have an entry for each.
     ///
-    /// Errors: the first of these that holds, or `OutOfMemory`, which is returned only where none of the first five holds.
-    /// 1. Fewer than 12 bytes (`DirectoryTruncated`), the version (`NotSfnt`), fewer bytes than the records of the directory
-    ///    take (`DirectoryTruncated`).
-    /// 2. `maxp` is missing, lies outside the file or has fewer than 4 bytes, isn't of version 1.0, has fewer than 32 bytes.
-    /// 3. `head` is missing, lies outside or has fewer than 54 bytes; then `loca` and then `glyf` is missing or lies outside.
-    /// 4. `cvt `, `fpgm` or `prep` is there and lies outside, or one of the programs is longer than 2,147,483,647 bytes.
-    /// 5. The format of `loca` isn't 0 or 1 (entry 0), or an entry is missing, lies above the length of `glyf` or below the
-    ///    entry before it (the first such entry).
+    /// # Errors
+    ///
+    /// The first of these that holds, or `OutOfMemory`, which is returned only where none of the
+    /// first five holds.
+    /// 1. Fewer than 12 bytes (`DirectoryTruncated`), the version (`NotSfnt`), fewer bytes than the
+    ///    records of the directory take (`DirectoryTruncated`).
+    /// 2. `maxp` is missing, lies outside the file or has fewer than 4 bytes, isn't of version 1.0,
+    ///    has fewer than 32 bytes.
+    /// 3. `head` is missing, lies outside or has fewer than 54 bytes; then `loca` and then `glyf`
+    ///    is missing or lies outside.
+    /// 4. `cvt `, `fpgm` or `prep` is there and lies outside, or one of the programs is longer than
+    ///    2,147,483,647 bytes.
+    /// 5. The format of `loca` isn't 0 or 1 (entry 0), or an entry is missing, lies above the
+    ///    length of `glyf` or below the entry before it (the first such entry).
     /// 6. A glyph's bytes end too early (the first such glyph).
-    /// 7. From a glyph a chain of at most 16 components leads to a number that isn't below the number of glyphs, or one of 17
-    ///    starts, or it has more than 65,535 points or contours (the first such glyph).
+    /// 7. From a glyph a chain of at most 16 components leads to a number that isn't below the
+    ///    number of glyphs, or one of 17 starts, or it has more than 65,535 points or contours (the
+    ///    first such glyph).
     #[tactic(auto, unfolding(crate::specs::FileFaults::font_fault))]
     pub fn read(alloc: Global, bytes: &'a [u8]) -> Result<Font<'a>, FontFault>
         ensures fault { TestsWithMemory (font_fault bytes.now) result }
@@ -156,8 +164,8 @@ impl<'a> Font<'a> {
         self.glyphs.get(usize::from(id)).copied()
     }
 
-    /// Returns how often an entry of a component list was read while the font was read: at least once for each entry of each glyph,
-    /// and at most 17 times as often.
+    /// Returns how often an entry of a component list was read while the font was read: at least
+    /// once for each entry of each glyph, and at most 17 times as often.
     pub fn component_reads(&self) -> u64
         ensures { result ≡ self.now.component_reads }
     {

@@ -3,7 +3,7 @@
 ghost use Rattle.std.specs.Prelude.{◌≡◌, ◌+◌, ◌*◌, ◌^◌, ◌<◌, ◌≤◌, length, is_some, true, false};
 ghost use Rattle.std.specs.Option.{option_map};
 ghost use Rattle.tt_font.specs.Components.{components, last_of};
-ghost use Rattle.tt_font.specs.ComponentReads.{HasRoom, HasRead};
+ghost use Rattle.tt_font.specs.Representation.ComponentReads.{HasRoom, HasRead};
 ghost use Rattle.tt_font.specs.Glyphs.{is_composite, component_count, program_at, simple_program, composite_program, program_of, simple_points, simple_contours};
 
 use crate::component::{ComponentReader, HEADER};
@@ -64,7 +64,8 @@ pub(crate) fn is_composite(glyph: &[u8]) -> bool
     glyph.len() >= HEADER && u16_at(glyph, 0) >= COMPOSITE
 }
 
-/// Reads the program of a glyph, where its bytes are there. A glyph without data has an empty program.
+/// Reads the program of a glyph, where its bytes are there. A glyph without data has an empty
+/// program.
 #[tactic(auto, unfolding(crate::specs::Glyphs::program_of, crate::specs::Glyphs::component_count))]
 pub(crate) fn read_glyph_program<'a>(
     glyph: &'a [u8],
@@ -87,7 +88,7 @@ pub(crate) fn read_glyph_program<'a>(
 }
 
 /// Returns how many points a glyph has that isn't composite and whose bytes are there.
-#[tactic(auto, unfolding(crate::specs::Glyphs::simple_points), using(crate::proofs::WholeGlyphs::end_points_are_there))]
+#[tactic(auto, unfolding(crate::specs::Glyphs::simple_points))]
 pub(crate) fn simple_points(glyph: &[u8]) -> u32
     requires simple { is_composite glyph.now ≡ false }
     requires whole { is_some (program_of glyph.now) ≡ true }

@@ -6,8 +6,8 @@ ghost use Rattle.tt_font.specs.Locations.{entry_size, entry, entry_fits};
 use crate::fault::FontFault;
 use crate::numbers::{u16_at, u32_at};
 
-/// Where the glyphs of a font are: each has the bytes of `glyf` from its entry of `loca` to the next entry (OpenType
-/// specification, `loca`).
+/// Where the glyphs of a font are: each has the bytes of `glyf` from its entry of `loca` to the
+/// next entry (OpenType specification, `loca`).
 #[derive(Clone, Copy)]
 pub(crate) struct GlyphTable<'a> {
     /// indexToLocFormat: 0 where the entries of `loca` are short, 1 where they are long.
@@ -53,10 +53,14 @@ fn entry_is_good(format: u16, loca: &[u8], glyf: &[u8], i: u32) -> bool
 impl<'a> GlyphTable<'a> {
     ghost use Rattle.std.specs.Prelude.{◌≡◌, ◌+◌, ◌^◌, ◌<◌, ◌≤◌, length, IfOk};
     ghost use Rattle.tt_font.specs.Locations.{entry};
-    ghost use Rattle.tt_font.specs.GlyphTables.{glyphs_of};
+    ghost use Rattle.tt_font.specs.Representation.GlyphTables.{glyphs_of};
     ghost use Rattle.tt_font.specs.Conditions.{Tests, loca_fault};
 
     /// Reads the glyphs of the tables `loca` and `glyf`, in the format that `head` gives.
+    ///
+    /// # Errors
+    ///
+    /// `Loca` with 0 where the format isn't known, else with the first entry that doesn't fit.
     pub(crate) fn read(
         format: u16,
         loca: &'a [u8],

@@ -3,10 +3,10 @@
 
 ghost use Rattle.std.specs.Prelude.{◌≡◌, ℕ, [], ◌*◌, length, IfOk, IfErr, OnOk, IsTrue, ◌↔◌, alloc_error};
 ghost use Rattle.tt_font.specs.Numbers.{first_below};
-ghost use Rattle.tt_font.specs.ComponentReads.{HasRoom, HasRead, HasReadAtLeast, HasReadAtMost};
-ghost use Rattle.tt_font.specs.CompositeLists.{AreAllComposites, AgreeOnSimple};
-ghost use Rattle.tt_font.specs.OutlineSizes.{size_at, PointsAreCapped, ContoursAreCapped, NextSizes, SizesAfter, size_refuses, HasTotals};
-ghost use Rattle.tt_font.specs.GlyphTables.{glyphs_of, outlines_in, components_in, AreWhole, refused_in};
+ghost use Rattle.tt_font.specs.Representation.ComponentReads.{HasRoom, HasRead, HasReadAtLeast, HasReadAtMost};
+ghost use Rattle.tt_font.specs.Representation.CompositeLists.{AreAllComposites, AgreeOnSimple};
+ghost use Rattle.tt_font.specs.Representation.OutlineSizes.{size_at, PointsAreCapped, ContoursAreCapped, NextSizes, SizesAfter, size_refuses, HasTotals};
+ghost use Rattle.tt_font.specs.Representation.GlyphTables.{glyphs_of, outlines_in, components_in, AreWhole, refused_in};
 ghost use Rattle.tt_font.specs.Conditions.{TestsWithMemory};
 
 use crate::component::ComponentReader;
@@ -19,8 +19,8 @@ use std::mem::swap;
 /// How many steps a chain of components may have.
 const STEPS: u32 = 16;
 
-/// Makes the sizes before the first iteration: what each glyph's own bytes say. Lists the numbers of
-/// the composite glyphs.
+/// Makes the sizes before the first iteration: what each glyph's own bytes say. Lists the numbers
+/// of the composite glyphs.
 ///
 /// # Errors
 ///
@@ -89,8 +89,8 @@ fn is_same(a: &[OutlineSize], b: &[OutlineSize]) -> bool
     a == b
 }
 
-/// Makes the sizes after the last iteration. Each iteration takes the sums over one more step of the
-/// chains of components; where one changes nothing, those after it would change nothing either.
+/// Makes the sizes after the last iteration. Each iteration takes the sums over one more step of
+/// the chains of components; where one changes nothing, those after it would change nothing either.
 ///
 /// # Errors
 ///
@@ -104,7 +104,8 @@ fn last_sizes(
     requires room { HasRoom reader.old (16 * components_in glyphs.now) }
     ensures sizes { IfOk result (λ sizes. SizesAfter glyphs.now 16 sizes.items) }
     ensures at_least { OnOk result (HasReadAtLeast reader.old reader.new 0) }
-    ensures at_most { OnOk result (HasReadAtMost reader.old reader.new (16 * components_in glyphs.now)) }
+    ensures at_most { OnOk result (HasReadAtMost reader.old reader.new
+        (16 * components_in glyphs.now)) }
     ensures memory { IfErr result (λ fault. fault ≡ FontFault.OutOfMemory alloc_error) }
 {
     let mut composites = Vec::new(alloc);
@@ -139,7 +140,8 @@ pub(crate) fn outline_sizes(
     ensures sizes { IfOk result (λ sizes. HasTotals glyphs.now sizes.items) }
     ensures len { IfOk result (λ sizes. length sizes.items ≡ glyphs.now.count) }
     ensures at_least { OnOk result (HasReadAtLeast reader.old reader.new 0) }
-    ensures at_most { OnOk result (HasReadAtMost reader.old reader.new (16 * components_in glyphs.now)) }
+    ensures at_most { OnOk result (HasReadAtMost reader.old reader.new
+        (16 * components_in glyphs.now)) }
 {
     let sizes = last_sizes(alloc, glyphs, reader)?;
     match first_refused(&sizes, glyphs.count) {

@@ -9,10 +9,12 @@ use crate::numbers::{u16_at, u32_at};
 use crate::tag::Tag;
 use tt_code::Limits;
 
-/// Reads the limits from the bytes of a `maxp` table (OpenType specification, `maxp`). A table of version 1.0 has 32 bytes, and a
-/// longer one is accepted. Takes no memory.
+/// Reads the limits from the bytes of a `maxp` table (OpenType specification, `maxp`). A table of
+/// version 1.0 has 32 bytes, and a longer one is accepted. Takes no memory.
 ///
-/// Errors: `TableOutside` where the table is too short, `MaxpVersion` where it isn't of version 1.0.
+/// # Errors
+///
+/// `TableOutside` where the table is too short, `MaxpVersion` where it isn't of version 1.0.
 #[tactic(auto, unfolding(crate::specs::Conditions::maxp_fault))]
 pub fn read_maxp(maxp: &[u8]) -> Result<Limits, FontFault>
     ensures fault { Tests (maxp_fault maxp.now) result }

@@ -3,8 +3,8 @@
 
 ghost use Rattle.std.specs.Prelude.{◌≡◌, ◌+◌, ◌^◌, ◌<◌, ◌≤◌, length, min};
 ghost use Rattle.tt_font.specs.Components.{components, glyphs_named};
-ghost use Rattle.tt_font.specs.ComponentReads.{HasRoom, HasRead};
-ghost use Rattle.tt_font.specs.OutlineSizes.{PointsAreCapped, ContoursAreCapped, AddsUp};
+ghost use Rattle.tt_font.specs.Representation.ComponentReads.{HasRoom, HasRead};
+ghost use Rattle.tt_font.specs.Representation.OutlineSizes.{PointsAreCapped, ContoursAreCapped, AddsUp};
 
 use crate::component::{ComponentReader, HEADER};
 use crate::glyph::{is_composite, simple_contours, simple_points};
@@ -51,7 +51,7 @@ impl OutlineSize {
     ghost use Rattle.std.specs.Prelude.{◌≡◌, ◌+◌, ◌≤◌, ◌||◌, min, length, is_some, true};
     ghost use Rattle.tt_font.specs.Glyphs.{is_composite, program_of};
     ghost use Rattle.tt_font.specs.Outlines.{outline_of, own_points, own_contours};
-    ghost use Rattle.tt_font.specs.OutlineSizes.{has_parts, size_at, size_refuses};
+    ghost use Rattle.tt_font.specs.Representation.OutlineSizes.{has_parts, size_at, size_refuses};
 
     /// Returns what a glyph's own bytes say of its size, before its components are known.
     pub(crate) fn own(glyph: &[u8]) -> OutlineSize

@@ -1,10 +1,10 @@
 //! The programs of all glyphs (OpenType specification, `glyf`).
 
 ghost use Rattle.std.specs.Prelude.{◌≡◌, length, IfOk, IfErr, OnOk, alloc_error};
-ghost use Rattle.tt_font.specs.ComponentReads.{HasRoom, HasRead};
-ghost use Rattle.tt_font.specs.OutlineSizes.{PointsFit, ContoursFit};
-ghost use Rattle.tt_font.specs.GlyphTables.{components_in, truncated_in};
-ghost use Rattle.tt_font.specs.GlyphParts.{AreAllPrograms, ArePutTogether};
+ghost use Rattle.tt_font.specs.Representation.ComponentReads.{HasRoom, HasRead};
+ghost use Rattle.tt_font.specs.Representation.OutlineSizes.{PointsFit, ContoursFit};
+ghost use Rattle.tt_font.specs.Representation.GlyphTables.{components_in, truncated_in};
+ghost use Rattle.tt_font.specs.Representation.GlyphParts.{AreAllPrograms, ArePutTogether};
 ghost use Rattle.tt_font.specs.Conditions.{TestsWithMemory};
 
 use crate::component::ComponentReader;
@@ -54,7 +54,8 @@ pub(crate) fn put_together<'a>(
     requires programs { length programs.now ≡ count }
     requires points { PointsFit sizes.now count }
     requires contours { ContoursFit sizes.now count }
-    ensures glyphs { IfOk result (λ glyphs. ArePutTogether programs.now sizes.now count glyphs.items) }
+    ensures glyphs { IfOk result (λ glyphs.
+        ArePutTogether programs.now sizes.now count glyphs.items) }
     ensures memory { IfErr result (λ fault. fault ≡ FontFault.OutOfMemory alloc_error) }
 {
     let mut glyphs = Vec::with_capacity(alloc, usize::from(count))?;

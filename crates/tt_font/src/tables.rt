@@ -31,6 +31,11 @@ pub(crate) struct Tables<'a> {
 
 impl<'a> Tables<'a> {
     /// Reads the tables of a font file.
+    ///
+    /// # Errors
+    ///
+    /// The first fault in this order: of the directory, of the table `maxp`, of the other tables as
+    /// they are read here, of the entries of `loca`.
     #[tactic(auto, unfolding(crate::specs::FileFaults::tables_fault))]
     pub(crate) fn read(bytes: &'a [u8]) -> Result<Tables<'a>, FontFault>
         ensures fault { Tests (tables_fault bytes.now) result }
@@ -38,7 +43,8 @@ impl<'a> Tables<'a> {
         ensures cvt_count { IfOk result (λ tables. tables.cvt_count ≡ font_cvt_count bytes.now) }
         ensures fpgm { IfOk result (λ tables. tables.fpgm.now ≡ table Fpgm bytes.now) }
         ensures prep { IfOk result (λ tables. tables.prep.now ≡ table Prep bytes.now) }
-        ensures glyph_count { IfOk result (λ tables. tables.glyphs.count ≡ font_glyph_count bytes.now) }
+        ensures glyph_count { IfOk result (λ tables. tables.glyphs.count
+            ≡ font_glyph_count bytes.now) }
         ensures few_glyphs { IfOk result (λ tables. tables.glyphs.count < 2 ^ 16) }
         ensures format { IfOk result (λ tables. tables.glyphs.format
             ≡ loca_format (table Head bytes.now)) }

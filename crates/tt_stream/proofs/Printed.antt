@@ -1,12 +1,11 @@
 -- A text that is printed window by window.
-use Rattle.std.proofs.Common.{◌≡◌, ℕ, ◌+◌, ◌<◌, List, ◌++◌, Option, None, Some, length, take, drop, sym, ap, ◌∙◌, subst, arith, take_all}
+use Rattle.std.proofs.Common.{◌≡◌, ℕ, ◌+◌, ◌<◌, List, ◌++◌, Option, None, Some, length, take, drop, sym, ap, ◌∙◌, subst, arith, take_all, inl, inr}
 use Rattle.std.specs.Prelude.{IfSome, min}
 use Rattle.std.specs.Io.KnownBytes.{Appends}
 use Rattle.std.proofs.KnownBytes.{Appends-trans}
 use Rattle.std.proofs.Math.Seq.{take-add}
 use Rattle.std.proofs.lemmas.Bool.{cases_lt}
 use Rattle.std.proofs.lemmas.List.{take-append-drop, take-take, length-take-le}
-use Rattle.std.proofs.Common.{inl, inr}
 use Rattle.tt_stream.proofs.Windows.{length-take_cut}
 use Rattle.tt_stream.specs.Streams.{AppendsText, AppendsBeginning, AppendsBeginningOfText}
 

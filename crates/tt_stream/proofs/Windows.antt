@@ -10,7 +10,7 @@ use borrow.Rule.Slice.PartMut.{put_mid}
 use Rattle.std.proofs.lemmas.List.{append-nil, drop_all, length-take-le}
 use Rattle.std.proofs.lemmas.Grind.{common_steps}
 use Rattle.std.proofs.Math.Seq.{take-append-add, drop-nil}
-use Rattle.tt_stream.specs.Windows.{Part, TakesPiece}
+use Rattle.tt_stream.specs.Representation.Windows.{Part, TakesPiece}
 
 pub take-append_fit : (n : ℕ) (a b : List ℕ) → length a ≤ n → take n (a ++ b) ≡ a ++ take (n - length a) b
 take-append_fit n a b fits =

@@ -1,3 +1,3 @@
 pub mod Reads
 pub mod Streams
-pub mod Windows
+pub mod Representation

@@ -38,7 +38,8 @@ pub record ReadAhead (S : Type 0) : Type 0 where
   pub ahead : List ℕ
 
 -- one call of the source gave these bytes, none only at its end
-pub record Refills (r : Result (Unit {0}) ReadFailed) (old new : Option (List ℕ)) (failures failures_now : ℕ) (ahead : List ℕ) : Type 0 where
+pub record Refills (r : Result (Unit {0}) ReadFailed) (old new : Option (List ℕ))
+    (failures failures_now : ℕ) (ahead : List ℕ) : Type 0 where
   pub bytes : Consumes old new ahead
   pub at_end : MatchResult r (λ _. ahead ≡ [] → IsAtEnd new) (λ _. ahead ≡ [])
   pub count : CountsFailure r failures failures_now

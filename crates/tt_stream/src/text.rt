@@ -3,7 +3,7 @@
 ghost use Rattle.std.specs.Prelude.{◌≡◌, ◌≤◌, [], length, take, drop, IfSome, IfErr, OnOk, IfOk, OnErr};
 ghost use Rattle.tt_stream.specs.Streams.{AppendsText, AppendsBeginningOfText, CountsPrintFailure};
 ghost use Rattle.tt_stream.specs.declared.text.TheConstants.{ROOM};
-ghost use Rattle.tt_stream.specs.Windows.{Part, TakesPiece};
+ghost use Rattle.tt_stream.specs.Representation.Windows.{Part, TakesPiece};
 
 use crate::{Sink, WriteFailed, write_all};
 use std::fmt;

@@ -64,7 +64,8 @@ pub enum CommandFault {
     /// A file can't be made or written.
     #[error("45 write")]
     File,
-    /// A text gave up on being printed, which none here does: each goes to a window in memory that takes whatever it gets.
+    /// A text gave up on being printed, which none here does: each goes to a window in memory that
+    /// takes whatever it gets.
     #[error("text")]
     Text,
 }

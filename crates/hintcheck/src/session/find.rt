@@ -5,17 +5,17 @@ ghost use Rattle.tt_abs.specs.Entries.{Rises};
 ghost use Rattle.tt_abs.specs.StateFlow.{FunctionsFit};
 ghost use Rattle.tt_code.specs.Fonts.{font_setting};
 ghost use Rattle.hintcheck.specs.FindingSessions.{IsFoundAnswer};
-ghost use Rattle.hintcheck.specs.FontVerdicts.{IsKnownAtEnd};
 ghost use Rattle.hintcheck.specs.FontPrograms.{IsFontInRange, font_of, font_subject};
 ghost use Rattle.hintcheck.specs.ProgramVerdicts.{IsForCertificate};
-ghost use Rattle.hintcheck.specs.Sessions.{after_font, at_glyph, at_start};
-ghost use Rattle.hintcheck.specs.SessionStages.{KeepsKnown, TellsOutcome, stage_of};
+ghost use Rattle.hintcheck.specs.Sessions.{at_start};
+ghost use Rattle.hintcheck.specs.Representation.SessionStages.{IsFoundGlyph, IsFoundStep, KeepsKnown, TellsOutcome, stage_of};
+ghost use Rattle.hintcheck.specs.Representation.ProgramEnds.{IsKnownEnd, after_font_program, at_glyph_program};
 
 use super::{Kept, Outcome, accepted};
 use crate::font::{
     Common, Ended, cvt_setting, find_cvt_program, find_font_program, find_glyph_program,
 };
-use crate::program::{Search, told};
+use crate::program::{Search, reported};
 use crate::report::Name;
 use std::alloc::{AllocError, Global};
 use std::mem;
@@ -44,7 +44,7 @@ fn refused(program: Name, fault: ProgramFault) -> Result<Outcome, AllocError>
             reason,
         } => Ok(Outcome {
             program,
-            refused: Some(told(program, spot, offset, reason)),
+            refused: Some(reported(program, spot, offset, reason)),
         }),
         ProgramFault::OutOfMemory(error) => Err(error),
     }
@@ -59,7 +59,7 @@ fn find_first<'a>(
 ) -> Result<FoundStep<'a>, AllocError>
     requires range { IsFontInRange font.now }
     requires search { IsForCertificate search }
-    ensures { IfOk result (λ step. IsFoundAnswer font.now at_start step.answer (stage_of step.kept)) }
+    ensures { IfOk result (IsFoundStep font.now at_start) }
 {
     match find_font_program(alloc, finder, font, search) {
         Ok((fpgm, found)) => Ok(FoundStep {
@@ -83,8 +83,8 @@ fn find_second<'a>(
 ) -> Result<FoundStep<'a>, AllocError>
     requires range { IsFontInRange font.now }
     requires search { IsForCertificate search }
-    requires known { IsKnownAtEnd (font_subject font.now) fpgm.program fpgm.functions.items }
-    ensures { IfOk result (λ step. IsFoundAnswer font.now (after_font fpgm.entry.program fpgm.entry.functions.items) step.answer (stage_of step.kept)) }
+    requires known { IsKnownEnd (font_subject font.now) fpgm }
+    ensures { IfOk result (IsFoundStep font.now (after_font_program fpgm.entry)) }
 {
     match find_cvt_program(alloc, finder, font, &fpgm, search) {
         Ok((prep, found)) => Ok(FoundStep {
@@ -111,10 +111,11 @@ fn find_glyph(
     requires range { IsFontInRange font.now }
     requires search { IsForCertificate search }
     requires rises { Rises prep.now.functions.items }
-    requires fits { FunctionsFit (font_setting (font_of font.now fpgm.now.program prep.now.program)) prep.now.functions.items }
+    requires fits { FunctionsFit
+        (font_setting (font_of font.now fpgm.now.program prep.now.program))
+        prep.now.functions.items }
     requires there { id < length font.now.glyphs }
-    ensures { IfOk result (λ answer. IsFoundAnswer font.now (at_glyph fpgm.now.program prep.now.program prep.now.functions.items id) (Some answer)
-        (at_glyph fpgm.now.program prep.now.program prep.now.functions.items (id + 1))) }
+    ensures { IfOk result (IsFoundGlyph font.now fpgm.now prep.now id) }
 {
     let glyph = font.glyph(id).unwrap();
     let common = Common {
@@ -139,8 +140,8 @@ fn find_third<'a>(
 ) -> Result<FoundStep<'a>, AllocError>
     requires range { IsFontInRange font.now }
     requires search { IsForCertificate search }
-    requires known { KeepsKnown font.now (at_glyph fpgm.program prep.program prep.functions.items id) }
-    ensures { IfOk result (λ step. IsFoundAnswer font.now (at_glyph fpgm.entry.program prep.entry.program prep.entry.functions.items id) step.answer (stage_of step.kept)) }
+    requires known { KeepsKnown font.now (at_glyph_program fpgm prep id) }
+    ensures { IfOk result (IsFoundStep font.now (at_glyph_program fpgm.entry prep.entry id)) }
 {
     if id == font.glyph_count() {
         return Ok(FoundStep {
@@ -166,7 +167,7 @@ fn find_on<'a>(
     requires range { IsFontInRange font.now }
     requires search { IsForCertificate search }
     requires known { KeepsKnown font.now (stage_of kept) }
-    ensures { IfOk result (λ step. IsFoundAnswer font.now (stage_of kept.entry) step.answer (stage_of step.kept)) }
+    ensures { IfOk result (IsFoundStep font.now (stage_of kept.entry)) }
 {
     match kept {
         Kept::Start => find_first(alloc, finder, font, search),
@@ -190,7 +191,8 @@ pub(super) fn find_from<'a>(
     requires range { IsFontInRange font.now }
     requires search { IsForCertificate search }
     requires known { KeepsKnown font.now (stage_of kept.old) }
-    ensures found { IfOk result (λ answer. IsFoundAnswer font.now (stage_of kept.old) answer (stage_of kept.new)) }
+    ensures found { IfOk result
+        (λ answer. IsFoundAnswer font.now (stage_of kept.old) answer (stage_of kept.new)) }
     ensures known { KeepsKnown font.now (stage_of kept.new) }
 {
     let now = mem::replace(kept, Kept::Over);

@@ -5,14 +5,14 @@ ghost use Rattle.tt_abs.specs.Covers.{has_body_twice};
 ghost use Rattle.tt_abs.specs.Settings.{frames_of};
 ghost use Rattle.tt_abs.specs.States.{state_order};
 
-use crate::abs::samples::{Change, GRAPHICS, graphics_of, has_stack, make_changes, push_all};
+use crate::abs::samples::{Change, has_stack, make_changes, push_all};
+use hintcheck_test_fixtures::families::{GRAPHICS, graphics_of};
+use hintcheck_test_fixtures::programs::{GLYPH, LIMITS, cut};
 use std::alloc::{AllocError, Global};
 use std::process::Abort;
 use tt_abs::Cell::Unknown;
-use tt_abs::{
-    Cell, Kind, Move, Moves, Point, Refusal, Setting, State, Successors, ZoneCell, transfer,
-};
-use tt_code::{Frame, Graphics, Limits, Program, Reason};
+use tt_abs::{Cell, Move, Moves, Point, Refusal, Setting, State, Successors, ZoneCell, transfer};
+use tt_code::{Frame, Graphics, Program, Reason};
 
 /// What an instruction should do.
 #[derive(Clone, Copy)]
@@ -54,15 +54,6 @@ pub(crate) struct Case<'a> {
     pub(crate) given: &'a Given<'a>,
     pub(crate) want: Want<'a>,
 }
-
-const LIMITS: Limits = Limits {
-    storage: 4,
-    functions: 2,
-    stack: 8,
-    program_size: 64,
-    zones: 2,
-    twilight: 4,
-};
 
 /// Whether a state has this stack, and what a case wants of all else.
 fn is_left(case: &Case<'_>, stack: &[Cell], state: &State) -> bool {
@@ -183,23 +174,13 @@ fn state_before(alloc: Global, case: &Case<'_>) -> Result<State, AllocError>
     Ok(state)
 }
 
-/// Returns a program of less than 100 bytes, cut.
-fn cut<'a>(alloc: Global, bytes: &'a [u8]) -> Option<Program<'a>> {
-    if bytes.len() >= 100 {
-        return None;
-    }
-    Program::cut(alloc, bytes).ok()
-}
-
-/// Returns the setting of a glyph with 4 points and 1 contour, so that its zone has 8 points, in a font with 10 control values.
+/// Returns the setting of a glyph with 4 points and 1 contour, so that its zone has 8 points, in a
+/// font with 10 control values.
 fn setting_of<'a>(main: &'a Program<'a>, font: &'a Program<'a>) -> Setting<'a> {
     Setting {
         limits: LIMITS,
         cvt: 10,
-        kind: Kind::Glyph {
-            points: 4,
-            contours: 1,
-        },
+        kind: GLYPH,
         main,
         font,
         prep: font,
@@ -215,7 +196,8 @@ fn is_done_in(alloc: Global, setting: &Setting<'_>, case: &Case<'_>) -> bool {
     }
 }
 
-/// Whether the instruction of a case does what the case wants; nothing where memory ran out, or if the program can't be cut.
+/// Whether the instruction of a case does what the case wants; nothing where memory ran out, or if
+/// the program can't be cut.
 pub(crate) fn is_done(alloc: Global, case: &Case<'_>) -> Option<bool> {
     let main = cut(alloc, case.program)?;
     let font = cut(alloc, &FONT)?;

@@ -3,9 +3,9 @@
 ghost use Rattle.tt_abs.specs.States.{state_order};
 
 use crate::abs::samples::{
-    ABOVE, APART, BELOW, Change, GRAPHICS, Relation, SAME, compare, graphics_of, has_stack,
-    join_twice, state_after,
+    ABOVE, APART, BELOW, Change, Relation, SAME, compare, has_stack, join_twice, state_after,
 };
+use hintcheck_test_fixtures::families::{GRAPHICS, graphics_of};
 use std::alloc::Global;
 use tt_abs::Cell::{Known, Unknown};
 use tt_abs::{AbsFault, Cell, Order, State, ZoneCell};
@@ -109,7 +109,8 @@ fn joins_of_stacks(rt: HostRuntime) {
     assert!(rt; joins_stacks(rt.alloc(), &deeper, &REFUSED));
 }
 
-/// Returns the join of a state with another; nothing where memory ran out, or where they can't be joined.
+/// Returns the join of a state with another; nothing where memory ran out, or where they can't be
+/// joined.
 fn joined_state(alloc: Global, one: &[Change<'_>], other: &[Change<'_>]) -> Option<State> {
     let mut state = state_after(alloc, one).ok()?;
     let other = state_after(alloc, other).ok()?;
@@ -130,7 +131,8 @@ fn joins_of_the_same_low_bits_either_way(rt: HostRuntime) {
     assert!(rt; told == Some([SAME, SAME]));
 }
 
-/// Returns the join of two states of which neither covers the other; nothing where it isn't such a one, or where memory ran out.
+/// Returns the join of two states of which neither covers the other; nothing where it isn't such a
+/// one, or where memory ran out.
 fn met(alloc: Global, one: &[Change<'_>], other: &[Change<'_>]) -> Option<State> {
     let mut state = state_after(alloc, one).ok()?;
     if joins(alloc, &mut state, other, &MET) {

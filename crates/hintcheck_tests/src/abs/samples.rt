@@ -84,30 +84,6 @@ pub(crate) fn state_after(alloc: Global, changes: &[Change<'_>]) -> Result<State
     Ok(state)
 }
 
-/// The graphics state with which programs start.
-pub(crate) const GRAPHICS: Graphics<Cell, ZoneCell> = Graphics {
-    rp0: Known(0),
-    rp1: Known(0),
-    rp2: Known(0),
-    zp0: ZoneCell::One,
-    zp1: ZoneCell::One,
-    zp2: ZoneCell::One,
-    loop_number: Known(1),
-};
-
-/// Returns what a state tells of the graphics state.
-pub(crate) fn graphics_of(state: &State) -> Graphics<Cell, ZoneCell> {
-    Graphics {
-        rp0: state.rp(Reference::Rp0),
-        rp1: state.rp(Reference::Rp1),
-        rp2: state.rp(Reference::Rp2),
-        zp0: state.zone(Pointer::Zp0),
-        zp1: state.zone(Pointer::Zp1),
-        zp2: state.zone(Pointer::Zp2),
-        loop_number: state.loop_cell(),
-    }
-}
-
 /// Whether a state's stack holds exactly these cells, the bottom first.
 pub(crate) fn has_stack(state: &State, cells: &[Cell]) -> bool {
     for (place, cell) in cells.iter().enumerate() {

@@ -2,6 +2,7 @@
 
 use std::alloc::{AllocError, Global};
 use std::process::Abort;
+use std::test::Fail;
 use tt_abs::Cell::{Known, Unknown};
 use tt_abs::{Cell, Stack};
 
@@ -219,4 +220,32 @@ const GREAT_STEPS: [Step<'static>; 11] = [
 #[test]
 fn stacks_of_small_and_great_numbers(rt: HostRuntime) {
     assert_steps(&rt, rt.alloc(), &GREAT_STEPS);
+}
+
+/// Makes a stack of these cells, the bottom first.
+fn stack_of(alloc: Global, cells: &[Cell]) -> Result<Stack, AllocError> {
+    let mut stack = Stack::new(alloc);
+    push_all(&mut stack, cells)?;
+    Ok(stack)
+}
+
+#[test]
+fn lowest_cells_of_two_stacks(rt: HostRuntime) -> Result<(), Fail> {
+    let one = stack_of(rt.alloc(), &[Known(1), Unknown, Known(3), Known(4)])?;
+    let other = stack_of(rt.alloc(), &[Known(1), Unknown, Known(5)])?;
+    assert!(rt; one.shares_bottom(&other, 0));
+    assert!(rt; one.shares_bottom(&other, 2));
+    assert!(rt; !one.shares_bottom(&other, 3));
+    assert!(rt; !other.shares_bottom(&one, 4));
+    Ok(())
+}
+
+#[test]
+fn lowest_cells_of_two_stacks_with_a_great_number(rt: HostRuntime) -> Result<(), Fail> {
+    let one = stack_of(rt.alloc(), &[Known(1), Known(70_000), Known(3), Known(4)])?;
+    let other = stack_of(rt.alloc(), &[Known(1), Known(70_000), Known(3)])?;
+    let third = stack_of(rt.alloc(), &[Known(1), Known(70_001), Known(3)])?;
+    assert!(rt; one.shares_bottom(&other, 3));
+    assert!(rt; !one.shares_bottom(&third, 3));
+    Ok(())
 }

@@ -4,9 +4,9 @@ ghost use Rattle.std.specs.Prelude.{◌≤◌, length};
 ghost use Rattle.tt_abs.specs.States.{state_order};
 
 use crate::abs::samples::{
-    ABOVE, APART, BELOW, Change, GRAPHICS, Relation, SAME, compare, graphics_of, has_stack,
-    make_changes, state_after,
+    ABOVE, APART, BELOW, Change, Relation, SAME, compare, has_stack, make_changes, state_after,
 };
+use hintcheck_test_fixtures::families::{GRAPHICS, graphics_of};
 use std::alloc::{AllocError, Global};
 use tt_abs::Cell::{Known, Unknown};
 use tt_abs::{Cell, Order, State, ZoneCell};
@@ -71,7 +71,8 @@ const WIDE: [Cell; 9] = [
     Unknown,
 ];
 
-/// The changes that make a state, those that make another one over which it is copied, and the stack of the first.
+/// The changes that make a state, those that make another one over which it is copied, and the
+/// stack of the first.
 struct Copying<'a> {
     name: &'a str,
     of: &'a [Change<'a>],
@@ -79,7 +80,8 @@ struct Copying<'a> {
     stack: &'a [Cell],
 }
 
-/// A state of two elements, with one storage cell and a reference point, and one of 40, with a function and two storage cells.
+/// A state of two elements, with one storage cell and a reference point, and one of 40, with a
+/// function and two storage cells.
 const OVER_A_LONGER_ONE: Copying<'static> = Copying {
     name: "a state of two elements over a longer one",
     of: &[
@@ -120,7 +122,8 @@ fn is_copy(copy: &mut State, state: &State, stack: &[Cell]) -> bool
     has_stack(copy, stack) && compare(copy, state) == SAME && copy.join(state) == Ok(false)
 }
 
-/// Whether a new copy of a state is the same as that, and as a copy that was made over another state.
+/// Whether a new copy of a state is the same as that, and as a copy that was made over another
+/// state.
 fn is_copied_anew(state: &State, copy: &State, stack: &[Cell]) -> bool
     requires { state_order.InRange state.now }
 {
@@ -175,7 +178,8 @@ fn copies_over_a_longer_one(rt: HostRuntime) {
     assert!(rt; copy.stored() == [(3, -1)].as_slice());
 }
 
-/// Returns the state at a start without functions, with these cells on its stack; nothing where memory ran out.
+/// Returns the state at a start without functions, with these cells on its stack; nothing where
+/// memory ran out.
 fn with_cells(alloc: Global, cells: &[Cell]) -> Option<State>
     requires { length cells.now ≤ 65535 }
 {

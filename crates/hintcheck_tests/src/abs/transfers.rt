@@ -4,7 +4,8 @@ use crate::abs::instructions::{
     BODY, Case, Code, Given, Single, USUAL, Want, assert_at, assert_singles, is_done,
     is_single_done,
 };
-use crate::abs::samples::{Change, GRAPHICS};
+use crate::abs::samples::Change;
+use hintcheck_test_fixtures::families::GRAPHICS;
 use std::alloc::Global;
 use tt_abs::Cell::{Known, Unknown};
 use tt_abs::{Cell, Move, Moves, ZoneCell};
@@ -74,8 +75,8 @@ const CALCULATIONS: [Single<'static>; 12] = [
     ),
 ];
 
-// A number that doesn't fit in 32 bits is unknown. Where one operand decides, the other may be unknown: a number that isn't 0
-// decides OR, 0 decides AND, and no number is less than the least.
+// A number that doesn't fit in 32 bits is unknown. Where one operand decides, the other may be
+// unknown: a number that isn't 0 decides OR, 0 decides AND, and no number is less than the least.
 #[test]
 fn calculations(rt: HostRuntime) {
     assert_singles(&rt, rt.alloc(), &USUAL, &CALCULATIONS);
@@ -124,7 +125,8 @@ const MOVES: [Single<'static>; 8] = [
     ),
 ];
 
-// ROLL brings the third element to the top, MINDEX the one that it names. MINDEX and CINDEX count from the top, which is 1.
+// ROLL brings the third element to the top, MINDEX the one that it names. MINDEX and CINDEX count
+// from the top, which is 1.
 #[test]
 fn moves_of_the_stack(rt: HostRuntime) {
     assert_singles(&rt, rt.alloc(), &USUAL, &MOVES);
@@ -160,8 +162,8 @@ const JUMPS_BY_CONDITION: [(&[Cell], Want<'static>); 7] = [
     ),
 ];
 
-// A jump counts from its own offset, 1, and the condition is on top. Where the condition is unknown, both ways are taken, to one place
-// if they meet.
+// A jump counts from its own offset, 1, and the condition is on top. Where the condition is
+// unknown, both ways are taken, to one place if they meet.
 #[test]
 fn jumps_by_a_condition(rt: HostRuntime) {
     assert_at(&rt, rt.alloc(), &BY_CONDITION, 1, &JUMPS_BY_CONDITION);
@@ -213,7 +215,8 @@ fn reference_points(rt: HostRuntime) {
     assert!(rt; is_moved(rt.alloc(), Code::MdrpSetRp0 as u8, 2, 1, 2));
 }
 
-/// Whether MDAP does what is wanted with a point where zp0 is this zone. Where it goes on, the point is rp0 and rp1.
+/// Whether MDAP does what is wanted with a point where zp0 is this zone. Where it goes on, the
+/// point is rp0 and rp1.
 fn is_touched(alloc: Global, zp0: ZoneCell, point: i32, want: Want<'_>) -> bool {
     let given = Given {
         before: &[Change::Zone(Pointer::Zp0, zp0)],
@@ -236,7 +239,8 @@ const POINTS: [(ZoneCell, i32, Want<'static>); 5] = [
     (ZoneCell::One, 7, Want::Leaves(&[])),
 ];
 
-// The twilight zone has the points 0 to 3, the glyph zone 0 to 7; a point of either must be in both.
+// The twilight zone has the points 0 to 3, the glyph zone 0 to 7; a point of either must be in
+// both.
 #[test]
 fn points_of_either_zone(rt: HostRuntime) {
     for (zone, point, want) in &POINTS {
@@ -372,7 +376,8 @@ const COUNTS: [Changed<'static>; 4] = [
     ),
 ];
 
-// SHP takes as many points as the loop number says, and DELTAP twice as many numbers as its first one says.
+// SHP takes as many points as the loop number says, and DELTAP twice as many numbers as its first
+// one says.
 #[test]
 fn great_counts(rt: HostRuntime) {
     for (number, changed) in COUNTS.iter().enumerate() {
@@ -518,8 +523,8 @@ const CALLS: [Single<'static>; 6] = [
     ),
 ];
 
-// CALL is a call with one turn. LOOPCALL's function is on top, and its count below; both are tested, the function first, and a
-// count of 0 or less calls nothing. Function 1 isn't defined.
+// CALL is a call with one turn. LOOPCALL's function is on top, and its count below; both are
+// tested, the function first, and a count of 0 or less calls nothing. Function 1 isn't defined.
 #[test]
 fn calls(rt: HostRuntime) {
     assert_singles(&rt, rt.alloc(), &USUAL, &CALLS);

@@ -1,6 +1,6 @@
 //! Builders: what they hold, and what they refuse.
 
-use crate::cert::fixtures::{
+use hintcheck_test_fixtures::families::{
     CALL, Context, Filling, Row, add, add_all, fill, finished_if, leads_through, put, put_all,
 };
 use std::alloc::Global;
@@ -152,7 +152,8 @@ fn cleared_builders_take_other_states(rt: HostRuntime) {
     assert!(rt; clears(rt.alloc()));
 }
 
-/// Whether a builder in the memory of a certificate is like a new one; nothing where memory ran out.
+/// Whether a builder in the memory of a certificate is like a new one; nothing where memory ran
+/// out.
 fn gives_its_memory(alloc: Global) -> Option<bool> {
     let mut filled = Builder::new(alloc);
     let is_filled = fill(alloc, &mut filled, &FIRST);
@@ -262,7 +263,8 @@ fn points_out_of_order_after_a_clear(rt: HostRuntime) {
     assert!(rt; orders_after_a_clear(rt.alloc()));
 }
 
-/// Adds a context for each call below the limit, and returns whether each has the number that is the call's offset.
+/// Adds a context for each call below the limit, and returns whether each has the number that is
+/// the call's offset.
 fn add_to_the_limit(builder: &mut Builder) -> bool {
     for call in 1..65_535 {
         if add(builder, 0, Frame { call, ..CALL }) != Ok(call) {

@@ -1,6 +1,6 @@
 //! Certificates: their contexts and points, in order.
 
-use crate::cert::fixtures::{CALL, Context, Filling, certificate, leads_through};
+use hintcheck_test_fixtures::families::{CALL, Context, Filling, certificate, leads_through};
 use std::alloc::Global;
 use tt_abs::State;
 use tt_cert::Certificate;
@@ -147,7 +147,8 @@ fn has_frames(alloc: Global, certificate: &Certificate, number: u32, want: &[Fra
     }
 }
 
-/// Whether the frames of a context, the depth of a state and the missing end are read; nothing where memory ran out.
+/// Whether the frames of a context, the depth of a state and the missing end are read; nothing
+/// where memory ran out.
 fn is_read(alloc: Global) -> Option<bool> {
     let certificate = certificate(alloc, CALLS.contexts, &[], CALLS.rows)?;
     Some(
@@ -162,7 +163,8 @@ fn frames_and_states(rt: HostRuntime) {
     assert!(rt; is_read(rt.alloc()) == Some(true));
 }
 
-/// Whether there is a list of functions only at the end, which is empty; nothing where memory ran out.
+/// Whether there is a list of functions only at the end, which is empty; nothing where memory ran
+/// out.
 fn has_functions_at_the_end(alloc: Global) -> Option<bool> {
     let certificate = certificate(alloc, &[], &[], &[(0, 12, &[])])?;
     let functions = certificate.end_functions(12)?;

@@ -4,15 +4,16 @@ ghost use Rattle.std.specs.Prelude.{IfSome};
 ghost use Rattle.tt_abs.specs.Entries.{Rises};
 ghost use Rattle.tt_abs.specs.States.{state_order};
 
-use crate::cert::fixtures::{
+use hintcheck_test_fixtures::families::{
     Context, Row, add, certificate, finished_if, join, put, put_all, put_at, state_of,
 };
+use hintcheck_test_fixtures::programs::{CALLS_WITH_A_NUMBER, GLYPH, LIMITS as WIDE, POPPING, cut};
 use std::alloc::Global;
 use std::process::Abort;
 use tt_abs::{Cell, Kind, Setting, State};
 use tt_cert::{Builder, Certificate, ProgramFault, Spot, check, check_full};
 use tt_code::kinds::Reference;
-use tt_code::{Frame, Limits, Program, Reason};
+use tt_code::{Frame, Limits, Reason};
 
 /// What a check tells: that a family is good, or where it is refused and why.
 pub(crate) type Answer = Result<(), (Spot, u32, Reason)>;
@@ -42,18 +43,10 @@ pub(crate) struct Subject<'a> {
 /// The states of a family, and what the check tells of it. Two rows at one offset are joined.
 pub(crate) type Family<'a> = (&'a [Row<'a>], Answer);
 
+/// The limits of the programs, of 9 bytes at most.
 const LIMITS: Limits = Limits {
-    storage: 4,
-    functions: 2,
-    stack: 8,
     program_size: 9,
-    zones: 2,
-    twilight: 4,
-};
-
-pub(crate) const GLYPH: Kind = Kind::Glyph {
-    points: 4,
-    contours: 1,
+    ..WIDE
 };
 
 /// The empty glyph program.
@@ -65,15 +58,8 @@ pub(crate) const EMPTY: Subject<'static> = Subject {
     asked: Asked::Whole,
 };
 
-/// Returns a program of less than 100 bytes, cut.
-fn cut<'a>(alloc: Global, bytes: &'a [u8]) -> Option<Program<'a>> {
-    if bytes.len() >= 100 {
-        return None;
-    }
-    Program::cut(alloc, bytes).ok()
-}
-
-/// Returns what the check tells of a family for the program of this setting; nothing where memory ran out.
+/// Returns what the check tells of a family for the program of this setting; nothing where memory
+/// ran out.
 fn answer_in(
     alloc: Global,
     setting: &Setting<'_>,
@@ -124,7 +110,8 @@ fn checked(
     answer_in(alloc, &setting, family, subject.asked)
 }
 
-/// Returns what it tells of the family with these states for a program that starts with these functions.
+/// Returns what it tells of the family with these states for a program that starts with these
+/// functions.
 fn answer_from(
     alloc: Global,
     subject: &Subject<'_>,
@@ -251,12 +238,6 @@ fn what_is_broken_first(rt: HostRuntime) {
     }
 }
 
-/// Function 0 is POP and ENDF, its body at offset 3.
-const POPS: [u8; 5] = [0xb0, 0x00, 0x2c, 0x21, 0x2d];
-
-/// 7 is pushed, and function 0 is called.
-const CALLS: [u8; 4] = [0xb1, 0x07, 0x00, 0x2b];
-
 /// The call of the body at offset 3 of the font program.
 const CALL: Frame = Frame {
     body: 3,
@@ -267,7 +248,7 @@ const CALL: Frame = Frame {
 
 /// A glyph program that pushes 7 and calls function 0 of the font program, which pops it.
 pub(crate) const CALLING: Subject<'static> = Subject {
-    programs: [&POPS, &[], &CALLS],
+    programs: [&POPPING, &[], &CALLS_WITH_A_NUMBER],
     function: Some(3),
     contexts: &[(0, CALL)],
     ..EMPTY
@@ -278,7 +259,7 @@ const IN_PREP: u32 = 2_147_483_651;
 
 /// The same where the CVT program has the function.
 const CALLING_PREP: Subject<'static> = Subject {
-    programs: [&[], &POPS, &CALLS],
+    programs: [&[], &POPPING, &CALLS_WITH_A_NUMBER],
     function: Some(IN_PREP),
     contexts: &[(
         0,
@@ -327,7 +308,7 @@ fn function_of_the_cvt_program(rt: HostRuntime) {
 
 /// A program that is said to call function 0 where no offset can be.
 const CALLING_FROM_THE_LAST: Subject<'static> = Subject {
-    programs: [&POPS, &[], &[0x18]],
+    programs: [&POPPING, &[], &[0x18]],
     contexts: &[(
         0,
         Frame {
@@ -348,8 +329,8 @@ fn return_above_all_offsets(rt: HostRuntime) {
     assert_families(&rt, rt.alloc(), &CALLING_FROM_THE_LAST, &FROM_THE_LAST);
 }
 
-/// Adds the first 4,095 turns of a LOOPCALL at offset 5 of the body at offset 3, function 0, of so many, and puts a state at the start of
-/// each turn, and returns whether all of it was put.
+/// Adds the first 4,095 turns of a LOOPCALL at offset 5 of the body at offset 3, function 0, of so
+/// many, and puts a state at the start of each turn, and returns whether all of it was put.
 fn put_turns(alloc: Global, builder: &mut Builder, count: u32) -> bool {
     for turn in 1..4_096 {
         let frame = Frame {
@@ -367,7 +348,8 @@ fn put_turns(alloc: Global, builder: &mut Builder, count: u32) -> bool {
     true
 }
 
-/// Returns the certificate of a family with the first 4,095 turns of a glyph program that calls function 0 so often.
+/// Returns the certificate of a family with the first 4,095 turns of a glyph program that calls
+/// function 0 so often.
 fn certificate_of_turns(alloc: Global, count: u16) -> Option<Certificate> {
     let number = i32::from(count);
     let rows: [Row<'_>; 4] = [
@@ -431,7 +413,8 @@ fn further_state(alloc: Global, further: Further) -> Option<State>
     Some(state)
 }
 
-/// Returns the certificate of the family with the start state at these offsets, and with this state at a further one.
+/// Returns the certificate of the family with the start state at these offsets, and with this state
+/// at a further one.
 fn certificate_with(
     alloc: Global,
     offsets: &[u32],
@@ -446,8 +429,8 @@ fn certificate_with(
     finished_if(is_filled, builder)
 }
 
-/// Where more is known in a family for RTG alone: the program's kind, the offsets of start states, the further offset, what is known there,
-/// and the reason for which the family is refused there.
+/// Where more is known in a family for RTG alone: the program's kind, the offsets of start states,
+/// the further offset, what is known there, and the reason for which the family is refused there.
 type More<'a> = (Kind, &'a [u32], u32, Further, Reason);
 
 /// Returns what the check tells of such a family.
@@ -463,7 +446,8 @@ fn answer_with_more(alloc: Global, more: &More<'_>) -> Option<Answer> {
     checked(alloc, &subject, &[], &family)
 }
 
-// Storage cells are tested before targets, and the reference points at the end of a font program must be those of a start.
+// Storage cells are tested before targets, and the reference points at the end of a font program
+// must be those of a start.
 const MORE: [More<'static>; 3] = [
     (GLYPH, &[0, 1], 7, Further::Storage(3), Reason::Target),
     (GLYPH, &[0, 1], 7, Further::Storage(4), Reason::Storage),

@@ -11,7 +11,8 @@ const SPARSE: Subject<'static> = Subject {
     ..EMPTY
 };
 
-/// MPPEM, IF, PUSHB 1, ELSE, PUSHB 2, EIF, POP: both ways meet at offset 8, where the number is unknown.
+/// MPPEM, IF, PUSHB 1, ELSE, PUSHB 2, EIF, POP: both ways meet at offset 8, where the number is
+/// unknown.
 const BRANCHES: Subject<'static> = Subject {
     programs: [&[0x4b, 0x58, 0xb0, 0x01, 0x1b, 0xb0, 0x02, 0x59, 0x21]; 3],
     ..SPARSE

@@ -2,9 +2,10 @@
 
 ghost use Rattle.std.specs.Prelude.{◌≡◌, ◌<◌};
 
-use crate::cert_file::bytes::bytes_of;
-use crate::cert_file::calls::{ALL, Steps, Told, told_by_decode_fault, told_of_calls};
 use crate::cert_file::sections::{FULL, FULL_LENGTH};
+use hintcheck_test_fixtures::hex_bytes::bytes_of;
+use hintcheck_test_fixtures::section_calls::{Told, told_by_decode_fault, told_of_calls};
+use hintcheck_test_fixtures::streams::{ALL, Steps};
 use std::alloc::{AllocError, Global};
 use std::marker::Brand;
 use std::sync::ledger::{Blank, Ledger};

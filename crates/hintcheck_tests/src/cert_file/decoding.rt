@@ -1,11 +1,13 @@
 //! Sections whose bytes were worked out by hand are read as what they say.
 
-use crate::cert_file::bytes::bytes_of;
-use crate::cert_file::calls::{ALL, Section, Steps, Told, decoded};
-use crate::cert_file::rows::{Row, START, are_rows, plain};
+use crate::cert_file::rows::{Row, are_rows, plain};
 use crate::cert_file::sections::{
     EMPTY_IN_FORM_1, EMPTY_IN_FORM_4, FULL, GLYPH_IN_FORM_1, GLYPH_IN_FORM_4, SPARSE_GLYPH,
 };
+use hintcheck_test_fixtures::families::GRAPHICS;
+use hintcheck_test_fixtures::hex_bytes::bytes_of;
+use hintcheck_test_fixtures::section_calls::{Section, Told, decoded};
+use hintcheck_test_fixtures::streams::{ALL, Steps};
 use std::alloc::{AllocError, Global};
 use tt_abs::Cell::{Known, Unknown};
 use tt_abs::{Cell, ZoneCell};
@@ -57,7 +59,8 @@ fn bytes_and_two(alloc: Global, parts: &[&str]) -> Result<Vec<u8>, AllocError> {
     Ok(bytes)
 }
 
-/// Reads a section of so many bytes at the place 100, where two bytes follow it, and returns whether its content is read, and no byte more.
+/// Reads a section of so many bytes at the place 100, where two bytes follow it, and returns
+/// whether its content is read, and no byte more.
 fn is_read(
     alloc: Global,
     (parts, form, length): (&[&str], Form, u64),
@@ -86,7 +89,7 @@ fn empty_program(rt: HostRuntime) {
     let content = Content {
         name: Name::Font,
         contexts: &[],
-        rows: &[plain(0, &[], START)],
+        rows: &[plain(0, &[], GRAPHICS)],
     };
     let table: [(&[&str], Form, u64); 4] = [
         (&EMPTY_IN_FORM_1, Form::One, 42),
@@ -109,8 +112,8 @@ fn glyph_with_each_state(rt: HostRuntime) {
         name: Name::Glyph(0),
         contexts: &[],
         rows: &[
-            plain(0, &[], START),
-            plain(2, &[Known(7)], START),
+            plain(0, &[], GRAPHICS),
+            plain(2, &[Known(7)], GRAPHICS),
             plain(3, &[], MOVED),
         ],
     };
@@ -132,7 +135,7 @@ fn glyph_with_a_state_left_out(rt: HostRuntime) {
     let content = Content {
         name: Name::Glyph(0),
         contexts: &[],
-        rows: &[plain(0, &[], START), plain(3, &[], MOVED)],
+        rows: &[plain(0, &[], GRAPHICS), plain(3, &[], MOVED)],
     };
     assert!(rt; is_read(rt.alloc(), (&SPARSE_GLYPH, Form::Four, 79), content));
 }
@@ -169,7 +172,7 @@ fn something_in_each_list(rt: HostRuntime) {
     };
     let other = Row {
         point: (2, 9),
-        ..plain(9, &[], START)
+        ..plain(9, &[], GRAPHICS)
     };
     let content = Content {
         name: Name::Glyph(5),

@@ -1,10 +1,11 @@
 //! Families written in form 4 are bytes that were worked out by hand.
 
-use crate::cert_file::bytes::bytes_of;
-use crate::cert_file::calls::{ALL, Section, Steps, Taker, Told, decoded, encoded};
 use crate::cert_file::sections::{
     EMPTY_IN_FORM_1, EMPTY_IN_FORM_4, FULL, GLYPH_IN_FORM_1, GLYPH_IN_FORM_4, SPARSE_GLYPH,
 };
+use hintcheck_test_fixtures::hex_bytes::bytes_of;
+use hintcheck_test_fixtures::section_calls::{Section, Told, decoded, encoded};
+use hintcheck_test_fixtures::streams::{ALL, Steps, Taker};
 use std::alloc::Global;
 use tt_cert_file::Form;
 

@@ -1,9 +1,10 @@
 //! Readers and writers that fail at one call.
 
-use crate::cert_file::bytes::{bytes_but, bytes_of};
-use crate::cert_file::calls::{Taker, Told, encoded, told_of_calls};
 use crate::cert_file::encoding::section_of;
 use crate::cert_file::sections::{FULL, FULL_LENGTH};
+use hintcheck_test_fixtures::hex_bytes::{bytes_but, bytes_of};
+use hintcheck_test_fixtures::section_calls::{Told, encoded, told_of_calls};
+use hintcheck_test_fixtures::streams::Taker;
 use std::alloc::Global;
 use tt_cert_file::Form;
 
@@ -18,7 +19,8 @@ struct Case<'a> {
     told: Told,
 }
 
-/// Whether each number of calls below that of the case tells a failed read, and that of the case what it should tell.
+/// Whether each number of calls below that of the case tells a failed read, and that of the case
+/// what it should tell.
 fn is_told(alloc: Global, case: &Case<'_>) -> bool {
     let Ok(bytes) = bytes_but(alloc, &FULL, case.part, case.digits) else {
         return false;

@@ -1,12 +1,11 @@
 //! Whole files: a header, its sections, and the end.
 
-use crate::cert_file::bytes::{bytes_but, bytes_of};
-use crate::cert_file::calls::{Told, told_of_file};
-use crate::cert_file::sections::AT_START;
+use hintcheck_test_fixtures::hex_bytes::{bytes_but, bytes_of};
+use hintcheck_test_fixtures::section_calls::{AT_START, Told, told_of_file};
 use std::alloc::Global;
 
-/// The file of a font with one glyph, which has no instructions, and without a font program and a CVT program: 142 bytes. The last part is
-/// for what follows.
+/// The file of a font with one glyph, which has no instructions, and without a font program and a
+/// CVT program: 142 bytes. The last part is for what follows.
 const SMALLEST: [&str; 15] = [
     "48435254 0004",
     "00000003",

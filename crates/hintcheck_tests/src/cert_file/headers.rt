@@ -1,9 +1,8 @@
 //! Headers, and the end of a file.
 
-use crate::cert_file::bytes::bytes_of;
-use crate::cert_file::calls::{
-    ALL, Steps, Taker, Told, told_of_end, told_of_header, written_header,
-};
+use hintcheck_test_fixtures::hex_bytes::bytes_of;
+use hintcheck_test_fixtures::section_calls::{Told, told_of_end, told_of_header, written_header};
+use hintcheck_test_fixtures::streams::{ALL, Steps, Taker};
 use std::alloc::Global;
 use tt_cert_file::Form;
 

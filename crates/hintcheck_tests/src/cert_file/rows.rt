@@ -1,10 +1,9 @@
 //! What states of a family should be.
 
-use tt_abs::Cell::Known;
+use hintcheck_test_fixtures::families::graphics_of;
 use tt_abs::{Cell, State, ZoneCell};
 use tt_cert::States;
 use tt_code::Graphics;
-use tt_code::kinds::{Pointer, Reference};
 
 /// A state with its context and its offset.
 #[derive(Clone, Copy)]
@@ -16,17 +15,6 @@ pub(crate) struct Row<'a> {
     pub(crate) functions: &'a [(u16, u32)],
     pub(crate) stored: &'a [(u16, i32)],
 }
-
-/// What is known of the graphics state where a program starts.
-pub(crate) const START: Graphics<Cell, ZoneCell> = Graphics {
-    rp0: Known(0),
-    rp1: Known(0),
-    rp2: Known(0),
-    zp0: ZoneCell::One,
-    zp1: ZoneCell::One,
-    zp2: ZoneCell::One,
-    loop_number: Known(1),
-};
 
 /// Returns a state in which no function and no storage cell is known.
 pub(crate) fn plain(offset: u32, stack: &[Cell], graphics: Graphics<Cell, ZoneCell>) -> Row<'_> {
@@ -47,18 +35,6 @@ fn holds(state: &State, cells: &[Cell]) -> bool {
         }
     }
     state.depth() == cells.len()
-}
-
-fn graphics_of(state: &State) -> Graphics<Cell, ZoneCell> {
-    Graphics {
-        rp0: state.rp(Reference::Rp0),
-        rp1: state.rp(Reference::Rp1),
-        rp2: state.rp(Reference::Rp2),
-        zp0: state.zone(Pointer::Zp0),
-        zp1: state.zone(Pointer::Zp1),
-        zp2: state.zone(Pointer::Zp2),
-        loop_number: state.loop_cell(),
-    }
 }
 
 fn is_row(point: (u32, u32), state: &State, row: &Row<'_>) -> bool {

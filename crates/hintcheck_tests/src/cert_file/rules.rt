@@ -1,8 +1,9 @@
-//! Each rule broken once: the place of the first byte of what breaks it, worked out from the format.
+//! Each rule broken once: the place of the first byte of what breaks it, worked out from the
+//! format.
 
-use crate::cert_file::bytes::{bytes_but, bytes_of};
-use crate::cert_file::calls::{Told, told_in_steps};
 use crate::cert_file::sections::{EMPTY_IN_FORM_1, FULL, FULL_LENGTH};
+use hintcheck_test_fixtures::hex_bytes::{bytes_but, bytes_of};
+use hintcheck_test_fixtures::section_calls::{Told, told_in_steps};
 use std::alloc::Global;
 use tt_cert_file::Form;
 
@@ -17,7 +18,8 @@ struct Change<'a> {
     place: u64,
 }
 
-/// Whether the changed section tells this place in the form, however many bytes a call gives, and likewise from the place 1,000 on.
+/// Whether the changed section tells this place in the form, however many bytes a call gives, and
+/// likewise from the place 1,000 on.
 fn tells_place(alloc: Global, form: Form, change: &Change<'_>) -> bool {
     let Ok(bytes) = bytes_but(alloc, &FULL, change.part, change.digits) else {
         return false;
@@ -29,7 +31,8 @@ fn tells_place(alloc: Global, form: Form, change: &Change<'_>) -> bool {
         && told_in_steps(alloc, &bytes, 3, 0, form) == Told::Form(change.place)
 }
 
-/// Returns the number of the first change that isn't told as it should be, in the third form and in the fourth.
+/// Returns the number of the first change that isn't told as it should be, in the third form and in
+/// the fourth.
 fn first_not_told(alloc: Global, changes: &[Change<'_>]) -> Option<usize> {
     for (number, change) in changes.iter().enumerate() {
         if !tells_place(alloc, Form::Three, change) || !tells_place(alloc, Form::Four, change) {
@@ -203,8 +206,8 @@ fn storage_by_form(rt: HostRuntime) {
 
 #[test]
 fn storage_cells_taken_for_a_state(rt: HostRuntime) {
-    // In the first two forms the full section's storage cells are where the second state is: context 2, offset 00008000, no stack,
-    // rp0 unknown, and for rp1 a tag of 7.
+    // In the first two forms the full section's storage cells are where the second state is:
+    // context 2, offset 00008000, no stack, rp0 unknown, and for rp1 a tag of 7.
     let bytes = bytes_of(rt.alloc(), &FULL).expect(&rt, "bytes");
     for form in [Form::One, Form::Two] {
         assert_eq!(rt;

@@ -1,7 +1,6 @@
 //! The sections that the tests read and write, part by part, in hexadecimal digits.
 
-/// What is known of the graphics state where a program starts: the reference points are 0, the zones 1, the loop number 1. 23 bytes.
-pub(crate) const AT_START: &str = "0100000000 0100000000 0100000000 010101 0100000001";
+use hintcheck_test_fixtures::section_calls::AT_START;
 
 /// An empty font program in the first form: 42 bytes.
 pub(crate) const EMPTY_IN_FORM_1: [&str; 5] = [
@@ -22,7 +21,8 @@ pub(crate) const EMPTY_IN_FORM_4: [&str; 6] = [
     "0000",
 ];
 
-/// Glyph 0 with the program B0 07 2E, which pushes 7 and then moves point 7, with all of its states in the first form: 113 bytes.
+/// Glyph 0 with the program B0 07 2E, which pushes 7 and then moves point 7, with all of its states
+/// in the first form: 113 bytes.
 pub(crate) const GLYPH_IN_FORM_1: [&str; 13] = [
     "02 0000 0000 00000003",
     "0000 00000000",
@@ -69,7 +69,8 @@ pub(crate) const SPARSE_GLYPH: [&str; 9] = [
     "0000 0000",
 ];
 
-/// A section with something in each list, in the third and the fourth form: 141 bytes. Its units begin at the places that are given beside them.
+/// A section with something in each list, in the third and the fourth form: 141 bytes. Its units
+/// begin at the places that are given beside them.
 pub(crate) const FULL: [&str; 27] = [
     "02 0005", // 0: the name
     "0002", // 3: the contexts

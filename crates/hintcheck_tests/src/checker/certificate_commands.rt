@@ -1,20 +1,15 @@
 //! The commands `find` and `check`, on files.
 
-use crate::checker::certificate_calls::bytes_of;
 use crate::checker::outputs::answers;
-use crate::checker::stored_certificates::{FONT, FORM_1, FORM_2, FORM_4, UNDERFLOWING};
+use hintcheck_test_fixtures::hex_bytes::bytes_of;
+use hintcheck_test_fixtures::paths::path_of;
+use hintcheck_test_fixtures::stored_certificates::{FONT, FORM_1, FORM_2, FORM_4, UNDERFLOWING};
 use std::path::PathBuf;
 use std::test::Fail;
 use std::{env, fs, process};
 
-/// Returns the path of a file with this ending, which no other process takes.
-pub(crate) fn path_of(rt: &HostRuntime, ending: &str) -> Result<PathBuf, Fail> {
-    let process = process::id(rt.process());
-    let name = format!(in rt.alloc(); "hintcheck-certificate-{process}.{ending}")?;
-    Ok(env::temp_dir(rt)?.join(rt.alloc(), name)?)
-}
-
-const ACCEPTED: &str = "accepted: 3 programs\n";
+/// What is printed of the font.
+pub(crate) const ACCEPTED: &str = "accepted: 3 programs\n";
 
 const CHECKED_WHOLE: &str = "refused g0 at g0:2: 41 missing point\nrefused: 1 of 3 programs\n";
 
@@ -31,7 +26,10 @@ const UNFIT: [(&[&str], &str); 3] = [
 
 #[test]
 fn commands_on_files(rt: HostRuntime) -> Result<(), Fail> {
-    let (font, cert) = (path_of(&rt, "ttf")?, path_of(&rt, "cert")?);
+    let (font, cert) = (
+        path_of(&rt, "ttf").ok_or("a path")?,
+        path_of(&rt, "cert").ok_or("a path")?,
+    );
     let find = ["hintcheck", "find", font.as_str(), cert.as_str()];
     let check = ["hintcheck", "check", font.as_str(), cert.as_str()];
     let form_4 = bytes_of(rt.alloc(), &FORM_4).expect(&rt, "bytes");
@@ -105,7 +103,10 @@ fn is_kept(rt: &HostRuntime, font: &str, name: &str, bytes: &[u8]) -> Result<boo
 
 #[test]
 fn one_file_by_two_names(rt: HostRuntime) -> Result<(), Fail> {
-    let (font, link) = (path_of(&rt, "twice.ttf")?, path_of(&rt, "link.ttf")?);
+    let (font, link) = (
+        path_of(&rt, "twice.ttf").ok_or("a path")?,
+        path_of(&rt, "link.ttf").ok_or("a path")?,
+    );
     let bytes = bytes_of(rt.alloc(), &FONT).expect(&rt, "bytes");
     fs::write(&rt, font.as_str(), &bytes)?;
     fs::hard_link(&rt, font.as_str(), link.as_str())?;

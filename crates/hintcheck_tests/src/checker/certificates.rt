@@ -1,10 +1,14 @@
 //! Certificates in memory.
 
-use crate::checker::certificate_calls::{Told, bytes_of, checked, found};
-use crate::checker::stored_certificates::{FONT, FORM_1, FORM_2, FORM_3, FORM_4, UNDERFLOWING};
+use hintcheck_test_fixtures::font_calls::{Told, checked, found};
+use hintcheck_test_fixtures::hex_bytes::bytes_of;
+use hintcheck_test_fixtures::stored_certificates::{
+    FONT, FORM_1, FORM_2, FORM_3, FORM_4, UNDERFLOWING,
+};
 use std::alloc::Global;
 
-/// The stored certificates: how many bytes each has, and the offset at which it doesn't fit the other font.
+/// The stored certificates: how many bytes each has, and the offset at which it doesn't fit the
+/// other font.
 const STORED: [(&[&str], usize, u32); 4] = [
     (&FORM_1, 414, 2),
     (&FORM_2, 288, 3),
@@ -50,7 +54,8 @@ fn found_certificate(rt: HostRuntime) {
     assert_eq!(rt; none.len(), 0);
 }
 
-/// Returns the first room below that of all bytes in which the certificate is written after all, or no beginning of it.
+/// Returns the first room below that of all bytes in which the certificate is written after all, or
+/// no beginning of it.
 fn first_room(alloc: Global, font: &[u8], want: &[u8]) -> Option<usize> {
     for room in 0..want.len() {
         let (told, bytes) = found(alloc, font, room);
@@ -71,7 +76,8 @@ fn writer_that_fails(rt: HostRuntime) {
     assert_eq!(rt; first_room(rt.alloc(), &font, &want), None);
 }
 
-/// Returns the first length at which a certificate that is cut short isn't reported as such, or a read that fails there.
+/// Returns the first length at which a certificate that is cut short isn't reported as such, or a
+/// read that fails there.
 fn first_cut(alloc: Global, font: &[u8], bytes: &[u8]) -> Option<usize> {
     for length in 0..bytes.len() {
         let cut = &bytes[..length];
@@ -98,7 +104,8 @@ pub(crate) fn with_byte(bytes: &[u8], place: usize, byte: u8, alloc: Global) -> 
     Some(changed)
 }
 
-/// The place of a byte, another byte there, and what is told: the form, the number of sections, and the 7 on the stack where the function begins.
+/// The place of a byte, another byte there, and what is told: the form, the number of sections, and
+/// the 7 on the stack where the function begins.
 const CHANGED: [(usize, u8, Told); 4] = [
     (5, 9, Told::Form(4)),
     (9, 4, Told::Form(6)),

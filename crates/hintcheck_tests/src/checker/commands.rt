@@ -1,6 +1,7 @@
 //! Tests of how the command answers its words, and of what it does where it can't read or write.
 
-use crate::checker::outputs::{MAXP, ROOM, answers, answers_on_bare, printed};
+use crate::checker::outputs::{ROOM, answers, answers_on_bare, printed};
+use hintcheck_test_fixtures::fonts::MAXP_WORD;
 use std::rt::Files;
 
 /// A `maxp` table, a program or none, and the line of the fault.
@@ -8,8 +9,8 @@ const FAULTS: [(&str, Option<&str>, &str); 9] = [
     ("0", Some("00"), "fault: words: MAXP\n"),
     ("0x", Some("00"), "fault: words: MAXP\n"),
     ("0", Some("0"), "fault: words: MAXP\n"),
-    (MAXP, Some("0"), "fault: words: PROGRAM\n"),
-    (MAXP, Some("zz"), "fault: words: PROGRAM\n"),
+    (MAXP_WORD, Some("0"), "fault: words: PROGRAM\n"),
+    (MAXP_WORD, Some("zz"), "fault: words: PROGRAM\n"),
     ("000100", Some("0"), "fault: words: PROGRAM\n"),
     ("000100", None, "fault: 4 table outside 'maxp'\n"),
     ("00010000", None, "fault: 4 table outside 'maxp'\n"),
@@ -35,10 +36,10 @@ const REFUSED: [&[&str]; 8] = [
     &["hintcheck", "bear"],
     &["hintcheck", "verdict"],
     &["hintcheck", "verdict", "a.ttf", "b.ttf"],
-    &["hintcheck", "bare", MAXP, "10", "4"],
-    &["hintcheck", "bare", MAXP, "65536", "4", "1"],
-    &["hintcheck", "bare", MAXP, "-1", "4", "1"],
-    &["hintcheck", "bare", MAXP, "10", "4", "1", "00", "00"],
+    &["hintcheck", "bare", MAXP_WORD, "10", "4"],
+    &["hintcheck", "bare", MAXP_WORD, "65536", "4", "1"],
+    &["hintcheck", "bare", MAXP_WORD, "-1", "4", "1"],
+    &["hintcheck", "bare", MAXP_WORD, "10", "4", "1", "00", "00"],
 ];
 
 #[test]
@@ -68,8 +69,8 @@ fn helps(rt: HostRuntime) {
     }
 }
 
-/// Whether a write that fails after so many bytes is told on the error output, if there is room, and by the status; `whole` is what is
-/// printed where no write fails.
+/// Whether a write that fails after so many bytes is told on the error output, if there is room,
+/// and by the status; `whole` is what is printed where no write fails.
 fn tells_failed_write<R: Files + AllocGlobal>(
     rt: &R,
     words: &[&str],
@@ -98,7 +99,7 @@ fn tells_failed_writes_of<R: Files + AllocGlobal>(rt: &R, words: &[&str]) -> boo
 }
 
 const WRITING: [&[&str]; 2] = [
-    &["hintcheck", "bare", MAXP, "10", "4", "1"],
+    &["hintcheck", "bare", MAXP_WORD, "10", "4", "1"],
     &["hintcheck", "--help"],
 ];
 

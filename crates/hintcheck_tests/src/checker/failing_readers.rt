@@ -1,29 +1,27 @@
-//! Readers that give one byte a call, of which one fails: all that was told by then remains valid, and no further call is made.
+//! Readers that give one byte a call, of which one fails: all that was told by then remains valid,
+//! and no further call is made.
 
 ghost use Rattle.std.specs.Prelude.{◌≡◌, ◌<◌};
 ghost use Rattle.hintcheck.specs.FontPrograms.{IsFontInRange};
 
-use crate::cert_file::calls::{ALL, Steps, Taker, Told as Read, told_of_file_by};
-use crate::checker::certificate_calls::{
-    Told, bytes_of, checked_by, found, told_of_check_fault, upgraded_by,
-};
 use crate::checker::certificates::with_byte;
-use crate::checker::stored_certificates::{
+use hintcheck::{Session, read_font};
+use hintcheck_test_fixtures::font_calls::{
+    Told, checked_by, found, told_of_check_fault, upgraded_by,
+};
+use hintcheck_test_fixtures::fonts::{TWICE, font_with};
+use hintcheck_test_fixtures::hex_bytes::bytes_of;
+use hintcheck_test_fixtures::section_calls::{Told as Read, told_of_file_by};
+use hintcheck_test_fixtures::stored_certificates::{
     FONT, FORM_1, FORM_1_UPGRADED, FORM_2, FORM_4, UNDERFLOWING,
 };
-use crate::font::glyphs::font_with;
-use hintcheck::{Session, read_font};
+use hintcheck_test_fixtures::streams::{ALL, Steps, Taker};
 use std::alloc::Global;
 use std::marker::Brand;
 use std::sync::ledger::{Blank, Ledger};
 use std::test::Fail;
 use tt_font::Font;
 use tt_stream::{Counted, Source};
-
-/// The components and the program of a glyph that is made of the first one twice: 8 points and 4 phantom points, of which point 11 is moved.
-pub(crate) const TWICE: [u8; 17] = [
-    0, 0x20, 0, 0, 0, 0, 1, 0, 0, 0, 0, 0, 0, 3, 0xB0, 0x0B, 0x2E,
-];
 
 /// Returns these bytes, one a call, of which the one after so many others fails.
 fn one_by_one(bytes: &[u8], calls: usize) -> Steps<'_> {
@@ -34,7 +32,8 @@ fn one_by_one(bytes: &[u8], calls: usize) -> Steps<'_> {
     }
 }
 
-/// Returns what the calls of a session tell, one for each program and one for the end. No more than one program is refused.
+/// Returns what the calls of a session tell, one for each program and one for the end. No more than
+/// one program is refused.
 fn told_by_calls<S: Source>(alloc: Global, font: &Font<'_>, source: &mut S) -> Told
     requires { IsFontInRange font.now }
 {
@@ -103,7 +102,8 @@ fn checks_and_sessions(rt: HostRuntime) -> Result<(), Fail> {
     let bytes = bytes_of(rt.alloc(), &FORM_4).expect(&rt, "certificate");
     let (_, of_points) = found(rt.alloc(), &points, ALL);
     let after = of_points.len().saturating_add(1);
-    // The font, the certificate and its byte that is another one, how many calls are made, and what is told.
+    // The font, the certificate and its byte that is another one, how many calls are made, and what
+    // is told.
     let table = [
         (&pops, &bytes, 0, b'H', 301, Told::Accepted),
         (&underflows, &bytes, 0, b'H', 301, Told::Refused(1, 3, 41)),
@@ -133,7 +133,8 @@ fn checks_and_sessions(rt: HostRuntime) -> Result<(), Fail> {
     Ok(())
 }
 
-/// Returns the first call of the reader of a file whose failure its header, its sections or its end don't tell.
+/// Returns the first call of the reader of a file whose failure its header, its sections or its end
+/// don't tell.
 fn first_wrong_read(alloc: Global, bytes: &[u8]) -> Option<usize> {
     for calls in 0..=bytes.len() {
         if told_of_file_by(alloc, one_by_one(bytes, calls)) != Read::Read {
@@ -149,7 +150,8 @@ fn first_wrong_read(alloc: Global, bytes: &[u8]) -> Option<usize> {
     Some(bytes.len())
 }
 
-/// Returns the first call of the reader of an old certificate whose failure isn't told, or after which no beginning of the new one was written.
+/// Returns the first call of the reader of an old certificate whose failure isn't told, or after
+/// which no beginning of the new one was written.
 fn first_wrong_upgrade(alloc: Global, old: &[u8], new: &[u8]) -> Option<usize> {
     for calls in 0..=old.len() {
         let taker = Taker::new(alloc, 1, ALL);

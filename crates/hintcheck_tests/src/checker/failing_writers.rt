@@ -1,12 +1,14 @@
-//! Writers that take one byte a call, of which one fails or takes nothing: what they took by then is a beginning of the certificate.
+//! Writers that take one byte a call, of which one fails or takes nothing: what they took by then
+//! is a beginning of the certificate.
 
-use crate::cert_file::calls::{
-    ALL, Section, Steps, Taker, Told as Written, decoded, encoded, written_header,
+use hintcheck_test_fixtures::font_calls::{Told, found, found_by, upgraded_by};
+use hintcheck_test_fixtures::fonts::{TWICE, font_with};
+use hintcheck_test_fixtures::hex_bytes::bytes_of;
+use hintcheck_test_fixtures::section_calls::{
+    Section, Told as Written, decoded, encoded, written_header,
 };
-use crate::checker::certificate_calls::{Told, bytes_of, found, found_by, steps_of, upgraded_by};
-use crate::checker::failing_readers::TWICE;
-use crate::checker::stored_certificates::{FONT, FORM_2, FORM_4, UNDERFLOWING};
-use crate::font::glyphs::font_with;
+use hintcheck_test_fixtures::stored_certificates::{FONT, FORM_2, FORM_4, UNDERFLOWING};
+use hintcheck_test_fixtures::streams::{ALL, Steps, Taker, steps_of};
 use std::alloc::Global;
 use std::test::Fail;
 use tt_cert_file::Form;
@@ -21,7 +23,8 @@ fn taker(alloc: Global, calls: usize, takes_nothing: bool) -> Taker {
     }
 }
 
-/// Returns the first call whose failure isn't told by the search for this certificate, or before which no beginning of it was taken.
+/// Returns the first call whose failure isn't told by the search for this certificate, or before
+/// which no beginning of it was taken.
 fn first_wrong_search(alloc: Global, font: &[u8], want: &[u8]) -> Option<usize> {
     for calls in 0..=want.len() {
         let told = if calls < want.len() {
@@ -80,7 +83,8 @@ fn searches_and_upgrades(rt: HostRuntime) -> Result<(), Fail> {
     Ok(())
 }
 
-/// Returns the first call whose failure isn't told by the writing of a section, or before which no beginning of its text was taken.
+/// Returns the first call whose failure isn't told by the writing of a section, or before which no
+/// beginning of its text was taken.
 fn first_wrong_section(alloc: Global, section: &Section, want: &[u8]) -> Option<usize> {
     for calls in 0..=want.len() {
         let told = if calls < want.len() {
@@ -98,7 +102,8 @@ fn first_wrong_section(alloc: Global, section: &Section, want: &[u8]) -> Option<
     None
 }
 
-/// Returns how many sections a certificate has that are written as they were read, also where a call fails.
+/// Returns how many sections a certificate has that are written as they were read, also where a
+/// call fails.
 fn sections_written(alloc: Global, bytes: &[u8]) -> Option<usize> {
     let mut left = bytes.get(10..)?;
     for sections in 0..ALL {

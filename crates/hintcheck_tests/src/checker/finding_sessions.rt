@@ -3,10 +3,10 @@
 ghost use Rattle.std.specs.Prelude.{◌≡◌, ◌<◌};
 ghost use Rattle.hintcheck.specs.FontPrograms.{IsFontInRange};
 
-use crate::cert_file::calls::{ALL, Taker};
-use crate::checker::certificate_calls::bytes_of;
-use crate::checker::stored_certificates::{FONT, FORM_4, UNDERFLOWING};
 use hintcheck::{Name, Outcome, Session, read_font};
+use hintcheck_test_fixtures::hex_bytes::bytes_of;
+use hintcheck_test_fixtures::stored_certificates::{FONT, FORM_4, UNDERFLOWING};
+use hintcheck_test_fixtures::streams::{ALL, Taker};
 use std::alloc::Global;
 use std::marker::Brand;
 use std::sync::ledger::{Blank, Ledger};
@@ -15,7 +15,8 @@ use tt_find::{Finder, Found};
 use tt_font::Font;
 use tt_stream::{Counted, Sink};
 
-/// Writes the section of a program that was found, and gives its memory back to the finder; nothing where there is none.
+/// Writes the section of a program that was found, and gives its memory back to the finder; nothing
+/// where there is none.
 fn write_one<W: Sink>(
     alloc: Global,
     finder: &mut Finder,
@@ -31,7 +32,8 @@ fn write_one<W: Sink>(
     Some(())
 }
 
-/// Finds the programs of a font one by one and writes the section of each that is accepted: the outcomes; nothing where memory ran out.
+/// Finds the programs of a font one by one and writes the section of each that is accepted: the
+/// outcomes; nothing where memory ran out.
 fn write_each<W: Sink>(alloc: Global, font: &Font<'_>, sink: &mut W) -> Option<Vec<Outcome>>
     requires { IsFontInRange font.now }
 {
@@ -62,9 +64,10 @@ fn written_on<L: Ledger>(
     Some((outcomes, sink.into_inner().bytes))
 }
 
-/// Returns the outcomes of a font's programs and what is written of them; nothing where the bytes hold no font, or where memory ran out.
+/// Returns the outcomes of a font's programs and what is written of them; nothing where the bytes
+/// hold no font, or where memory ran out.
 fn written(alloc: Global, parts: &[&str]) -> Option<(Vec<Outcome>, Vec<u8>)> {
-    let file = bytes_of(alloc, parts)?;
+    let file = bytes_of(alloc, parts).ok()?;
     let font = read_font(alloc, &file).ok()?;
     written_on::<Brand>(alloc, &font, Blank::new(1))
 }

@@ -1,7 +1,7 @@
 //! Tests of the verdict on one glyph program.
 
-use crate::checker::outputs::MAXP;
 use hintcheck::{Name, Place, Refused, Verdict, bare};
+use hintcheck_test_fixtures::fonts::MAXP_WORD;
 use hintcheck_words::word_bytes;
 use std::alloc::Global;
 use std::process::Abort;
@@ -17,12 +17,12 @@ const STACK_OF_3: &str = "000100000001000400010000000000020004000400020000000300
 const ONE_ZONE: &str = "0001000000010004000100000000000100040004000200000008004000000000";
 
 /// A program of 64 bytes.
-const LONGEST: &str =
-    "18181818181818181818181818181818181818181818181818181818181818181818181818181818181818181818181818181818181818181818181818181818";
+const LONGEST: &str = "1818181818181818181818181818181818181818181818181818181818181818\
+     1818181818181818181818181818181818181818181818181818181818181818";
 
 /// A program of 65 bytes.
-pub(crate) const TOO_LONG: &str =
-    "1818181818181818181818181818181818181818181818181818181818181818181818181818181818181818181818181818181818181818181818181818181818";
+pub(crate) const TOO_LONG: &str = "1818181818181818181818181818181818181818181818181818181818181818\
+     181818181818181818181818181818181818181818181818181818181818181818";
 
 /// Where and why a program is refused.
 type Refusal = Option<(u32, Reason)>;
@@ -45,7 +45,8 @@ fn is_refused_so(verdict: &Verdict, refusal: Refusal) -> bool {
         && verdict.refused().first().copied() == refused_at(refusal)
 }
 
-/// Whether a program, spelled by hexadecimal digits, is judged so against this `maxp` table, 10 control values, 4 points and 1 contour.
+/// Whether a program, spelled by hexadecimal digits, is judged so against this `maxp` table, 10
+/// control values, 4 points and 1 contour.
 fn is_judged(alloc: Global, maxp: &str, program: &str, refusal: Refusal) -> bool {
     let Ok(maxp) = word_bytes(alloc, maxp) else {
         return false;
@@ -65,7 +66,7 @@ type Case<'a> = (&'a str, Refusal);
 /// Asserts that the programs are judged so against the usual limits.
 fn assert_judged(rt: &impl Abort, alloc: Global, programs: &[Case<'_>]) {
     for (program, refusal) in programs {
-        let is_so = is_judged(alloc, MAXP, program, *refusal);
+        let is_so = is_judged(alloc, MAXP_WORD, program, *refusal);
         assert!(rt; is_so, "{program} isn't judged so: {refusal:?}");
     }
 }
@@ -201,7 +202,8 @@ const CONDITIONS: [Case<'static>; 9] = [
     // One side is known.
     ("4bb0005a582159", None),
     ("4bb0005b582159", Some((5, Reason::Underflow))),
-    // MPPEM against the least number of 32 bits, which 16 doublings make: none is less, and some number may be no greater.
+    // MPPEM against the least number of 32 bits, which 16 doublings make: none is less, and some
+    // number may be no greater.
     (
         "4bb88000206020602060206020602060206020602060206020602060206020602060206050582159",
         None,
@@ -255,7 +257,7 @@ const TABLES: [(&str, Option<u8>); 5] = [
     ("00010000", Some(4)),
     ("000050000001", Some(5)),
     (CUT_SHORT, Some(4)),
-    (MAXP, None),
+    (MAXP_WORD, None),
 ];
 
 #[test]

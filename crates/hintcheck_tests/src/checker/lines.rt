@@ -1,9 +1,10 @@
 //! Tests of the lines that the command prints of verdicts and of faults.
 
-use crate::checker::font_files::{LIMITS, file_of, file_with_glyphs, font_of};
+use crate::checker::font_files::font_of;
 use crate::checker::glyph_programs::TOO_LONG;
-use crate::checker::outputs::{Asked, MAXP, answers_on_bare, answers_on_file};
+use crate::checker::outputs::{Asked, answers_on_bare, answers_on_file};
 use hintcheck::{FontFault, Tag};
+use hintcheck_test_fixtures::fonts::{MAXP as TABLE, MAXP_WORD, file_of, file_with_glyphs};
 use hintcheck_words::word_bytes;
 use std::alloc::{AllocError, Global};
 use std::rt::Files;
@@ -18,7 +19,7 @@ const ACCEPTED: [Option<&str>; 3] = [Some("B100093E"), Some(""), None];
 #[test]
 fn accepts_glyph_programs(rt: HostRuntime) {
     for program in &ACCEPTED {
-        let is_so = answers_on_bare(&rt, MAXP, *program, 0, "accepted: 1 programs\n", "");
+        let is_so = answers_on_bare(&rt, MAXP_WORD, *program, 0, "accepted: 1 programs\n", "");
         assert!(rt; is_so, "{program:?}");
     }
 }
@@ -26,7 +27,7 @@ fn accepts_glyph_programs(rt: HostRuntime) {
 /// Whether a glyph program is refused with this line.
 fn is_refused<R: Files + AllocGlobal>(rt: &R, program: &str, line: &str) -> bool {
     match format!(in rt.alloc(); "{line}\nrefused: 1 of 1 programs\n") {
-        Ok(text) => answers_on_bare(rt, MAXP, Some(program), 1, &text, ""),
+        Ok(text) => answers_on_bare(rt, MAXP_WORD, Some(program), 1, &text, ""),
         Err(_) => false,
     }
 }
@@ -60,7 +61,8 @@ fn refuses_glyph_programs(rt: HostRuntime) {
     }
 }
 
-/// A font program, a CVT program and programs of glyphs, and the status and the lines of their verdict.
+/// A font program, a CVT program and programs of glyphs, and the status and the lines of their
+/// verdict.
 type Case<'a> = (&'a str, &'a str, &'a [&'a str], u8, &'a str);
 
 /// Whether the command prints these lines, with this status.
@@ -109,7 +111,8 @@ fn refuses_single_glyphs_of_fonts(rt: HostRuntime) {
     }
 }
 
-/// A font program with an empty function, and glyphs that call it so often that there are 4,097 contexts, and 65,535: as many as there may be.
+/// A font program with an empty function, and glyphs that call it so often that there are 4,097
+/// contexts, and 65,535: as many as there may be.
 const MANY_CONTEXTS: [Case<'static>; 2] = [
     (
         "B0002C2D",
@@ -141,7 +144,9 @@ const PROGRAMS: [Case<'static>; 5] = [
         "",
         &["21", "18", "59"],
         1,
-        "refused g0 at g0:0: 26 underflow\nrefused g2 at g2:0: 21 structure\nrefused: 2 of 5 programs\n",
+        "refused g0 at g0:0: 26 underflow\n\
+         refused g2 at g2:0: 21 structure\n\
+         refused: 2 of 5 programs\n",
     ),
     (
         "21",
@@ -173,7 +178,8 @@ fn refuses_programs_of_fonts(rt: HostRuntime) {
     }
 }
 
-/// Returns a font file without control values, font program and instructions of its only glyph, with short entries in `loca` and this CVT program.
+/// Returns a font file without control values, font program and instructions of its only glyph,
+/// with short entries in `loca` and this CVT program.
 fn small_font(alloc: Global, prep: &str) -> Option<Vec<u8>> {
     let prep = word_bytes(alloc, prep).ok()?;
     file_of(
@@ -182,10 +188,11 @@ fn small_font(alloc: Global, prep: &str) -> Option<Vec<u8>> {
             (Tag::Glyf, &[]),
             (Tag::Head, &[0; 54]),
             (Tag::Loca, &[0; 4]),
-            (Tag::Maxp, &LIMITS),
+            (Tag::Maxp, &TABLE),
             (Tag::Prep, prep.as_slice()),
         ],
     )
+    .ok()
 }
 
 /// Whether the command prints this verdict on a small font.
@@ -289,7 +296,7 @@ fn tells_faults_of_directories(rt: HostRuntime) {
 fn font_with_glyphs(alloc: Global, loca: &str, glyf: &str) -> Option<Vec<u8>> {
     let loca = word_bytes(alloc, loca).ok()?;
     let glyf = word_bytes(alloc, glyf).ok()?;
-    file_with_glyphs(alloc, "", "", 2, &loca, &glyf)
+    file_with_glyphs(alloc, &[], &[], 2, &loca, &glyf).ok()
 }
 
 /// Whether the command tells this fault of a font with two glyphs.

@@ -7,8 +7,9 @@ use std::rt::Files;
 use std::test::Fail;
 use std::{env, fs, process};
 
-/// Returns a font program, a CVT program, and programs of glyphs: one without instructions, pushes of each kind, codes without a name, an
-/// instruction that passes the end, and an EIF without an IF.
+/// Returns a font program, a CVT program, and programs of glyphs: one without instructions, pushes
+/// of each kind, codes without a name, an instruction that passes the end, and an EIF without an
+/// IF.
 fn font(alloc: Global) -> Option<Vec<u8>> {
     let glyphs = [
         "B100093E",

@@ -1,13 +1,15 @@
-//! Files that are made to break a font server: each is answered by a verdict, or by a fault 1 to 8 or 43.
+//! Files that are made to break a font server: each is answered by a verdict, or by a fault 1 to 8
+//! or 43.
 
-use crate::cert_file::calls::ALL;
-use crate::checker::certificate_calls::{Told, bytes_of, checked, found, judged};
-use crate::checker::certificate_commands::path_of;
 use crate::checker::certificates::with_byte;
 use crate::checker::outputs::{Asked, answers, answers_on_file};
-use crate::checker::stored_certificates::{FONT, FORM_4};
-use crate::font::files::font_of;
 use crate::font::glyphs::{OF_FIRST, OF_SECOND, font_of_many, tower};
+use hintcheck_test_fixtures::font_calls::{Told, checked, found, judged};
+use hintcheck_test_fixtures::fonts::font_of;
+use hintcheck_test_fixtures::hex_bytes::bytes_of;
+use hintcheck_test_fixtures::paths::path_of;
+use hintcheck_test_fixtures::stored_certificates::{FONT, FORM_4};
+use hintcheck_test_fixtures::streams::ALL;
 use std::alloc::Global;
 use std::fs;
 use std::test::Fail;
@@ -21,7 +23,8 @@ fn is_answer(told: Told) -> bool {
     }
 }
 
-/// Whether the font and its check by the certificate have an answer, and the check accepts only where the verdict does.
+/// Whether the font and its check by the certificate have an answer, and the check accepts only
+/// where the verdict does.
 fn is_answered(alloc: Global, font: &[u8], certificate: &[u8]) -> bool {
     let verdict = judged(alloc, font);
     let check = checked(alloc, font, certificate, false);
@@ -75,7 +78,8 @@ fn certificates_with_another_byte(rt: HostRuntime) {
     }
 }
 
-/// Whether the verdict, the search for a certificate and the check by what it wrote tell this, and the command prints it.
+/// Whether the verdict, the search for a certificate and the check by what it wrote tell this, and
+/// the command prints it.
 fn is_told(
     rt: &HostRuntime,
     font: &[u8],
@@ -128,12 +132,13 @@ fn is_printed(
     Ok(answers(rt, &words, status, out_text, err_text))
 }
 
-/// Certificates whose last state is announced and isn't there, that are of an unknown form, and that have another number on a stack.
+/// Certificates whose last state is announced and isn't there, that are of an unknown form, and
+/// that have another number on a stack.
 #[test]
 fn certificates(rt: HostRuntime) -> Result<(), Fail> {
     let (font, certificate) = (
-        path_of(&rt, "malicious.ttf")?,
-        path_of(&rt, "malicious.cert")?,
+        path_of(&rt, "malicious.ttf").ok_or("a path")?,
+        path_of(&rt, "malicious.cert").ok_or("a path")?,
     );
     let paths = (font.as_str(), certificate.as_str());
     let bytes = bytes_of(rt.alloc(), &FORM_4).expect(&rt, "certificate");

@@ -3,41 +3,13 @@
 ghost use Rattle.std.specs.Prelude.{◌≡◌, ◌<◌};
 
 use hintcheck::command;
-use std::io::{self, ErrorKind, Write};
+use hintcheck_test_fixtures::paths::path_of;
+use hintcheck_test_fixtures::streams::Narrow;
+use std::fs;
 use std::marker::Brand;
 use std::rt::Files;
 use std::sync::ledger::{Blank, Ledger};
-use std::{env, fs, process};
 use tt_stream::Counted;
-
-/// As a word, a `maxp` table with the limits: storage 4, functions 2, stack 8, programs of 64 bytes, zones 2, twilight points 4.
-pub(crate) const MAXP: &str = "0001000000010004000100000000000200040004000200000008004000000000";
-
-/// Takes one byte a call, as long as there is room, and then fails.
-#[derive(Drop)]
-struct Narrow {
-    bytes: Vec<u8>,
-    room: usize,
-}
-
-impl Write for Narrow {
-    fn write(&mut self, buf: &[u8]) -> io::Result<usize> {
-        if self.bytes.len() >= self.room {
-            return Err(io::Error::from(ErrorKind::StorageFull));
-        }
-        match buf.first() {
-            Some(byte) => {
-                self.bytes.push(*byte)?;
-                Ok(1)
-            }
-            None => Ok(0),
-        }
-    }
-
-    fn flush(&mut self) -> io::Result<()> {
-        Ok(())
-    }
-}
 
 /// Returns the exit status at these words, and both writers afterwards.
 fn run<L: Ledger, M: Ledger, R: Files + AllocGlobal>(
@@ -75,6 +47,7 @@ pub(crate) fn printed<R: Files + AllocGlobal>(
     run::<Brand, Brand, R>(rt, words, out, err, Blank::new(1), Blank::new(1))
 }
 
+/// More bytes than are printed or written.
 pub(crate) const ROOM: usize = 10_000;
 
 /// Whether the command answers by this status, with these texts on the output and the error output.
@@ -89,8 +62,8 @@ pub(crate) fn answers<R: Files + AllocGlobal>(
     told == status && out.as_slice() == out_text.as_bytes() && err.as_slice() == err_text.as_bytes()
 }
 
-/// Whether the command answers so where it is asked for the verdict on this program, or on none, against this `maxp` table, 10 control
-/// values, 4 points and 1 contour.
+/// Whether the command answers so where it is asked for the verdict on this program, or on none,
+/// against this `maxp` table, 10 control values, 4 points and 1 contour.
 pub(crate) fn answers_on_bare<R: Files + AllocGlobal>(
     rt: &R,
     maxp: &str,
@@ -141,7 +114,8 @@ fn answers_on_name<R: Files + AllocGlobal>(
     }
 }
 
-/// Whether that is so of a font file with these bytes; nothing where it can't be written or removed, or memory ran out.
+/// Whether that is so of a font file with these bytes; nothing where it can't be written or
+/// removed, or memory ran out.
 fn try_on_file(
     rt: &HostRuntime,
     bytes: &[u8],
@@ -150,9 +124,7 @@ fn try_on_file(
     out_text: &str,
     err_text: &str,
 ) -> Option<bool> {
-    let process = process::id(rt.process());
-    let name = format!(in rt.alloc(); "hintcheck-{process}.ttf").ok()?;
-    let path = env::temp_dir(rt).ok()?.join(rt.alloc(), name).ok()?;
+    let path = path_of(rt, "answers.ttf")?;
     fs::write(rt, path.as_str(), bytes).ok()?;
     let is_so = answers_on_name(rt, path.as_str(), asked, status, out_text, err_text);
     fs::remove_file(rt, path.as_str()).ok()?;

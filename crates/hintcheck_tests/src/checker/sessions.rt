@@ -3,9 +3,11 @@
 ghost use Rattle.std.specs.Prelude.{◌≡◌};
 ghost use Rattle.hintcheck.specs.FontPrograms.{IsFontInRange};
 
-use crate::checker::certificate_calls::bytes_of;
-use crate::checker::stored_certificates::{FONT, FORM_1, FORM_2, FORM_3, FORM_4, UNDERFLOWING};
 use hintcheck::{CheckFontFault, Name, Outcome, Refused, Session, read_font};
+use hintcheck_test_fixtures::hex_bytes::bytes_of;
+use hintcheck_test_fixtures::stored_certificates::{
+    FONT, FORM_1, FORM_2, FORM_3, FORM_4, UNDERFLOWING,
+};
 use std::alloc::Global;
 use tt_font::Font;
 use tt_stream::{ReadFailed, Source};
@@ -40,7 +42,8 @@ impl Source for Bytes<'_> {
     fn skip(&mut self, _count: usize) {}
 }
 
-/// Returns the first refused program of a font by its certificate, of which nothing is read after that one's section; none where each is accepted.
+/// Returns the first refused program of a font by its certificate, of which nothing is read after
+/// that one's section; none where each is accepted.
 fn first_refused<S: Source>(
     alloc: Global,
     font: &Font<'_>,
@@ -87,8 +90,8 @@ fn told_of(answer: Result<Option<Outcome>, CheckFontFault>) -> Told {
     }
 }
 
-/// Returns what five calls of a session answer, the last of which is given other bytes; and how many bytes are left of the first ones and of the
-/// others.
+/// Returns what five calls of a session answer, the last of which is given other bytes; and how
+/// many bytes are left of the first ones and of the others.
 fn five_calls(
     alloc: Global,
     font: &Font<'_>,
@@ -112,26 +115,29 @@ fn five_calls(
     )
 }
 
-/// Returns what they answer for a font's bytes; nothing where these hold no font, or where memory ran out.
+/// Returns what they answer for a font's bytes; nothing where these hold no font, or where memory
+/// ran out.
 fn called(alloc: Global, parts: &[&str], bytes: &[u8]) -> Option<([Told; 5], usize, usize)> {
-    let file = bytes_of(alloc, parts)?;
+    let file = bytes_of(alloc, parts).ok()?;
     let font = read_font(alloc, &file).ok()?;
     Some(five_calls(alloc, &font, bytes, bytes))
 }
 
-/// Returns the first refused program of a font's bytes; nothing where these hold no font, or where memory ran out.
+/// Returns the first refused program of a font's bytes; nothing where these hold no font, or where
+/// memory ran out.
 fn first_of(
     alloc: Global,
     parts: &[&str],
     bytes: &[u8],
 ) -> Option<Result<Option<Refused>, CheckFontFault>> {
-    let file = bytes_of(alloc, parts)?;
+    let file = bytes_of(alloc, parts).ok()?;
     let font = read_font(alloc, &file).ok()?;
     let mut source = Bytes { left: bytes };
     Some(first_refused(alloc, &font, &mut source))
 }
 
-/// The accepted programs of a font with one glyph, and that there are no more, however often that is asked.
+/// The accepted programs of a font with one glyph, and that there are no more, however often that
+/// is asked.
 const ACCEPTED: [Told; 5] = [
     Told::Accepted(Name::Font),
     Told::Accepted(Name::Cvt),

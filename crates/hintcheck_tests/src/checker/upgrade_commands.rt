@@ -1,23 +1,17 @@
 //! The command `upgrade`, on files.
 
-use crate::checker::certificate_calls::bytes_of;
-use crate::checker::certificate_commands::path_of;
+use crate::checker::certificate_commands::ACCEPTED;
 use crate::checker::outputs::answers;
-use crate::checker::stored_certificates::{FONT, FORM_1, FORM_1_UPGRADED, FORM_2, FORM_3, FORM_4};
+use crate::checker::upgrades::STORED;
+use hintcheck_test_fixtures::hex_bytes::bytes_of;
+use hintcheck_test_fixtures::paths::path_of;
+use hintcheck_test_fixtures::stored_certificates::{
+    FONT, FORM_1, FORM_1_UPGRADED, FORM_2, FORM_3, FORM_4,
+};
 use std::test::Fail;
 use std::{env, fs};
 
 const UPGRADED: &str = "upgraded: 3 sections\n";
-
-const ACCEPTED: &str = "accepted: 3 programs\n";
-
-/// The stored certificates, and what they are in the newest form.
-const STORED: [(&[&str], &[&str]); 4] = [
-    (&FORM_1, &FORM_1_UPGRADED),
-    (&FORM_2, &FORM_4),
-    (&FORM_3, &FORM_4),
-    (&FORM_4, &FORM_4),
-];
 
 /// Whether the file holds these bytes.
 fn holds(rt: &HostRuntime, name: &str, bytes: &[u8]) -> Result<bool, Fail> {
@@ -26,8 +20,11 @@ fn holds(rt: &HostRuntime, name: &str, bytes: &[u8]) -> Result<bool, Fail> {
 
 #[test]
 fn upgrades_files(rt: HostRuntime) -> Result<(), Fail> {
-    let font = path_of(&rt, "upgraded.ttf")?;
-    let (old, new) = (path_of(&rt, "old.cert")?, path_of(&rt, "new.cert")?);
+    let font = path_of(&rt, "upgraded.ttf").ok_or("a path")?;
+    let (old, new) = (
+        path_of(&rt, "old.cert").ok_or("a path")?,
+        path_of(&rt, "new.cert").ok_or("a path")?,
+    );
     let upgrade = ["hintcheck", "upgrade", old.as_str(), new.as_str()];
     let again = ["hintcheck", "upgrade", new.as_str(), old.as_str()];
     let check = ["hintcheck", "check", font.as_str(), new.as_str()];
@@ -52,7 +49,10 @@ fn upgrades_files(rt: HostRuntime) -> Result<(), Fail> {
 
 #[test]
 fn files_that_cannot_be_upgraded(rt: HostRuntime) -> Result<(), Fail> {
-    let (old, new) = (path_of(&rt, "bad.cert")?, path_of(&rt, "made.cert")?);
+    let (old, new) = (
+        path_of(&rt, "bad.cert").ok_or("a path")?,
+        path_of(&rt, "made.cert").ok_or("a path")?,
+    );
     let upgrade = ["hintcheck", "upgrade", old.as_str(), new.as_str()];
     assert!(rt;
         answers(&rt, &upgrade, 2, "", "fault: 44 read\n"),
@@ -105,7 +105,8 @@ fn files_that_cannot_be_upgraded(rt: HostRuntime) -> Result<(), Fail> {
     Ok(())
 }
 
-/// Whether `upgrade` tells that this is a name of the old certificate's own file, and leaves it as it is.
+/// Whether `upgrade` tells that this is a name of the old certificate's own file, and leaves it as
+/// it is.
 fn is_kept(rt: &HostRuntime, old: &str, name: &str, bytes: &[u8]) -> Result<bool, Fail> {
     let upgrade = ["hintcheck", "upgrade", old, name];
     let told = answers(rt, &upgrade, 2, "", "fault: words: NEW\n");
@@ -114,7 +115,10 @@ fn is_kept(rt: &HostRuntime, old: &str, name: &str, bytes: &[u8]) -> Result<bool
 
 #[test]
 fn one_certificate_by_two_names(rt: HostRuntime) -> Result<(), Fail> {
-    let (old, link) = (path_of(&rt, "once.cert")?, path_of(&rt, "link.cert")?);
+    let (old, link) = (
+        path_of(&rt, "once.cert").ok_or("a path")?,
+        path_of(&rt, "link.cert").ok_or("a path")?,
+    );
     let bytes = bytes_of(rt.alloc(), &FORM_2).expect(&rt, "certificate");
     fs::write(&rt, old.as_str(), &bytes)?;
     assert!(rt;

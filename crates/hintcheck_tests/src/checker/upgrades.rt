@@ -1,14 +1,15 @@
 //! Old certificates that are upgraded, in memory.
 
-use crate::checker::certificate_calls::{Told, bytes_of, checked, upgraded};
-use crate::checker::stored_certificates::{FONT, FORM_1, FORM_1_UPGRADED, FORM_2, FORM_3, FORM_4};
+use crate::checker::outputs::ROOM;
+use hintcheck_test_fixtures::font_calls::{Told, checked, upgraded};
+use hintcheck_test_fixtures::hex_bytes::bytes_of;
+use hintcheck_test_fixtures::stored_certificates::{
+    FONT, FORM_1, FORM_1_UPGRADED, FORM_2, FORM_3, FORM_4,
+};
 use std::alloc::Global;
 
-/// More bytes than any certificate here has.
-const ROOM: usize = 10_000;
-
 /// The stored certificates, and what they are in the newest form.
-const STORED: [(&[&str], &[&str]); 4] = [
+pub(crate) const STORED: [(&[&str], &[&str]); 4] = [
     (&FORM_1, &FORM_1_UPGRADED),
     (&FORM_2, &FORM_4),
     (&FORM_3, &FORM_4),
@@ -40,8 +41,9 @@ fn stored_certificates(rt: HostRuntime) {
     }
 }
 
-/// Returns the first length at which a certificate that is cut short isn't reported as such, or a read that fails there, or at which
-/// something else than a beginning of the new certificate was written.
+/// Returns the first length at which a certificate that is cut short isn't reported as such, or a
+/// read that fails there, or at which something else than a beginning of the new certificate was
+/// written.
 fn first_cut(alloc: Global, old: &[u8], new: &[u8]) -> Option<usize> {
     for length in 0..old.len() {
         let cut = &old[..length];
@@ -58,7 +60,8 @@ fn first_cut(alloc: Global, old: &[u8], new: &[u8]) -> Option<usize> {
     None
 }
 
-/// Returns the first room below that of all bytes in which the new certificate is written after all, or no beginning of it.
+/// Returns the first room below that of all bytes in which the new certificate is written after
+/// all, or no beginning of it.
 fn first_room(alloc: Global, old: &[u8], new: &[u8]) -> Option<usize> {
     for room in 0..new.len() {
         let (told, written) = upgraded(alloc, old, false, room);
@@ -85,7 +88,8 @@ fn cut_short_and_failing(rt: HostRuntime) {
 /// The state at the start of a program, without a list of storage cells: 33 bytes.
 const STATE: &str = "000000000000000001000000000100000000010000000001010101000000010000";
 
-/// What comes before the state in a section of the font program, the CVT program and the first two glyph programs.
+/// What comes before the state in a section of the font program, the CVT program and the first two
+/// glyph programs.
 const F: &str = "000000000000000001";
 
 const P: &str = "010000000000000001";
@@ -115,9 +119,9 @@ fn certificate(
     count: usize,
     storage: &str,
 ) -> Option<Vec<u8>> {
-    let mut bytes = bytes_of(alloc, &[start, case.count])?;
+    let mut bytes = bytes_of(alloc, &[start, case.count]).ok()?;
     for section in case.sections.iter().take(count) {
-        let text = bytes_of(alloc, &[*section, STATE, storage])?;
+        let text = bytes_of(alloc, &[*section, STATE, storage]).ok()?;
         bytes.extend_from_slice(&text).ok()?;
     }
     Some(bytes)
@@ -126,7 +130,8 @@ fn certificate(
 /// Returns what the upgrade of the case's certificate tells and writes, and what it has to write.
 fn upgrade_of(alloc: Global, case: &Case<'_>) -> Option<(Result<u32, Told>, Vec<u8>, Vec<u8>)> {
     let mut old = certificate(alloc, "484352540002", case, case.sections.len(), "")?;
-    old.extend_from_slice(&bytes_of(alloc, &[case.more])?).ok()?;
+    old.extend_from_slice(&bytes_of(alloc, &[case.more]).ok()?)
+        .ok()?;
     let want = match case.written {
         Some(count) => certificate(alloc, "484352540004", case, count, "0000")?,
         None => Vec::new(alloc),

@@ -17,7 +17,8 @@ const INSTRUCTION: [u8; 3] = [0x89, 0x20, 0x2d];
 /// The targets where there is no IF, ELSE or FDEF.
 const NOWHERE: [Option<u32>; 3] = [None; 3];
 
-/// Whether control goes to these places after the IF, the ELSE and the FDEF at an offset, which belongs to this body.
+/// Whether control goes to these places after the IF, the ELSE and the FDEF at an offset, which
+/// belongs to this body.
 fn leads(
     program: &Program<'_>,
     offset: u32,
@@ -79,7 +80,8 @@ fn found_at(program: &Program<'_>, offset: u32) -> Option<(u32, Body)> {
     Some((instruction.len(), body))
 }
 
-/// Whether a program of 6 bytes has an instruction of this length at an offset, which belongs to the main program, or none.
+/// Whether a program of 6 bytes has an instruction of this length at an offset, which belongs to
+/// the main program, or none.
 fn is_found(alloc: Global, bytes: &[u8], offset: u32, size: Option<u32>) -> bool
     requires { length bytes.now < 2 ^ 31 }
 {

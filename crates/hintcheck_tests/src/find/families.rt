@@ -1,12 +1,13 @@
 //! Small programs: how large their least families are, and which states of them are listed.
 
-use crate::find::fixtures::{GLYPH, Size, Told, alone, with_function};
+use crate::find::fixtures::{Size, Told, alone, with_function};
 use crate::find::programs::{
-    BRANCHES, BRANCHES_ON_NOTHING, CALLS, CALLS_AND_RTG, CALLS_TWICE, CALLS_WITH_A_NUMBER, COUNTS,
-    DEFINES, EMPTY, JUMPING_BACK, JUMPS_BY_ONE, JUMPS_BY_TWO, JUMPS_TO_THE_END, LOOP_IN_A_LOOP,
-    MAY_JUMP_BY_ONE, MAY_STOP_COUNTING, MOVES_A_POINT, NO_TURN, NO_TURN_AND_RTG, POPPING,
-    STARTS_AGAIN, TAKES_A_PHANTOM_POINT, TEN_JUMPS_BACK, THREE_JUMPS_BACK, THREE_TURNS, TURNS_4095,
+    BRANCHES, BRANCHES_ON_NOTHING, CALLS, CALLS_AND_RTG, CALLS_TWICE, COUNTS, DEFINES, EMPTY,
+    JUMPING_BACK, JUMPS_BY_ONE, JUMPS_BY_TWO, JUMPS_TO_THE_END, LOOP_IN_A_LOOP, MAY_JUMP_BY_ONE,
+    MAY_STOP_COUNTING, MOVES_A_POINT, NO_TURN, NO_TURN_AND_RTG, STARTS_AGAIN,
+    TAKES_A_PHANTOM_POINT, TEN_JUMPS_BACK, THREE_JUMPS_BACK, THREE_TURNS, TURNS_4095,
 };
+use hintcheck_test_fixtures::programs::{CALLS_WITH_A_NUMBER, GLYPH, POPPING};
 use std::alloc::Global;
 use std::process::Abort;
 use tt_abs::Kind;
@@ -81,7 +82,8 @@ const BACK: [Family<'static>; 5] = [
     ),
 ];
 
-// Each jump leads to a place that was passed before; of several jumps each leads to an earlier place than those before it.
+// Each jump leads to a place that was passed before; of several jumps each leads to an earlier
+// place than those before it.
 #[test]
 fn jumps_back(rt: HostRuntime) {
     assert_families(&rt, rt.alloc(), GLYPH, &BACK);

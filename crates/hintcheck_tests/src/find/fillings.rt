@@ -12,8 +12,8 @@ fn leads_to(moves: Moves, offset: u32) -> bool {
     }
 }
 
-/// Returns the offset just after the instruction at a point, if the state leads there, and that isn't the main program's end. The state is what
-/// leads there then.
+/// Returns the offset just after the instruction at a point, if the state leads there, and that
+/// isn't the main program's end. The state is what leads there then.
 fn just_after(setting: &Setting<'_>, point: &Point<'_>, state: &mut State) -> Option<u32> {
     if setting.is_end(point, point.offset) {
         return None;
@@ -28,7 +28,8 @@ fn just_after(setting: &Setting<'_>, point: &Point<'_>, state: &mut State) -> Op
     }
 }
 
-/// Returns how many states a filling adds after a listed one, up to the next point that is listed or isn't just after; nothing where memory ran out.
+/// Returns how many states a filling adds after a listed one, up to the next point that is listed
+/// or isn't just after; nothing where memory ran out.
 fn added_behind(
     alloc: Global,
     setting: &Setting<'_>,
@@ -60,7 +61,8 @@ fn added_behind(
     None
 }
 
-/// Returns how many points the filling of a certificate has: the listed ones, and those that are added. Nothing where memory ran out.
+/// Returns how many points the filling of a certificate has: the listed ones, and those that are
+/// added. Nothing where memory ran out.
 pub(crate) fn filled_points(
     alloc: Global,
     setting: &Setting<'_>,

@@ -3,8 +3,9 @@
 use crate::find::fixtures::{Told, with_function, with_function_by};
 use crate::find::programs::{
     BRANCHES_AND_CALLS, CALLS, CALLS_AND_ADDS, CALLS_TWICE, JUMPING_BACK, MAY_STOP_COUNTING,
-    POPPING, STRAIGHT, TEN_JUMPS_BACK, THREE_TURNS,
+    STRAIGHT, TEN_JUMPS_BACK, THREE_TURNS,
 };
+use hintcheck_test_fixtures::programs::POPPING;
 use std::alloc::Global;
 use std::process::Abort;
 use tt_cert::Certificate;
@@ -33,7 +34,8 @@ fn has_all_of(one: &Certificate, other: &Certificate) -> bool {
     true
 }
 
-/// Whether a finder that has looked at other programs tells the same as one of the program's own. The first may list more states.
+/// Whether a finder that has looked at other programs tells the same as one of the program's own.
+/// The first may list more states.
 fn is_told_alike(again: &Told, alone: &Told) -> bool {
     if again.answer != alone.answer {
         return false;
@@ -54,8 +56,9 @@ fn give_back(finder: &mut Finder, told: Told) {
     }
 }
 
-/// Whether this finder tells the same of a glyph program that starts with function 0 as one of the program's own. Afterwards the finder may
-/// get back the memory of its certificate. Nothing where memory ran out.
+/// Whether this finder tells the same of a glyph program that starts with function 0 as one of the
+/// program's own. Afterwards the finder may get back the memory of its certificate. Nothing where
+/// memory ran out.
 fn is_found_alike(
     alloc: Global,
     finder: &mut Finder,
@@ -72,8 +75,8 @@ fn is_found_alike(
     Some(is_alike)
 }
 
-/// Font programs and glyph programs. Some are refused, two font programs are of one length, and one program is looked at more often than
-/// others.
+/// Font programs and glyph programs. Some are refused, two font programs are of one length, and one
+/// program is looked at more often than others.
 const PROGRAMS: [(&[u8], &[u8]); 10] = [
     (&POPPING, &THREE_TURNS),
     (&POPPING, &BRANCHES_AND_CALLS),
@@ -87,7 +90,8 @@ const PROGRAMS: [(&[u8], &[u8]); 10] = [
     (&STRAIGHT, &MAY_STOP_COUNTING),
 ];
 
-/// Asserts that one finder, which may get the memory of the certificates back, tells the same of these programs.
+/// Asserts that one finder, which may get the memory of the certificates back, tells the same of
+/// these programs.
 fn assert_alike(rt: &impl Abort, alloc: Global, gives_back: bool) {
     let mut finder = Finder::new(alloc);
     for (font, program) in &PROGRAMS {

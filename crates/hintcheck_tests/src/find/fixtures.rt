@@ -3,10 +3,12 @@
 ghost use Rattle.tt_abs.specs.Entries.{Rises};
 
 use crate::find::fillings::filled_points;
+use hintcheck_test_fixtures::families::leads_through;
+use hintcheck_test_fixtures::programs::{GLYPH, LIMITS, cut};
 use std::alloc::Global;
 use tt_abs::{Kind, Setting};
-use tt_cert::{Certificate, ProgramFault, Spot, States, check};
-use tt_code::{Limits, Program, Reason};
+use tt_cert::{Certificate, ProgramFault, Spot, check};
+use tt_code::Reason;
 use tt_find::{Finder, Found, find};
 
 /// How many contexts and points the least family has, filled up, and how many updates made it.
@@ -22,34 +24,9 @@ pub(crate) struct Told {
     pub(crate) certificate: Option<Certificate>,
 }
 
-const LIMITS: Limits = Limits {
-    storage: 4,
-    functions: 2,
-    stack: 8,
-    program_size: 64,
-    zones: 2,
-    twilight: 4,
-};
-
-pub(crate) const GLYPH: Kind = Kind::Glyph {
-    points: 4,
-    contours: 1,
-};
-
-/// Whether the walk leads through exactly these points, in this order.
-fn leads_through(states: States<'_>, points: &[(u32, u32)]) -> bool {
-    let mut states = states;
-    for point in points {
-        match states.take_first() {
-            Some((context, offset, _)) if (context, offset) == *point => {}
-            _ => return false,
-        }
-    }
-    states.take_first().is_none()
-}
-
 impl Told {
-    /// Whether these are the points of the states that are listed, each a context and an offset, in their order.
+    /// Whether these are the points of the states that are listed, each a context and an offset, in
+    /// their order.
     pub(crate) fn lists(&self, points: &[(u32, u32)]) -> bool {
         match &self.certificate {
             Some(certificate) => leads_through(certificate.states(), points),
@@ -58,18 +35,8 @@ impl Told {
     }
 }
 
-/// Returns a program of less than 100 bytes, cut.
-fn cut<'a>(alloc: Global, bytes: &'a [u8]) -> Option<Program<'a>> {
-    if bytes.len() >= 100 {
-        return None;
-    }
-    match Program::cut(alloc, bytes) {
-        Ok(program) => Some(program),
-        Err(_) => None,
-    }
-}
-
-/// Returns how large a family is that was found, if the check accepts it, and else what the check says; nothing where memory ran out.
+/// Returns how large a family is that was found, if the check accepts it, and else what the check
+/// says; nothing where memory ran out.
 fn checked(alloc: Global, setting: &Setting<'_>, found: &Found) -> Option<Answer>
     requires { Rises setting.now.start.now }
 {
@@ -131,7 +98,8 @@ pub(crate) fn alone(alloc: Global, program: &[u8], kind: Kind) -> Option<Told> {
     told_of(alloc, &setting, found)
 }
 
-/// Returns what is told of a glyph program that starts with function 0, whose body begins at offset 3 of the font program.
+/// Returns what is told of a glyph program that starts with function 0, whose body begins at offset
+/// 3 of the font program.
 pub(crate) fn with_function(alloc: Global, font: &[u8], program: &[u8]) -> Option<Told> {
     let font = cut(alloc, font)?;
     let main = cut(alloc, program)?;

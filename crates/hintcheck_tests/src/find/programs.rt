@@ -44,13 +44,14 @@ pub(crate) const MAY_STOP_COUNTING: [u8; 11] = [
 /// RTG; PUSHB 1; PUSHW -5, JMPR to offset 1. It pushes without end.
 pub(crate) const PUSHES_WITHOUT_END: [u8; 7] = [0x18, 0xb0, 0x01, 0xb8, 0xff, 0xfb, 0x1c];
 
-/// PUSHB 1; DUP, MDAP; PUSHB 1, ADD; PUSHW -9, MPPEM, JROT to offset 2; POP; POP. The second number that MDAP takes isn't known, and the
-/// second POP has nothing to pop.
+/// PUSHB 1; DUP, MDAP; PUSHB 1, ADD; PUSHW -9, MPPEM, JROT to offset 2; POP; POP. The second number
+/// that MDAP takes isn't known, and the second POP has nothing to pop.
 pub(crate) const REFUSED_TWICE: [u8; 14] = [
     0xb0, 0x01, 0x20, 0x2e, 0xb0, 0x01, 0x60, 0xb8, 0xff, 0xf7, 0x4b, 0x78, 0x21, 0x21,
 ];
 
-/// PUSHB 1; RTG; RTG, PUSHW -5, MPPEM, JROT to offset 3; PUSHB 1, ADD; PUSHW -14, MPPEM, JROT to offset 2; POP.
+/// PUSHB 1; RTG; RTG, PUSHW -5, MPPEM, JROT to offset 3; PUSHB 1, ADD; PUSHW -14, MPPEM, JROT to
+/// offset 2; POP.
 pub(crate) const LOOP_IN_A_LOOP: [u8; 18] = [
     0xb0, 0x01, 0x18, 0x18, 0xb8, 0xff, 0xfb, 0x4b, 0x78, 0xb0, 0x01, 0x60, 0xb8, 0xff, 0xf2, 0x4b,
     0x78, 0x21,
@@ -72,9 +73,6 @@ pub(crate) const TEN_JUMPS_BACK: [u8; 61] = [
 
 /// PUSHB 0; FDEF, ENDF; RTG. The definition leads to just after its ENDF.
 pub(crate) const DEFINES: [u8; 5] = [0xb0, 0x00, 0x2c, 0x2d, 0x18];
-
-/// FDEF 0: POP; ENDF.
-pub(crate) const POPPING: [u8; 5] = [0xb0, 0x00, 0x2c, 0x21, 0x2d];
 
 /// FDEF 0: PUSHB 0, CALL; ENDF.
 pub(crate) const CALLING: [u8; 7] = [0xb0, 0x00, 0x2c, 0xb0, 0x00, 0x2b, 0x2d];
@@ -100,9 +98,6 @@ pub(crate) const CALLS_TWICE: [u8; 6] = [0xb0, 0x00, 0x2b, 0xb0, 0x00, 0x2b];
 
 /// PUSHB 7, 0; CALL; RTG.
 pub(crate) const CALLS_AND_RTG: [u8; 5] = [0xb1, 0x07, 0x00, 0x2b, 0x18];
-
-/// PUSHB 7, 0; CALL.
-pub(crate) const CALLS_WITH_A_NUMBER: [u8; 4] = [0xb1, 0x07, 0x00, 0x2b];
 
 /// PUSHB 1; CALL, of a function that isn't known.
 pub(crate) const CALLS_ANOTHER: [u8; 3] = [0xb0, 0x01, 0x2b];

@@ -1,11 +1,11 @@
 //! Small programs that have no good family: where they are refused, and why.
 
-use crate::find::fixtures::{GLYPH, Told, alone, with_function};
+use crate::find::fixtures::{Told, alone, with_function};
 use crate::find::programs::{
-    CALLING, CALLS, CALLS_AND_ADDS, CALLS_ANOTHER, EMPTY, FOUR_TURNS, MAY_CALL, POPPING,
-    POPS_ON_BOTH_WAYS, PUSHES_ON_ONE_WAY, PUSHES_WITHOUT_END, REFUSED_TWICE, STARTS_AGAIN,
-    TURNS_65535,
+    CALLING, CALLS, CALLS_AND_ADDS, CALLS_ANOTHER, EMPTY, FOUR_TURNS, MAY_CALL, POPS_ON_BOTH_WAYS,
+    PUSHES_ON_ONE_WAY, PUSHES_WITHOUT_END, REFUSED_TWICE, STARTS_AGAIN, TURNS_65535,
 };
+use hintcheck_test_fixtures::programs::{GLYPH, POPPING};
 use std::alloc::Global;
 use std::process::Abort;
 use tt_abs::Kind;
@@ -45,7 +45,8 @@ fn programs_without_functions(rt: HostRuntime) {
     assert_lone(&rt, rt.alloc(), &LONE);
 }
 
-/// Programs that are refused in two places. Of two points from which a program goes on, the smaller one is looked at first.
+/// Programs that are refused in two places. Of two points from which a program goes on, the smaller
+/// one is looked at first.
 const REFUSED_IN_TWO_PLACES: [Lone<'static>; 2] = [
     (&POPS_ON_BOTH_WAYS, GLYPH, 2, Reason::Underflow),
     (&REFUSED_TWICE, GLYPH, 3, Reason::UnknownOperand),

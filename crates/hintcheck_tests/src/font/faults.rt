@@ -1,12 +1,12 @@
 //! The texts of faults, and files with any fault.
 
-use crate::font::files::{font_of, made, square};
+use hintcheck_test_fixtures::fonts::{NoFile, font_of, made, square};
 use std::alloc::{AllocError, Global};
 use std::test::Fail;
 use tt_font::{Font, FontFault, Tag};
 
 /// Returns a font with a simple glyph and a composite one, both with programs.
-fn small_font(alloc: Global) -> Result<Vec<u8>, Fail> {
+fn small_font(alloc: Global) -> Result<Vec<u8>, NoFile> {
     let glyph = square(alloc, &[0x4B])?;
     let composite = made(alloc, &[0, 0x20, 0, 0, 0, 0, 1, 0, 0, 0, 0, 0, 0, 1, 0x4B])?;
     font_of(

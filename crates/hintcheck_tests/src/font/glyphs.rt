@@ -1,6 +1,8 @@
 //! Glyphs of one outline, and glyphs that are made of others.
 
-use crate::font::files::{Glyphs, MADE, SQUARE, font_of, has_glyph, made, many_times, square};
+use hintcheck_test_fixtures::fonts::{
+    Glyphs, MADE, NoFile, SQUARE, font_of, font_with, has_glyph, made, many_times, square,
+};
 use std::alloc::Global;
 use std::test::Fail;
 use tt_font::{Font, FontFault, GlyphPart};
@@ -36,13 +38,6 @@ fn reads_glyphs(rt: HostRuntime) -> Result<(), Fail> {
         assert!(rt; fault == *want, "{glyph:?}: {want:?}");
     }
     Ok(())
-}
-
-/// Returns a font of a glyph of 4 points and a composite glyph with these components.
-pub(crate) fn font_with(alloc: Global, components: &[u8]) -> Result<Vec<u8>, Fail> {
-    let glyph = square(alloc, &[])?;
-    let composite = made(alloc, components)?;
-    font_of(alloc, &[], &[], &[glyph.as_slice(), composite.as_slice()])
 }
 
 /// Components with what follows them, and the glyph program that they leave.
@@ -102,7 +97,7 @@ fn refuses_circles(rt: HostRuntime) -> Result<(), Fail> {
 }
 
 /// Returns a font of a glyph of 4 points and one that has it so many times as a component.
-pub(crate) fn font_of_many(alloc: Global, times: u16) -> Result<Vec<u8>, Fail> {
+pub(crate) fn font_of_many(alloc: Global, times: u16) -> Result<Vec<u8>, NoFile> {
     let glyph = square(alloc, &[])?;
     let many = many_times(alloc, 0, times)?;
     font_of(alloc, &[], &[], &[glyph.as_slice(), many.as_slice()])
@@ -127,8 +122,9 @@ fn bounds_points(rt: HostRuntime) -> Result<(), Fail> {
     Ok(())
 }
 
-/// Returns a font of an empty glyph, and so many glyphs that are each made of the one before a thousand times.
-pub(crate) fn tower(alloc: Global, height: u16) -> Result<Vec<u8>, Fail> {
+/// Returns a font of an empty glyph, and so many glyphs that are each made of the one before a
+/// thousand times.
+pub(crate) fn tower(alloc: Global, height: u16) -> Result<Vec<u8>, NoFile> {
     let mut glyphs = Glyphs::new(alloc)?;
     glyphs.push(&[0; 10])?;
     for id in 0..height {

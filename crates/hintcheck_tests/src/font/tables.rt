@@ -1,23 +1,10 @@
 //! The directory, and the tables that stand for a font as a whole.
 
-use crate::font::files::{HEAD, MAXP, file_of, font_of, has_glyph, square};
+use hintcheck_test_fixtures::fonts::{HEAD, MAXP, NoFile, file_of, font_of, has_glyph, square};
+use hintcheck_test_fixtures::programs::{LIMITS, POPPING};
 use std::alloc::Global;
 use std::test::Fail;
-use tt_code::Limits;
 use tt_font::{Font, FontFault, GlyphPart, Tag, definitions_hold, read_maxp};
-
-/// What `MAXP` says.
-const LIMITS: Limits = Limits {
-    storage: 4,
-    functions: 2,
-    stack: 8,
-    program_size: 64,
-    zones: 2,
-    twilight: 4,
-};
-
-/// A font program.
-const FPGM: [u8; 5] = [0xB0, 0x00, 0x2C, 0x21, 0x2D];
 
 /// A CVT program.
 const PREP: [u8; 1] = [0x4B];
@@ -26,13 +13,13 @@ const PREP: [u8; 1] = [0x4B];
 const PROGRAM: [u8; 4] = [0xB1, 0x07, 0x00, 0x2B];
 
 /// Returns a font of one glyph, with programs.
-fn whole_font(alloc: Global) -> Result<Vec<u8>, Fail> {
+fn whole_font(alloc: Global) -> Result<Vec<u8>, NoFile> {
     let glyph = square(alloc, &PROGRAM)?;
-    font_of(alloc, &FPGM, &PREP, &[glyph.as_slice()])
+    font_of(alloc, &POPPING, &PREP, &[glyph.as_slice()])
 }
 
-/// Whether a font is read that has the limits of `MAXP`, 10 control values, one glyph without components, and this font program and CVT
-/// program.
+/// Whether a font is read that has the limits of `MAXP`, 10 control values, one glyph without
+/// components, and this font program and CVT program.
 fn is_read(alloc: Global, file: &[u8], fpgm: &[u8], prep: &[u8]) -> bool {
     match Font::read(alloc, file) {
         Ok(font) => {
@@ -50,7 +37,7 @@ fn is_read(alloc: Global, file: &[u8], fpgm: &[u8], prep: &[u8]) -> bool {
 #[test]
 fn reads_a_font(rt: HostRuntime) -> Result<(), Fail> {
     let file = whole_font(rt.alloc())?;
-    assert!(rt; is_read(rt.alloc(), &file, &FPGM, &PREP));
+    assert!(rt; is_read(rt.alloc(), &file, &POPPING, &PREP));
     Ok(())
 }
 
@@ -152,7 +139,7 @@ fn refuses_directories(rt: HostRuntime) {
 }
 
 /// Returns a font of one empty glyph, without programs, with two `maxp` tables.
-fn bare_font(alloc: Global) -> Result<Vec<u8>, Fail> {
+fn bare_font(alloc: Global) -> Result<Vec<u8>, NoFile> {
     let tables: [(Tag, &[u8]); 6] = [
         (Tag::Maxp, &MAXP),
         (Tag::Maxp, &[]),
@@ -178,7 +165,7 @@ fn takes_what_is_missing_as_empty(rt: HostRuntime) -> Result<(), Fail> {
 }
 
 /// Returns a font of one glyph with short entries in `loca`.
-fn short_font(alloc: Global) -> Result<Vec<u8>, Fail> {
+fn short_font(alloc: Global) -> Result<Vec<u8>, NoFile> {
     let glyph = square(alloc, &[])?;
     let tables: [(Tag, &[u8]); 4] = [
         (Tag::Maxp, &MAXP),

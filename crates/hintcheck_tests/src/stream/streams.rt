@@ -2,6 +2,7 @@
 
 ghost use Rattle.std.specs.Prelude.{◌≡◌, ◌<◌};
 
+use hintcheck_test_fixtures::streams::Narrow;
 use std::alloc::Global;
 use std::io::{ErrorKind, Write};
 use std::marker::Brand;
@@ -21,32 +22,6 @@ impl fmt::Display for Letters {
         for letter in ('a'..='z').cycle().take(self.0) {
             f.write_char(letter)?;
         }
-        Ok(())
-    }
-}
-
-/// Takes one byte a call, as long as there is room, and then fails.
-#[derive(Drop)]
-struct Narrow {
-    bytes: Vec<u8>,
-    room: usize,
-}
-
-impl Write for Narrow {
-    fn write(&mut self, buf: &[u8]) -> io::Result<usize> {
-        if self.bytes.len() >= self.room {
-            return Err(io::Error::from(ErrorKind::StorageFull));
-        }
-        match buf.first() {
-            Some(byte) => {
-                self.bytes.push(*byte)?;
-                Ok(1)
-            }
-            None => Ok(0),
-        }
-    }
-
-    fn flush(&mut self) -> io::Result<()> {
         Ok(())
     }
 }
@@ -181,7 +156,8 @@ fn reads_all_ahead(rt: HostRuntime) -> Result<(), Fail> {
     Ok(())
 }
 
-/// Returns what is ahead once a byte of the steps was read, and the next byte after so many that are ahead.
+/// Returns what is ahead once a byte of the steps was read, and the next byte after so many that
+/// are ahead.
 fn look_ahead<L: Ledger>(
     alloc: Global,
     steps: Steps<'_>,

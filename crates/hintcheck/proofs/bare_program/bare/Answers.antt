@@ -7,7 +7,7 @@ use Rattle.hintcheck.specs.FontPrograms.{glyph_subject}
 use Rattle.hintcheck.specs.BarePrograms.{IsJudged, font_around}
 use Rattle.hintcheck.specs.Verdicts.{Judgement}
 use Rattle.hintcheck.proofs.FontSafety.{only_glyph_is_safe}
-use Rattle.hintcheck.proofs.JudgeLemmas.{least_where_none}
+use Rattle.hintcheck.proofs.BareProgramLemmas.{least_where_none}
 use Rattle.hintcheck.proofs.bare_program.bare.Goals as goal
 
 pub returns-clause-accepted : goal.returns-clause-accepted

@@ -1,14 +1,14 @@
 use Rattle.std.proofs.Common.{◌≡◌, ◌∙◌, List, [], ap, subst, sym}
 use Rattle.tt_abs.specs.Settings.{programs_of}
 use Rattle.tt_code.specs.Fonts.{Font}
-use Rattle.tt_font.specs.GlyphParts.{glyph_data}
+use Rattle.tt_font.specs.Reading.{glyph_data}
 use Rattle.hintcheck.specs.FontPrograms.{glyph_subject}
 use Rattle.hintcheck.specs.BarePrograms.{IsJudged, font_around}
 use Rattle.hintcheck.specs.ProgramVerdicts.{IsListed}
 use Rattle.hintcheck.specs.Programs.{HasLeastFamily, Subject}
 use Rattle.tt_cert_file.specs.declared.name.Name.TheVariants as name
 use Rattle.hintcheck.specs.declared.report.Refused.{Refused}
-use Rattle.hintcheck.proofs.JudgeLemmas.{around, judged_refused}
+use Rattle.hintcheck.proofs.BareProgramLemmas.{around, judged_refused}
 use Rattle.hintcheck.proofs.bare_program.refused_programs.Goals as goal
 use Rattle.hintcheck.proofs.bare_program.refused_programs.Goals.{in-Ok, in-Err+in_ok-list_refused-in-Err}
 

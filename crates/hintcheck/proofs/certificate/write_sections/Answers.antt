@@ -1,7 +1,7 @@
 use Rattle.std.proofs.Common.{refl, ◌∙◌}
 use Rattle.std.proofs.lemmas.Result.{err_from_is_err_and}
 use Rattle.hintcheck.proofs.CertificateWriting.{fewer_after, found_next, nothing_found, sections_written, stopped, stopped_within}
-use Rattle.hintcheck.proofs.SecondLooks.{none_refused_next}
+use Rattle.hintcheck.proofs.SecondFindings.{none_refused_next}
 use Rattle.hintcheck.proofs.certificate.write_sections.Goals as goal
 
 pub loop-finder-init : goal.loop-finder-init
@@ -10,21 +10,21 @@ loop-finder-init g c = (refl, nothing_found c.args.font.now (g.W.Sink.contents c
 pub loop-finder-smaller : goal.loop-finder-smaller
 loop-finder-smaller g c =
     let e = c.in_ok-outcome.ensures in
-    fewer_after c.loop-finder.session c.look_next.new.self c.in_ok-outcome.field-0 c.in-Some.outcome c.in-Some.found c.in-Some.is e.font e.found
+    fewer_after c.loop-finder.session c.search_next.new.self c.in_ok-outcome.field-0 c.in-Some.outcome c.in-Some.found c.in-Some.is e.font e.found
 
 pub loop-finder-preserved : goal.loop-finder-preserved
 loop-finder-preserved g c =
     let e = c.in_ok-outcome.ensures in
     let so_far = c.loop-finder.invariant.1 in (
       c.in_ok-encode.ensures.failures ∙ c.loop-finder.invariant.0,
-      found_next c.args.font.now (g.W.Sink.contents c.args.sink.now) (g.W.Sink.contents c.loop-finder.sink) (g.W.Sink.contents c.encode.new.sink) c.loop-finder.session c.look_next.new.self
+      found_next c.args.font.now (g.W.Sink.contents c.args.sink.now) (g.W.Sink.contents c.loop-finder.sink) (g.W.Sink.contents c.encode.new.sink) c.loop-finder.session c.search_next.new.self
           c.in_ok-outcome.field-0 c.in-Some.outcome c.in-Some.found c.unwrap-found.result c.in-Some.is c.unwrap-found.ensures so_far e.found e.font e.no_fault e.finding
-          c.is_in_order.ensures c.in_ok-encode.ensures.fits c.in_ok-encode.ensures.written,
+          c.order_facts.ensures c.in_ok-encode.ensures.fits c.in_ok-encode.ensures.written,
     )
 
 pub returns-clause-written : goal.returns-clause-written
 returns-clause-written g c =
-    sections_written c.args.font.now (g.W.Sink.contents c.args.sink.now) (g.W.Sink.contents c.loop-finder.sink) c.loop-finder.session c.look_next.new.self
+    sections_written c.args.font.now (g.W.Sink.contents c.args.sink.now) (g.W.Sink.contents c.loop-finder.sink) c.loop-finder.session c.search_next.new.self
     c.in_ok-outcome.field-0 c.in_default.is c.loop-finder.invariant.1 c.in_ok-outcome.ensures.found
 
 pub returns-in_err-outcome-clause-begun : goal.returns-in_err-outcome-clause-begun
@@ -36,11 +36,11 @@ pub returns-in_err-encode-clause-begun : goal.returns-in_err-encode-clause-begun
 returns-in_err-encode-clause-begun g c =
     let p = err_from_is_err_and c.from_residual-in_err-encode.result c.from_residual-in_err-encode.ensures.1 in
     rw p.1
-    (stopped_within c.args.font.now (g.W.Sink.contents c.args.sink.now) (g.W.Sink.contents c.loop-finder.sink) (g.W.Sink.contents c.encode.new.sink) c.loop-finder.session c.look_next.new.self
+    (stopped_within c.args.font.now (g.W.Sink.contents c.args.sink.now) (g.W.Sink.contents c.loop-finder.sink) (g.W.Sink.contents c.encode.new.sink) c.loop-finder.session c.search_next.new.self
     c.in_ok-outcome.field-0 c.in-Some.outcome c.in-Some.found c.unwrap-found.result c.in-Some.is c.unwrap-found.ensures c.loop-finder.invariant.1 c.in_ok-outcome.ensures.found
     c.in_err-encode.ensures.beginning)
 
 pub unwrap-found-requires : goal.unwrap-found-requires
 unwrap-found-requires g c =
-    (none_refused_next c.loop-finder.session.font c.loop-finder.session.stage c.look_next.new.self.stage c.in_ok-outcome.field-0 c.in-Some.outcome c.in-Some.found c.in-Some.is
+    (none_refused_next c.loop-finder.session.font c.loop-finder.session.stage c.search_next.new.self.stage c.in_ok-outcome.field-0 c.in-Some.outcome c.in-Some.found c.in-Some.is
     c.in_ok-outcome.ensures.found c.loop-finder.invariant.1.least).0

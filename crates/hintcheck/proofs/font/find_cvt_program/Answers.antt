@@ -1,25 +1,25 @@
 use Rattle.std.proofs.Common.{List, sym, subst}
 use Rattle.tt_code.specs.Cut.{Instruction}
 use Rattle.hintcheck.specs.FindingSessions.{IsFoundToEnd}
-use Rattle.hintcheck.specs.FontVerdicts.{IsKnownAtEnd}
+use Rattle.hintcheck.specs.Representation.FontVerdicts.{IsKnownAtEnd}
 use Rattle.hintcheck.specs.FontPrograms.{cvt_subject}
 use Rattle.hintcheck.specs.ProgramVerdicts.{IfRefused}
 use Rattle.hintcheck.specs.Programs.{IsRefusal}
-use Rattle.hintcheck.proofs.LookLemmas.{looked_at, passed_on}
+use Rattle.hintcheck.proofs.ProgramVerdictLemmas.{is_subject, passed_on}
 use Rattle.hintcheck.proofs.font.find_cvt_program.Goals as goal
 
 pub find_to_end-requires-clause-subject : goal.find_to_end-requires-clause-subject
 find_to_end-requires-clause-subject c =
     let x = cvt_subject c.args.font.now c.args.fpgm.now.program c.args.fpgm.now.functions.items in
     let s = c.cvt_setting-setting in
-    (x, looked_at x s.result c.in_ok-program.program (c.in_ok-program.ensures.cut x (sym c.prep.ensures)) s.ensures.main s.ensures.setting s.ensures.start)
+    (x, is_subject x s.result c.in_ok-program.program (c.in_ok-program.ensures.cut x (sym c.prep.ensures)) s.ensures.main s.ensures.setting s.ensures.start)
 
 pub returns-in_err-functions-clause-refused : goal.returns-in_err-functions-clause-refused
 returns-in_err-functions-clause-refused c =
     let x = cvt_subject c.args.font.now c.args.fpgm.now.program c.args.fpgm.now.functions.items in
     let s = c.cvt_setting-setting in
     passed_on c.from_residual-in_err-functions.result c.in_err-functions.field-0.0 (λ fault. IfRefused x.name fault (IsRefusal x)) c.from_residual-in_err-functions.ensures.1
-    (c.in_err-functions.ensures.refused x (looked_at x s.result c.in_ok-program.program (c.in_ok-program.ensures.cut x (sym c.prep.ensures)) s.ensures.main s.ensures.setting s.ensures.start))
+    (c.in_err-functions.ensures.refused x (is_subject x s.result c.in_ok-program.program (c.in_ok-program.ensures.cut x (sym c.prep.ensures)) s.ensures.main s.ensures.setting s.ensures.start))
 
 pub returns-clause-known : goal.returns-clause-known
 returns-clause-known c =
@@ -27,7 +27,7 @@ returns-clause-known c =
     let s = c.cvt_setting-setting in
     let K : List Instruction → Type 0 = λ is. IsKnownAtEnd x is c.in_ok-functions.functions.items in
     subst K s.ensures.main
-    (c.in_ok-functions.ensures.known x (looked_at x s.result c.in_ok-program.program (c.in_ok-program.ensures.cut x (sym c.prep.ensures)) s.ensures.main s.ensures.setting s.ensures.start))
+    (c.in_ok-functions.ensures.known x (is_subject x s.result c.in_ok-program.program (c.in_ok-program.ensures.cut x (sym c.prep.ensures)) s.ensures.main s.ensures.setting s.ensures.start))
 
 pub returns-clause-found : goal.returns-clause-found
 returns-clause-found c = λ certificate.
@@ -35,4 +35,4 @@ returns-clause-found c = λ certificate.
     let s = c.cvt_setting-setting in
     let K : List Instruction → Type 0 = λ is. IsFoundToEnd x is c.in_ok-functions.found c.in_ok-functions.functions.items in
     subst K s.ensures.main
-    (c.in_ok-functions.ensures.found certificate x (looked_at x s.result c.in_ok-program.program (c.in_ok-program.ensures.cut x (sym c.prep.ensures)) s.ensures.main s.ensures.setting s.ensures.start))
+    (c.in_ok-functions.ensures.found certificate x (is_subject x s.result c.in_ok-program.program (c.in_ok-program.ensures.cut x (sym c.prep.ensures)) s.ensures.main s.ensures.setting s.ensures.start))

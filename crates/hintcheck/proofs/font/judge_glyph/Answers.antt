@@ -1,12 +1,12 @@
 use Rattle.std.proofs.Common.{sym}
 use Rattle.std.proofs.lemmas.Bool.{eqb-true}
 use Rattle.std.proofs.lemmas.List.{nil_from_length}
-use Rattle.tt_font.specs.GlyphParts.{glyph_data}
-use Rattle.hintcheck.specs.FontVerdicts.{font_in, subject_in}
+use Rattle.tt_font.specs.Reading.{glyph_data}
+use Rattle.hintcheck.specs.Representation.FontVerdicts.{font_in, subject_in}
 use Rattle.hintcheck.specs.ProgramVerdicts.{IfRefused}
 use Rattle.hintcheck.specs.Programs.{HasGoodFamily}
 use Rattle.hintcheck.proofs.EmptyPrograms.{least_without_instructions}
-use Rattle.hintcheck.proofs.LookLemmas.{passed_on}
+use Rattle.hintcheck.proofs.ProgramVerdictLemmas.{passed_on}
 use Rattle.hintcheck.proofs.font.judge_glyph.Goals as goal
 
 pub returns-then-is_empty-clause-least : goal.returns-then-is_empty-clause-least

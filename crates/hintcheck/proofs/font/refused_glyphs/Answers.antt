@@ -1,7 +1,7 @@
 use Rattle.std.specs.Option.{option_map}
 use Rattle.std.proofs.Common.{◌≡◌, ◌+◌, List, ℕ, sym, ◌∙◌, ap, subst, arith, length}
-use Rattle.tt_font.specs.GlyphParts.{glyph_data}
-use Rattle.hintcheck.specs.FontVerdicts.{AreRefusedBelow, font_in}
+use Rattle.tt_font.specs.Reading.{glyph_data}
+use Rattle.hintcheck.specs.Representation.FontVerdicts.{AreRefusedBelow, font_in}
 use Rattle.hintcheck.specs.ProgramVerdicts.{IsListed}
 use Rattle.tt_cert_file.specs.declared.name.Name.TheVariants as name
 use Rattle.hintcheck.specs.declared.report.Refused.{Refused}

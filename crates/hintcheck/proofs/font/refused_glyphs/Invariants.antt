@@ -1,4 +1,4 @@
-use Rattle.hintcheck.specs.FontVerdicts.{AreRefusedBelow, font_in}
+use Rattle.hintcheck.specs.Representation.FontVerdicts.{AreRefusedBelow, font_in}
 use Rattle.hintcheck.proofs.font.refused_glyphs.Given as goal
 
 abbrev pub invariant-loop-id : goal.invariant-loop-id

@@ -3,14 +3,14 @@ use Rattle.tt_code.specs.Cut.{Instruction}
 use Rattle.hintcheck.specs.Certificates.{PassesToEnd}
 use Rattle.hintcheck.specs.CheckedFonts.{IsGoodAtEnd, IsRefusedBy}
 use Rattle.hintcheck.specs.FontPrograms.{cvt_subject}
-use Rattle.hintcheck.proofs.LookLemmas.{looked_at, passed_on}
+use Rattle.hintcheck.proofs.ProgramVerdictLemmas.{is_subject, passed_on}
 use Rattle.hintcheck.proofs.font_check.check_cvt_program.Goals as goal
 
 pub certified_functions-requires-clause-subject : goal.certified_functions-requires-clause-subject
 certified_functions-requires-clause-subject c =
     let x = cvt_subject c.args.font.now c.args.fpgm.now.program c.args.fpgm.now.functions.items in
     let s = c.cvt_setting-setting in
-    (x, looked_at x s.result c.in_ok-program.program (c.in_ok-program.ensures.cut x (sym c.prep.ensures)) s.ensures.main s.ensures.setting s.ensures.start)
+    (x, is_subject x s.result c.in_ok-program.program (c.in_ok-program.ensures.cut x (sym c.prep.ensures)) s.ensures.main s.ensures.setting s.ensures.start)
 
 pub returns-clause-known : goal.returns-clause-known
 returns-clause-known c =
@@ -18,7 +18,7 @@ returns-clause-known c =
     let s = c.cvt_setting-setting in
     let K : List Instruction → Type 0 = λ is. IsGoodAtEnd x is c.in_ok-functions.functions.items in
     subst K s.ensures.main
-    (c.in_ok-functions.ensures.known x (looked_at x s.result c.in_ok-program.program (c.in_ok-program.ensures.cut x (sym c.prep.ensures)) s.ensures.main s.ensures.setting s.ensures.start))
+    (c.in_ok-functions.ensures.known x (is_subject x s.result c.in_ok-program.program (c.in_ok-program.ensures.cut x (sym c.prep.ensures)) s.ensures.main s.ensures.setting s.ensures.start))
 
 pub returns-clause-passed : goal.returns-clause-passed
 returns-clause-passed c =
@@ -26,11 +26,11 @@ returns-clause-passed c =
     let s = c.cvt_setting-setting in
     let K : List Instruction → Type 0 = λ is. PassesToEnd c.args.form x is c.args.certificate.now c.in_ok-functions.functions.items in
     subst K s.ensures.main
-    (c.in_ok-functions.ensures.passed x (looked_at x s.result c.in_ok-program.program (c.in_ok-program.ensures.cut x (sym c.prep.ensures)) s.ensures.main s.ensures.setting s.ensures.start))
+    (c.in_ok-functions.ensures.passed x (is_subject x s.result c.in_ok-program.program (c.in_ok-program.ensures.cut x (sym c.prep.ensures)) s.ensures.main s.ensures.setting s.ensures.start))
 
 pub returns-in_err-functions-clause-refused : goal.returns-in_err-functions-clause-refused
 returns-in_err-functions-clause-refused c =
     let x = cvt_subject c.args.font.now c.args.fpgm.now.program c.args.fpgm.now.functions.items in
     let s = c.cvt_setting-setting in
     passed_on c.from_residual-in_err-functions.result c.in_err-functions.field-0.0 (IsRefusedBy c.args.form x c.args.certificate.now) c.from_residual-in_err-functions.ensures.1
-    (c.in_err-functions.ensures.refused x (looked_at x s.result c.in_ok-program.program (c.in_ok-program.ensures.cut x (sym c.prep.ensures)) s.ensures.main s.ensures.setting s.ensures.start))
+    (c.in_err-functions.ensures.refused x (is_subject x s.result c.in_ok-program.program (c.in_ok-program.ensures.cut x (sym c.prep.ensures)) s.ensures.main s.ensures.setting s.ensures.start))

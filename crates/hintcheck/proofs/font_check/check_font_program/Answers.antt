@@ -3,8 +3,8 @@ use Rattle.tt_code.specs.Cut.{Instruction}
 use Rattle.hintcheck.specs.Certificates.{PassesToEnd}
 use Rattle.hintcheck.specs.CheckedFonts.{IsGoodAtEnd, IsRefusedBy}
 use Rattle.hintcheck.specs.FontPrograms.{font_subject}
-use Rattle.hintcheck.proofs.FontEnds.{font_looked}
-use Rattle.hintcheck.proofs.LookLemmas.{passed_on}
+use Rattle.hintcheck.proofs.FontEnds.{is_font_subject}
+use Rattle.hintcheck.proofs.ProgramVerdictLemmas.{passed_on}
 use Rattle.hintcheck.proofs.font_check.check_font_program.Goals as goal
 
 pub certified_functions-requires-clause-subject : goal.certified_functions-requires-clause-subject
@@ -12,7 +12,7 @@ certified_functions-requires-clause-subject c =
     let x = font_subject c.args.font.now in
     let s = c.for_font_program-setting in (
       x,
-      font_looked c.args.font.now s.result c.in_ok-program.program c.limits.result c.cvt_count.result (c.in_ok-program.ensures.cut x (sym c.fpgm.ensures)) s.ensures.setting
+      is_font_subject c.args.font.now s.result c.in_ok-program.program c.limits.result c.cvt_count.result (c.in_ok-program.ensures.cut x (sym c.fpgm.ensures)) s.ensures.setting
           s.ensures.programs c.limits.ensures c.cvt_count.ensures s.ensures.main s.ensures.start,
     )
 
@@ -22,7 +22,7 @@ returns-clause-known c =
     let s = c.for_font_program-setting in
     let K : List Instruction → Type 0 = λ is. IsGoodAtEnd x is c.in_ok-functions.functions.items in
     subst K s.ensures.main
-    (c.in_ok-functions.ensures.known x (font_looked c.args.font.now s.result c.in_ok-program.program c.limits.result c.cvt_count.result
+    (c.in_ok-functions.ensures.known x (is_font_subject c.args.font.now s.result c.in_ok-program.program c.limits.result c.cvt_count.result
     (c.in_ok-program.ensures.cut x (sym c.fpgm.ensures)) s.ensures.setting s.ensures.programs c.limits.ensures c.cvt_count.ensures s.ensures.main s.ensures.start))
 
 pub returns-clause-passed : goal.returns-clause-passed
@@ -31,7 +31,7 @@ returns-clause-passed c =
     let s = c.for_font_program-setting in
     let K : List Instruction → Type 0 = λ is. PassesToEnd c.args.form x is c.args.certificate.now c.in_ok-functions.functions.items in
     subst K s.ensures.main
-    (c.in_ok-functions.ensures.passed x (font_looked c.args.font.now s.result c.in_ok-program.program c.limits.result c.cvt_count.result
+    (c.in_ok-functions.ensures.passed x (is_font_subject c.args.font.now s.result c.in_ok-program.program c.limits.result c.cvt_count.result
     (c.in_ok-program.ensures.cut x (sym c.fpgm.ensures)) s.ensures.setting s.ensures.programs c.limits.ensures c.cvt_count.ensures s.ensures.main s.ensures.start))
 
 pub returns-in_err-functions-clause-refused : goal.returns-in_err-functions-clause-refused
@@ -39,5 +39,5 @@ returns-in_err-functions-clause-refused c =
     let x = font_subject c.args.font.now in
     let s = c.for_font_program-setting in
     passed_on c.from_residual-in_err-functions.result c.in_err-functions.field-0.0 (IsRefusedBy c.args.form x c.args.certificate.now) c.from_residual-in_err-functions.ensures.1
-    (c.in_err-functions.ensures.refused x (font_looked c.args.font.now s.result c.in_ok-program.program c.limits.result c.cvt_count.result
+    (c.in_err-functions.ensures.refused x (is_font_subject c.args.font.now s.result c.in_ok-program.program c.limits.result c.cvt_count.result
     (c.in_ok-program.ensures.cut x (sym c.fpgm.ensures)) s.ensures.setting s.ensures.programs c.limits.ensures c.cvt_count.ensures s.ensures.main s.ensures.start))

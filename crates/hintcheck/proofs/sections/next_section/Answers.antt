@@ -24,4 +24,4 @@ returns-clause-section g c = λ told.
     let new = g.S.Source.remaining c.decode.new.source in
     let progress = c.args.progress.now in
     section_read progress.form old new progress.place c.in_ok-named.after c.args.name c.in_ok-named.named c.in_ok-named.certificate c.in_ok-named.ensures.exact
-    (c.is_same.ensures.0 c.if-not-is_same.false) c.is_in_order.ensures told
+    (c.is_same.ensures.0 c.if-not-is_same.false) c.order_facts.ensures told

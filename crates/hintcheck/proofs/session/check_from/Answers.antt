@@ -2,7 +2,7 @@ use Rattle.std.proofs.Common.{Some, sym, subst}
 use Rattle.std.proofs.lemmas.Result.{err_from_is_err_and}
 use Rattle.tt_cert_file.specs.Answers.{input_at}
 use Rattle.tt_stream.proofs.Beginnings.{consumes_then}
-use Rattle.hintcheck.specs.SessionStages.{KeepsGood, read_of, stage_of}
+use Rattle.hintcheck.specs.Representation.SessionStages.{KeepsGood, read_of, stage_of}
 use Rattle.hintcheck.specs.Sessions.{IsFaultAt, at_section, standing_at}
 use Rattle.hintcheck.specs.declared.session.Kept.{Kept}
 use Rattle.hintcheck.proofs.CheckedSections.{finds_fault}

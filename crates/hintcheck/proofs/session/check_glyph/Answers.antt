@@ -2,8 +2,7 @@ use Rattle.std.specs.Option.{option_map}
 use Rattle.std.proofs.Common.{sym, ◌∙◌, ap}
 use Rattle.std.proofs.lemmas.Result.{err_from_is_err_and}
 use Rattle.tt_cert_file.specs.Answers.{input_at}
-use Rattle.tt_font.specs.GlyphParts.{glyph_data}
-use Rattle.tt_font.specs.Reading.{GlyphData}
+use Rattle.tt_font.specs.Reading.{glyph_data, GlyphData}
 use Rattle.hintcheck.specs.Sessions.{no_glyph}
 use Rattle.hintcheck.proofs.CheckedSections.{counts_decoding, decoding_is_no_font, finds_decoding, slice_there}
 use Rattle.hintcheck.proofs.FontLists.{glyph_there}

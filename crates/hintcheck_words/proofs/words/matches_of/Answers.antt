@@ -1,12 +1,9 @@
-use Rattle.std.proofs.Common.{rules, ◌∙◌}
-use Rattle.clap.specs.Words.{subcommand_rows_of}
-use Rattle.hintcheck_words.specs.Requests.{IsOutOfMemory}
-use Rattle.clap.specs.Words.{App}
+use Rattle.std.proofs.Common.{rules, ◌∙◌, ap, sym, subst}
+use Rattle.clap.specs.Words.{subcommand_rows_of, App}
+use Rattle.hintcheck_words.specs.Requests.{IsOutOfMemory, MeetsSubcommand, faults_in}
 use Rattle.clap.proofs.CallerLemmas.{subcommand_required}
 use Rattle.clap.proofs.SimpleLemmas.{plain_fields}
-use Rattle.std.proofs.Common.{ap, sym, subst}
 use Rattle.hintcheck_words.specs.CommandLine.{hintcheck}
-use Rattle.hintcheck_words.specs.Requests.{MeetsSubcommand, faults_in}
 use Rattle.hintcheck_words.proofs.Line.{fault_is, kind_among, meets_one}
 use Rattle.hintcheck_words.proofs.Meanings.{met_is, rows_met, takes_is}
 use Rattle.hintcheck_words.proofs.words.matches_of.Goals as goal

@@ -1,7 +1,7 @@
 use Rattle.std.proofs.Common.{◌≡◌, ◌++◌, ◌+◌, ◌≤◌, drop, length, map, pos}
 use Rattle.smallvec.specs.SmallVec.{small_vec_len}
 use Rattle.tt_abs.specs.declared.cells.Cell.TheVariants.{Known}
-use Rattle.tt_abs.specs.Codes.{cells_of}
+use Rattle.tt_abs.specs.Representation.Codes.{cells_of}
 use Rattle.tt_abs.proofs.cell_codes.append_bytes.Given as goal
 
 abbrev pub invariant-loop-byte : goal.invariant-loop-byte

@@ -1,5 +1,5 @@
 use Rattle.std.proofs.Common.{◌≡◌, ◌++◌, drop, length, vec_len, vec_capacity, ◌+◌, ◌≤◌}
-use Rattle.tt_abs.specs.Codes.{cells_of}
+use Rattle.tt_abs.specs.Representation.Codes.{cells_of}
 use Rattle.tt_abs.proofs.cell_codes.append_cells.Given as goal
 
 abbrev pub invariant-loop-code : goal.invariant-loop-code

@@ -1,7 +1,7 @@
 use Rattle.std.proofs.Common.{◌≡◌, ◌++◌, ◌+◌, ◌<◌, ◌≤◌, ℕ, length, take}
 use Rattle.smallvec.specs.SmallVec.{small_vec_len}
 use Rattle.tt_abs.specs.CellOrders.{CellInRange}
-use Rattle.tt_abs.specs.Codes.{cells_of}
+use Rattle.tt_abs.specs.Representation.Codes.{cells_of}
 use Rattle.tt_abs.specs.Stacks.{cell_at}
 use Rattle.tt_abs.proofs.cell_codes.append_codes.Given as goal
 

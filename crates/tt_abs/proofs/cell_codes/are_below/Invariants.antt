@@ -1,7 +1,7 @@
 use Rattle.std.proofs.Common.{◌≡◌, ℕ, length, ◌<◌, ◌↔◌, get_or}
 use Rattle.std.specs.Prelude.{IsTrue}
 use Rattle.tt_abs.specs.CellOrders.{CellBelow}
-use Rattle.tt_abs.specs.Codes.{cell_of_code}
+use Rattle.tt_abs.specs.Representation.Codes.{cell_of_code}
 use Rattle.tt_abs.proofs.cell_codes.are_below.Given as goal
 
 abbrev pub invariant-loop-i : goal.invariant-loop-i

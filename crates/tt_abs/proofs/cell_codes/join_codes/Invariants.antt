@@ -1,5 +1,5 @@
 use Rattle.std.proofs.Common.{◌≡◌, ℕ, length, ◌<◌, ◌≤◌, get_or}
-use Rattle.tt_abs.specs.Codes.{cell_of_code}
+use Rattle.tt_abs.specs.Representation.Codes.{cell_of_code}
 use Rattle.tt_abs.specs.Stacks.{IsLeastCell}
 use Rattle.tt_abs.proofs.cell_codes.join_codes.Given as goal
 

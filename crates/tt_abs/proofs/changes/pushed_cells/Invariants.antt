@@ -1,6 +1,6 @@
 use Rattle.std.proofs.Common.{◌≡◌, ◌++◌, drop, take}
 use Rattle.tt_abs.specs.Entries.{storage_of}
-use Rattle.tt_abs.specs.Stored.{AreIndexedPushes}
+use Rattle.tt_abs.specs.Representation.Stored.{AreIndexedPushes}
 use Rattle.tt_abs.specs.Transfers.{cells_pushed}
 use Rattle.tt_abs.proofs.changes.pushed_cells.Given as goal
 

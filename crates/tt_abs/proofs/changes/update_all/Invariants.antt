@@ -1,7 +1,7 @@
 use Rattle.std.proofs.Common.{◌≡◌, drop, take}
 use Rattle.tt_code.specs.Changes.{all_updated}
 use Rattle.tt_abs.specs.States.{abstract_of}
-use Rattle.tt_abs.specs.Stored.{AreIndexed}
+use Rattle.tt_abs.specs.Representation.Stored.{AreIndexed}
 use Rattle.tt_abs.specs.Transfers.{cells}
 use Rattle.tt_abs.proofs.changes.update_all.Given as goal
 

@@ -1,5 +1,5 @@
 use Rattle.std.proofs.Common.{sym, ◌∙◌}
-use Rattle.tt_abs.specs.Computes.{one_result, two_results}
+use Rattle.tt_abs.specs.Representation.Computes.{one_result, two_results}
 use Rattle.tt_abs.specs.Transfers.{computed_cells, of_one_cell, of_two_cells}
 use Rattle.tt_abs.proofs.StackSteps.{restacks_same, refuses_same, computed_of_one, computed_of_two}
 use Rattle.tt_abs.proofs.compute.compute.Goals as goal

@@ -3,7 +3,7 @@ use Rattle.tt_code.specs.Table.{Plain, Stack, Computes, Pushes, effect_of}
 use Rattle.tt_code.specs.Entries.{view}
 use Rattle.tt_abs.specs.Settings.{frames_of, setting_of}
 use Rattle.tt_abs.specs.States.{abstract_of}
-use Rattle.tt_abs.specs.Steps.{line_of}
+use Rattle.tt_abs.specs.Representation.Steps.{line_of}
 use Rattle.tt_abs.specs.Transfers.{pushed_cells, plain_cells, shuffled_cells, computed_cells}
 use Rattle.tt_abs.proofs.TableRows.{rows_of_one_kind, rows_tested}
 use Rattle.tt_abs.proofs.StepLemmas.{push_done, acts, acts_not, first_code, for_reason, passed_on}

@@ -35,4 +35,4 @@ returns-clause-ok c =
 pub returns-clause-in_range : goal.returns-clause-in_range
 returns-clause-in_range c = λ h.
     left_in_range (setting_of c.args.setting.now) (frames_of c.args.point.now) c.args.point.now.offset c.args.state.now c.dispatch.new.state c.in_ok-moves.moves c.range_facts.ensures.range h (returns-clause-ok c)
-    c.rises.ensures.functions c.rises.ensures.storage
+    c.order_facts.ensures.functions c.order_facts.ensures.storage

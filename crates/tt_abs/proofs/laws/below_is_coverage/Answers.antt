@@ -1,4 +1,4 @@
-use Rattle.tt_abs.specs.EntryCoverage.{functions_below_is_coverage, storage_below_is_coverage}
+use Rattle.tt_abs.specs.Representation.EntryCoverage.{functions_below_is_coverage, storage_below_is_coverage}
 use Rattle.tt_abs.proofs.CoverageLemmas.{CellBelow-coverage, ZoneBelow-coverage, StackBelow-coverage}
 use Rattle.tt_abs.proofs.StateCoverage.{state_covers, state_from_coverage}
 use Rattle.tt_abs.proofs.laws.below_is_coverage.Goals as goal

@@ -1,7 +1,7 @@
 use Rattle.std.proofs.Common.{drop}
 use Rattle.tt_abs.specs.Transfers.{take_cells}
 use Rattle.tt_abs.specs.Settings.{setting_of}
-use Rattle.tt_abs.specs.Taken.{GoesOn}
+use Rattle.tt_abs.specs.Representation.Taken.{GoesOn}
 use Rattle.tt_abs.proofs.operands.take_operands.Given as goal
 
 abbrev pub invariant-loop-operand : goal.invariant-loop-operand

@@ -6,7 +6,7 @@ use Rattle.tt_code.specs.Changes.{all_updated}
 use Rattle.tt_abs.specs.Transfers.{cells, cells_on, cells_pushed}
 use Rattle.tt_abs.specs.Settings.{setting_of}
 use Rattle.tt_abs.specs.States.{abstract_of}
-use Rattle.tt_abs.specs.Steps.{line_of}
+use Rattle.tt_abs.specs.Representation.Steps.{line_of}
 use Rattle.tt_abs.proofs.PlainSteps.{updates_counted, pushes_counted, plain_done, plain_kept, changes_none}
 use Rattle.tt_abs.proofs.plain.execute_plain.Goals as goal
 

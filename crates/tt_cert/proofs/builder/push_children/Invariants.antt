@@ -1,6 +1,6 @@
 use Rattle.std.proofs.Common.{◌≡◌, ◌++◌}
 use Rattle.std.specs.Map.{values_of}
-use Rattle.tt_cert.specs.FileOrder.{children}
+use Rattle.tt_cert.specs.Representation.FileOrder.{children}
 use Rattle.tt_cert.proofs.builder.push_children.Given as goal
 
 abbrev pub invariant-loop-number : goal.invariant-loop-number

@@ -5,17 +5,17 @@ use Rattle.tt_cert.proofs.checker.check.Goals as goal
 
 pub returns-clause-filling : goal.returns-clause-filling
 returns-clause-filling c =
-    ok_map c.check_listed.result _ _ (λ x. filling_here (setting_of c.args.setting.now) c.args.setting.now.start.now c.args.certificate.now c.is_in_order.ensures.0)
+    ok_map c.check_listed.result _ _ (λ x. filling_here (setting_of c.args.setting.now) c.args.setting.now.start.now c.args.certificate.now c.order_facts.ensures.0)
     c.check_listed.ensures.sound
 
 pub returns-clause-safe : goal.returns-clause-safe
 returns-clause-safe c =
     ok_map c.check_listed.result _ _
-    (λ x. safe_filling (setting_of c.args.setting.now) c.args.setting.now.start.now c.args.certificate.now c.is_in_order.ensures.0 c.range_facts.ensures.range c.range_facts.ensures.short c.requires.rises)
+    (λ x. safe_filling (setting_of c.args.setting.now) c.args.setting.now.start.now c.args.certificate.now c.order_facts.ensures.0 c.range_facts.ensures.range c.range_facts.ensures.short c.requires.rises)
     c.check_listed.ensures.sound
 
 pub returns-clause-exact : goal.returns-clause-exact
 returns-clause-exact c = λ good.
     err_map c.check_listed.result _ _
-    (λ fault h. filling_memory (setting_of c.args.setting.now) c.args.setting.now.start.now c.args.certificate.now c.is_in_order.ensures.0 good fault h)
+    (λ fault h. filling_memory (setting_of c.args.setting.now) c.args.setting.now.start.now c.args.certificate.now c.order_facts.ensures.0 good fault h)
     c.check_listed.ensures.first

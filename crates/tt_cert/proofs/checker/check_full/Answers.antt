@@ -5,23 +5,23 @@ use Rattle.tt_cert.proofs.checker.check_full.Goals as goal
 
 pub returns-clause-family : goal.returns-clause-family
 returns-clause-family c =
-    ok_map c.check_listed.result _ _ (λ x. family_here (setting_of c.args.setting.now) c.args.setting.now.start.now c.args.certificate.now c.is_in_order.ensures.0)
+    ok_map c.check_listed.result _ _ (λ x. family_here (setting_of c.args.setting.now) c.args.setting.now.start.now c.args.certificate.now c.order_facts.ensures.0)
     c.check_listed.ensures.sound
 
 pub returns-clause-safe : goal.returns-clause-safe
 returns-clause-safe c =
     ok_map c.check_listed.result _ _
-    (λ x. safe_here (setting_of c.args.setting.now) c.args.setting.now.start.now c.args.certificate.now c.is_in_order.ensures.0 c.range_facts.ensures.range c.range_facts.ensures.short c.requires.rises)
+    (λ x. safe_here (setting_of c.args.setting.now) c.args.setting.now.start.now c.args.certificate.now c.order_facts.ensures.0 c.range_facts.ensures.range c.range_facts.ensures.short c.requires.rises)
     c.check_listed.ensures.sound
 
 pub returns-clause-exact : goal.returns-clause-exact
 returns-clause-exact c = λ good.
     err_map c.check_listed.result _ _
-    (λ fault h. whole_memory (setting_of c.args.setting.now) c.args.setting.now.start.now c.args.certificate.now c.is_in_order.ensures.0 good fault
-    (broken_whole (setting_of c.args.setting.now) c.args.setting.now.start.now c.args.certificate.now c.is_in_order.ensures.0 fault h))
+    (λ fault h. whole_memory (setting_of c.args.setting.now) c.args.setting.now.start.now c.args.certificate.now c.order_facts.ensures.0 good fault
+    (broken_whole (setting_of c.args.setting.now) c.args.setting.now.start.now c.args.certificate.now c.order_facts.ensures.0 fault h))
     c.check_listed.ensures.first
 
 pub returns-clause-first : goal.returns-clause-first
 returns-clause-first c =
-    err_map c.check_listed.result _ _ (broken_whole (setting_of c.args.setting.now) c.args.setting.now.start.now c.args.certificate.now c.is_in_order.ensures.0)
+    err_map c.check_listed.result _ _ (broken_whole (setting_of c.args.setting.now) c.args.setting.now.start.now c.args.certificate.now c.order_facts.ensures.0)
     c.check_listed.ensures.first

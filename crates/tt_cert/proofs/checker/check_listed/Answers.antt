@@ -10,7 +10,7 @@ use Rattle.tt_abs.specs.declared.state.State.{State}
 use Rattle.tt_cert.specs.Checks.{IsFirstBreakOnTheWay, IsGap, NamesAt, too_long, no_end}
 use Rattle.tt_cert.specs.Contents.{Contents, family_of}
 use Rattle.tt_cert.specs.GoodFamilies.{EndsWell}
-use Rattle.tt_cert.specs.Cursors.{MayLeaveOut, to_come}
+use Rattle.tt_cert.specs.Representation.Cursors.{MayLeaveOut, to_come}
 use Rattle.tt_cert.specs.declared.fault.ProgramFault.{ProgramFault}
 use Rattle.tt_cert.specs.declared.listing.Listing.{Listing}
 use Rattle.tt_cert.proofs.Checked.{ok_map, err_map}

@@ -12,9 +12,10 @@ use Rattle.tt_cert.specs.Checks.{saturated_offset}
 use Rattle.tt_cert.specs.Contents.{family_of, frames_at}
 use Rattle.tt_cert.specs.Puts.{place_of}
 use Rattle.tt_cert.specs.Spots.{spot_of}
-use Rattle.tt_cert.specs.Cursors.{IsAfter, MayLeaveOut}
+use Rattle.tt_cert.specs.Representation.Cursors.{MayLeaveOut}
+use Rattle.tt_cert.specs.Fillings.{IsAfter}
 use Rattle.tt_cert.specs.declared.fault.ProgramFault.TheVariants.{Refused}
-use Rattle.tt_cert.specs.declared.meeting.Coverage.TheVariants as met
+use Rattle.tt_cert.specs.declared.meeting.Coverage.TheVariants as coverage
 use Rattle.tt_cert.proofs.Checked.{broken_here, frames_back, outcome_moved, passed_at_end, passed_here, refusal_moved, refused_here, stores_here}
 use Rattle.tt_cert.proofs.StoredCells.{stored_above, stored_within}
 use Rattle.tt_cert.proofs.Turns.{turn_left}
@@ -112,7 +113,7 @@ returns-in-Ok-Next-clause-passed c =
     (c.in-Ok.ensures.in_range c.requires.in_range) running
     (outcome_moved S fs _ c.args.offset _ c.args.walk.now.made _ back refl refl c.in-Ok.step.moves c.step_at.new.state c.in-Ok.ensures.ok)
     c.left_out_after-after.result (subst A back c.left_out_after-after.ensures)
-    c.args.walk.now.next c.in-Ok-Next.field-0 _ (λ _. refl) (λ e. let no_such : met.Next ≡ met.Added = sym c.in-Ok-Next.field-0-is ∙ e in absurd (cc)) c.in-Ok-Next.ensures.met
+    c.args.walk.now.next c.in-Ok-Next.field-0 _ (λ _. refl) (λ e. let no_such : coverage.Next ≡ coverage.Added = sym c.in-Ok-Next.field-0-is ∙ e in absurd (cc)) c.in-Ok-Next.ensures.met
 
 pub returns-in-Ok-Listed-clause-passed : goal.returns-in-Ok-Listed-clause-passed
 returns-in-Ok-Listed-clause-passed c =
@@ -128,7 +129,7 @@ returns-in-Ok-Listed-clause-passed c =
     (c.in-Ok.ensures.in_range c.requires.in_range) running
     (outcome_moved S fs _ c.args.offset _ c.args.walk.now.made _ back refl refl c.in-Ok.step.moves c.step_at.new.state c.in-Ok.ensures.ok)
     c.left_out_after-after.result (subst A back c.left_out_after-after.ensures)
-    c.args.walk.now.next c.in-Ok-Listed.field-0 _ (λ _. refl) (λ e. let no_such : met.Listed ≡ met.Added = sym c.in-Ok-Listed.field-0-is ∙ e in absurd (cc)) c.in-Ok-Listed.ensures.met
+    c.args.walk.now.next c.in-Ok-Listed.field-0 _ (λ _. refl) (λ e. let no_such : coverage.Listed ≡ coverage.Added = sym c.in-Ok-Listed.field-0-is ∙ e in absurd (cc)) c.in-Ok-Listed.ensures.met
 
 pub returns-in-Ok-Added-clause-passed : goal.returns-in-Ok-Added-clause-passed
 returns-in-Ok-Added-clause-passed c =

@@ -3,7 +3,7 @@ use Rattle.std.specs.Borrow.{Bor}
 use Rattle.tt_abs.specs.Settings.{setting_of}
 use Rattle.tt_abs.specs.declared.state.State.{State}
 use Rattle.tt_cert.specs.Puts.{place_of}
-use Rattle.tt_cert.specs.Cursors.{AreToCome, IsAtNext, MayLeaveOut, to_come}
+use Rattle.tt_cert.specs.Representation.Cursors.{AreToCome, IsAtNext, MayLeaveOut, to_come}
 use Rattle.tt_cert.proofs.FillingLaws.{filled_in_range}
 use Rattle.tt_cert.proofs.Walking.{first_on_way, line_of, nothing_walked, on_way, told_at, unlisted_after, way_shorter}
 use Rattle.tt_cert.proofs.checker.check_points.Goals as goal
@@ -12,7 +12,7 @@ pub loop-offset-init : goal.loop-offset-init
 loop-offset-init c = record {
   walk = c.requires.walk;
   to_come = c.requires.to_come;
-  way = nothing_walked (setting_of c.args.setting.now) c.args.listing c.args.certificate.now c.is_in_order.ensures.0 c.args.walk.now c.args.states c.requires.all c.requires.carried;
+  way = nothing_walked (setting_of c.args.setting.now) c.args.listing c.args.certificate.now c.order_facts.ensures.0 c.args.walk.now c.args.states c.requires.all c.requires.carried;
 }
 
 pub go_on-requires-clause-walk : goal.go_on-requires-clause-walk
@@ -33,7 +33,7 @@ check_point-requires-clause-in_range c =
     let S = setting_of c.args.setting.now in
     let v = c.args.certificate.now in
     let point = subst (IsAtNext S c.args.listing v c.go_on.new.self c.go_on.new.states) c.in-Some.is (c.in_ok-offset.ensures.point S c.args.listing c.loop-offset.invariant.way) in
-    filled_in_range S (MayLeaveOut c.args.listing S) (line_of S c.args.listing) v point.filled _ c.is_in_order.ensures.0 point.walked.filled_by
+    filled_in_range S (MayLeaveOut c.args.listing S) (line_of S c.args.listing) v point.filled _ c.order_facts.ensures.0 point.walked.filled_by
     (place_of v c.go_on.new.self.context c.in-Some.offset) c.go_on.new.self.made point.here
 
 pub check_point-requires-clause-unlisted : goal.check_point-requires-clause-unlisted
@@ -48,7 +48,7 @@ returns-in-Err-clause-broken c =
     let S = setting_of c.args.setting.now in
     let v = c.args.certificate.now in
     let point = subst (IsAtNext S c.args.listing v c.go_on.new.self c.go_on.new.states) c.in-Some.is (c.in_ok-offset.ensures.point S c.args.listing c.loop-offset.invariant.way) in
-    first_on_way S c.args.listing v c.is_in_order.ensures.0 c.go_on.new.self c.go_on.new.states c.in-Some.offset point c.in_ok-offset.ensures.walk.there c.in-Err.fault
+    first_on_way S c.args.listing v c.order_facts.ensures.0 c.go_on.new.self c.go_on.new.states c.in-Some.offset point c.in_ok-offset.ensures.walk.there c.in-Err.fault
     c.in-Err.ensures.broken
 
 pub loop-offset-smaller : goal.loop-offset-smaller
@@ -73,7 +73,7 @@ loop-offset-preserved c =
     record {
       walk = c.in_default-check_point.ensures.walk;
       to_come = subst C (sym c.check_point.ensures.next) c.in_ok-offset.ensures.to_come;
-      way = on_way S c.args.listing v c.is_in_order.ensures.0 c.go_on.new.self c.go_on.new.states c.in-Some.offset point c.in_ok-offset.ensures.walk.there
+      way = on_way S c.args.listing v c.order_facts.ensures.0 c.go_on.new.self c.go_on.new.states c.in-Some.offset point c.in_ok-offset.ensures.walk.there
           c.check_point.new.walk c.check_point.ensures.context c.check_point.ensures.next c.in_default-check_point.ensures.passed;
     }
 

@@ -1,6 +1,6 @@
 use Rattle.std.proofs.Common.{length, ◌+◌, ◌*◌}
 use Rattle.tt_abs.specs.Settings.{setting_of}
-use Rattle.tt_cert.specs.Cursors.{AreToCome, IsOnWay, IsWalk, to_come}
+use Rattle.tt_cert.specs.Representation.Cursors.{AreToCome, IsOnWay, IsWalk, to_come}
 use Rattle.tt_cert.proofs.Walking.{left_from}
 use Rattle.tt_cert.proofs.checker.check_points.Given as goal
 

@@ -3,7 +3,7 @@ use Rattle.tt_cert.specs.Checks.{IsGap, NamesAt}
 use Rattle.tt_cert.specs.Contents.{family_of, frames_at}
 use Rattle.tt_cert.specs.Landings.{place_from}
 use Rattle.tt_cert.specs.Puts.{place_of}
-use Rattle.tt_cert.specs.Cursors.{IsAfter}
+use Rattle.tt_cert.specs.Fillings.{IsAfter}
 use Rattle.tt_cert.proofs.Checked.{elsewhere_gap, elsewhere_met, leads_elsewhere}
 use Rattle.tt_cert.proofs.meeting.check_successor.Goals as goal
 

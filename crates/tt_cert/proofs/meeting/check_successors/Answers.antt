@@ -2,7 +2,7 @@ use Rattle.std.proofs.Common.{◌+◌, sym, subst}
 use Rattle.tt_abs.specs.Moves.{next_by}
 use Rattle.tt_abs.specs.States.{abstract_of}
 use Rattle.tt_cert.specs.Contents.{family_of}
-use Rattle.tt_cert.specs.Cursors.{calls_of, nexts_made}
+use Rattle.tt_cert.specs.Representation.Cursors.{calls_of, nexts_made}
 use Rattle.tt_cert.specs.declared.meeting.Coverage.{Coverage}
 use Rattle.tt_cert.proofs.Checked.{AreMetBelow, gap_next, met_all, met_below, met_first, met_more, next_found, no_next, none_all_below}
 use Rattle.tt_cert.proofs.meeting.check_successors.Goals as goal
@@ -43,7 +43,7 @@ loop-way-preserved c =
     let ns = nexts_made v walk c.args.moves in
     let k = c.loop-way.index in
     let M : Coverage → Type 0 = λ m. AreMetBelow (family_of v) (calls_of v walk) c.args.after walk.next walk.made ns (k + 1) m in
-    subst M (sym c.met_by_both-met.ensures)
+    subst M (sym c.both_coverages-met.ensures)
     (met_more (family_of v) (calls_of v walk) c.args.after walk.next walk.made ns k (next_by (calls_of v walk) a c.in-Some.way)
     (next_found (calls_of v walk) c.args.moves a k c.in-Some.way (sym c.in-Some.ensures)) c.loop-way.met c.in-Ok-check_successor.other c.loop-way.invariant c.in-Ok-check_successor.ensures.met)
 

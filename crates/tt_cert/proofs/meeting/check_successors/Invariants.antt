@@ -1,6 +1,6 @@
 use Rattle.std.proofs.Common.{◌-◌}
 use Rattle.tt_cert.specs.Contents.{family_of}
-use Rattle.tt_cert.specs.Cursors.{calls_of, nexts_made}
+use Rattle.tt_cert.specs.Representation.Cursors.{calls_of, nexts_made}
 use Rattle.tt_cert.proofs.Checked.{AreMetBelow}
 use Rattle.tt_cert.proofs.meeting.check_successors.Given as goal
 

@@ -1,7 +1,7 @@
 use Rattle.std.specs.Prelude.{[], ◌∷◌, ◌++◌}
 use Rattle.std.proofs.Common.{arith, ◌∙◌, ap}
-use Rattle.tt_cert.specs.PlaceRows.{Offsets}
-use Rattle.tt_cert.proofs.PlaceRows.{adds_one}
+use Rattle.tt_cert.specs.Representation.SlotRows.{Offsets}
+use Rattle.tt_cert.proofs.SlotRows.{adds_one}
 use Rattle.tt_cert.proofs.slot_index.add_rows.Goals as goal
 
 pub loop-alloc-preserved : goal.loop-alloc-preserved

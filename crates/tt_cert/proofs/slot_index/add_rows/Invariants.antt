@@ -1,5 +1,5 @@
 use Rattle.std.proofs.Common.{◌≤◌, ◌+◌, ◌-◌, length}
-use Rattle.tt_cert.specs.PlaceRows.{AddsRows}
+use Rattle.tt_cert.specs.Representation.SlotRows.{AddsRows}
 use Rattle.tt_cert.proofs.slot_index.add_rows.Given as goal
 
 abbrev pub invariant-loop-alloc : goal.invariant-loop-alloc

@@ -1,8 +1,8 @@
 use Rattle.std.specs.Prelude.{◌≡◌, ℕ, ◌<◌, [], length, min}
 use Rattle.std.proofs.Common.{arith, ◌∙◌, ap, subst}
 use Rattle.std.proofs.lemmas.List.{length-set, length-take}
-use Rattle.tt_cert.specs.PlaceRows.{row_of}
-use Rattle.tt_cert.proofs.PlaceRows.{empty_behind_kept, empty_behind_set, empty_before_set, all_rows_empty}
+use Rattle.tt_cert.specs.Representation.SlotRows.{row_of}
+use Rattle.tt_cert.proofs.SlotRows.{empty_behind_kept, empty_behind_set, empty_before_set, all_rows_empty}
 use Rattle.tt_cert.proofs.slot_index.clear_rows.Goals as goal
 
 pub loop-context-init : goal.loop-context-init

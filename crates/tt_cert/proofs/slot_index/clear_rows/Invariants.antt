@@ -1,6 +1,6 @@
 use Rattle.std.proofs.Common.{◌≡◌, ℕ, ◌<◌, ◌≤◌, length}
 use Rattle.std.specs.Prelude.{[]}
-use Rattle.tt_cert.specs.PlaceRows.{AreEmptyFrom, row_of}
+use Rattle.tt_cert.specs.Representation.SlotRows.{AreEmptyFrom, row_of}
 use Rattle.tt_cert.proofs.slot_index.clear_rows.Given as goal
 
 abbrev pub invariant-loop-context : goal.invariant-loop-context

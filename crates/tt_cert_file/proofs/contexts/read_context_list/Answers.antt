@@ -1,9 +1,8 @@
-use Rattle.std.proofs.Common.{arith}
+use Rattle.std.proofs.Common.{arith, ap, length, length-append, sym, subst}
 use Rattle.std.proofs.lemmas.Result.{err_from_is_err_and}
 use Rattle.tt_stream.proofs.Beginnings.{consumes_then}
 use Rattle.tt_cert_file.specs.Reading.{context_at}
 use Rattle.tt_cert_file.proofs.Loops.{reads_all, reads_fail, reads_on, reads_stop}
-use Rattle.std.proofs.Common.{ap, length, length-append, sym, subst}
 use Rattle.tt_cert_file.specs.Rules.{AreContexts, HaveParents}
 use Rattle.tt_cert_file.specs.Sections.{Context}
 use Rattle.tt_cert_file.proofs.ContextLists.{AreContexts-push, HaveParents-from}

@@ -1,7 +1,7 @@
 use Rattle.std.proofs.Common.{ℕ, List, Err, arith, refl}
 use Rattle.std.proofs.lemmas.Result.{err_from_is_err_and}
 use Rattle.tt_stream.proofs.Beginnings.{consumes_then}
-use Rattle.tt_cert_file.specs.Blocks.{AreCellsTaken, TakesCells}
+use Rattle.tt_cert_file.specs.Representation.Blocks.{AreCellsTaken, TakesCells}
 use Rattle.tt_cert_file.proofs.Blocks.{at_held}
 use Rattle.tt_cert_file.proofs.Cells.{IsWanted, block_end, block_on, block_refused, block_rest, block_stops, cells_stops, rest_short, rest_stopped}
 use Rattle.tt_cert_file.proofs.lists.fetch_cell_block.Goals as goal

@@ -1,7 +1,7 @@
 use Rattle.std.proofs.Common.{ℕ, List, Err, arith, refl}
 use Rattle.std.proofs.lemmas.Result.{err_from_is_err_and}
 use Rattle.tt_stream.proofs.Beginnings.{consumes_then}
-use Rattle.tt_cert_file.specs.Blocks.{AreTaken, Takes}
+use Rattle.tt_cert_file.specs.Representation.Blocks.{AreTaken, Takes}
 use Rattle.tt_cert_file.proofs.Blocks.{at_held, fill_end, fill_on, fill_refused, fill_stops, takes_stops}
 use Rattle.tt_cert_file.proofs.lists.fetch_function_block.Goals as goal
 

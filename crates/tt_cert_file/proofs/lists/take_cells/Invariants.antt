@@ -1,5 +1,5 @@
 use Rattle.std.proofs.Common.{◌≡◌, ◌-◌, length, drop}
-use Rattle.tt_cert_file.specs.Blocks.{IsTakingCells}
+use Rattle.tt_cert_file.specs.Representation.Blocks.{IsTakingCells}
 use Rattle.tt_cert_file.proofs.lists.take_cells.Given as goal
 
 abbrev pub invariant-cells : goal.invariant-cells

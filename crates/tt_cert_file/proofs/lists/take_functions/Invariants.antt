@@ -1,6 +1,6 @@
 use Rattle.std.proofs.Common.{◌≡◌, ◌-◌, length, drop}
 use Rattle.tt_abs.specs.Entries.{Rises}
-use Rattle.tt_cert_file.specs.Blocks.{IsTaking}
+use Rattle.tt_cert_file.specs.Representation.Blocks.{IsTaking}
 use Rattle.tt_cert_file.proofs.lists.take_functions.Given as goal
 
 abbrev pub invariant-functions : goal.invariant-functions

@@ -1,6 +1,6 @@
 use Rattle.tt_stream.proofs.Beginnings.{consumes_then}
 use Rattle.std.proofs.Common.{[]}
-use Rattle.tt_cert_file.specs.Blocks.{cells_at}
+use Rattle.tt_cert_file.specs.Representation.Blocks.{cells_at}
 use Rattle.tt_cert_file.specs.Reading.{stack_at, word_at}
 use Rattle.tt_cert_file.proofs.Stops.{stops_last}
 use Rattle.tt_cert_file.proofs.SteadyUnits.{word_steady}

@@ -1,4 +1,4 @@
-use Rattle.std.proofs.Common.{length, sym, ap, subst, ◌∙◌}
+use Rattle.std.proofs.Common.{length, refl, sym, ap, subst, ◌∙◌}
 use Rattle.std.specs.Prelude.{option_map}
 use Rattle.std.proofs.lemmas.Result.{err_from_is_err_and}
 use Rattle.tt_stream.proofs.Beginnings.{consumes_then}
@@ -7,14 +7,23 @@ use Rattle.tt_cert_file.specs.Readers.{Answer, Input}
 use Rattle.tt_cert_file.specs.Reading.{entry_at}
 use Rattle.tt_cert_file.specs.Rules.{last_place}
 use Rattle.tt_cert_file.specs.Sections.{Entry}
-use Rattle.tt_cert_file.proofs.Loops.{reads_all, reads_fail, reads_on, reads_stop}
+use Rattle.tt_cert_file.proofs.Loops.{reads_all, reads_fail, reads_none, reads_on, reads_stop}
 use Rattle.tt_cert_file.proofs.Rises.{last_pushed}
 use Rattle.tt_cert_file.proofs.SteadyUnits.{entry_same, entry_steady}
 use Rattle.tt_cert_file.proofs.states.read_state_list.Goals as goal
 
+pub states-init : goal.states-init
+states-init g c = (
+  reads_none (entry_at c.args.form (length c.args.builder.contexts)) (g.S.Source.remaining c.args.source.now) c.args.place c.args.builder.states c.args.count
+      (g.S.Source.failures c.args.source.now) c.requires,
+  refl,
+  sym (ap last_place c.requires),
+  c.in_ok-last_state.ensures,
+)
+
 pub returns-in_err-point-clause-reads : goal.returns-in_err-point-clause-reads
 returns-in_err-point-clause-reads g c =
-    let p = err_from_is_err_and c.from_residual.result c.from_residual.ensures.1 in
+    let p = err_from_is_err_and c.from_residual-in_err-point.result c.from_residual-in_err-point.ensures.1 in
     let same = ap (λ (read : Input → Answer Entry). read (input_at c.states.at (g.S.Source.remaining c.states.source))) (entry_same c.args.form c.contexts-contexts.result (length c.args.builder.contexts) c.states.last c.states.builder.states c.contexts-contexts.ensures.value c.states.invariant.2) in
     rw (p.1, p.2) (λ known. reads_fail (entry_at c.args.form (length c.args.builder.contexts)) _ _ _ c.states.builder.states c.args.count c.states.counter c.states.at _ _
     c.in_err-point.field-0.0 c.states.invariant.0 c.states-test.true (λ k. subst (Fails c.in_err-point.field-0.0) same (c.in_err-point.ensures.reads k)) known)
@@ -28,7 +37,7 @@ returns-in_err-add_state-clause-beginning g c = consumes_then _ _ _ c.states.inv
 pub states-preserved : goal.states-preserved
 states-preserved g c =
     let same = ap (λ (read : Input → Answer Entry). read (input_at c.states.at (g.S.Source.remaining c.states.source))) (entry_same c.args.form c.contexts-contexts.result (length c.args.builder.contexts) c.states.last c.states.builder.states c.contexts-contexts.ensures.value c.states.invariant.2) in
-    let entry : Entry = (c.in_ok-point.point, c.in_ok-point.state) in (
+    let entry : Entry = (c.in_ok-point.point, c.in_ok-point.read.state) in (
       reads_on (entry_at c.args.form (length c.args.builder.contexts)) _ _ _ _ c.states.builder.states _ c.args.count c.states.counter c.states.at c.in_ok-point.after _ _ _ entry
           (entry_steady c.args.form (length c.args.builder.contexts) c.states.builder.states)
           c.states.invariant.0 c.states-test.true (λ k. let r = c.in_ok-point.ensures.reads k in (r.0, sym same ∙ r.1)) c.read_entry.ensures.beginning c.in_ok-point.ensures.failures
@@ -44,7 +53,7 @@ returns-clause-reads g c =
 
 pub returns-in_err-point-clause-stopped : goal.returns-in_err-point-clause-stopped
 returns-in_err-point-clause-stopped g c =
-    let p = err_from_is_err_and c.from_residual.result c.from_residual.ensures.1 in
+    let p = err_from_is_err_and c.from_residual-in_err-point.result c.from_residual-in_err-point.ensures.1 in
     let one = entry_at c.args.form (length c.args.builder.contexts) in
     let e = c.in_err-point.field-0.0 in
     let same = entry_same c.args.form c.contexts-contexts.result (length c.args.builder.contexts) c.states.last c.states.builder.states c.contexts-contexts.ensures.value c.states.invariant.2 in

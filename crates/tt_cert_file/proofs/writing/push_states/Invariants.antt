@@ -2,7 +2,7 @@ use Rattle.std.proofs.Common.{◌≡◌, ◌++◌, List, length, reverse}
 use Rattle.std.specs.Prelude.{IfSome}
 use Rattle.std.specs.List.{AllByRecursion}
 use Rattle.tt_cert_file.specs.declared.form.Form.TheVariants.{Four}
-use Rattle.tt_cert_file.specs.KeptTexts.{IsStackText}
+use Rattle.tt_cert_file.specs.Representation.KeptTexts.{IsStackText}
 use Rattle.tt_cert_file.specs.Rules.{HasRoom, IsTextOf}
 use Rattle.tt_cert_file.specs.Sections.{Entry}
 use Rattle.tt_cert_file.specs.Text.{long, state_text}

@@ -1,6 +1,6 @@
 use Rattle.std.proofs.Common.{List, length}
 use Rattle.tt_code.specs.Cut.{Instruction, BeginsWith}
-use Rattle.tt_code.specs.Slots.{IsReading}
+use Rattle.tt_code.specs.Representation.Slots.{IsReading}
 use Rattle.tt_code.proofs.program.read_all.Given as goal
 
 abbrev pub invariant-loop-rest : goal.invariant-loop-rest

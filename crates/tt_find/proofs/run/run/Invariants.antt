@@ -1,6 +1,6 @@
 use Rattle.std.proofs.Common.{◌≡◌, ◌-◌}
 use Rattle.tt_abs.specs.Settings.{setting_of}
-use Rattle.tt_find.specs.Tables.{HasRisen, IsOnWay, IsWalk, here_of}
+use Rattle.tt_find.specs.Representation.Solvers.{HasRisen, IsOnWay, IsWalk, here_of}
 use Rattle.tt_find.proofs.run.run.Given as goal
 
 abbrev pub invariant-loop-next : goal.invariant-loop-next

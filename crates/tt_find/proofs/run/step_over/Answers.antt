@@ -4,7 +4,7 @@ use Rattle.tt_cert.specs.Contents.{family_of}
 use Rattle.tt_cert.specs.Puts.{place_of}
 use Rattle.tt_cert.specs.declared.spot.Spot.{Spot}
 use Rattle.tt_find.specs.Found.{IsJustified}
-use Rattle.tt_find.specs.Tables.{IsApart, IsPassed}
+use Rattle.tt_find.specs.Representation.Solvers.{IsApart, IsPassed}
 use Rattle.tt_find.specs.declared.origin.Origin.TheVariants.{JustBefore}
 use Rattle.tt_find.proofs.Leads.{comes_before, ranged_to, whole_put}
 use Rattle.tt_find.proofs.Steps.{apart_left, leading_passed, stop_map}

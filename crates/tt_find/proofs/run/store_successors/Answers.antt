@@ -8,7 +8,7 @@ use Rattle.tt_cert.specs.Puts.{place_of}
 use Rattle.tt_cert.specs.Spots.{spot_of}
 use Rattle.tt_cert.specs.declared.fault.ProgramFault.TheVariants.{Refused}
 use Rattle.tt_find.specs.Found.{IsJustified}
-use Rattle.tt_find.specs.Tables.{HasRisen, IsApart, IsLeadingOn, IsLeadingTo, TellsSource, calls_of, here_of, place_over, places_from}
+use Rattle.tt_find.specs.Representation.Solvers.{HasRisen, IsApart, IsLeadingOn, IsLeadingTo, TellsSource, calls_of, here_of, place_over, places_from}
 use Rattle.tt_find.specs.declared.solver.Solver.{Solver}
 use Rattle.tt_find.specs.declared.walk.Walk.{Walk}
 use Rattle.tt_find.proofs.Leads.{countable_on, held, just_over, last_over, none_over, not_entered, put, ranged_to, reached_from, too_many_on}

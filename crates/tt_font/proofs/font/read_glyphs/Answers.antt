@@ -3,8 +3,9 @@ use Rattle.std.proofs.lemmas.Result.{IfOk-weaker}
 use denote.Bor.{Bor}
 use Rattle.tt_font.specs.declared.outline_size.OutlineSize.{OutlineSize}
 use Rattle.tt_font.specs.declared.fault.FontFault.TheVariants as faults
-use Rattle.tt_font.specs.OutlineSizes.{size_at}
-use Rattle.tt_font.specs.GlyphParts.{glyph_data, bytes_of, PartsAre}
+use Rattle.tt_font.specs.Representation.OutlineSizes.{size_at}
+use Rattle.tt_font.specs.Representation.GlyphParts.{bytes_of, PartsAre}
+use Rattle.tt_font.specs.Reading.{glyph_data}
 use Rattle.tt_font.proofs.ReadGlyphs.{no_fault, points_are_few, contours_are_few, glyphs_are_read}
 use Rattle.tt_font.proofs.font.read_glyphs.Goals as goal
 

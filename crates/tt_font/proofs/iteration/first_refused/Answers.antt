@@ -1,5 +1,5 @@
 use Rattle.std.proofs.Common.{◌∙◌, sym, ap}
-use Rattle.tt_font.specs.OutlineSizes.{size_at, size_refuses}
+use Rattle.tt_font.specs.Representation.OutlineSizes.{size_at, size_refuses}
 use Rattle.tt_font.proofs.FirstBelow.{none_yet, none_more, first_is}
 use Rattle.tt_font.proofs.iteration.first_refused.Goals as goal
 

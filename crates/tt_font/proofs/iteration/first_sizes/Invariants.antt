@@ -1,6 +1,6 @@
-use Rattle.tt_font.specs.GlyphTables.{glyphs_of, outlines_in}
-use Rattle.tt_font.specs.OutlineSizes.{SizesAre}
-use Rattle.tt_font.specs.CompositeLists.{AreComposites}
+use Rattle.tt_font.specs.Representation.GlyphTables.{glyphs_of, outlines_in}
+use Rattle.tt_font.specs.Representation.OutlineSizes.{SizesAre}
+use Rattle.tt_font.specs.Representation.CompositeLists.{AreComposites}
 use Rattle.tt_font.proofs.iteration.first_sizes.Given as goal
 
 abbrev pub invariant-loop-id : goal.invariant-loop-id

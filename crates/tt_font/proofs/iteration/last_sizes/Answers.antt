@@ -2,11 +2,11 @@ use Rattle.std.proofs.Common.{◌≡◌, ◌+◌, ◌-◌, ◌*◌, ◌≤◌, �
 use Rattle.std.proofs.Math.Nat.{mul-le-mul_right}
 use Rattle.tt_font.specs.declared.outline_size.OutlineSize.{OutlineSize}
 use Rattle.tt_font.specs.Glyphs.{component_total}
-use Rattle.tt_font.specs.OutlineSizes.{size_at, SizesAfter, NextSizes}
-use Rattle.tt_font.specs.GlyphTables.{glyphs_of, outlines_in}
+use Rattle.tt_font.specs.Representation.OutlineSizes.{size_at, SizesAfter, NextSizes}
+use Rattle.tt_font.specs.Representation.GlyphTables.{glyphs_of, outlines_in}
 use Rattle.tt_font.proofs.CountLemmas.{outline_past}
 use Rattle.tt_font.proofs.SizeLemmas.{points_capped, contours_capped, next_iteration, stays_so}
-use Rattle.tt_font.specs.CompositeLists.{AgreeOnSimple}
+use Rattle.tt_font.specs.Representation.CompositeLists.{AgreeOnSimple}
 use Rattle.tt_font.proofs.CompositeLemmas.{nothing_changes, sizes_written, agrees_with_itself, agrees_with_next}
 use Rattle.tt_font.proofs.iteration.last_sizes.Goals as goal
 

@@ -1,8 +1,8 @@
 use Rattle.std.proofs.Common.{◌≡◌, ◌+◌, ◌*◌}
 use Rattle.tt_font.specs.Glyphs.{component_total}
-use Rattle.tt_font.specs.CompositeLists.{AgreeOnSimple}
-use Rattle.tt_font.specs.GlyphTables.{glyphs_of}
-use Rattle.tt_font.specs.OutlineSizes.{SizesAfter}
+use Rattle.tt_font.specs.Representation.CompositeLists.{AgreeOnSimple}
+use Rattle.tt_font.specs.Representation.GlyphTables.{glyphs_of}
+use Rattle.tt_font.specs.Representation.OutlineSizes.{SizesAfter}
 use Rattle.tt_font.proofs.iteration.last_sizes.Given as goal
 
 abbrev pub invariant-loop : goal.invariant-loop

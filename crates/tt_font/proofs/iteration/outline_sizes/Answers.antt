@@ -3,8 +3,8 @@ use Rattle.std.specs.Option.{option_map}
 use Rattle.tt_font.specs.declared.fault.FontFault.TheVariants as faults
 use Rattle.tt_font.specs.Numbers.{first_below}
 use Rattle.tt_font.specs.Conditions.{refused_glyph}
-use Rattle.tt_font.specs.OutlineSizes.{size_at, size_refuses}
-use Rattle.tt_font.specs.GlyphTables.{outlines_in}
+use Rattle.tt_font.specs.Representation.OutlineSizes.{size_at, size_refuses}
+use Rattle.tt_font.specs.Representation.GlyphTables.{outlines_in}
 use Rattle.tt_font.proofs.SizeLemmas.{first_refused_is, sums_are_exact}
 use Rattle.tt_font.proofs.iteration.outline_sizes.Goals as goal
 

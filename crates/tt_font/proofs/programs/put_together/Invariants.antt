@@ -1,5 +1,6 @@
 use Rattle.std.proofs.Common.{map}
-use Rattle.tt_font.specs.GlyphParts.{glyph_data, bytes_of, PartsAre}
+use Rattle.tt_font.specs.Representation.GlyphParts.{bytes_of, PartsAre}
+use Rattle.tt_font.specs.Reading.{glyph_data}
 use Rattle.tt_font.proofs.programs.put_together.Given as goal
 
 abbrev pub invariant-loop-id : goal.invariant-loop-id

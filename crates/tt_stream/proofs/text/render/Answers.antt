@@ -1,6 +1,6 @@
 use Rattle.std.proofs.Common.{◌∙◌, ap}
 use Rattle.tt_stream.specs.declared.text.TheConstants.{ROOM}
-use Rattle.tt_stream.specs.Windows.{Part}
+use Rattle.tt_stream.specs.Representation.Windows.{Part}
 use Rattle.tt_stream.proofs.Windows.{shown}
 use Rattle.tt_stream.proofs.text.render.Goals as goal
 

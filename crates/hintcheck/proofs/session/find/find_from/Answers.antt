@@ -1,5 +1,5 @@
 use Rattle.std.proofs.Common.{sym, subst}
-use Rattle.hintcheck.specs.SessionStages.{KeepsKnown, stage_of}
+use Rattle.hintcheck.specs.Representation.SessionStages.{KeepsKnown, stage_of}
 use Rattle.hintcheck.specs.declared.session.Kept.{Kept}
 use Rattle.hintcheck.proofs.FindingSteps.{stays_known}
 use Rattle.hintcheck.proofs.session.find.find_from.Goals as goal

@@ -2,8 +2,7 @@ use Rattle.std.specs.Option.{option_map}
 use Rattle.std.proofs.Common.{ℕ, List, sym, subst, ◌∙◌, ap}
 use Rattle.tt_abs.specs.StateFlow.{FunctionsFit}
 use Rattle.tt_code.specs.Fonts.{Font, font_setting}
-use Rattle.tt_font.specs.GlyphParts.{glyph_data}
-use Rattle.tt_font.specs.Reading.{GlyphData}
+use Rattle.tt_font.specs.Reading.{glyph_data, GlyphData}
 use Rattle.hintcheck.specs.FontPrograms.{font_of}
 use Rattle.hintcheck.proofs.FindingSteps.{third_found, third_refused}
 use Rattle.hintcheck.proofs.FontLists.{glyph_there}

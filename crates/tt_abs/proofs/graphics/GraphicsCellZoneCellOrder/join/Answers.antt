@@ -1,5 +1,5 @@
 use Rattle.tt_abs.specs.GraphicsOrders.{graphics_laws}
-use Rattle.tt_abs.specs.JoinLaws.{unchanged_by_below}
+use Rattle.tt_abs.specs.Representation.JoinLaws.{unchanged_by_below}
 use Rattle.tt_abs.proofs.graphics.GraphicsCellZoneCellOrder.join.Goals as goal
 
 pub returns-clause-unchanged : goal.returns-clause-unchanged

@@ -1,5 +1,5 @@
 use Rattle.std.proofs.Common.{◌∙◌, ap}
-use Rattle.tt_abs.specs.Codes.{kept_cells}
+use Rattle.tt_abs.specs.Representation.Codes.{kept_cells}
 use Rattle.tt_abs.proofs.CodedCells.{upright}
 use Rattle.tt_abs.proofs.stack.Stack.cells.Goals as goal
 

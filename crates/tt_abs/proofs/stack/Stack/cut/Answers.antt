@@ -1,6 +1,6 @@
 use Rattle.std.proofs.Common.{◌-◌, ap, arith, ◌∙◌, ◌≡◌, ◌≤◌, length, sym, take, take_all}
 use Rattle.std.specs.Prelude.{reverse}
-use Rattle.tt_abs.specs.Codes.{kept_cells}
+use Rattle.tt_abs.specs.Representation.Codes.{kept_cells}
 use Rattle.tt_abs.proofs.CodedCells.{cut_kept}
 use Rattle.tt_abs.proofs.stack.Stack.cut.Goals as goal
 

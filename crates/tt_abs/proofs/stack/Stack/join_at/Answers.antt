@@ -1,7 +1,7 @@
 use Rattle.std.proofs.Common.{◌≡◌, ◌-◌, ap, ◌∙◌, sym, subst, arith, ℕ, List, length, get_or}
 use Rattle.std.specs.Prelude.{reverse}
 use Rattle.std.proofs.lemmas.List.{length-reverse}
-use Rattle.tt_abs.specs.Codes.{cell_of_code, kept_cells}
+use Rattle.tt_abs.specs.Representation.Codes.{cell_of_code, kept_cells}
 use Rattle.tt_abs.specs.Stacks.{cell_at, IsLeastCell}
 use Rattle.tt_abs.proofs.CodedCells.{kept_length, written_back, written_joined, written_other}
 use Rattle.tt_abs.proofs.stack.Stack.join_at.Goals as goal

@@ -1,7 +1,7 @@
 use Rattle.std.proofs.Common.{◌≡◌, ap, arith, ◌∙◌, length, sym}
 use Rattle.std.specs.Prelude.{reverse}
 use Rattle.std.proofs.lemmas.Bool.{eqb-true}
-use Rattle.tt_abs.specs.Codes.{cells_of}
+use Rattle.tt_abs.specs.Representation.Codes.{cells_of}
 use Rattle.tt_abs.proofs.CodedCells.{coded_alone}
 use Rattle.tt_abs.proofs.StackOrders.{below_kept, kept_below}
 use Rattle.tt_abs.proofs.stack.Stack.partners_below.Goals as goal

@@ -1,6 +1,6 @@
 use Rattle.std.proofs.Common.{◌∙◌, ◌++◌, ap, map, pos}
 use Rattle.tt_abs.specs.declared.cells.Cell.TheVariants.{Known}
-use Rattle.tt_abs.specs.Codes.{cells_of}
+use Rattle.tt_abs.specs.Representation.Codes.{cells_of}
 use Rattle.tt_abs.proofs.CodedCells.{pushed_codes}
 use Rattle.tt_abs.proofs.stack.Stack.push_bytes.Goals as goal
 

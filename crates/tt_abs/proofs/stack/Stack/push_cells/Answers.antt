@@ -17,7 +17,7 @@ pub loop-i-preserved : goal.loop-i-preserved
 loop-i-preserved c =
     let rest : List Cell = take (length c.args.cells.now - c.in_ok-coded.coded) (drop c.in_ok-coded.coded c.args.cells.now) in
     let cell : Cell = get_or rest c.loop-i.i (Known (pos 0)) in
-    let fits : CellInRange cell = c.is_in_range.ensures in
+    let fits : CellInRange cell = c.number_facts.ensures in
     record {
       pushed = one_on rest c.loop-i.i (Known (pos 0)) c.loop-i.self c.push.new.self c.loop-i-test.true c.in_ok-push.ensures.ok ∙ c.loop-i.invariant.pushed;
       in_range = λ h. subst (λ (l : List Cell). StackInRange l) (sym c.in_ok-push.ensures.ok) (one_in_range cell c.loop-i.self fits (c.loop-i.invariant.in_range h));

@@ -1,6 +1,6 @@
 use Rattle.std.proofs.Common.{◌∙◌, ◌++◌, List, ap, subst, sym, take}
 use Rattle.tt_abs.specs.declared.cells.Cell.{Cell}
-use Rattle.tt_abs.specs.Codes.{cells_of}
+use Rattle.tt_abs.specs.Representation.Codes.{cells_of}
 use Rattle.tt_abs.specs.Stacks.{StackInRange}
 use Rattle.tt_abs.proofs.CodedCells.{pushed_codes, taken_in_range}
 use Rattle.tt_abs.proofs.stack.Stack.push_coded.Goals as goal

@@ -2,7 +2,7 @@ use Rattle.std.proofs.Common.{◌≡◌, List, length, ap, ◌∙◌, sym, subst
 use Rattle.std.specs.Prelude.{reverse}
 use Rattle.std.proofs.lemmas.Bool.{eqb-true}
 use Rattle.std.proofs.lemmas.List.{length-map}
-use Rattle.tt_abs.specs.Codes.{cell_of_code, cells_of, kept_cells}
+use Rattle.tt_abs.specs.Representation.Codes.{cell_of_code, cells_of, kept_cells}
 use Rattle.tt_abs.specs.Orders.{IsLeastAbove}
 use Rattle.tt_abs.specs.Stacks.{stack_order}
 use Rattle.tt_abs.proofs.CodedCells.{alone_coded, coded_alone, coded_length}

@@ -1,7 +1,7 @@
 use Rattle.std.proofs.Common.{◌≡◌, ◌-◌, ◌+◌, length, ap, ◌∙◌, arith, sym}
 use Rattle.std.specs.Prelude.{reverse, remove}
 use Rattle.std.proofs.lemmas.List.{length-reverse}
-use Rattle.tt_abs.specs.Codes.{kept_cells}
+use Rattle.tt_abs.specs.Representation.Codes.{kept_cells}
 use Rattle.tt_abs.proofs.CodedCells.{kept_length, removed_code, removed_wide}
 use Rattle.tt_abs.proofs.stack.Stack.remove.Goals as goal
 

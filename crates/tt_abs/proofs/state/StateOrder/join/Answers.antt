@@ -1,6 +1,6 @@
 use Rattle.std.proofs.Common.{false}
 use Rattle.tt_abs.specs.States.{state_laws, state_least}
-use Rattle.tt_abs.specs.JoinLaws.{least_is_first, unchanged_by_below}
+use Rattle.tt_abs.specs.Representation.JoinLaws.{least_is_first, unchanged_by_below}
 use Rattle.tt_abs.proofs.state.StateOrder.join.Goals as goal
 
 pub returns-then-below-clause-least : goal.returns-then-below-clause-least

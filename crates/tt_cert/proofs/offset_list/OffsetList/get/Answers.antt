@@ -1,7 +1,7 @@
 use Rattle.std.specs.Prelude.{◌-◌, length, slice_get}
 use Rattle.std.proofs.Common.{sym, ◌∙◌, ap}
 use Rattle.tt_abs.specs.Entries.{listed}
-use Rattle.tt_cert.specs.PlaceRows.{Offsets}
+use Rattle.tt_cert.specs.Representation.SlotRows.{Offsets}
 use Rattle.tt_cert.proofs.RowEnds.{listed_last}
 use Rattle.tt_cert.proofs.offset_list.OffsetList.get.Goals as goal
 

@@ -1,6 +1,6 @@
 use Rattle.std.specs.Prelude.{◌↔◌, ◌-◌, IsTrue, length, nat_lt, slice_get}
 use Rattle.std.proofs.Common.{◌∙◌, ap, subst}
-use Rattle.tt_cert.specs.PlaceRows.{Offsets, AreBelow}
+use Rattle.tt_cert.specs.Representation.SlotRows.{Offsets, AreBelow}
 use Rattle.tt_cert.proofs.RowEnds.{tests_last}
 use Rattle.tt_cert.proofs.offset_list.OffsetList.is_below.Goals as goal
 

@@ -1,6 +1,6 @@
 use Rattle.std.proofs.Common.{sym, subst}
 use Rattle.tt_abs.specs.Entries.{Rises}
-use Rattle.tt_cert.specs.PlaceRows.{Offsets, AreBelow}
+use Rattle.tt_cert.specs.Representation.SlotRows.{Offsets, AreBelow}
 use Rattle.tt_cert.proofs.RowEnds.{rises_pushed}
 use Rattle.tt_cert.proofs.offset_list.OffsetList.push.Goals as goal
 

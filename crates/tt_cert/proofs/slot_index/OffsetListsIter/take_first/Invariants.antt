@@ -1,6 +1,6 @@
 use Rattle.std.proofs.Common.{◌≡◌, ◌<◌, ◌+◌, ◌++◌, length}
 use Rattle.std.specs.Prelude.{suc}
-use Rattle.tt_cert.specs.PlaceRows.{row_points, rows_points}
+use Rattle.tt_cert.specs.Representation.SlotRows.{row_points, rows_points}
 use Rattle.tt_cert.proofs.slot_index.OffsetListsIter.take_first.Given as goal
 
 abbrev pub invariant-loop-self : goal.invariant-loop-self

@@ -1,6 +1,6 @@
 use Rattle.std.specs.Prelude.{length}
 use Rattle.std.proofs.Common.{sym, ap}
-use Rattle.tt_cert.proofs.PlaceRows.{all_empty, empty_places, empty_merged}
+use Rattle.tt_cert.proofs.SlotRows.{all_empty, empty_places, empty_merged}
 use Rattle.tt_cert.proofs.slot_index.SlotIndex.clear.Goals as goal
 
 pub invariant_of-self : goal.invariant_of-self

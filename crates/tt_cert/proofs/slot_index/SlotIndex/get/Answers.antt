@@ -3,8 +3,8 @@ use Rattle.std.proofs.Common.{arith, sym, ◌∙◌, ap, subst}
 use Rattle.std.proofs.lemmas.Bool.{ltb-false, ltb-true}
 use Rattle.tt_abs.specs.Entries.{listed}
 use Rattle.tt_cert.specs.Places.{states_of}
-use Rattle.tt_cert.specs.PlaceRows.{Offsets, AreBelow, row_of}
-use Rattle.tt_cert.proofs.PlaceRows.{row_read, found_beyond, found_below, found_in_row, found_beside}
+use Rattle.tt_cert.specs.Representation.SlotRows.{Offsets, AreBelow, row_of}
+use Rattle.tt_cert.proofs.SlotRows.{row_read, found_beyond, found_below, found_in_row, found_beside}
 use Rattle.tt_cert.proofs.slot_index.SlotIndex.get.Goals as goal
 
 -- the row that was read from a slice of the rows

@@ -1,8 +1,8 @@
 use Rattle.std.specs.Prelude.{length}
 use Rattle.std.proofs.Common.{arith, sym, ◌∙◌, ap}
 use Rattle.tt_cert.specs.Places.{states_of}
-use Rattle.tt_cert.specs.PlaceRows.{merged, rows_points}
-use Rattle.tt_cert.proofs.PlaceRows.{one_point_more, used_after}
+use Rattle.tt_cert.specs.Representation.SlotRows.{merged, rows_points}
+use Rattle.tt_cert.proofs.SlotRows.{one_point_more, used_after}
 use Rattle.tt_cert.proofs.slot_index.SlotIndex.insert.Goals as goal
 
 pub invariant_of-self-2 : goal.invariant_of-self-2

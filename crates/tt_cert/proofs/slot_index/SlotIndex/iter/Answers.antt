@@ -1,8 +1,8 @@
 use Rattle.std.proofs.Common.{sym, ◌∙◌, ap, subst}
 use Rattle.std.specs.Prelude.{List, take}
-use Rattle.tt_cert.specs.PlaceRows.{Point, AreApart, merged, rows_points, with_first}
-use Rattle.tt_cert.proofs.PlaceRows.{places_apart_rest, used_points}
-use Rattle.tt_cert.proofs.PlaceWalks.{taken_first}
+use Rattle.tt_cert.specs.Representation.SlotRows.{Point, AreApart, merged, rows_points, with_first}
+use Rattle.tt_cert.proofs.SlotRows.{places_apart_rest, used_points}
+use Rattle.tt_cert.proofs.SlotWalks.{taken_first}
 use Rattle.tt_cert.proofs.slot_index.SlotIndex.iter.Goals as goal
 
 pub invariant_of-result : goal.invariant_of-result

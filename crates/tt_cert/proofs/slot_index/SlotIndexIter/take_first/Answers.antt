@@ -1,7 +1,7 @@
 use Rattle.std.specs.Prelude.{◌≡◌, false, Option}
 use Rattle.std.proofs.Common.{sym, ◌∙◌, subst}
-use Rattle.tt_cert.specs.PlaceRows.{Point, AreApart, comes_first, merged, with_first}
-use Rattle.tt_cert.proofs.PlaceWalks.{other_taken_apart, other_taken, first_taken_apart, first_taken}
+use Rattle.tt_cert.specs.Representation.SlotRows.{Point, AreApart, comes_first, merged, with_first}
+use Rattle.tt_cert.proofs.SlotWalks.{other_taken_apart, other_taken, first_taken_apart, first_taken}
 use Rattle.tt_cert.proofs.slot_index.SlotIndexIter.take_first.Goals as goal
 
 pub invariant_of-self : goal.invariant_of-self

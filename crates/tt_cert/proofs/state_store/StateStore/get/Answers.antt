@@ -1,5 +1,5 @@
 use Rattle.std.proofs.Common.{sym, arith}
-use Rattle.tt_cert.proofs.Tables.{slot_there, state_found, none_found}
+use Rattle.tt_cert.proofs.StateSlots.{slot_there, state_found, none_found}
 use Rattle.tt_cert.proofs.state_store.StateStore.get.Goals as goal
 
 pub index-requires : goal.index-requires

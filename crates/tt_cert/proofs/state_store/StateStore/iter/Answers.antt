@@ -1,11 +1,11 @@
-use Rattle.tt_cert.proofs.Tables.{slots_now, table_rises, table_found}
+use Rattle.tt_cert.proofs.StateSlots.{slots_now, slots_rise, slots_found}
 use Rattle.tt_cert.proofs.state_store.StateStore.iter.Goals as goal
 
 pub invariant_of-result : goal.invariant_of-result
 invariant_of-result c = slots_now _ _ c.self.invariant _ _ c.as_slice.ensures.value c.iter.ensures
 
 pub returns-clause-rises : goal.returns-clause-rises
-returns-clause-rises c = table_rises _ _ c.self.invariant _ c.self.view_is
+returns-clause-rises c = slots_rise _ _ c.self.invariant _ c.self.view_is
 
 pub returns-clause-found : goal.returns-clause-found
-returns-clause-found c = table_found _ _ c.self.invariant _ c.self.view_is
+returns-clause-found c = slots_found _ _ c.self.invariant _ c.self.view_is

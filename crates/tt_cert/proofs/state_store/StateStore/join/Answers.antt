@@ -1,5 +1,5 @@
 use Rattle.std.proofs.Common.{refl, sym, ◌∙◌, arith, slice_set}
-use Rattle.tt_cert.proofs.Tables.{slot_there, state_found, none_found, length-table, one_depth, PutsAt-set, Reweighs-set}
+use Rattle.tt_cert.proofs.StateSlots.{slot_there, state_found, none_found, length-states_in, one_depth, PutsAt-set, Reweighs-set}
 use Rattle.tt_cert.proofs.state_store.StateStore.join.Goals as goal
 
 pub index_mut-slot-requires : goal.index_mut-slot-requires
@@ -24,12 +24,12 @@ returns-in_default-join-clause-depth c = λ _. (
 pub returns-in-Some-clause-put : goal.returns-in-Some-clause-put
 returns-in-Some-clause-put c =
     rw c.of.ensures.change
-    (PutsAt-set c.self.inside.slots.items c.self.inside.places c.self.invariant (c.args.context, c.args.offset) c.in-Some.number c.in-Some.ensures
+    (PutsAt-set c.self.inside.slots.items c.self.inside.index c.self.invariant (c.args.context, c.args.offset) c.in-Some.number c.in-Some.ensures
     _ c.self.view_is c.index_mut-slot.result.now c.index_mut-slot.ensures.value c.join.new.self c.args.state.now c.in-Ok.changed c.in-Ok.ensures.least c.in-Ok.ensures.unchanged)
 
 pub returns-in-Some-clause-sums : goal.returns-in-Some-clause-sums
 returns-in-Some-clause-sums c =
-    Reweighs-set c.self.inside.slots.items c.self.inside.places c.self.invariant (c.args.context, c.args.offset) c.in-Some.number c.in-Some.ensures
+    Reweighs-set c.self.inside.slots.items c.self.inside.index c.self.invariant (c.args.context, c.args.offset) c.in-Some.number c.in-Some.ensures
     _ c.self.view_is c.index_mut-slot.result.now c.index_mut-slot.ensures.value c.join.new.self
 
 pub returns-in-Some-clause-joined : goal.returns-in-Some-clause-joined
@@ -40,7 +40,7 @@ returns-in-Some-clause-joined c = λ s.
 
 pub returns-in-Some-clause-fits : goal.returns-in-Some-clause-fits
 returns-in-Some-clause-fits c =
-    let long = length-table (slice_set c.self.inside.slots.items c.in-Some.number c.join.new.self) c.self.inside.places in
+    let long = length-states_in (slice_set c.self.inside.slots.items c.in-Some.number c.join.new.self) c.self.inside.index in
     let fits = c.self.invariant.fits in
     omega arith
 

@@ -1,5 +1,5 @@
 use Rattle.std.proofs.Common.{reverse, take}
-use Rattle.tt_cert_file.specs.KeptTexts.{IsTextOfCells}
+use Rattle.tt_cert_file.specs.Representation.KeptTexts.{IsTextOfCells}
 use Rattle.tt_cert_file.proofs.writing.StackText.push_others.Given as goal
 
 abbrev pub invariant-loop-place : goal.invariant-loop-place

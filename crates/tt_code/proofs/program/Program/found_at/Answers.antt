@@ -1,7 +1,7 @@
 use Rattle.std.proofs.Common.{◌≡◌, ◌+◌, ◌-◌, ◌<◌, ◌≤◌, Option, length, take, arith, sym, ◌∙◌, ap, get_or, rules, None, Some, drop}
 use Rattle.std.proofs.lemmas.List.{length-take-le, length-drop}
 use Rattle.tt_code.specs.Cut.{instruction_at}
-use Rattle.tt_code.specs.Slots.{bodies, body_found, lengths}
+use Rattle.tt_code.specs.Representation.Slots.{bodies, body_found, lengths}
 use Rattle.tt_code.specs.declared.machine.Body.{Body}
 use Rattle.tt_code.proofs.BodyLemmas.{body_found_is, body_none_is, body_only_is}
 use Rattle.tt_code.proofs.CutLemmas.{at_kept, kept_fits, kept_instruction, kept_size, piece_at, piece_at_some}

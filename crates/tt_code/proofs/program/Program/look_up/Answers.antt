@@ -5,7 +5,7 @@ use Rattle.tt_code.specs.declared.block_keyword.BlockKeyword.{BlockKeyword}
 use Rattle.tt_code.specs.declared.block_keyword.BlockKeyword.TheVariants.{If, Else, Eif, Fdef, Idef, Endf, Other}
 use Rattle.tt_code.specs.Cut.{Instruction, code_of}
 use Rattle.tt_code.specs.Grammar.{GoesTo}
-use Rattle.tt_code.specs.Slots.{target_found, targets}
+use Rattle.tt_code.specs.Representation.Slots.{target_found, targets}
 use Rattle.tt_code.specs.Structure.{keyword, keyword_of}
 use Rattle.tt_code.proofs.LookupLemmas.{goes_found, goes_only, goes_stands, one_stands}
 use Rattle.tt_code.proofs.ProgramLemmas.{kept_each, kept_table}

@@ -1,5 +1,5 @@
 use Rattle.std.proofs.Common.{◌≡◌, refl, ◌+◌, length, reverse, Some, ap, ◌∙◌, arith}
-use Rattle.tt_code.specs.Pass.{step, closed, body_after}
+use Rattle.tt_code.specs.Representation.Pass.{step, closed, body_after}
 use Rattle.tt_code.proofs.CutLemmas.{some_bytes}
 use Rattle.tt_code.proofs.SlotLemmas.{read_refused, read_closed, read_more, Targeted, grown, retargeted}
 use Rattle.std.proofs.lemmas.List.{length-set}

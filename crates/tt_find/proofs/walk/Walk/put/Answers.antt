@@ -23,5 +23,5 @@ returns-else-is_at-clause-walk c =
           let no_such : true ≡ false = sym (c.is_at.ensures.1 there) ∙ c.if-is_at.false in
           cc in
           put_elsewhere state_order c.args.solver.now.builder c.put.new.self.builder c.args.context c.args.offset c.args.self.now.state put.changed c.requires.there put.put put.contexts put.family
-          c.is_family.ensures a b c.args.self.now.state apart (c.requires.walk.known a b is);
+          c.family_facts.ensures a b c.args.self.now.state apart (c.requires.walk.known a b is);
     }

@@ -1,6 +1,6 @@
 use Rattle.std.specs.Prelude.{ℕ, Option}
 use Rattle.std.proofs.Common.{subst, sym}
-use Rattle.tt_find.specs.Worklist.{AreInOrder}
+use Rattle.tt_find.specs.Representation.Worklist.{AreInOrder}
 use Rattle.tt_find.proofs.Waits.{order_grown, order_replaced}
 use Rattle.tt_find.proofs.worklist.Worklist.insert.Goals as goal
 

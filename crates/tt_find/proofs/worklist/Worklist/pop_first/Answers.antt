@@ -1,5 +1,5 @@
 use Rattle.std.proofs.Common.{ℕ, Option, subst}
-use Rattle.tt_find.specs.Worklist.{AreInOrder}
+use Rattle.tt_find.specs.Representation.Worklist.{AreInOrder}
 use Rattle.tt_find.proofs.Waits.{popped_apart}
 use Rattle.tt_find.proofs.worklist.Worklist.pop_first.Goals as goal
 

@@ -1,10 +1,9 @@
 use Rattle.std.proofs.Common.{subst, ℕ, List, map, arith}
 use Rattle.std.proofs.lemmas.Result.{err_from_is_err_and}
-use Rattle.tt_font.specs.GlyphTables.{glyphs_of}
+use Rattle.tt_font.specs.Representation.GlyphTables.{glyphs_of}
 use Rattle.tt_font.specs.Outlines.{outlines_of}
-use Rattle.tt_font.specs.GlyphParts.{glyph_data}
+use Rattle.tt_font.specs.Reading.{glyph_data, ReadsGlyphs}
 use Rattle.tt_font.specs.Files.{font_glyph_count}
-use Rattle.tt_font.specs.Reading.{ReadsGlyphs}
 use Rattle.tt_font.proofs.ReadGlyphs.{room_for_all, same_glyphs}
 use Rattle.tt_font.proofs.MemoryLemmas.{tables_never}
 use Rattle.tt_font.proofs.font.Font.read.Goals as goal

@@ -1,7 +1,7 @@
 use Rattle.std.proofs.Common.{◌≡◌, sym, ap, arith, rules, true, false}
 use Rattle.tt_font.specs.Glyphs.{is_composite}
 use Rattle.tt_font.specs.Outlines.{own_points, own_contours}
-use Rattle.tt_font.specs.OutlineSizes.{has_parts}
+use Rattle.tt_font.specs.Representation.OutlineSizes.{has_parts}
 use Rattle.tt_font.proofs.OutlineLemmas.{outline_is_simple, outline_is_composite, composite_has_parts}
 use Rattle.tt_font.proofs.outline_size.OutlineSize.own.Goals as goal
 

@@ -2,7 +2,7 @@ use Rattle.std.proofs.Common.{rules, arith, ◌+◌, ◌≡◌, ◌∙◌, ap, s
 use Rattle.std.specs.Prelude.{min}
 use borrow.Rule.Slice.PartMut.{put_mid}
 use Rattle.tt_stream.specs.declared.text.TheConstants.{ROOM}
-use Rattle.tt_stream.specs.Windows.{Part, TakesPiece}
+use Rattle.tt_stream.specs.Representation.Windows.{Part, TakesPiece}
 use Rattle.tt_stream.proofs.Windows.{drop-min, window_took}
 use Rattle.tt_stream.proofs.text.WindowWrite.write_str.Goals as goal
 

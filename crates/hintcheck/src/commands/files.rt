@@ -1,0 +1,97 @@
+//! Files: their bytes, the numbers by which a system tells them apart, and the rest of what is
+//! written to them.
+
+ghost use Rattle.std.specs.Prelude.{◌≡◌, ◌≢◌, ◌↔◌, ◌+◌, ◌<◌, IfErr, IfOk, IfSome, IsTrue, None, Err, Ok};
+ghost use Rattle.std.specs.Io.Buffered.{writer_contents};
+ghost use Rattle.std.specs.Io.KnownBytes.{Keeps};
+ghost use Rattle.hintcheck.specs.Commands.{HasAll, IsNoWriteFault};
+ghost use Rattle.hintcheck.specs.CommandFaults.{IsFaultOfReading};
+
+use super::faults::CommandFault;
+use std::alloc::Global;
+use std::fs;
+use std::io::{BufWriter, Read, Write};
+use std::marker::Brand;
+use std::os::unix::fs::MetadataExt;
+use std::rt::Files;
+use std::sync::ledger::{Blank, Ledger};
+use tt_stream::{Counted, read_all};
+
+/// How many bytes of a certificate are written at a time: those of many sections, since most are
+/// short.
+pub(super) const ROOM: usize = 65_536;
+
+/// Returns the bytes that are left in the file.
+fn read_file<L: Ledger, F: Read + Drop>(
+    alloc: Global,
+    file: F,
+    blank: Blank,
+) -> Result<Vec<u8>, CommandFault>
+    requires { (blank.name ≡ L.name) × (blank.parts ≡ L.parts) × (0 < blank.parts) }
+    ensures read { IfOk result (λ bytes. HasAll (F.remaining file) bytes.items) }
+    ensures fault { IfErr result IsNoWriteFault }
+    ensures faults { IfErr result IsFaultOfReading }
+{
+    let mut source = Counted::<F, L>::new(file, blank);
+    Ok(read_all(alloc, &mut source)?)
+}
+
+/// Returns the bytes of the file with this name.
+pub(super) fn file_bytes<R: Files + AllocGlobal>(
+    rt: &R,
+    name: &str,
+) -> Result<Vec<u8>, CommandFault>
+    ensures fault { IfErr result IsNoWriteFault }
+    ensures faults { IfErr result IsFaultOfReading }
+{
+    let Ok(file) = fs::open(rt, name) else {
+        return Err(CommandFault::Read);
+    };
+    read_file::<Brand, _>(rt.alloc(), file, Blank::new(1))
+}
+
+/// Returns the writer's file, once it has all that was written.
+pub(super) fn write_rest<F: Write + Drop>(writer: BufWriter<F>) -> Result<F, CommandFault>
+    ensures written { IfOk result
+        (λ file. Keeps (writer_contents F.contents writer) (F.contents file)) }
+    ensures fault { IfErr result (λ fault. fault ≡ CommandFault.File) }
+{
+    let Ok(mut file) = writer.into_inner() else {
+        return Err(CommandFault::File);
+    };
+    match file.flush() {
+        Ok(()) => Ok(file),
+        Err(_) => Err(CommandFault::File),
+    }
+}
+
+/// The numbers by which a system tells its files apart: that of the file on its device, and the
+/// device's.
+#[derive(Clone, Copy, PartialEq, Eq)]
+pub(super) struct FileNumbers {
+    file: u64,
+    device: u64,
+}
+
+/// Returns the numbers of the file with this name, if it exists and the runtime gives them: a
+/// runtime that doesn't has 0 for each file.
+pub(super) fn file_numbers<R: Files>(rt: &R, name: &str) -> Option<FileNumbers>
+    ensures { IfSome result (λ numbers. numbers.file ≢ 0) }
+{
+    let metadata = fs::metadata(rt, name).ok()?;
+    let numbers = FileNumbers {
+        file: metadata.ino(),
+        device: metadata.dev(),
+    };
+    (numbers.file != 0).then_some(numbers)
+}
+
+/// Whether these are the numbers of one file. Where they aren't given, that isn't known.
+pub(super) fn is_same_file(one: Option<FileNumbers>, other: Option<FileNumbers>) -> bool
+    ensures { IsTrue result ↔ (one ≢ None × one ≡ other) }
+{
+    match (one, other) {
+        (Some(one), Some(other)) => one == other,
+        _ => false,
+    }
+}

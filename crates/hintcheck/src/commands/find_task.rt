@@ -1,0 +1,79 @@
+//! The subcommand `find`: the verdict on a font file, and its certificate.
+
+ghost use Rattle.std.specs.Prelude.{◌≡◌, ◌≢◌, ◌+◌, ◌<◌, IfErr, IfOk, List, Err, Ok, OnOk, ℕ, []};
+ghost use Rattle.std.specs.Io.KnownBytes.{Keeps};
+ghost use Rattle.hintcheck.specs.CertificateTexts.{IsPassingCertificate, WritesText};
+ghost use Rattle.hintcheck.specs.Commands.{IsNoWriteFault};
+ghost use Rattle.hintcheck.specs.CommandFaults.{IsFaultOfCertifying, IsFaultOfFinding};
+ghost use Rattle.hintcheck.specs.FontPrograms.{IsFontInRange, IsVerdict};
+ghost use Rattle.hintcheck.specs.MeansSafe.{HoldRefusedFont, HoldSafeFont, IsVerdictOn};
+
+use super::faults::CommandFault;
+use super::files::{ROOM, file_bytes, file_numbers, is_same_file, write_rest};
+use crate::certificate::find_programs;
+use crate::font::read_font;
+use crate::report::Verdict;
+use std::alloc::Global;
+use std::fs;
+use std::io::{BufWriter, Write};
+use std::marker::Brand;
+use std::rt::Files;
+use std::sync::ledger::{Blank, Ledger};
+use tt_font::Font;
+use tt_stream::Counted;
+
+/// Returns the verdict on a font, and the file, to which the font's certificate is written where no
+/// program is refused.
+fn verdict_to_file<L: Ledger, F: Write + Drop>(
+    alloc: Global,
+    font: &Font<'_>,
+    file: F,
+    blank: Blank,
+) -> Result<(Verdict, F), CommandFault>
+    requires range { IsFontInRange font.now }
+    requires blank { (blank.name ≡ L.name) × (blank.parts ≡ L.parts) × (0 < blank.parts) }
+    ensures exact { IfOk result (λ r. IsVerdict font.now r.0) }
+    ensures written { IfOk result (λ r. r.0.refused ≡ []
+        → WritesText (F.contents file) (F.contents r.1) (IsPassingCertificate font.now)) }
+    ensures unwritten { IfOk result
+        (λ r. r.0.refused ≢ [] → Keeps (F.contents file) (F.contents r.1)) }
+    ensures fault { IfErr result IsNoWriteFault }
+    ensures faults { IfErr result IsFaultOfCertifying }
+{
+    let Ok(file) = BufWriter::with_capacity(alloc, ROOM, file) else {
+        return Err(CommandFault::OutOfMemory);
+    };
+    let mut sink = Counted::<BufWriter<F>, L>::new(file, blank);
+    let verdict = find_programs(alloc, font, &mut sink)?;
+    let file = write_rest(sink.into_inner())?;
+    Ok((verdict, file))
+}
+
+/// Returns the verdict on the font file with the first name, whose certificate is written to the
+/// file with the second, which is made or emptied where the first is a font, and is a file of its
+/// own as far as that can be known.
+pub(super) fn find_verdict<R: Files + AllocGlobal>(
+    rt: &R,
+    font: &str,
+    certificate: &str,
+) -> Result<Verdict, CommandFault>
+    ensures safe { IfOk result
+        (λ verdict. verdict.refused ≡ [] → (bytes : List ℕ) × HoldSafeFont bytes) }
+    ensures refused { IfOk result
+        (λ verdict. verdict.refused ≢ [] → (bytes : List ℕ) × HoldRefusedFont bytes) }
+    ensures given { IfOk result (λ verdict. (bytes : List ℕ) × IsVerdictOn bytes verdict) }
+    ensures fault { IfErr result IsNoWriteFault }
+    ensures faults { IfErr result (IsFaultOfFinding font.now certificate.now) }
+    ensures none { OnOk result (font.now ≢ certificate.now) }
+{
+    if font == certificate || is_same_file(file_numbers(rt, font), file_numbers(rt, certificate)) {
+        return Err(CommandFault::CertificateWord);
+    }
+    let bytes = file_bytes(rt, font)?;
+    let font = read_font(rt.alloc(), &bytes)?;
+    let Ok(file) = fs::create(rt, certificate) else {
+        return Err(CommandFault::File);
+    };
+    let (verdict, _file) = verdict_to_file::<Brand, _>(rt.alloc(), &font, file, Blank::new(1))?;
+    Ok(verdict)
+}

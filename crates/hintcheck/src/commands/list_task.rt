@@ -1,0 +1,36 @@
+//! The subcommand `list`: the instructions of a program of a font file.
+
+ghost use Rattle.std.specs.Prelude.{◌≡◌, ◌+◌, ◌≤◌, ◌<◌, IfErr, IfOk, List, ℕ};
+ghost use Rattle.hintcheck.specs.Commands.{TellsFailure};
+ghost use Rattle.hintcheck.specs.CommandFaults.{IsFaultOfFileListing};
+ghost use Rattle.hintcheck.specs.Listing.{HoldUnlistedProgram};
+ghost use Rattle.hintcheck.specs.Printed.{PrintsListing};
+
+use super::faults::CommandFault;
+use super::files::file_bytes;
+use crate::instruction_list::list_program;
+use std::rt::Files;
+use tt_stream::Sink;
+
+/// Lists the program of the font file with this name whose name the word is, and returns the exit
+/// status: 0 listed, 1 refused.
+///
+/// # Errors
+/// `Read` where the file can't be opened or read; the faults of `list_program`.
+pub(super) fn list_of_file<R: Files + AllocGlobal, O: Sink>(
+    rt: &R,
+    name: &str,
+    word: &str,
+    out: &mut O,
+) -> Result<u8, CommandFault>
+    ensures status { IfOk result (λ status. status ≤ 1) }
+    ensures refused { IfOk result
+        (λ status. status ≡ 1 → (bytes : List ℕ) × HoldUnlistedProgram bytes word.now) }
+    ensures printed { IfOk result
+        (λ status. PrintsListing word.now status (O.contents out.old) (O.contents out.new)) }
+    ensures failures { TellsFailure result (O.failures out.old) (O.failures out.new) }
+    ensures faults { IfErr result (IsFaultOfFileListing word.now) }
+{
+    let bytes = file_bytes(rt, name)?;
+    list_program(rt.alloc(), &bytes, word, out)
+}

@@ -1,0 +1,100 @@
+//! The subcommand `upgrade`: an old certificate file, written again in the newest form.
+
+ghost use Rattle.std.specs.Prelude.{◌≡◌, ◌≢◌, ◌+◌, ◌<◌, ◌⊎◌, IfErr, IfOk, IfSome, Err, Ok, OnOk};
+ghost use Rattle.hintcheck.specs.CertificateTexts.{WritesText};
+ghost use Rattle.hintcheck.specs.Commands.{AtForm, IsNoWriteFault, TellsFailure};
+ghost use Rattle.hintcheck.specs.CommandFaults.{IsFaultOfPrinting, IsFaultOfRewriting, IsFaultOfUpgrading};
+ghost use Rattle.hintcheck.specs.Printed.{PrintsUpgrade};
+ghost use Rattle.hintcheck.specs.Upgrades.{IsNumberOfPrograms, IsUpgradeOf, UpgradesTo};
+
+use super::ACCEPTED;
+use super::faults::CommandFault;
+use super::files::{ROOM, file_numbers, is_same_file, write_rest};
+use crate::certificate_upgrade::upgrade;
+use std::alloc::Global;
+use std::fs;
+use std::io::{BufWriter, Read, Write};
+use std::marker::Brand;
+use std::rt::Files;
+use std::sync::ledger::{Blank, Ledger};
+use tt_stream::{Buffered, Counted, Sink};
+
+/// Upgrades the certificate that is left in the old file to the new one: returns how many sections
+/// it has, and the new file.
+fn upgrade_file<L: Ledger, M: Ledger, F: Read + Drop, G: Write + Drop>(
+    alloc: Global,
+    old: F,
+    new: G,
+    reads: Blank,
+    writes: Blank,
+) -> Result<(u32, G), CommandFault>
+    requires reads { (reads.name ≡ L.name) × (reads.parts ≡ L.parts) × (0 < reads.parts) }
+    requires writes { (writes.name ≡ M.name) × (writes.parts ≡ M.parts) × (0 < writes.parts) }
+    ensures exact { IfOk result
+        (λ r. IfSome (F.remaining old) (λ bytes. UpgradesTo bytes (Ok r.0))) }
+    ensures written { IfOk result (λ r. IfSome (F.remaining old)
+        (λ bytes. WritesText (G.contents new) (G.contents r.1) (IsUpgradeOf bytes))) }
+    ensures form { IfErr result (λ fault. AtForm fault
+        (λ place. IfSome (F.remaining old) (λ bytes. UpgradesTo bytes (Err place)))) }
+    ensures number { IfOk result (λ r. IsNumberOfPrograms r.0) }
+    ensures fault { IfErr result IsNoWriteFault }
+    ensures faults { IfErr result IsFaultOfRewriting }
+{
+    let Ok(mut source) = Buffered::new(alloc, Counted::<F, L>::new(old, reads)) else {
+        return Err(CommandFault::OutOfMemory);
+    };
+    let Ok(new) = BufWriter::with_capacity(alloc, ROOM, new) else {
+        return Err(CommandFault::OutOfMemory);
+    };
+    let mut sink = Counted::<BufWriter<G>, M>::new(new, writes);
+    let count = upgrade(alloc, &mut source, &mut sink)?;
+    let new = write_rest(sink.into_inner())?;
+    Ok((count, new))
+}
+
+/// Upgrades the certificate in the file with the first name to the file with the second, which is
+/// made or emptied once the first is open, and is a file of its own as far as that can be known.
+fn upgrade_named<R: Files + AllocGlobal>(rt: &R, old: &str, new: &str) -> Result<u32, CommandFault>
+    ensures number { IfOk result IsNumberOfPrograms }
+    ensures fault { IfErr result IsNoWriteFault }
+    ensures faults { IfErr result (IsFaultOfUpgrading old.now new.now) }
+    ensures none { OnOk result (old.now ≢ new.now) }
+{
+    if old == new || is_same_file(file_numbers(rt, old), file_numbers(rt, new)) {
+        return Err(CommandFault::NewWord);
+    }
+    let Ok(old) = fs::open(rt, old) else {
+        return Err(CommandFault::Read);
+    };
+    let Ok(new) = fs::create(rt, new) else {
+        return Err(CommandFault::File);
+    };
+    let (count, _new) = upgrade_file::<Brand, Brand, _, _>(
+        rt.alloc(),
+        old,
+        new,
+        Blank::new(1),
+        Blank::new(1),
+    )?;
+    Ok(count)
+}
+
+/// Upgrades the certificate in the file with the first name to the file with the second, and
+/// returns how many sections it has.
+pub(super) fn tell_upgrade<R: Files + AllocGlobal, O: Sink>(
+    rt: &R,
+    old: &str,
+    new: &str,
+    out: &mut O,
+) -> Result<u8, CommandFault>
+    ensures status { IfOk result (λ status. status ≡ 0) }
+    ensures written { OnOk result (PrintsUpgrade (O.contents out.old) (O.contents out.new)) }
+    ensures failures { TellsFailure result (O.failures out.old) (O.failures out.new) }
+    ensures faults { IfErr result (λ fault. IsFaultOfUpgrading old.now new.now fault
+        ⊎ (old.now ≢ new.now × IsFaultOfPrinting fault)) }
+    ensures none { OnOk result (old.now ≢ new.now) }
+{
+    let count = upgrade_named(rt, old, new)?;
+    writeln!(out, "upgraded: {count} sections")?;
+    Ok(ACCEPTED)
+}

@@ -1,0 +1,77 @@
+//! The subcommand `verdict`: the verdict on a font file.
+
+ghost use Rattle.std.specs.Prelude.{◌≡◌, ◌≢◌, ◌+◌, ◌<◌, IfErr, IfOk, List, Err, Ok, OnOk, ℕ, []};
+ghost use Rattle.hintcheck.specs.Commands.{HasAll, IsNoWriteFault, ReadsToEnd, TellsFailedRead};
+ghost use Rattle.hintcheck.specs.CommandFaults.{IsFaultOfFontFile, IsFaultOfSource, ReadNoFault};
+ghost use Rattle.hintcheck.specs.MeansSafe.{HoldRefusedFont, HoldSafeFont, IsVerdictOn};
+
+use super::faults::CommandFault;
+use crate::font;
+use crate::report::Verdict;
+use std::alloc::Global;
+use std::fs;
+use std::io::Read;
+use std::marker::Brand;
+use std::rt::Files;
+use std::sync::ledger::{Blank, Ledger};
+use tt_stream::{Counted, Source, read_all};
+
+/// Returns the verdict on all programs of the font whose bytes are all that is left in the source,
+/// which is read to its end.
+///
+/// # Errors
+/// `Read` exactly where a read failed; the faults of `verdict`; `OutOfMemory`.
+pub fn verdict_of<S: Source>(alloc: Global, source: &mut S) -> Result<Verdict, CommandFault>
+    ensures exact { IfOk result (λ v. (bytes : List ℕ)
+        × ReadsToEnd (S.remaining source.old) (S.remaining source.new) bytes
+        × IsVerdictOn bytes v) }
+    ensures failures { TellsFailedRead result (S.failures source.old) (S.failures source.new) }
+    ensures fault { IfErr result IsNoWriteFault }
+    // A fault is the first one of all bytes that were left, except where a read failed or memory
+    // ran out.
+    ensures faults { IfErr result
+        (IsFaultOfSource (S.remaining source.old) (S.remaining source.new)) }
+    ensures none { OnOk result (ReadNoFault (S.remaining source.old) (S.remaining source.new)) }
+{
+    let bytes = read_all(alloc, source)?;
+    Ok(font::verdict(alloc, &bytes)?)
+}
+
+/// Returns the verdict on all programs of a font, whose bytes are those that are left in the file.
+fn verdict_on_bytes<L: Ledger, F: Read + Drop>(
+    alloc: Global,
+    file: F,
+    blank: Blank,
+) -> Result<Verdict, CommandFault>
+    requires { (blank.name ≡ L.name) × (blank.parts ≡ L.parts) × (0 < blank.parts) }
+    ensures safe { IfOk result (λ verdict. verdict.refused ≡ []
+        → (bytes : List ℕ) × HasAll (F.remaining file) bytes × HoldSafeFont bytes) }
+    ensures refused { IfOk result (λ verdict. verdict.refused ≢ []
+        → (bytes : List ℕ) × HasAll (F.remaining file) bytes × HoldRefusedFont bytes) }
+    ensures given { IfOk result (λ verdict. (bytes : List ℕ)
+        × HasAll (F.remaining file) bytes × IsVerdictOn bytes verdict) }
+    ensures fault { IfErr result IsNoWriteFault }
+    ensures faults { IfErr result IsFaultOfFontFile }
+{
+    let mut source = Counted::<F, L>::new(file, blank);
+    verdict_of(alloc, &mut source)
+}
+
+/// Returns the verdict on all programs of the font file with this name.
+pub(super) fn file_verdict<R: Files + AllocGlobal>(
+    rt: &R,
+    name: &str,
+) -> Result<Verdict, CommandFault>
+    ensures safe { IfOk result
+        (λ verdict. verdict.refused ≡ [] → (bytes : List ℕ) × HoldSafeFont bytes) }
+    ensures refused { IfOk result
+        (λ verdict. verdict.refused ≢ [] → (bytes : List ℕ) × HoldRefusedFont bytes) }
+    ensures given { IfOk result (λ verdict. (bytes : List ℕ) × IsVerdictOn bytes verdict) }
+    ensures fault { IfErr result IsNoWriteFault }
+    ensures faults { IfErr result IsFaultOfFontFile }
+{
+    let Ok(file) = fs::open(rt, name) else {
+        return Err(CommandFault::Read);
+    };
+    verdict_on_bytes::<Brand, _>(rt.alloc(), file, Blank::new(1))
+}

@@ -1,0 +1,166 @@
+//! Calls on whole fonts.
+
+ghost use Rattle.std.specs.Prelude.{◌≡◌, ◌<◌};
+
+use crate::examples::{EXAMPLES, Example, example_of, files_of};
+use crate::heap::Heap;
+use crate::matching::Matching;
+use crate::trials::{Told, Trial, assert_refused};
+use hintcheck::{FindFontFault, FontFault, UpgradeFault, bare, find_font, upgrade};
+use hintcheck_test_fixtures::font_calls::{Told as Font, checked, judged};
+use hintcheck_test_fixtures::fonts::MAXP;
+use hintcheck_test_fixtures::streams::{Steps, steps_of};
+use std::marker::Brand;
+use std::sync::ledger::{Blank, Ledger};
+use std::test::Fail;
+use tt_stream::Counted;
+
+/// A call on a font.
+#[derive(Clone, Copy, Debug)]
+pub(crate) enum FontCall {
+    Read,
+    Verdict,
+    CheckFont,
+    FindFont,
+    Upgrade,
+    Bare,
+}
+
+const CALLS: [FontCall; 6] = [
+    FontCall::Read,
+    FontCall::Verdict,
+    FontCall::CheckFont,
+    FontCall::FindFont,
+    FontCall::Upgrade,
+    FontCall::Bare,
+];
+
+fn told_of_reading(heap: &mut Heap, example: &Example<'_>) -> Told {
+    heap.take_room();
+    let read = tt_font::Font::read(heap.alloc, example.font);
+    heap.give_back();
+    match read {
+        Ok(font) => Told::Answer(u64::from(font.glyph_count())),
+        Err(FontFault::OutOfMemory(_)) => Told::OutOfMemory,
+        Err(_) => Told::Wrong,
+    }
+}
+
+/// Returns what is told of a font that is accepted.
+fn told_of_acceptance(told: Font) -> Told {
+    match told {
+        Font::Accepted => Told::Answer(0),
+        Font::OutOfMemory | Font::Font(9) => Told::OutOfMemory,
+        _ => Told::Wrong,
+    }
+}
+
+fn told_of_verdict(heap: &mut Heap, example: &Example<'_>) -> Told {
+    heap.take_room();
+    let told = judged(heap.alloc, example.font);
+    heap.give_back();
+    told_of_acceptance(told)
+}
+
+fn told_of_check(heap: &mut Heap, example: &Example<'_>) -> Told {
+    heap.take_room();
+    let told = checked(heap.alloc, example.font, example.certificate, false);
+    heap.give_back();
+    told_of_acceptance(told)
+}
+
+/// Returns what is told where a beginning of the wanted bytes was written, or all of them where
+/// memory didn't run out.
+pub(crate) fn told_of_written(told: Told, matching: &Matching<'_>) -> Told {
+    let is_promised = match told {
+        Told::OutOfMemory => matching.has_beginning(),
+        _ => matching.has_all(),
+    };
+    if is_promised { told } else { Told::Wrong }
+}
+
+fn find_over<L: Ledger>(heap: &mut Heap, example: &Example<'_>, blank: Blank) -> Told
+    requires { (blank.name ≡ L.name) × (blank.parts ≡ L.parts) × (0 < blank.parts) }
+{
+    let mut sink = Counted::<Matching<'_>, L>::new(Matching::new(example.certificate), blank);
+    heap.take_room();
+    let found = find_font(heap.alloc, example.font, &mut sink);
+    heap.give_back();
+    let told = match found {
+        Ok(verdict) => Told::Answer(u64::from(verdict.programs())),
+        Err(FindFontFault::OutOfMemory(_)) => Told::OutOfMemory,
+        Err(FindFontFault::Font(FontFault::OutOfMemory(_))) => Told::OutOfMemory,
+        Err(_) => Told::Wrong,
+    };
+    told_of_written(told, &sink.into_inner())
+}
+
+fn told_of_search(heap: &mut Heap, example: &Example<'_>) -> Told {
+    find_over::<Brand>(heap, example, Blank::new(1))
+}
+
+fn upgrade_over<L: Ledger, M: Ledger>(
+    heap: &mut Heap,
+    example: &Example<'_>,
+    reads: Blank,
+    writes: Blank,
+) -> Told
+    requires reads { (reads.name ≡ L.name) × (reads.parts ≡ L.parts) × (0 < reads.parts) }
+    requires writes { (writes.name ≡ M.name) × (writes.parts ≡ M.parts) × (0 < writes.parts) }
+{
+    let mut source = Counted::<Steps<'_>, L>::new(steps_of(example.certificate, false), reads);
+    let mut sink = Counted::<Matching<'_>, M>::new(Matching::new(example.certificate), writes);
+    heap.take_room();
+    let upgraded = upgrade(heap.alloc, &mut source, &mut sink);
+    heap.give_back();
+    let told = match upgraded {
+        Ok(sections) => Told::Answer(u64::from(sections)),
+        Err(UpgradeFault::OutOfMemory(_)) => Told::OutOfMemory,
+        Err(_) => Told::Wrong,
+    };
+    told_of_written(told, &sink.into_inner())
+}
+
+fn told_of_upgrade(heap: &mut Heap, example: &Example<'_>) -> Told {
+    upgrade_over::<Brand, Brand>(heap, example, Blank::new(1), Blank::new(1))
+}
+
+fn told_of_bare(heap: &mut Heap, example: &Example<'_>) -> Told {
+    if example.programs.glyph.len() >= 100 {
+        return Told::Wrong;
+    }
+    heap.take_room();
+    let judged = bare(heap.alloc, &MAXP, 10, 4, 1, example.programs.glyph);
+    heap.give_back();
+    match judged {
+        Ok(verdict) => Told::Answer(verdict.refused().len() as u64),
+        Err(FontFault::OutOfMemory(_)) => Told::OutOfMemory,
+        Err(_) => Told::Wrong,
+    }
+}
+
+/// Returns what a call on a font tells.
+pub(crate) fn told_of_font(heap: &mut Heap, call: FontCall, example: &Example<'_>) -> Told {
+    match call {
+        FontCall::Read => told_of_reading(heap, example),
+        FontCall::Verdict => told_of_verdict(heap, example),
+        FontCall::CheckFont => told_of_check(heap, example),
+        FontCall::FindFont => told_of_search(heap, example),
+        FontCall::Upgrade => told_of_upgrade(heap, example),
+        FontCall::Bare => told_of_bare(heap, example),
+    }
+}
+
+#[test]
+fn calls_on_fonts(rt: HostRuntime) -> Result<(), Fail> {
+    let mut heap = Heap::new(rt.alloc());
+    for programs in &EXAMPLES {
+        let files = files_of(rt.alloc(), programs)?;
+        let example = example_of(programs, &files).ok_or(programs.name)?;
+        for call in CALLS {
+            let name = format!(in rt.alloc(); "{call:?} on {}", programs.name)?;
+            assert_refused(&rt, &mut heap, &name, &Trial::Font(call, example));
+        }
+    }
+    Ok(())
+}

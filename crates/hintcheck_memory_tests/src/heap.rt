@@ -1,0 +1,147 @@
+//! The heap of a test, all of it taken but what a call is left.
+
+use std::alloc::Global;
+
+/// The greatest block has 2 to the power of 46 bytes, half of what a process can address.
+const GREATEST: u32 = 46;
+
+/// A small block has at most 2 to the power of 20 bytes.
+const GREATEST_SMALL: u32 = 20;
+
+/// The room: blocks next to each other, of which a call may be left a part, and how many bytes each
+/// has.
+const ROOM: [usize; 12] = [100_000; 12];
+
+/// So many blocks that aren't small are taken at most.
+const LARGE_BLOCKS: usize = 100_000;
+
+/// So many small blocks are taken at most. A heap that has more can't be used up.
+const SMALL_BLOCKS: usize = 4_000;
+
+/// The C library keeps freed blocks of up to 1,032 bytes, each for the next call that wants just so
+/// many, instead of joining them. In steps of 16 there are so many sizes of them.
+const KEPT_SIZES: usize = 64;
+
+/// A block of this size isn't one of these.
+const APART: usize = 2_048;
+
+/// All memory that there is, in blocks that nobody uses.
+#[derive(Drop)]
+struct Hoard {
+    blocks: Vec<Vec<u8>>,
+    /// How many blocks there are at most.
+    most: usize,
+    /// How many blocks stay when the room is given back.
+    kept: usize,
+}
+
+impl Hoard {
+    /// Takes a block, and returns whether there was one.
+    fn take_block(&mut self, alloc: Global, size: usize) -> bool {
+        match Vec::with_capacity(alloc, size) {
+            Ok(block) => self.blocks.push(block).is_ok(),
+            Err(_) => false,
+        }
+    }
+
+    /// Takes blocks of so many bytes until there are no more.
+    fn take_blocks(&mut self, alloc: Global, size: usize) {
+        for _ in self.blocks.len()..self.most {
+            if !self.take_block(alloc, size) {
+                return;
+            }
+        }
+    }
+
+    /// Takes all blocks that aren't small.
+    fn take_large(&mut self, alloc: Global) {
+        for power in (GREATEST_SMALL + 1..=GREATEST).rev() {
+            self.take_blocks(alloc, 1usize.wrapping_shl(power));
+        }
+    }
+
+    /// Takes all small blocks.
+    fn take_small(&mut self, alloc: Global) {
+        for power in (11..=GREATEST_SMALL).rev() {
+            self.take_blocks(alloc, 1usize.wrapping_shl(power));
+        }
+        for less in 0..KEPT_SIZES {
+            self.take_blocks(alloc, 1_032 - 16 * less);
+        }
+    }
+
+    /// Takes all memory but the room; nothing where it can't be used up.
+    fn new(alloc: Global) -> Option<Hoard> {
+        let mut room: Vec<Vec<u8>> = Vec::new(alloc);
+        for size in ROOM {
+            room.push(Vec::with_capacity(alloc, size).ok()?).ok()?;
+        }
+        let mut hoard = Hoard {
+            blocks: Vec::with_capacity(alloc, LARGE_BLOCKS + SMALL_BLOCKS).ok()?,
+            most: LARGE_BLOCKS,
+            kept: 0,
+        };
+        hoard.take_large(alloc);
+        hoard.most = hoard.blocks.len().saturating_add(SMALL_BLOCKS);
+        hoard.take_small(alloc);
+        hoard.kept = hoard.blocks.len();
+        if hoard.kept < hoard.most {
+            Some(hoard)
+        } else {
+            None
+        }
+    }
+
+    /// Takes the room too, but for so many bytes next to each other, 8 of which the C library needs
+    /// itself.
+    fn leave(&mut self, alloc: Global, bytes: usize) {
+        let gap: Result<Vec<u8>, _> = Vec::with_capacity(alloc, bytes.saturating_add(APART));
+        self.take_small(alloc);
+        drop(gap);
+        self.take_block(alloc, APART);
+    }
+}
+
+/// The heap, and how much of it a call is left.
+#[derive(Drop)]
+pub(crate) struct Heap {
+    pub(crate) alloc: Global,
+    hoard: Option<Hoard>,
+    /// How many bytes a call is left; all of the room where this is none.
+    left: Option<usize>,
+}
+
+impl Heap {
+    /// Takes all of the heap but the room, where it can be used up.
+    pub(crate) fn new(alloc: Global) -> Heap {
+        Heap {
+            alloc,
+            hoard: Hoard::new(alloc),
+            left: None,
+        }
+    }
+
+    /// Whether the heap could be used up.
+    pub(crate) fn is_used_up(&self) -> bool {
+        self.hoard.is_some()
+    }
+
+    /// Leaves each call from now on so many bytes, or all of the room.
+    pub(crate) fn leave(&mut self, left: Option<usize>) {
+        self.left = left;
+    }
+
+    /// Takes the room, but for what a call is left.
+    pub(crate) fn take_room(&mut self) {
+        if let (Some(hoard), Some(left)) = (&mut self.hoard, self.left) {
+            hoard.leave(self.alloc, left);
+        }
+    }
+
+    /// Gives the room back.
+    pub(crate) fn give_back(&mut self) {
+        if let Some(hoard) = &mut self.hoard {
+            hoard.blocks.truncate(hoard.kept);
+        }
+    }
+}

@@ -1,0 +1,91 @@
+//! Calls on one section of a certificate.
+
+ghost use Rattle.std.specs.Prelude.{◌≡◌, ◌<◌};
+
+use crate::examples::{EXAMPLES, Example, example_of, files_of};
+use crate::fonts::told_of_written;
+use crate::heap::Heap;
+use crate::matching::Matching;
+use crate::trials::{Told, Trial, assert_refused};
+use hintcheck_test_fixtures::section_calls::{Section, Told as Read, decoded};
+use hintcheck_test_fixtures::streams::steps_of;
+use std::alloc::Global;
+use std::marker::Brand;
+use std::sync::ledger::{Blank, Ledger};
+use std::test::Fail;
+use tt_cert_file::{EncodeFault, encode};
+use tt_stream::Counted;
+
+/// A call on the section of the last glyph.
+#[derive(Clone, Copy, Debug)]
+pub(crate) enum SectionCall {
+    Decode,
+    Encode,
+}
+
+/// Returns the section of an example; nothing where it isn't read, or memory ran out.
+pub(crate) fn section_of(alloc: Global, example: &Example<'_>) -> Option<Section> {
+    decoded(alloc, steps_of(example.section, false), 0, example.form).0
+}
+
+fn told_of_decoding(heap: &mut Heap, example: &Example<'_>) -> Told {
+    heap.take_room();
+    let (section, told) = decoded(
+        heap.alloc,
+        steps_of(example.section, false),
+        0,
+        example.form,
+    );
+    heap.give_back();
+    match (section, told) {
+        (Some(section), Read::Section { .. }) => {
+            Told::Answer(u64::from(section.certificate.points()))
+        }
+        (None, Read::OutOfMemory) => Told::OutOfMemory,
+        _ => Told::Wrong,
+    }
+}
+
+fn encode_over<L: Ledger>(heap: &mut Heap, section: &Section, want: &[u8], blank: Blank) -> Told
+    requires { (blank.name ≡ L.name) × (blank.parts ≡ L.parts) × (0 < blank.parts) }
+{
+    let mut sink = Counted::<Matching<'_>, L>::new(Matching::new(want), blank);
+    heap.take_room();
+    let encoded = encode(heap.alloc, section.name, &section.certificate, &mut sink);
+    heap.give_back();
+    let told = match encoded {
+        Ok(()) => Told::Answer(0),
+        Err(EncodeFault::OutOfMemory(_)) => Told::OutOfMemory,
+        Err(EncodeFault::Write) => Told::Wrong,
+    };
+    told_of_written(told, &sink.into_inner())
+}
+
+fn told_of_encoding(heap: &mut Heap, example: &Example<'_>) -> Told {
+    match section_of(heap.alloc, example) {
+        Some(section) => encode_over::<Brand>(heap, &section, example.section, Blank::new(1)),
+        None => Told::Wrong,
+    }
+}
+
+/// Returns what a call on the section of the last glyph tells.
+pub(crate) fn told_of_section(heap: &mut Heap, call: SectionCall, example: &Example<'_>) -> Told {
+    match call {
+        SectionCall::Decode => told_of_decoding(heap, example),
+        SectionCall::Encode => told_of_encoding(heap, example),
+    }
+}
+
+#[test]
+fn calls_on_sections(rt: HostRuntime) -> Result<(), Fail> {
+    let mut heap = Heap::new(rt.alloc());
+    for programs in &EXAMPLES {
+        let files = files_of(rt.alloc(), programs)?;
+        let example = example_of(programs, &files).ok_or(programs.name)?;
+        for call in [SectionCall::Decode, SectionCall::Encode] {
+            let name = format!(in rt.alloc(); "{call:?} on {}", programs.name)?;
+            assert_refused(&rt, &mut heap, &name, &Trial::Section(call, example));
+        }
+    }
+    Ok(())
+}

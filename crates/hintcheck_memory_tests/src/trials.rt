@@ -1,0 +1,93 @@
+//! Calls that are left more and more memory, until they have enough.
+
+use crate::builders::{Change, told_of_change};
+use crate::commands::{Order, told_of_command};
+use crate::examples::Example;
+use crate::fonts::{FontCall, told_of_font};
+use crate::heap::Heap;
+use crate::programs::{ProgramCall, told_of_program};
+use crate::sections::{SectionCall, told_of_section};
+use std::process::Abort;
+
+/// From one trial to the next, a call is left so many bytes more, as the C library's blocks grow.
+const STEP: usize = 16;
+
+/// So many bytes are left at most, more than any call needs.
+const MOST: usize = 400_000;
+
+/// What a call tells.
+#[derive(Clone, Copy, Debug, PartialEq, Eq)]
+pub(crate) enum Told {
+    /// What it answers comes to this number.
+    Answer(u64),
+    /// Memory ran out, and what is promised then is kept.
+    OutOfMemory,
+    /// Another answer, or something isn't as promised.
+    Wrong,
+}
+
+/// A call that is tried.
+#[derive(Clone, Copy)]
+pub(crate) enum Trial<'a> {
+    Font(FontCall, Example<'a>),
+    Program(ProgramCall, Example<'a>),
+    Section(SectionCall, Example<'a>),
+    /// A builder with so many contexts and states is changed.
+    Builder(Change, u32),
+    Command(&'a HostRuntime, Order<'a>),
+}
+
+/// Returns what the call of a trial tells.
+pub(crate) fn told_of(heap: &mut Heap, trial: &Trial<'_>) -> Told {
+    match trial {
+        Trial::Font(call, example) => told_of_font(heap, *call, example),
+        Trial::Program(call, example) => told_of_program(heap, *call, example),
+        Trial::Section(call, example) => told_of_section(heap, *call, example),
+        Trial::Builder(change, size) => told_of_change(heap, *change, *size),
+        Trial::Command(rt, order) => told_of_command(rt, heap, order),
+    }
+}
+
+/// Returns how often a call tells that memory ran out before it is left enough to tell what it has
+/// to; nothing where it tells anything else.
+fn refusals(heap: &mut Heap, trial: &Trial<'_>, ample: Told) -> Option<u32> {
+    let mut refusals = 0u32;
+    for left in (0..MOST).step_by(STEP) {
+        heap.leave(Some(left));
+        let told = told_of(heap, trial);
+        if told == ample {
+            return Some(refusals);
+        }
+        if told != Told::OutOfMemory {
+            return None;
+        }
+        refusals = refusals.saturating_add(1);
+    }
+    None
+}
+
+/// Asserts that a call tells of each refusal until it is left enough, and returns how many there
+/// were. Where the heap can't be used up, it is made with ample memory alone.
+pub(crate) fn refusals_of(rt: &impl Abort, heap: &mut Heap, name: &str, trial: &Trial<'_>) -> u32 {
+    heap.leave(None);
+    let ample = told_of(heap, trial);
+    assert!(rt;
+        matches!(ample, Told::Answer(_)),
+        "{name}: {ample:?} with ample memory"
+    );
+    if !heap.is_used_up() {
+        return 0;
+    }
+    let count = refusals(heap, trial, ample);
+    assert!(rt;
+        count.is_some(),
+        "{name}: another answer than out of memory"
+    );
+    count.unwrap_or(0)
+}
+
+/// Asserts that a call is refused memory and tells so, until it is left enough.
+pub(crate) fn assert_refused(rt: &impl Abort, heap: &mut Heap, name: &str, trial: &Trial<'_>) {
+    let count = refusals_of(rt, heap, name, trial);
+    assert!(rt; count > 0 || !heap.is_used_up(), "{name}: no refusal");
+}

@@ -1,0 +1,139 @@
+//! What a check by a certificate, the search for one and an upgrade answer, on bytes in memory.
+
+ghost use Rattle.std.specs.Prelude.{◌≡◌, ◌<◌};
+
+use crate::streams::{Steps, Taker, steps_of};
+use hintcheck::{
+    CheckFontFault, FindFontFault, UpgradeFault, Verdict, check_font, find_font, upgrade, verdict,
+};
+use std::alloc::Global;
+use std::marker::Brand;
+use std::sync::ledger::{Blank, Ledger};
+use tt_stream::Counted;
+
+/// What a check answers.
+#[derive(Clone, Copy, Debug, PartialEq, Eq)]
+pub enum Told {
+    Accepted,
+    /// So many programs are refused; the offset and the number of the first.
+    Refused(usize, u32, u8),
+    /// The font's own fault has this number.
+    Font(u8),
+    Form(u64),
+    Read,
+    Write,
+    OutOfMemory,
+}
+
+/// Returns what a verdict says.
+fn told_of_verdict(verdict: &Verdict) -> Told {
+    match verdict.refused() {
+        [] => Told::Accepted,
+        [first, rest @ ..] => Told::Refused(
+            rest.len().saturating_add(1),
+            first.place.offset,
+            first.reason.number(),
+        ),
+    }
+}
+
+/// Returns what the verdict on a font's bytes is.
+pub fn judged(alloc: Global, font: &[u8]) -> Told {
+    match verdict(alloc, font) {
+        Ok(verdict) => told_of_verdict(&verdict),
+        Err(fault) => Told::Font(fault.number()),
+    }
+}
+
+/// Returns what the fault of a check says.
+pub fn told_of_check_fault(fault: &CheckFontFault) -> Told {
+    match fault {
+        CheckFontFault::Font(font) => Told::Font(font.number()),
+        CheckFontFault::Form(place) => Told::Form(*place),
+        CheckFontFault::Read => Told::Read,
+        CheckFontFault::OutOfMemory(_) => Told::OutOfMemory,
+    }
+}
+
+fn check_on<L: Ledger>(alloc: Global, font: &[u8], steps: Steps<'_>, blank: Blank) -> Told
+    requires { (blank.name ≡ L.name) × (blank.parts ≡ L.parts) × (0 < blank.parts) }
+{
+    let mut source = Counted::<Steps<'_>, L>::new(steps, blank);
+    match check_font(alloc, font, &mut source) {
+        Ok(verdict) => told_of_verdict(&verdict),
+        Err(fault) => told_of_check_fault(&fault),
+    }
+}
+
+/// Returns what the check of a font answers by what this reader gives.
+pub fn checked_by(alloc: Global, font: &[u8], steps: Steps<'_>) -> Told {
+    check_on::<Brand>(alloc, font, steps, Blank::new(1))
+}
+
+/// Returns what the check of a font answers by these bytes, after which a read fails where it
+/// should.
+pub fn checked(alloc: Global, font: &[u8], bytes: &[u8], fails: bool) -> Told {
+    checked_by(alloc, font, steps_of(bytes, fails))
+}
+
+fn find_on<L: Ledger>(alloc: Global, font: &[u8], taker: Taker, blank: Blank) -> (Told, Vec<u8>)
+    requires { (blank.name ≡ L.name) × (blank.parts ≡ L.parts) × (0 < blank.parts) }
+{
+    let mut sink = Counted::<Taker, L>::new(taker, blank);
+    let told = match find_font(alloc, font, &mut sink) {
+        Ok(verdict) => told_of_verdict(&verdict),
+        Err(FindFontFault::Font(fault)) => Told::Font(fault.number()),
+        Err(FindFontFault::Write) => Told::Write,
+        Err(FindFontFault::OutOfMemory(_)) => Told::OutOfMemory,
+    };
+    (told, sink.into_inner().bytes)
+}
+
+/// Returns what the search for a font's certificate answers, and what this writer took.
+pub fn found_by(alloc: Global, font: &[u8], taker: Taker) -> (Told, Vec<u8>) {
+    find_on::<Brand>(alloc, font, taker, Blank::new(1))
+}
+
+/// Returns what the search for a font's certificate answers, and what is written, where there is
+/// room for so many bytes.
+pub fn found(alloc: Global, font: &[u8], room: usize) -> (Told, Vec<u8>) {
+    found_by(alloc, font, Taker::new(alloc, 1, room))
+}
+
+fn upgrade_on<L: Ledger, M: Ledger>(
+    alloc: Global,
+    steps: Steps<'_>,
+    taker: Taker,
+    reads: Blank,
+    writes: Blank,
+) -> (Result<u32, Told>, Vec<u8>)
+    requires reads { (reads.name ≡ L.name) × (reads.parts ≡ L.parts) × (0 < reads.parts) }
+    requires writes { (writes.name ≡ M.name) × (writes.parts ≡ M.parts) × (0 < writes.parts) }
+{
+    let mut source = Counted::<Steps<'_>, L>::new(steps, reads);
+    let mut sink = Counted::<Taker, M>::new(taker, writes);
+    let told = match upgrade(alloc, &mut source, &mut sink) {
+        Ok(sections) => Ok(sections),
+        Err(UpgradeFault::Form(place)) => Err(Told::Form(place)),
+        Err(UpgradeFault::Read) => Err(Told::Read),
+        Err(UpgradeFault::Write) => Err(Told::Write),
+        Err(UpgradeFault::OutOfMemory(_)) => Err(Told::OutOfMemory),
+    };
+    (told, sink.into_inner().bytes)
+}
+
+/// Returns how many sections an upgrade tells of what this reader gives, and what this writer took.
+pub fn upgraded_by(alloc: Global, steps: Steps<'_>, taker: Taker) -> (Result<u32, Told>, Vec<u8>) {
+    upgrade_on::<Brand, Brand>(alloc, steps, taker, Blank::new(1), Blank::new(1))
+}
+
+/// Returns how many sections an upgrade of these bytes tells, after which a read fails where it
+/// should, and what is written, where there is room for so many bytes.
+pub fn upgraded(
+    alloc: Global,
+    bytes: &[u8],
+    fails: bool,
+    room: usize,
+) -> (Result<u32, Told>, Vec<u8>) {
+    upgraded_by(alloc, steps_of(bytes, fails), Taker::new(alloc, 1, room))
+}

@@ -1,0 +1,215 @@
+//! What the calls of `tt_cert_file` tell of readers and writers that pass little at a time, or
+//! fail.
+
+ghost use Rattle.std.specs.Prelude.{◌≡◌, ◌<◌};
+
+use crate::streams::{ALL, Steps, Taker};
+use std::alloc::Global;
+use std::marker::Brand;
+use std::sync::ledger::{Blank, Ledger};
+use tt_cert::Certificate;
+use tt_cert_file::{
+    DecodeFault, EncodeFault, Form, Name, decode, encode, read_end, read_header, write_header,
+};
+use tt_stream::Counted;
+
+/// What is known of the graphics state where a program starts: the reference points are 0, the
+/// zones 1, the loop number 1. 23 bytes.
+pub const AT_START: &str = "0100000000 0100000000 0100000000 010101 0100000001";
+
+/// What a call says, and in a section's case how many bytes it leaves.
+#[derive(Clone, Copy, Debug, PartialEq, Eq)]
+pub enum Told {
+    /// A section whose end is this place, with so many bytes left after it.
+    Section { after: u64, left: usize },
+    /// A header.
+    Header(Form, u32),
+    /// All was written, or the end was seen.
+    Done,
+    /// The bytes break a rule at this place.
+    Form(u64),
+    /// A read failed.
+    Read,
+    /// A write failed.
+    Write,
+    /// Memory ran out.
+    OutOfMemory,
+}
+
+/// Returns what a fault of reading says.
+pub fn told_by_decode_fault(fault: DecodeFault) -> Told {
+    match fault {
+        DecodeFault::Form(place) => Told::Form(place),
+        DecodeFault::Read => Told::Read,
+        DecodeFault::OutOfMemory(_) => Told::OutOfMemory,
+    }
+}
+
+fn told_by_writing(written: Result<(), EncodeFault>) -> Told {
+    match written {
+        Ok(()) => Told::Done,
+        Err(EncodeFault::Write) => Told::Write,
+        Err(EncodeFault::OutOfMemory(_)) => Told::OutOfMemory,
+    }
+}
+
+/// A section as it was read.
+#[derive(Drop)]
+pub struct Section {
+    pub name: Name,
+    pub certificate: Certificate,
+}
+
+/// Reads a section over a ledger.
+fn decode_over<L: Ledger>(
+    alloc: Global,
+    steps: Steps<'_>,
+    start: u64,
+    form: Form,
+    blank: Blank,
+) -> (Option<Section>, Told)
+    requires name { blank.name ≡ L.name }
+    requires parts { blank.parts ≡ L.parts }
+    requires some { 0 < blank.parts }
+{
+    let mut source = Counted::<Steps<'_>, L>::new(steps, blank);
+    match decode(alloc, &mut source, start, form) {
+        Ok((name, certificate, after)) => {
+            let left = source.into_inner().bytes.len();
+            (
+                Some(Section { name, certificate }),
+                Told::Section { after, left },
+            )
+        }
+        Err(fault) => (None, told_by_decode_fault(fault)),
+    }
+}
+
+/// Returns the section that these bytes begin with, if they do, and what was told.
+pub fn decoded(alloc: Global, steps: Steps<'_>, start: u64, form: Form) -> (Option<Section>, Told) {
+    decode_over::<Brand>(alloc, steps, start, form, Blank::new(1))
+}
+
+/// Returns what reading a section in steps of so many bytes tells.
+pub fn told_in_steps(alloc: Global, bytes: &[u8], step: usize, start: u64, form: Form) -> Told {
+    let steps = Steps {
+        bytes,
+        step,
+        calls: ALL,
+    };
+    decoded(alloc, steps, start, form).1
+}
+
+/// Returns what reading a section byte by byte tells, where a call fails after so many.
+pub fn told_of_calls(alloc: Global, bytes: &[u8], calls: usize, form: Form) -> Told {
+    let steps = Steps {
+        bytes,
+        step: 1,
+        calls,
+    };
+    decoded(alloc, steps, 0, form).1
+}
+
+fn header_over<L: Ledger>(steps: Steps<'_>, blank: Blank) -> Told
+    requires name { blank.name ≡ L.name }
+    requires parts { blank.parts ≡ L.parts }
+    requires some { 0 < blank.parts }
+{
+    let mut source = Counted::<Steps<'_>, L>::new(steps, blank);
+    match read_header(&mut source) {
+        Ok((form, sections)) => Told::Header(form, sections),
+        Err(fault) => told_by_decode_fault(fault),
+    }
+}
+
+/// Returns what reading a header tells.
+pub fn told_of_header(steps: Steps<'_>) -> Told {
+    header_over::<Brand>(steps, Blank::new(1))
+}
+
+fn end_over<L: Ledger>(steps: Steps<'_>, place: u64, blank: Blank) -> Told
+    requires name { blank.name ≡ L.name }
+    requires parts { blank.parts ≡ L.parts }
+    requires some { 0 < blank.parts }
+{
+    let mut source = Counted::<Steps<'_>, L>::new(steps, blank);
+    match read_end(&mut source, place) {
+        Ok(()) => Told::Done,
+        Err(fault) => told_by_decode_fault(fault),
+    }
+}
+
+/// Returns what a look for the end at a place tells.
+pub fn told_of_end(steps: Steps<'_>, place: u64) -> Told {
+    end_over::<Brand>(steps, place, Blank::new(1))
+}
+
+/// Reads a file over a ledger: its header, its sections, and its end.
+fn file_over<L: Ledger>(alloc: Global, steps: Steps<'_>, blank: Blank) -> Result<u64, DecodeFault>
+    requires name { blank.name ≡ L.name }
+    requires parts { blank.parts ≡ L.parts }
+    requires some { 0 < blank.parts }
+{
+    let mut source = Counted::<Steps<'_>, L>::new(steps, blank);
+    let (form, sections) = read_header(&mut source)?;
+    let mut place = 10;
+    for _ in 0..sections {
+        let (_, _, after) = decode(alloc, &mut source, place, form)?;
+        place = after;
+    }
+    read_end(&mut source, place)?;
+    Ok(place)
+}
+
+/// Returns what reading a file tells.
+pub fn told_of_file_by(alloc: Global, steps: Steps<'_>) -> Told {
+    match file_over::<Brand>(alloc, steps, Blank::new(1)) {
+        Ok(after) => Told::Section { after, left: 0 },
+        Err(fault) => told_by_decode_fault(fault),
+    }
+}
+
+/// Returns what reading a file in steps of 5 bytes tells.
+pub fn told_of_file(alloc: Global, bytes: &[u8]) -> Told {
+    let steps = Steps {
+        bytes,
+        step: 5,
+        calls: ALL,
+    };
+    told_of_file_by(alloc, steps)
+}
+
+fn encode_over<L: Ledger>(
+    alloc: Global,
+    section: &Section,
+    taker: Taker,
+    blank: Blank,
+) -> (Told, Vec<u8>)
+    requires name { blank.name ≡ L.name }
+    requires parts { blank.parts ≡ L.parts }
+    requires some { 0 < blank.parts }
+{
+    let mut sink = Counted::<Taker, L>::new(taker, blank);
+    let result = encode(alloc, section.name, &section.certificate, &mut sink);
+    (told_by_writing(result), sink.into_inner().bytes)
+}
+
+/// Returns what writing a section tells, and the bytes that were taken.
+pub fn encoded(alloc: Global, section: &Section, taker: Taker) -> (Told, Vec<u8>) {
+    encode_over::<Brand>(alloc, section, taker, Blank::new(1))
+}
+
+fn write_header_over<L: Ledger>(sections: u32, taker: Taker, blank: Blank) -> (Told, Vec<u8>)
+    requires name { blank.name ≡ L.name }
+    requires parts { blank.parts ≡ L.parts }
+    requires some { 0 < blank.parts }
+{
+    let mut sink = Counted::<Taker, L>::new(taker, blank);
+    let result = write_header(sections, &mut sink);
+    (told_by_writing(result), sink.into_inner().bytes)
+}
+
+/// Returns what writing a header tells, and the bytes that were taken.
+pub fn written_header(sections: u32, taker: Taker) -> (Told, Vec<u8>) {
+    write_header_over::<Brand>(sections, taker, Blank::new(1))
+}

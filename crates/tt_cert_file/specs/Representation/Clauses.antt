@@ -1,0 +1,21 @@
+-- What clauses of private functions say again and again: how a unit is read, and that a text is appended.
+use Rattle.std.specs.Prelude.{◌≡◌, ℕ, List, ◌++◌, Option, Result, IfErr, OnOk}
+use Rattle.tt_cert_file.specs.declared.fault.DecodeFault.{DecodeFault}
+use Rattle.tt_cert_file.specs.Answers.{Gives, StopsAtEnd, input_at}
+use Rattle.tt_cert_file.specs.Readers.{Answer, Input}
+
+-- the answer, seen by a view, is what reading at the place gives, except for failed reads and out of memory
+abbrev pub ReadsAs : {X Y : Type 0} → (X → Y) → (Input → Answer Y) → ℕ → Result (X × ℕ) DecodeFault → Option (List ℕ) → Option (List ℕ) → Type 0
+ReadsAs view read place result old new = Gives view old new result (read (input_at place old))
+
+-- the answer is what reading at the place gives, except for failed reads and out of memory
+abbrev pub ReadsBy : {Y : Type 0} → (Input → Answer Y) → ℕ → Result (Y × ℕ) DecodeFault → Option (List ℕ) → Option (List ℕ) → Type 0
+ReadsBy read place result old new = ReadsAs (λ y. y) read place result old new
+
+-- where a read failed, no unit that was read whole breaks a rule
+abbrev pub StopsWhole : {X Y : Type 0} → (Input → Answer Y) → ℕ → Result X DecodeFault → Option (List ℕ) → Option (List ℕ) → Type 0
+StopsWhole read place result old new = IfErr result (StopsAtEnd place old new read)
+
+-- the text is appended, unless memory runs out
+abbrev pub Pushes : {X E : Type 0} → List ℕ → Result X E → List ℕ → List ℕ → Type 0
+Pushes text result old new = OnOk result (new ≡ old ++ text)

@@ -1,0 +1,40 @@
+-- What the finder says of a subject: a setting, with the functions that are known where its program
+-- starts.
+use Rattle.std.specs.Prelude.{◌⊎◌, Option, Result, IfErr, IfOk}
+use Rattle.tt_abs.specs.declared.setting.Setting.{Setting as Subject}
+use Rattle.tt_abs.specs.declared.state.State.{State}
+use Rattle.tt_abs.specs.Settings.{setting_of}
+use Rattle.tt_abs.specs.StateFlow.{Place}
+use Rattle.tt_cert.specs.Checks.{IsOutOfMemory}
+use Rattle.tt_cert.specs.Contents.{family_of}
+use Rattle.tt_cert.specs.declared.fault.ProgramFault.{ProgramFault}
+use Rattle.tt_find.specs.Found.{AreLeastContexts, HasLeastFilling, IsJustified, IsNeverEnding, LacksEnd, NamesPlace, NeedsAll, NoneIsGood}
+use Rattle.tt_find.specs.declared.finder.Found.{Found}
+
+-- the found family can be filled up to the least good one, by so many updates
+abbrev pub IsLeastFor : Subject → Found → Type 0
+IsLeastFor x found =
+    HasLeastFilling (setting_of x) x.start.now found.updates (family_of found.certificate)
+
+-- each good family has states in all contexts that were found
+abbrev pub HasLeastContexts : Subject → Found → Type 0
+HasLeastContexts x found = AreLeastContexts (setting_of x) x.start.now found.certificate.contexts
+
+-- none of the found states can be left out
+abbrev pub HasOnlyNeeded : Subject → Found → Type 0
+HasOnlyNeeded x found = NeedsAll (setting_of x) x.start.now (family_of found.certificate)
+
+-- the fault names a place and a reason that are right, unless memory ran out
+abbrev pub IsJustifiedFor : Subject → ProgramFault → Type 0
+IsJustifiedFor x = NamesPlace (IsJustified (setting_of x) x.start.now)
+
+-- no family is good, unless memory ran out, or the end alone isn't reached
+abbrev pub TellsNoneIsGood : Subject → ProgramFault → Type 0
+TellsNoneIsGood x fault =
+    IsOutOfMemory fault ⊎ IsNeverEnding fault ⊎ NoneIsGood (setting_of x) x.start.now
+
+-- where the least family is good except for the end, the answer says so, unless memory ran out
+abbrev pub TellsNoEnd : Subject → Result Found ProgramFault → Type 0
+TellsNoEnd x answer =
+    (family : Place → Option State) → LacksEnd (setting_of x) x.start.now family
+    → IfOk answer (λ _. ⊥) × IfErr answer (λ fault. IsOutOfMemory fault ⊎ IsNeverEnding fault)

@@ -1,0 +1,7 @@
+-- How the code keeps what the definitions speak of: private contracts cite these, and no public one
+-- does.
+pub mod ComponentReads
+pub mod CompositeLists
+pub mod GlyphParts
+pub mod GlyphTables
+pub mod OutlineSizes

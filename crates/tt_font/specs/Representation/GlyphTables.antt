@@ -1,0 +1,36 @@
+-- The glyphs of the tables `loca` and `glyf`, as the code has them, and their faults.
+-- (Representation.)
+use Rattle.std.specs.Prelude.{◌≡◌, ℕ, ◌<◌, List, true, is_some}
+use Rattle.tt_font.specs.declared.glyph_table.GlyphTable.{GlyphTable}
+use Rattle.tt_font.specs.Locations.{glyph_bytes}
+use Rattle.tt_font.specs.Glyphs.{program_of, component_total}
+use Rattle.tt_font.specs.Outlines.{Outline, outlines_of}
+use Rattle.tt_font.specs.Conditions.{Condition, glyph_fault, composite_fault, glyphs_fault}
+
+-- the bytes of each glyph
+abbrev pub glyphs_of : GlyphTable → ℕ → List ℕ
+glyphs_of table id = glyph_bytes table.format table.loca.now table.glyf.now id
+
+-- the outline of each glyph
+abbrev pub outlines_in : GlyphTable → ℕ → Outline
+outlines_in table id = outlines_of table.count (glyphs_of table) id
+
+-- how many components all glyphs list
+abbrev pub components_in : GlyphTable → ℕ
+components_in table = component_total (glyphs_of table) table.count
+
+-- the bytes of each glyph are there
+abbrev pub AreWhole : GlyphTable → Type 0
+AreWhole table = (id : ℕ) → id < table.count → is_some (program_of (glyphs_of table id)) ≡ true
+
+-- the condition that a glyph's bytes end too early
+abbrev pub truncated_in : GlyphTable → Condition
+truncated_in table = glyph_fault table.count (glyphs_of table)
+
+-- the condition that a glyph is refused by its components, points or contours
+abbrev pub refused_in : GlyphTable → Condition
+refused_in table = composite_fault table.count (outlines_in table)
+
+-- the first of the two that holds
+abbrev pub fault_in : GlyphTable → Condition
+fault_in table = glyphs_fault table.count (glyphs_of table) (outlines_in table)
