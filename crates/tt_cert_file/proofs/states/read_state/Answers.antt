@@ -23,6 +23,14 @@ returns-in_err-set_rest-clause-beginning g c = consumes_then _ _ _ (consumes_the
 pub returns-clause-beginning : goal.returns-clause-beginning
 returns-clause-beginning g c = consumes_then _ _ _ (consumes_then _ _ _ (consumes_then _ _ _ c.read_stack.ensures.beginning c.read_graphics.ensures.beginning) c.read_functions.ensures.beginning) c.read_storage.ensures.beginning
 
+pub returns-in_err-stack-clause-stopped : goal.returns-in_err-stack-clause-stopped
+unfolding state_at
+returns-in_err-stack-clause-stopped g c =
+    let p = err_from_is_err_and c.from_residual.result c.from_residual.ensures.1 in
+    let e = c.in_err-stack.field-0.0 in
+    rw (p.1, p.2) (stops_made state_from (parts_at c.args.form) _ _ _ e
+    (stops_first stack_at (λ _. after_stack c.args.form) _ _ _ e c.in_err-stack.ensures.stopped))
+
 pub returns-in_err-graphics-clause-stopped : goal.returns-in_err-graphics-clause-stopped
 unfolding state_at
 returns-in_err-graphics-clause-stopped g c =
