@@ -12,6 +12,12 @@ use std::process::Abort;
 /// From one trial to the next, a call is left so many bytes more, as the C library's blocks grow.
 const STEP: usize = 16;
 
+/// From so many bytes on the steps are longer, since commands have buffers of 64 KB.
+const LITTLE: usize = 16_384;
+
+/// The length of these steps.
+const LONG_STEP: usize = 512;
+
 /// So many bytes are left at most, more than any call needs.
 const MOST: usize = 400_000;
 
@@ -52,7 +58,8 @@ pub(crate) fn told_of(heap: &mut Heap, trial: &Trial<'_>) -> Told {
 /// to; nothing where it tells anything else.
 fn refusals(heap: &mut Heap, trial: &Trial<'_>, ample: Told) -> Option<u32> {
     let mut refusals = 0u32;
-    for left in (0..MOST).step_by(STEP) {
+    let little = (0..LITTLE).step_by(STEP);
+    for left in little.chain((LITTLE..MOST).step_by(LONG_STEP)) {
         heap.leave(Some(left));
         let told = told_of(heap, trial);
         if told == ample {
