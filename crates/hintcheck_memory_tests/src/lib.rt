@@ -1,6 +1,6 @@
 //! Tests of growths of memory that are refused. A test has a process of its own, whose heap it uses
 //! up; then it makes a call again and again, each time with 16 bytes more, until it has enough
-//! (from 16 KB on with 512 more). So the call is refused its first growth, and then each further
+//! (528 from 16 KB on). So the call is refused its first growth, and then each further
 //! one that needs more memory than there was before it. A growth that fits into memory that the
 //! call has freed can't be the first that is refused: those are refused by `bench/allocations.py`,
 //! for the program as a whole.
