@@ -15,6 +15,5 @@ pub record IsTextOfCells (text starts : List ℕ) (cells : List Cell) : Type 0 w
   pub text_is : text ≡ flat_map cell_text cells
   pub starts_are : starts ≡ starts_of 0 cells
 
--- the same of a text that is kept
 abbrev pub IsStackText : StackText → List Cell → Type 0
 IsStackText t cells = IsTextOfCells t.cells.items t.starts.items cells
