@@ -69,7 +69,8 @@ fn assert_command_refused<'a>(
     text: &'a str,
 ) {
     let order = Order { words, text };
-    assert_refused(rt, heap, text, &Trial::Command(host, order));
+    let name = words.get(1).copied().unwrap_or(text);
+    assert_refused(rt, heap, name, &Trial::Command(host, order));
 }
 
 /// What is printed of a font with one glyph.

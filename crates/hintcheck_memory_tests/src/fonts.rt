@@ -5,7 +5,7 @@ ghost use Rattle.std.specs.Prelude.{◌≡◌, ◌<◌};
 use crate::examples::{EXAMPLES, Example, example_of, files_of};
 use crate::heap::Heap;
 use crate::matching::Matching;
-use crate::trials::{Told, Trial, assert_refused};
+use crate::trials::{Told, Trial, refusals_of};
 use hintcheck::{FindFontFault, FontFault, UpgradeFault, bare, find_font, upgrade};
 use hintcheck_test_fixtures::font_calls::{Told as Font, checked, judged};
 use hintcheck_test_fixtures::fonts::MAXP;
@@ -154,13 +154,16 @@ pub(crate) fn told_of_font(heap: &mut Heap, call: FontCall, example: &Example<'_
 #[test]
 fn calls_on_fonts(rt: HostRuntime) -> Result<(), Fail> {
     let mut heap = Heap::new(rt.alloc());
-    for programs in &EXAMPLES {
-        let files = files_of(rt.alloc(), programs)?;
-        let example = example_of(programs, &files).ok_or(programs.name)?;
-        for call in CALLS {
+    for call in CALLS {
+        let mut count = 0u32;
+        for programs in &EXAMPLES {
+            let files = files_of(rt.alloc(), programs)?;
+            let example = example_of(programs, &files).ok_or(programs.name)?;
             let name = format!(in rt.alloc(); "{call:?} on {}", programs.name)?;
-            assert_refused(&rt, &mut heap, &name, &Trial::Font(call, example));
+            let trial = Trial::Font(call, example);
+            count = count.saturating_add(refusals_of(&rt, &mut heap, &name, &trial));
         }
+        assert!(rt; count > 0 || !heap.is_used_up(), "{call:?}: no refusal");
     }
     Ok(())
 }

@@ -22,6 +22,10 @@ const SMALL_BLOCKS: usize = 4_000;
 /// many, instead of joining them. In steps of 16 there are so many sizes of them.
 const KEPT_SIZES: usize = 64;
 
+/// So many freed blocks of each of these sizes it keeps. A freed block that is kept lies between
+/// others, which then aren't joined over it.
+const KEPT_BLOCKS: usize = 7;
+
 /// A block of this size isn't one of these.
 const APART: usize = 2_048;
 
@@ -33,6 +37,29 @@ struct Hoard {
     most: usize,
     /// How many blocks stay when the room is given back.
     kept: usize,
+    /// Blocks outside of the room of all sizes that the C library keeps, as many as it keeps.
+    fillers: Vec<Vec<u8>>,
+    /// The blocks that it kept after a call.
+    drawn: Vec<Vec<u8>>,
+}
+
+/// Takes as many blocks of a size as the C library keeps, or as there are.
+fn take_kept_blocks(blocks: &mut Vec<Vec<u8>>, alloc: Global, size: usize) {
+    for _ in 0..KEPT_BLOCKS {
+        let Ok(block) = Vec::with_capacity(alloc, size) else {
+            return;
+        };
+        if blocks.push(block).is_err() {
+            return;
+        }
+    }
+}
+
+/// Takes as many blocks of each size that the C library keeps as it keeps.
+fn take_kept_sizes(blocks: &mut Vec<Vec<u8>>, alloc: Global) {
+    for less in 0..KEPT_SIZES {
+        take_kept_blocks(blocks, alloc, 1_032 - 16 * less);
+    }
 }
 
 impl Hoard {
@@ -72,7 +99,9 @@ impl Hoard {
 
     /// Takes all memory but the room; nothing where it can't be used up.
     fn new(alloc: Global) -> Option<Hoard> {
-        let mut room: Vec<Vec<u8>> = Vec::new(alloc);
+        let mut fillers = Vec::with_capacity(alloc, KEPT_SIZES * KEPT_BLOCKS).ok()?;
+        take_kept_sizes(&mut fillers, alloc);
+        let mut room: Vec<Vec<u8>> = Vec::with_capacity(alloc, ROOM.len()).ok()?;
         for size in ROOM {
             room.push(Vec::with_capacity(alloc, size).ok()?).ok()?;
         }
@@ -80,6 +109,8 @@ impl Hoard {
             blocks: Vec::with_capacity(alloc, LARGE_BLOCKS + SMALL_BLOCKS).ok()?,
             most: LARGE_BLOCKS,
             kept: 0,
+            fillers,
+            drawn: Vec::with_capacity(alloc, KEPT_SIZES * KEPT_BLOCKS).ok()?,
         };
         hoard.take_large(alloc);
         hoard.most = hoard.blocks.len().saturating_add(SMALL_BLOCKS);
@@ -99,6 +130,16 @@ impl Hoard {
         self.take_small(alloc);
         drop(gap);
         self.take_block(alloc, APART);
+    }
+
+    /// Gives the room back, joined to one block again: what the C library kept of it is drawn, and
+    /// the fillers are kept in its place as long as the blocks of the room are freed.
+    fn give_back(&mut self, alloc: Global) {
+        take_kept_sizes(&mut self.drawn, alloc);
+        self.fillers.clear();
+        self.drawn.clear();
+        self.blocks.truncate(self.kept);
+        take_kept_sizes(&mut self.fillers, alloc);
     }
 }
 
@@ -141,7 +182,7 @@ impl Heap {
     /// Gives the room back.
     pub(crate) fn give_back(&mut self) {
         if let Some(hoard) = &mut self.hoard {
-            hoard.blocks.truncate(hoard.kept);
+            hoard.give_back(self.alloc);
         }
     }
 }

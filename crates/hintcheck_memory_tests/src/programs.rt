@@ -7,7 +7,7 @@ ghost use Rattle.tt_abs.specs.StateFlow.{FunctionsFit};
 use crate::examples::{CALL_POPS, EXAMPLES, Example, example_of, files_of, files_with_all_states};
 use crate::heap::Heap;
 use crate::sections::section_of;
-use crate::trials::{Told, Trial, assert_refused, told_of};
+use crate::trials::{Told, Trial, assert_refused, refusals_of, told_of};
 use hintcheck_test_fixtures::families::state_of;
 use hintcheck_test_fixtures::programs::{LIMITS, cut};
 use std::alloc::{AllocError, Global};
@@ -194,13 +194,16 @@ pub(crate) fn told_of_program(heap: &mut Heap, call: ProgramCall, example: &Exam
 #[test]
 fn calls_on_programs(rt: HostRuntime) -> Result<(), Fail> {
     let mut heap = Heap::new(rt.alloc());
-    for programs in &EXAMPLES {
-        let files = files_of(rt.alloc(), programs)?;
-        let example = example_of(programs, &files).ok_or(programs.name)?;
-        for call in CALLS {
+    for call in CALLS {
+        let mut count = 0u32;
+        for programs in &EXAMPLES {
+            let files = files_of(rt.alloc(), programs)?;
+            let example = example_of(programs, &files).ok_or(programs.name)?;
             let name = format!(in rt.alloc(); "{call:?} on {}", programs.name)?;
-            assert_refused(&rt, &mut heap, &name, &Trial::Program(call, example));
+            let trial = Trial::Program(call, example);
+            count = count.saturating_add(refusals_of(&rt, &mut heap, &name, &trial));
         }
+        assert!(rt; count > 0 || !heap.is_used_up(), "{call:?}: no refusal");
     }
     Ok(())
 }

@@ -12,8 +12,20 @@ use std::process::Abort;
 /// From one trial to the next, a call is left so many bytes more, as the C library's blocks grow.
 const STEP: usize = 16;
 
-/// So many bytes are left at most, more than any call needs.
-const MOST: usize = 400_000;
+/// After so many trials the steps are longer, since commands have buffers of 64 KB.
+const SHORT_STEPS: usize = 1_024;
+
+/// So many bytes longer they are then.
+const LONGER: usize = 512;
+
+/// So many trials are made at most. In the last one a call is left 370,000 bytes.
+const TRIALS: usize = 1_700;
+
+/// Returns how many bytes a call is left in the trial with this number.
+fn left_in(number: usize) -> usize {
+    let longer = number.saturating_sub(SHORT_STEPS).saturating_mul(LONGER);
+    number.saturating_mul(STEP).saturating_add(longer)
+}
 
 /// What a call tells.
 #[derive(Clone, Copy, Debug, PartialEq, Eq)]
@@ -52,8 +64,8 @@ pub(crate) fn told_of(heap: &mut Heap, trial: &Trial<'_>) -> Told {
 /// to; nothing where it tells anything else.
 fn refusals(heap: &mut Heap, trial: &Trial<'_>, ample: Told) -> Option<u32> {
     let mut refusals = 0u32;
-    for left in (0..MOST).step_by(STEP) {
-        heap.leave(Some(left));
+    for number in 0..TRIALS {
+        heap.leave(Some(left_in(number)));
         let told = told_of(heap, trial);
         if told == ample {
             return Some(refusals);
