@@ -22,6 +22,9 @@ PAGE = TOP / "docs/CONTRACTS.md"
 # What the tests share, which promises nothing to users.
 FIXTURES = "hintcheck_test_fixtures"
 
+# The crates of tests that the page names.
+TEST_CRATES = ("tt_tests", "hintcheck_tests")
+
 OWNER = re.compile(r"^(?:pub )?(impl|trait)\b([^{]*)\{", re.M)
 FUNCTION = re.compile(r"^ *(pub(?:\(\w+\))? )?(?:final )?fn (\w+)", re.M)
 CLAUSE = re.compile(r"\b(requires|ensures)\b\s*(\w*)\s*\{|[;{]")
@@ -156,7 +159,7 @@ def faults_of_row(crate: str, row: list[str], known: dict[tuple[str, str], Claus
     if named != cited:
         yield f"{crate}: {clauses} cites {sorted(cited)}, not {sorted(named)}"
     for test in re.findall(r"\w+/\w+", tests):
-        if not (TOP / f"crates/hintcheck_tests/src/{test}.rt").exists():
+        if not any((TOP / f"crates/{tests}/src/{test}.rt").exists() for tests in TEST_CRATES):
             yield f"{crate}: there is no test module {test}"
     gate, _, further = edits.partition("*also*")
     for folder, cell in ((f"crates/{crate}/must-fail", gate), (f"bench/edits/{crate}", further)):

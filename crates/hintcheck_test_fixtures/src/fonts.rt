@@ -179,17 +179,6 @@ pub fn made(alloc: Global, components: &[u8]) -> Result<Vec<u8>, NoFile> {
     Ok(parts.concat(alloc)?)
 }
 
-/// Returns a composite glyph that has a glyph so many times as a component.
-pub fn many_times(alloc: Global, id: u16, times: u16) -> Result<Vec<u8>, NoFile> {
-    let [high, low] = id.to_be_bytes();
-    let mut glyph = MADE.to_vec(alloc)?;
-    for i in 0..times {
-        let flags = if i + 1 < times { 0x20 } else { 0 };
-        glyph.extend_from_slice(&[0, flags, high, low, 0, 0])?;
-    }
-    Ok(glyph)
-}
-
 /// Whether this is read of a glyph, none where the font has fewer glyphs.
 pub fn has_glyph(alloc: Global, file: &[u8], id: u16, glyph: Option<GlyphPart<'_>>) -> bool {
     match Font::read(alloc, file) {

@@ -3,6 +3,7 @@
 //! them.
 #![tactic(auto)]
 
+pub mod composites;
 pub mod families;
 pub mod font_calls;
 pub mod fonts;

@@ -1,22 +1,9 @@
-//! The tests of all crates, a module for each. They are one crate, since each crate of tests reads
-//! the libraries below it once more.
+//! The tests of certificate files, of the command line's words, and of hintcheck, a module for each.
 #![tactic(auto)]
 
-#[cfg(test)]
-mod abs;
-#[cfg(test)]
-mod cert;
 #[cfg(test)]
 mod cert_file;
 #[cfg(test)]
 mod checker;
-#[cfg(test)]
-mod code;
-#[cfg(test)]
-mod find;
-#[cfg(test)]
-mod font;
-#[cfg(test)]
-mod stream;
 #[cfg(test)]
 mod words;

@@ -1,5 +1,5 @@
--- Words in which clap finds no fault name a subcommand that asks for something, and the numbers of
--- `bare` are numbers then.
+-- Words in which clap finds no fault name a subcommand that asks for something, and what is given as
+-- a number is one then.
 use Rattle.std.proofs.Common.{◌≡◌, ◌<◌, Bool, true, false, List, [], ◌∷◌, Option, Some, None, length, refl, sym, ap, subst, ◌∙◌, inl, inr, arith, codes}
 use Rattle.std.specs.Prelude.{find, fold, option_map, option_and_then, is_some, not, pos, ◌&&◌, ◌||◌}
 use Rattle.std.specs.List.{list_all, list_any}
@@ -21,14 +21,15 @@ use Rattle.clap.specs.declared.builder.value_parser.ValueParser.TheVariants as v
 use Rattle.clap.proofs.ValueTestLemmas.{accepts-Accepts}
 use Rattle.clap.proofs.SimpleLemmas.{is_nil}
 use Rattle.clap.proofs.WalkLemmas.{both}
-use Rattle.hintcheck_words.specs.Requests.{HasNumber, request_of}
+use Rattle.hintcheck_words.specs.Requests.{HasNumber, HasNumberIfAny, request_of}
 use Rattle.hintcheck_words.proofs.Rows.{FitsRule, RowFits, RowsFit, all_found, both_empty, found_passes, takes_value, true_or_false}
 use Rattle.hintcheck_words.proofs.Walks.{Fits, HelpsIfAbove, IsNotHelp, OnlyHelp, settled_fits, walk_fits}
 
--- ---- help as the only flag
+-- ---- help and the version as the only flags
 
 abbrev pub is_help_action : ArgAction → Bool
 is_help_action Help = true
+is_help_action Version = true
 is_help_action _ = false
 
 abbrev pub is_help : Rule → Bool
@@ -110,10 +111,22 @@ check_last false true true e = absurd cc
 check_last false false true e = absurd cc
 
 -- a subcommand: help is its only flag, and no argument has a default
-pub record IsLeaf (s : Shape) : Type 0 where
-  pub flags : OnlyHelp s.rules
-  pub defaults : list_all (λ a. is_empty a.defaults) s.rules ≡ true
-  pub negates : s.subcommand_negates_reqs ≡ false
+record IsLeaf (s : Shape) : Type 0 where
+  flags : OnlyHelp s.rules
+  defaults : list_all (λ a. is_empty a.defaults) s.rules ≡ true
+  negates : s.subcommand_negates_reqs ≡ false
+
+-- the same as a test
+abbrev pub is_leaf : Shape → Bool
+is_leaf s = list_all is_no_flag_but_help s.rules
+    && (list_all (λ a. takes_value (action_of a) a) s.rules && (list_all (λ a. is_empty a.defaults) s.rules && not s.subcommand_negates_reqs))
+
+leaf_of : (s : Shape) → is_leaf s ≡ true → IsLeaf s
+leaf_of s e =
+    let flags = both _ _ e in
+    let takes = both _ _ flags.1 in
+    let defaults = both _ _ takes.1 in
+    record { flags = only_help s.rules flags.0 takes.0; defaults = defaults.0; negates = is_not _ defaults.1 }
 
 pub record LevelRows (s : Shape) (rows : List Row) : Type 0 where
   pub fit : RowsFit s.rules rows
@@ -161,32 +174,48 @@ row_found c p (x ∷ rows) r fits e = elim (true_or_false (p x)) [
   | inr other ↦ row_found c p rows r fits.1 (rw other at e)
 ]
 
--- a rule of a number that must be given
-pub record IsNumberRule (c : List Rule) (id : Text) (a : Rule) : Type 0 where
+-- a rule of a number up to this one
+pub record IsNumberRule (c : List Rule) (most : ℕ) (id : Text) (a : Rule) : Type 0 where
   pub found : arg_by_id c id ≡ Some a
   pub named : a.id ≡ id
-  pub required : a.required ≡ true
-  pub parser : a.parser ≡ Some (vp.Signed (pos 0) (pos 65535))
+  pub parser : a.parser ≡ Some (vp.Signed (pos 0) (pos most))
 
-value_accepted : (a : Rule) (v : Text) (vs : List Text) → a.parser ≡ Some (vp.Signed (pos 0) (pos 65535)) → values_fault a (v ∷ vs) ≡ [] → IsSignedIn (pos 0) (pos 65535) v
-value_accepted a v vs parser e = go (accepts a.ignore_case (vp.Signed (pos 0) (pos 65535)) v) refl (subst (λ q. value_kinds a.ignore_case (parser_of_value q) v ≡ []) parser (both_empty _ _ e).0)
+value_accepted : (a : Rule) (most : ℕ) (v : Text) (vs : List Text) → a.parser ≡ Some (vp.Signed (pos 0) (pos most)) → values_fault a (v ∷ vs) ≡ [] → IsSignedIn (pos 0) (pos most) v
+value_accepted a most v vs parser e =
+    go (accepts a.ignore_case (vp.Signed (pos 0) (pos most)) v) refl (subst (λ q. value_kinds a.ignore_case (parser_of_value q) v ≡ []) parser (both_empty _ _ e).0)
   where
-    go : (b : Bool) → accepts a.ignore_case (vp.Signed (pos 0) (pos 65535)) v ≡ b → value_kinds a.ignore_case (vp.Signed (pos 0) (pos 65535)) v ≡ [] → IsSignedIn (pos 0) (pos 65535) v
-    go true h f = accepts-Accepts a.ignore_case (vp.Signed (pos 0) (pos 65535)) v h
+    go : (b : Bool) → accepts a.ignore_case (vp.Signed (pos 0) (pos most)) v ≡ b → value_kinds a.ignore_case (vp.Signed (pos 0) (pos most)) v ≡ [] → IsSignedIn (pos 0) (pos most) v
+    go true h f = accepts-Accepts a.ignore_case (vp.Signed (pos 0) (pos most)) v h
     go false h f = let bad = rw h at f in absurd cc
 
-row_number : (a : Rule) (r : Row) → FitsRule a r → a.parser ≡ Some (vp.Signed (pos 0) (pos 65535)) → (t : Text) × (row_text r ≡ Some (without_minus t)) × IsSignedIn (pos 0) (pos 65535) t
-row_number a r f parser = go r.values f.values f.some refl
+row_number : (a : Rule) (most : ℕ) (r : Row) → FitsRule a r → a.parser ≡ Some (vp.Signed (pos 0) (pos most)) → (t : Text) × (row_text r ≡ Some (without_minus t)) × IsSignedIn (pos 0) (pos most) t
+row_number a most r f parser = go r.values f.values f.some refl
   where
     reads : (v : Text) → read_as r.reading v ≡ without_minus v
     reads v = rw (f.reading, parser) refl
 
-    go : (values : List Text) → values_fault a values ≡ [] → 0 < length values → r.values ≡ values → (t : Text) × (row_text r ≡ Some (without_minus t)) × IsSignedIn (pos 0) (pos 65535) t
+    go : (values : List Text) → values_fault a values ≡ [] → 0 < length values → r.values ≡ values → (t : Text) × (row_text r ≡ Some (without_minus t)) × IsSignedIn (pos 0) (pos most) t
     go [] e some is = absurd (omega arith)
-    go (v ∷ vs) e some is = (v, rw is (ap (λ (t : Text). Some t) (reads v)), value_accepted a v vs parser e)
+    go (v ∷ vs) e some is = (v, rw is (ap (λ (t : Text). Some t) (reads v)), value_accepted a most v vs parser e)
 
-pub number_among : (s : Shape) (rows : List Row) (id : Text) (a : Rule) → LevelRows s rows → IsNumberRule s.rules id a → HasNumber rows id
-number_among s rows id a level n = go (find (λ r. bytes_eq r.id id) rows) refl given
+-- the number of a row that was found
+number_found : (s : Shape) (rows : List Row) (most : ℕ) (id : Text) (a : Rule) (r : Row) → LevelRows s rows → IsNumberRule s.rules most id a → find (λ r. bytes_eq r.id id) rows ≡ Some r
+    → HasNumber most rows id
+number_found s rows most id a r level n e =
+    let id_is : r.id ≡ id = (bytes_eq-Decides r.id id).0 (found_passes (λ x. bytes_eq x.id id) rows r e) in
+    let rule : arg_by_id s.rules r.id ≡ Some a = subst (λ (t : Text). arg_by_id s.rules t ≡ Some a) (sym id_is) n.found in
+    let number = row_number a most r (row_found s.rules (λ x. bytes_eq x.id id) rows r level.fit e a rule) n.parser in
+    record { text = number.0; found = ap (option_and_then row_text) e ∙ number.1; number = number.2 }
+
+pub number_if_any : (s : Shape) (rows : List Row) (most : ℕ) (id : Text) (a : Rule) → LevelRows s rows → IsNumberRule s.rules most id a → HasNumberIfAny most rows id
+number_if_any s rows most id a level n = go (find (λ r. bytes_eq r.id id) rows) refl
+  where
+    go : (found : Option Row) → find (λ r. bytes_eq r.id id) rows ≡ found → HasNumberIfAny most rows id
+    go None e = inl (ap (option_and_then row_text) e)
+    go (Some r) e = inr (number_found s rows most id a r level n e)
+
+pub number_among : (s : Shape) (rows : List Row) (most : ℕ) (id : Text) (a : Rule) → LevelRows s rows → IsNumberRule s.rules most id a → a.required ≡ true → HasNumber most rows id
+number_among s rows most id a level n required = go (find (λ r. bytes_eq r.id id) rows) refl given
   where
     asked : (a.required && not (is_given a.id rows)) ≡ false
     asked = not_any (λ b. b.required && not (is_given b.id rows)) (λ b. bytes_eq b.id id) s.rules a level.given n.found
@@ -196,52 +225,57 @@ number_among s rows id a level n = go (find (λ r. bytes_eq r.id id) rows) refl 
     denied false e = absurd cc
 
     given : is_given id rows ≡ true
-    given = subst (λ (t : Text). is_given t rows ≡ true) n.named (denied _ (rw n.required at asked))
+    given = subst (λ (t : Text). is_given t rows ≡ true) n.named (denied _ (rw required at asked))
 
-    go : (found : Option Row) → find (λ r. bytes_eq r.id id) rows ≡ found → option_map_or (λ r. explicit_source r.source) found false ≡ true → HasNumber rows id
+    go : (found : Option Row) → find (λ r. bytes_eq r.id id) rows ≡ found → option_map_or (λ r. explicit_source r.source) found false ≡ true → HasNumber most rows id
     go None e g = absurd cc
-    go (Some r) e g =
-        let id_is : r.id ≡ id = (bytes_eq-Decides r.id id).0 (found_passes (λ x. bytes_eq x.id id) rows r e) in
-        let rule : arg_by_id s.rules r.id ≡ Some a = subst (λ (t : Text). arg_by_id s.rules t ≡ Some a) (sym id_is) n.found in
-        let number = row_number a r (row_found s.rules (λ x. bytes_eq x.id id) rows r level.fit e a rule) n.parser in
-        record { text = number.0; found = ap (option_and_then row_text) e ∙ number.1; number = number.2 }
+    go (Some r) e g = number_found s rows most id a r level n e
 
 -- ---- the whole command line
 
--- a subcommand other than `bare`: `help`, or one that asks for something
-abbrev pub is_other : List Row → Shape → Bool
-is_other rows s = is_empty s.aliases && (bytes_eq s.name (codes "help") || (not (bytes_eq s.name (codes "bare")) && is_some (request_of (s.name, rows))))
+-- a subcommand: `help`, or one that asks for something
+abbrev pub is_part : List Row → Shape → Bool
+is_part rows s = is_empty s.aliases && (bytes_eq s.name (codes "help") || (is_some (request_of (s.name, rows)) && is_leaf s))
 
--- a command whose subcommands are `bare` and others
-pub record IsLine (a : App) (s : Shape) (others : List Shape) : Type 0 where
+-- a command with such subcommands
+pub record IsLine (a : App) : Type 0 where
   pub flags : OnlyHelp a.top.rules
   pub helped : a.top.disable_help_subcommand ≡ false
-  pub subs : a.subs ≡ s ∷ others
-  pub leaf : IsLeaf s
-  pub known : (rows : List Row) → is_some (request_of (s.name, rows)) ≡ true
-  pub others_known : (rows : List Row) → list_all (is_other rows) others ≡ true
+  pub parts : (rows : List Row) → list_all (is_part rows) a.subs ≡ true
 
--- the subcommand asks for something, and the rows of `bare` have no fault
-pub record Names (s : Shape) (name : Text) (rows : List Row) : Type 0 where
+-- the subcommand of this name
+abbrev pub subcommand_at : App → Text → Option Shape
+subcommand_at a name = find (λ s. answers_to name (label_of s)) a.subs
+
+-- the subcommand asks for something, and its rows have no fault
+pub record Names (a : App) (name : Text) (rows : List Row) : Type 0 where
   pub known : is_some (request_of (name, rows)) ≡ true
-  pub level : name ≡ codes "bare" → LevelRows s rows
+  pub shape : Shape
+  pub found : subcommand_at a name ≡ Some shape
+  pub level : LevelRows shape rows
+
+-- the rows of a subcommand of this name have no fault
+pub level_at : (a : App) (name known : Text) (rows : List Row) (s : Shape) → Names a name rows → name ≡ known → subcommand_at a known ≡ Some s → LevelRows s rows
+level_at a name known rows s n is found =
+    let same : ◌≡◌ {A = Option Shape} (Some n.shape) (Some s) = sym n.found ∙ ap (subcommand_at a) is ∙ found in
+    let shape : n.shape ≡ s = cc in
+    subst (λ (t : Shape). LevelRows t rows) shape n.level
 
 pair_parts : (a b : Text) (x y : List Row) → ◌≡◌ {A = Option (Text × List Row)} (Some (a, x)) (Some (b, y)) → (a ≡ b) × (x ≡ y)
 pair_parts a b x y e = let p : ◌≡◌ {A = Text × List Row} (a, x) (b, y) = cc in (ap (λ q. q.0) p, ap (λ q. q.1) p)
 
--- another subcommand that is not `help`
-other_names : (s t : Shape) (word : Text) (rows : List Row) → answers_to word (label_of t) ≡ true → is_other rows t ≡ true → bytes_eq word (codes "help") ≡ false → Names s t.name rows
-other_names s t word rows answers other not_help =
-    let parts = both _ _ other in
+-- a subcommand that is not `help`
+part_names : (a : App) (t : Shape) (word : Text) (rows : List Row) → subcommand_at a word ≡ Some t → is_part rows t ≡ true → bytes_eq word (codes "help") ≡ false → (IsLeaf t → LevelRows t rows)
+    → Names a t.name rows
+part_names a t word rows found part not_help level =
+    let parts = both _ _ part in
     let aliases : t.aliases ≡ [] = is_nil _ parts.0 in
+    let answers = found_passes (λ s. answers_to word (label_of s)) a.subs t found in
     let here : (bytes_eq t.name word || false) ≡ true = subst (λ (xs : List Text). (bytes_eq t.name word || list_any (λ alias. bytes_eq alias word) xs) ≡ true) aliases answers in
     let same : t.name ≡ word = (bytes_eq-Decides t.name word).0 (left_true _ here) in
     let not_named : bytes_eq t.name (codes "help") ≡ false = subst (λ (w : Text). bytes_eq w (codes "help") ≡ false) (sym same) not_help in
     let rest = both _ _ (right_true _ _ not_named parts.1) in
-    record {
-      known = rest.1;
-      level = λ named. absurd (differs (bytes_eq t.name (codes "bare")) rest.0 ((bytes_eq-Decides t.name (codes "bare")).1 named));
-    }
+    record { known = rest.0; shape = t; found = ap (subcommand_at a) same ∙ found; level = level (leaf_of t rest.1) }
   where
     left_true : (b : Bool) → (b || false) ≡ true → b ≡ true
     left_true true e = refl
@@ -251,41 +285,25 @@ other_names s t word rows answers other not_help =
     right_true true c f e = absurd cc
     right_true false c f e = e
 
-    differs : (b : Bool) → not b ≡ true → b ≡ true → ⊥
-    differs true e f = cc
-    differs false e f = cc
-
-stop_names : (a : App) (s : Shape) (others : List Shape) (line : IsLine a s others) (stop : Option (Text × List Text)) (name : Text) (rows : List Row) → IsNotHelp stop → entered_fault a stop ≡ []
-    → entered a stop ≡ Some (name, rows) → Names s name rows
-stop_names a s others line None name rows other e met = absurd cc
-stop_names a s others line (Some p) name rows other e met = go (rw line.subs at e) (rw line.subs at met)
+stop_names : (a : App) (line : IsLine a) (stop : Option (Text × List Text)) (name : Text) (rows : List Row) → IsNotHelp stop → entered_fault a stop ≡ [] → entered a stop ≡ Some (name, rows)
+    → Names a name rows
+stop_names a line None name rows other e met = absurd cc
+stop_names a line (Some p) name rows other e met = go (subcommand_at a p.0) refl e met
   where
     level : Shape → Kinds
     level t = level_fault t [] nothing_held p.1 false []
 
-    among : (found : Option Shape) → find (λ t. answers_to p.0 (label_of t)) others ≡ found → option_map (λ t. rows_at t p.1) found ≡ Some (name, rows) → Names s name rows
-    among None is m = absurd cc
-    among (Some t) is m =
+    go : (found : Option Shape) → subcommand_at a p.0 ≡ found → option_map_or level found [] ≡ [] → option_map (λ t. rows_at t p.1) found ≡ Some (name, rows) → Names a name rows
+    go None is f m = absurd cc
+    go (Some t) is f m =
         let parts = pair_parts t.name name (rows_after t.rules [] p.1) rows m in
-        let answers = found_passes (λ t. answers_to p.0 (label_of t)) others t is in
-        let known = all_found (is_other rows) (λ t. answers_to p.0 (label_of t)) others t (line.others_known rows) is in
-        subst (λ (n : Text). Names s n rows) parts.0 (other_names s t p.0 rows answers known other)
+        let part = all_found (is_part rows) (λ t. answers_to p.0 (label_of t)) a.subs t (line.parts rows) is in
+        subst (λ (n : Text). Names a n rows) parts.0
+        (part_names a t p.0 rows is part other (λ leaf. subst (LevelRows t) parts.1 (level_rows t leaf p.1 f)))
 
-    go : option_map_or level (find (λ t. answers_to p.0 (label_of t)) (s ∷ others)) [] ≡ []
-        → option_map (λ t. rows_at t p.1) (find (λ t. answers_to p.0 (label_of t)) (s ∷ others)) ≡ Some (name, rows) → Names s name rows
-    go f m = elim (true_or_false (answers_to p.0 (label_of s))) [
-      | inl here ↦
-          let parts = pair_parts s.name name (rows_after s.rules [] p.1) rows (rw here at m) in
-          record {
-            known = subst (λ (n : Text). is_some (request_of (n, rows)) ≡ true) parts.0 (line.known rows);
-            level = λ named. subst (LevelRows s) parts.1 (level_rows s line.leaf p.1 (rw here at f));
-          }
-      | inr absent ↦ among _ refl (rw absent at m)
-    ]
-
-pub line_names : (a : App) (s : Shape) (others : List Shape) (line : IsLine a s others) (words : List Text) (name : Text) (rows : List Row) → built_fault a nothing_held words ≡ []
-    → entered a (walk a.top.rules (names_of a) nothing_held words).stopped ≡ Some (name, rows) → Names s name rows
-line_names a s others line words name rows e met =
+pub line_names : (a : App) (line : IsLine a) (words : List Text) (name : Text) (rows : List Row) → built_fault a nothing_held words ≡ []
+    → entered a (walk a.top.rules (names_of a) nothing_held words).stopped ≡ Some (name, rows) → Names a name rows
+line_names a line words name rows e met =
     let parts = both_empty _ _ e in
     let walked_fits = walk_fits a.top (names_of a) line.flags (λ waiting word met is. line.helped) words (walk_from nothing_held) (nothing_fits a.top.rules) parts.0 in
-    stop_names a s others line (walk a.top.rules (names_of a) nothing_held words).stopped name rows walked_fits.stopped (both_empty _ _ parts.1).0 met
+    stop_names a line (walk a.top.rules (names_of a) nothing_held words).stopped name rows walked_fits.stopped (both_empty _ _ parts.1).0 met

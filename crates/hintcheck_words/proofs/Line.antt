@@ -10,49 +10,66 @@ use Rattle.clap.specs.Walk.{Row, Rule, Text, arg_by_id}
 use Rattle.clap.proofs.OnLiterals.{clap_on_literals}
 use Rattle.hintcheck_words.specs.CommandLine.{hintcheck}
 use Rattle.hintcheck_words.specs.Requests.{IsReadable, met, request_of, requests}
-use Rattle.hintcheck_words.proofs.Faultless.{IsLeaf, IsLine, IsNumberRule, line_names, number_among, only_help}
+use Rattle.hintcheck_words.proofs.Faultless.{IsLine, IsNumberRule, level_at, line_names, number_among, number_if_any, only_help, subcommand_at}
 use Rattle.std.specs.Prelude.{drop, true, unwrap_or}
 
 abbrev first_or : {X : Type 0} → X → List X → X
 first_or d [] = d
 first_or d (x ∷ xs) = x
 
--- `bare` and the other subcommands, as parts of the built command line
+-- `bare` and `explain`, as parts of the built command line
 unfoldable pub bare_built : Shape
 bare_built = first_or hintcheck.top (built hintcheck).subs
 
-unfoldable pub others_built : List Shape
-others_built = drop 1 (built hintcheck).subs
+unfoldable pub explain_built : Shape
+explain_built = first_or hintcheck.top (drop 3 (built hintcheck).subs)
 
-bare_leaf : IsLeaf bare_built
+bare_found : subcommand_at (built hintcheck) (codes "bare") ≡ Some bare_built
 unfolding hintcheck bare_built clap_on_literals
-bare_leaf = record { flags = only_help bare_built.rules refl refl; defaults = refl; negates = refl }
+bare_found = refl
 
-line : IsLine (built hintcheck) bare_built others_built
-unfolding hintcheck bare_built others_built request_of requests clap_on_literals
+explain_found : subcommand_at (built hintcheck) (codes "explain") ≡ Some explain_built
+unfolding hintcheck explain_built clap_on_literals
+explain_found = refl
+
+line : IsLine (built hintcheck)
+unfolding hintcheck request_of requests clap_on_literals
 line = record {
   flags = only_help (built hintcheck).top.rules refl refl;
   helped = refl;
-  subs = refl;
-  leaf = bare_leaf;
-  known = λ rows. refl;
-  others_known = λ rows. refl;
+  parts = λ rows. refl;
 }
 
-unfoldable rule_at : Text → Rule
-rule_at id = unwrap_or (arg_by_id bare_built.rules id) (new_rule id)
+unfoldable rule_at : Shape → Text → Rule
+rule_at s id = unwrap_or (arg_by_id s.rules id) (new_rule id)
 
-cvt_rule : IsNumberRule bare_built.rules (codes "CVT") (rule_at (codes "CVT"))
+cvt_rule : IsNumberRule bare_built.rules 65535 (codes "CVT") (rule_at bare_built (codes "CVT"))
 unfolding hintcheck bare_built rule_at clap_on_literals
-cvt_rule = record { found = refl; named = refl; required = refl; parser = refl }
+cvt_rule = record { found = refl; named = refl; parser = refl }
 
-points_rule : IsNumberRule bare_built.rules (codes "POINTS") (rule_at (codes "POINTS"))
+cvt_required : (rule_at bare_built (codes "CVT")).required ≡ true
 unfolding hintcheck bare_built rule_at clap_on_literals
-points_rule = record { found = refl; named = refl; required = refl; parser = refl }
+cvt_required = refl
 
-contours_rule : IsNumberRule bare_built.rules (codes "CONTOURS") (rule_at (codes "CONTOURS"))
+points_rule : IsNumberRule bare_built.rules 65535 (codes "POINTS") (rule_at bare_built (codes "POINTS"))
 unfolding hintcheck bare_built rule_at clap_on_literals
-contours_rule = record { found = refl; named = refl; required = refl; parser = refl }
+points_rule = record { found = refl; named = refl; parser = refl }
+
+points_required : (rule_at bare_built (codes "POINTS")).required ≡ true
+unfolding hintcheck bare_built rule_at clap_on_literals
+points_required = refl
+
+contours_rule : IsNumberRule bare_built.rules 65535 (codes "CONTOURS") (rule_at bare_built (codes "CONTOURS"))
+unfolding hintcheck bare_built rule_at clap_on_literals
+contours_rule = record { found = refl; named = refl; parser = refl }
+
+contours_required : (rule_at bare_built (codes "CONTOURS")).required ≡ true
+unfolding hintcheck bare_built rule_at clap_on_literals
+contours_required = refl
+
+offset_rule : IsNumberRule explain_built.rules 4294967295 (codes "OFFSET") (rule_at explain_built (codes "OFFSET"))
+unfolding hintcheck explain_built rule_at clap_on_literals
+offset_rule = record { found = refl; named = refl; parser = refl }
 
 simple_and_free : is_simple_and_free hintcheck ≡ true
 unfolding hintcheck clap_on_literals
@@ -62,14 +79,19 @@ simple_and_free = refl
 pub meets_one : (words : List Text) (name : Text) (rows : List Row) → fault_of hintcheck words ≡ [] → met words ≡ Some (name, rows) → IsReadable (name, rows)
 unfolding met
 meets_one words name rows e found =
-    let named = line_names (built hintcheck) bare_built others_built line (argument_words hintcheck words) name rows e found in
+    let named = line_names (built hintcheck) line (argument_words hintcheck words) name rows e found in
     record {
       known = named.known;
-      numbers = λ bare. record {
-        cvt = number_among bare_built rows (codes "CVT") (rule_at (codes "CVT")) (named.level bare) cvt_rule;
-        points = number_among bare_built rows (codes "POINTS") (rule_at (codes "POINTS")) (named.level bare) points_rule;
-        contours = number_among bare_built rows (codes "CONTOURS") (rule_at (codes "CONTOURS")) (named.level bare) contours_rule;
-      };
+      numbers = λ bare.
+          let at_bare = level_at (built hintcheck) name (codes "bare") rows bare_built named bare bare_found in
+          record {
+            cvt = number_among bare_built rows 65535 (codes "CVT") (rule_at bare_built (codes "CVT")) at_bare cvt_rule cvt_required;
+            points = number_among bare_built rows 65535 (codes "POINTS") (rule_at bare_built (codes "POINTS")) at_bare points_rule points_required;
+            contours = number_among bare_built rows 65535 (codes "CONTOURS") (rule_at bare_built (codes "CONTOURS")) at_bare contours_rule contours_required;
+          };
+      offset = λ explain.
+          let at_explain = level_at (built hintcheck) name (codes "explain") rows explain_built named explain explain_found in
+          number_if_any explain_built rows 4294967295 (codes "OFFSET") (rule_at explain_built (codes "OFFSET")) at_explain offset_rule;
     }
 
 pub fault_is : (a : App) (words : List Text) → a ≡ hintcheck → (is_simple_and_free a ≡ true → fault_of a words ≡ []) → fault_of hintcheck words ≡ []

@@ -1,5 +1,5 @@
 -- The rows of a parse that has no fault: each value passed the parser of its argument. For commands
--- whose arguments take values, except for help.
+-- whose arguments take values, except for help and the version.
 use Rattle.std.proofs.Common.{◌≡◌, ℕ, zero, suc, ◌<◌, Bool, true, false, List, [], ◌∷◌, ◌++◌, Option, Some, None, length, refl, sym, subst, ◌⊎◌, inl, inr, arith, length-append}
 use Rattle.std.specs.Prelude.{nat_lt, find}
 use Rattle.std.specs.List.{list_all}
@@ -66,10 +66,12 @@ abbrev pub RowsFit : List Rule → List Row → Type 0
 RowsFit c [] = Unit {0}
 RowsFit c (r ∷ rs) = RowFits c r × RowsFit c rs
 
--- the argument takes at least one value, or asks for help
+-- the argument takes at least one value, or asks for help or the version
 abbrev pub takes_value : ArgAction → Rule → Bool
 takes_value Set a = nat_lt 0 (unwrap_or_range a.range).start_inclusive
+takes_value Append a = nat_lt 0 (unwrap_or_range a.range).start_inclusive
 takes_value Help a = true
+takes_value Version a = true
 takes_value _ a = false
 
 rows_append : (c : List Rule) (xs ys : List Row) → RowsFit c xs → RowsFit c ys → RowsFit c (xs ++ ys)
@@ -130,13 +132,16 @@ used_as_fits Set c again a (v ∷ vs) rows takes own e fits =
     with_values_fits c a CommandLine (v ∷ vs) (without a.id rows) own (both_empty _ _ (both_empty _ _ e).1).1 (omega arith)
     (at_row_fits c a.id (λ _. []) [] rows fits tt (λ r same fit. tt))
 used_as_fits Help c again a values rows takes own e fits = absurd (never_empty _ _ _ e)
-used_as_fits Append c again a values rows takes own e fits = absurd cc
+used_as_fits Append c again a [] rows takes own e fits =
+    let some = range_some _ _ 0 takes (both_empty _ _ e).0 in
+    absurd (omega arith)
+used_as_fits Append c again a (v ∷ vs) rows takes own e fits = with_values_fits c a CommandLine (v ∷ vs) rows own (both_empty _ _ e).1 (omega arith) fits
 used_as_fits SetTrue c again a values rows takes own e fits = absurd cc
 used_as_fits SetFalse c again a values rows takes own e fits = absurd cc
 used_as_fits Count c again a values rows takes own e fits = absurd cc
 used_as_fits HelpShort c again a values rows takes own e fits = absurd cc
 used_as_fits HelpLong c again a values rows takes own e fits = absurd cc
-used_as_fits Version c again a values rows takes own e fits = absurd cc
+used_as_fits Version c again a values rows takes own e fits = absurd (never_empty _ _ _ e)
 
 found_again : (c : List Rule) (id : Text) (a : Rule) → arg_by_id c id ≡ Some a → arg_by_id c a.id ≡ Some a
 found_again c id a found =

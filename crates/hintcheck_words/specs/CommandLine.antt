@@ -1,11 +1,15 @@
 -- The command line, in clap's words:
 --     hintcheck bare MAXP CVT POINTS CONTOURS [PROGRAM]
 --     hintcheck verdict FONT
+--     hintcheck scan FONT..
+--     hintcheck explain FONT PROGRAM [OFFSET]
 --     hintcheck find FONT CERT
 --     hintcheck check FONT CERT
 --     hintcheck list FONT PROGRAM
 --     hintcheck upgrade OLD NEW
+--     hintcheck --version
 use Rattle.std.specs.Prelude.{codes, fold, List, [], ◌∷◌, true, pos, Some}
+use Rattle.clap.specs.Lexer.{usize_max}
 use Rattle.clap.specs.Words.{App, Rule, Text, new_app, new_rule, with_rule, with_subcommand}
 use Rattle.clap.specs.declared.builder.value_parser.ValueParser.TheVariants as parser
 
@@ -21,6 +25,16 @@ needed id = record (new_rule id) { required = true }
 abbrev pub needed_number : Text → Rule
 needed_number id = record (needed id) { parser = Some (parser.Signed (pos 0) (pos 65535)) }
 
+-- an argument that may be left out, and is a number of 32 bits otherwise
+abbrev pub optional_number : Text → Rule
+optional_number id = record (new_rule id) { parser = Some (parser.Signed (pos 0) (pos 4294967295)) }
+
+-- an argument that must be given, and takes each word from there on
+abbrev pub needed_list : Text → Rule
+needed_list id = record (needed id) {
+  range = Some (record { start_inclusive = 1; end_inclusive = usize_max });
+}
+
 -- a subcommand whose arguments are texts that must be given
 abbrev pub of_texts : Text → List Text → App
 of_texts name ids = fold (λ a id. with_rule a (needed id)) (new_app name) ids
@@ -34,6 +48,15 @@ bare = with_rule (with_rule (with_rule (with_rule (with_rule (new_app (codes "ba
 -- the subcommand `verdict`, which checks all programs of a font file
 abbrev pub verdict : App
 verdict = of_texts (codes "verdict") (codes "FONT" ∷ [])
+
+-- the subcommand `scan`, which checks all programs of each of several font files
+abbrev pub scan : App
+scan = with_rule (new_app (codes "scan")) (needed_list (codes "FONT"))
+
+-- the subcommand `explain`, which tells how one program is checked
+abbrev pub explain : App
+explain = with_rule (with_rule (with_rule (new_app (codes "explain"))
+    (needed (codes "FONT"))) (needed (codes "PROGRAM"))) (optional_number (codes "OFFSET"))
 
 -- the subcommand `find`, which writes the certificate of a font file
 abbrev pub find : App
@@ -51,13 +74,16 @@ list = of_texts (codes "list") (codes "FONT" ∷ codes "PROGRAM" ∷ [])
 abbrev pub upgrade : App
 upgrade = of_texts (codes "upgrade") (codes "OLD" ∷ codes "NEW" ∷ [])
 
--- the program, which is always given a subcommand
+-- the program, which has a version, and is always given a subcommand otherwise
 abbrev pub program : App
 program = record (new_app (codes "hintcheck")) {
-  top = record (new_app (codes "hintcheck")).top { subcommand_required = true };
+  top = record (new_app (codes "hintcheck")).top {
+    subcommand_required = true;
+    has_version = true;
+  };
 }
 
 -- the command line: the program with its subcommands
 unfoldable pub hintcheck : App
 hintcheck = fold (λ a s. with_subcommand a s.top) program
-    (bare ∷ verdict ∷ find ∷ check ∷ list ∷ upgrade ∷ [])
+    (bare ∷ verdict ∷ scan ∷ explain ∷ find ∷ check ∷ list ∷ upgrade ∷ [])

@@ -1,10 +1,10 @@
 -- What the words of a command line ask for, by what clap says that a simple command's words mean.
-use Rattle.std.specs.Prelude.{◌≡◌, ℕ, Bool, true, codes, List, [], ◌∷◌, find as first_where, map, Option, Some, IsSomeAnd, is_some, unwrap_or, option_map, option_and_then, pos, string_bytes, Result, Ok, Err}
+use Rattle.std.specs.Prelude.{◌≡◌, ◌⊎◌, ℕ, Bool, true, codes, List, [], ◌∷◌, find as first_where, map, Option, Some, None, IsSomeAnd, is_some, unwrap_or, option_map, option_and_then, pos, string_bytes, Result, Ok, Err}
 use denote.Ref.{Bor}
 use Rattle.std.specs.Str.{bytes_eq}
 use Rattle.std.specs.Str.Parse.{digits_value, without_leading_plus}
 use Rattle.clap.specs.Faults.{fault_of}
-use Rattle.clap.specs.Words.{IsAmong, IsSignedIn, Kinds, Row, Text, first_of, found_of, kind_of, one_of, rows_of, subcommand_of, takes, without_minus}
+use Rattle.clap.specs.Words.{IsAmong, IsSignedIn, Kinds, Row, Text, all_of, first_of, found_of, kind_of, one_of, rows_of, subcommand_of, takes, without_minus}
 use Rattle.clap.specs.declared.parser.matches.ArgMatches.{ArgMatches}
 use Rattle.hintcheck_words.specs.CommandLine.{hintcheck}
 use Rattle.hintcheck_words.specs.declared.words.Task.{Task}
@@ -24,6 +24,8 @@ rows_in values = rows_of (found_of values)
 pub data Request : Type 0 where
   bare : Text → ℕ → ℕ → ℕ → Option Text → Request
   verdict : Text → Request
+  scan : List Text → Request
+  explain : Text → Text → Option ℕ → Request
   find : Text → Text → Request
   check : Text → Text → Request
   list : Text → Text → Request
@@ -41,11 +43,24 @@ number_in rows id = digits_value 10 (without_leading_plus (unwrap_or (one_of id 
 abbrev pub optional_in : List Row → Text → Option Text
 optional_in rows id = first_of id rows
 
--- an argument got the text of a number of 16 bits, which may have a minus before a zero
-pub record HasNumber (rows : List Row) (id : Text) : Type 0 where
+-- all texts that an argument got
+abbrev pub texts_in : List Row → Text → List Text
+texts_in rows id = unwrap_or (all_of id rows) []
+
+-- the number that the text of an argument spells, if it got one
+abbrev pub optional_number_in : List Row → Text → Option ℕ
+optional_number_in rows id =
+    option_map (λ t. digits_value 10 (without_leading_plus t)) (one_of id rows)
+
+-- an argument got the text of a number up to this one, which may have a minus before a zero
+pub record HasNumber (most : ℕ) (rows : List Row) (id : Text) : Type 0 where
   pub text : Text
   pub found : one_of id rows ≡ Some (without_minus text)
-  pub number : IsSignedIn (pos 0) (pos 65535) text
+  pub number : IsSignedIn (pos 0) (pos most) text
+
+-- an argument got no text, or that of a number up to this one
+abbrev pub HasNumberIfAny : ℕ → List Row → Text → Type 0
+HasNumberIfAny most rows id = (one_of id rows ≡ None) ⊎ HasNumber most rows id
 
 -- what `bare` asks for, by what its arguments got
 unfoldable pub bare_request : List Row → Request
@@ -54,10 +69,17 @@ bare_request rows =
     (number_in rows (codes "POINTS")) (number_in rows (codes "CONTOURS"))
     (optional_in rows (codes "PROGRAM"))
 
+-- what `explain` asks for, by what its arguments got
+unfoldable pub explain_request : List Row → Request
+explain_request rows = explain (text_in rows (codes "FONT")) (text_in rows (codes "PROGRAM"))
+    (optional_number_in rows (codes "OFFSET"))
+
 -- each subcommand, and what it asks for by what its arguments got
 unfoldable pub requests : List (Text × (List Row → Request))
 requests = (codes "bare", bare_request)
     ∷ (codes "verdict", λ rows. verdict (text_in rows (codes "FONT")))
+    ∷ (codes "scan", λ rows. scan (texts_in rows (codes "FONT")))
+    ∷ (codes "explain", explain_request)
     ∷ (codes "find", λ rows. find (text_in rows (codes "FONT")) (text_in rows (codes "CERT")))
     ∷ (codes "check", λ rows. check (text_in rows (codes "FONT")) (text_in rows (codes "CERT")))
     ∷ (codes "list", λ rows. list (text_in rows (codes "FONT")) (text_in rows (codes "PROGRAM")))
@@ -86,14 +108,20 @@ faults_in words = fault_of hintcheck words
 
 -- the numbers of `bare` are there
 pub record HasNumbers (rows : List Row) : Type 0 where
-  pub cvt : HasNumber rows (codes "CVT")
-  pub points : HasNumber rows (codes "POINTS")
-  pub contours : HasNumber rows (codes "CONTOURS")
+  pub cvt : HasNumber 65535 rows (codes "CVT")
+  pub points : HasNumber 65535 rows (codes "POINTS")
+  pub contours : HasNumber 65535 rows (codes "CONTOURS")
 
--- a subcommand that asks for something, whose numbers are there if it is `bare`
+-- the offset of `explain` is a number, where it is given
+abbrev pub HasOffset : List Row → Type 0
+HasOffset rows = HasNumberIfAny 4294967295 rows (codes "OFFSET")
+
+-- a subcommand that asks for something, whose numbers are there if it is `bare`, and whose offset is
+-- a number if it is `explain`
 pub record IsReadable (found : Text × List Row) : Type 0 where
   pub known : is_some (request_of found) ≡ true
   pub numbers : found.0 ≡ codes "bare" → HasNumbers found.1
+  pub offset : found.0 ≡ codes "explain" → HasOffset found.1
 
 -- there is a subcommand, and it asks for something
 abbrev pub MeetsSubcommand : Option (Text × List Row) → Type 0
@@ -104,6 +132,9 @@ unfoldable pub asked : Task → Request
 asked (task.Bare maxp cvt points contours program) =
     bare (string_bytes maxp) cvt points contours (option_map (λ s. string_bytes s) program)
 asked (task.Verdict font) = verdict (string_bytes font)
+asked (task.Scan fonts) = scan (map (λ s. string_bytes s) fonts.items)
+asked (task.Explain font program offset) =
+    explain (string_bytes font) (string_bytes program) offset
 asked (task.Find font certificate) = find (string_bytes font) (string_bytes certificate)
 asked (task.Check font certificate) = check (string_bytes font) (string_bytes certificate)
 asked (task.List font program) = list (string_bytes font) (string_bytes program)

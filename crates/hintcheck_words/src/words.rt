@@ -1,9 +1,9 @@
 //! What the words of a command line ask for.
 
-ghost use Rattle.std.specs.Prelude.{◌≡◌, IfErr, IfOk, Some, false, map, option_map, string_bytes};
-ghost use Rattle.clap.specs.Words.{app_of, rule_of, subcommand_rows_of};
-ghost use Rattle.hintcheck_words.specs.CommandLine.{bare, hintcheck, needed as needed_rule, needed_number as number_rule, of_texts};
-ghost use Rattle.hintcheck_words.specs.Requests.{HasNumber, HasNumbers, IsReadable, IsMemoryIfTaken, MeetsSubcommand, TellsFault, asked, bare_request, faults_in, meaning, met, number_in, optional_in, request_of, rows_in, text_in, texts_of};
+ghost use Rattle.std.specs.Prelude.{◌≡◌, IfErr, IfOk, Some, codes, false, map, option_map, string_bytes};
+ghost use Rattle.clap.specs.Words.{app_of, new_app, rule_of, subcommand_rows_of};
+ghost use Rattle.hintcheck_words.specs.CommandLine.{bare, explain, hintcheck, needed as needed_rule, needed_number as number_rule, of_texts, optional_number as optional_rule, scan};
+ghost use Rattle.hintcheck_words.specs.Requests.{HasNumber, HasNumberIfAny, HasNumbers, HasOffset, IsReadable, IsMemoryIfTaken, MeetsSubcommand, TellsFault, asked, bare_request, explain_request, faults_in, meaning, met, number_in, optional_in, optional_number_in, request_of, rows_in, text_in, texts_in, texts_of};
 
 use clap::error::ErrorKind;
 use clap::{Arg, ArgMatches, Command, value_parser};
@@ -30,6 +30,20 @@ pub enum Task {
     Verdict {
         /// The name of the font file.
         font: String,
+    },
+    /// Checks all programs of each of several font files.
+    Scan {
+        /// The names of the font files.
+        fonts: Vec<String>,
+    },
+    /// Tells how one program of a font file is checked.
+    Explain {
+        /// The name of the font file.
+        font: String,
+        /// Which program it is.
+        program: String,
+        /// At which of its offsets; None where it is left out.
+        offset: Option<u32>,
     },
     /// Writes the certificate of a font file to another file.
     Find {
@@ -98,36 +112,74 @@ fn needed_number<'a>(alloc: Global, id: &'a str, help: &'a str) -> Arg<'a>
     needed(alloc, id, help).value_parser(value_parser!(u16))
 }
 
-/// Makes the subcommand `bare`.
-///
-/// # Errors
-/// If memory runs out.
-fn bare_command<'a>(alloc: Global) -> Result<Command<'a>, AllocError>
-    ensures { IfOk result (λ c. app_of c ≡ bare) }
-{
-    Command::new(alloc, "bare")
-        .about("Checks one glyph program")
-        .arg(needed(alloc, "MAXP", "The maxp table, in hexadecimal digits"))?
-        .arg(needed_number(alloc, "CVT", "How many control values there are"))?
-        .arg(needed_number(alloc, "POINTS", "How many points the glyph has"))?
-        .arg(needed_number(alloc, "CONTOURS", "How many contours the glyph has"))?
-        .arg(Arg::new(alloc, "PROGRAM").help("The program, in hexadecimal digits"))
+/// What is printed at `--version`, after the program's name: the version, and the kit by which it is
+/// proved.
+const VERSION: &str = "0.9.0 (rattle-kit-13f logic dac8208d650f15bf)";
+
+/// A subcommand's name, what it does, and an example of its words.
+#[derive(Clone, Copy)]
+struct Subcommand<'a> {
+    name: &'a str,
+    about: &'a str,
+    example: &'a str,
 }
 
-/// The subcommand `verdict`, with its help.
-const VERDICT: (&str, &str) = ("verdict", "Checks all programs of a font file");
+/// The subcommand `bare`.
+const BARE: Subcommand<'static> = Subcommand {
+    name: "bare",
+    about: "Checks one glyph program",
+    example: "Example: hintcheck bare \
+        0001000000010004000100000000000200040004000200000008004000000000 10 4 1 B100093E",
+};
 
-/// The subcommand `find`, with its help.
-const FIND: (&str, &str) = ("find", "Writes the certificate of a font file");
+/// The subcommand `verdict`.
+const VERDICT: Subcommand<'static> = Subcommand {
+    name: "verdict",
+    about: "Checks all programs of a font file",
+    example: "Example: hintcheck verdict DejaVuSans.ttf",
+};
 
-/// The subcommand `check`, with its help.
-const CHECK: (&str, &str) = ("check", "Checks a font file by its certificate");
+/// The subcommand `scan`.
+const SCAN: Subcommand<'static> = Subcommand {
+    name: "scan",
+    about: "Checks all programs of several font files, a line for each",
+    example: "Example: hintcheck scan *.ttf",
+};
 
-/// The subcommand `list`, with its help.
-const LIST: (&str, &str) = ("list", "Lists the instructions of one program");
+/// The subcommand `explain`.
+const EXPLAIN: Subcommand<'static> = Subcommand {
+    name: "explain",
+    about: "Tells how one program is checked",
+    example: "Example: hintcheck explain DejaVuSans.ttf g350",
+};
 
-/// The subcommand `upgrade`, with its help.
-const UPGRADE: (&str, &str) = ("upgrade", "Writes a certificate file in the newest form");
+/// The subcommand `find`.
+const FIND: Subcommand<'static> = Subcommand {
+    name: "find",
+    about: "Writes the certificate of a font file",
+    example: "Example: hintcheck find DejaVuSans.ttf DejaVuSans.cert",
+};
+
+/// The subcommand `check`.
+const CHECK: Subcommand<'static> = Subcommand {
+    name: "check",
+    about: "Checks a font file by its certificate",
+    example: "Example: hintcheck check DejaVuSans.ttf DejaVuSans.cert",
+};
+
+/// The subcommand `list`.
+const LIST: Subcommand<'static> = Subcommand {
+    name: "list",
+    about: "Lists the instructions of one program",
+    example: "Example: hintcheck list DejaVuSans.ttf g350",
+};
+
+/// The subcommand `upgrade`.
+const UPGRADE: Subcommand<'static> = Subcommand {
+    name: "upgrade",
+    about: "Writes a certificate file in the newest form",
+    example: "Example: hintcheck upgrade old.cert new.cert",
+};
 
 /// The argument that names a font file, with its help.
 const FONT: (&str, &str) = ("FONT", "The name of the font file");
@@ -144,27 +196,86 @@ const OLD: (&str, &str) = ("OLD", "The name of the old certificate's file");
 /// The argument that names a new certificate's file, with its help.
 const NEW: (&str, &str) = ("NEW", "The name of the new certificate's file");
 
+/// Makes a subcommand without arguments.
+fn plain_command<'a>(alloc: Global, command: Subcommand<'a>) -> Command<'a>
+    ensures { app_of result ≡ new_app command.name.now }
+{
+    Command::new(alloc, command.name)
+        .about(command.about)
+        .after_help(command.example)
+}
+
+/// Makes the subcommand `bare`.
+///
+/// # Errors
+/// If memory runs out.
+fn bare_command<'a>(alloc: Global) -> Result<Command<'a>, AllocError>
+    ensures { IfOk result (λ c. app_of c ≡ bare) }
+{
+    plain_command(alloc, BARE)
+        .arg(needed(alloc, "MAXP", "The maxp table, in hexadecimal digits"))?
+        .arg(needed_number(alloc, "CVT", "How many control values there are"))?
+        .arg(needed_number(alloc, "POINTS", "How many points the glyph has"))?
+        .arg(needed_number(alloc, "CONTOURS", "How many contours the glyph has"))?
+        .arg(Arg::new(alloc, "PROGRAM").help("The program, in hexadecimal digits"))
+}
+
 /// Makes a subcommand whose arguments are texts that must be given.
 ///
 /// # Errors
 /// If memory runs out.
 fn texts_command<'a>(
     alloc: Global,
-    command: (&'a str, &'a str),
+    command: Subcommand<'a>,
     texts: &[(&'a str, &'a str)],
 ) -> Result<Command<'a>, AllocError>
     ensures { IfOk result (λ c.
-        app_of c ≡ of_texts command.entry.0.now (map (λ t. t.0.now) texts.now)) }
+        app_of c ≡ of_texts command.name.now (map (λ t. t.0.now) texts.now)) }
 {
-    let (name, about) = command;
-    let mut with_texts = Command::new(alloc, name).about(about);
+    let mut with_texts = plain_command(alloc, command);
     for &(id, help) in texts {
         with_texts = with_texts.arg(needed(alloc, id, help))?;
     }
     Ok(with_texts)
 }
 
-/// Makes the command line with its six subcommands.
+/// Makes the subcommand `scan`.
+///
+/// # Errors
+/// If memory runs out.
+fn scan_command<'a>(alloc: Global) -> Result<Command<'a>, AllocError>
+    ensures { IfOk result (λ c. app_of c ≡ scan) }
+{
+    plain_command(alloc, SCAN)
+        .arg(needed(alloc, "FONT", "The names of the font files").num_args(1..))
+}
+
+/// Makes the argument that is an offset, which may be left out.
+fn offset_argument<'a>(alloc: Global) -> Arg<'a>
+    ensures rule { rule_of result ≡ optional_rule (codes "OFFSET") }
+    ensures local { result.global ≡ false }
+{
+    Arg::new(alloc, "OFFSET")
+        .value_parser(value_parser!(u32))
+        .help("An offset in it; without one, where it is refused")
+}
+
+/// Makes the subcommand `explain`.
+///
+/// # Errors
+/// If memory runs out.
+fn explain_command<'a>(alloc: Global) -> Result<Command<'a>, AllocError>
+    ensures { IfOk result (λ c. app_of c ≡ explain) }
+{
+    let (font, font_help) = FONT;
+    let (program, program_help) = PROGRAM;
+    plain_command(alloc, EXPLAIN)
+        .arg(needed(alloc, font, font_help))?
+        .arg(needed(alloc, program, program_help))?
+        .arg(offset_argument(alloc))
+}
+
+/// Makes the command line with its eight subcommands.
 ///
 /// # Errors
 /// If memory runs out.
@@ -173,10 +284,13 @@ fn command_line<'a>(alloc: Global) -> Result<Command<'a>, AllocError>
 {
     Command::new(alloc, "hintcheck")
         .about("Checks the hint programs of TrueType fonts")
+        .version(VERSION)
         .subcommand_required(true)
         .bin_name("hintcheck")?
         .subcommand(bare_command(alloc)?)?
         .subcommand(texts_command(alloc, VERDICT, &[FONT])?)?
+        .subcommand(scan_command(alloc)?)?
+        .subcommand(explain_command(alloc)?)?
         .subcommand(texts_command(alloc, FIND, &[FONT, CERTIFICATE])?)?
         .subcommand(texts_command(alloc, CHECK, &[FONT, CERTIFICATE])?)?
         .subcommand(texts_command(alloc, LIST, &[FONT, PROGRAM])?)?
@@ -211,12 +325,39 @@ fn optional_text(
     }
 }
 
+/// Returns the texts that the words give the argument, none where they give none.
+///
+/// # Errors
+/// If memory runs out.
+fn all_texts(
+    alloc: Global,
+    values: &ArgMatches<'_>,
+    id: &str,
+) -> Result<Vec<String>, AllocError>
+    ensures { IfOk result (λ ts.
+        map (λ s. string_bytes s) ts.items ≡ texts_in (rows_in values.now) id.now) }
+{
+    let mut texts = Vec::new(alloc);
+    for &text in values.get_strs(id).unwrap_or(&[]) {
+        texts.push(String::from_str(alloc, text)?)?;
+    }
+    Ok(texts)
+}
+
 /// Returns the number that the words give the argument.
 fn number(values: &ArgMatches<'_>, id: &str) -> u16
-    requires { HasNumber (rows_in values.now) id.now }
+    requires { HasNumber 65535 (rows_in values.now) id.now }
     ensures { result ≡ number_in (rows_in values.now) id.now }
 {
     values.get_one::<u16>(id).unwrap()
+}
+
+/// Returns the number that the words give the argument, if they give one.
+fn optional_number(values: &ArgMatches<'_>, id: &str) -> Option<u32>
+    requires { HasNumberIfAny 4294967295 (rows_in values.now) id.now }
+    ensures { result ≡ optional_number_in (rows_in values.now) id.now }
+{
+    values.get_one::<u32>(id)
 }
 
 /// Returns the task of the subcommand `bare`.
@@ -236,6 +377,21 @@ fn bare_task(alloc: Global, values: &ArgMatches<'_>) -> Result<Task, AllocError>
     })
 }
 
+/// Returns the task of the subcommand `explain`.
+///
+/// # Errors
+/// If memory runs out.
+fn explain_task(alloc: Global, values: &ArgMatches<'_>) -> Result<Task, AllocError>
+    requires { HasOffset (rows_in values.now) }
+    ensures { IfOk result (λ t. asked t ≡ explain_request (rows_in values.now)) }
+{
+    Ok(Task::Explain {
+        font: text(alloc, values, "FONT")?,
+        program: text(alloc, values, "PROGRAM")?,
+        offset: optional_number(values, "OFFSET"),
+    })
+}
+
 /// Returns the task of the subcommand with this name.
 ///
 /// # Errors
@@ -249,6 +405,10 @@ fn task_of(alloc: Global, name: &str, values: &ArgMatches<'_>) -> Result<Task, A
         "verdict" => Ok(Task::Verdict {
             font: text(alloc, values, "FONT")?,
         }),
+        "scan" => Ok(Task::Scan {
+            fonts: all_texts(alloc, values, "FONT")?,
+        }),
+        "explain" => explain_task(alloc, values),
         "find" => Ok(Task::Find {
             font: text(alloc, values, "FONT")?,
             certificate: text(alloc, values, "CERT")?,

@@ -23,29 +23,38 @@ Fails (fault.Form place) read = read ≡ Err place
 Fails fault.Read read = Unit {0}
 Fails (fault.OutOfMemory error) read = Unit {0}
 
--- Where the source tells its bytes, the answer, seen by a view, is what reading gives, except for failed reads and out of memory.
-abbrev pub Gives : {X Y : Type 0} → (X → Y) → Option (List ℕ) → Option (List ℕ) → Result (X × ℕ) DecodeFault → Answer Y → Type 0
-Gives view old new (Ok x) read = is_some old ≡ true → (is_some new ≡ true) × (read ≡ Ok (view x.0, input_at x.1 new))
+-- Where the source tells its bytes, the answer, seen by a view, is what reading gives, except for
+-- failed reads and out of memory.
+abbrev pub Gives : {X Y : Type 0} → (X → Y) → Option (List ℕ) → Option (List ℕ)
+    → Result (X × ℕ) DecodeFault → Answer Y → Type 0
+Gives view old new (Ok x) read = is_some old ≡ true
+    → (is_some new ≡ true) × (read ≡ Ok (view x.0, input_at x.1 new))
 Gives view old new (Err e) read = is_some old ≡ true → Fails e read
 
 -- the same of a section's name, family and the place after it
-abbrev pub GivesSection : Option (List ℕ) → Option (List ℕ) → Result (Name × Contents × ℕ) DecodeFault → Answer Section → Type 0
-GivesSection old new (Ok x) read = is_some old ≡ true → (is_some new ≡ true) × (read ≡ Ok (section_of x.0 x.1, input_at x.2 new))
+abbrev pub GivesSection : Option (List ℕ) → Option (List ℕ)
+    → Result (Name × Contents × ℕ) DecodeFault → Answer Section → Type 0
+GivesSection old new (Ok x) read = is_some old ≡ true
+    → (is_some new ≡ true) × (read ≡ Ok (section_of x.0 x.1, input_at x.2 new))
 GivesSection old new (Err e) read = is_some old ≡ true → Fails e read
 
 -- the same of a header, with some place after it
-abbrev pub GivesHeader : Option (List ℕ) → Option (List ℕ) → Result (Form × ℕ) DecodeFault → Answer (Form × ℕ) → Type 0
-GivesHeader old new (Ok x) read = is_some old ≡ true → (is_some new ≡ true) × ((place : ℕ) × (read ≡ Ok (x, input_at place new)))
+abbrev pub GivesHeader : Option (List ℕ) → Option (List ℕ) → Result (Form × ℕ) DecodeFault
+    → Answer (Form × ℕ) → Type 0
+GivesHeader old new (Ok x) read = is_some old ≡ true
+    → (is_some new ≡ true) × ((place : ℕ) × (read ≡ Ok (x, input_at place new)))
 GivesHeader old new (Err e) read = is_some old ≡ true → Fails e read
 
 -- what was read, taken as an input of its own, is refused only where it ends
-pub record IsCutShort {Y : Type 0} (place : ℕ) (old new : Option (List ℕ)) (read : Input → Answer Y) : Type 0 where
+pub record IsCutShort {Y : Type 0} (place : ℕ) (old new : Option (List ℕ))
+    (read : Input → Answer Y) : Type 0 where
   pub front : List ℕ
   pub consumed : Consumes old new front
   pub refused : read (input_at place (Some front)) ≡ Err (place_after place (length front))
 
 -- Where the source tells its bytes, no unit that was read whole breaks a rule before a read failed.
-abbrev pub StopsAtEnd : {Y : Type 0} → ℕ → Option (List ℕ) → Option (List ℕ) → (Input → Answer Y) → DecodeFault → Type 0
+abbrev pub StopsAtEnd : {Y : Type 0} → ℕ → Option (List ℕ) → Option (List ℕ)
+    → (Input → Answer Y) → DecodeFault → Type 0
 StopsAtEnd place old new read fault.Read = is_some old ≡ true → IsCutShort place old new read
 StopsAtEnd place old new read (fault.Form at) = Unit {0}
 StopsAtEnd place old new read (fault.OutOfMemory error) = Unit {0}
@@ -72,7 +81,8 @@ abbrev pub AreBytes : List ℕ → Type 0
 AreBytes bytes = (i : ℕ) → get_or bytes i 0 < 256
 
 -- a section was read: its text begins the input, and was taken and no more
-pub record ReadsSection (form : Form) (input : List ℕ) (start : ℕ) (section : Section) (new : Option (List ℕ)) (after : ℕ) : Type 0 where
+pub record ReadsSection (form : Form) (input : List ℕ) (start : ℕ) (section : Section)
+    (new : Option (List ℕ)) (after : ℕ) : Type 0 where
   pub rest : List ℕ
   pub left : new ≡ Some rest
   pub spelled : input ≡ section_text form section ++ rest

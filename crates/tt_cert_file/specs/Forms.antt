@@ -12,7 +12,11 @@ form_number Four = 4
 
 -- the form with a number
 abbrev pub form_of : ℕ → Option Form
-form_of n = if n == 1 then Some One else if n == 2 then Some Two else if n == 3 then Some Three else if n == 4 then Some Four else None
+form_of n = if n == 1 then Some One
+    else if n == 2 then Some Two
+    else if n == 3 then Some Three
+    else if n == 4 then Some Four
+    else None
 
 -- how many contexts a section may have at most, beside the main one
 abbrev pub most_contexts : Form → ℕ

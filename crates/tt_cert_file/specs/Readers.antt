@@ -1,7 +1,9 @@
--- Reading unit by unit. A unit that is incomplete is refused at the input's end, one that breaks a rule at its own first byte.
+-- Reading unit by unit. A unit that is incomplete is refused at the input's end, one that breaks a
+-- rule at its own first byte.
 use Rattle.std.specs.Prelude.{ℕ, zero, suc, ◌+◌, ◌-◌, ◌^◌, min, Bool, List, [], ◌∷◌, ◌++◌, length, take, drop, Option, Some, None, Result, Ok, Err, nat_lt, if◌then◌else◌}
 
--- how far reading has come: its place, which stops at the greatest number of 64 bits, and the bytes from there on
+-- how far reading has come: its place, which stops at the greatest number of 64 bits, and the bytes
+-- from there on
 pub record Input : Type 0 where
   pub place : ℕ
   pub bytes : List ℕ
@@ -29,7 +31,8 @@ given place None rest = Err place
 given place (Some x) rest = Ok (x, rest)
 
 -- a value, and then another one
-abbrev pub and_then : {A B : Type 0} → (Input → Answer A) → (A → Input → Answer B) → Input → Answer (A × B)
+abbrev pub and_then : {A B : Type 0} → (Input → Answer A) → (A → Input → Answer B) → Input
+    → Answer (A × B)
 and_then first second i = do
   x ← first i
   y ← second x.0 x.1
@@ -48,7 +51,8 @@ ruled rule read i = do
   if rule x.0 then Ok x else Err i.place
 
 -- this many values, each by those before it
-unfoldable pub list_at : {A : Type 0} → (List A → Input → Answer A) → List A → ℕ → Input → Answer (List A)
+unfoldable pub list_at : {A : Type 0} → (List A → Input → Answer A) → List A → ℕ → Input
+    → Answer (List A)
 list_at one before zero i = Ok (before, i)
 list_at one before (suc n) i = do
   x ← one before i

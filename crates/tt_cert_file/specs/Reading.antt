@@ -1,5 +1,6 @@
--- Reading a section, unit by unit: the units are a name, a number of contexts, a context, a number of states, a state's context with its offset,
--- a depth, a cell's tag, a cell's number, a zone, a number of functions, a function, a number of storage cells, and a storage cell.
+-- Reading a section, unit by unit: the units are a name, a number of contexts, a context, a number
+-- of states, a state's context with its offset, a depth, a cell's tag, a cell's number, a zone, a
+-- number of functions, a function, a number of storage cells, and a storage cell.
 use Rattle.std.specs.Prelude.{◌==◌, ℕ, ℤ, ◌+◌, ◌&&◌, nat_le, Bool, List, [], length, reverse, take, drop, slice_index, Option, Some, None, Ok, Err, if◌then◌else◌}
 use Rattle.std.specs.Int.{w16, w32, from_be_bytes, cast_signed}
 use Rattle.tt_abs.specs.Cells.{Cells}
@@ -83,7 +84,8 @@ abbrev pub context_from : Numbers → Context
 context_from x = (x.0, record { body = x.1.1.0; call = x.1.0; turn = x.1.1.1.0; count = x.1.1.1.1 })
 
 abbrev pub numbers_at : Input → Answer Numbers
-numbers_at = and_then word_at (λ _. and_then long_at (λ _. and_then long_at (λ _. and_then long_at (λ _. long_at))))
+numbers_at = and_then word_at (λ _. and_then long_at (λ _. and_then long_at
+    (λ _. and_then long_at (λ _. long_at))))
 
 unfoldable pub context_at : List Context → Input → Answer Context
 context_at before = ruled (may_follow before) (made_of context_from numbers_at)
@@ -152,15 +154,22 @@ abbrev pub Parts : Type 0
 Parts = List Cell × (Cells × (List (ℕ × ℕ) × List (ℕ × ℤ)))
 
 abbrev pub state_from : Parts → State
-state_from x = record { stack = reverse x.0; graphics = x.1.0; functions = x.1.1.0; storage = x.1.1.1 }
+state_from x = record {
+  stack = reverse x.0;
+  graphics = x.1.0;
+  functions = x.1.1.0;
+  storage = x.1.1.1;
+}
 
 abbrev pub parts_at : Form → Input → Answer Parts
-parts_at form = and_then stack_at (λ _. and_then graphics_at (λ _. and_then functions_at (λ _. storage_at form)))
+parts_at form = and_then stack_at (λ _. and_then graphics_at
+    (λ _. and_then functions_at (λ _. storage_at form)))
 
 unfoldable pub state_at : Form → Input → Answer State
 state_at form = made_of state_from (parts_at form)
 
--- a state with its place, in one of this many contexts, after the last one's; and after those before it
+-- a state with its place, in one of this many contexts, after the last one's; and after those
+-- before it
 abbrev pub entry_after : Form → ℕ → Option (ℕ × ℕ) → Input → Answer Entry
 entry_after form contexts last = and_then (place_at contexts last) (λ _. state_at form)
 
@@ -180,7 +189,8 @@ abbrev pub section_from : Fields → Section
 section_from x = record { name = x.0; contexts = x.1.0; states = x.1.1 }
 
 abbrev pub fields_at : Form → Input → Answer Fields
-fields_at form = and_then name_at (λ _. and_then (contexts_at form) (λ contexts. states_at form (length contexts + 1)))
+fields_at form = and_then name_at (λ _. and_then (contexts_at form)
+    (λ contexts. states_at form (length contexts + 1)))
 
 unfoldable pub section_at : Form → Input → Answer Section
 section_at form = made_of section_from (fields_at form)

@@ -49,8 +49,8 @@ is_above_context before c = option_map_or (λ d. is_lt (key_cmp (key_of d) (key_
 abbrev pub is_new_body : List Frame → ℕ → Bool
 is_new_body frames body = not (list_any (λ f. f.body == body) frames)
 
--- A context may come after those before it: its parent is one of them, or the main one; it is above the last; its turn is one; and its body
--- runs in no call of its parent.
+-- A context may come after those before it: its parent is one of them, or the main one; it is above
+-- the last; its turn is one; and its body runs in no call of its parent.
 abbrev pub may_follow : List Context → Context → Bool
 may_follow before c = nat_le c.0 (length before) && (is_above_context (last_of before) c
     && (is_turn c.1 && is_new_body (frames_at (frames_of before) c.0) c.1.body))
@@ -109,7 +109,8 @@ StorageFits Four cells = ListFits StoredFits cells
 
 -- a context with an offset comes after the last one; its context is one of this many
 abbrev pub is_next_place : ℕ → Option (ℕ × ℕ) → ℕ × ℕ → Bool
-is_next_place contexts last p = nat_lt p.0 contexts && option_map_or (λ q. is_lt (place_cmp q p)) last true
+is_next_place contexts last p = nat_lt p.0 contexts
+    && option_map_or (λ q. is_lt (place_cmp q p)) last true
 
 -- the place of the last state
 abbrev pub last_place : List Entry → Option (ℕ × ℕ)
@@ -140,7 +141,8 @@ pub record Fits (form : Form) (s : Section) : Type 0 where
 
 -- the calls of each context of a family are in their turns, and no body runs twice in them
 abbrev pub AreCallsInTurn : List (List Frame) → Type 0
-AreCallsInTurn contexts = (number : ℕ) → number < length contexts → FramesFit (frames_at contexts number)
+AreCallsInTurn contexts = (number : ℕ) → number < length contexts
+    → FramesFit (frames_at contexts number)
 
 -- the numbers of the last call have their bits (Representation: no public clause cites it.)
 abbrev pub CallFits : Context → Type 0
@@ -152,6 +154,7 @@ pub record IsTextOf (text : List ℕ) (functions : List (ℕ × ℕ)) : Type 0 w
   pub few : length functions < 2 ^ 16
   pub numbers : AllByRecursion (λ e. (e.0 < 2 ^ 16) × (e.1 < 2 ^ 32)) functions
 
--- a state in one of this many contexts, at an offset of 32 bits, whose lists fit (Representation: no public clause cites it.)
+-- a state in one of this many contexts, at an offset of 32 bits, whose lists fit
+-- (Representation: no public clause cites it.)
 abbrev pub HasRoom : ℕ → Entry → Type 0
 HasRoom contexts e = (e.0.0 < contexts) × (e.0.1 < 2 ^ 32) × StateFits Four e.1

@@ -1,11 +1,13 @@
--- What a section of a certificate file tells: a program's name and its family, as the file lists it.
+-- What a section of a certificate file tells: a program's name and its family, as the file lists
+-- it.
 use Rattle.std.specs.Prelude.{ℕ, List, [], ◌∷◌, map, drop}
 use Rattle.tt_code.specs.declared.machine.Frame.{Frame}
 use Rattle.tt_abs.specs.declared.state.State.{State}
 use Rattle.tt_cert.specs.Contents.{Contents, number_of}
 use Rattle.tt_cert_file.specs.declared.name.Name.{Name}
 
--- a context other than the main one: the number of its parent, the list of calls without the last one, and the last call
+-- a context other than the main one: the number of its parent, the list of calls without the last
+-- one, and the last call
 abbrev pub Context : Type 0
 Context = ℕ × Frame
 
@@ -34,4 +36,8 @@ contexts_in contexts = map (context_of contexts) (drop 1 contexts)
 
 -- the section of a program with this name and this family
 abbrev pub section_of : Name → Contents → Section
-section_of name contents = record { name = name; contexts = contexts_in contents.contexts; states = contents.states }
+section_of name contents = record {
+  name = name;
+  contexts = contexts_in contents.contexts;
+  states = contents.states;
+}

@@ -27,7 +27,8 @@ counted one xs = word (length xs) ++ flat_map one xs
 
 -- the header: HCRT, the form, and how many sections follow
 abbrev pub header_text : Form → ℕ → List ℕ
-header_text form sections = (0x48 ∷ 0x43 ∷ 0x52 ∷ 0x54 ∷ []) ++ (word (form_number form) ++ long sections)
+header_text form sections = (0x48 ∷ 0x43 ∷ 0x52 ∷ 0x54 ∷ [])
+    ++ (word (form_number form) ++ long sections)
 
 -- the program's kind, and the glyph
 abbrev pub name_text : Name → List ℕ
@@ -68,9 +69,11 @@ storage_text Two cells = []
 storage_text Three cells = counted stored_text cells
 storage_text Four cells = counted stored_text cells
 
--- a state: its context and offset, the stack from the bottom up, the graphics state, the functions, the storage cells
+-- a state: its context and offset, the stack from the bottom up, the graphics state, the functions,
+-- the storage cells
 abbrev pub state_text : Form → Entry → List ℕ
-state_text form e = pair_text e.0 ++ (counted cell_text (reverse e.1.stack) ++ (graphics_text e.1.graphics
+state_text form e = pair_text e.0 ++ (counted cell_text (reverse e.1.stack)
+    ++ (graphics_text e.1.graphics
     ++ (counted pair_text e.1.functions ++ storage_text form e.1.storage)))
 
 -- a section: the name, the contexts, and the states after how many they are

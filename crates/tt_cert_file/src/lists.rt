@@ -5,10 +5,11 @@ ghost use Rattle.std.specs.Io.KnownBytes.{Keeps};
 ghost use Rattle.tt_abs.specs.Entries.{Rises};
 ghost use Rattle.tt_stream.specs.Reads.{ConsumesBeginning, ConsumesFewer};
 ghost use Rattle.tt_stream.specs.Streams.{CountsFailure};
-ghost use Rattle.tt_cert_file.specs.Answers.{CountsRead, Gives, IsReadFault, IsOutOfMemory, StopsAtEnd, input_at};
-ghost use Rattle.tt_cert_file.specs.Representation.Blocks.{AreKept, FillsOn, FillsRest, ReadsBlock, ReadsCells, ReadsMoreCells, ReadsRest, Takes, TakesCells, TakesSomeCells, cells_at};
+ghost use Rattle.tt_cert_file.specs.Answers.{CountsRead, IsReadFault, IsOutOfMemory};
+ghost use Rattle.tt_cert_file.specs.Representation.Blocks.{AreKept, FillsOn, FillsRest, ReadsBlock, ReadsCells, ReadsMoreCells, ReadsRest, Takes, TakesCells, TakesSomeCells, cells_at, cells_up_to};
+ghost use Rattle.tt_cert_file.specs.Representation.Clauses.{ReadsAs, ReadsBy, StopsWhole};
 ghost use Rattle.tt_cert_file.specs.Readers.{list_at};
-ghost use Rattle.tt_cert_file.specs.Reading.{cell_at, function_at, functions_at, storage_at, stored_at};
+ghost use Rattle.tt_cert_file.specs.Reading.{function_at, functions_at, storage_at, stored_at};
 ghost use Rattle.tt_cert_file.specs.Rules.{is_above, last_of};
 
 use crate::fault::DecodeFault;
@@ -21,7 +22,8 @@ use tt_stream::{ReadFailed, Source, read_full};
 /// How many bytes a function has: its number, and its body.
 const FUNCTION: usize = 6;
 
-/// How many functions, or bytes of cells, are read at a time. Of both a state may list hundreds, which are most of a certificate's bytes.
+/// How many functions, or bytes of cells, are read at a time. Of both a state may list hundreds,
+/// which are most of a certificate's bytes.
 const BLOCK: usize = 64;
 
 /// Reads some more of the wanted bytes into the buffer, which already holds this many, in one call.
@@ -33,7 +35,8 @@ fn read_more<S: Source>(
 ) -> Result<usize, ReadFailed>
     requires some { held < wanted }
     requires room { wanted ≤ length buf.old }
-    ensures fills { IfOk result (λ n. FillsOn (S.remaining source.old) (S.remaining source.new) held wanted n buf.old buf.new) }
+    ensures fills { IfOk result (λ n. FillsOn (S.remaining source.old) (S.remaining source.new)
+        held wanted n buf.old buf.new) }
     ensures beginning { ConsumesBeginning (S.remaining source.old) (S.remaining source.new) }
     ensures kept { OnErr result (Keeps (S.remaining source.old) (S.remaining source.new)) }
     ensures failures { CountsFailure result (S.failures source.old) (S.failures source.new) }
@@ -41,18 +44,22 @@ fn read_more<S: Source>(
     source.read(&mut buf[held..wanted])
 }
 
-/// Reads until the buffer is full, of which this many bytes are already held, and returns how many were read.
+/// Reads until the buffer is full, of which this many bytes are already held, and returns how many
+/// were read.
 fn read_rest<S: Source>(source: &mut S, buf: &mut [u8], held: usize) -> Result<usize, ReadFailed>
     requires { held ≤ length buf.old }
-    ensures rest { IfOk result (λ n. FillsRest (S.remaining source.old) (S.remaining source.new) held n buf.old buf.new) }
+    ensures rest { IfOk result (λ n. FillsRest (S.remaining source.old) (S.remaining source.new)
+        held n buf.old buf.new) }
     ensures beginning { ConsumesBeginning (S.remaining source.old) (S.remaining source.new) }
-    ensures few { OnErr result (ConsumesFewer (length buf.old - held) (S.remaining source.old) (S.remaining source.new)) }
+    ensures few { OnErr result
+        (ConsumesFewer (length buf.old - held) (S.remaining source.old) (S.remaining source.new)) }
     ensures failures { CountsFailure result (S.failures source.old) (S.failures source.new) }
 {
     read_full(source, &mut buf[held..])
 }
 
-/// Takes the cells that are whole in these bytes, after those before them, and returns how many bytes are left of one more.
+/// Takes the cells that are whole in these bytes, after those before them, and returns how many
+/// bytes are left of one more.
 fn take_cells(cells: &mut Vec<Cell>, place: u64, bytes: &[u8]) -> Result<usize, DecodeFault>
     ensures { TakesCells result cells.old.items cells.new.items place bytes.now }
 {
@@ -79,8 +86,8 @@ fn take_cells(cells: &mut Vec<Cell>, place: u64, bytes: &[u8]) -> Result<usize, 
     Ok(0)
 }
 
-/// Takes cells from the front of these bytes, after those before them, as far as they are whole, and until there are `count` in all. Returns how
-/// many bytes they have.
+/// Takes cells from the front of these bytes, after those before them, as far as they are whole,
+/// and until there are `count` in all. Returns how many bytes they have.
 fn take_some_cells(
     cells: &mut Vec<Cell>,
     place: u64,
@@ -116,7 +123,8 @@ fn take_some_cells(
     Ok(bytes.len() - left.len())
 }
 
-/// Takes cells that are read ahead, of this many in all, after those before them, and returns the place after them.
+/// Takes cells that are read ahead, of this many in all, after those before them, and returns the
+/// place after them.
 fn take_ahead_cells<S: Source>(
     source: &mut S,
     place: u64,
@@ -124,7 +132,8 @@ fn take_ahead_cells<S: Source>(
     cells: &mut Vec<Cell>,
 ) -> Result<u64, DecodeFault>
     requires { length cells.old.items ≤ count }
-    ensures reads { ReadsMoreCells result (S.remaining source.old) (S.remaining source.new) cells.old.items cells.new.items place count }
+    ensures reads { ReadsMoreCells result (S.remaining source.old) (S.remaining source.new)
+        cells.old.items cells.new.items place count }
     ensures beginning { ConsumesBeginning (S.remaining source.old) (S.remaining source.new) }
     ensures no_read { IfErr result (λ fault. ¬ IsReadFault fault) }
     ensures failures { CountsRead result (S.failures source.old) (S.failures source.new) }
@@ -134,7 +143,8 @@ fn take_ahead_cells<S: Source>(
     Ok(place.saturating_add(used as u64))
 }
 
-/// Reads the rest of a known cell, these bytes of whose number were read, and returns the place after it.
+/// Reads the rest of a known cell, these bytes of whose number were read, and returns the place
+/// after it.
 fn read_rest_of_cell<S: Source>(
     source: &mut S,
     place: u64,
@@ -142,9 +152,11 @@ fn read_rest_of_cell<S: Source>(
     cells: &mut Vec<Cell>,
 ) -> Result<u64, DecodeFault>
     requires { length begun.now ≤ 4 }
-    ensures reads { ReadsRest result (S.remaining source.old) (S.remaining source.new) begun.now cells.old.items cells.new.items place }
+    ensures reads { ReadsRest result (S.remaining source.old) (S.remaining source.new)
+        begun.now cells.old.items cells.new.items place }
     ensures beginning { ConsumesBeginning (S.remaining source.old) (S.remaining source.new) }
-    ensures few { IfErr result (λ fault. IsReadFault fault → ConsumesFewer (4 - length begun.now) (S.remaining source.old) (S.remaining source.new)) }
+    ensures few { IfErr result (λ fault. IsReadFault fault
+        → ConsumesFewer (4 - length begun.now) (S.remaining source.old) (S.remaining source.new)) }
     ensures failures { CountsRead result (S.failures source.old) (S.failures source.new) }
 {
     let held = begun.len();
@@ -167,9 +179,11 @@ fn read_one_cell<S: Source>(
     cells: &mut Vec<Cell>,
 ) -> Result<u64, DecodeFault>
     requires { length cells.old.items < count }
-    ensures reads { ReadsCells result (S.remaining source.old) (S.remaining source.new) cells.old.items cells.new.items place count }
+    ensures reads { ReadsCells result (S.remaining source.old) (S.remaining source.new)
+        cells.old.items cells.new.items place count }
     ensures beginning { ConsumesBeginning (S.remaining source.old) (S.remaining source.new) }
-    ensures stopped { IfErr result (StopsAtEnd place (S.remaining source.old) (S.remaining source.new) (cells_at cells.old.items (count - length cells.old.items))) }
+    ensures stopped { StopsWhole (cells_up_to cells.old.items count) place result
+        (S.remaining source.old) (S.remaining source.new) }
     ensures failures { CountsRead result (S.failures source.old) (S.failures source.new) }
 {
     let (cell, after) = read_cell(source, place)?;
@@ -177,9 +191,10 @@ fn read_one_cell<S: Source>(
     Ok(after)
 }
 
-/// Reads some cells at once, of this many in all, after those before them, and returns the place after them. Each cell has at least one byte:
-/// so as many bytes are read as cells are left, and then those of the last one that are missing. The source isn't called again once a tag is
-/// read that breaks a rule.
+/// Reads some cells at once, of this many in all, after those before them, and returns the place
+/// after them. Each cell has at least one byte: so as many bytes are read as cells are left, and
+/// then those of the last one that are missing. The source isn't called again once a tag is read
+/// that breaks a rule.
 fn fetch_cell_block<S: Source>(
     source: &mut S,
     place: u64,
@@ -187,9 +202,11 @@ fn fetch_cell_block<S: Source>(
     cells: &mut Vec<Cell>,
 ) -> Result<u64, DecodeFault>
     requires { length cells.old.items < count }
-    ensures reads { ReadsCells result (S.remaining source.old) (S.remaining source.new) cells.old.items cells.new.items place count }
+    ensures reads { ReadsCells result (S.remaining source.old) (S.remaining source.new)
+        cells.old.items cells.new.items place count }
     ensures beginning { ConsumesBeginning (S.remaining source.old) (S.remaining source.new) }
-    ensures stopped { IfErr result (StopsAtEnd place (S.remaining source.old) (S.remaining source.new) (cells_at cells.old.items (count - length cells.old.items))) }
+    ensures stopped { StopsWhole (cells_up_to cells.old.items count) place result
+        (S.remaining source.old) (S.remaining source.new) }
     ensures failures { CountsRead result (S.failures source.old) (S.failures source.new) }
 {
     let mut bytes = [0u8; BLOCK];
@@ -213,8 +230,9 @@ fn fetch_cell_block<S: Source>(
     read_rest_of_cell(source, after, &bytes[taken + 1..filled], cells)
 }
 
-/// Reads some cells, of this many in all, after those before them, and returns the place after them: where bytes are read ahead, one and those
-/// that are read ahead after it, and otherwise some at once.
+/// Reads some cells, of this many in all, after those before them, and returns the place after
+/// them: where bytes are read ahead, one and those that are read ahead after it, and otherwise some
+/// at once.
 fn read_cell_block<S: Source>(
     source: &mut S,
     place: u64,
@@ -222,9 +240,11 @@ fn read_cell_block<S: Source>(
     cells: &mut Vec<Cell>,
 ) -> Result<u64, DecodeFault>
     requires { length cells.old.items < count }
-    ensures reads { ReadsCells result (S.remaining source.old) (S.remaining source.new) cells.old.items cells.new.items place count }
+    ensures reads { ReadsCells result (S.remaining source.old) (S.remaining source.new)
+        cells.old.items cells.new.items place count }
     ensures beginning { ConsumesBeginning (S.remaining source.old) (S.remaining source.new) }
-    ensures stopped { IfErr result (StopsAtEnd place (S.remaining source.old) (S.remaining source.new) (cells_at cells.old.items (count - length cells.old.items))) }
+    ensures stopped { StopsWhole (cells_up_to cells.old.items count) place result
+        (S.remaining source.old) (S.remaining source.new) }
     ensures failures { CountsRead result (S.failures source.old) (S.failures source.new) }
 {
     if source.ahead().is_empty() {
@@ -241,10 +261,12 @@ pub(crate) fn read_cells<S: Source>(
     count: usize,
     others: Vec<Cell>,
 ) -> Result<(Vec<Cell>, u64), DecodeFault>
-    ensures reads { Gives (λ v. v.items) (S.remaining source.old) (S.remaining source.new) result (list_at (λ _. cell_at) [] count (input_at place (S.remaining source.old))) }
+    ensures reads { ReadsAs (λ v. v.items) (cells_at [] count) place result
+        (S.remaining source.old) (S.remaining source.new) }
     ensures few { IfOk result (λ r. length r.0.items ≤ count) }
     ensures beginning { ConsumesBeginning (S.remaining source.old) (S.remaining source.new) }
-    ensures stopped { IfErr result (StopsAtEnd place (S.remaining source.old) (S.remaining source.new) (list_at (λ _. cell_at) [] count)) }
+    ensures stopped { StopsWhole (cells_at [] count) place result
+        (S.remaining source.old) (S.remaining source.new) }
     ensures failures { CountsRead result (S.failures source.old) (S.failures source.new) }
 {
     let mut cells = others;
@@ -266,7 +288,8 @@ fn is_next(functions: &[(u16, u32)], function: (u16, u32)) -> bool
     }
 }
 
-/// Takes the functions that are whole in these bytes, after those before them, and returns how many bytes are left of one more.
+/// Takes the functions that are whole in these bytes, after those before them, and returns how many
+/// bytes are left of one more.
 fn take_functions(
     functions: &mut Vec<(u16, u32)>,
     place: u64,
@@ -290,7 +313,8 @@ fn take_functions(
     Ok(left.len())
 }
 
-/// Takes this many functions that are read ahead, after those before them, and returns the place after them.
+/// Takes this many functions that are read ahead, after those before them, and returns the place
+/// after them.
 fn take_function_block<S: Source>(
     source: &mut S,
     place: u64,
@@ -299,10 +323,12 @@ fn take_function_block<S: Source>(
 ) -> Result<u64, DecodeFault>
     requires few { count ≤ 64 }
     requires there { 6 * count ≤ length (S.read_ahead source.old) }
-    ensures reads { ReadsBlock result (S.remaining source.old) (S.remaining source.new) functions.old.items functions.new.items place count }
+    ensures reads { ReadsBlock result (S.remaining source.old) (S.remaining source.new)
+        functions.old.items functions.new.items place count }
     ensures rises { Rises functions.old.items → OnOk result (Rises functions.new.items) }
     ensures beginning { ConsumesBeginning (S.remaining source.old) (S.remaining source.new) }
-    ensures stopped { IfErr result (StopsAtEnd place (S.remaining source.old) (S.remaining source.new) (list_at function_at functions.old.items count)) }
+    ensures stopped { StopsWhole (list_at function_at functions.old.items count) place result
+        (S.remaining source.old) (S.remaining source.new) }
     ensures failures { CountsRead result (S.failures source.old) (S.failures source.new) }
 {
     let width = FUNCTION * count;
@@ -311,8 +337,8 @@ fn take_function_block<S: Source>(
     Ok(place.saturating_add(width as u64))
 }
 
-/// Reads this many functions at once, after those before them, and returns the place after them. The source isn't called again once a function
-/// is read that breaks a rule.
+/// Reads this many functions at once, after those before them, and returns the place after them.
+/// The source isn't called again once a function is read that breaks a rule.
 fn fetch_function_block<S: Source>(
     source: &mut S,
     place: u64,
@@ -320,10 +346,12 @@ fn fetch_function_block<S: Source>(
     functions: &mut Vec<(u16, u32)>,
 ) -> Result<u64, DecodeFault>
     requires { count ≤ 64 }
-    ensures reads { ReadsBlock result (S.remaining source.old) (S.remaining source.new) functions.old.items functions.new.items place count }
+    ensures reads { ReadsBlock result (S.remaining source.old) (S.remaining source.new)
+        functions.old.items functions.new.items place count }
     ensures rises { Rises functions.old.items → OnOk result (Rises functions.new.items) }
     ensures beginning { ConsumesBeginning (S.remaining source.old) (S.remaining source.new) }
-    ensures stopped { IfErr result (StopsAtEnd place (S.remaining source.old) (S.remaining source.new) (list_at function_at functions.old.items count)) }
+    ensures stopped { StopsWhole (list_at function_at functions.old.items count) place result
+        (S.remaining source.old) (S.remaining source.new) }
     ensures failures { CountsRead result (S.failures source.old) (S.failures source.new) }
 {
     let mut bytes = [0u8; FUNCTION * BLOCK];
@@ -351,10 +379,12 @@ fn read_function_block<S: Source>(
     functions: &mut Vec<(u16, u32)>,
 ) -> Result<u64, DecodeFault>
     requires { count ≤ 64 }
-    ensures reads { ReadsBlock result (S.remaining source.old) (S.remaining source.new) functions.old.items functions.new.items place count }
+    ensures reads { ReadsBlock result (S.remaining source.old) (S.remaining source.new)
+        functions.old.items functions.new.items place count }
     ensures rises { Rises functions.old.items → OnOk result (Rises functions.new.items) }
     ensures beginning { ConsumesBeginning (S.remaining source.old) (S.remaining source.new) }
-    ensures stopped { IfErr result (StopsAtEnd place (S.remaining source.old) (S.remaining source.new) (list_at function_at functions.old.items count)) }
+    ensures stopped { StopsWhole (list_at function_at functions.old.items count) place result
+        (S.remaining source.old) (S.remaining source.new) }
     ensures failures { CountsRead result (S.failures source.old) (S.failures source.new) }
 {
     if FUNCTION * count <= source.ahead().len() {
@@ -370,10 +400,12 @@ fn read_function_list<S: Source>(
     count: u16,
     others: Vec<(u16, u32)>,
 ) -> Result<(Vec<(u16, u32)>, u64), DecodeFault>
-    ensures reads { Gives (λ v. v.items) (S.remaining source.old) (S.remaining source.new) result (list_at function_at [] count (input_at place (S.remaining source.old))) }
+    ensures reads { ReadsAs (λ v. v.items) (list_at function_at [] count) place result
+        (S.remaining source.old) (S.remaining source.new) }
     ensures rises { IfOk result (λ r. Rises r.0.items) }
     ensures beginning { ConsumesBeginning (S.remaining source.old) (S.remaining source.new) }
-    ensures stopped { IfErr result (StopsAtEnd place (S.remaining source.old) (S.remaining source.new) (list_at function_at [] count)) }
+    ensures stopped { StopsWhole (list_at function_at [] count) place result
+        (S.remaining source.old) (S.remaining source.new) }
     ensures failures { CountsRead result (S.failures source.old) (S.failures source.new) }
 {
     let mut functions = others;
@@ -388,7 +420,8 @@ fn read_function_list<S: Source>(
     Ok((functions, at))
 }
 
-/// Functions that were read, and their text where it was kept. Most lists are the same as the one of the state before.
+/// Functions that were read, and their text where it was kept. Most lists are the same as the one
+/// of the state before.
 #[derive(Drop)]
 pub(crate) struct Functions {
     pub(crate) list: Vec<(u16, u32)>,
@@ -434,11 +467,13 @@ fn take_listed<S: Source>(
     others: Functions,
 ) -> Result<(Functions, u64), DecodeFault>
     requires { 6 * count ≤ length (S.read_ahead source.old) }
-    ensures reads { Gives (λ f. f.list.items) (S.remaining source.old) (S.remaining source.new) result (list_at function_at [] count (input_at place (S.remaining source.old))) }
+    ensures reads { ReadsAs (λ f. f.list.items) (list_at function_at [] count) place result
+        (S.remaining source.old) (S.remaining source.new) }
     ensures kept { IfOk result (λ r. AreKept r.0.text.items r.0.list.items) }
     ensures fresh { IfOk result (λ r. r.0.is_same ≡ false) }
     ensures beginning { ConsumesBeginning (S.remaining source.old) (S.remaining source.new) }
-    ensures stopped { IfErr result (StopsAtEnd place (S.remaining source.old) (S.remaining source.new) (list_at function_at [] count)) }
+    ensures stopped { StopsWhole (list_at function_at [] count) place result
+        (S.remaining source.old) (S.remaining source.new) }
     ensures failures { CountsRead result (S.failures source.old) (S.failures source.new) }
 {
     let Functions {
@@ -461,7 +496,8 @@ fn take_listed<S: Source>(
     Ok((functions, place.saturating_add(width as u64)))
 }
 
-/// Reads this many functions, which are mostly the same as the others, and otherwise in their memory.
+/// Reads this many functions, which are mostly the same as the others, and otherwise in their
+/// memory.
 fn read_listed<S: Source>(
     source: &mut S,
     place: u64,
@@ -469,12 +505,14 @@ fn read_listed<S: Source>(
     others: Functions,
 ) -> Result<(Functions, u64), DecodeFault>
     requires { AreKept others.text.items others.list.items }
-    ensures reads { Gives (λ f. f.list.items) (S.remaining source.old) (S.remaining source.new) result (list_at function_at [] count (input_at place (S.remaining source.old))) }
+    ensures reads { ReadsAs (λ f. f.list.items) (list_at function_at [] count) place result
+        (S.remaining source.old) (S.remaining source.new) }
     ensures kept { IfOk result (λ r. AreKept r.0.text.items r.0.list.items) }
     ensures same { IfOk result
         (λ r. r.0.is_same ≡ true → r.0.list.items ≡ others.list.items) }
     ensures beginning { ConsumesBeginning (S.remaining source.old) (S.remaining source.new) }
-    ensures stopped { IfErr result (StopsAtEnd place (S.remaining source.old) (S.remaining source.new) (list_at function_at [] count)) }
+    ensures stopped { StopsWhole (list_at function_at [] count) place result
+        (S.remaining source.old) (S.remaining source.new) }
     ensures failures { CountsRead result (S.failures source.old) (S.failures source.new) }
 {
     let width = FUNCTION * usize::from(count);
@@ -500,7 +538,8 @@ fn read_listed<S: Source>(
     Ok((functions, after))
 }
 
-/// Reads the functions that are known, with their bodies, which are mostly the same as the others, and otherwise in their memory.
+/// Reads the functions that are known, with their bodies, which are mostly the same as the others,
+/// and otherwise in their memory.
 #[tactic(auto, unfolding(crate::specs::Reading::functions_at))]
 pub(crate) fn read_functions<S: Source>(
     source: &mut S,
@@ -508,12 +547,14 @@ pub(crate) fn read_functions<S: Source>(
     others: Functions,
 ) -> Result<(Functions, u64), DecodeFault>
     requires { AreKept others.text.items others.list.items }
-    ensures reads { Gives (λ f. f.list.items) (S.remaining source.old) (S.remaining source.new) result (functions_at (input_at place (S.remaining source.old))) }
+    ensures reads { ReadsAs (λ f. f.list.items) functions_at place result
+        (S.remaining source.old) (S.remaining source.new) }
     ensures kept { IfOk result (λ r. AreKept r.0.text.items r.0.list.items) }
     ensures same { IfOk result
         (λ r. r.0.is_same ≡ true → r.0.list.items ≡ others.list.items) }
     ensures beginning { ConsumesBeginning (S.remaining source.old) (S.remaining source.new) }
-    ensures stopped { IfErr result (StopsAtEnd place (S.remaining source.old) (S.remaining source.new) functions_at) }
+    ensures stopped { StopsWhole functions_at place result
+        (S.remaining source.old) (S.remaining source.new) }
     ensures failures { CountsRead result (S.failures source.old) (S.failures source.new) }
 {
     let (count, at) = read_word(source, place)?;
@@ -527,10 +568,12 @@ fn read_stored<S: Source>(
     place: u64,
     before: &[(u16, i32)],
 ) -> Result<((u16, i32), u64), DecodeFault>
-    ensures reads { Gives (λ x. x) (S.remaining source.old) (S.remaining source.new) result (stored_at before.now (input_at place (S.remaining source.old))) }
+    ensures reads { ReadsBy (stored_at before.now) place result
+        (S.remaining source.old) (S.remaining source.new) }
     ensures above { IfOk result (λ r. is_above (last_of before.now) r.0 ≡ true) }
     ensures beginning { ConsumesBeginning (S.remaining source.old) (S.remaining source.new) }
-    ensures stopped { IfErr result (StopsAtEnd place (S.remaining source.old) (S.remaining source.new) (stored_at before.now)) }
+    ensures stopped { StopsWhole (stored_at before.now) place result
+        (S.remaining source.old) (S.remaining source.new) }
     ensures failures { CountsRead result (S.failures source.old) (S.failures source.new) }
     ensures memory { IfErr result (λ fault. ¬ IsOutOfMemory fault) }
 {
@@ -550,10 +593,12 @@ fn read_storage_list<S: Source>(
     count: u16,
     others: Vec<(u16, i32)>,
 ) -> Result<(Vec<(u16, i32)>, u64), DecodeFault>
-    ensures reads { Gives (λ v. v.items) (S.remaining source.old) (S.remaining source.new) result (list_at stored_at [] count (input_at place (S.remaining source.old))) }
+    ensures reads { ReadsAs (λ v. v.items) (list_at stored_at [] count) place result
+        (S.remaining source.old) (S.remaining source.new) }
     ensures rises { IfOk result (λ r. Rises r.0.items) }
     ensures beginning { ConsumesBeginning (S.remaining source.old) (S.remaining source.new) }
-    ensures stopped { IfErr result (StopsAtEnd place (S.remaining source.old) (S.remaining source.new) (list_at stored_at [] count)) }
+    ensures stopped { StopsWhole (list_at stored_at [] count) place result
+        (S.remaining source.old) (S.remaining source.new) }
     ensures failures { CountsRead result (S.failures source.old) (S.failures source.new) }
 {
     let mut cells = others;
@@ -567,7 +612,8 @@ fn read_storage_list<S: Source>(
     Ok((cells, at))
 }
 
-/// Reads the storage cells that are known, with their numbers, where the form lists them, in the memory of others.
+/// Reads the storage cells that are known, with their numbers, where the form lists them, in the
+/// memory of others.
 #[tactic(auto, unfolding(crate::specs::Reading::storage_at))]
 pub(crate) fn read_storage<S: Source>(
     source: &mut S,
@@ -575,10 +621,12 @@ pub(crate) fn read_storage<S: Source>(
     form: Form,
     others: Vec<(u16, i32)>,
 ) -> Result<(Vec<(u16, i32)>, u64), DecodeFault>
-    ensures reads { Gives (λ v. v.items) (S.remaining source.old) (S.remaining source.new) result (storage_at form (input_at place (S.remaining source.old))) }
+    ensures reads { ReadsAs (λ v. v.items) (storage_at form) place result
+        (S.remaining source.old) (S.remaining source.new) }
     ensures rises { IfOk result (λ r. Rises r.0.items) }
     ensures beginning { ConsumesBeginning (S.remaining source.old) (S.remaining source.new) }
-    ensures stopped { IfErr result (StopsAtEnd place (S.remaining source.old) (S.remaining source.new) (storage_at form)) }
+    ensures stopped { StopsWhole (storage_at form) place result
+        (S.remaining source.old) (S.remaining source.new) }
     ensures failures { CountsRead result (S.failures source.old) (S.failures source.new) }
 {
     match form {

@@ -1,13 +1,14 @@
 //! Stacks, each read after another one. Mostly the lowest cells are those of the one before: they
 //! are known by their text, and stay in the state.
 
-ghost use Rattle.std.specs.Prelude.{◌≡◌, ◌≤◌, ◌++◌, List, [], true, length, reverse, IfErr, IfOk, OnOk};
+ghost use Rattle.std.specs.Prelude.{◌≡◌, ◌≤◌, ◌++◌, List, [], true, length, reverse, IfOk, OnOk};
 ghost use Rattle.std.specs.Io.{StartsWith};
 ghost use Rattle.tt_abs.specs.declared.cells.Cell.{Cell as AnyCell};
 ghost use Rattle.tt_stream.specs.Reads.{ConsumesBeginning};
-ghost use Rattle.tt_cert_file.specs.Answers.{CountsRead, Gives, StopsAtEnd, input_at};
+ghost use Rattle.tt_cert_file.specs.Answers.{CountsRead};
 ghost use Rattle.tt_cert_file.specs.Representation.Blocks.{ReadsMoreCells, cells_at};
 ghost use Rattle.tt_cert_file.specs.Reading.{stack_at};
+ghost use Rattle.tt_cert_file.specs.Representation.Clauses.{ReadsAs, StopsWhole};
 ghost use Rattle.tt_cert_file.specs.Representation.SharedCells.{AreAhead, AreCellsKept, AreWithin, IsStackKept, end_of};
 
 use crate::fault::DecodeFault;
@@ -138,14 +139,13 @@ fn read_stack_cells<S: Source>(
     others: LastStack,
 ) -> Result<(LastStack, u64), DecodeFault>
     requires { IsStackKept others.text.items others.ends.items state.old }
-    ensures reads { Gives (λ _. reverse state.new.stack) (S.remaining source.old)
-        (S.remaining source.new) result
-        (cells_at [] count (input_at place (S.remaining source.old))) }
+    ensures reads { ReadsAs (λ _. reverse state.new.stack) (cells_at [] count) place result
+        (S.remaining source.old) (S.remaining source.new) }
     ensures others { OnOk result (state.new ≡ record state.old { stack = state.new.stack }) }
     ensures kept { IfOk result (λ r. IsStackKept r.0.text.items r.0.ends.items state.new) }
     ensures beginning { ConsumesBeginning (S.remaining source.old) (S.remaining source.new) }
-    ensures stopped { IfErr result
-        (StopsAtEnd place (S.remaining source.old) (S.remaining source.new) (cells_at [] count)) }
+    ensures stopped { StopsWhole (cells_at [] count) place result
+        (S.remaining source.old) (S.remaining source.new) }
     ensures failures { CountsRead result (S.failures source.old) (S.failures source.new) }
 {
     let LastStack {
@@ -171,13 +171,13 @@ pub(crate) fn read_stack<S: Source>(
     others: LastStack,
 ) -> Result<(LastStack, u64), DecodeFault>
     requires { IsStackKept others.text.items others.ends.items state.old }
-    ensures reads { Gives (λ _. reverse state.new.stack) (S.remaining source.old)
-        (S.remaining source.new) result (stack_at (input_at place (S.remaining source.old))) }
+    ensures reads { ReadsAs (λ _. reverse state.new.stack) stack_at place result
+        (S.remaining source.old) (S.remaining source.new) }
     ensures others { OnOk result (state.new ≡ record state.old { stack = state.new.stack }) }
     ensures kept { IfOk result (λ r. IsStackKept r.0.text.items r.0.ends.items state.new) }
     ensures beginning { ConsumesBeginning (S.remaining source.old) (S.remaining source.new) }
-    ensures stopped { IfErr result
-        (StopsAtEnd place (S.remaining source.old) (S.remaining source.new) stack_at) }
+    ensures stopped { StopsWhole stack_at place result
+        (S.remaining source.old) (S.remaining source.new) }
     ensures failures { CountsRead result (S.failures source.old) (S.failures source.new) }
 {
     let (count, at) = read_word(source, place)?;

@@ -1,13 +1,13 @@
 //! States of a section: each is made from its parts, and put into a builder.
 
-ghost use Rattle.std.specs.Prelude.{◌≡◌, ◌≤◌, [], ◌∷◌, ◌++◌, true, length, IfErr, IfOk, OnOk};
+ghost use Rattle.std.specs.Prelude.{◌≡◌, [], ◌∷◌, ◌++◌, true, length, IfErr, IfOk, OnOk};
 ghost use Rattle.tt_abs.specs.Entries.{Rises};
-ghost use Rattle.tt_abs.specs.States.{state_order};
+ghost use Rattle.tt_abs.specs.States.{KeepsRange, state_order};
 ghost use Rattle.tt_stream.specs.Reads.{ConsumesBeginning};
-ghost use Rattle.tt_cert_file.specs.Answers.{CountsRead, Gives, IsOutOfMemory, StopsAtEnd, input_at};
-ghost use Rattle.tt_cert_file.specs.Readers.{list_at};
-ghost use Rattle.tt_cert_file.specs.Reading.{entry_after, entry_at, place_at, state_at, states_at};
+ghost use Rattle.tt_cert_file.specs.Answers.{CountsRead, IsOutOfMemory};
+ghost use Rattle.tt_cert_file.specs.Reading.{entry_after, place_at, state_at, states_at};
 ghost use Rattle.tt_cert_file.specs.Rules.{is_next_place as is_next_place_after, last_place};
+ghost use Rattle.tt_cert_file.specs.Representation.Clauses.{ReadsAs, ReadsBy, StopsWhole, entries_at};
 ghost use Rattle.tt_cert_file.specs.Representation.SharedCells.{IsLast};
 
 use crate::fault::DecodeFault;
@@ -25,7 +25,7 @@ use tt_stream::Source;
 /// Sets what is known of the graphics state.
 fn set_graphics(state: &mut State, graphics: &Graphics<Cell, ZoneCell>)
     ensures set { state.new ≡ record state.old { graphics = graphics.now } }
-    ensures in_range { state_order.InRange state.old → state_order.InRange state.new }
+    ensures in_range { KeepsRange state.old state.new }
 {
     state.set_rp(Reference::Rp0, graphics.rp0);
     state.set_rp(Reference::Rp1, graphics.rp1);
@@ -41,7 +41,7 @@ fn store_cells(state: &mut State, cells: &[(u16, i32)]) -> Result<(), AllocError
     requires empty { state.old.storage ≡ [] }
     requires rises { Rises cells.now }
     ensures stored { OnOk result (state.new ≡ record state.old { storage = cells.now }) }
-    ensures in_range { state_order.InRange state.old → state_order.InRange state.new }
+    ensures in_range { KeepsRange state.old state.new }
 {
     for &(index, number) in cells {
         state.set_storage(index, Cell::Known(number))?;
@@ -56,7 +56,7 @@ fn set_functions(state: &mut State, functions: &Functions) -> Result<(), AllocEr
         → state.old.functions ≡ functions.now.list.items }
     ensures set { OnOk result
         (state.new ≡ record state.old { functions = functions.now.list.items }) }
-    ensures in_range { OnOk result (state_order.InRange state.old → state_order.InRange state.new) }
+    ensures in_range { OnOk result (KeepsRange state.old state.new) }
 {
     if functions.is_same {
         return Ok(());
@@ -81,7 +81,7 @@ fn set_rest(
       functions = functions.now.list.items;
       storage = storage.now;
     }) }
-    ensures in_range { OnOk result (state_order.InRange state.old → state_order.InRange state.new) }
+    ensures in_range { OnOk result (KeepsRange state.old state.new) }
 {
     set_graphics(state, graphics);
     set_functions(state, functions)?;
@@ -125,12 +125,12 @@ fn read_state<S: Source>(
     last: LastState,
 ) -> Result<(LastState, u64), DecodeFault>
     requires { IsLast last }
-    ensures reads { Gives (λ x. x.state) (S.remaining source.old) (S.remaining source.new)
-        result (state_at form (input_at place (S.remaining source.old))) }
+    ensures reads { ReadsAs (λ x. x.state) (state_at form) place result
+        (S.remaining source.old) (S.remaining source.new) }
     ensures kept { IfOk result (λ r. IsLast r.0) }
     ensures beginning { ConsumesBeginning (S.remaining source.old) (S.remaining source.new) }
-    ensures stopped { IfErr result
-        (StopsAtEnd place (S.remaining source.old) (S.remaining source.new) (state_at form)) }
+    ensures stopped { StopsWhole (state_at form) place result
+        (S.remaining source.old) (S.remaining source.new) }
     ensures failures { CountsRead result (S.failures source.old) (S.failures source.new) }
 {
     let LastState {
@@ -172,10 +172,12 @@ fn read_place<S: Source>(
     contexts: u32,
     last: Option<(u32, u32)>,
 ) -> Result<((u32, u32), u64), DecodeFault>
-    ensures reads { Gives (λ x. x) (S.remaining source.old) (S.remaining source.new) result (place_at contexts last (input_at place (S.remaining source.old))) }
+    ensures reads { ReadsBy (place_at contexts last) place result
+        (S.remaining source.old) (S.remaining source.new) }
     ensures follows { IfOk result (λ r. is_next_place_after contexts last r.0 ≡ true) }
     ensures beginning { ConsumesBeginning (S.remaining source.old) (S.remaining source.new) }
-    ensures stopped { IfErr result (StopsAtEnd place (S.remaining source.old) (S.remaining source.new) (place_at contexts last)) }
+    ensures stopped { StopsWhole (place_at contexts last) place result
+        (S.remaining source.old) (S.remaining source.new) }
     ensures failures { CountsRead result (S.failures source.old) (S.failures source.new) }
     ensures memory { IfErr result (λ fault. ¬ IsOutOfMemory fault) }
 {
@@ -197,12 +199,13 @@ fn read_entry<S: Source>(
     last_state: LastState,
 ) -> Result<(((u32, u32), LastState), u64), DecodeFault>
     requires { IsLast last_state }
-    ensures reads { Gives (λ x. (x.0, x.1.state)) (S.remaining source.old) (S.remaining source.new)
-        result (entry_after form contexts last (input_at place (S.remaining source.old))) }
+    ensures reads { ReadsAs (λ x. (x.0, x.1.state)) (entry_after form contexts last) place result
+        (S.remaining source.old) (S.remaining source.new) }
     ensures follows { IfOk result (λ r. is_next_place_after contexts last r.0.0 ≡ true) }
     ensures kept { IfOk result (λ r. IsLast r.0.1) }
     ensures beginning { ConsumesBeginning (S.remaining source.old) (S.remaining source.new) }
-    ensures stopped { IfErr result (StopsAtEnd place (S.remaining source.old) (S.remaining source.new) (entry_after form contexts last)) }
+    ensures stopped { StopsWhole (entry_after form contexts last) place result
+        (S.remaining source.old) (S.remaining source.new) }
     ensures failures { CountsRead result (S.failures source.old) (S.failures source.new) }
 {
     let (point, at) = read_place(source, place, contexts, last)?;
@@ -212,9 +215,11 @@ fn read_entry<S: Source>(
 
 /// Puts a state at a point of the builder that comes after all that have states.
 fn add_state(builder: &mut Builder, point: (u32, u32), state: &State) -> Result<(), AllocError>
-    requires there { is_next_place_after (length builder.old.contexts) (last_place builder.old.states) point ≡ true }
+    requires there { is_next_place_after (length builder.old.contexts)
+        (last_place builder.old.states) point ≡ true }
     requires in_range { state_order.InRange state.now }
-    ensures added { OnOk result (builder.new.states ≡ builder.old.states ++ (point, state.now) ∷ []) }
+    ensures added { OnOk result
+        (builder.new.states ≡ builder.old.states ++ (point, state.now) ∷ []) }
     ensures contexts { builder.new.contexts ≡ builder.old.contexts }
 {
     builder.family_facts();
@@ -241,10 +246,12 @@ fn read_state_list<S: Source>(
     count: u32,
 ) -> Result<(Builder, u64), DecodeFault>
     requires { builder.states ≡ [] }
-    ensures reads { Gives (λ b. b.states) (S.remaining source.old) (S.remaining source.new) result (list_at (entry_at form (length builder.contexts)) [] count (input_at place (S.remaining source.old))) }
+    ensures reads { ReadsAs (λ b. b.states) (entries_at form (length builder.contexts) count)
+        place result (S.remaining source.old) (S.remaining source.new) }
     ensures contexts { IfOk result (λ r. r.0.contexts ≡ builder.contexts) }
     ensures beginning { ConsumesBeginning (S.remaining source.old) (S.remaining source.new) }
-    ensures stopped { IfErr result (StopsAtEnd place (S.remaining source.old) (S.remaining source.new) (list_at (entry_at form (length builder.contexts)) [] count)) }
+    ensures stopped { StopsWhole (entries_at form (length builder.contexts) count)
+        place result (S.remaining source.old) (S.remaining source.new) }
     ensures failures { CountsRead result (S.failures source.old) (S.failures source.new) }
 {
     let mut builder = builder;
@@ -272,10 +279,12 @@ pub(crate) fn read_states<S: Source>(
     form: Form,
 ) -> Result<(Builder, u64), DecodeFault>
     requires { builder.states ≡ [] }
-    ensures reads { Gives (λ b. b.states) (S.remaining source.old) (S.remaining source.new) result (states_at form (length builder.contexts) (input_at place (S.remaining source.old))) }
+    ensures reads { ReadsAs (λ b. b.states) (states_at form (length builder.contexts)) place result
+        (S.remaining source.old) (S.remaining source.new) }
     ensures contexts { IfOk result (λ r. r.0.contexts ≡ builder.contexts) }
     ensures beginning { ConsumesBeginning (S.remaining source.old) (S.remaining source.new) }
-    ensures stopped { IfErr result (StopsAtEnd place (S.remaining source.old) (S.remaining source.new) (states_at form (length builder.contexts))) }
+    ensures stopped { StopsWhole (states_at form (length builder.contexts)) place result
+        (S.remaining source.old) (S.remaining source.new) }
     ensures failures { CountsRead result (S.failures source.old) (S.failures source.new) }
 {
     let (count, at) = read_long(source, place)?;

@@ -3,6 +3,8 @@
 use Rattle.std.specs.Prelude.{ℕ, Bool, true, false, codes, List, Option, None, Some, Result, Ok, Err}
 use Rattle.tt_code.specs.declared.reason.Reason.{Reason}
 use Rattle.tt_code.specs.declared.reason.Reason.TheVariants as reason
+use Rattle.tt_code.specs.declared.reason.ReasonClass.{ReasonClass}
+use Rattle.tt_code.specs.declared.reason.ReasonClass.TheVariants.{PossibleFault, Undecided, LeftOut, Certificate}
 
 -- a reason's number
 abbrev pub number_of : Reason → ℕ
@@ -29,6 +31,33 @@ number_of reason.TooManyContexts = 39
 number_of reason.NeverEnds = 40
 number_of reason.MissingPoint = 41
 number_of reason.NotCovered = 42
+
+-- What a reason tells: that the fault isn't ruled out by what is known, that the analysis can't
+-- tell, that the program does what is left out by choice, or that the certificate doesn't fit it.
+abbrev pub class_of : Reason → ReasonClass
+class_of reason.CannotCut = PossibleFault
+class_of reason.Structure = PossibleFault
+class_of reason.ProgramTooLong = PossibleFault
+class_of reason.Opcode = PossibleFault
+class_of reason.InstructionDefinition = LeftOut
+class_of reason.Recursion = LeftOut
+class_of reason.Underflow = PossibleFault
+class_of reason.Overflow = PossibleFault
+class_of reason.UnknownOperand = Undecided
+class_of reason.Cvt = PossibleFault
+class_of reason.Storage = PossibleFault
+class_of reason.Function = Undecided
+class_of reason.Point = PossibleFault
+class_of reason.Zone = PossibleFault
+class_of reason.Contour = PossibleFault
+class_of reason.Target = PossibleFault
+class_of reason.Count = PossibleFault
+class_of reason.Definition = PossibleFault
+class_of reason.DepthMismatch = Undecided
+class_of reason.TooManyContexts = Undecided
+class_of reason.NeverEnds = Undecided
+class_of reason.MissingPoint = Certificate
+class_of reason.NotCovered = Certificate
 
 -- the reason in words, as it is printed
 abbrev pub reason_text : Reason → List ℕ

@@ -24,5 +24,5 @@ pub use kinds::Effect;
 pub use limits::Limits;
 pub use machine::{Body, Frame, Graphics};
 pub use program::Program;
-pub use reason::Reason;
+pub use reason::{Reason, ReasonClass};
 pub use table::{effect, entry, name};

@@ -2,7 +2,7 @@
 //! Reference Manual, "The TrueType instruction set"). The numbers and texts are this product's own.
 
 ghost use Rattle.std.specs.Prelude.{◌≡◌};
-ghost use Rattle.tt_code.specs.Refusals.{number_of, reason_text};
+ghost use Rattle.tt_code.specs.Refusals.{class_of, number_of, reason_text};
 
 use std::error::Error;
 use std::fmt;
@@ -36,12 +36,42 @@ pub enum Reason {
     NotCovered = 42,
 }
 
+/// What a reason tells the font's maker.
+#[derive(Clone, Copy, Debug, PartialEq, Eq, Drop)]
+pub enum ReasonClass {
+    /// What is known at the place doesn't rule the fault out: a run may reach it.
+    PossibleFault,
+    /// No fault is shown: the analysis can't tell.
+    Undecided,
+    /// What the program does is left out by choice.
+    LeftOut,
+    /// A certificate doesn't fit the program.
+    Certificate,
+}
+
 impl Reason {
     /// Returns the reason's number, 20 to 42.
     pub fn number(self) -> u8
         ensures { result ≡ number_of self }
     {
         self as u8
+    }
+
+    /// Returns the reason's class. A function (31) that isn't known to be defined is undecided, and
+    /// one above maxFunctionDefs can't be told from it by the reason: both are undecided here.
+    pub fn class(self) -> ReasonClass
+        ensures { result ≡ class_of self }
+    {
+        match self {
+            Reason::InstructionDefinition | Reason::Recursion => ReasonClass::LeftOut,
+            Reason::UnknownOperand
+            | Reason::Function
+            | Reason::DepthMismatch
+            | Reason::TooManyContexts
+            | Reason::NeverEnds => ReasonClass::Undecided,
+            Reason::MissingPoint | Reason::NotCovered => ReasonClass::Certificate,
+            _ => ReasonClass::PossibleFault,
+        }
     }
 
     /// Returns the reason in words.

@@ -14,7 +14,8 @@ use Rattle.tt_cert.specs.Puts.{number_at, place_of}
 use Rattle.tt_find.specs.declared.origin.Origin.TheVariants.{Elsewhere}
 use Rattle.tt_find.specs.declared.solver.Solver.{Solver}
 use Rattle.tt_find.specs.Found.{IsDerived}
-use Rattle.tt_find.specs.Representation.Solvers.{ArePoints, AreKept, AreVisits, HasLaws, IsAmong, IsEmptySolver, IsListed, IsStored, IsWhole, IsWithinBudget}
+use Rattle.tt_find.specs.Finders.{IsEmptySolver}
+use Rattle.tt_find.specs.Representation.Solvers.{ArePoints, AreKept, AreVisits, HasLaws, IsAmong, IsListed, IsStored, IsWhole, IsWithinBudget}
 use Rattle.tt_find.proofs.Budget.{budget_start}
 use Rattle.tt_find.proofs.Listed.{listed_now}
 use Rattle.tt_find.proofs.Marking.{kept_put}

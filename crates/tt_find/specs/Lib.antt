@@ -1,3 +1,4 @@
+pub mod Finders
 pub mod Found
 pub mod FoundSubjects
 pub mod Representation

@@ -1,13 +1,13 @@
 //! The finder: from the start, the state at the smallest point that is new or has changed is
 //! carried on, until none is left.
 
-ghost use Rattle.std.specs.Prelude.{◌≡◌, [], ◌∷◌, IfErr, IfOk};
+ghost use Rattle.std.specs.Prelude.{◌≡◌, None, [], ◌∷◌, IfErr, IfOk, IfSome};
 ghost use Rattle.tt_abs.specs.Entries.{Rises};
 ghost use Rattle.tt_abs.specs.Settings.{setting_of};
 ghost use Rattle.tt_abs.specs.StateFlow.{FunctionsFit};
 ghost use Rattle.tt_find.specs.FoundSubjects.{HasLeastContexts, HasOnlyNeeded, IsJustifiedFor, IsLeastFor, TellsNoEnd, TellsNoneIsGood};
 ghost use Rattle.tt_find.specs.Representation.SolverSubjects.{HasLawsFor, IsFoundFor, IsWholeFor, StopsFor};
-ghost use Rattle.tt_find.specs.Representation.Solvers.{IsEmptySolver};
+ghost use Rattle.tt_find.specs.Finders.{IsEmptySolver};
 
 use crate::origin::Origin;
 use crate::run::{run, store};
@@ -32,6 +32,23 @@ const STARTS: u32 = 8;
 pub struct Found {
     pub certificate: Certificate,
     pub updates: u64,
+}
+
+/// What a search with a state at each point came to.
+#[derive(Drop)]
+pub struct Explored {
+    /// The family that was found: all of it where there is no fault, otherwise what the search had
+    /// found when it came to the fault, and no count of updates.
+    pub found: Found,
+    /// Why the program is refused, if it is.
+    pub fault: Option<ProgramFault>,
+}
+
+/// At which points the solver keeps the states that come there.
+#[derive(Clone, Copy)]
+enum KeptStates {
+    WhereWaysMeet,
+    Everywhere,
 }
 
 /// States that the laws of the program's flow hold, and that no count of updates is too great.
@@ -71,6 +88,30 @@ fn run_to_fixpoint(alloc: Global, solver: &mut Solver, setting: &Setting<'_>) ->
     Ok(())
 }
 
+/// Fills a solver anew, with states kept everywhere.
+///
+/// # Errors
+/// As `find` refuses what comes on the way.
+fn fill_everywhere(
+    alloc: Global,
+    solver: &mut Solver,
+    setting: &Setting<'_>,
+) -> Result<(), ProgramFault>
+    requires rises { Rises setting.now.start.now }
+    requires laws { HasLawsFor setting.now }
+    ensures whole { IfOk result (λ _. IsWholeFor setting.now solver.new) }
+    ensures none { IfOk result (λ _. solver.new.worklist ≡ []) }
+    ensures justified { IfErr result (IsJustifiedFor setting.now) }
+{
+    solver.clear();
+    solver.marks.everywhere = true;
+    match run_to_fixpoint(alloc, solver, setting) {
+        Ok(()) => Ok(()),
+        Err(Stop::Fault(fault)) => Err(fault),
+        Err(Stop::Restart) => unreachable!(),
+    }
+}
+
 /// Fills a solver anew, with states kept at the points where ways were found to meet, until no two
 /// ways meet elsewhere.
 ///
@@ -96,12 +137,28 @@ fn restart_to_fixpoint(
             Err(Stop::Restart) => {}
         }
     }
-    solver.clear();
-    solver.marks.everywhere = true;
-    match run_to_fixpoint(alloc, solver, setting) {
-        Ok(()) => Ok(()),
-        Err(Stop::Fault(fault)) => Err(fault),
-        Err(Stop::Restart) => unreachable!(),
+    fill_everywhere(alloc, solver, setting)
+}
+
+/// Fills a solver anew, with states kept everywhere or where ways meet.
+///
+/// # Errors
+/// As `find` refuses what comes on the way.
+fn fill(
+    alloc: Global,
+    solver: &mut Solver,
+    setting: &Setting<'_>,
+    kept: KeptStates,
+) -> Result<(), ProgramFault>
+    requires rises { Rises setting.now.start.now }
+    requires laws { HasLawsFor setting.now }
+    ensures whole { IfOk result (λ _. IsWholeFor setting.now solver.new) }
+    ensures none { IfOk result (λ _. solver.new.worklist ≡ []) }
+    ensures justified { IfErr result (IsJustifiedFor setting.now) }
+{
+    match kept {
+        KeptStates::WhereWaysMeet => restart_to_fixpoint(alloc, solver, setting),
+        KeptStates::Everywhere => fill_everywhere(alloc, solver, setting),
     }
 }
 
@@ -124,6 +181,7 @@ fn find_fixpoint(
     alloc: Global,
     solver: &mut Solver,
     setting: &Setting<'_>,
+    kept: KeptStates,
 ) -> Result<u64, ProgramFault>
     requires rises { Rises setting.now.start.now }
     requires fits { FunctionsFit (setting_of setting.now) setting.now.start.now }
@@ -136,7 +194,7 @@ fn find_fixpoint(
         let most = u32::from(setting.limits.program_size);
         return Err(refused_in_main(most, Reason::ProgramTooLong));
     }
-    if let Err(fault) = restart_to_fixpoint(alloc, solver, setting) {
+    if let Err(fault) = fill(alloc, solver, setting, kept) {
         return Err(fault);
     }
     if !ends_well(setting, &solver.builder) {
@@ -157,8 +215,7 @@ pub struct Finder {
 impl Finder {
     /// Makes a finder without memory.
     pub fn new(alloc: Global) -> Finder
-        ensures contexts { result.solver.builder.contexts ≡ [] ∷ [] }
-        ensures states { result.solver.builder.states ≡ [] }
+        ensures { IsEmptySolver result.solver }
     {
         Finder {
             solver: Solver::new(alloc),
@@ -188,7 +245,7 @@ impl Finder {
         ensures none_good { IfErr result (TellsNoneIsGood setting.now) }
         ensures never_ends { TellsNoEnd setting.now result }
     {
-        let updates = match find_fixpoint(alloc, &mut self.solver, setting) {
+        let updates = match find_fixpoint(alloc, &mut self.solver, setting, KeptStates::WhereWaysMeet) {
             Ok(updates) => updates,
             Err(fault) => return Err(fault),
         };
@@ -221,7 +278,7 @@ impl Finder {
         ensures none_good { IfErr result (TellsNoneIsGood setting.now) }
         ensures never_ends { TellsNoEnd setting.now result }
     {
-        let updates = match find_fixpoint(alloc, &mut self.solver, setting) {
+        let updates = match find_fixpoint(alloc, &mut self.solver, setting, KeptStates::WhereWaysMeet) {
             Ok(updates) => updates,
             Err(fault) => return Err(fault),
         };
@@ -258,4 +315,44 @@ pub fn find(alloc: Global, setting: &Setting<'_>) -> Result<Found, ProgramFault>
 {
     let mut finder = Finder::new(alloc);
     finder.find_needed(alloc, setting)
+}
+
+/// Finds the least family as `find` does, with a state at each point that the search comes to, and
+/// keeps what it has found where a fault ends the search: the point of the fault has its state then.
+///
+/// # Errors
+/// If memory runs out.
+pub fn explore(alloc: Global, setting: &Setting<'_>) -> Result<Explored, AllocError>
+    requires rises { Rises setting.now.start.now }
+    requires fits { FunctionsFit (setting_of setting.now) setting.now.start.now }
+    ensures filling { IfOk result (λ explored. explored.fault ≡ None
+        → IsLeastFor setting.now explored.found) }
+    ensures justified { IfOk result (λ explored. IfSome explored.fault
+        (IsJustifiedFor setting.now)) }
+    ensures none_good { IfOk result (λ explored. IfSome explored.fault
+        (TellsNoneIsGood setting.now)) }
+{
+    let mut solver = Solver::new(alloc);
+    let outcome = find_fixpoint(alloc, &mut solver, setting, KeptStates::Everywhere);
+    let builder = mem::replace(&mut solver.builder, Builder::new(alloc));
+    let Ok(certificate) = builder.finish() else {
+        return Err(AllocError);
+    };
+    match outcome {
+        Ok(updates) => Ok(Explored {
+            found: Found {
+                certificate,
+                updates,
+            },
+            fault: None,
+        }),
+        Err(ProgramFault::OutOfMemory(error)) => Err(error),
+        Err(fault) => Ok(Explored {
+            found: Found {
+                certificate,
+                updates: 0,
+            },
+            fault: Some(fault),
+        }),
+    }
 }

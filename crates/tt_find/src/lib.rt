@@ -11,4 +11,4 @@ mod successor;
 mod walk;
 mod worklist;
 
-pub use finder::{Finder, Found, find};
+pub use finder::{Explored, Finder, Found, explore, find};

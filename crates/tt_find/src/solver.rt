@@ -5,7 +5,8 @@ ghost use Rattle.tt_abs.specs.States.{state_order};
 ghost use Rattle.tt_abs.specs.declared.state.State.{State as StateValue};
 ghost use Rattle.tt_cert.specs.Contents.{state_at};
 ghost use Rattle.tt_cert.specs.Joins.{TellsNew, TellsNewAt};
-ghost use Rattle.tt_find.specs.Representation.Solvers.{IsEmptySolver, IsPassed, IsPut, KeepsRest, NamesApart, SparesAt, refused_in};
+ghost use Rattle.tt_find.specs.Finders.{IsEmptySolver};
+ghost use Rattle.tt_find.specs.Representation.Solvers.{IsPassed, IsPut, KeepsRest, NamesApart, SparesAt, refused_in};
 ghost use Rattle.tt_find.specs.Representation.OffsetMarks.{mark_of};
 
 use crate::marks::{Mark, OffsetMarks};

@@ -3,7 +3,7 @@
 
 use crate::checker::certificates::with_byte;
 use crate::checker::outputs::{Asked, answers, answers_on_file};
-use crate::font::glyphs::{OF_FIRST, OF_SECOND, font_of_many, tower};
+use hintcheck_test_fixtures::composites::{OF_FIRST, OF_SECOND, font_of_many, tower};
 use hintcheck_test_fixtures::font_calls::{Told, checked, found, judged};
 use hintcheck_test_fixtures::fonts::font_of;
 use hintcheck_test_fixtures::hex_bytes::bytes_of;

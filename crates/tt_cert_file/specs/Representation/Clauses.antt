@@ -1,20 +1,32 @@
--- What clauses of private functions say again and again: how a unit is read, and that a text is appended.
-use Rattle.std.specs.Prelude.{◌≡◌, ℕ, List, ◌++◌, Option, Result, IfErr, OnOk}
+-- What clauses of private functions say again and again: how a unit is read, and that a text is
+-- appended.
+use Rattle.std.specs.Prelude.{◌≡◌, ℕ, List, [], ◌++◌, Option, Result, IfErr, OnOk}
 use Rattle.tt_cert_file.specs.declared.fault.DecodeFault.{DecodeFault}
 use Rattle.tt_cert_file.specs.Answers.{Gives, StopsAtEnd, input_at}
-use Rattle.tt_cert_file.specs.Readers.{Answer, Input}
+use Rattle.tt_cert_file.specs.declared.form.Form.{Form}
+use Rattle.tt_cert_file.specs.Readers.{Answer, Input, list_at}
+use Rattle.tt_cert_file.specs.Reading.{entry_at}
+use Rattle.tt_cert_file.specs.Sections.{Entry}
 
--- the answer, seen by a view, is what reading at the place gives, except for failed reads and out of memory
-abbrev pub ReadsAs : {X Y : Type 0} → (X → Y) → (Input → Answer Y) → ℕ → Result (X × ℕ) DecodeFault → Option (List ℕ) → Option (List ℕ) → Type 0
+-- the answer, seen by a view, is what reading at the place gives, except for failed reads and out
+-- of memory
+abbrev pub ReadsAs : {X Y : Type 0} → (X → Y) → (Input → Answer Y) → ℕ
+    → Result (X × ℕ) DecodeFault → Option (List ℕ) → Option (List ℕ) → Type 0
 ReadsAs view read place result old new = Gives view old new result (read (input_at place old))
 
 -- the answer is what reading at the place gives, except for failed reads and out of memory
-abbrev pub ReadsBy : {Y : Type 0} → (Input → Answer Y) → ℕ → Result (Y × ℕ) DecodeFault → Option (List ℕ) → Option (List ℕ) → Type 0
+abbrev pub ReadsBy : {Y : Type 0} → (Input → Answer Y) → ℕ → Result (Y × ℕ) DecodeFault
+    → Option (List ℕ) → Option (List ℕ) → Type 0
 ReadsBy read place result old new = ReadsAs (λ y. y) read place result old new
 
 -- where a read failed, no unit that was read whole breaks a rule
-abbrev pub StopsWhole : {X Y : Type 0} → (Input → Answer Y) → ℕ → Result X DecodeFault → Option (List ℕ) → Option (List ℕ) → Type 0
+abbrev pub StopsWhole : {X Y : Type 0} → (Input → Answer Y) → ℕ → Result X DecodeFault
+    → Option (List ℕ) → Option (List ℕ) → Type 0
 StopsWhole read place result old new = IfErr result (StopsAtEnd place old new read)
+
+-- this many states with their places, in one of this many contexts each
+abbrev pub entries_at : Form → ℕ → ℕ → Input → Answer (List Entry)
+entries_at form contexts count i = list_at (entry_at form contexts) [] count i
 
 -- the text is appended, unless memory runs out
 abbrev pub Pushes : {X E : Type 0} → List ℕ → Result X E → List ℕ → List ℕ → Type 0

@@ -1,4 +1,5 @@
--- The text of a stack that is kept for the next state. Only the representation of writing: nothing above needs it.
+-- The text of a stack that is kept for the next state. Only the representation of writing: nothing
+-- above needs it.
 use Rattle.std.specs.Prelude.{◌≡◌, ℕ, ◌+◌, List, [], ◌∷◌, length}
 use Rattle.std.specs.List.{flat_map}
 use Rattle.tt_abs.specs.declared.cells.Cell.{Cell}

@@ -1,4 +1,5 @@
--- Stacks of which each has the lowest cells of the one before. Only the representation of reading: nothing above needs it.
+-- Stacks of which each has the lowest cells of the one before. Only the representation of reading:
+-- nothing above needs it.
 use Rattle.std.specs.Prelude.{◌≡◌, ℕ, zero, suc, ◌≤◌, List, length, reverse, slice_index, take}
 use Rattle.std.specs.List.{flat_map}
 use Rattle.tt_abs.specs.declared.cells.Cell.{Cell}
@@ -8,7 +9,8 @@ use Rattle.tt_cert_file.specs.declared.states.LastState.{LastState}
 use Rattle.tt_cert_file.specs.Representation.Blocks.{AreKept}
 use Rattle.tt_cert_file.specs.Text.{cell_text}
 
--- how many bytes the texts of so many of the lowest cells have, where the text of each cell ends at its end
+-- how many bytes the texts of so many of the lowest cells have, where the text of each cell ends at
+-- its end
 abbrev pub end_of : List ℕ → ℕ → ℕ
 end_of ends zero = 0
 end_of ends (suc k) = slice_index ends k
@@ -17,7 +19,8 @@ end_of ends (suc k) = slice_index ends k
 pub record AreCellsKept (text ends : List ℕ) (cells : List Cell) : Type 0 where
   pub text_is : text ≡ flat_map cell_text cells
   pub long : length ends ≡ length cells
-  pub end_is : (k : ℕ) → k ≤ length cells → end_of ends k ≡ length (flat_map cell_text (take k cells))
+  pub end_is : (k : ℕ) → k ≤ length cells
+      → end_of ends k ≡ length (flat_map cell_text (take k cells))
 
 -- no text of a cell ends after this text
 pub record AreWithin (text ends : List ℕ) : Type 0 where

@@ -123,16 +123,6 @@ pub record HasLaws (s : Setting) (functions : List (ℕ × ℕ)) : Type 0 where
   pub height : height_of s < 4294967295
   pub short : AreProgramsShort s
 
--- only the empty context, without a state, and no update
-pub record IsEmptySolver (solver : Solver) : Type 0 where
-  pub contexts : solver.builder.contexts ≡ [] ∷ []
-  pub states : solver.builder.states ≡ []
-  pub family : IsFamily solver.builder
-  pub worklist : solver.worklist ≡ []
-  pub spare : solver.spare.keys ≡ []
-  pub changes : solver.changes ≡ 0
-  pub passes : solver.passes ≡ 0
-
 -- The finder's solver, for a program that starts with these functions. The filled family has the
 -- kept states, and those that were passed.
 pub record IsSound (s : Setting) (functions : List (ℕ × ℕ)) (solver : Solver)

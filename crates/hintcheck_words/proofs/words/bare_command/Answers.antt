@@ -16,4 +16,4 @@ returns c =
     (c.in_ok-arg-4.ensures.shape (search rules) ∙ ap₂ with_rule
     (c.in_ok-arg-3.ensures.shape (search rules) ∙ ap₂ with_rule
     (c.in_ok-arg-2.ensures.shape (search rules) ∙ ap₂ with_rule
-    (c.in_ok-arg.ensures.shape (search rules) ∙ ap₂ with_rule (ap app_of_fields c.about.ensures ∙ c.new.ensures.app) maxp_is) cvt_is) points_is) contours_is) program_is) c.arg-5.ensures
+    (c.in_ok-arg.ensures.shape (search rules) ∙ ap₂ with_rule c.plain_command.ensures maxp_is) cvt_is) points_is) contours_is) program_is) c.arg-5.ensures

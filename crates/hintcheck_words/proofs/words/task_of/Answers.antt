@@ -15,6 +15,17 @@ pub returns-in_ok-text-in-verdict : goal.returns-in_ok-text-in-verdict
 unfolding request_of requests asked
 returns-in_ok-text-in-verdict c = rw (c.in-verdict.is, c.in_ok-text-in-verdict.ensures) refl
 
+pub returns-in_ok-all_texts-in-scan : goal.returns-in_ok-all_texts-in-scan
+unfolding request_of requests asked
+returns-in_ok-all_texts-in-scan c = rw (c.in-scan.is, c.in_ok-all_texts-in-scan.ensures) refl
+
+pub explain_task-requires : goal.explain_task-requires
+explain_task-requires c = c.requires.offset c.in-explain.is
+
+pub returns-in-explain : goal.returns-in-explain
+unfolding request_of requests
+returns-in-explain c = IfOk-weaker c.explain_task-in-explain.result _ _ (λ t h. rw c.in-explain.is (ap (λ (r : Request). Some r) (sym h))) c.explain_task-in-explain.ensures
+
 pub returns-in_ok-text-in-find-2 : goal.returns-in_ok-text-in-find-2
 unfolding request_of requests asked
 returns-in_ok-text-in-find-2 c = rw (c.in-find.is, c.in_ok-text-in-find.ensures, c.in_ok-text-in-find-2.ensures) refl
@@ -35,5 +46,5 @@ pub unreachable-requires : goal.unreachable-requires
 unfolding request_of requests
 unreachable-requires c =
     let d = c.in_default in
-    let none = rw (differs _ _ d.not-bare, differs _ _ d.not-verdict, differs _ _ d.not-find, differs _ _ d.not-check, differs _ _ d.not-list, differs _ _ d.not-upgrade) at c.requires.known in
+    let none = rw (differs _ _ d.not-bare, differs _ _ d.not-verdict, differs _ _ d.not-scan, differs _ _ d.not-explain, differs _ _ d.not-find, differs _ _ d.not-check, differs _ _ d.not-list, differs _ _ d.not-upgrade) at c.requires.known in
     cc

@@ -23,4 +23,4 @@ returns-then-not-ends_well-clause-justified c =
     let f : c.ends_well.result ≡ false = search rules in
     names_at (IsJustified s c.args.setting.now.start.now) ([], 0) NeverEnds c.refused_in_main-then-not-ends_well.result c.refused_in_main-then-not-ends_well.ensures
     (never_ends c.in_default.ensures.whole.filled
-    (lacks_end s c.args.setting.now.start.now c.law_facts.ensures c.restart_to_fixpoint.new.solver c.in_default.ensures.whole c.in_default.ensures.none (λ h. not_both c.ends_well.result f (c.ends_well.ensures.1 h))))
+    (lacks_end s c.args.setting.now.start.now c.law_facts.ensures c.fill.new.solver c.in_default.ensures.whole c.in_default.ensures.none (λ h. not_both c.ends_well.result f (c.ends_well.ensures.1 h))))

@@ -1,4 +1,0 @@
-//! Tests of `tt_code`: bytes that aren't programs, and programs with known structure.
-
-mod faults;
-mod places;

@@ -1,0 +1,15 @@
+-- What a finder keeps between two programs: its memory, and nothing that it has found.
+use Rattle.std.specs.Prelude.{◌≡◌, [], ◌∷◌}
+use Rattle.tt_cert.specs.Contents.{IsFamily}
+use Rattle.tt_find.specs.declared.solver.Solver.{Solver}
+
+-- nothing is found: there is only the empty context, without a state, no point waits or could be
+-- left out, and no update is counted
+pub record IsEmptySolver (solver : Solver) : Type 0 where
+  pub contexts : solver.builder.contexts ≡ [] ∷ []
+  pub states : solver.builder.states ≡ []
+  pub family : IsFamily solver.builder
+  pub worklist : solver.worklist ≡ []
+  pub spare : solver.spare.keys ≡ []
+  pub changes : solver.changes ≡ 0
+  pub passes : solver.passes ≡ 0
