@@ -62,6 +62,11 @@ def closing(text: str, at: int, pair: str) -> int:
             return at
 
 
+def without_arrays(text: str) -> str:
+    """The text with no semicolon in the type of an array, since one ends a signature."""
+    return re.sub(r"\[([\w&' ]+); ([\w: ]+)\]", r"[\1  \2]", text)
+
+
 def public_names(crate: pathlib.Path) -> set[str]:
     """The functions and types that a crate shows: those that its root names again, and the public ones of its public modules."""
     root = without_comments((crate / "src/lib.rt").read_text())
@@ -125,7 +130,7 @@ def clauses_of(crate: str) -> list[Clause]:
     folder = TOP / "crates" / crate
     public = public_names(folder)
     files = sorted((folder / "src").rglob("*.rt"))
-    return [clause for file in files for clause in clauses_in(without_comments(file.read_text()), crate, public)]
+    return [clause for file in files for clause in clauses_in(without_arrays(without_comments(file.read_text())), crate, public)]
 
 
 def pairs_in(cell: str) -> typing.Iterator[tuple[str, str]]:

@@ -1,12 +1,15 @@
 # Completion of hintcheck's words for fish.
-set -l commands verdict find check list upgrade bare help
+set -l commands verdict scan explain find check list upgrade bare help
 complete -c hintcheck -f
 complete -c hintcheck -n "not __fish_seen_subcommand_from $commands" -a verdict -d 'Check all programs of a font'
+complete -c hintcheck -n "not __fish_seen_subcommand_from $commands" -a scan -d 'Check all programs of several fonts'
+complete -c hintcheck -n "not __fish_seen_subcommand_from $commands" -a explain -d 'Tell how one program is checked'
 complete -c hintcheck -n "not __fish_seen_subcommand_from $commands" -a find -d 'Write the certificate of a font'
 complete -c hintcheck -n "not __fish_seen_subcommand_from $commands" -a check -d 'Check a font by its certificate'
 complete -c hintcheck -n "not __fish_seen_subcommand_from $commands" -a list -d 'List the instructions of one program'
 complete -c hintcheck -n "not __fish_seen_subcommand_from $commands" -a upgrade -d 'Write a certificate in the newest form'
 complete -c hintcheck -n "not __fish_seen_subcommand_from $commands" -a bare -d 'Check one glyph program by itself'
 complete -c hintcheck -n "not __fish_seen_subcommand_from $commands" -a help -d 'Say what a command does'
-complete -c hintcheck -n "__fish_seen_subcommand_from verdict find check list upgrade" -F
+complete -c hintcheck -n "not __fish_seen_subcommand_from $commands" -l version -d 'Say which version this is'
+complete -c hintcheck -n "__fish_seen_subcommand_from verdict scan explain find check list upgrade" -F
 complete -c hintcheck -n "__fish_seen_subcommand_from help" -a "$commands"

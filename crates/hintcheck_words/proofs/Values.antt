@@ -1,9 +1,14 @@
 -- What the values of a subcommand give, by the rows of its matches.
 use Rattle.std.proofs.Common.{◌≡◌, ◌∙◌, ◌≤◌, ◌<◌, ◌^◌, inl, inr, ℕ, List, [], Option, Some, None, Result, Ok, refl, sym, ap, arith, Bor}
-use Rattle.std.specs.Prelude.{unwrap_or, option_map}
+use Rattle.std.specs.Prelude.{unwrap_or, option_map, find, map}
 use Rattle.std.specs.Str.Parse.{ParsesUnsigned, digits_value, without_leading_plus}
 use Rattle.clap.specs.Matches.{ReadsOne}
-use Rattle.clap.specs.Words.{Row, Text, one_of, without_minus}
+use Rattle.std.specs.Str.{bytes_eq}
+use Rattle.clap.specs.Facts.{Entry}
+use Rattle.clap.specs.Walk.{row_of}
+use Rattle.clap.specs.Words.{Row, Text, all_of, matched_of, one_of, raw_values, rows_of, without_minus}
+use Rattle.clap.specs.declared.parser.matches.Found.{Found}
+use Rattle.clap.proofs.WalkLemmas.{find_row}
 use Rattle.clap.proofs.CallerReads.{signed_reads}
 use Rattle.hintcheck_words.specs.Requests.{HasNumber, HasNumberIfAny, number_in, optional_number_in}
 
@@ -31,7 +36,7 @@ optional_number_read G bits most rows id n (inr h) few parses absent reads =
 
 -- the texts of an argument, by the rows
 pub all_of-rows : (f : Found) (id : Text) → option_map raw_values (matched_of f id) ≡ all_of id (rows_of f)
-all_of-rows f id = go (find (has_id id) f.entries.items) ∙ ap (option_map (λ (r : Row). r.values)) (sym (find_row f.entries.items id))
+all_of-rows f id = go (find (λ e. bytes_eq e.0.now id) f.entries.items) ∙ ap (option_map (λ (r : Row). r.values)) (sym (find_row f.entries.items id))
   where
     go : (o : Option Entry) → option_map raw_values (option_map (λ e. e.1) o) ≡ option_map (λ (r : Row). r.values) (option_map row_of o)
     go None = refl

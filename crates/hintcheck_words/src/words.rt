@@ -198,7 +198,7 @@ const NEW: (&str, &str) = ("NEW", "The name of the new certificate's file");
 
 /// Makes a subcommand without arguments.
 fn plain_command<'a>(alloc: Global, command: Subcommand<'a>) -> Command<'a>
-    ensures { app_of result ≡ new_app command.name.now }
+    ensures { app_of result ≡ new_app command.entry.name.now }
 {
     Command::new(alloc, command.name)
         .about(command.about)
@@ -230,7 +230,7 @@ fn texts_command<'a>(
     texts: &[(&'a str, &'a str)],
 ) -> Result<Command<'a>, AllocError>
     ensures { IfOk result (λ c.
-        app_of c ≡ of_texts command.name.now (map (λ t. t.0.now) texts.now)) }
+        app_of c ≡ of_texts command.entry.name.now (map (λ t. t.0.now) texts.now)) }
 {
     let mut with_texts = plain_command(alloc, command);
     for &(id, help) in texts {
@@ -246,8 +246,9 @@ fn texts_command<'a>(
 fn scan_command<'a>(alloc: Global) -> Result<Command<'a>, AllocError>
     ensures { IfOk result (λ c. app_of c ≡ scan) }
 {
-    plain_command(alloc, SCAN)
-        .arg(needed(alloc, "FONT", "The names of the font files").num_args(1..))
+    plain_command(alloc, SCAN).arg(needed(alloc, "FONT", "The names of the font files").num_args(
+        1..,
+    ))
 }
 
 /// Makes the argument that is an offset, which may be left out.
@@ -329,11 +330,7 @@ fn optional_text(
 ///
 /// # Errors
 /// If memory runs out.
-fn all_texts(
-    alloc: Global,
-    values: &ArgMatches<'_>,
-    id: &str,
-) -> Result<Vec<String>, AllocError>
+fn all_texts(alloc: Global, values: &ArgMatches<'_>, id: &str) -> Result<Vec<String>, AllocError>
     ensures { IfOk result (λ ts.
         map (λ s. string_bytes s) ts.items ≡ texts_in (rows_in values.now) id.now) }
 {

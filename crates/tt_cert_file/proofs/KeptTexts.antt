@@ -1,73 +1,102 @@
--- The text of a stack that is kept for the next state: cut, and with one more cell.
-use Rattle.std.proofs.Common.{◌≡◌, ℕ, zero, Ok, Err, suc, ◌+◌, ◌<◌, ◌≤◌, List, [], ◌∷◌, ◌++◌, get_or, refl, sym, ◌∙◌, ap, arith, length, take, drop, length-append, append-nil, take_all}
+-- The text of a stack that is kept for the next one: cut, and with one more cell.
+use Rattle.std.proofs.Common.{◌≡◌, ℕ, zero, suc, ◌+◌, ◌≤◌, List, [], ◌∷◌, ◌++◌, length, take, drop, Ok, Err, inl, inr, refl, sym, ap, subst, ◌∙◌, arith, append-nil, take-append-drop, take_all}
 use Rattle.std.specs.Prelude.{OnOk, Result}
 use Rattle.std.specs.List.{flat_map}
-use Rattle.std.proofs.Math.Seq.{take-append_seam}
+use Rattle.std.proofs.lemmas.Bool.{cases_lt}
 use Rattle.std.proofs.lemmas.Grind.{flat_map-append}
-use Rattle.std.proofs.lemmas.List.{take-append-drop}
+use Rattle.std.proofs.lemmas.List.{length-append, length-take, take-append-le, take_at, get_or-take}
+use Rattle.std.proofs.Math.ListN.{get_or-append}
+use Rattle.std.proofs.Math.Seq.{get_or-append_seam}
 use Rattle.tt_abs.specs.declared.cells.Cell.{Cell}
-use Rattle.tt_cert_file.specs.Representation.KeptTexts.{IsTextOfCells, starts_of}
+use Rattle.tt_cert_file.specs.Representation.KeptTexts.{AreCellsKept, AreWithin, end_of}
 use Rattle.tt_cert_file.specs.Text.{cell_text}
 
-length-starts : (at : ℕ) (cells : List Cell) → length (starts_of at cells) ≡ length cells
-length-starts at [] = refl
-length-starts at (c ∷ cells) = let rest = length-starts (at + length (cell_text c)) cells in omega arith
+-- no cells have no text
+pub none_kept : (text ends : List ℕ) → text ≡ [] → ends ≡ [] → AreCellsKept text ends []
+none_kept text ends text_is ends_is = record {
+  text_is = text_is;
+  long = ap length ends_is;
+  end_is = none;
+}
+  where
+    none : (k : ℕ) → k ≤ 0 → end_of ends k ≡ length (flat_map cell_text (take k []))
+    none zero le = refl
+    none (suc k) le = absurd (omega arith)
 
-take-starts : (n at : ℕ) (cells : List Cell) → take n (starts_of at cells) ≡ starts_of at (take n cells)
-take-starts zero at cells = refl
-take-starts (suc n) at [] = refl
-take-starts (suc n) at (c ∷ cells) = ap (λ (l : List ℕ). at ∷ l) (take-starts n (at + length (cell_text c)) cells)
+-- the text of the lowest cells, and that of the others
+parts : (cells : List Cell) (k : ℕ) → flat_map cell_text cells ≡ flat_map cell_text (take k cells) ++ flat_map cell_text (drop k cells)
+parts cells k = ap (flat_map cell_text) (sym (take-append-drop k cells)) ∙ flat_map-append cell_text (take k cells) (drop k cells)
 
-start_is : (n at d : ℕ) (cells : List Cell) → n < length cells → get_or (starts_of at cells) n d ≡ at + length (flat_map cell_text (take n cells))
-start_is n at d [] lt = absurd (omega arith)
-start_is zero at d (c ∷ cells) lt = omega arith
-start_is (suc n) at d (c ∷ cells) lt =
-    start_is n (at + length (cell_text c)) d cells (omega arith) ∙ omega (arith, length-append (cell_text c) (flat_map cell_text (take n cells)))
+pub front_text : (text ends : List ℕ) (cells : List Cell) (k : ℕ) → AreCellsKept text ends cells → k ≤ length cells → take (end_of ends k) text ≡ flat_map cell_text (take k cells)
+front_text text ends cells k kept le =
+    let front = flat_map cell_text (take k cells) in
+    let long : length front ≡ end_of ends k = sym (kept.end_is k le) in
+    ap (take (end_of ends k)) (kept.text_is ∙ parts cells k) ∙ take_at front (flat_map cell_text (drop k cells)) (end_of ends k) long
 
-starts-push : (at : ℕ) (cells : List Cell) (c : Cell) → starts_of at (cells ++ c ∷ []) ≡ starts_of at cells ++ (at + length (flat_map cell_text cells)) ∷ []
-starts-push at [] c = let same : at ≡ at + 0 = omega arith in ap (λ (n : ℕ). n ∷ []) same
-starts-push at (d ∷ cells) c =
-    let sum : at + length (cell_text d) + length (flat_map cell_text cells) ≡ at + length (flat_map cell_text (d ∷ cells)) =
-    omega (arith, length-append (cell_text d) (flat_map cell_text cells)) in
-    ap (λ (l : List ℕ). at ∷ l) (starts-push (at + length (cell_text d)) cells c)
-    ∙ ap (λ (n : ℕ). at ∷ (starts_of (at + length (cell_text d)) cells ++ n ∷ [])) sum
+pub kept_within : (text ends : List ℕ) (cells : List Cell) → AreCellsKept text ends cells → AreWithin text ends
+kept_within text ends cells kept = record {
+  within = λ k le.
+      let end = kept.end_is k (omega (arith, le, kept.long)) in
+      let all : length text ≡ length (flat_map cell_text (take k cells)) + length (flat_map cell_text (drop k cells)) =
+      ap length (kept.text_is ∙ parts cells k) ∙ length-append (flat_map cell_text (take k cells)) (flat_map cell_text (drop k cells)) in
+      omega (arith, end, all);
+}
 
--- the text of the first of some values
-take-flat_map : {A : Type 0} (spell : A → List ℕ) (n : ℕ) (xs : List A) → take (length (flat_map spell (take n xs))) (flat_map spell xs) ≡ flat_map spell (take n xs)
-take-flat_map {A} spell n xs =
-    ap (λ (l : List A). take (length (flat_map spell (take n xs))) (flat_map spell l)) (sym (take-append-drop n xs))
-    ∙ ap (take (length (flat_map spell (take n xs)))) (flat_map-append spell (take n xs) (drop n xs))
-    ∙ take-append_seam (flat_map spell (take n xs)) (flat_map spell (drop n xs))
+take_less : {A : Type 0} (j k : ℕ) (xs : List A) → j ≤ k → take j (take k xs) ≡ take j xs
+take_less zero k xs le = refl
+take_less (suc j) zero xs le = absurd (omega arith)
+take_less (suc j) (suc k) [] le = refl
+take_less {A} (suc j) (suc k) (x ∷ xs) le = ap (λ (l : List A). x ∷ l) (take_less j k xs (omega arith))
 
-pub cut_text : (text starts new new_starts : List ℕ) (cells : List Cell) (n start : ℕ) → IsTextOfCells text starts cells → n < length starts
-    → start ≡ get_or starts n start → new ≡ take start text → new_starts ≡ take n starts → IsTextOfCells new new_starts (take n cells)
-cut_text text starts new new_starts cells n start of lt at cut cut_starts =
-    let many : length starts ≡ length cells = ap length of.starts_are ∙ length-starts 0 cells in
-    let place : start ≡ length (flat_map cell_text (take n cells)) =
-    at ∙ ap (λ (l : List ℕ). get_or l n start) of.starts_are ∙ start_is n 0 start cells (omega arith) ∙ omega arith in
-    record {
-      text_is =
-          cut ∙ ap (λ (k : ℕ). take k text) place ∙ ap (take (length (flat_map cell_text (take n cells)))) of.text_is ∙ take-flat_map cell_text n cells;
-      starts_are = cut_starts ∙ ap (take n) of.starts_are ∙ take-starts n 0 cells;
-    }
+end_less : (j k : ℕ) (ends : List ℕ) → j ≤ k → end_of (take k ends) j ≡ end_of ends j
+end_less zero k ends le = refl
+end_less (suc j) k ends le = get_or-take k ends j 0 (omega arith)
 
-pub whole_text : (text starts : List ℕ) (cells : List Cell) (n : ℕ) → IsTextOfCells text starts cells → length starts ≤ n → IsTextOfCells text starts (take n cells)
-whole_text text starts cells n of le =
-    let many : length starts ≡ length cells = ap length of.starts_are ∙ length-starts 0 cells in
-    let same : cells ≡ take n cells = sym (take_all n cells (omega arith)) in
-    record { text_is = of.text_is ∙ ap (flat_map cell_text) same; starts_are = of.starts_are ∙ ap (starts_of 0) same }
+end_before : (j : ℕ) (ends more : List ℕ) → j ≤ length ends → end_of (ends ++ more) j ≡ end_of ends j
+end_before zero ends more le = refl
+end_before (suc j) ends more le = get_or-append ends more 0 j (omega arith)
 
-pub more_text : (text starts new new_starts : List ℕ) (cells : List Cell) (c : Cell) → IsTextOfCells text starts cells → new ≡ text ++ cell_text c
-    → new_starts ≡ starts ++ length text ∷ [] → IsTextOfCells new new_starts (cells ++ c ∷ [])
-more_text text starts new new_starts cells c of more more_starts =
-    let whole : flat_map cell_text (cells ++ c ∷ []) ≡ flat_map cell_text cells ++ cell_text c =
-    flat_map-append cell_text cells (c ∷ []) ∙ ap (λ (l : List ℕ). flat_map cell_text cells ++ l) (append-nil (cell_text c)) in
-    let start : length text ≡ 0 + length (flat_map cell_text cells) = ap length of.text_is ∙ omega arith in
-    record {
-      text_is = more ∙ ap (λ (l : List ℕ). l ++ cell_text c) of.text_is ∙ sym whole;
-      starts_are =
-          more_starts ∙ ap (λ (l : List ℕ). l ++ length text ∷ []) of.starts_are ∙ ap (λ (k : ℕ). starts_of 0 cells ++ k ∷ []) start ∙ sym (starts-push 0 cells c);
-    }
+-- the lowest cells are kept
+pub front_kept : (text ends front front_ends : List ℕ) (cells : List Cell) (k : ℕ) → AreCellsKept text ends cells → k ≤ length cells
+    → front ≡ take (end_of ends k) text → front_ends ≡ take k ends → AreCellsKept front front_ends (take k cells)
+front_kept text ends front front_ends cells k kept le front_is ends_is = record {
+  text_is = front_is ∙ front_text text ends cells k kept le;
+  long = ap length ends_is ∙ omega (arith, length-take k ends, length-take k cells, kept.long);
+  end_is = λ j few.
+      let less : j ≤ k = omega (arith, few, length-take k cells) in
+      ap (λ (l : List ℕ). end_of l j) ends_is ∙ end_less j k ends less ∙ kept.end_is j (omega (arith, less, le))
+      ∙ ap (λ (l : List Cell). length (flat_map cell_text l)) (sym (take_less j k cells less));
+}
+
+-- all cells are kept
+pub whole_kept : (text ends : List ℕ) (cells : List Cell) (k : ℕ) → AreCellsKept text ends cells → length ends ≤ k → AreCellsKept text ends (take k cells)
+whole_kept text ends cells k kept le = subst (AreCellsKept text ends) (sym (take_all k cells (omega (arith, le, kept.long)))) kept
+
+-- one more cell is kept
+pub kept_more : (text ends now now_ends : List ℕ) (end : ℕ) (cells : List Cell) (x : Cell) → AreCellsKept text ends cells → now ≡ text ++ cell_text x
+    → now_ends ≡ ends ++ end ∷ [] → end ≡ length now → AreCellsKept now now_ends (cells ++ x ∷ [])
+kept_more text ends now now_ends end cells x kept now_is ends_is end_is = record {
+  text_is = whole;
+  long = ap length ends_is ∙ omega (arith, length-append ends (end ∷ []), length-append cells (x ∷ []), kept.long);
+  end_is = λ j few. elim (cases_lt (length cells) j) [
+    | inl more ↦ last j (omega (arith, more, few, length-append cells (x ∷ [])))
+    | inr less ↦ ap (λ (l : List ℕ). end_of l j) ends_is ∙ end_before j ends (end ∷ []) (omega (arith, less, kept.long)) ∙ kept.end_is j less
+        ∙ ap (λ (l : List Cell). length (flat_map cell_text l)) (sym (take-append-le j cells (x ∷ []) less))
+  ];
+}
+  where
+    whole : now ≡ flat_map cell_text (cells ++ x ∷ [])
+    whole =
+        now_is ∙ ap (λ (l : List ℕ). l ++ cell_text x) kept.text_is ∙ ap (λ (l : List ℕ). flat_map cell_text cells ++ l) (sym (append-nil (cell_text x)))
+        ∙ sym (flat_map-append cell_text cells (x ∷ []))
+
+    last : (j : ℕ) → j ≡ suc (length cells) → end_of now_ends j ≡ length (flat_map cell_text (take j (cells ++ x ∷ [])))
+    last j j_is =
+        let here_is : end_of now_ends (suc (length ends)) ≡ length now =
+        ap (λ (l : List ℕ). end_of l (suc (length ends))) ends_is ∙ get_or-append_seam ends end [] 0 ∙ end_is in
+        let place : j ≡ suc (length ends) = omega (arith, j_is, kept.long) in
+        let all : take j (cells ++ x ∷ []) ≡ cells ++ x ∷ [] = take_all j (cells ++ x ∷ []) (omega (arith, j_is, length-append cells (x ∷ []))) in
+        ap (end_of now_ends) place ∙ here_is ∙ ap length whole ∙ ap (λ (l : List Cell). length (flat_map cell_text l)) (sym all)
 
 pub on_more : {T E : Type 0} (r : Result T E) (P Q : Type 0) → OnOk r P → (P → Q) → OnOk r Q
 on_more (Ok x) P Q h f = f h

@@ -1,13 +1,9 @@
 -- Stacks of which each has the lowest cells of the one before.
-use Rattle.std.proofs.Common.{◌≡◌, ℕ, ℤ, zero, suc, ◌+◌, ◌-◌, ◌^◌, ◌<◌, ◌≤◌, true, List, [], ◌∷◌, ◌++◌, length, take, drop, get_or, Option, Some, None, is_some, Result, Ok, Err, inl, inr, refl, sym, ap, subst, ◌∙◌, arith, append_assoc, append-nil, take-append-drop}
-use Rattle.std.specs.Prelude.{IfErr, reverse, slice_index}
+use Rattle.std.proofs.Common.{◌≡◌, ℕ, ℤ, zero, suc, ◌+◌, ◌-◌, ◌^◌, ◌<◌, ◌≤◌, true, List, [], ◌∷◌, ◌++◌, length, take, drop, Option, Some, None, is_some, Ok, Err, refl, sym, ap, subst, ◌∙◌, arith, append_assoc, append-nil}
+use Rattle.std.specs.Prelude.{reverse}
 use Rattle.std.specs.List.{flat_map}
 use Rattle.std.specs.Io.KnownBytes.{Consumes}
-use Rattle.std.proofs.lemmas.Bool.{cases_lt}
-use Rattle.std.proofs.lemmas.Grind.{flat_map-append}
-use Rattle.std.proofs.lemmas.List.{length-append, length-reverse, length-take, reverse-reverse, take-append-le, take_all, take_at, take_more, get_or-take}
-use Rattle.std.proofs.Math.ListN.{get_or-append}
-use Rattle.std.proofs.Math.Seq.{get_or-append_seam}
+use Rattle.std.proofs.lemmas.List.{length-reverse, length-take, reverse-reverse}
 use Rattle.tt_abs.specs.declared.cells.Cell.{Cell}
 use Rattle.tt_abs.specs.declared.state.State.{State}
 use Rattle.tt_abs.specs.Cells.{Cells}
@@ -24,97 +20,17 @@ use Rattle.tt_cert_file.specs.Representation.Blocks.{ReadsMoreCells, cells_at}
 use Rattle.tt_cert_file.specs.Readers.{Answer, Input, list_at, place_after, ◌>>=◌}
 use Rattle.tt_cert_file.specs.Reading.{cell_at, functions_at, graphics_at, stack_at, state_at, storage_at}
 use Rattle.tt_cert_file.specs.Rules.{CellFits, EachAfter}
-use Rattle.tt_cert_file.specs.Representation.SharedCells.{AreAhead, AreCellsKept, AreWithin, IsStackKept, end_of}
+use Rattle.tt_cert_file.specs.declared.stack_text.StackText.{StackText}
+use Rattle.tt_cert_file.specs.Representation.KeptTexts.{AreCellsKept, IsStackText, end_of}
+use Rattle.tt_cert_file.specs.Representation.SharedCells.{AreAhead, IsStackKept}
 use Rattle.tt_cert_file.specs.Text.{cell_text}
 use Rattle.tt_cert_file.proofs.Cells.{none_of}
 use Rattle.tt_cert_file.proofs.Codecs.{here, list_again}
 use Rattle.tt_cert_file.proofs.Fields.{cell_codec}
 use Rattle.tt_cert_file.proofs.Fitting.{each_cell}
+use Rattle.tt_cert_file.proofs.KeptTexts.{front_text}
 use Rattle.tt_cert_file.proofs.SteadyUnits.{cell_steady}
 use Rattle.tt_cert_file.proofs.Stops.{Reached, list_split, reached_known, reached_part, stops_there}
-
--- no cells have no text
-pub none_kept : (text ends : List ℕ) → text ≡ [] → ends ≡ [] → AreCellsKept text ends []
-none_kept text ends text_is ends_is = record {
-  text_is = text_is;
-  long = ap length ends_is;
-  end_is = none;
-}
-  where
-    none : (k : ℕ) → k ≤ 0 → end_of ends k ≡ length (flat_map cell_text (take k []))
-    none zero le = refl
-    none (suc k) le = absurd (omega arith)
-
--- the text of the lowest cells, and that of the others
-parts : (cells : List Cell) (k : ℕ) → flat_map cell_text cells ≡ flat_map cell_text (take k cells) ++ flat_map cell_text (drop k cells)
-parts cells k = ap (flat_map cell_text) (sym (take-append-drop k cells)) ∙ flat_map-append cell_text (take k cells) (drop k cells)
-
-front_text : (text ends : List ℕ) (cells : List Cell) (k : ℕ) → AreCellsKept text ends cells → k ≤ length cells → take (end_of ends k) text ≡ flat_map cell_text (take k cells)
-front_text text ends cells k kept le =
-    let front = flat_map cell_text (take k cells) in
-    let long : length front ≡ end_of ends k = sym (kept.end_is k le) in
-    ap (take (end_of ends k)) (kept.text_is ∙ parts cells k) ∙ take_at front (flat_map cell_text (drop k cells)) (end_of ends k) long
-
-pub kept_within : (text ends : List ℕ) (cells : List Cell) → AreCellsKept text ends cells → AreWithin text ends
-kept_within text ends cells kept = record {
-  within = λ k le.
-      let end = kept.end_is k (omega (arith, le, kept.long)) in
-      let all : length text ≡ length (flat_map cell_text (take k cells)) + length (flat_map cell_text (drop k cells)) =
-      ap length (kept.text_is ∙ parts cells k) ∙ length-append (flat_map cell_text (take k cells)) (flat_map cell_text (drop k cells)) in
-      omega (arith, end, all);
-}
-
-take_less : {A : Type 0} (j k : ℕ) (xs : List A) → j ≤ k → take j (take k xs) ≡ take j xs
-take_less zero k xs le = refl
-take_less (suc j) zero xs le = absurd (omega arith)
-take_less (suc j) (suc k) [] le = refl
-take_less {A} (suc j) (suc k) (x ∷ xs) le = ap (λ (l : List A). x ∷ l) (take_less j k xs (omega arith))
-
-end_less : (j k : ℕ) (ends : List ℕ) → j ≤ k → end_of (take k ends) j ≡ end_of ends j
-end_less zero k ends le = refl
-end_less (suc j) k ends le = get_or-take k ends j 0 (omega arith)
-
-end_before : (j : ℕ) (ends more : List ℕ) → j ≤ length ends → end_of (ends ++ more) j ≡ end_of ends j
-end_before zero ends more le = refl
-end_before (suc j) ends more le = get_or-append ends more 0 j (omega arith)
-
--- the lowest cells are kept
-pub front_kept : (text ends front front_ends : List ℕ) (cells : List Cell) (k : ℕ) → AreCellsKept text ends cells → k ≤ length cells
-    → front ≡ take (end_of ends k) text → front_ends ≡ take k ends → AreCellsKept front front_ends (take k cells)
-front_kept text ends front front_ends cells k kept le front_is ends_is = record {
-  text_is = front_is ∙ front_text text ends cells k kept le;
-  long = ap length ends_is ∙ omega (arith, length-take k ends, length-take k cells, kept.long);
-  end_is = λ j few.
-      let less : j ≤ k = omega (arith, few, length-take k cells) in
-      ap (λ (l : List ℕ). end_of l j) ends_is ∙ end_less j k ends less ∙ kept.end_is j (omega (arith, less, le))
-      ∙ ap (λ (l : List Cell). length (flat_map cell_text l)) (sym (take_less j k cells less));
-}
-
--- one more cell is kept
-pub kept_more : (text ends now now_ends : List ℕ) (end : ℕ) (cells : List Cell) (x : Cell) → AreCellsKept text ends cells → now ≡ text ++ cell_text x
-    → now_ends ≡ ends ++ end ∷ [] → end ≡ length now → AreCellsKept now now_ends (cells ++ x ∷ [])
-kept_more text ends now now_ends end cells x kept now_is ends_is end_is = record {
-  text_is = whole;
-  long = ap length ends_is ∙ omega (arith, length-append ends (end ∷ []), length-append cells (x ∷ []), kept.long);
-  end_is = λ j few. elim (cases_lt (length cells) j) [
-    | inl more ↦ last j (omega (arith, more, few, length-append cells (x ∷ [])))
-    | inr less ↦ ap (λ (l : List ℕ). end_of l j) ends_is ∙ end_before j ends (end ∷ []) (omega (arith, less, kept.long)) ∙ kept.end_is j less
-        ∙ ap (λ (l : List Cell). length (flat_map cell_text l)) (sym (take-append-le j cells (x ∷ []) less))
-  ];
-}
-  where
-    whole : now ≡ flat_map cell_text (cells ++ x ∷ [])
-    whole =
-        now_is ∙ ap (λ (l : List ℕ). l ++ cell_text x) kept.text_is ∙ ap (λ (l : List ℕ). flat_map cell_text cells ++ l) (sym (append-nil (cell_text x)))
-        ∙ sym (flat_map-append cell_text cells (x ∷ []))
-
-    last : (j : ℕ) → j ≡ suc (length cells) → end_of now_ends j ≡ length (flat_map cell_text (take j (cells ++ x ∷ [])))
-    last j j_is =
-        let here_is : end_of now_ends (suc (length ends)) ≡ length now =
-        ap (λ (l : List ℕ). end_of l (suc (length ends))) ends_is ∙ get_or-append_seam ends end [] 0 ∙ end_is in
-        let place : j ≡ suc (length ends) = omega (arith, j_is, kept.long) in
-        let all : take j (cells ++ x ∷ []) ≡ cells ++ x ∷ [] = take_all j (cells ++ x ∷ []) (omega (arith, j_is, length-append cells (x ∷ []))) in
-        ap (end_of now_ends) place ∙ here_is ∙ ap length whole ∙ ap (λ (l : List Cell). length (flat_map cell_text l)) (sym all)
 
 -- cells that are kept are read where their text is
 read_kept : (cells : List Cell) (n place : ℕ) (rest : List ℕ) → EachAfter (λ _ c. CellFits c) [] cells → place < 2 ^ 64
@@ -167,27 +83,25 @@ cells_fit : (s : State) → state_order.InRange s → EachAfter (λ _ c. CellFit
 cells_fit s range = each_cell [] (reverse s.stack) (StackInRange-reverse s.stack range.0)
 
 -- the lowest cells of a state are taken
-pub shared_taken : (old new : Option (List ℕ)) (text ends ahead : List ℕ) (was now : State) (place after most count : ℕ) → IsStackKept text ends was
-    → AreAhead text ends ahead most count → now.stack ≡ drop (length was.stack - count) was.stack → state_order.InRange now
-    → Consumes old new (take (end_of ends count) ahead) → place < 2 ^ 64 → after ≡ place_after place (end_of ends count)
+pub shared_taken : (old new : Option (List ℕ)) (text : StackText) (ahead : List ℕ) (was now : State) (place after most count : ℕ) → IsStackKept text was
+    → AreAhead text.cells.items text.ends.items ahead most count → now.stack ≡ drop (length was.stack - count) was.stack → state_order.InRange now
+    → Consumes old new (take (end_of text.ends.items count) ahead) → place < 2 ^ 64 → after ≡ place_after place (end_of text.ends.items count)
     → ReadsMoreCells (Ok after) old new [] (reverse now.stack) place most
-shared_taken old new text ends ahead was now place after most count kept shared cut range consumed lt after_is =
+shared_taken old new text ahead was now place after most count kept shared cut range consumed lt after_is =
     let cells = reverse was.stack in
     let left : reverse now.stack ≡ take count cells = cut_down was.stack now.stack count (omega (arith, shared.kept, kept.cells.long, length-reverse was.stack)) cut in
     let fits : EachAfter (λ _ c. CellFits c) [] (take count cells) = subst (EachAfter (λ _ c. CellFits c) []) left (cells_fit now range) in
     subst (λ (l : List Cell). ReadsMoreCells (Ok after) old new [] l place most) (sym left)
-    (shared_read old new text ends ahead cells place after most count kept.cells fits shared consumed lt after_is)
+    (shared_read old new text.cells.items text.ends.items ahead cells place after most count kept.cells fits shared consumed lt after_is)
 
-pub shared_kept : (text ends ahead front front_ends : List ℕ) (was now : State) (most count : ℕ) → IsStackKept text ends was → AreAhead text ends ahead most count
-    → now.stack ≡ drop (length was.stack - count) was.stack → state_order.InRange now → front ≡ take (end_of ends count) text → front_ends ≡ take count ends
-    → IsStackKept front front_ends now
-shared_kept text ends ahead front front_ends was now most count kept shared cut range front_is ends_is =
-    let cells = reverse was.stack in
-    let long : length cells ≡ length was.stack = length-reverse was.stack in
-    let left : reverse now.stack ≡ take count cells = cut_down was.stack now.stack count (omega (arith, shared.kept, kept.cells.long, long)) cut in
+pub shared_kept : (text left : StackText) (ahead : List ℕ) (was now : State) (most count : ℕ) → IsStackKept text was
+    → AreAhead text.cells.items text.ends.items ahead most count → now.stack ≡ drop (length was.stack - count) was.stack → state_order.InRange now
+    → ((cells : List Cell) → IsStackText text cells → IsStackText left (take count cells)) → IsStackKept left now
+shared_kept text left ahead was now most count kept shared cut range cuts =
+    let long : length (reverse was.stack) ≡ length was.stack = length-reverse was.stack in
     record {
-      cells = subst (AreCellsKept front front_ends) (sym left)
-          (front_kept text ends front front_ends cells count kept.cells (omega (arith, shared.kept, kept.cells.long)) front_is ends_is);
+      cells = subst (IsStackText left) (sym (cut_down was.stack now.stack count (omega (arith, shared.kept, kept.cells.long, long)) cut))
+          (cuts (reverse was.stack) kept.cells);
       in_range = range;
     }
 
@@ -227,10 +141,10 @@ stacked below stack cells e =
     ap reverse (e ∙ ap (cells_on cells) (sym (reverse-reverse below)) ∙ sym (cells_on_reversed (reverse below) cells)) ∙ reverse-reverse (reverse below ++ cells)
 
 -- the cells that were pushed are kept too
-pub pushed_kept : (text ends : List ℕ) (below now : State) (cells : List Cell) → AreCellsKept text ends (reverse below.stack ++ cells)
-    → now.stack ≡ cells_on cells below.stack → state_order.InRange now → IsStackKept text ends now
-pushed_kept text ends below now cells kept pushed range = record {
-  cells = subst (AreCellsKept text ends) (sym (stacked below.stack now.stack cells pushed)) kept;
+pub pushed_kept : (text : StackText) (below now : State) (cells : List Cell) → IsStackText text (reverse below.stack ++ cells)
+    → now.stack ≡ cells_on cells below.stack → state_order.InRange now → IsStackKept text now
+pushed_kept text below now cells kept pushed range = record {
+  cells = subst (IsStackText text) (sym (stacked below.stack now.stack cells pushed)) kept;
   in_range = range;
 }
 
@@ -271,16 +185,16 @@ stack_stops e old mid new front place at count left reads left_is stops =
     (onto_stops e mid new front at left stops)
 
 -- the state before the first one
-pub first_kept : (text ends : List ℕ) (functions : List (ℕ × ℕ)) (s : State) → AreCellsKept text ends [] → s ≡ start_of functions → state_order.InRange s → IsStackKept text ends s
-first_kept text ends functions s kept start range = record {
-  cells = subst (λ (t : State). AreCellsKept text ends (reverse t.stack)) (sym start) kept;
+pub first_kept : (text : StackText) (functions : List (ℕ × ℕ)) (s : State) → IsStackText text [] → s ≡ start_of functions → state_order.InRange s → IsStackKept text s
+first_kept text functions s kept start range = record {
+  cells = subst (λ (t : State). IsStackText text (reverse t.stack)) (sym start) kept;
   in_range = range;
 }
 
 -- the stack stays
-pub rest_kept : (text ends : List ℕ) (was now : State) → IsStackKept text ends was → now.stack ≡ was.stack → state_order.InRange now → IsStackKept text ends now
-rest_kept text ends was now kept same range = record {
-  cells = subst (λ (l : List Cell). AreCellsKept text ends (reverse l)) (sym same) kept.cells;
+pub rest_kept : (text : StackText) (was now : State) → IsStackKept text was → now.stack ≡ was.stack → state_order.InRange now → IsStackKept text now
+rest_kept text was now kept same range = record {
+  cells = subst (λ (l : List Cell). IsStackText text (reverse l)) (sym same) kept.cells;
   in_range = range;
 }
 

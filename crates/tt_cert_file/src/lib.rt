@@ -10,6 +10,7 @@ mod lists;
 mod name;
 mod reading;
 mod shared_cells;
+mod stack_text;
 mod states;
 mod units;
 mod writing;

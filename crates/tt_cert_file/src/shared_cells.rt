@@ -1,7 +1,7 @@
 //! Stacks, each read after another one. Mostly the lowest cells are those of the one before: they
 //! are known by their text, and stay in the state.
 
-ghost use Rattle.std.specs.Prelude.{◌≡◌, ◌≤◌, ◌++◌, List, [], true, length, reverse, IfOk, OnOk};
+ghost use Rattle.std.specs.Prelude.{◌≡◌, ◌≤◌, ◌++◌, List, [], true, length, reverse, Ok, IfOk, OnOk};
 ghost use Rattle.std.specs.Io.{StartsWith};
 ghost use Rattle.tt_abs.specs.declared.cells.Cell.{Cell as AnyCell};
 ghost use Rattle.tt_stream.specs.Reads.{ConsumesBeginning};
@@ -9,12 +9,13 @@ ghost use Rattle.tt_cert_file.specs.Answers.{CountsRead};
 ghost use Rattle.tt_cert_file.specs.Representation.Blocks.{ReadsMoreCells, cells_at};
 ghost use Rattle.tt_cert_file.specs.Reading.{stack_at};
 ghost use Rattle.tt_cert_file.specs.Representation.Clauses.{ReadsAs, StopsWhole};
-ghost use Rattle.tt_cert_file.specs.Representation.SharedCells.{AreAhead, AreCellsKept, AreWithin, IsStackKept, end_of};
+ghost use Rattle.tt_cert_file.specs.Representation.KeptTexts.{AreWithin, IsStackText};
+ghost use Rattle.tt_cert_file.specs.Representation.SharedCells.{AreAhead, IsStackKept};
 
 use crate::fault::DecodeFault;
 use crate::lists::read_cells;
+use crate::stack_text::StackText;
 use crate::units::read_word;
-use crate::writing::push_cell;
 use std::alloc::{AllocError, Global};
 use tt_abs::{Cell, State};
 use tt_stream::Source;
@@ -23,26 +24,22 @@ use tt_stream::Source;
 /// one before.
 const FEWER: usize = 8;
 
-/// The text of the stack that was read last, by which its lowest cells are known again.
+/// The stack that was read last.
 #[derive(Drop)]
 pub(crate) struct LastStack {
-    /// The texts of the cells, from the bottom up.
-    pub(crate) text: Vec<u8>,
-    /// Where the text of each cell ends.
-    pub(crate) ends: Vec<usize>,
+    pub(crate) text: StackText,
     /// The cells that were read, in whose memory the next ones are read: those that aren't the ones
     /// of the stack before.
     read: Vec<Cell>,
 }
 
 impl LastStack {
-    /// Makes the text of the empty stack.
+    /// Makes the empty stack.
     pub(crate) fn new(alloc: Global) -> Self
-        ensures { AreCellsKept result.text.items result.ends.items [] }
+        ensures { IsStackText result.text [] }
     {
         LastStack {
-            text: Vec::new(alloc),
-            ends: Vec::new(alloc),
+            text: StackText::new(alloc),
             read: Vec::new(alloc),
         }
     }
@@ -59,28 +56,17 @@ fn begins_with(bytes: &[u8], text: &[u8]) -> bool
     front == text
 }
 
-/// Returns how many bytes the texts of so many of the lowest cells have.
-fn width_of(ends: &[usize], count: usize) -> usize
-    requires { count ≤ length ends.now }
-    ensures { result ≡ end_of ends.now count }
-{
-    match count.checked_sub(1) {
-        Some(last) => ends[last],
-        None => 0,
-    }
-}
-
 /// Returns of how many of the lowest cells, at most of so many, the texts are read ahead. Few
 /// guesses are made, each at one comparison: so the cells may be fewer than those that are read
 /// ahead.
-fn count_ahead(text: &[u8], ends: &[usize], ahead: &[u8], most: usize) -> usize
-    requires { AreWithin text.now ends.now }
-    ensures { AreAhead text.now ends.now ahead.now most result }
+fn count_ahead(text: &StackText, ahead: &[u8], most: usize) -> usize
+    requires { AreWithin text.now.cells.items text.now.ends.items }
+    ensures { AreAhead text.now.cells.items text.now.ends.items ahead.now most result }
 {
-    let mut count = most.min(ends.len());
+    let mut count = most.min(text.ends.len());
     let mut fewer = FEWER;
     'guesses: while count > 0 {
-        if begins_with(ahead, &text[..width_of(ends, count)]) {
+        if begins_with(ahead, &text.cells[..text.width(count)]) {
             return count;
         }
         count = count.saturating_sub(fewer);
@@ -96,36 +82,33 @@ fn take_shared<S: Source>(
     place: u64,
     count: usize,
     state: &mut State,
-    text: &mut Vec<u8>,
-    ends: &mut Vec<usize>,
+    text: &mut StackText,
 ) -> u64
-    requires { IsStackKept text.old.items ends.old.items state.old }
+    requires { IsStackKept text.old state.old }
     ensures reads { ReadsMoreCells (Ok result) (S.remaining source.old) (S.remaining source.new)
         [] (reverse state.new.stack) place count }
     ensures few { length state.new.stack ≤ count }
     ensures others { state.new ≡ record state.old { stack = state.new.stack } }
-    ensures kept { IsStackKept text.new.items ends.new.items state.new }
+    ensures kept { IsStackKept text.new state.new }
     ensures beginning { ConsumesBeginning (S.remaining source.old) (S.remaining source.new) }
     ensures failures { S.failures source.new ≡ S.failures source.old }
 {
-    let shared = count_ahead(text, ends, source.ahead(), count);
-    let width = width_of(ends, shared);
+    let shared = count_ahead(text, source.ahead(), count);
+    let width = text.width(shared);
     source.skip(width);
-    text.truncate(width);
-    ends.truncate(shared);
+    text.cut(shared);
     state.cut_stack(state.depth() - shared);
     place.saturating_add(width as u64)
 }
 
 /// Appends the texts of cells that come after those whose texts are kept.
-fn keep_cells(cells: &[Cell], text: &mut Vec<u8>, ends: &mut Vec<usize>) -> Result<(), AllocError>
-    ensures { (before : List AnyCell) → AreCellsKept text.old.items ends.old.items before
-        → OnOk result (AreCellsKept text.new.items ends.new.items (before ++ cells.now)) }
+fn keep_cells(text: &mut StackText, cells: &[Cell]) -> Result<(), AllocError>
+    ensures { (before : List AnyCell) → IsStackText text.old before
+        → OnOk result (IsStackText text.new (before ++ cells.now)) }
 {
-    ends.reserve(cells.len())?;
+    text.ends.reserve(cells.len())?;
     for cell in cells {
-        push_cell(text, *cell)?;
-        ends.push(text.len())?;
+        text.push(*cell)?;
     }
     Ok(())
 }
@@ -138,27 +121,23 @@ fn read_stack_cells<S: Source>(
     state: &mut State,
     others: LastStack,
 ) -> Result<(LastStack, u64), DecodeFault>
-    requires { IsStackKept others.text.items others.ends.items state.old }
+    requires { IsStackKept others.text state.old }
     ensures reads { ReadsAs (λ _. reverse state.new.stack) (cells_at [] count) place result
         (S.remaining source.old) (S.remaining source.new) }
     ensures others { OnOk result (state.new ≡ record state.old { stack = state.new.stack }) }
-    ensures kept { IfOk result (λ r. IsStackKept r.0.text.items r.0.ends.items state.new) }
+    ensures kept { IfOk result (λ r. IsStackKept r.0.text state.new) }
     ensures beginning { ConsumesBeginning (S.remaining source.old) (S.remaining source.new) }
     ensures stopped { StopsWhole (cells_at [] count) place result
         (S.remaining source.old) (S.remaining source.new) }
     ensures failures { CountsRead result (S.failures source.old) (S.failures source.new) }
 {
-    let LastStack {
-        mut text,
-        mut ends,
-        read,
-    } = others;
+    let LastStack { mut text, read } = others;
     let count = usize::from(count);
-    let at = take_shared(source, place, count, state, &mut text, &mut ends);
+    let at = take_shared(source, place, count, state, &mut text);
     let (read, after) = read_cells(source, at, count - state.depth(), read)?;
-    keep_cells(&read, &mut text, &mut ends)?;
+    keep_cells(&mut text, &read)?;
     state.push_cells(&read)?;
-    Ok((LastStack { text, ends, read }, after))
+    Ok((LastStack { text, read }, after))
 }
 
 /// Reads a stack's cells into a state, from the bottom up, after another stack, whose text is
@@ -170,11 +149,11 @@ pub(crate) fn read_stack<S: Source>(
     state: &mut State,
     others: LastStack,
 ) -> Result<(LastStack, u64), DecodeFault>
-    requires { IsStackKept others.text.items others.ends.items state.old }
+    requires { IsStackKept others.text state.old }
     ensures reads { ReadsAs (λ _. reverse state.new.stack) stack_at place result
         (S.remaining source.old) (S.remaining source.new) }
     ensures others { OnOk result (state.new ≡ record state.old { stack = state.new.stack }) }
-    ensures kept { IfOk result (λ r. IsStackKept r.0.text.items r.0.ends.items state.new) }
+    ensures kept { IfOk result (λ r. IsStackKept r.0.text state.new) }
     ensures beginning { ConsumesBeginning (S.remaining source.old) (S.remaining source.new) }
     ensures stopped { StopsWhole stack_at place result
         (S.remaining source.old) (S.remaining source.new) }

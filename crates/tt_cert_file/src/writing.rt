@@ -1,13 +1,12 @@
 //! Sections written to a sink, in form 4.
 
-ghost use Rattle.std.specs.Prelude.{◌≡◌, ◌++◌, ◌<◌, ◌^◌, [], ◌∷◌, List, FitsSigned, length, reverse, take, true, IfOk, IfSome, IsSomeAnd, OnErr, OnOk};
+ghost use Rattle.std.specs.Prelude.{◌≡◌, ◌++◌, ◌<◌, ◌^◌, [], FitsSigned, length, reverse, take, true, IfOk, IfSome, IsSomeAnd, OnErr, OnOk};
 ghost use Rattle.std.specs.Int.{w32};
 ghost use Rattle.std.specs.Io.KnownBytes.{Appends};
 ghost use Rattle.std.specs.List.{AllByRecursion, flat_map};
 ghost use Rattle.std.specs.List.Sorted.{IsStrictlySortedBy};
 ghost use Rattle.std.specs.Map.{keys_of};
 ghost use Rattle.tt_abs.specs.States.{state_order};
-ghost use Rattle.tt_abs.specs.declared.cells.Cell.{Cell};
 ghost use Rattle.tt_cert.specs.Places.{place_cmp};
 ghost use Rattle.tt_cert.specs.Rising.{IsFinished};
 ghost use Rattle.tt_stream.specs.Streams.{AppendsBeginning};
@@ -21,6 +20,7 @@ ghost use Rattle.tt_cert_file.specs.Text.{cell_text, context_text, counted, grap
 use crate::fault::EncodeFault;
 use crate::form::Form;
 use crate::name::Name;
+use crate::stack_text::{StackText, push_cell};
 use std::alloc::{AllocError, Global};
 use tt_abs::{Cell, State, ZoneCell};
 use tt_cert::Certificate;
@@ -81,21 +81,6 @@ fn push_pair(out: &mut Vec<u8>, pair: (u16, u32)) -> Result<(), AllocError>
     out.extend_from_slice(&[w1, w0, l3, l2, l1, l0])
 }
 
-pub(crate) fn push_cell(out: &mut Vec<u8>, cell: Cell) -> Result<(), AllocError>
-    ensures { Pushes (cell_text cell) result out.old.items out.new.items }
-{
-    match cell {
-        Cell::Unknown => {
-            out.push(0)?;
-            Ok(())
-        }
-        Cell::Known(number) => {
-            let [b3, b2, b1, b0] = number.to_be_bytes();
-            out.extend_from_slice(&[1, b3, b2, b1, b0])
-        }
-    }
-}
-
 fn push_zone(out: &mut Vec<u8>, zone: ZoneCell) -> Result<(), AllocError>
     ensures { Pushes (zone_text zone) result out.old.items out.new.items }
 {
@@ -120,80 +105,32 @@ fn push_count(out: &mut Vec<u8>, count: usize) -> Result<(), AllocError>
     push_word(out, count)
 }
 
-/// The text of a stack's cells, from the bottom up, kept for the next state, whose lowest cells are
-/// mostly the same.
-#[derive(Drop)]
-struct StackText {
-    /// The texts of the cells, one after the other.
-    cells: Vec<u8>,
-    /// Where the text of each of them begins.
-    starts: Vec<usize>,
+/// Keeps the text of the lowest cells that are found to be the same in the state before and in this
+/// one, and returns how many they are.
+fn keep_shared(text: &mut StackText, before: Option<&State>, state: &State) -> usize
+    requires text { IfSome before (λ s. IsStackText text.old (reverse s.now.stack)) }
+    requires few { length state.now.stack < 2 ^ 16 }
+    ensures { IsStackText text.new (take result (reverse state.now.stack)) }
+{
+    let Some(before) = before else {
+        text.clear();
+        return 0;
+    };
+    let shared = shared_depth(before, state);
+    text.cut(shared);
+    shared
 }
 
-impl StackText {
-    /// Makes the text of no cell.
-    fn new(alloc: Global) -> StackText {
-        StackText {
-            cells: Vec::new(alloc),
-            starts: Vec::new(alloc),
-        }
+/// Appends the text of a stack's cells after so many of the lowest ones, whose text is there.
+fn push_others(text: &mut StackText, state: &State, shared: usize) -> Result<(), AllocError>
+    requires { IsStackText text.old (take shared (reverse state.now.stack)) }
+    ensures { OnOk result (IsStackText text.new (reverse state.now.stack)) }
+{
+    for place in shared..state.depth() {
+        let cell = state.cell(place).unwrap();
+        text.push(cell)?;
     }
-
-    /// Becomes the text of no cell.
-    fn clear(&mut self)
-        ensures { IsStackText self.new [] }
-    {
-        self.cells.clear();
-        self.starts.clear();
-    }
-
-    /// Becomes the text of so many of the lowest cells, or stays that of all if there are fewer.
-    fn cut(&mut self, count: usize)
-        ensures { (cells : List Cell) → IsStackText self.old cells
-            → IsStackText self.new (take count cells) }
-    {
-        if count < self.starts.len() {
-            self.cells.truncate(self.starts[count]);
-            self.starts.truncate(count);
-        }
-    }
-
-    /// Appends the text of one more cell.
-    fn push(&mut self, cell: Cell) -> Result<(), AllocError>
-        ensures { OnOk result ((cells : List Cell) → IsStackText self.old cells
-            → IsStackText self.new (cells ++ cell ∷ [])) }
-    {
-        self.starts.push(self.cells.len())?;
-        push_cell(&mut self.cells, cell)
-    }
-
-    /// Keeps the text of the lowest cells that are found to be the same in the state before and in
-    /// this one, and returns how many they are.
-    fn keep_shared(&mut self, before: Option<&State>, state: &State) -> usize
-        requires text { IfSome before (λ s. IsStackText self.old (reverse s.now.stack)) }
-        requires few { length state.now.stack < 2 ^ 16 }
-        ensures { IsStackText self.new (take result (reverse state.now.stack)) }
-    {
-        let Some(before) = before else {
-            self.clear();
-            return 0;
-        };
-        let shared = shared_depth(before, state);
-        self.cut(shared);
-        shared
-    }
-
-    /// Appends the text of a stack's cells after so many of the lowest ones, whose text is there.
-    fn push_others(&mut self, state: &State, shared: usize) -> Result<(), AllocError>
-        requires { IsStackText self.old (take shared (reverse state.now.stack)) }
-        ensures { OnOk result (IsStackText self.new (reverse state.now.stack)) }
-    {
-        for place in shared..state.depth() {
-            let cell = state.cell(place).unwrap();
-            self.push(cell)?;
-        }
-        Ok(())
-    }
+    Ok(())
 }
 
 /// Returns how many of the lowest cells are found to be the same in both states. All that both have
@@ -228,8 +165,8 @@ fn push_stack(
     ensures kept { OnOk result (IsStackText text.new (reverse state.now.stack)) }
 {
     push_count(out, state.depth())?;
-    let shared = text.keep_shared(before, state);
-    text.push_others(state, shared)?;
+    let shared = keep_shared(text, before, state);
+    push_others(text, state, shared)?;
     out.extend_from_slice(text.cells.as_slice())
 }
 

@@ -327,6 +327,8 @@ pub fn explore(alloc: Global, setting: &Setting<'_>) -> Result<Explored, AllocEr
     requires fits { FunctionsFit (setting_of setting.now) setting.now.start.now }
     ensures filling { IfOk result (λ explored. explored.fault ≡ None
         → IsLeastFor setting.now explored.found) }
+    ensures contexts { IfOk result (λ explored. explored.fault ≡ None
+        → HasLeastContexts setting.now explored.found) }
     ensures justified { IfOk result (λ explored. IfSome explored.fault
         (IsJustifiedFor setting.now)) }
     ensures none_good { IfOk result (λ explored. IfSome explored.fault

@@ -1,20 +1,28 @@
--- The text of a stack that is kept for the next state. Only the representation of writing: nothing
--- above needs it.
-use Rattle.std.specs.Prelude.{◌≡◌, ℕ, ◌+◌, List, [], ◌∷◌, length}
+-- The text of a stack that is kept for the next one. Only the representation of reading and of
+-- writing: nothing above needs it.
+use Rattle.std.specs.Prelude.{◌≡◌, ℕ, zero, suc, ◌≤◌, List, length, slice_index, take}
 use Rattle.std.specs.List.{flat_map}
 use Rattle.tt_abs.specs.declared.cells.Cell.{Cell}
 use Rattle.tt_cert_file.specs.Text.{cell_text}
-use Rattle.tt_cert_file.specs.declared.writing.StackText.{StackText}
+use Rattle.tt_cert_file.specs.declared.stack_text.StackText.{StackText}
 
--- where the text of each of these cells begins, the first at this place
-abbrev pub starts_of : ℕ → List Cell → List ℕ
-starts_of at [] = []
-starts_of at (c ∷ cells) = at ∷ starts_of (at + length (cell_text c)) cells
+-- how many bytes the texts of so many of the lowest cells have, where the text of each cell ends at
+-- its end
+abbrev pub end_of : List ℕ → ℕ → ℕ
+end_of ends zero = 0
+end_of ends (suc k) = slice_index ends k
 
--- the text of these cells, and where the text of each of them begins
-pub record IsTextOfCells (text starts : List ℕ) (cells : List Cell) : Type 0 where
+-- the text is the texts of the cells, one after the other, and each cell's text ends at its end
+pub record AreCellsKept (text ends : List ℕ) (cells : List Cell) : Type 0 where
   pub text_is : text ≡ flat_map cell_text cells
-  pub starts_are : starts ≡ starts_of 0 cells
+  pub long : length ends ≡ length cells
+  pub end_is : (k : ℕ) → k ≤ length cells
+      → end_of ends k ≡ length (flat_map cell_text (take k cells))
 
+-- this is the text of these cells
 abbrev pub IsStackText : StackText → List Cell → Type 0
-IsStackText t cells = IsTextOfCells t.cells.items t.starts.items cells
+IsStackText t cells = AreCellsKept t.cells.items t.ends.items cells
+
+-- no text of a cell ends after this text
+pub record AreWithin (text ends : List ℕ) : Type 0 where
+  pub within : (k : ℕ) → k ≤ length ends → end_of ends k ≤ length text

@@ -1,6 +1,5 @@
-use Rattle.std.proofs.Common.{rules, ap, ap₂, codes, ◌≡◌, ◌∙◌}
+use Rattle.std.proofs.Common.{rules, ap₂, codes, ◌≡◌, ◌∙◌}
 use Rattle.std.proofs.lemmas.Result.{IfOk-weaker}
-use Rattle.clap.specs.Simple.{app_of_fields}
 use Rattle.clap.specs.Words.{rule_of, with_rule}
 use Rattle.hintcheck_words.specs.CommandLine.{needed, needed_number, optional}
 use Rattle.hintcheck_words.proofs.words.bare_command.Goals as goal

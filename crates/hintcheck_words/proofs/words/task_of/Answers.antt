@@ -24,7 +24,7 @@ explain_task-requires c = c.requires.offset c.in-explain.is
 
 pub returns-in-explain : goal.returns-in-explain
 unfolding request_of requests
-returns-in-explain c = IfOk-weaker c.explain_task-in-explain.result _ _ (λ t h. rw c.in-explain.is (ap (λ (r : Request). Some r) (sym h))) c.explain_task-in-explain.ensures
+returns-in-explain c = IfOk-weaker c.explain_task.result _ _ (λ t h. rw c.in-explain.is (ap (λ (r : Request). Some r) (sym h))) c.explain_task.ensures
 
 pub returns-in_ok-text-in-find-2 : goal.returns-in_ok-text-in-find-2
 unfolding request_of requests asked

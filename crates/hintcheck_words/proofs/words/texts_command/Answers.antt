@@ -1,6 +1,5 @@
 use Rattle.std.proofs.Common.{ap, map, ◌∙◌}
 use Rattle.std.proofs.lemmas.List.{take_all}
-use Rattle.clap.specs.Simple.{app_of_fields}
 use Rattle.hintcheck_words.specs.CommandLine.{of_texts}
 use Rattle.hintcheck_words.proofs.Building.{text_added}
 use Rattle.hintcheck_words.proofs.words.texts_command.Goals as goal

@@ -1,9 +1,8 @@
 use Rattle.std.proofs.Common.{List, ◌++◌, take}
 use Rattle.tt_abs.specs.declared.cells.Cell.{Cell}
-use Rattle.tt_cert_file.specs.Representation.SharedCells.{AreCellsKept}
+use Rattle.tt_cert_file.specs.Representation.KeptTexts.{IsStackText}
 use Rattle.tt_cert_file.proofs.shared_cells.keep_cells.Given as goal
 
 abbrev pub invariant-loop-cell : goal.invariant-loop-cell
 invariant-loop-cell l =
-    (before : List Cell) → AreCellsKept l.fn.text.items l.fn.ends.items before
-    → AreCellsKept l.text.items l.ends.items (before ++ take l.cell-index l.fn.cells)
+    (before : List Cell) → IsStackText l.fn.text before → IsStackText l.text (before ++ take l.cell-index l.fn.cells)

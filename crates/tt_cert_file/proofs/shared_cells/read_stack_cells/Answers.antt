@@ -50,4 +50,4 @@ returns-clause-kept g c =
     let below = c.take_shared-at.new.state in
     let kept = c.in_ok-keep_cells.ensures (reverse below.stack) c.take_shared-at.ensures.kept.cells in
     let pushed = rw c.deref-2.ensures.value at (ap (λ (s : State). s.stack) c.in_ok-push_cells.ensures.pushed) in
-    pushed_kept _ _ below c.push_cells.new.self _ (rw c.deref.ensures.value at kept) pushed (c.in_ok-push_cells.ensures.in_range c.take_shared-at.ensures.kept.in_range)
+    pushed_kept _ below c.push_cells.new.self _ (rw c.deref.ensures.value at kept) pushed (c.in_ok-push_cells.ensures.in_range c.take_shared-at.ensures.kept.in_range)

@@ -78,7 +78,7 @@ returns-clause-kept g c =
     let now = c.set_rest.new.state in
     let set = c.in_ok-set_rest.ensures.set in
     record {
-      stack = rest_kept _ _ was now c.in_ok-stack.ensures.kept (ap (λ (s : State). s.stack) set) (c.in_ok-set_rest.ensures.in_range c.in_ok-stack.ensures.kept.in_range);
+      stack = rest_kept _ was now c.in_ok-stack.ensures.kept (ap (λ (s : State). s.stack) set) (c.in_ok-set_rest.ensures.in_range c.in_ok-stack.ensures.kept.in_range);
       functions = c.in_ok-functions.ensures.kept;
       known = ap (λ (s : State). s.functions) set;
     }

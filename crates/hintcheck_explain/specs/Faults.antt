@@ -1,0 +1,23 @@
+-- What explaining tells of failed writes, and of what the search found.
+use Rattle.std.specs.Prelude.{◌≡◌, ℕ, Result, Ok, Err}
+use Rattle.tt_abs.specs.declared.setting.Setting.{Setting as Subject}
+use Rattle.tt_cert.specs.declared.fault.ProgramFault.{ProgramFault}
+use Rattle.tt_find.specs.FoundSubjects.{IsJustifiedFor, IsLeastFor}
+use Rattle.tt_find.specs.declared.finder.Found.{Found}
+use Rattle.tt_stream.specs.Streams.{CountsPrintFailure}
+use Rattle.hintcheck_explain.specs.declared.asked.ExplainFault.{ExplainFault}
+use Rattle.hintcheck_explain.specs.declared.asked.ExplainFault.TheVariants as fault
+
+-- the count of failed writes goes up by one exactly where the fault is a failed write
+abbrev pub TellsFailure : {T : Type 0} → Result T ExplainFault → ℕ → ℕ → Type 0
+TellsFailure (Ok done) old new = new ≡ old
+TellsFailure (Err (fault.Write failed)) old new = CountsPrintFailure (Err failed) old new
+TellsFailure (Err other) old new = new ≡ old
+
+-- some family can be filled up to the least good one
+abbrev pub HasLeast : Subject → Type 0
+HasLeast x = (found : Found) × IsLeastFor x found
+
+-- a place and a reason are right
+abbrev pub HasRefusal : Subject → Type 0
+HasRefusal x = (fault : ProgramFault) × IsJustifiedFor x fault

@@ -1,0 +1,168 @@
+//! From where states come to a point.
+
+use crate::describing::Numbers;
+use crate::stepping::{Outcome, outcome_at};
+use crate::subject::Subject;
+use crate::trouble::{Arrival, Trouble};
+use std::alloc::{AllocError, Global};
+use std::fmt;
+use tt_abs::State;
+use tt_cert::PointKey;
+use tt_code::Frame;
+
+/// How many of the ways that come to a place are printed.
+const SHOWN_WAYS: usize = 8;
+
+/// The point at which a program starts.
+pub(crate) const START: PointKey = (0, 0);
+
+/// A way from one point to another.
+#[derive(Clone, Copy)]
+pub(crate) struct Edge {
+    pub from: PointKey,
+    pub to: PointKey,
+    /// How deep the stack is that it brings.
+    pub depth: usize,
+}
+
+/// Adds the ways that lead from a point.
+fn push_edges(
+    edges: &mut Vec<Edge>,
+    subject: &Subject<'_>,
+    from: PointKey,
+    frames: &[Frame],
+    state: &State,
+) -> Result<(), AllocError> {
+    let Outcome::Goes { moves, state: next } = outcome_at(subject.setting, frames, from.1, state)?
+    else {
+        return Ok(());
+    };
+    let depth = next.depth();
+    for index in 0..2 {
+        let Some(way) = moves.get(index) else {
+            break;
+        };
+        if let Some(to) = subject.landing(from.0, way) {
+            edges.push(Edge { from, to, depth })?;
+        }
+    }
+    Ok(())
+}
+
+/// Returns all ways from point to point that the search has found.
+///
+/// # Errors
+/// If memory runs out.
+pub(crate) fn edges_of(alloc: Global, subject: &Subject<'_>) -> Result<Vec<Edge>, AllocError> {
+    let mut edges = Vec::new(alloc);
+    let mut states = subject.certificate.states();
+    let mut frames = Vec::new(alloc);
+    let mut here = START.0;
+    for _ in 0..subject.certificate.points() {
+        let Some((context, offset, state)) = states.take_first() else {
+            break;
+        };
+        if context != here {
+            frames = subject.frames(alloc, context)?;
+            here = context;
+        }
+        push_edges(
+            &mut edges,
+            subject,
+            (context, offset),
+            frames.as_slice(),
+            state,
+        )?;
+    }
+    Ok(edges)
+}
+
+/// Returns a way as it arrives.
+fn arrival_of(subject: &Subject<'_>, edge: &Edge) -> Arrival {
+    Arrival {
+        from: Some(subject.place(edge.from)),
+        name: subject.name_at(edge.from),
+        depth: edge.depth,
+    }
+}
+
+/// The program's start, as a way that comes there.
+const BEGINNING: Arrival = Arrival {
+    from: None,
+    name: "",
+    depth: 0,
+};
+
+/// Returns a way that brings a stack to a point that is so deep, or one that doesn't.
+fn way_with(
+    subject: &Subject<'_>,
+    edges: &[Edge],
+    point: PointKey,
+    depth: usize,
+    same: bool,
+) -> Option<Arrival> {
+    if point == START && (depth == 0) == same {
+        return Some(BEGINNING);
+    }
+    for edge in edges {
+        if edge.to == point && (edge.depth == depth) == same {
+            return Some(arrival_of(subject, edge));
+        }
+    }
+    None
+}
+
+/// Returns the trouble of a point, which has a stack so deep, to which some way brings one of
+/// another depth.
+pub(crate) fn depths_at(
+    subject: &Subject<'_>,
+    edges: &[Edge],
+    point: PointKey,
+    depth: usize,
+) -> Option<Trouble> {
+    let other = way_with(subject, edges, point, depth, false)?;
+    let one = way_with(subject, edges, point, depth, true)?;
+    Some(Trouble::Depths { one, other })
+}
+
+impl fmt::Display for Arrival {
+    fn fmt<W: fmt::Write>(&self, f: &mut fmt::Formatter<W>) -> fmt::Result {
+        let depth = Numbers(self.depth);
+        let name = self.name;
+        match self.from {
+            Some(place) => write!(f, "from {place} {name}, with {depth} on the stack"),
+            None => write!(f, "from the program's start, with {depth} on the stack"),
+        }
+    }
+}
+
+/// The ways that come to a point.
+#[derive(Clone, Copy)]
+pub(crate) struct Ways<'a> {
+    pub subject: &'a Subject<'a>,
+    pub edges: &'a [Edge],
+    pub point: PointKey,
+}
+
+impl fmt::Display for Ways<'_> {
+    fn fmt<W: fmt::Write>(&self, f: &mut fmt::Formatter<W>) -> fmt::Result {
+        write!(f, "Ways that come here:")?;
+        if self.point == START {
+            write!(f, "\n    {BEGINNING}")?;
+        }
+        let mut count: usize = 0;
+        for edge in self.edges {
+            if edge.to == self.point {
+                if count < SHOWN_WAYS {
+                    let way = arrival_of(self.subject, edge);
+                    write!(f, "\n    {way}")?;
+                }
+                count = count.saturating_add(1);
+            }
+        }
+        match count.checked_sub(SHOWN_WAYS) {
+            Some(more) if more > 0 => write!(f, "\n    and {more} more"),
+            _ => Ok(()),
+        }
+    }
+}

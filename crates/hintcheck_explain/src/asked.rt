@@ -1,0 +1,57 @@
+//! What is asked for, and what comes of it.
+
+use std::alloc::AllocError;
+use thiserror::Error;
+use tt_cert_file::Name;
+use tt_stream::PrintFailed;
+
+/// A program, and the place in it that is asked for.
+#[derive(Clone, Copy, Debug, PartialEq, Eq)]
+pub struct Asked {
+    pub program: Name,
+    /// The offset of an instruction of the program, where what is known there is asked for.
+    pub offset: Option<u32>,
+}
+
+/// What the program is that was explained.
+#[derive(Clone, Copy, Debug, PartialEq, Eq)]
+pub enum Explained {
+    Accepted,
+    Refused,
+}
+
+/// Why there is no explanation.
+#[derive(Debug, Drop, Error)]
+pub enum ExplainFault {
+    /// The text wasn't printed.
+    #[error("{0}")]
+    Write(PrintFailed),
+    /// No instruction of the program begins at the offset that is asked for.
+    #[error("no instruction begins at this offset")]
+    NoInstruction,
+    /// A growth of memory was refused.
+    #[error("out of memory")]
+    OutOfMemory(AllocError),
+}
+
+impl From<PrintFailed> for ExplainFault {
+    ghost use Rattle.std.specs.Prelude.{◌≡◌};
+    ghost use Rattle.hintcheck_explain.specs.declared.asked.ExplainFault.{ExplainFault};
+
+    ghost from_gives = { λ failed fault. fault ≡ ExplainFault.Write failed };
+
+    fn from(failed: PrintFailed) -> ExplainFault {
+        ExplainFault::Write(failed)
+    }
+}
+
+impl From<AllocError> for ExplainFault {
+    ghost use Rattle.std.specs.Prelude.{◌≡◌};
+    ghost use Rattle.hintcheck_explain.specs.declared.asked.ExplainFault.{ExplainFault};
+
+    ghost from_gives = { λ error fault. fault ≡ ExplainFault.OutOfMemory error };
+
+    fn from(error: AllocError) -> ExplainFault {
+        ExplainFault::OutOfMemory(error)
+    }
+}

@@ -1,0 +1,72 @@
+//! The numbers that an instruction's tests read, by where they are kept.
+
+use std::fmt;
+use tt_abs::{Cell, State};
+use tt_code::kinds::Reference;
+
+/// Where a number is kept.
+#[derive(Clone, Copy, PartialEq, Eq)]
+pub(crate) enum Element {
+    /// On the stack, above so many others.
+    Stack(usize),
+    /// In a reference point.
+    Rp0,
+    Rp1,
+    Rp2,
+    /// The loop number.
+    Loop,
+    /// In the storage cell with this index.
+    Storage(u16),
+}
+
+impl Element {
+    /// Returns where a reference point's number is kept.
+    pub(crate) fn of_reference(reference: Reference) -> Element {
+        match reference {
+            Reference::Rp0 => Element::Rp0,
+            Reference::Rp1 => Element::Rp1,
+            Reference::Rp2 => Element::Rp2,
+        }
+    }
+
+    /// Returns what a state knows of the number.
+    pub(crate) fn known_in(self, state: &State) -> Cell {
+        match self {
+            Element::Stack(place) => match state.cell(place) {
+                Some(cell) => cell,
+                None => Cell::Unknown,
+            },
+            Element::Rp0 => state.rp(Reference::Rp0),
+            Element::Rp1 => state.rp(Reference::Rp1),
+            Element::Rp2 => state.rp(Reference::Rp2),
+            Element::Loop => state.loop_cell(),
+            Element::Storage(index) => state.storage(index),
+        }
+    }
+}
+
+impl fmt::Display for Element {
+    fn fmt<W: fmt::Write>(&self, f: &mut fmt::Formatter<W>) -> fmt::Result {
+        match self {
+            Element::Stack(_) => write!(f, "the number on the stack"),
+            Element::Rp0 => write!(f, "the number in rp0"),
+            Element::Rp1 => write!(f, "the number in rp1"),
+            Element::Rp2 => write!(f, "the number in rp2"),
+            Element::Loop => write!(f, "the loop number"),
+            Element::Storage(index) => write!(f, "the number in storage cell {index}"),
+        }
+    }
+}
+
+/// What is known of a number, as it is printed.
+#[derive(Clone, Copy)]
+pub(crate) struct Shown(pub Cell);
+
+impl fmt::Display for Shown {
+    fn fmt<W: fmt::Write>(&self, f: &mut fmt::Formatter<W>) -> fmt::Result {
+        match self.0 {
+            Cell::Known(number) => write!(f, "{number}"),
+            Cell::Unknown => write!(f, "?"),
+        }
+    }
+}

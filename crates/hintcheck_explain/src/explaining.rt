@@ -1,0 +1,132 @@
+//! Explains a program that could be cut and is structured.
+
+ghost use Rattle.std.specs.Prelude.{◌≡◌, Ok};
+ghost use Rattle.tt_abs.specs.Entries.{Rises};
+ghost use Rattle.tt_abs.specs.Settings.{setting_of};
+ghost use Rattle.tt_abs.specs.StateFlow.{FunctionsFit};
+ghost use Rattle.hintcheck_explain.specs.Faults.{HasLeast, HasRefusal, TellsFailure};
+
+use crate::accepted::tell_accepted;
+use crate::asked::{Asked, ExplainFault, Explained};
+use crate::listing::{Code, Listing};
+use crate::place::{Place, Refused, program_at};
+use crate::reached::tell_contexts;
+use crate::refusal::tell_refusal;
+use crate::subject::Subject;
+use std::alloc::Global;
+use tt_abs::Setting;
+use tt_cert::{ProgramFault, Spot};
+use tt_code::Reason;
+use tt_find::explore;
+use tt_stream::Sink;
+
+/// Prints what is known at an offset of the subject's program, and the instructions around it.
+fn tell_place<O: Sink>(
+    alloc: Global,
+    subject: &Subject<'_>,
+    offset: u32,
+    out: &mut O,
+) -> Result<(), ExplainFault>
+    ensures failures { TellsFailure result (O.failures out.old) (O.failures out.new) }
+{
+    let place = Place {
+        program: subject.name,
+        offset,
+    };
+    let listing = Listing::around(Code::Cut(subject.setting.main), place);
+    writeln!(out, "At {place}, which is marked:")?;
+    tell_contexts(alloc, subject, place, out)?;
+    writeln!(out, "{listing}")?;
+    Ok(())
+}
+
+/// Explains an accepted program.
+fn explain_accepted<O: Sink>(
+    alloc: Global,
+    subject: &Subject<'_>,
+    asked: Asked,
+    out: &mut O,
+) -> Result<(), ExplainFault>
+    ensures failures { TellsFailure result (O.failures out.old) (O.failures out.new) }
+{
+    tell_accepted(subject, out)?;
+    match asked.offset {
+        Some(offset) => tell_place(alloc, subject, offset, out),
+        None => Ok(()),
+    }
+}
+
+/// Explains a refused program.
+fn explain_refused<O: Sink>(
+    alloc: Global,
+    subject: &Subject<'_>,
+    asked: Asked,
+    spot: Spot,
+    offset: u32,
+    reason: Reason,
+    out: &mut O,
+) -> Result<(), ExplainFault>
+    ensures failures { TellsFailure result (O.failures out.old) (O.failures out.new) }
+{
+    let refused = Refused {
+        program: subject.name,
+        place: Place {
+            program: program_at(subject.name, spot),
+            offset,
+        },
+        reason,
+    };
+    writeln!(out, "{refused}")?;
+    match asked.offset {
+        Some(offset) => tell_place(alloc, subject, offset, out),
+        None => tell_refusal(alloc, subject, spot, offset, reason, out),
+    }
+}
+
+/// Explains a program that could be cut and is structured: why it is refused, or how much it takes;
+/// or what is known at the place that is asked for.
+///
+/// # Errors
+/// `NoInstruction` where no instruction of the program begins at the offset that is asked for;
+/// `Write` where the text wasn't printed; `OutOfMemory`.
+pub fn explain<O: Sink>(
+    alloc: Global,
+    setting: &Setting<'_>,
+    asked: Asked,
+    out: &mut O,
+) -> Result<Explained, ExplainFault>
+    requires rises { Rises setting.now.start.now }
+    requires fits { FunctionsFit (setting_of setting.now) setting.now.start.now }
+    ensures accepted { result ≡ Ok Explained.Accepted → HasLeast setting.now }
+    ensures refused { result ≡ Ok Explained.Refused → HasRefusal setting.now }
+    ensures failures { TellsFailure result (O.failures out.old) (O.failures out.new) }
+{
+    if let Some(offset) = asked.offset {
+        if setting.main.at(offset).is_none() {
+            return Err(ExplainFault::NoInstruction);
+        }
+    }
+    let explored = explore(alloc, setting)?;
+    let subject = Subject {
+        name: asked.program,
+        setting,
+        certificate: &explored.found.certificate,
+    };
+    match explored.fault {
+        None => {
+            explain_accepted(alloc, &subject, asked, out)?;
+            Ok(Explained::Accepted)
+        }
+        Some(
+            ProgramFault::Refused {
+                spot,
+                offset,
+                reason,
+            },
+        ) => {
+            explain_refused(alloc, &subject, asked, spot, offset, reason, out)?;
+            Ok(Explained::Refused)
+        }
+        Some(ProgramFault::OutOfMemory(error)) => Err(ExplainFault::OutOfMemory(error)),
+    }
+}

@@ -1,0 +1,136 @@
+//! What a reason tells the font's maker: its class, and what to do.
+
+use crate::trouble::{Role, Trouble};
+use tt_code::{Reason, ReasonClass};
+
+/// Returns the class of a reason. Of a function that isn't known the numbers of the case tell
+/// whether its number is below maxFunctionDefs.
+pub(crate) fn class_of(reason: Reason, trouble: Trouble) -> ReasonClass {
+    match (reason, trouble) {
+        (
+            Reason::Function,
+            Trouble::Index {
+                role: Role::Function,
+                ..
+            },
+        ) => ReasonClass::PossibleFault,
+        _ => reason.class(),
+    }
+}
+
+/// Returns a possible fault in words.
+fn fault_text(reason: Reason) -> &'static str {
+    match reason {
+        Reason::CannotCut | Reason::Structure => {
+            "a possible fault: the bytes can't be read as a program, so its runs aren't followed."
+        }
+        Reason::ProgramTooLong => {
+            "a possible fault: the font promises that no glyph program has more bytes."
+        }
+        _ => "a possible fault: what is known here doesn't rule it out, so a run may reach it.",
+    }
+}
+
+/// Returns the class of a reason in words.
+pub(crate) fn class_text(reason: Reason, class: ReasonClass) -> &'static str {
+    match class {
+        ReasonClass::PossibleFault => fault_text(reason),
+        ReasonClass::Undecided => {
+            "undecided, a limit of the analysis: no fault is shown, and the program may run without \
+            one at every size."
+        }
+        ReasonClass::LeftOut => {
+            "left out: the checker doesn't follow this by choice; the program may be safe."
+        }
+        ReasonClass::Certificate => "the certificate: it doesn't fit the program.",
+    }
+}
+
+/// Returns what to do about a function that is called or defined.
+fn advice_on_function(class: ReasonClass) -> &'static str {
+    match class {
+        ReasonClass::PossibleFault => {
+            "use a number below maxFunctionDefs, or raise maxFunctionDefs in maxp."
+        }
+        _ => {
+            "define the function in the font program or the CVT program, and on every way through \
+            it: not only after an IF or a jump that depends on a measured number."
+        }
+    }
+}
+
+/// Returns what to do about an index or a number that is out of range.
+fn advice_on_number(reason: Reason) -> &'static str {
+    match reason {
+        Reason::Cvt => "use an index that the font's table cvt has, or add values to the table.",
+        Reason::Storage => "use an index below maxStorage, or raise maxStorage in maxp.",
+        Reason::Point => {
+            "use the number of a point that the zone has. Look at the zone pointers and the \
+            reference points here, and at maxTwilightPoints in maxp."
+        }
+        Reason::Zone => "use a zone that the font has, or set maxZones to 2 in maxp.",
+        Reason::Contour => "use the number of a contour that the glyph has.",
+        Reason::Count => "use a count that isn't negative, or an index of at least 1.",
+        _ => "mend the number.",
+    }
+}
+
+/// Returns what to do about a stack of a wrong depth, or a number on it that isn't known.
+fn advice_on_stack(reason: Reason) -> &'static str {
+    match reason {
+        Reason::Underflow => {
+            "push what the instruction takes on every way that comes here, or remove the \
+            instruction."
+        }
+        Reason::Overflow => "raise maxStackElements in maxp, or keep fewer numbers on the stack.",
+        Reason::DepthMismatch => {
+            "let both ways leave equally many numbers: pop those that one leaves too many, or push \
+            those that the other lacks, before the ways meet."
+        }
+        _ => {
+            "where the program is right, write it so that the number is known here: pushed as a \
+            constant, and the same one on every way."
+        }
+    }
+}
+
+/// Returns what to do about what a program is made of, or where it leads.
+fn advice_on_program(reason: Reason) -> &'static str {
+    match reason {
+        Reason::CannotCut => "give the instruction the bytes that it lacks, or remove it.",
+        Reason::Structure => {
+            "close each IF by EIF, each FDEF and IDEF by ENDF, with ELSE between IF and EIF, and \
+            put no definition into another."
+        }
+        Reason::ProgramTooLong => "shorten the program, or raise maxSizeOfInstructions in maxp.",
+        Reason::Opcode => "replace the byte by an instruction of the printed instruction set.",
+        Reason::InstructionDefinition => "write what IDEF defines as a function.",
+        Reason::Recursion => "write the repetition as LOOPCALL or by jumps.",
+        Reason::Target => {
+            "mend the distance: it is counted in bytes from the jump itself, and may not lead into \
+            another function or into the data of a push."
+        }
+        Reason::Definition => "move the definition into the font program or the CVT program.",
+        Reason::TooManyContexts => {
+            "call with fewer turns of LOOPCALL inside one another, or write them as jumps."
+        }
+        Reason::NeverEnds => "mend the loop that isn't left, or the jump that leads back.",
+        _ => "make the certificate anew.",
+    }
+}
+
+/// Returns what to do about a reason of this class.
+pub(crate) fn advice_of(reason: Reason, class: ReasonClass) -> &'static str {
+    match reason {
+        Reason::Function => advice_on_function(class),
+        Reason::Cvt
+        | Reason::Storage
+        | Reason::Point
+        | Reason::Zone
+        | Reason::Contour
+        | Reason::Count => advice_on_number(reason),
+        Reason::Underflow | Reason::Overflow | Reason::DepthMismatch | Reason::UnknownOperand =>
+            advice_on_stack(reason),
+        _ => advice_on_program(reason),
+    }
+}

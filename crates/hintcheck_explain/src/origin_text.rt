@@ -1,0 +1,82 @@
+//! Where a number comes from, as it is printed.
+
+use crate::element::Shown;
+use crate::origin::{Brought, Origin};
+use crate::place::Place;
+use crate::subject::Subject;
+use std::fmt;
+use tt_abs::Cell;
+
+/// What one way brings, as it is printed.
+#[derive(Clone, Copy)]
+struct BroughtText {
+    place: Place,
+    name: &'static str,
+    cell: Cell,
+}
+
+impl BroughtText {
+    /// Makes the text of what one way brings.
+    fn of(subject: &Subject<'_>, brought: Brought) -> BroughtText {
+        BroughtText {
+            place: subject.place(brought.from),
+            name: subject.name_at(brought.from),
+            cell: brought.cell,
+        }
+    }
+}
+
+impl fmt::Display for BroughtText {
+    fn fmt<W: fmt::Write>(&self, f: &mut fmt::Formatter<W>) -> fmt::Result {
+        let place = self.place;
+        let name = self.name;
+        match self.cell {
+            Cell::Known(_) => {
+                let number = Shown(self.cell);
+                write!(f, "{number} from {place} {name}")
+            }
+            Cell::Unknown => write!(f, "one that isn't known from {place} {name}"),
+        }
+    }
+}
+
+/// Where a number comes from, as it is printed.
+#[derive(Clone, Copy)]
+pub(crate) struct OriginText<'a> {
+    pub subject: &'a Subject<'a>,
+    pub origin: Origin,
+}
+
+impl fmt::Display for OriginText<'_> {
+    fn fmt<W: fmt::Write>(&self, f: &mut fmt::Formatter<W>) -> fmt::Result {
+        match self.origin {
+            Origin::Made(point) => {
+                let place = self.subject.place(point);
+                let name = self.subject.name_at(point);
+                write!(
+                    f,
+                    "{name} at {place} makes it, which gives a number that isn't known "
+                )?;
+                write!(f, "before the program runs.")
+            }
+            Origin::Joined { at, first, second } => {
+                let place = self.subject.place(at);
+                let first = BroughtText::of(self.subject, first);
+                let second = BroughtText::of(self.subject, second);
+                write!(
+                    f,
+                    "ways that meet at {place} bring different numbers: {first}, "
+                )?;
+                write!(f, "{second}.")
+            }
+            Origin::Start(element) => {
+                write!(
+                    f,
+                    "the program starts with it: {element} isn't written before on a way "
+                )?;
+                write!(f, "that comes here.")
+            }
+            Origin::Lost => write!(f, "what was searched doesn't tell."),
+        }
+    }
+}

@@ -1,0 +1,47 @@
+//! Places of programs, as they are printed.
+
+use std::fmt;
+use tt_cert::Spot;
+use tt_cert_file::Name;
+use tt_code::Reason;
+
+/// An offset in a program: for a function's instruction in the one in which its body is.
+#[derive(Clone, Copy)]
+pub(crate) struct Place {
+    pub program: Name,
+    pub offset: u32,
+}
+
+impl fmt::Display for Place {
+    fn fmt<W: fmt::Write>(&self, f: &mut fmt::Formatter<W>) -> fmt::Result {
+        write!(f, "{}:{}", self.program, self.offset)
+    }
+}
+
+/// Returns the program in which a place is that is reached from a program of this name.
+pub(crate) fn program_at(name: Name, spot: Spot) -> Name {
+    match spot {
+        Spot::Main => name,
+        Spot::Font => Name::Font,
+        Spot::Prep => Name::Cvt,
+    }
+}
+
+/// A program that is refused, with where and why.
+#[derive(Clone, Copy)]
+pub(crate) struct Refused {
+    pub program: Name,
+    pub place: Place,
+    pub reason: Reason,
+}
+
+impl fmt::Display for Refused {
+    fn fmt<W: fmt::Write>(&self, f: &mut fmt::Formatter<W>) -> fmt::Result {
+        let number = self.reason.number();
+        write!(
+            f,
+            "refused {} at {}: {number} {}",
+            self.program, self.place, self.reason
+        )
+    }
+}

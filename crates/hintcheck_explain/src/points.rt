@@ -1,0 +1,59 @@
+//! How many points, contours and zones there are for an instruction to name.
+
+use tt_abs::{Kind, Setting, State, ZoneCell};
+use tt_code::kinds::{Pointer, Within};
+
+/// How many phantom points a glyph has besides its own.
+const PHANTOM_POINTS: u32 = 4;
+
+/// Returns how many points the glyph zone has, with the phantom points.
+pub(crate) fn glyph_points(setting: &Setting<'_>) -> u32 {
+    match setting.kind {
+        Kind::Font | Kind::Cvt => 0,
+        Kind::Glyph { points, .. } => u32::from(points) + PHANTOM_POINTS,
+    }
+}
+
+/// Returns how many points each of the zones has that may be meant.
+fn points_in(setting: &Setting<'_>, zone: ZoneCell) -> u32 {
+    let twilight = u32::from(setting.limits.twilight);
+    let glyph = glyph_points(setting);
+    match zone {
+        ZoneCell::Zero => twilight,
+        ZoneCell::One => glyph,
+        ZoneCell::Either => twilight.min(glyph),
+    }
+}
+
+/// Returns how many points the zone of a pointer has at least.
+pub(crate) fn points_of(setting: &Setting<'_>, state: &State, pointer: Pointer) -> u32 {
+    points_in(setting, state.zone(pointer))
+}
+
+/// Returns how many points each of the zones has that count.
+pub(crate) fn points_within(setting: &Setting<'_>, state: &State, within: Within) -> u32 {
+    match within {
+        Within::In(first) => points_of(setting, state, first),
+        Within::Both(first, second) => {
+            let points = points_of(setting, state, first);
+            points.min(points_of(setting, state, second))
+        }
+        Within::GlyphAnd(first) => {
+            let points = glyph_points(setting);
+            points.min(points_of(setting, state, first))
+        }
+    }
+}
+
+/// Returns how many contours each of the zones has that may be meant.
+pub(crate) fn contours_in(setting: &Setting<'_>, zone: ZoneCell) -> u32 {
+    let contours = match setting.kind {
+        Kind::Font | Kind::Cvt => 0,
+        Kind::Glyph { contours, .. } => u32::from(contours),
+    };
+    match zone {
+        ZoneCell::Zero => 1,
+        ZoneCell::One => contours,
+        ZoneCell::Either => contours.min(1),
+    }
+}

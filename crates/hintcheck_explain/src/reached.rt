@@ -1,0 +1,78 @@
+//! What is known at a place of a program, in each of its contexts.
+
+ghost use Rattle.hintcheck_explain.specs.Faults.{TellsFailure};
+
+use crate::asked::ExplainFault;
+use crate::calls::Calls;
+use crate::knowledge::Knowledge;
+use crate::place::{Place, program_at};
+use crate::subject::Subject;
+use std::alloc::Global;
+use tt_abs::State;
+use tt_stream::Sink;
+
+/// How many contexts of a place are printed.
+const SHOWN_CONTEXTS: u32 = 16;
+
+/// Prints what is known at a place in one context.
+fn tell_context<O: Sink>(
+    alloc: Global,
+    subject: &Subject<'_>,
+    context: u32,
+    state: &State,
+    out: &mut O,
+) -> Result<(), ExplainFault>
+    ensures failures { TellsFailure result (O.failures out.old) (O.failures out.new) }
+{
+    let frames = subject.frames(alloc, context)?;
+    let calls = Calls {
+        program: subject.name,
+        frames: frames.as_slice(),
+        functions: state.functions(),
+    };
+    let knowledge = Knowledge::of(subject.setting, state);
+    writeln!(out, "{calls}\n{knowledge}")?;
+    Ok(())
+}
+
+/// Returns the next context, from this one on, that comes to a place, with its state.
+fn next_context<'a>(subject: &Subject<'a>, place: Place, from: u32) -> Option<(u32, &'a State)> {
+    for context in from..subject.certificate.contexts() {
+        if program_at(subject.name, subject.spot(context)) == place.program {
+            if let Some(state) = subject.certificate.state(context, place.offset) {
+                return Some((context, state));
+            }
+        }
+    }
+    None
+}
+
+/// Prints what is known at a place in each of the first contexts that come to it, or that none
+/// does.
+///
+/// # Errors
+/// `Write` exactly where a write failed; `OutOfMemory`.
+pub(crate) fn tell_contexts<O: Sink>(
+    alloc: Global,
+    subject: &Subject<'_>,
+    place: Place,
+    out: &mut O,
+) -> Result<(), ExplainFault>
+    ensures failures { TellsFailure result (O.failures out.old) (O.failures out.new) }
+{
+    let mut from = 0;
+    for shown in 0..SHOWN_CONTEXTS {
+        let Some((context, state)) = next_context(subject, place, from) else {
+            break;
+        };
+        tell_context(alloc, subject, context, state, out)?;
+        from = context.saturating_add(1);
+    }
+    let more = next_context(subject, place, from).is_some();
+    if from == 0 {
+        writeln!(out, "No run that was followed comes to {place}.")?;
+    } else if more {
+        writeln!(out, "More lists of open calls come here.")?;
+    }
+    Ok(())
+}

@@ -1,0 +1,224 @@
+//! Explains why a program is refused.
+
+ghost use Rattle.tt_stream.specs.Streams.{CountsPrintFailure};
+ghost use Rattle.hintcheck_explain.specs.Faults.{TellsFailure};
+
+use crate::arrivals::{Edge, Ways, depths_at, edges_of};
+use crate::asked::ExplainFault;
+use crate::calls::Calls;
+use crate::describing::{Bounds, Why};
+use crate::diagnosis::trouble_at;
+use crate::knowledge::Knowledge;
+use crate::listing::{Code, Listing};
+use crate::meaning::{advice_of, class_of, class_text};
+use crate::origin::origin_of;
+use crate::origin_text::OriginText;
+use crate::place::{Place, program_at};
+use crate::stepping::{Outcome, outcome_at};
+use crate::subject::Subject;
+use crate::trouble::Trouble;
+use std::alloc::{AllocError, Global};
+use tt_abs::{Point, State};
+use tt_cert::{PointKey, Spot};
+use tt_code::{Frame, Reason};
+use tt_stream::{PrintFailed, Sink};
+
+/// Where a program is refused, and what is known there.
+#[derive(Drop)]
+struct Case<'a> {
+    point: PointKey,
+    frames: Vec<Frame>,
+    state: &'a State,
+    trouble: Trouble,
+}
+
+/// Returns which test fails at a point for a reason, if one does.
+fn trouble_of(
+    subject: &Subject<'_>,
+    edges: &[Edge],
+    point: PointKey,
+    frames: &[Frame],
+    state: &State,
+    reason: Reason,
+) -> Result<Option<Trouble>, AllocError> {
+    if let Reason::DepthMismatch = reason {
+        return Ok(depths_at(subject, edges, point, state.depth()));
+    }
+    let Some(instruction) = subject.instruction_at(point) else {
+        return Ok(None);
+    };
+    match outcome_at(subject.setting, frames, point.1, state)? {
+        Outcome::Refused(found) if found == reason => {
+            let at = Point {
+                frames,
+                offset: point.1,
+            };
+            Ok(Some(trouble_at(subject.setting, &at, state, &instruction)))
+        }
+        Outcome::Goes { .. } if reason == Reason::TooManyContexts => Ok(Some(Trouble::Other)),
+        _ => Ok(None),
+    }
+}
+
+/// Returns the point where a program is refused for a reason, with what is known there.
+fn case_of<'a>(
+    alloc: Global,
+    subject: &Subject<'a>,
+    edges: &[Edge],
+    spot: Spot,
+    offset: u32,
+    reason: Reason,
+) -> Result<Option<Case<'a>>, AllocError> {
+    for context in 0..subject.certificate.contexts() {
+        if subject.spot(context) != spot {
+            continue;
+        }
+        let Some(state) = subject.certificate.state(context, offset) else {
+            continue;
+        };
+        let point = (context, offset);
+        let frames = subject.frames(alloc, context)?;
+        if let Some(trouble) = trouble_of(
+            subject,
+            edges,
+            point,
+            frames.as_slice(),
+            state,
+            reason,
+        )? {
+            return Ok(Some(Case {
+                point,
+                frames,
+                state,
+                trouble,
+            }));
+        }
+    }
+    Ok(None)
+}
+
+/// Prints why, the class of the reason, and what to do.
+fn tell_reason<O: Sink>(
+    subject: &Subject<'_>,
+    name: &'static str,
+    reason: Reason,
+    trouble: Trouble,
+    out: &mut O,
+) -> Result<(), PrintFailed>
+    ensures failures { CountsPrintFailure result (O.failures out.old) (O.failures out.new) }
+{
+    let class = class_of(reason, trouble);
+    let bounds = Bounds::of(subject.setting);
+    let why = Why {
+        name,
+        reason,
+        trouble,
+        bounds,
+    };
+    let kind = class_text(reason, class);
+    let advice = advice_of(reason, class);
+    writeln!(out, "Why: {why}")?;
+    writeln!(out, "Class: {kind}")?;
+    writeln!(out, "What to do: {advice}")
+}
+
+/// Prints where the number comes from that isn't known, where that is why.
+fn tell_origin<O: Sink>(
+    alloc: Global,
+    subject: &Subject<'_>,
+    edges: &[Edge],
+    case: &Case<'_>,
+    out: &mut O,
+) -> Result<(), ExplainFault>
+    ensures failures { TellsFailure result (O.failures out.old) (O.failures out.new) }
+{
+    if let Trouble::Unknown { element, role: _ } = case.trouble {
+        let origin = origin_of(alloc, subject, edges, case.point, element)?;
+        let text = OriginText { subject, origin };
+        writeln!(out, "Where the number comes from: {text}")?;
+    }
+    Ok(())
+}
+
+/// Prints what is known at the place of a case, and how the program comes there.
+fn tell_knowledge<O: Sink>(
+    subject: &Subject<'_>,
+    edges: &[Edge],
+    case: &Case<'_>,
+    out: &mut O,
+) -> Result<(), PrintFailed>
+    ensures failures { CountsPrintFailure result (O.failures out.old) (O.failures out.new) }
+{
+    let calls = Calls {
+        program: subject.name,
+        frames: case.frames.as_slice(),
+        functions: case.state.functions(),
+    };
+    let knowledge = Knowledge::of(subject.setting, case.state);
+    let point = case.point;
+    let ways = Ways {
+        subject,
+        edges,
+        point,
+    };
+    writeln!(out, "{calls}")?;
+    writeln!(out, "{knowledge}")?;
+    writeln!(out, "{ways}")
+}
+
+/// Prints why a program is refused, with what is known there where the search has a state there.
+fn tell_case<O: Sink>(
+    alloc: Global,
+    subject: &Subject<'_>,
+    edges: &[Edge],
+    case: Option<&Case<'_>>,
+    reason: Reason,
+    out: &mut O,
+) -> Result<(), ExplainFault>
+    ensures failures { TellsFailure result (O.failures out.old) (O.failures out.new) }
+{
+    match case {
+        Some(case) => {
+            let name = subject.name_at(case.point);
+            tell_reason(subject, name, reason, case.trouble, out)?;
+            tell_origin(alloc, subject, edges, case, out)?;
+            tell_knowledge(subject, edges, case, out)?;
+            Ok(())
+        }
+        None => {
+            let trouble = match reason {
+                Reason::ProgramTooLong => Trouble::Length(subject.setting.main.len()),
+                _ => Trouble::Other,
+            };
+            tell_reason(subject, "", reason, trouble, out)?;
+            Ok(())
+        }
+    }
+}
+
+/// Explains why a program is refused at an offset of a spot.
+///
+/// # Errors
+/// `Write` where the text wasn't printed; `OutOfMemory`.
+pub(crate) fn tell_refusal<O: Sink>(
+    alloc: Global,
+    subject: &Subject<'_>,
+    spot: Spot,
+    offset: u32,
+    reason: Reason,
+    out: &mut O,
+) -> Result<(), ExplainFault>
+    ensures failures { TellsFailure result (O.failures out.old) (O.failures out.new) }
+{
+    let edges = edges_of(alloc, subject)?;
+    let edges = edges.as_slice();
+    let case = case_of(alloc, subject, edges, spot, offset, reason)?;
+    tell_case(alloc, subject, edges, case.as_ref(), reason, out)?;
+    let place = Place {
+        program: program_at(subject.name, spot),
+        offset,
+    };
+    let listing = Listing::around(Code::Cut(subject.code(spot)), place);
+    writeln!(out, "{listing}")?;
+    Ok(())
+}

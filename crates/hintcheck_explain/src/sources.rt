@@ -1,0 +1,167 @@
+//! Where a number was kept before an instruction.
+
+use crate::diagnosis::{exchange_of, is_of_one};
+use crate::element::Element;
+use crate::taking::place_under;
+use tt_abs::{Cell, State};
+use tt_code::kinds::{Arithmetic, Effect, Pushed, Row, Source as Register, StackOp, Update};
+use tt_code::{Instr, entry};
+
+/// Where a number comes from.
+#[derive(Clone, Copy)]
+pub(crate) enum Source {
+    /// It was kept here before, or is computed from what was kept here.
+    Kept(Element),
+    /// The instruction makes it.
+    Made,
+}
+
+/// Returns where the number on the stack was kept that is under so many others.
+fn under(depth: usize, taken: usize) -> Source {
+    match place_under(depth, taken) {
+        Some(place) => Source::Kept(Element::Stack(place)),
+        None => Source::Made,
+    }
+}
+
+/// Returns the index that CINDEX and MINDEX take from the top.
+fn top_index(state: &State) -> usize {
+    match place_under(state.depth(), 0) {
+        Some(place) => match state.cell(place) {
+            Some(Cell::Known(number)) => usize::try_from(number).unwrap_or(0),
+            _ => 0,
+        },
+        None => 0,
+    }
+}
+
+/// Returns where a number was kept that is so many from the top after a stack instruction.
+fn source_of_shuffled(state: &State, operation: StackOp, taken: usize, place: usize) -> Source {
+    let depth = state.depth();
+    match (operation, taken) {
+        (StackOp::Dup, 0) => under(depth, 0),
+        (StackOp::Swap, 0) => under(depth, 1),
+        (StackOp::Swap, 1) => under(depth, 0),
+        (StackOp::Roll, 0) => under(depth, 2),
+        (StackOp::Roll, 1) => under(depth, 0),
+        (StackOp::Roll, 2) => under(depth, 1),
+        (StackOp::CopyIndexed, 0) | (StackOp::MoveIndexed, 0) => under(depth, top_index(state)),
+        (StackOp::MoveIndexed, above) if above < top_index(state) => under(depth, above),
+        (StackOp::Depth, 0) => Source::Made,
+        _ => Source::Kept(Element::Stack(place)),
+    }
+}
+
+/// Returns the operand that isn't known, of an instruction of one or of two.
+fn source_of_result(state: &State, operation: Arithmetic) -> Source {
+    let depth = state.depth();
+    if is_of_one(operation) {
+        return under(depth, 0);
+    }
+    if is_known_under(state, 0) {
+        under(depth, 1)
+    } else {
+        under(depth, 0)
+    }
+}
+
+/// Whether the number under so many others is known.
+fn is_known_under(state: &State, taken: usize) -> bool {
+    match place_under(state.depth(), taken) {
+        Some(place) => match state.cell(place) {
+            Some(Cell::Known(_)) => true,
+            _ => false,
+        },
+        None => false,
+    }
+}
+
+/// Returns the number under so many others as the index of a storage cell.
+fn storage_index(state: &State, taken: usize) -> Option<u16> {
+    match state.cell(place_under(state.depth(), taken)?)? {
+        Cell::Known(number) => u16::try_from(number).ok(),
+        Cell::Unknown => None,
+    }
+}
+
+/// Returns where the number comes from that a plain line pushes at this index.
+fn source_of_pushed(state: &State, row: &Row, index: usize) -> Source {
+    match row.pushes.get(index) {
+        Some(Pushed::Stored(position)) => match storage_index(state, usize::from(*position)) {
+            Some(index) => Source::Kept(Element::Storage(index)),
+            None => Source::Made,
+        },
+        _ => Source::Made,
+    }
+}
+
+/// Returns where a number on the stack, above so many others, comes from.
+fn source_on_stack(state: &State, instr: &Instr<'_>, place: usize) -> Source {
+    let exchange = exchange_of(state, instr);
+    let left = state.depth().saturating_sub(exchange.takes);
+    let depth_after = left.saturating_add(exchange.pushes);
+    let effect = entry(instr.code());
+    if let Effect::Stack(operation) = effect {
+        let taken = depth_after.saturating_sub(place).saturating_sub(1);
+        return source_of_shuffled(state, *operation, taken, place);
+    }
+    if place < left {
+        return Source::Kept(Element::Stack(place));
+    }
+    match effect {
+        Effect::Plain(row) => source_of_pushed(state, row, place.saturating_sub(left)),
+        Effect::Arithmetic(operation) => source_of_result(state, *operation),
+        _ => Source::Made,
+    }
+}
+
+/// Returns where the number comes from that a change makes of an element, if it changes that one.
+fn source_by_update(state: &State, update: Update, element: Element) -> Option<Source> {
+    let depth = state.depth();
+    match update {
+        Update::SetReference(reference, source) => {
+            if Element::of_reference(reference) != element {
+                return None;
+            }
+            Some(match source {
+                Register::Taken(position) => under(depth, usize::from(position)),
+                Register::Same(other) => Source::Kept(Element::of_reference(other)),
+            })
+        }
+        Update::SetLoop(position) if element == Element::Loop => {
+            Some(under(depth, usize::from(position)))
+        }
+        Update::LoopIsOne if element == Element::Loop => Some(Source::Made),
+        Update::Store(at, value) => {
+            let index = storage_index(state, usize::from(at))?;
+            if Element::Storage(index) == element {
+                Some(under(depth, usize::from(value)))
+            } else {
+                None
+            }
+        }
+        _ => None,
+    }
+}
+
+/// Returns where a number that isn't on the stack comes from.
+fn source_in_register(state: &State, instr: &Instr<'_>, element: Element) -> Source {
+    let mut source = Source::Kept(element);
+    if let Effect::Plain(row) = entry(instr.code()) {
+        for update in row.updates {
+            if let Some(changed) = source_by_update(state, *update, element) {
+                source = changed;
+            }
+        }
+    }
+    source
+}
+
+/// Returns where a number that is kept after an instruction was kept before it: the state is the
+/// one before.
+pub(crate) fn source_of(state: &State, instr: &Instr<'_>, element: Element) -> Source {
+    match element {
+        Element::Stack(place) => source_on_stack(state, instr, place),
+        _ => source_in_register(state, instr, element),
+    }
+}

@@ -1,0 +1,41 @@
+//! What an instruction makes of what is known at its place.
+
+use std::alloc::AllocError;
+use tt_abs::{Moves, Point, Refusal, Setting, State, step_at};
+use tt_code::{Frame, Reason};
+
+/// What comes of the instruction at a point.
+#[derive(Drop)]
+pub(crate) enum Outcome {
+    /// None is there: it is the main program's end.
+    Ends,
+    /// The program goes on, and this is known then.
+    Goes { moves: Moves, state: State },
+    /// The instruction is refused.
+    Refused(Reason),
+}
+
+/// Returns what comes of the instruction at a point, by a copy of the state there.
+///
+/// # Errors
+/// If memory runs out.
+pub(crate) fn outcome_at(
+    setting: &Setting<'_>,
+    frames: &[Frame],
+    offset: u32,
+    state: &State,
+) -> Result<Outcome, AllocError> {
+    let point = Point { frames, offset };
+    if setting.is_end(&point, offset) {
+        return Ok(Outcome::Ends);
+    }
+    let mut next = state.copied()?;
+    match step_at(setting, &point, &mut next) {
+        Ok(step) => Ok(Outcome::Goes {
+            moves: step.moves,
+            state: next,
+        }),
+        Err(Refusal::Refused(reason)) => Ok(Outcome::Refused(reason)),
+        Err(Refusal::OutOfMemory(error)) => Err(error),
+    }
+}

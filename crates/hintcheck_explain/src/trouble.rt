@@ -1,0 +1,91 @@
+//! Which test of an instruction fails, with the numbers of the case.
+
+use crate::element::Element;
+use crate::place::Place;
+
+/// What an instruction takes a number for.
+#[derive(Clone, Copy)]
+pub(crate) enum Role {
+    Point,
+    ControlValue,
+    StorageCell,
+    Zone,
+    Contour,
+    Count,
+    Loop,
+    StackIndex,
+    Distance,
+    Function,
+    Turns,
+}
+
+/// How a stack comes to a place.
+#[derive(Clone, Copy)]
+pub(crate) struct Arrival {
+    /// From where it comes: none for the program's start.
+    pub from: Option<Place>,
+    /// The name of the instruction there.
+    pub name: &'static str,
+    pub depth: usize,
+}
+
+/// The first test of an instruction that fails, with the numbers of the case.
+#[derive(Clone, Copy)]
+pub(crate) enum Trouble {
+    /// So many cells are taken, at least, of a stack so deep.
+    Underflow {
+        depth: usize,
+        takes: usize,
+    },
+    /// The stack would be so deep afterwards.
+    Overflow {
+        depth: usize,
+        takes: usize,
+        pushes: usize,
+    },
+    /// Two ways that meet bring stacks of different depths.
+    Depths {
+        one: Arrival,
+        other: Arrival,
+    },
+    /// The number has to be known, and isn't.
+    Unknown {
+        element: Element,
+        role: Role,
+    },
+    /// The number has to be below the bound, and not below 0.
+    Index {
+        role: Role,
+        number: i32,
+        bound: u32,
+    },
+    /// The number has to be at least so great.
+    Small {
+        role: Role,
+        number: i32,
+        least: u8,
+    },
+    /// The number names no zone that the font has.
+    Zone {
+        number: i32,
+    },
+    /// No function with this number is known to be defined.
+    Undefined {
+        number: i32,
+    },
+    /// The jump leads to no instruction of the same body.
+    Target {
+        by: i32,
+        target: i64,
+    },
+    /// The function is running already.
+    Running {
+        number: i32,
+    },
+    /// The code is that of no instruction.
+    Code(u8),
+    /// The program has so many bytes.
+    Length(u32),
+    /// All that is to be said is in the reason.
+    Other,
+}

@@ -1,0 +1,93 @@
+//! Explains a program that can't be cut or isn't structured.
+
+ghost use Rattle.hintcheck_explain.specs.Faults.{TellsFailure};
+
+use crate::asked::{Asked, ExplainFault};
+use crate::instruction_text::{length_by_code, name_of};
+use crate::listing::{Code, Listing};
+use crate::meaning::{advice_of, class_of, class_text};
+use crate::place::{Place, Refused};
+use crate::trouble::Trouble;
+use std::fmt;
+use tt_code::Reason;
+use tt_stream::Sink;
+
+/// Why the bytes aren't a program.
+#[derive(Clone, Copy)]
+struct UnreadText<'a> {
+    /// The bytes from the place on.
+    rest: &'a [u8],
+    reason: Reason,
+}
+
+impl fmt::Display for UnreadText<'_> {
+    fn fmt<W: fmt::Write>(&self, f: &mut fmt::Formatter<W>) -> fmt::Result {
+        let [code, ..] = self.rest else {
+            return write!(
+                f,
+                "The program ends here, and an IF, FDEF or IDEF is still open."
+            );
+        };
+        let name = name_of(*code);
+        match self.reason {
+            Reason::CannotCut => {
+                let length = length_by_code(self.rest);
+                let left = self.rest.len();
+                write!(
+                    f,
+                    "{name} needs {length} bytes with its data: from here on the program has {left}."
+                )
+            }
+            _ => write!(f, "{name} isn't allowed here: {}", misplaced(name)),
+        }
+    }
+}
+
+/// Returns what the instruction of this name lacks where it is in a wrong place.
+fn misplaced(name: &str) -> &'static str {
+    match name {
+        "ELSE" => "no IF without an ELSE is open.",
+        "EIF" => "no IF is open.",
+        "ENDF" => "no FDEF or IDEF is open, or an IF in it is.",
+        "FDEF" | "IDEF" => "a definition is open already, and definitions can't be nested.",
+        _ => "what is open before it doesn't take it.",
+    }
+}
+
+/// Explains a program that can't be cut (20) or isn't structured (21), refused at this offset of
+/// its own bytes.
+///
+/// # Errors
+/// `Write` where the text wasn't printed.
+pub fn explain_unread<O: Sink>(
+    asked: Asked,
+    bytes: &[u8],
+    offset: u32,
+    reason: Reason,
+    out: &mut O,
+) -> Result<(), ExplainFault>
+    ensures failures { TellsFailure result (O.failures out.old) (O.failures out.new) }
+{
+    let place = Place {
+        program: asked.program,
+        offset,
+    };
+    let refused = Refused {
+        program: asked.program,
+        place,
+        reason,
+    };
+    let rest = match bytes.get(offset as usize..) {
+        Some(rest) => rest,
+        None => &[],
+    };
+    let why = UnreadText { rest, reason };
+    let class = class_of(reason, Trouble::Other);
+    let kind = class_text(reason, class);
+    let advice = advice_of(reason, class);
+    let listing = Listing::around(Code::Uncut(bytes), place);
+    writeln!(out, "{refused}\nWhy: {why}")?;
+    writeln!(out, "Class: {kind}\nWhat to do: {advice}")?;
+    writeln!(out, "{listing}")?;
+    Ok(())
+}
