@@ -1,4 +1,4 @@
-use Rattle.std.proofs.Common.{◌≡◌, ◌-◌, ◌∙◌, ap, arith, length, reverse}
+use Rattle.std.proofs.Common.{◌≡◌, ◌-◌, ap, arith, length, reverse}
 use Rattle.std.proofs.lemmas.List.{length-reverse}
 use Rattle.std.proofs.lemmas.Result.{err_from_is_err_and}
 use Rattle.tt_stream.proofs.Beginnings.{consumes_then}

@@ -1,0 +1,149 @@
+#!/usr/bin/env python3
+"""Builds the library and the example of examples/embedding, and compares what they answer with the command.
+
+Usage: bench/embedding.py [FONT..]
+It needs cc, c++, pkg-config and FreeType's headers. The library is built by `make install-library` into a folder of its own; the example draws a line of
+text with an accepted font, a refused one and one that is cut short, all made here, and what it prints is compared with what is written below.
+examples/embedding/calls.c calls the library with pointers and lengths of all kinds, as C and as C++, and under valgrind where that is there. Then the
+library and the command answer each FONT, or the fonts of /usr/share/fonts, at most 100: their counts of programs and of refused ones, and the first
+refusals, must be the same. What differs is printed, and the exit status is then 1.
+"""
+
+import os
+import pathlib
+import re
+import shutil
+import subprocess
+import sys
+import tempfile
+import time
+
+import examples
+
+TOP = pathlib.Path(__file__).resolve().parent.parent
+SOURCES = TOP / "examples/embedding"
+MOST_FONTS = 100
+NUMBERS = {"f": 65536, "p": 65537}
+
+# What the example prints of each font.
+PRINTED = {
+    "serif.ttf": "accepted: 5 programs, hinted\n",
+    "broken.ttf": "refused g1 at f:10: 26, class 0\nrefused g2 at g2:8: 38, class 1\nrefused: 2 of 5 programs, not hinted\n",
+    "short.ttf": "status 2, fault 4, not hinted\n",
+}
+
+
+def run(words: list[str], **settings) -> subprocess.CompletedProcess:
+    """Runs a program, and returns what it printed."""
+    return subprocess.run(words, stdout=subprocess.PIPE, stderr=subprocess.STDOUT, text=True, check=False, **settings)
+
+
+def must(words: list[str], **settings) -> str:
+    """Runs a program that must succeed."""
+    ran = run(words, **settings)
+    if ran.returncode:
+        sys.exit(f"{' '.join(words)}: status {ran.returncode}\n{ran.stdout}")
+    return ran.stdout
+
+
+def built(folder: pathlib.Path) -> dict[str, pathlib.Path]:
+    """The programs, built over the installed library."""
+    must(["make", "-s", "-C", str(TOP), "install-library", f"PREFIX={folder}"])
+    environment = os.environ | {"PKG_CONFIG_PATH": f"{folder}/lib/pkgconfig:" + os.environ.get("PKG_CONFIG_PATH", "")}
+    flags = must(["pkg-config", "--cflags", "--libs", "hintcheck"], env=environment).split()
+    free_type = must(["pkg-config", "--cflags", "--libs", "freetype2"]).split()
+    warnings = ["-O2", "-Wall", "-Wextra", "-Werror"]
+    programs = {name: folder / name for name in ("line", "calls", "calls++")}
+    must(["cc", "-std=c11", *warnings, "-o", str(programs["line"]), str(SOURCES / "line.c"), *flags, *free_type])
+    must(["cc", "-std=c11", *warnings, "-o", str(programs["calls"]), str(SOURCES / "calls.c"), *flags])
+    must(["c++", "-std=c++17", *warnings, "-x", "c++", "-o", str(programs["calls++"]), str(SOURCES / "calls.c"), "-x", "none", *flags])
+    return programs
+
+
+def differs(what: str, seen: object, wanted: object) -> bool:
+    """Whether these differ, which is then printed."""
+    if seen == wanted:
+        return False
+    print(f"{what}: {seen!r}, not {wanted!r}")
+    return True
+
+
+def fails_example(line: pathlib.Path, folder: pathlib.Path) -> bool:
+    """Whether the example prints something else than it should."""
+    fonts = examples.fonts()
+    fonts["short.ttf"] = fonts["serif.ttf"][:-40]
+    failed = False
+    for name, data in fonts.items():
+        (folder / name).write_bytes(data)
+        ran = run([str(line), str(folder / name), "abc", str(folder / "line.pgm")])
+        told = re.sub(r"\d+ glyphs drawn\n|no face\n", "", ran.stdout)
+        failed |= differs(f"line {name}", told, PRINTED[name])
+    certificate = folder / "serif.cert"
+    must([str(TOP / "hintcheck"), "find", str(folder / "serif.ttf"), str(certificate)])
+    ran = run([str(line), str(folder / "serif.ttf"), "abc", str(folder / "line.pgm"), str(certificate)])
+    failed |= differs("line with a certificate", ran.stdout.splitlines()[0], PRINTED["serif.ttf"].strip())
+    ran = run([str(line), str(folder / "broken.ttf"), "abc", str(folder / "line.pgm"), str(certificate)])
+    return failed | differs("line with another's certificate", "hinted" in ran.stdout.replace("not hinted", ""), False)
+
+
+def fails_calls(programs: dict[str, pathlib.Path], folder: pathlib.Path) -> bool:
+    """Whether a call with odd pointers or lengths is answered otherwise than the header says, or memory is misused."""
+    failed = False
+    words = [str(folder / "serif.ttf"), str(folder / "broken.ttf"), str(folder / "serif.cert")]
+    for name in ("calls", "calls++"):
+        ran = run([str(programs[name]), *words])
+        failed |= differs(name, (ran.returncode, ran.stdout), (0, "all calls answered as the header says\n"))
+    if shutil.which("valgrind"):
+        ran = run(["valgrind", "-q", "--error-exitcode=9", "--leak-check=full", str(programs["calls"]), *words, "short"])
+        failed |= differs("calls under valgrind", (ran.returncode, ran.stdout), (0, "all calls answered as the header says\n"))
+    return failed
+
+
+def by_command(font: pathlib.Path) -> tuple[str, float]:
+    """What the command answers of a font, in the example's words, and how long it took."""
+    start = time.monotonic()
+    ran = subprocess.run([TOP / "hintcheck", "verdict", font], capture_output=True, text=True, check=False)
+    took = time.monotonic() - start
+    if ran.returncode > 1:
+        number = int(re.match(r"fault: (\d+)", ran.stderr).group(1))
+        return f"status {ran.returncode}, fault {number}", took
+    *lines, last = ran.stdout.splitlines()
+    refused = [re.sub(r"^(refused \S+ at \S+: \d+).*", r"\1", line) for line in lines[:3]]
+    return "\n".join([*refused, last]), took
+
+
+def by_library(line: pathlib.Path, font: pathlib.Path) -> str:
+    """What the library answers of a font."""
+    told = run([str(line), str(font), "", "/dev/null"]).stdout
+    lines = [re.sub(r", (?:not )?hinted$|, class \d$", "", text) for text in told.splitlines() if not text.endswith(("glyphs drawn", "no face"))]
+    return "\n".join(lines)
+
+
+def fails_fonts(line: pathlib.Path, fonts: list[pathlib.Path]) -> bool:
+    """Whether the library answers a font otherwise than the command."""
+    failed, commands, library = False, 0.0, 0.0
+    for font in fonts:
+        told, took = by_command(font)
+        start = time.monotonic()
+        answer = by_library(line, font)
+        library += time.monotonic() - start
+        commands += took
+        told = re.sub(r"refused: (?:font|cvt) program$", "refused: 1 of", told)
+        failed |= differs(str(font), answer[: len(told)] if told.endswith("1 of") else answer, told)
+    print(f"{len(fonts)} fonts: {commands:.2f} s by the command, {library:.2f} s by the example, drawing included")
+    return failed
+
+
+def main() -> int:
+    fonts = [pathlib.Path(word) for word in sys.argv[1:]] or sorted(pathlib.Path("/usr/share/fonts").rglob("*.[to]tf"))
+    with tempfile.TemporaryDirectory() as name:
+        folder = pathlib.Path(name)
+        programs = built(folder)
+        failed = fails_example(programs["line"], folder)
+        failed |= fails_calls(programs, folder)
+        failed |= fails_fonts(programs["line"], fonts[:MOST_FONTS])
+    return int(failed)
+
+
+if __name__ == "__main__":
+    sys.exit(main())
