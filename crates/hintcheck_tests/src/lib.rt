@@ -1,4 +1,5 @@
-//! The tests of certificate files, of the command line's words, and of hintcheck, a module for each.
+//! The tests of certificate files, of the command line's words, and of hintcheck, a module for
+//! each.
 #![tactic(auto)]
 
 #[cfg(test)]

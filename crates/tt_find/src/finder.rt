@@ -245,7 +245,8 @@ impl Finder {
         ensures none_good { IfErr result (TellsNoneIsGood setting.now) }
         ensures never_ends { TellsNoEnd setting.now result }
     {
-        let updates = match find_fixpoint(alloc, &mut self.solver, setting, KeptStates::WhereWaysMeet) {
+        let kept = KeptStates::WhereWaysMeet;
+        let updates = match find_fixpoint(alloc, &mut self.solver, setting, kept) {
             Ok(updates) => updates,
             Err(fault) => return Err(fault),
         };
@@ -278,7 +279,8 @@ impl Finder {
         ensures none_good { IfErr result (TellsNoneIsGood setting.now) }
         ensures never_ends { TellsNoEnd setting.now result }
     {
-        let updates = match find_fixpoint(alloc, &mut self.solver, setting, KeptStates::WhereWaysMeet) {
+        let kept = KeptStates::WhereWaysMeet;
+        let updates = match find_fixpoint(alloc, &mut self.solver, setting, kept) {
             Ok(updates) => updates,
             Err(fault) => return Err(fault),
         };
@@ -318,7 +320,7 @@ pub fn find(alloc: Global, setting: &Setting<'_>) -> Result<Found, ProgramFault>
 }
 
 /// Finds the least family as `find` does, with a state at each point that the search comes to, and
-/// keeps what it has found where a fault ends the search: the point of the fault has its state then.
+/// keeps what it has found where a fault ends the search: the fault's point has its state then.
 ///
 /// # Errors
 /// If memory runs out.
