@@ -2,12 +2,11 @@
 """Refuses each call its growths of memory in turn, and checks what it answers then.
 
 Usage: bench/refusals.py
-The calls are those of the tests in crates/hintcheck_memory_tests, which `rt test` proves and builds first. Each is made once for each
-of its growths (what it asks of `malloc` or `realloc`), of which that one is refused, until there was none to refuse; and a second time
-so, where all later ones are refused too. Growths of what a call is made on, before it, and of what is compared after it aren't counted.
-There is a line for each call: how many growths it has on all that it is made on, how often one was refused, and how often it told then that
-memory ran out and kept what is promised for that. The exit status is 1 where it didn't each time. Two tests run at once. A C compiler makes what
-refuses (`cc`), put before the C library's own allocator by LD_PRELOAD.
+The calls are those of the tests in crates/hintcheck_memory_tests, which `rt test` proves and builds first. A growth is what a call asks of `malloc`
+or `realloc`, and not what is asked before the call for what it is made on, or after it for what is compared. The n-th is refused, for n from 1 until
+there is none to refuse; first each alone, and then each with all later ones. There is a line for each call: how many growths it has on all that it is
+made on, how often it was refused one, and how often it told then that memory ran out and kept what is promised for that. The exit status is 1
+where it didn't each time. Two tests run at once. A C compiler makes what refuses (`cc`), put before the C library's own allocator by LD_PRELOAD.
 """
 
 import collections

@@ -1,10 +1,12 @@
 -- What explaining tells of failed writes, and of what the search found.
-use Rattle.std.specs.Prelude.{◌≡◌, ℕ, Result, Ok, Err}
+use Rattle.std.specs.Prelude.{◌≡◌, ◌≢◌, ℕ, IfSome, None, Result, Ok, Err}
 use Rattle.tt_abs.specs.declared.setting.Setting.{Setting as Subject}
+use Rattle.tt_code.specs.Cut.{instruction_at}
 use Rattle.tt_cert.specs.declared.fault.ProgramFault.{ProgramFault}
 use Rattle.tt_find.specs.FoundSubjects.{IsJustifiedFor, IsLeastFor}
 use Rattle.tt_find.specs.declared.finder.Found.{Found}
 use Rattle.tt_stream.specs.Streams.{CountsPrintFailure}
+use Rattle.hintcheck_explain.specs.declared.asked.Asked.{Asked}
 use Rattle.hintcheck_explain.specs.declared.asked.ExplainFault.{ExplainFault}
 use Rattle.hintcheck_explain.specs.declared.asked.ExplainFault.TheVariants as fault
 
@@ -21,3 +23,7 @@ HasLeast x = (found : Found) × IsLeastFor x found
 -- a place and a reason are right
 abbrev pub HasRefusal : Subject → Type 0
 HasRefusal x = (fault : ProgramFault) × IsJustifiedFor x fault
+
+-- where an offset is asked for, an instruction of the program begins there
+abbrev pub AsksForInstruction : Subject → Asked → Type 0
+AsksForInstruction x asked = IfSome asked.offset (λ offset. instruction_at x.main.now offset ≢ None)

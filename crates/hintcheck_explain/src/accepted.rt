@@ -55,7 +55,7 @@ pub(crate) fn tell_accepted<O: Sink>(subject: &Subject<'_>, out: &mut O) -> Resu
     )?;
     writeln!(
         out,
-        "Contexts (lists of open calls, the empty one included): {contexts}\nProgram points (places \
-        in a context): {points}"
-    )
+        "Contexts (lists of open calls, the empty one included): {contexts}"
+    )?;
+    writeln!(out, "Program points (places in a context): {points}")
 }

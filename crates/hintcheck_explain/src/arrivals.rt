@@ -80,6 +80,7 @@ pub(crate) fn edges_of(alloc: Global, subject: &Subject<'_>) -> Result<Vec<Edge>
 /// Returns a way as it arrives.
 fn arrival_of(subject: &Subject<'_>, edge: &Edge) -> Arrival {
     Arrival {
+        point: edge.from,
         from: Some(subject.place(edge.from)),
         name: subject.name_at(edge.from),
         depth: edge.depth,
@@ -88,6 +89,7 @@ fn arrival_of(subject: &Subject<'_>, edge: &Edge) -> Arrival {
 
 /// The program's start, as a way that comes there.
 const BEGINNING: Arrival = Arrival {
+    point: START,
     from: None,
     name: "",
     depth: 0,
@@ -138,13 +140,13 @@ impl fmt::Display for Arrival {
 
 /// The ways that come to a point.
 #[derive(Clone, Copy)]
-pub(crate) struct Ways<'a> {
-    pub subject: &'a Subject<'a>,
+pub(crate) struct Ways<'a, 'b> {
+    pub subject: &'a Subject<'b>,
     pub edges: &'a [Edge],
     pub point: PointKey,
 }
 
-impl fmt::Display for Ways<'_> {
+impl fmt::Display for Ways<'_, '_> {
     fn fmt<W: fmt::Write>(&self, f: &mut fmt::Formatter<W>) -> fmt::Result {
         write!(f, "Ways that come here:")?;
         if self.point == START {

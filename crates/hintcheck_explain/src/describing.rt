@@ -114,7 +114,7 @@ impl fmt::Display for DepthText {
                 let depth = Numbers(depth);
                 write!(
                     f,
-                    "{name} takes {takes} from the stack, which has {depth} here."
+                    "{name} takes {takes} from the stack, which holds {depth} here."
                 )
             }
             Trouble::Overflow {
@@ -137,6 +137,55 @@ impl fmt::Display for DepthText {
             }
             _ => Ok(()),
         }
+    }
+}
+
+/// Why a number isn't an index that the instruction can take.
+#[derive(Clone, Copy)]
+struct IndexText {
+    name: &'static str,
+    role: Role,
+    number: i32,
+    bound: u32,
+    bounds: Bounds,
+}
+
+impl fmt::Display for IndexText {
+    fn fmt<W: fmt::Write>(&self, f: &mut fmt::Formatter<W>) -> fmt::Result {
+        let name = self.name;
+        let number = self.number;
+        let bound = self.bound;
+        let text = role_text(self.role);
+        let reason = BoundText {
+            role: self.role,
+            bounds: self.bounds,
+        };
+        write!(
+            f,
+            "{name} uses {number} as {text}, and it has to be at least 0 and "
+        )?;
+        write!(f, "below {bound} here: {reason}.")
+    }
+}
+
+/// Why a number of zones isn't enough.
+#[derive(Clone, Copy)]
+struct ZoneText {
+    name: &'static str,
+    number: i32,
+    zones: u16,
+}
+
+impl fmt::Display for ZoneText {
+    fn fmt<W: fmt::Write>(&self, f: &mut fmt::Formatter<W>) -> fmt::Result {
+        let name = self.name;
+        let number = self.number;
+        let zones = self.zones;
+        write!(
+            f,
+            "{name} uses {number} as the number of a zone: zone 1 is the glyph's, and 0, "
+        )?;
+        write!(f, "the twilight zone, needs maxZones 2. It is {zones}.")
     }
 }
 
@@ -168,16 +217,14 @@ impl fmt::Display for NumberText {
                 number,
                 bound,
             } => {
-                let text = role_text(role);
-                let reason = BoundText {
+                let text = IndexText {
+                    name,
                     role,
+                    number,
+                    bound,
                     bounds: self.bounds,
                 };
-                write!(
-                    f,
-                    "{name} uses {number} as {text}, and it has to be at least 0 and "
-                )?;
-                write!(f, "below {bound} here: {reason}.")
+                write!(f, "{text}")
             }
             Trouble::Small {
                 role,
@@ -192,14 +239,12 @@ impl fmt::Display for NumberText {
             }
             Trouble::Zone { number } => {
                 let zones = self.bounds.limits.zones;
-                write!(
-                    f,
-                    "{name} uses {number} as the number of a zone: zone 1 is the glyph's, "
-                )?;
-                write!(
-                    f,
-                    "and 0, the twilight zone, needs maxZones 2. It is {zones}."
-                )
+                let text = ZoneText {
+                    name,
+                    number,
+                    zones,
+                };
+                write!(f, "{text}")
             }
             _ => Ok(()),
         }
@@ -271,35 +316,51 @@ fn reason_text(reason: Reason) -> &'static str {
     }
 }
 
+impl Why {
+    /// Returns the part that tells of the depth of the stack.
+    fn depths(&self) -> DepthText {
+        DepthText {
+            name: self.name,
+            trouble: self.trouble,
+            most: self.bounds.limits.stack,
+        }
+    }
+
+    /// Returns the part that tells of a number.
+    fn number(&self) -> NumberText {
+        NumberText {
+            name: self.name,
+            trouble: self.trouble,
+            bounds: self.bounds,
+        }
+    }
+
+    /// Returns the part that tells where the program leads.
+    fn way(&self) -> WayText {
+        WayText {
+            name: self.name,
+            trouble: self.trouble,
+            functions: self.bounds.limits.functions,
+        }
+    }
+}
+
 impl fmt::Display for Why {
     fn fmt<W: fmt::Write>(&self, f: &mut fmt::Formatter<W>) -> fmt::Result {
-        let name = self.name;
-        let trouble = self.trouble;
-        let bounds = self.bounds;
-        let most = bounds.limits.stack;
-        let functions = bounds.limits.functions;
-        match trouble {
+        match self.trouble {
             Trouble::Underflow { .. } | Trouble::Overflow { .. } | Trouble::Depths { .. } => {
-                let text = DepthText {
-                    name,
-                    trouble,
-                    most,
-                };
+                let text = self.depths();
                 write!(f, "{text}")
             }
             Trouble::Unknown { .. }
             | Trouble::Index { .. }
             | Trouble::Small { .. }
             | Trouble::Zone { .. } => {
-                let text = NumberText {
-                    name,
-                    trouble,
-                    bounds,
-                };
+                let text = self.number();
                 write!(f, "{text}")
             }
             Trouble::Length(length) => {
-                let limit = bounds.limits.program_size;
+                let limit = self.bounds.limits.program_size;
                 write!(
                     f,
                     "The program has {length} bytes, and maxSizeOfInstructions is {limit}."
@@ -307,11 +368,7 @@ impl fmt::Display for Why {
             }
             Trouble::Other => f.write_str(reason_text(self.reason)),
             _ => {
-                let text = WayText {
-                    name,
-                    trouble,
-                    functions,
-                };
+                let text = self.way();
                 write!(f, "{text}")
             }
         }

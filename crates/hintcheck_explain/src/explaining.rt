@@ -1,10 +1,10 @@
 //! Explains a program that could be cut and is structured.
 
-ghost use Rattle.std.specs.Prelude.{◌≡◌, Ok};
+ghost use Rattle.std.specs.Prelude.{◌≡◌, ◌≢◌, ◌↔◌, Err, IsTrue, Ok, OnOk};
 ghost use Rattle.tt_abs.specs.Entries.{Rises};
 ghost use Rattle.tt_abs.specs.Settings.{setting_of};
 ghost use Rattle.tt_abs.specs.StateFlow.{FunctionsFit};
-ghost use Rattle.hintcheck_explain.specs.Faults.{HasLeast, HasRefusal, TellsFailure};
+ghost use Rattle.hintcheck_explain.specs.Faults.{AsksForInstruction, HasLeast, HasRefusal, TellsFailure};
 
 use crate::accepted::tell_accepted;
 use crate::asked::{Asked, ExplainFault, Explained};
@@ -20,6 +20,16 @@ use tt_code::Reason;
 use tt_find::explore;
 use tt_stream::Sink;
 
+/// Whether an instruction of the program begins at the offset that is asked for, if one is.
+fn begins_instruction(setting: &Setting<'_>, asked: Asked) -> bool
+    ensures { IsTrue result ↔ AsksForInstruction setting.now asked }
+{
+    match asked.offset {
+        Some(offset) => setting.main.at(offset).is_some(),
+        None => true,
+    }
+}
+
 /// Prints what is known at an offset of the subject's program, and the instructions around it.
 fn tell_place<O: Sink>(
     alloc: Global,
@@ -28,13 +38,14 @@ fn tell_place<O: Sink>(
     out: &mut O,
 ) -> Result<(), ExplainFault>
     ensures failures { TellsFailure result (O.failures out.old) (O.failures out.new) }
+    ensures other { result ≢ Err ExplainFault.NoInstruction }
 {
     let place = Place {
         program: subject.name,
         offset,
     };
     let listing = Listing::around(Code::Cut(subject.setting.main), place);
-    writeln!(out, "At {place}, which is marked:")?;
+    writeln!(out, "What is known at {place}:")?;
     tell_contexts(alloc, subject, place, out)?;
     writeln!(out, "{listing}")?;
     Ok(())
@@ -48,6 +59,7 @@ fn explain_accepted<O: Sink>(
     out: &mut O,
 ) -> Result<(), ExplainFault>
     ensures failures { TellsFailure result (O.failures out.old) (O.failures out.new) }
+    ensures other { result ≢ Err ExplainFault.NoInstruction }
 {
     tell_accepted(subject, out)?;
     match asked.offset {
@@ -67,6 +79,7 @@ fn explain_refused<O: Sink>(
     out: &mut O,
 ) -> Result<(), ExplainFault>
     ensures failures { TellsFailure result (O.failures out.old) (O.failures out.new) }
+    ensures other { result ≢ Err ExplainFault.NoInstruction }
 {
     let refused = Refused {
         program: subject.name,
@@ -99,12 +112,13 @@ pub fn explain<O: Sink>(
     requires fits { FunctionsFit (setting_of setting.now) setting.now.start.now }
     ensures accepted { result ≡ Ok Explained.Accepted → HasLeast setting.now }
     ensures refused { result ≡ Ok Explained.Refused → HasRefusal setting.now }
+    ensures begins { OnOk result (AsksForInstruction setting.now asked) }
+    ensures none { result ≡ Err ExplainFault.NoInstruction
+        → AsksForInstruction setting.now asked → ⊥ }
     ensures failures { TellsFailure result (O.failures out.old) (O.failures out.new) }
 {
-    if let Some(offset) = asked.offset {
-        if setting.main.at(offset).is_none() {
-            return Err(ExplainFault::NoInstruction);
-        }
+    if !begins_instruction(setting, asked) {
+        return Err(ExplainFault::NoInstruction);
     }
     let explored = explore(alloc, setting)?;
     let subject = Subject {

@@ -36,8 +36,8 @@ pub(crate) fn class_text(reason: Reason, class: ReasonClass) -> &'static str {
     match class {
         ReasonClass::PossibleFault => fault_text(reason),
         ReasonClass::Undecided => {
-            "undecided, a limit of the analysis: no fault is shown, and the program may run without \
-            one at every size."
+            "undecided, a limit of the analysis: no fault is shown, and the program may run \
+            without one at every size."
         }
         ReasonClass::LeftOut => {
             "left out: the checker doesn't follow this by choice; the program may be safe."
@@ -119,9 +119,12 @@ fn advice_on_program(reason: Reason) -> &'static str {
     }
 }
 
-/// Returns what to do about a reason of this class.
-pub(crate) fn advice_of(reason: Reason, class: ReasonClass) -> &'static str {
+/// Returns what to do about a reason of this class, at an instruction of this name.
+pub(crate) fn advice_of(reason: Reason, class: ReasonClass, name: &str) -> &'static str {
     match reason {
+        Reason::DepthMismatch if name == "CLEAR" => {
+            "clear the stack on each way before the ways meet, as by ELSE and CLEAR before the EIF."
+        }
         Reason::Function => advice_on_function(class),
         Reason::Cvt
         | Reason::Storage

@@ -105,7 +105,8 @@ fn add_way(
 ) -> Result<Option<Origin>, AllocError> {
     let second = Brought { from, cell };
     if let Cell::Known(_) = cell {
-        return Ok(match meeting.known {
+        let known = meeting.known;
+        return Ok(match known {
             Some(first) if first.cell != cell => Some(Origin::Joined {
                 at: traced.point,
                 first,

@@ -42,12 +42,12 @@ impl fmt::Display for BroughtText {
 
 /// Where a number comes from, as it is printed.
 #[derive(Clone, Copy)]
-pub(crate) struct OriginText<'a> {
-    pub subject: &'a Subject<'a>,
+pub(crate) struct OriginText<'a, 'b> {
+    pub subject: &'a Subject<'b>,
     pub origin: Origin,
 }
 
-impl fmt::Display for OriginText<'_> {
+impl fmt::Display for OriginText<'_, '_> {
     fn fmt<W: fmt::Write>(&self, f: &mut fmt::Formatter<W>) -> fmt::Result {
         match self.origin {
             Origin::Made(point) => {

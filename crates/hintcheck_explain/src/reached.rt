@@ -1,14 +1,17 @@
 //! What is known at a place of a program, in each of its contexts.
 
+ghost use Rattle.std.specs.Prelude.{◌≢◌, Err};
 ghost use Rattle.hintcheck_explain.specs.Faults.{TellsFailure};
 
 use crate::asked::ExplainFault;
 use crate::calls::Calls;
+use crate::effect_text::tell_effect;
 use crate::knowledge::Knowledge;
 use crate::place::{Place, program_at};
 use crate::subject::Subject;
 use std::alloc::Global;
 use tt_abs::State;
+use tt_cert::PointKey;
 use tt_stream::Sink;
 
 /// How many contexts of a place are printed.
@@ -18,20 +21,23 @@ const SHOWN_CONTEXTS: u32 = 16;
 fn tell_context<O: Sink>(
     alloc: Global,
     subject: &Subject<'_>,
-    context: u32,
+    point: PointKey,
     state: &State,
     out: &mut O,
 ) -> Result<(), ExplainFault>
     ensures failures { TellsFailure result (O.failures out.old) (O.failures out.new) }
+    ensures other { result ≢ Err ExplainFault.NoInstruction }
 {
-    let frames = subject.frames(alloc, context)?;
+    let frames = subject.frames(alloc, point.0)?;
     let calls = Calls {
         program: subject.name,
         frames: frames.as_slice(),
         functions: state.functions(),
     };
     let knowledge = Knowledge::of(subject.setting, state);
-    writeln!(out, "{calls}\n{knowledge}")?;
+    tell_effect(subject, point, state, out)?;
+    writeln!(out, "{calls}")?;
+    writeln!(out, "{knowledge}")?;
     Ok(())
 }
 
@@ -59,13 +65,14 @@ pub(crate) fn tell_contexts<O: Sink>(
     out: &mut O,
 ) -> Result<(), ExplainFault>
     ensures failures { TellsFailure result (O.failures out.old) (O.failures out.new) }
+    ensures other { result ≢ Err ExplainFault.NoInstruction }
 {
     let mut from = 0;
     for shown in 0..SHOWN_CONTEXTS {
         let Some((context, state)) = next_context(subject, place, from) else {
             break;
         };
-        tell_context(alloc, subject, context, state, out)?;
+        tell_context(alloc, subject, (context, place.offset), state, out)?;
         from = context.saturating_add(1);
     }
     let more = next_context(subject, place, from).is_some();

@@ -1,5 +1,6 @@
 //! Explains why a program is refused.
 
+ghost use Rattle.std.specs.Prelude.{◌≢◌, Err};
 ghost use Rattle.tt_stream.specs.Streams.{CountsPrintFailure};
 ghost use Rattle.hintcheck_explain.specs.Faults.{TellsFailure};
 
@@ -8,12 +9,14 @@ use crate::asked::ExplainFault;
 use crate::calls::Calls;
 use crate::describing::{Bounds, Why};
 use crate::diagnosis::trouble_at;
+use crate::effect_text::tell_effect;
 use crate::knowledge::Knowledge;
 use crate::listing::{Code, Listing};
 use crate::meaning::{advice_of, class_of, class_text};
 use crate::origin::origin_of;
 use crate::origin_text::OriginText;
 use crate::place::{Place, program_at};
+use crate::route::{Route, turns_to};
 use crate::stepping::{Outcome, outcome_at};
 use crate::subject::Subject;
 use crate::trouble::Trouble;
@@ -116,7 +119,7 @@ fn tell_reason<O: Sink>(
         bounds,
     };
     let kind = class_text(reason, class);
-    let advice = advice_of(reason, class);
+    let advice = advice_of(reason, class, name);
     writeln!(out, "Why: {why}")?;
     writeln!(out, "Class: {kind}")?;
     writeln!(out, "What to do: {advice}")
@@ -131,6 +134,7 @@ fn tell_origin<O: Sink>(
     out: &mut O,
 ) -> Result<(), ExplainFault>
     ensures failures { TellsFailure result (O.failures out.old) (O.failures out.new) }
+    ensures other { result ≢ Err ExplainFault.NoInstruction }
 {
     if let Trouble::Unknown { element, role: _ } = case.trouble {
         let origin = origin_of(alloc, subject, edges, case.point, element)?;
@@ -166,6 +170,46 @@ fn tell_knowledge<O: Sink>(
     writeln!(out, "{ways}")
 }
 
+/// Prints one way to a point.
+fn tell_route<O: Sink>(
+    alloc: Global,
+    subject: &Subject<'_>,
+    edges: &[Edge],
+    point: PointKey,
+    out: &mut O,
+) -> Result<(), ExplainFault>
+    ensures failures { TellsFailure result (O.failures out.old) (O.failures out.new) }
+    ensures other { result ≢ Err ExplainFault.NoInstruction }
+{
+    let turns = turns_to(alloc, subject, edges, point)?;
+    let route = Route {
+        subject: &*subject,
+        turns: turns.as_slice(),
+        point,
+    };
+    writeln!(out, "{route}")?;
+    Ok(())
+}
+
+/// Prints one way to the place of a case, or to each of the two places from where stacks of
+/// different depths come.
+fn tell_routes<O: Sink>(
+    alloc: Global,
+    subject: &Subject<'_>,
+    edges: &[Edge],
+    case: &Case<'_>,
+    out: &mut O,
+) -> Result<(), ExplainFault>
+    ensures failures { TellsFailure result (O.failures out.old) (O.failures out.new) }
+    ensures other { result ≢ Err ExplainFault.NoInstruction }
+{
+    if let Trouble::Depths { one, other } = case.trouble {
+        tell_route(alloc, subject, edges, one.point, out)?;
+        return tell_route(alloc, subject, edges, other.point, out);
+    }
+    tell_route(alloc, subject, edges, case.point, out)
+}
+
 /// Prints why a program is refused, with what is known there where the search has a state there.
 fn tell_case<O: Sink>(
     alloc: Global,
@@ -176,14 +220,16 @@ fn tell_case<O: Sink>(
     out: &mut O,
 ) -> Result<(), ExplainFault>
     ensures failures { TellsFailure result (O.failures out.old) (O.failures out.new) }
+    ensures other { result ≢ Err ExplainFault.NoInstruction }
 {
     match case {
         Some(case) => {
             let name = subject.name_at(case.point);
             tell_reason(subject, name, reason, case.trouble, out)?;
+            tell_effect(subject, case.point, case.state, out)?;
             tell_origin(alloc, subject, edges, case, out)?;
             tell_knowledge(subject, edges, case, out)?;
-            Ok(())
+            tell_routes(alloc, subject, edges, case, out)
         }
         None => {
             let trouble = match reason {
@@ -209,6 +255,7 @@ pub(crate) fn tell_refusal<O: Sink>(
     out: &mut O,
 ) -> Result<(), ExplainFault>
     ensures failures { TellsFailure result (O.failures out.old) (O.failures out.new) }
+    ensures other { result ≢ Err ExplainFault.NoInstruction }
 {
     let edges = edges_of(alloc, subject)?;
     let edges = edges.as_slice();

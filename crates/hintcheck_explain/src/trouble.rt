@@ -2,6 +2,7 @@
 
 use crate::element::Element;
 use crate::place::Place;
+use tt_cert::PointKey;
 
 /// What an instruction takes a number for.
 #[derive(Clone, Copy)]
@@ -22,6 +23,8 @@ pub(crate) enum Role {
 /// How a stack comes to a place.
 #[derive(Clone, Copy)]
 pub(crate) struct Arrival {
+    /// The point from where it comes.
+    pub point: PointKey,
     /// From where it comes: none for the program's start.
     pub from: Option<Place>,
     /// The name of the instruction there.

@@ -35,8 +35,9 @@ impl fmt::Display for UnreadText<'_> {
                 let left = self.rest.len();
                 write!(
                     f,
-                    "{name} needs {length} bytes with its data: from here on the program has {left}."
-                )
+                    "{name} needs {length} bytes with its data, and the program has "
+                )?;
+                write!(f, "{left} from here on.")
             }
             _ => write!(f, "{name} isn't allowed here: {}", misplaced(name)),
         }
@@ -84,7 +85,7 @@ pub fn explain_unread<O: Sink>(
     let why = UnreadText { rest, reason };
     let class = class_of(reason, Trouble::Other);
     let kind = class_text(reason, class);
-    let advice = advice_of(reason, class);
+    let advice = advice_of(reason, class, "");
     let listing = Listing::around(Code::Uncut(bytes), place);
     writeln!(out, "{refused}\nWhy: {why}")?;
     writeln!(out, "Class: {kind}\nWhat to do: {advice}")?;

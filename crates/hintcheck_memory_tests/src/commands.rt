@@ -10,6 +10,7 @@ use crate::trials::{Told, Trial, assert_refused};
 use hintcheck::command;
 use hintcheck_test_fixtures::fonts::MAXP_WORD;
 use hintcheck_test_fixtures::paths::path_of;
+use std::io::Print;
 use std::marker::Brand;
 use std::path::PathBuf;
 use std::process::Abort;
@@ -62,7 +63,7 @@ pub(crate) fn told_of_command(rt: &HostRuntime, heap: &mut Heap, order: &Order<'
 
 /// Asserts that a command is refused memory, which accepts with ample memory and prints this.
 fn assert_command_refused<'a>(
-    rt: &impl Abort,
+    rt: &(impl Abort + Print),
     host: &'a HostRuntime,
     heap: &mut Heap,
     words: &'a [&'a str],

@@ -1,5 +1,6 @@
 //! The heap of a test, all of it taken but what a call is left.
 
+use crate::refuser::Refuser;
 use std::alloc::Global;
 
 /// The greatest block has 2 to the power of 46 bytes, half of what a process can address.
@@ -150,15 +151,25 @@ pub(crate) struct Heap {
     hoard: Option<Hoard>,
     /// How many bytes a call is left; all of the room where this is none.
     left: Option<usize>,
+    /// Where this is there, nothing is hoarded.
+    refuser: Option<Refuser>,
 }
 
 impl Heap {
-    /// Takes all of the heap but the room, where it can be used up.
+    /// Takes all of the heap but the room, where it can be used up and growths aren't refused by
+    /// their number.
     pub(crate) fn new(alloc: Global) -> Heap {
+        let refuser = Refuser::new(alloc);
+        let hoard = if refuser.is_some() {
+            None
+        } else {
+            Hoard::new(alloc)
+        };
         Heap {
             alloc,
-            hoard: Hoard::new(alloc),
+            hoard,
             left: None,
+            refuser,
         }
     }
 
@@ -170,10 +181,36 @@ impl Heap {
     /// Leaves each call from now on so many bytes, or all of the room.
     pub(crate) fn leave(&mut self, left: Option<usize>) {
         self.left = left;
+        if let Some(refuser) = &mut self.refuser {
+            refuser.choose(None);
+        }
+    }
+
+    /// Whether growths are refused by their number.
+    pub(crate) fn has_refuser(&self) -> bool {
+        self.refuser.is_some()
+    }
+
+    /// Refuses each call from now on the growth with this number, from 1, where that is so.
+    pub(crate) fn refuse(&mut self, number: usize) {
+        if let Some(refuser) = &mut self.refuser {
+            refuser.choose(Some(number));
+        }
+    }
+
+    /// Whether a growth of the last call was refused by its number.
+    pub(crate) fn has_refused(&self) -> bool {
+        match &self.refuser {
+            Some(refuser) => refuser.has_refused(),
+            None => false,
+        }
     }
 
     /// Takes the room, but for what a call is left.
     pub(crate) fn take_room(&mut self) {
+        if let Some(refuser) = &self.refuser {
+            refuser.start();
+        }
         if let (Some(hoard), Some(left)) = (&mut self.hoard, self.left) {
             hoard.leave(self.alloc, left);
         }
@@ -181,6 +218,9 @@ impl Heap {
 
     /// Gives the room back.
     pub(crate) fn give_back(&mut self) {
+        if let Some(refuser) = &mut self.refuser {
+            refuser.stop();
+        }
         if let Some(hoard) = &mut self.hoard {
             hoard.give_back(self.alloc);
         }

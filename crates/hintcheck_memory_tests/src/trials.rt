@@ -7,25 +7,18 @@ use crate::fonts::{FontCall, told_of_font};
 use crate::heap::Heap;
 use crate::programs::{ProgramCall, told_of_program};
 use crate::sections::{SectionCall, told_of_section};
+use std::io::Print;
 use std::process::Abort;
 
 /// From one trial to the next, a call is left so many bytes more, as the C library's blocks grow.
 const STEP: usize = 16;
 
-/// After so many trials the steps are longer, since commands have buffers of 64 KB.
-const SHORT_STEPS: usize = 1_024;
+/// So many trials are made at most. In the last one a call is left 370,000 bytes: commands have
+/// buffers of 64 KB.
+const TRIALS: usize = 23_126;
 
-/// So many bytes longer they are then.
-const LONGER: usize = 512;
-
-/// So many trials are made at most. In the last one a call is left 370,000 bytes.
-const TRIALS: usize = 1_700;
-
-/// Returns how many bytes a call is left in the trial with this number.
-fn left_in(number: usize) -> usize {
-    let longer = number.saturating_sub(SHORT_STEPS).saturating_mul(LONGER);
-    number.saturating_mul(STEP).saturating_add(longer)
-}
+/// So many growths of a call are refused by their number at most.
+const GROWTHS: usize = 100_000;
 
 /// What a call tells.
 #[derive(Clone, Copy, Debug, PartialEq, Eq)]
@@ -65,7 +58,7 @@ pub(crate) fn told_of(heap: &mut Heap, trial: &Trial<'_>) -> Told {
 fn refusals(heap: &mut Heap, trial: &Trial<'_>, ample: Told) -> Option<u32> {
     let mut refusals = 0u32;
     for number in 0..TRIALS {
-        heap.leave(Some(left_in(number)));
+        heap.leave(Some(number.saturating_mul(STEP)));
         let told = told_of(heap, trial);
         if told == ample {
             return Some(refusals);
@@ -78,15 +71,72 @@ fn refusals(heap: &mut Heap, trial: &Trial<'_>, ample: Told) -> Option<u32> {
     None
 }
 
+/// How many growths of a call were refused, each in a trial of its own, and how often it told so.
+struct Growths {
+    refused: u32,
+    told: u32,
+}
+
+/// Refuses a call its growths in turn, until there is none to refuse; nothing where it tells
+/// something else then than with ample memory.
+fn growths_of(heap: &mut Heap, trial: &Trial<'_>, ample: Told) -> Option<Growths> {
+    let mut refused = 0u32;
+    let mut told = 0u32;
+    for number in 1..=GROWTHS {
+        heap.refuse(number);
+        let answer = told_of(heap, trial);
+        if !heap.has_refused() {
+            return if answer == ample {
+                Some(Growths { refused, told })
+            } else {
+                None
+            };
+        }
+        refused = refused.saturating_add(1);
+        if answer == Told::OutOfMemory {
+            told = told.saturating_add(1);
+        }
+    }
+    None
+}
+
+/// Prints how many growths of a call were refused, and how often it told so.
+fn print_growths(
+    rt: &(impl Abort + Print),
+    heap: &mut Heap,
+    name: &str,
+    trial: &Trial<'_>,
+    ample: Told,
+) {
+    let growths = growths_of(heap, trial, ample);
+    assert!(rt;
+        growths.is_some(),
+        "{name}: another answer where no growth is refused"
+    );
+    if let Some(Growths { refused, told }) = growths {
+        let printed = println!(rt; "{name}: {refused} growths refused, {told} told");
+        assert!(rt; printed.is_ok(), "{name}: not printed");
+    }
+}
+
 /// Asserts that a call tells of each refusal until it is left enough, and returns how many there
-/// were. Where the heap can't be used up, it is made with ample memory alone.
-pub(crate) fn refusals_of(rt: &impl Abort, heap: &mut Heap, name: &str, trial: &Trial<'_>) -> u32 {
+/// were. Where the heap can't be used up, it is made with ample memory alone; where growths are
+/// refused by their number, what it tells is printed.
+pub(crate) fn refusals_of(
+    rt: &(impl Abort + Print),
+    heap: &mut Heap,
+    name: &str,
+    trial: &Trial<'_>,
+) -> u32 {
     heap.leave(None);
     let ample = told_of(heap, trial);
     assert!(rt;
         matches!(ample, Told::Answer(_)),
         "{name}: {ample:?} with ample memory"
     );
+    if heap.has_refuser() {
+        print_growths(rt, heap, name, trial, ample);
+    }
     if !heap.is_used_up() {
         return 0;
     }
@@ -99,7 +149,12 @@ pub(crate) fn refusals_of(rt: &impl Abort, heap: &mut Heap, name: &str, trial: &
 }
 
 /// Asserts that a call is refused memory and tells so, until it is left enough.
-pub(crate) fn assert_refused(rt: &impl Abort, heap: &mut Heap, name: &str, trial: &Trial<'_>) {
+pub(crate) fn assert_refused(
+    rt: &(impl Abort + Print),
+    heap: &mut Heap,
+    name: &str,
+    trial: &Trial<'_>,
+) {
     let count = refusals_of(rt, heap, name, trial);
     assert!(rt; count > 0 || !heap.is_used_up(), "{name}: no refusal");
 }

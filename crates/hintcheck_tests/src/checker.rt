@@ -3,6 +3,7 @@
 pub(crate) mod certificate_commands;
 mod certificates;
 mod commands;
+mod explanations;
 mod failing_readers;
 mod failing_writers;
 mod finding_sessions;
@@ -13,6 +14,7 @@ mod lines;
 mod listing;
 mod malicious_files;
 pub(crate) mod outputs;
+mod scans;
 mod sessions;
 mod upgrade_commands;
 mod upgrades;

@@ -31,8 +31,13 @@ fn is_refused<R: Files + AllocGlobal>(rt: &R, words: &[&str]) -> bool {
     status == 2 && out.is_empty() && err.starts_with(b"error: ")
 }
 
-const REFUSED: [&[&str]; 8] = [
+const REFUSED: [&[&str]; 13] = [
     &["hintcheck"],
+    &["hintcheck", "scan"],
+    &["hintcheck", "explain"],
+    &["hintcheck", "explain", "a.ttf"],
+    &["hintcheck", "explain", "a.ttf", "g0", "-1"],
+    &["hintcheck", "explain", "a.ttf", "g0", "0", "0"],
     &["hintcheck", "bear"],
     &["hintcheck", "verdict"],
     &["hintcheck", "verdict", "a.ttf", "b.ttf"],
@@ -55,7 +60,10 @@ fn is_helped<R: Files + AllocGlobal>(rt: &R, words: &[&str]) -> bool {
     status == 0 && !out.is_empty() && err.is_empty()
 }
 
-const HELPED: [&[&str]; 4] = [
+const HELPED: [&[&str]; 7] = [
+    &["hintcheck", "--version"],
+    &["hintcheck", "help", "scan"],
+    &["hintcheck", "explain", "--help"],
     &["hintcheck", "--help"],
     &["hintcheck", "help"],
     &["hintcheck", "help", "bare"],

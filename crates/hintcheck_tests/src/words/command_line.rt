@@ -40,11 +40,21 @@ fn reads_the_words_of_bare_without_a_program(rt: HostRuntime) -> Result<(), Fail
     Ok(())
 }
 
-/// Returns the subcommand of a task, and its texts.
+/// Returns the text at this place, empty where there is none.
+fn text_at(texts: &[String], place: usize) -> &str {
+    match texts.get(place) {
+        Some(text) => text.as_str(),
+        None => "",
+    }
+}
+
+/// Returns the subcommand of a task, and its texts, the first two where there are more.
 fn texts(task: &Task) -> (&str, &str, &str) {
     match task {
         Task::Bare { maxp, .. } => ("bare", maxp.as_str(), ""),
         Task::Verdict { font } => ("verdict", font.as_str(), ""),
+        Task::Scan { fonts } => ("scan", text_at(fonts, 0), text_at(fonts, 1)),
+        Task::Explain { font, program, .. } => ("explain", font.as_str(), program.as_str()),
         Task::Find { font, certificate } => ("find", font.as_str(), certificate.as_str()),
         Task::Check { font, certificate } => ("check", font.as_str(), certificate.as_str()),
         Task::List { font, program } => ("list", font.as_str(), program.as_str()),
@@ -61,8 +71,21 @@ fn asks<'a>(alloc: Global, words: &'a [&'a str], want: (&str, &str, &str)) -> bo
 }
 
 /// Words that the command line takes, and the texts of the task.
-const TAKEN: [(&[&str], (&str, &str, &str)); 7] = [
+const TAKEN: [(&[&str], (&str, &str, &str)); 11] = [
     (&["hintcheck", "verdict", "a.ttf"], ("verdict", "a.ttf", "")),
+    (&["hintcheck", "scan", "a.ttf"], ("scan", "a.ttf", "")),
+    (
+        &["hintcheck", "scan", "a.ttf", "b.ttf", "c.ttf"],
+        ("scan", "a.ttf", "b.ttf"),
+    ),
+    (
+        &["hintcheck", "explain", "a.ttf", "g7"],
+        ("explain", "a.ttf", "g7"),
+    ),
+    (
+        &["hintcheck", "explain", "a.ttf", "f", "12"],
+        ("explain", "a.ttf", "f"),
+    ),
     (
         &["hintcheck", "find", "a.ttf", "b.cert"],
         ("find", "a.ttf", "b.cert"),
@@ -90,6 +113,35 @@ fn reads_words_of_texts(rt: HostRuntime) {
     }
 }
 
+/// Whether words ask for the scan of so many fonts, or for the explanation of this place.
+fn asks_further<'a>(alloc: Global, words: &'a [&'a str], fonts: usize, place: Option<u32>) -> bool {
+    match read_words(alloc, words) {
+        Ok(Task::Scan { fonts: names }) => names.len() == fonts,
+        Ok(Task::Explain { offset, .. }) => offset == place,
+        _ => false,
+    }
+}
+
+/// Words of `scan` and `explain`, how many fonts they name, and the place.
+const FURTHER: [(&[&str], usize, Option<u32>); 4] = [
+    (&["hintcheck", "scan", "a.ttf"], 1, None),
+    (&["hintcheck", "scan", "a", "b", "c", "a"], 4, None),
+    (&["hintcheck", "explain", "a.ttf", "g7"], 1, None),
+    (
+        &["hintcheck", "explain", "a.ttf", "g7", "4294967295"],
+        1,
+        Some(4_294_967_295),
+    ),
+];
+
+#[test]
+fn reads_words_of_scans_and_explanations(rt: HostRuntime) {
+    for (words, fonts, place) in FURTHER {
+        let is_so = asks_further(rt.alloc(), words, fonts, place);
+        assert!(rt; is_so, "of {words:?}");
+    }
+}
+
 /// Returns the kind of clap's error, where the words aren't those of a command line.
 fn refusal<'a>(alloc: Global, words: &'a [&'a str]) -> Option<ErrorKind> {
     match read_words(alloc, words) {
@@ -100,7 +152,20 @@ fn refusal<'a>(alloc: Global, words: &'a [&'a str]) -> Option<ErrorKind> {
 }
 
 /// Words that aren't those of a command line, and the kind of the error.
-const REFUSED: [(&[&str], ErrorKind); 15] = [
+const REFUSED: [(&[&str], ErrorKind); 19] = [
+    (&["hintcheck", "scan"], ErrorKind::MissingRequiredArgument),
+    (
+        &["hintcheck", "explain", "a"],
+        ErrorKind::MissingRequiredArgument,
+    ),
+    (
+        &["hintcheck", "explain", "a", "g0", "4294967296"],
+        ErrorKind::ValueValidation,
+    ),
+    (
+        &["hintcheck", "explain", "a", "g0", "0", "0"],
+        ErrorKind::UnknownArgument,
+    ),
     (
         &["hintcheck", "bare", "00", "1", "2"],
         ErrorKind::MissingRequiredArgument,
@@ -174,4 +239,10 @@ fn shows_help(rt: HostRuntime) {
         let kind = refusal(rt.alloc(), words);
         assert_eq!(rt; kind, Some(ErrorKind::DisplayHelp), "of {words:?}");
     }
+}
+
+#[test]
+fn shows_the_version(rt: HostRuntime) {
+    let kind = refusal(rt.alloc(), &["hintcheck", "--version"]);
+    assert_eq!(rt; kind, Some(ErrorKind::DisplayVersion));
 }

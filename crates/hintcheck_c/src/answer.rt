@@ -1,0 +1,108 @@
+//! What a call answers, in numbers.
+
+ghost use Rattle.std.specs.Prelude.{◌≡◌, ◌≢◌, ◌≤◌, ◌⊎◌, [], length};
+
+use crate::refusal::{HintcheckRefusal, list_refused};
+use hintcheck::{CheckFontFault, FontFault, Verdict};
+
+/// The status where every program is accepted.
+const ACCEPTED: u32 = 0;
+
+/// The status where a program is refused.
+const REFUSED: u32 = 1;
+
+/// The status where there is no answer: no font that can be read, or no certificate for it.
+const FAULT: u32 = 2;
+
+/// The status where there is no answer since memory ran out.
+const OUT_OF_MEMORY: u32 = 3;
+
+/// The number of the fault that memory ran out.
+const MEMORY_FAULT: u32 = 9;
+
+/// The number of the fault of a certificate's form.
+const FORM_FAULT: u32 = 43;
+
+/// The number of the fault that a certificate can't be read.
+const READ_FAULT: u32 = 44;
+
+/// What a call answers.
+#[repr(C)]
+#[derive(Clone, Copy)]
+pub struct HintcheckAnswer {
+    /// 0 accepted, 1 refused, 2 a fault, 3 out of memory.
+    pub status: u32,
+    /// The number of the fault: 1 to 8 of the font, 43 of the certificate, 9 out of memory; 0 where
+    /// there is a verdict.
+    pub fault: u32,
+    /// Where the certificate is at fault, in bytes; 0 at any other fault.
+    pub place: u64,
+    /// How many programs there are; 0 at a fault.
+    pub programs: u32,
+    /// How many of them are refused.
+    pub refused: u32,
+    /// How many refusals are listed.
+    pub listed: usize,
+}
+
+/// Returns the answer that a fault is.
+fn fault_answer(status: u32, fault: u32, place: u64) -> HintcheckAnswer
+    ensures status { result.status ≡ status }
+    ensures none { result.listed ≡ 0 }
+{
+    HintcheckAnswer {
+        status,
+        fault,
+        place,
+        programs: 0,
+        refused: 0,
+        listed: 0,
+    }
+}
+
+/// Returns the answer that a verdict is, and lists its first refusals.
+pub(crate) fn answer_verdict(
+    verdict: &Verdict,
+    refusals: &mut [HintcheckRefusal],
+) -> HintcheckAnswer
+    ensures accepted { result.status ≡ 0 → verdict.now.refused ≡ [] }
+    ensures refused { result.status ≡ 1 → verdict.now.refused ≢ [] }
+    ensures status { result.status ≤ 1 }
+    ensures room { length refusals.new ≡ length refusals.old }
+    ensures listed { result.listed ≤ length refusals.old }
+{
+    let refused = verdict.refused();
+    let listed = list_refused(refused, refusals);
+    HintcheckAnswer {
+        status: if verdict.accepted() { ACCEPTED } else { REFUSED },
+        fault: 0,
+        place: 0,
+        programs: verdict.programs(),
+        refused: u32::try_from(refused.len()).unwrap_or(u32::MAX),
+        listed,
+    }
+}
+
+/// Returns the answer that a fault of a font is.
+pub(crate) fn fault_of_font(fault: &FontFault) -> HintcheckAnswer
+    ensures status { (result.status ≡ 2) ⊎ (result.status ≡ 3) }
+    ensures none { result.listed ≡ 0 }
+{
+    match fault {
+        FontFault::OutOfMemory(_) => fault_answer(OUT_OF_MEMORY, MEMORY_FAULT, 0),
+        fault => fault_answer(FAULT, u32::from(fault.number()), 0),
+    }
+}
+
+/// Returns the answer that a fault of a check is.
+pub(crate) fn fault_of_check(fault: &CheckFontFault) -> HintcheckAnswer
+    ensures status { (result.status ≡ 2) ⊎ (result.status ≡ 3) }
+    ensures none { result.listed ≡ 0 }
+{
+    match fault {
+        CheckFontFault::Font(fault) => fault_of_font(fault),
+        CheckFontFault::Form(place) => fault_answer(FAULT, FORM_FAULT, *place),
+        CheckFontFault::Read => fault_answer(FAULT, READ_FAULT, 0),
+        CheckFontFault::OutOfMemory(_) => fault_answer(OUT_OF_MEMORY, MEMORY_FAULT, 0),
+    }
+}

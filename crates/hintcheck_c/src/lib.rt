@@ -1,0 +1,99 @@
+//! hintcheck as a static library for C and C++. `include/hintcheck.h` declares its functions and
+//! says for each what it takes and answers.
+#![tactic(auto)]
+
+ghost use Rattle.std.specs.Prelude.{◌≡◌, ◌≢◌, ◌+◌, ◌<◌, ◌≤◌, [], IfOk, length};
+ghost use Rattle.hintcheck.specs.FontPrograms.{IsSafeFont};
+ghost use Rattle.hintcheck.specs.MeansSafe.{HoldRefusedFont, HoldSafeFont};
+ghost use Rattle.tt_font.specs.Reading.{FontData, Reads};
+
+mod answer;
+mod refusal;
+
+use answer::{answer_verdict, fault_of_check, fault_of_font};
+pub use answer::HintcheckAnswer;
+pub use refusal::HintcheckRefusal;
+use hintcheck::{CheckFontFault, Verdict, check_font, verdict};
+use std::alloc::Global;
+use std::marker::Brand;
+use std::sync::ledger::{Blank, Ledger};
+use tt_stream::{Buffered, Counted};
+
+/// The version, a byte each for its three numbers.
+const VERSION: u32 = 0x0000_0900;
+
+/// Returns the version: 0.9.0 is 0x000900.
+#[unsafe(no_mangle)]
+pub extern "C" fn hintcheck_version() -> u32
+    ensures { result ≡ 2304 }
+{
+    VERSION
+}
+
+/// Answers the verdict on the programs of the font in these bytes, and returns its status. The
+/// first refusals are listed, as many as there is room for.
+#[unsafe(no_mangle)]
+pub extern "C" fn hintcheck_verdict_of_bytes(
+    alloc: Global,
+    font: &[u8],
+    refusals: &mut [HintcheckRefusal],
+    answer: &mut HintcheckAnswer,
+) -> u32
+    // Where the status is 0, the bytes hold a font, and no run of any of its programs reaches a
+    // fault.
+    ensures accepted { result ≡ 0 → HoldSafeFont font.now }
+    ensures refused { result ≡ 1 → HoldRefusedFont font.now }
+    ensures status { result ≤ 3 }
+    ensures told { answer.new.status ≡ result }
+    ensures room { length refusals.new ≡ length refusals.old }
+    ensures listed { answer.new.listed ≤ length refusals.old }
+{
+    *answer = match verdict(alloc, font) {
+        Ok(verdict) => answer_verdict(&verdict, refusals),
+        Err(fault) => fault_of_font(&fault),
+    };
+    answer.status
+}
+
+/// Returns the verdict on the programs of a font by the certificate in these bytes.
+fn check_bytes<L: Ledger>(
+    alloc: Global,
+    font: &[u8],
+    certificate: &[u8],
+    blank: Blank,
+) -> Result<Verdict, CheckFontFault>
+    requires { (blank.name ≡ L.name) × (blank.parts ≡ L.parts) × (0 < blank.parts) }
+    ensures safe { IfOk result (λ v. (d : FontData) × Reads font.now d
+        × (v.refused ≡ [] → IsSafeFont d)) }
+{
+    let source = Counted::<&[u8], L>::new(certificate, blank);
+    match Buffered::new(alloc, source) {
+        Ok(mut source) => check_font(alloc, font, &mut source),
+        Err(error) => Err(CheckFontFault::OutOfMemory(error)),
+    }
+}
+
+/// Answers the verdict on the programs of the font in these bytes by the certificate in the others,
+/// and returns its status. The first refusals are listed, as many as there is room for.
+#[unsafe(no_mangle)]
+pub extern "C" fn hintcheck_check_of_bytes(
+    alloc: Global,
+    font: &[u8],
+    certificate: &[u8],
+    refusals: &mut [HintcheckRefusal],
+    answer: &mut HintcheckAnswer,
+) -> u32
+    // Where the status is 0, the bytes hold a font, and no run of any of its programs reaches a
+    // fault, whoever made the certificate.
+    ensures accepted { result ≡ 0 → HoldSafeFont font.now }
+    ensures status { result ≤ 3 }
+    ensures told { answer.new.status ≡ result }
+    ensures room { length refusals.new ≡ length refusals.old }
+    ensures listed { answer.new.listed ≤ length refusals.old }
+{
+    *answer = match check_bytes::<Brand>(alloc, font, certificate, Blank::new(1)) {
+        Ok(verdict) => answer_verdict(&verdict, refusals),
+        Err(fault) => fault_of_check(&fault),
+    };
+    answer.status
+}

@@ -1,0 +1,153 @@
+//! One way from a program's start to a point.
+
+use crate::arrivals::{Edge, START};
+use crate::subject::Subject;
+use std::alloc::{AllocError, Global};
+use std::collections::BTreeMap;
+use std::fmt;
+use tt_cert::PointKey;
+
+/// How many turns of a way are printed.
+const SHOWN_TURNS: usize = 12;
+
+/// Returns the index of the first way that leads from a point, or from one after it: the ways
+/// ascend by the points from which they lead.
+fn first_from(edges: &[Edge], point: PointKey) -> usize {
+    let mut low: usize = 0;
+    let mut high = edges.len();
+    for _ in 0..64 {
+        if low >= high {
+            break;
+        }
+        let middle = low + (high - low) / 2;
+        match edges.get(middle) {
+            Some(edge) if edge.from < point => low = middle + 1,
+            _ => high = middle,
+        }
+    }
+    low
+}
+
+/// Notes each point to which a way leads from this one, with this one, if it is new.
+fn reach(
+    reached: &mut BTreeMap<PointKey, PointKey>,
+    queue: &mut Vec<PointKey>,
+    edges: &[Edge],
+    point: PointKey,
+) -> Result<(), AllocError> {
+    let first = first_from(edges, point);
+    for more in 0..2 {
+        let Some(edge) = edges.get(first.saturating_add(more)) else {
+            break;
+        };
+        if edge.from == point && edge.to != START && reached.get(&edge.to).is_none() {
+            reached.insert(edge.to, point)?;
+            queue.push(edge.to)?;
+        }
+    }
+    Ok(())
+}
+
+/// Returns the points that can be reached, each with the one just before it on a shortest way.
+fn reached_points(
+    alloc: Global,
+    edges: &[Edge],
+) -> Result<BTreeMap<PointKey, PointKey>, AllocError> {
+    let mut reached = BTreeMap::new(alloc);
+    let mut queue = Vec::new(alloc);
+    queue.push(START)?;
+    for index in 0..edges.len().saturating_add(1) {
+        let Some(point) = queue.get(index) else {
+            break;
+        };
+        let point = *point;
+        reach(&mut reached, &mut queue, edges, point)?;
+    }
+    Ok(reached)
+}
+
+/// A step of a way.
+#[derive(Clone, Copy)]
+pub(crate) struct Turn {
+    from: PointKey,
+    to: PointKey,
+}
+
+/// Whether a step does more than to go on to the next instruction, or might have led elsewhere.
+fn is_turn(subject: &Subject<'_>, edges: &[Edge], turn: Turn) -> bool {
+    let Some(instruction) = subject.instruction_at(turn.from) else {
+        return true;
+    };
+    let next = turn.from.1.saturating_add(instruction.len());
+    if turn.from.0 != turn.to.0 || turn.to.1 != next {
+        return true;
+    }
+    let second = first_from(edges, turn.from).saturating_add(1);
+    match edges.get(second) {
+        Some(edge) => edge.from == turn.from,
+        None => false,
+    }
+}
+
+/// Returns the turns of one way from the program's start to a point.
+///
+/// # Errors
+/// If memory runs out.
+pub(crate) fn turns_to(
+    alloc: Global,
+    subject: &Subject<'_>,
+    edges: &[Edge],
+    point: PointKey,
+) -> Result<Vec<Turn>, AllocError> {
+    let reached = reached_points(alloc, edges)?;
+    let mut turns = Vec::new(alloc);
+    let mut to = point;
+    for _ in 0..edges.len() {
+        let Some(from) = reached.get(&to) else {
+            break;
+        };
+        let turn = Turn { from: *from, to };
+        if is_turn(subject, edges, turn) {
+            turns.push(turn)?;
+        }
+        to = *from;
+    }
+    turns.reverse();
+    Ok(turns)
+}
+
+/// One way to a place, by its turns.
+#[derive(Clone, Copy)]
+pub(crate) struct Route<'a, 'b> {
+    pub subject: &'a Subject<'b>,
+    /// The turns, the first one first.
+    pub turns: &'a [Turn],
+    pub point: PointKey,
+}
+
+impl fmt::Display for Route<'_, '_> {
+    fn fmt<W: fmt::Write>(&self, f: &mut fmt::Formatter<W>) -> fmt::Result {
+        let place = self.subject.place(self.point);
+        if self.turns.is_empty() {
+            return write!(
+                f,
+                "From its start the program goes on to {place} without a turn."
+            );
+        }
+        write!(f, "One way from the program's start to {place} turns so:")?;
+        let before = self.turns.len().saturating_sub(SHOWN_TURNS);
+        if before > 0 {
+            write!(f, "\n    {before} turns before")?;
+        }
+        for index in 0..SHOWN_TURNS {
+            let Some(turn) = self.turns.get(before.saturating_add(index)) else {
+                break;
+            };
+            let from = self.subject.place(turn.from);
+            let name = self.subject.name_at(turn.from);
+            let to = self.subject.place(turn.to);
+            write!(f, "\n    {from} {name} leads to {to}")?;
+        }
+        Ok(())
+    }
+}

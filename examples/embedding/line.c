@@ -1,0 +1,153 @@
+/* Draws a line of text to a PGM file by FreeType, with the font's hints only where hintcheck accepts them.
+ * Usage: line FONT TEXT OUTPUT.pgm [CERT]
+ * With CERT, a certificate that `hintcheck find FONT CERT` has written, the font is checked by it. */
+#include <hintcheck.h>
+#include <stdio.h>
+#include <stdlib.h>
+#include <string.h>
+
+#include <ft2build.h>
+#include FT_FREETYPE_H
+
+enum { SIZE = 24, WIDTH = 480, HEIGHT = 40, BASELINE = 30, LISTED = 3 };
+
+static unsigned char image[HEIGHT][WIDTH];
+
+/* The bytes of a file, or null. */
+static unsigned char *read_file(const char *name, size_t *length)
+{
+    FILE *file = fopen(name, "rb");
+    if (!file) {
+        return NULL;
+    }
+    unsigned char *bytes = NULL;
+    long size;
+    if (fseek(file, 0, SEEK_END) == 0 && (size = ftell(file)) >= 0 && fseek(file, 0, SEEK_SET) == 0) {
+        bytes = malloc((size_t)size + 1);
+        if (bytes) {
+            *length = fread(bytes, 1, (size_t)size, file);
+        }
+    }
+    fclose(file);
+    return bytes;
+}
+
+/* A program's name, as hintcheck prints it. */
+static const char *name_of(uint32_t program, char *room, size_t size)
+{
+    if (program == HINTCHECK_FONT_PROGRAM) {
+        return "f";
+    }
+    if (program == HINTCHECK_CVT_PROGRAM) {
+        return "p";
+    }
+    snprintf(room, size, "g%u", (unsigned)program);
+    return room;
+}
+
+/* Asks hintcheck, says what it answers, and returns how FreeType is to load glyphs. */
+static int load_flags(const unsigned char *font, size_t length, const char *certificate_name)
+{
+    hintcheck_refusal refusals[LISTED];
+    hintcheck_answer answer;
+    uint32_t status;
+    if (certificate_name) {
+        size_t size = 0;
+        unsigned char *certificate = read_file(certificate_name, &size);
+        status = hintcheck_check(font, length, certificate, certificate ? size : 0, refusals, LISTED, &answer);
+        free(certificate);
+    } else {
+        status = hintcheck_verdict(font, length, refusals, LISTED, &answer);
+    }
+    switch (status) {
+    case HINTCHECK_ACCEPTED:
+        printf("accepted: %u programs, hinted\n", (unsigned)answer.programs);
+        return FT_LOAD_DEFAULT;
+    case HINTCHECK_REFUSED:
+        for (size_t i = 0; i < answer.listed; i++) {
+            char program[16], place[16];
+            printf("refused %s at %s:%u: %u, class %u\n", name_of(refusals[i].program, program, sizeof program),
+                   name_of(refusals[i].place, place, sizeof place), (unsigned)refusals[i].offset, (unsigned)refusals[i].reason,
+                   (unsigned)refusals[i].reason_class);
+        }
+        printf("refused: %u of %u programs, not hinted\n", (unsigned)answer.refused, (unsigned)answer.programs);
+        return FT_LOAD_NO_HINTING;
+    default:
+        printf("status %u, fault %u, not hinted\n", (unsigned)status, (unsigned)answer.fault);
+        return FT_LOAD_NO_HINTING;
+    }
+}
+
+/* Adds a glyph's bitmap to the image. */
+static void draw(const FT_Bitmap *bitmap, int left, int top)
+{
+    for (unsigned y = 0; y < bitmap->rows; y++) {
+        for (unsigned x = 0; x < bitmap->width; x++) {
+            int row = top + (int)y, column = left + (int)x;
+            if (row >= 0 && row < HEIGHT && column >= 0 && column < WIDTH) {
+                image[row][column] |= bitmap->buffer[(int)y * bitmap->pitch + (int)x];
+            }
+        }
+    }
+}
+
+/* Draws the text, and returns how many glyphs were drawn. */
+static int draw_text(FT_Face face, const char *text, int flags)
+{
+    int drawn = 0, at = 4;
+    for (const char *c = text; *c; c++) {
+        if (FT_Load_Char(face, (unsigned char)*c, flags | FT_LOAD_RENDER) == 0) {
+            draw(&face->glyph->bitmap, at + face->glyph->bitmap_left, BASELINE - face->glyph->bitmap_top);
+            at += (int)(face->glyph->advance.x >> 6);
+            drawn++;
+        }
+    }
+    return drawn;
+}
+
+/* Writes the image, black on white, and returns 0 where that worked. */
+static int write_image(const char *name)
+{
+    FILE *file = fopen(name, "wb");
+    if (!file) {
+        return 1;
+    }
+    fprintf(file, "P5\n%d %d\n255\n", WIDTH, HEIGHT);
+    for (int y = 0; y < HEIGHT; y++) {
+        for (int x = 0; x < WIDTH; x++) {
+            fputc(255 - image[y][x], file);
+        }
+    }
+    return fclose(file) == 0 ? 0 : 1;
+}
+
+int main(int argc, char **argv)
+{
+    if (argc < 4) {
+        fprintf(stderr, "usage: line FONT TEXT OUTPUT.pgm [CERT]\n");
+        return 2;
+    }
+    size_t length = 0;
+    unsigned char *font = read_file(argv[1], &length);
+    if (!font) {
+        fprintf(stderr, "line: %s can't be read\n", argv[1]);
+        return 2;
+    }
+    int flags = load_flags(font, length, argc > 4 ? argv[4] : NULL);
+    FT_Library library;
+    FT_Face face;
+    int status = 1;
+    if (FT_Init_FreeType(&library) == 0) {
+        if (FT_New_Memory_Face(library, font, (FT_Long)length, 0, &face) == 0) {
+            FT_Set_Pixel_Sizes(face, 0, SIZE);
+            printf("%d glyphs drawn\n", draw_text(face, argv[2], flags));
+            status = write_image(argv[3]);
+            FT_Done_Face(face);
+        } else {
+            printf("no face\n");
+        }
+        FT_Done_FreeType(library);
+    }
+    free(font);
+    return status;
+}

@@ -1,0 +1,125 @@
+/* hintcheck: checks the hint programs of TrueType fonts before an interpreter runs them.
+ *
+ * A font is handed in as bytes, and the answer says whether its font program ('fpgm'), its CVT program ('prep') and each of its glyph
+ * programs keep to the limits that its 'maxp' table declares. Where the status is HINTCHECK_ACCEPTED, no run of any of these programs
+ * reaches a fault of the hint machine: no stack underflow, no stack above maxStackElements, no CVT, storage, function, zone, contour or
+ * point number out of range, and no step outside the program's bytes. That is proved, for every font and every certificate
+ * (crates/hintcheck_c/src/lib.rt, the clauses `accepted`). What is told beside the status is tested, not proved.
+ *
+ * Units: lengths, offsets and places are in bytes. Ownership: everything that is handed in stays the caller's, is only read (but for
+ * `refusals` and `answer`, which are written), and isn't kept: there is no state between calls. Memory is taken with malloc while a
+ * call runs, and given back before it returns. Threads: calls may run at once in several threads, each with its own `refusals` and
+ * `answer`; not from a signal handler, and not in the forked child of a process with threads. Time isn't bounded but by the font's own
+ * limits: docs/EMBEDDING.md says what to do about it.
+ */
+#ifndef HINTCHECK_H
+#define HINTCHECK_H
+
+#include <stddef.h>
+#include <stdint.h>
+
+#ifdef __cplusplus
+extern "C" {
+#endif
+
+/* The version of this header. */
+#define HINTCHECK_VERSION 0x000900
+#define HINTCHECK_VERSION_TEXT "0.9.0"
+
+/* What a call returns, and answer->status says again. */
+enum hintcheck_status {
+    HINTCHECK_ACCEPTED = 0,      /* every program keeps to the limits: its hints may be run */
+    HINTCHECK_REFUSED = 1,       /* a program is refused: answer->refused says how many */
+    HINTCHECK_FAULT = 2,         /* there is no verdict: no font that can be read (answer->fault is 1 to 8), or no certificate for it (43) */
+    HINTCHECK_OUT_OF_MEMORY = 3, /* there is no verdict: memory ran out (answer->fault is 9) */
+    HINTCHECK_USAGE = 4          /* there is no verdict: a null pointer was handed in with a length that isn't 0, or no answer */
+};
+
+/* What a reason tells. */
+enum hintcheck_reason_class {
+    HINTCHECK_POSSIBLE_FAULT = 0, /* what is known at the place doesn't rule the fault out */
+    HINTCHECK_UNDECIDED = 1,      /* no fault is shown: the analysis can't tell */
+    HINTCHECK_LEFT_OUT = 2,       /* the program does what hintcheck doesn't follow */
+    HINTCHECK_CERTIFICATE = 3     /* the certificate doesn't fit the program */
+};
+
+/* The numbers of the two programs that no glyph has. */
+#define HINTCHECK_FONT_PROGRAM 65536u
+#define HINTCHECK_CVT_PROGRAM 65537u
+
+/* A refused program, with where and why. */
+typedef struct hintcheck_refusal {
+    uint32_t program;      /* which program: a glyph's number, or HINTCHECK_FONT_PROGRAM, or HINTCHECK_CVT_PROGRAM */
+    uint32_t place;        /* the program in which the place is: for a function's instruction the one that defines the function */
+    uint32_t offset;       /* the place's offset there */
+    uint32_t reason;       /* the reason's number, 20 to 42; README.md lists them */
+    uint32_t reason_class; /* an enum hintcheck_reason_class */
+} hintcheck_refusal;
+
+/* What a call answers. */
+typedef struct hintcheck_answer {
+    uint32_t status;   /* an enum hintcheck_status */
+    uint32_t fault;    /* the fault's number, as README.md lists them; 0 where there is a verdict */
+    uint64_t place;    /* at fault 43, the first byte of the certificate that is wrong; otherwise 0 */
+    uint32_t programs; /* how many programs the font has: its glyphs and 2; 0 where there is no verdict */
+    uint32_t refused;  /* how many of them are refused */
+    size_t listed;     /* how many of these were written to `refusals`: the first ones, as many as there was room for */
+} hintcheck_answer;
+
+/* The version of the library: a byte each for its three numbers, as HINTCHECK_VERSION. */
+uint32_t hintcheck_version(void);
+
+/* The library's own functions, which take no null pointer, also where a length is 0. Use the two below, which do. */
+uint32_t hintcheck_verdict_of_bytes(const uint8_t *font, size_t font_length, hintcheck_refusal *refusals, size_t room, hintcheck_answer *answer);
+uint32_t hintcheck_check_of_bytes(const uint8_t *font, size_t font_length, const uint8_t *certificate, size_t certificate_length,
+                                  hintcheck_refusal *refusals, size_t room, hintcheck_answer *answer);
+
+/* Answers that the pointers can't be taken. */
+static inline uint32_t hintcheck_usage(hintcheck_answer *answer)
+{
+    if (answer) {
+        answer->status = HINTCHECK_USAGE;
+        answer->fault = 0;
+        answer->place = 0;
+        answer->programs = 0;
+        answer->refused = 0;
+        answer->listed = 0;
+    }
+    return HINTCHECK_USAGE;
+}
+
+/* Checks the programs of the font in `font_length` bytes at `font`, and returns the status. The first refusals, at most `room`, are
+ * written to `refusals`; what was there after them stays. A null pointer with a length of 0 is no bytes, or no room.
+ * Statuses: each of enum hintcheck_status. A length above 2^31 is taken like any other. */
+static inline uint32_t hintcheck_verdict(const uint8_t *font, size_t font_length, hintcheck_refusal *refusals, size_t room,
+                                         hintcheck_answer *answer)
+{
+    static const uint8_t no_bytes[1] = {0};
+    hintcheck_refusal no_room;
+    if (!answer || (!font && font_length) || (!refusals && room)) {
+        return hintcheck_usage(answer);
+    }
+    return hintcheck_verdict_of_bytes(font ? font : no_bytes, font_length, refusals ? refusals : &no_room, room, answer);
+}
+
+/* Checks the programs of the font in `font_length` bytes at `font` by the certificate in `certificate_length` bytes at `certificate`,
+ * as `hintcheck find` writes it, and returns the status. Nothing is asked of the certificate or of who made it: an acceptance means the
+ * same as that of hintcheck_verdict. A certificate of another font is answered by HINTCHECK_FAULT (43) or by HINTCHECK_REFUSED (41, 42
+ * among the reasons). All else is as for hintcheck_verdict. */
+static inline uint32_t hintcheck_check(const uint8_t *font, size_t font_length, const uint8_t *certificate, size_t certificate_length,
+                                       hintcheck_refusal *refusals, size_t room, hintcheck_answer *answer)
+{
+    static const uint8_t no_bytes[1] = {0};
+    hintcheck_refusal no_room;
+    if (!answer || (!font && font_length) || (!certificate && certificate_length) || (!refusals && room)) {
+        return hintcheck_usage(answer);
+    }
+    return hintcheck_check_of_bytes(font ? font : no_bytes, font_length, certificate ? certificate : no_bytes, certificate_length,
+                                    refusals ? refusals : &no_room, room, answer);
+}
+
+#ifdef __cplusplus
+}
+#endif
+
+#endif
