@@ -26,7 +26,7 @@ FIXTURES = "hintcheck_test_fixtures"
 TEST_CRATES = ("tt_tests", "hintcheck_tests")
 
 OWNER = re.compile(r"^(?:pub )?(impl|trait)\b([^{]*)\{", re.M)
-FUNCTION = re.compile(r"^ *(pub(?:\(\w+\))? )?(?:final )?fn (\w+)", re.M)
+FUNCTION = re.compile(r'^ *(pub(?:\(\w+\))? )?(?:final )?(?:extern "C" )?fn (\w+)', re.M)
 CLAUSE = re.compile(r"\b(requires|ensures)\b\s*(\w*)\s*\{|[;{]")
 GHOST = re.compile(r"ghost (laws|output|from_gives|decides) ?[=:] ?\{")
 IMPORT = re.compile(r"ghost use Rattle\.(\w+)\.specs\.((?:Representation\.)?\w+)\.\{([^}]*)\};")
@@ -75,7 +75,7 @@ def public_names(crate: pathlib.Path) -> set[str]:
         names |= {word.split(" as ")[0].strip() for word in group.split(",")} if group else {path.split("::")[-1]}
     for module in ["lib"] + re.findall(r"^pub mod (\w+);", root, re.M):
         text = without_comments((crate / f"src/{module}.rt").read_text())
-        names |= set(re.findall(r"^pub (?:struct|enum|trait|fn) (\w+)", text, re.M))
+        names |= set(re.findall(r'^pub (?:struct|enum|trait|(?:extern "C" )?fn) (\w+)', text, re.M))
     return names
 
 

@@ -25,3 +25,5 @@ pub mod FindingSteps
 pub mod SecondFindings
 pub mod FailedReads
 pub mod UpgradeReads
+pub mod ScanLemmas
+pub mod ExplanationLemmas

@@ -1,7 +1,7 @@
 -- What is printed by parts of a command is what is printed for the request.
 use Rattle.std.proofs.Common.{◌≡◌, ◌≢◌, ℕ, List, [], Option, IfOk, OnOk, Result, Ok, Err}
 use Rattle.std.specs.Io.KnownBytes.{Appends}
-use Rattle.hintcheck_words.specs.Requests.{Request, bare, check, find, list, upgrade, verdict}
+use Rattle.hintcheck_words.specs.Requests.{Request, bare, check, explain, find, list, scan, upgrade, verdict}
 use Rattle.hintcheck.specs.Commands.{IsForVerdict}
 use Rattle.hintcheck.specs.Listing.{HoldListedProgram, HoldToldProgram}
 use Rattle.hintcheck.specs.MeansSafe.{IsVerdictAsked}
@@ -26,6 +26,8 @@ prints_listing (Err e) bytes word old new listed told = tt
 pub prints_for_verdict : (q : Request) (status : ℕ) (old new : Option (List ℕ)) → IsForVerdict q → PrintsVerdict q status old new → Prints q status old new
 prints_for_verdict (bare maxp cvt points contours program) status old new for_verdict printed = printed
 prints_for_verdict (verdict font) status old new for_verdict printed = printed
+prints_for_verdict (scan fonts) status old new for_verdict printed = absurd for_verdict
+prints_for_verdict (explain font program offset) status old new for_verdict printed = absurd for_verdict
 prints_for_verdict (find font certificate) status old new for_verdict printed = printed
 prints_for_verdict (check font certificate) status old new for_verdict printed = printed
 prints_for_verdict (list font program) status old new for_verdict printed = absurd for_verdict

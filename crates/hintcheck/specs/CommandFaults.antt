@@ -6,7 +6,7 @@ use Rattle.tt_font.specs.FileFaults.{font_fault}
 use Rattle.tt_font.specs.declared.fault.FontFault.{FontFault}
 use Rattle.tt_font.specs.declared.fault.FontFault.TheVariants.{OutOfMemory}
 use Rattle.hintcheck_words.specs.HexWords.{IsHexWord, Spells}
-use Rattle.hintcheck_words.specs.Requests.{Request, bare, check, find, is_taken, list, meaning, upgrade, verdict}
+use Rattle.hintcheck_words.specs.Requests.{Request, bare, check, explain, find, is_taken, list, meaning, scan, upgrade, verdict}
 use Rattle.hintcheck.specs.Commands.{ReadsToEnd, status_of}
 use Rattle.hintcheck.specs.BarePrograms.{IsMemory}
 use Rattle.hintcheck.specs.Listing.{HoldNoSuchProgram}
@@ -69,6 +69,15 @@ IsFaultOfFontFile fault.Read = Unit {0}
 IsFaultOfFontFile fault.OutOfMemory = Unit {0}
 IsFaultOfFontFile other = ⊥
 
+-- Why a scan has a fault: one of the font files has it, as its line tells. It is the one of the
+-- greatest status.
+abbrev pub IsFaultOfScan : CommandFault → Type 0
+IsFaultOfScan fault.ScanFault =
+    (reported : CommandFault) × IsFaultOfFontFile reported × (status_of reported ≡ 2)
+IsFaultOfScan fault.ScanOutOfMemory =
+    (reported : CommandFault) × IsFaultOfFontFile reported × (status_of reported ≡ 3)
+IsFaultOfScan other = ⊥
+
 -- why the bytes of a file aren't read
 abbrev pub IsFaultOfReading : CommandFault → Type 0
 IsFaultOfReading fault.Read = Unit {0}
@@ -127,11 +136,31 @@ abbrev pub IsFaultOfFileListing : List ℕ → CommandFault → Type 0
 IsFaultOfFileListing word reported =
     IsFaultOfReading reported ⊎ ((bytes : List ℕ) × IsFaultOfListing bytes word reported)
 
+-- Why the program with this name of the font in these bytes isn't explained. Whether an instruction
+-- begins at the offset is left unspecified.
+abbrev pub IsFaultOfExplaining : List ℕ → List ℕ → CommandFault → Type 0
+IsFaultOfExplaining bytes word (fault.Font numbered) = IsFaultOfFont bytes numbered.0
+IsFaultOfExplaining bytes word fault.ProgramWord = HoldNoSuchProgram bytes word
+IsFaultOfExplaining bytes word fault.OffsetWord = Unit {0}
+IsFaultOfExplaining bytes word other = IsFaultOfLines other
+
+-- why the program with this name of a font file isn't explained
+abbrev pub IsFaultOfFileExplaining : List ℕ → CommandFault → Type 0
+IsFaultOfFileExplaining word reported =
+    IsFaultOfReading reported ⊎ ((bytes : List ℕ) × IsFaultOfExplaining bytes word reported)
+
+-- why the text of a program isn't printed
+abbrev pub IsFaultOfText : CommandFault → Type 0
+IsFaultOfText fault.OffsetWord = Unit {0}
+IsFaultOfText other = IsFaultOfLines other
+
 -- Why what is asked for isn't answered.
 abbrev pub IsFaultOfRequest : Request → CommandFault → Type 0
 IsFaultOfRequest (bare maxp cvt points contours program) reported =
     IsFaultOfGlyph maxp (unwrap_or program []) reported
 IsFaultOfRequest (verdict font) reported = IsFaultOfFontFile reported
+IsFaultOfRequest (scan fonts) reported = IsFaultOfScan reported
+IsFaultOfRequest (explain font program offset) reported = IsFaultOfFileExplaining program reported
 IsFaultOfRequest (find font certificate) reported = IsFaultOfFinding font certificate reported
 IsFaultOfRequest (check font certificate) reported = IsFaultOfChecking reported
 IsFaultOfRequest (list font program) reported = IsFaultOfFileListing program reported
@@ -141,6 +170,8 @@ IsFaultOfRequest (upgrade old new) reported = IsFaultOfUpgrading old new reporte
 abbrev pub HasNoFault : Request → Type 0
 HasNoFault (bare maxp cvt points contours program) = SpellNoFault maxp (unwrap_or program [])
 HasNoFault (verdict font) = Unit {0}
+HasNoFault (scan fonts) = Unit {0}
+HasNoFault (explain font program offset) = Unit {0}
 HasNoFault (find font certificate) = font ≢ certificate
 HasNoFault (check font certificate) = Unit {0}
 HasNoFault (list font program) = Unit {0}

@@ -9,11 +9,13 @@ use Rattle.hintcheck.specs.declared.certificate.FindFontFault.{FindFontFault}
 use Rattle.hintcheck.specs.declared.certificate.FindFontFault.TheVariants as find
 use Rattle.hintcheck.specs.declared.certificate_upgrade.UpgradeFault.{UpgradeFault}
 use Rattle.hintcheck.specs.declared.certificate_upgrade.UpgradeFault.TheVariants as upgrading
+use Rattle.hintcheck_explain.specs.declared.asked.ExplainFault.{ExplainFault}
+use Rattle.hintcheck_explain.specs.declared.asked.ExplainFault.TheVariants as explaining
 use Rattle.tt_stream.specs.declared.text.PrintFailed.{PrintFailed}
 use Rattle.tt_stream.specs.declared.text.PrintFailed.TheVariants as failed
 use Rattle.tt_stream.specs.declared.reads.ReadFault.{ReadFault}
 use Rattle.tt_stream.specs.declared.reads.ReadFault.TheVariants as reading
-use Rattle.hintcheck_words.specs.Requests.{Request, bare, check, find, list, upgrade, verdict}
+use Rattle.hintcheck_words.specs.Requests.{Request, bare, check, explain, find, list, scan, upgrade, verdict}
 use Rattle.hintcheck_words.specs.declared.hex_words.WordFault.{WordFault}
 use Rattle.hintcheck_words.specs.declared.hex_words.WordFault.TheVariants as words
 use Rattle.tt_font.specs.declared.fault.FontFault.{FontFault}
@@ -26,6 +28,7 @@ font_status other = 2
 -- the exit status: 3 where memory ran out, and otherwise 2
 abbrev pub status_of : CommandFault → ℕ
 status_of fault.OutOfMemory = 3
+status_of fault.ScanOutOfMemory = 3
 status_of (fault.Font numbered) = font_status numbered.0
 status_of other = 2
 
@@ -62,6 +65,12 @@ fault_of_find (find.Font font) = fault.Font (record { 0 = font })
 fault_of_find find.Write = fault.File
 fault_of_find (find.OutOfMemory error) = fault.OutOfMemory
 
+-- the fault of a program that isn't explained
+abbrev pub fault_of_explain : ExplainFault → CommandFault
+fault_of_explain (explaining.Write failed) = fault_of_print failed
+fault_of_explain explaining.NoInstruction = fault.OffsetWord
+fault_of_explain (explaining.OutOfMemory error) = fault.OutOfMemory
+
 -- the fault of a certificate that isn't upgraded
 abbrev pub fault_of_upgrade : UpgradeFault → CommandFault
 fault_of_upgrade (upgrading.Form place) = fault.Form place
@@ -94,10 +103,12 @@ ReadsToEnd old new bytes = Consumes old new bytes × IsAtEnd new
 abbrev pub HasAll : Option (List ℕ) → List ℕ → Type 0
 HasAll left bytes = IfSome left (λ known. bytes ≡ known)
 
--- a verdict is asked for, and not a listing or an upgrade
+-- one verdict is asked for, and not a scan, an explanation, a listing or an upgrade
 abbrev pub IsForVerdict : Request → Type 0
 IsForVerdict (bare maxp cvt points contours program) = Unit {0}
 IsForVerdict (verdict font) = Unit {0}
+IsForVerdict (scan fonts) = ⊥
+IsForVerdict (explain font program offset) = ⊥
 IsForVerdict (find font certificate) = Unit {0}
 IsForVerdict (check font certificate) = Unit {0}
 IsForVerdict (list font program) = ⊥

@@ -5,6 +5,7 @@ pub mod FontPrograms
 pub mod ProgramVerdicts
 pub mod BarePrograms
 pub mod Listing
+pub mod Explanations
 pub mod Commands
 pub mod MeansSafe
 pub mod Printed

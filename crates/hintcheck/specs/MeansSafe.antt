@@ -2,9 +2,12 @@
 use Rattle.std.specs.Prelude.{◌≡◌, ◌≢◌, ◌↔◌, ◌+◌, ◌≤◌, ℕ, All, List, [], Some, length, true, unwrap_or}
 use Rattle.tt_font.specs.Reading.{FontData, GlyphData, Reads}
 use Rattle.hintcheck_words.specs.HexWords.{Spells}
-use Rattle.hintcheck_words.specs.Requests.{Request, bare, check, find, is_taken, list, meaning, upgrade, verdict}
-use Rattle.hintcheck.specs.CommandFaults.{MeansNoFault, TellsFault}
+use Rattle.hintcheck_words.specs.Requests.{Request, bare, check, explain, find, is_taken, list, meaning, scan, upgrade, verdict}
+use Rattle.hintcheck.specs.CommandFaults.{IsFaultOfFontFile, MeansNoFault, TellsFault}
+use Rattle.hintcheck.specs.Commands.{status_of}
+use Rattle.hintcheck.specs.declared.commands.faults.CommandFault.{CommandFault}
 use Rattle.hintcheck.specs.BarePrograms.{bare_font, bare_subject}
+use Rattle.hintcheck.specs.Explanations.{HoldAcceptedProgram, HoldRefusedProgram}
 use Rattle.hintcheck.specs.FontPrograms.{IsSafeFont, IsSafeGlyph, IsVerdict}
 use Rattle.hintcheck.specs.Listing.{HoldUnlistedProgram}
 use Rattle.hintcheck.specs.Programs.{HasGoodFamily, IsRefusal}
@@ -37,11 +40,15 @@ pub record HoldSafeFont (bytes : List ℕ) : Type 0 where
 
 -- What is asked for is safe: the glyph program of `bare`, no digits being no bytes. For `verdict`,
 -- `find` and `check`, some bytes hold a safe font: no contract of the runtime tells which bytes a
--- file has, so that these can't be named here. A listing and an upgrade tell nothing of safety.
+-- file has, so that these can't be named here. For `scan` this holds for each of the names. For
+-- `explain`, some bytes hold a font whose program of this name is accepted. A listing and an
+-- upgrade tell nothing of safety.
 abbrev pub IsSafeRequest : Request → Type 0
 IsSafeRequest (bare maxp cvt points contours program) =
     SpellSafeGlyph maxp cvt points contours (unwrap_or program [])
 IsSafeRequest (verdict font) = (bytes : List ℕ) × HoldSafeFont bytes
+IsSafeRequest (scan fonts) = All (λ font. (bytes : List ℕ) × HoldSafeFont bytes) fonts
+IsSafeRequest (explain font program offset) = (bytes : List ℕ) × HoldAcceptedProgram bytes program
 IsSafeRequest (find font certificate) = (bytes : List ℕ) × HoldSafeFont bytes
 IsSafeRequest (check font certificate) = (bytes : List ℕ) × HoldSafeFont bytes
 IsSafeRequest (list font program) = Unit {0}
@@ -111,16 +118,21 @@ IsVerdictAsked (bare maxp cvt points contours program) judgement =
 IsVerdictAsked (verdict font) judgement = (bytes : List ℕ) × IsVerdictOn bytes judgement
 IsVerdictAsked (find font certificate) judgement = (bytes : List ℕ) × IsVerdictOn bytes judgement
 IsVerdictAsked (check font certificate) judgement = (bytes : List ℕ) × IsCheckOn bytes judgement
+IsVerdictAsked (scan fonts) judgement = ⊥
+IsVerdictAsked (explain font program offset) judgement = ⊥
 IsVerdictAsked (list font program) judgement = ⊥
 IsVerdictAsked (upgrade old new) judgement = ⊥
 
 -- What is asked for is refused, as it is safe above; for `check` this tells no more than that some
--- bytes hold a font. For `list`, some bytes hold a font whose program of this name can't be cut or
--- isn't structured. An upgrade is never refused.
+-- bytes hold a font. For `scan`, one of the font files is refused. For `explain`, some bytes hold a
+-- font whose program of this name is refused, or one before it. For `list`, some bytes hold a font
+-- whose program of this name can't be cut or isn't structured. An upgrade is never refused.
 abbrev pub IsRefusedRequest : Request → Type 0
 IsRefusedRequest (bare maxp cvt points contours program) =
     SpellRefusedGlyph maxp cvt points contours (unwrap_or program [])
 IsRefusedRequest (verdict font) = (bytes : List ℕ) × HoldRefusedFont bytes
+IsRefusedRequest (scan fonts) = (bytes : List ℕ) × HoldRefusedFont bytes
+IsRefusedRequest (explain font program offset) = (bytes : List ℕ) × HoldRefusedProgram bytes program
 IsRefusedRequest (find font certificate) = (bytes : List ℕ) × HoldRefusedFont bytes
 IsRefusedRequest (check font certificate) = (bytes : List ℕ) × HoldFont bytes
 IsRefusedRequest (list font program) = (bytes : List ℕ) × HoldUnlistedProgram bytes program
@@ -131,6 +143,15 @@ pub record MeansRefused (words : List (List ℕ)) : Type 0 where
   pub request : Request
   pub meant : meaning words ≡ Some request
   pub refused : IsRefusedRequest request
+
+-- What the statuses of font files tell together, the greatest of which is this one: each of them is
+-- safe; or one is refused, and none has a fault; or one has a fault of this status.
+pub record TellsFonts (fonts : List (List ℕ)) (status : ℕ) : Type 0 where
+  pub few : status ≤ 3
+  pub safe : status ≡ 0 → All (λ font. (bytes : List ℕ) × HoldSafeFont bytes) fonts
+  pub refused : status ≡ 1 → (bytes : List ℕ) × HoldRefusedFont bytes
+  pub fault : 2 ≤ status
+      → (reported : CommandFault) × IsFaultOfFontFile reported × (status_of reported ≡ status)
 
 -- What an exit status tells of the words of a command line: they ask for something safe where it is
 -- 0 and they are taken, and for something refused where it is 1; where it is more, they have a

@@ -1,7 +1,7 @@
 -- What is printed for what the words of a command line ask for.
 use Rattle.std.specs.Prelude.{◌≡◌, ◌≢◌, ℕ, List, [], Option, Some}
 use Rattle.std.specs.Io.KnownBytes.{Appends}
-use Rattle.hintcheck_words.specs.Requests.{Request, bare, check, find, list, meaning, upgrade, verdict}
+use Rattle.hintcheck_words.specs.Requests.{Request, bare, check, explain, find, list, meaning, scan, upgrade, verdict}
 use Rattle.hintcheck.specs.Listing.{HoldListedProgram, HoldToldProgram}
 use Rattle.hintcheck.specs.MeansSafe.{IsVerdictAsked}
 use Rattle.hintcheck.specs.Texts.{upgraded_line, verdict_text}
@@ -30,11 +30,14 @@ abbrev pub PrintsUpgrade : Option (List ℕ) → Option (List ℕ) → Type 0
 PrintsUpgrade old new =
     (count : ℕ) × IsNumberOfPrograms count × Appends old new (upgraded_line count)
 
--- What was asked for is answered in these lines.
+-- What was asked for is answered in these lines; those of `scan` and of `explain` are left
+-- unspecified.
 abbrev pub Prints : Request → ℕ → Option (List ℕ) → Option (List ℕ) → Type 0
 Prints (bare maxp cvt points contours program) status old new =
     PrintsVerdict (bare maxp cvt points contours program) status old new
 Prints (verdict font) status old new = PrintsVerdict (verdict font) status old new
+Prints (scan fonts) status old new = Unit {0}
+Prints (explain font program offset) status old new = Unit {0}
 Prints (find font certificate) status old new = PrintsVerdict (find font certificate) status old new
 Prints (check font certificate) status old new =
     PrintsVerdict (check font certificate) status old new

@@ -10,10 +10,12 @@ ghost use Rattle.hintcheck.specs.Printed.{MeansPrinted, Prints};
 
 mod bare_task;
 mod check_task;
+mod explain_task;
 pub mod faults;
 mod files;
 mod find_task;
 mod list_task;
+mod scan_task;
 mod upgrade_task;
 mod verdict_lines;
 mod verdict_task;
@@ -21,10 +23,12 @@ mod verdict_task;
 use crate::report::Verdict;
 use bare_task::{bare_verdict, word_or_empty};
 use check_task::check_verdict;
+use explain_task::explain_of_file;
 use faults::CommandFault;
 use find_task::find_verdict;
 use hintcheck_words::{Task, TaskFault, read_words};
 use list_task::list_of_file;
+use scan_task::scan_fonts;
 use std::alloc::AllocError;
 use std::rt::Files;
 use tt_stream::Sink;
@@ -69,7 +73,9 @@ fn verdict_on<R: Files + AllocGlobal>(rt: &R, task: &Task) -> Result<Verdict, Co
         Task::Verdict { font } => file_verdict(rt, font),
         Task::Find { font, certificate } => find_verdict(rt, font, certificate),
         Task::Check { font, certificate } => check_verdict(rt, font, certificate),
-        Task::List { .. } | Task::Upgrade { .. } => unreachable!(),
+        Task::Scan { .. } | Task::Explain { .. } | Task::List { .. } | Task::Upgrade { .. } => {
+            unreachable!()
+        }
     }
 }
 
@@ -89,6 +95,12 @@ fn do_task<R: Files + AllocGlobal, O: Sink>(
     ensures none { OnOk result (HasNoFault (asked task.now)) }
 {
     match task {
+        Task::Scan { fonts } => scan_fonts(rt, fonts, out),
+        Task::Explain {
+            font,
+            program,
+            offset,
+        } => explain_of_file(rt, font, program, *offset, out),
         Task::List { font, program } => list_of_file(rt, font, program, out),
         Task::Upgrade { old, new } => tell_upgrade(rt, old, new, out),
         task => tell_verdict(out, verdict_on(rt, task)?),
@@ -102,7 +114,9 @@ fn do_task<R: Files + AllocGlobal, O: Sink>(
 /// # Errors
 /// `Write` exactly where a write to `out` failed; `Usage` for words that the command line doesn't
 /// take; `MaxpWord` and `ProgramWord` for a word that spells no bytes; `ProgramWord` also for one
-/// that names no program of the font; `CertificateWord` where a font's file is to be its
+/// that names no program of the font; `OffsetWord` for an offset at which none of its instructions
+/// begins; `ScanFault` and `ScanOutOfMemory` where a font of a scan has a fault, which its line
+/// tells; `CertificateWord` where a font's file is to be its
 /// certificate's; `NewWord` where an old certificate's file is to be the new one's; `Font` for the
 /// first fault of the font or of `bare`'s `maxp`; `Form`, `Read`, `File` and `OutOfMemory`.
 pub fn try_command<R: Files + AllocGlobal, O: Sink>(
@@ -117,7 +131,7 @@ pub fn try_command<R: Files + AllocGlobal, O: Sink>(
     ensures refused { IfOk result
         (λ status. status ≡ 1 → MeansRefused (map (λ w. w.now) words.entry.now)) }
     // What is printed is the answer: a verdict, the lines of a program, or how many sections were
-    // upgraded.
+    // upgraded. The lines of a scan and of an explanation are left unspecified.
     ensures printed { IfOk result (λ status. is_taken (map (λ w. w.now) words.entry.now) ≡ true
         → MeansPrinted (map (λ w. w.now) words.entry.now) status
         (O.contents out.old) (O.contents out.new)) }
@@ -143,7 +157,8 @@ pub fn try_command<R: Files + AllocGlobal, O: Sink>(
 
 /// Does what the words of a command line ask for, prints the answer to `out` or a fault to `err`,
 /// and returns the exit status: 0 accepted, listed or upgraded, 1 refused, 2 words, input or output
-/// that can't be read or written, 3 out of memory. The first word is the program's own name.
+/// that can't be read or written, 3 out of memory; for a scan the greatest one of its fonts, whose
+/// faults are printed to `out`. The first word is the program's own name.
 /// Printing takes no memory.
 pub fn command<R: Files + AllocGlobal, O: Sink, E: Sink>(
     rt: &R,
@@ -178,13 +193,14 @@ pub fn command<R: Files + AllocGlobal, O: Sink, E: Sink>(
 }
 
 /// Prints the fault, and returns its exit status. A fault that can't be printed either is reported
-/// only by the status.
+/// only by the status; those of a scan's fonts are printed already.
 fn tell<E: Sink>(err: &mut E, fault: &CommandFault) -> u8
     ensures status { result ≡ status_of fault.now }
     ensures untold { E.failures err.old ≤ E.failures err.new }
 {
     let _ = match fault {
         CommandFault::Usage(text) => write!(err, "{text}"),
+        CommandFault::ScanFault | CommandFault::ScanOutOfMemory => Ok(()),
         fault => writeln!(err, "fault: {fault}"),
     };
     fault.status()

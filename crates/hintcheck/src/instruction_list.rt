@@ -76,13 +76,13 @@ fn program_of<'a>(font: &Font<'a>, name: Name) -> Option<&'a [u8]>
 
 /// A program of a font.
 #[derive(Clone, Copy)]
-struct Named<'a> {
-    name: Name,
+pub(crate) struct Named<'a> {
+    pub(crate) name: Name,
     bytes: &'a [u8],
 }
 
 /// Returns the font's program whose name the word is, if there is one.
-fn named_program<'a>(font: &Font<'a>, word: &str) -> Option<Named<'a>>
+pub(crate) fn named_program<'a>(font: &Font<'a>, word: &str) -> Option<Named<'a>>
     requires { length font.now.glyphs < 2 ^ 16 }
     ensures there { IfSome result (λ named. Names word.now font.now named.bytes.now) }
     ensures text { IfSome result (λ named. word.now ≡ text_of named.name) }

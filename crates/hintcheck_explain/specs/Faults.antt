@@ -2,7 +2,9 @@
 use Rattle.std.specs.Prelude.{◌≡◌, ◌≢◌, ℕ, IfSome, None, Result, Ok, Err}
 use Rattle.tt_abs.specs.declared.setting.Setting.{Setting as Subject}
 use Rattle.tt_code.specs.Cut.{instruction_at}
-use Rattle.tt_cert.specs.declared.fault.ProgramFault.{ProgramFault}
+use Rattle.tt_code.specs.declared.reason.Reason.{Reason}
+use Rattle.tt_cert.specs.declared.spot.Spot.{Spot}
+use Rattle.tt_cert.specs.declared.fault.ProgramFault.TheVariants as program
 use Rattle.tt_find.specs.FoundSubjects.{IsJustifiedFor, IsLeastFor}
 use Rattle.tt_find.specs.declared.finder.Found.{Found}
 use Rattle.tt_stream.specs.Streams.{CountsPrintFailure}
@@ -21,8 +23,11 @@ abbrev pub HasLeast : Subject → Type 0
 HasLeast x = (found : Found) × IsLeastFor x found
 
 -- a place and a reason are right
-abbrev pub HasRefusal : Subject → Type 0
-HasRefusal x = (fault : ProgramFault) × IsJustifiedFor x fault
+pub record HasRefusal (x : Subject) : Type 0 where
+  pub spot : Spot
+  pub offset : ℕ
+  pub reason : Reason
+  pub justified : IsJustifiedFor x (program.Refused spot offset reason)
 
 -- where an offset is asked for, an instruction of the program begins there
 abbrev pub AsksForInstruction : Subject → Asked → Type 0

@@ -81,7 +81,7 @@ impl fmt::Display for BoundText {
             Role::ControlValue => write!(f, "the font has {cvt} control values"),
             Role::StorageCell => write!(f, "maxStorage is {storage}"),
             Role::Function => write!(f, "maxFunctionDefs is {functions}"),
-            _ => write!(f, "there are no more"),
+            _ => write!(f, "the zone has no other one"),
         }
     }
 }

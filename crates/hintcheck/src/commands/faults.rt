@@ -1,11 +1,12 @@
 //! Why a command gives no verdict.
 
-ghost use Rattle.std.specs.Prelude.{◌≡◌};
+ghost use Rattle.std.specs.Prelude.{◌≡◌, ◌≤◌};
 ghost use Rattle.hintcheck.specs.Commands.{IsNoWriteFault, fault_of_word, status_of};
 
 use crate::certificate::FindFontFault;
 use crate::certificate_upgrade::UpgradeFault;
 use crate::font_check::CheckFontFault;
+use hintcheck_explain::ExplainFault;
 use hintcheck_words::{TaskFault, WordFault};
 use std::alloc::AllocError;
 use std::fmt;
@@ -42,6 +43,9 @@ pub enum CommandFault {
     /// The word spells no bytes, or names no program of the font.
     #[error("words: PROGRAM")]
     ProgramWord,
+    /// No instruction of the program begins at the offset.
+    #[error("words: OFFSET")]
+    OffsetWord,
     /// The font's file is to be its certificate's.
     #[error("words: CERT")]
     CertificateWord,
@@ -55,6 +59,12 @@ pub enum CommandFault {
     Form(u64),
     #[error("9 out of memory")]
     OutOfMemory,
+    /// A font of a scan has a fault, which its line tells.
+    #[error("fault of a font")]
+    ScanFault,
+    /// Memory ran out at a font of a scan, as its line tells.
+    #[error("9 out of memory")]
+    ScanOutOfMemory,
     /// A file can't be opened or read.
     #[error("44 read")]
     Read,
@@ -135,6 +145,20 @@ impl From<FindFontFault> for CommandFault {
     }
 }
 
+impl From<ExplainFault> for CommandFault {
+    ghost use Rattle.hintcheck.specs.Commands.{fault_of_explain};
+
+    ghost from_gives = { λ explain fault. fault ≡ fault_of_explain explain };
+
+    fn from(fault: ExplainFault) -> CommandFault {
+        match fault {
+            ExplainFault::Write(failed) => CommandFault::from(failed),
+            ExplainFault::NoInstruction => CommandFault::OffsetWord,
+            ExplainFault::OutOfMemory(AllocError) => CommandFault::OutOfMemory,
+        }
+    }
+}
+
 impl From<UpgradeFault> for CommandFault {
     ghost use Rattle.hintcheck.specs.Commands.{fault_of_upgrade};
 
@@ -165,12 +189,13 @@ impl CommandFault {
 
     /// Returns the exit status: 3 where memory ran out, and otherwise 2.
     pub fn status(&self) -> u8
-        ensures { result ≡ status_of self.now }
+        ensures status { result ≡ status_of self.now }
+        ensures within { (2 ≤ result) × (result ≤ 3) }
     {
         match self {
-            CommandFault::OutOfMemory | CommandFault::Font(Numbered(FontFault::OutOfMemory(_))) => {
-                OUT_OF_MEMORY
-            },
+            CommandFault::OutOfMemory
+            | CommandFault::ScanOutOfMemory
+            | CommandFault::Font(Numbered(FontFault::OutOfMemory(_))) => { OUT_OF_MEMORY },
             _ => UNREADABLE,
         }
     }

@@ -1,5 +1,5 @@
 -- proofs/commands/do_task/Answers.antt
-use Rattle.std.proofs.Common.{◌≡◌, String, Global, arith, inl, refl}
+use Rattle.std.proofs.Common.{◌≡◌, ℕ, Option, String, Global, Vec, arith, inl, inr, refl}
 use Rattle.std.proofs.lemmas.Result.{IfErr-weaker, IfOk-weaker, on_ok_weaker}
 use Rattle.hintcheck_words.specs.Requests.{asked}
 use Rattle.hintcheck_words.specs.declared.words.Task.{Task}
@@ -9,17 +9,64 @@ use Rattle.hintcheck.proofs.FaultLemmas.{nothing_said}
 use Rattle.hintcheck.proofs.PrintedLemmas.{prints_for_verdict, prints_upgrade, prints_verdict}
 use Rattle.hintcheck.proofs.commands.do_task.Goals as goal
 
-for_verdict : (t : Task) → ((font program : String Global) → t ≡ task.List font program → ⊥) → ((old new : String Global) → t ≡ task.Upgrade old new → ⊥) → IsForVerdict (asked t)
+for_verdict : (t : Task) → ((fonts : Vec (String Global) Global) → t ≡ task.Scan fonts → ⊥) → ((font program : String Global) (offset : Option ℕ) → t ≡ task.Explain font program offset → ⊥)
+    → ((font program : String Global) → t ≡ task.List font program → ⊥) → ((old new : String Global) → t ≡ task.Upgrade old new → ⊥) → IsForVerdict (asked t)
 unfolding asked
-for_verdict (task.Bare maxp cvt points contours program) other another = tt
-for_verdict (task.Verdict font) other another = tt
-for_verdict (task.Find font certificate) other another = tt
-for_verdict (task.Check font certificate) other another = tt
-for_verdict (task.List font program) other another = absurd (other font program refl)
-for_verdict (task.Upgrade old new) other another = absurd (another old new refl)
+for_verdict (task.Bare maxp cvt points contours program) scan explain other another = tt
+for_verdict (task.Verdict font) scan explain other another = tt
+for_verdict (task.Scan fonts) scan explain other another = absurd (scan fonts refl)
+for_verdict (task.Explain font program offset) scan explain other another = absurd (explain font program offset refl)
+for_verdict (task.Find font certificate) scan explain other another = tt
+for_verdict (task.Check font certificate) scan explain other another = tt
+for_verdict (task.List font program) scan explain other another = absurd (other font program refl)
+for_verdict (task.Upgrade old new) scan explain other another = absurd (another old new refl)
 
 pub verdict_on-requires : goal.verdict_on-requires
-verdict_on-requires g c = for_verdict c.args.task.now c.in_default.not-List c.in_default.not-Upgrade
+verdict_on-requires g c = for_verdict c.args.task.now c.in_default.not-Scan c.in_default.not-Explain c.in_default.not-List c.in_default.not-Upgrade
+
+pub returns-in-Scan-clause-safe : goal.returns-in-Scan-clause-safe
+unfolding asked
+returns-in-Scan-clause-safe g c = IfOk-weaker c.scan_fonts.result _ _ (λ status safe zero. rw c.in-Scan.is (rw (← c.deref.ensures.value) (safe zero))) c.scan_fonts.ensures.safe
+
+pub returns-in-Scan-clause-refused : goal.returns-in-Scan-clause-refused
+unfolding asked
+returns-in-Scan-clause-refused g c = IfOk-weaker c.scan_fonts.result _ _ (λ status refused one. rw c.in-Scan.is (refused one)) c.scan_fonts.ensures.refused
+
+pub returns-in-Scan-clause-printed : goal.returns-in-Scan-clause-printed
+unfolding asked
+returns-in-Scan-clause-printed g c = IfOk-weaker c.scan_fonts.result _ _ (λ status few. rw c.in-Scan.is tt) c.scan_fonts.ensures.status
+
+pub returns-in-Scan-clause-faults : goal.returns-in-Scan-clause-faults
+unfolding asked
+returns-in-Scan-clause-faults g c =
+    IfErr-weaker c.scan_fonts.result _ _ (λ told is. rw c.in-Scan.is (elim is [ inl font ↦ inl font | inr printing ↦ inr (tt, printing) ])) c.scan_fonts.ensures.faults
+
+pub returns-in-Scan-clause-none : goal.returns-in-Scan-clause-none
+unfolding asked
+returns-in-Scan-clause-none g c = rw c.in-Scan.is (nothing_said c.scan_fonts.result)
+
+pub returns-in-Explain-clause-safe : goal.returns-in-Explain-clause-safe
+unfolding asked
+returns-in-Explain-clause-safe g c =
+    IfOk-weaker c.explain_of_file.result _ _ (λ status accepted zero. rw c.in-Explain.is (rw (← c.deref-in-Explain-2.ensures) (accepted zero))) c.explain_of_file.ensures.accepted
+
+pub returns-in-Explain-clause-refused : goal.returns-in-Explain-clause-refused
+unfolding asked
+returns-in-Explain-clause-refused g c =
+    IfOk-weaker c.explain_of_file.result _ _ (λ status refused one. rw c.in-Explain.is (rw (← c.deref-in-Explain-2.ensures) (refused one))) c.explain_of_file.ensures.refused
+
+pub returns-in-Explain-clause-printed : goal.returns-in-Explain-clause-printed
+unfolding asked
+returns-in-Explain-clause-printed g c = IfOk-weaker c.explain_of_file.result _ _ (λ status few. rw c.in-Explain.is tt) c.explain_of_file.ensures.status
+
+pub returns-in-Explain-clause-faults : goal.returns-in-Explain-clause-faults
+unfolding asked
+returns-in-Explain-clause-faults g c =
+    IfErr-weaker c.explain_of_file.result _ _ (λ told is. inl (rw c.in-Explain.is (rw (← c.deref-in-Explain-2.ensures) is))) c.explain_of_file.ensures.faults
+
+pub returns-in-Explain-clause-none : goal.returns-in-Explain-clause-none
+unfolding asked
+returns-in-Explain-clause-none g c = rw c.in-Explain.is (nothing_said c.explain_of_file.result)
 
 pub returns-in-List-clause-safe : goal.returns-in-List-clause-safe
 unfolding asked
@@ -28,7 +75,7 @@ returns-in-List-clause-safe g c = IfOk-weaker c.list_of_file.result _ _ (λ stat
 pub returns-in-List-clause-refused : goal.returns-in-List-clause-refused
 unfolding asked
 returns-in-List-clause-refused g c =
-    IfOk-weaker c.list_of_file.result _ _ (λ status refused one. rw c.in-List.is (rw (← c.deref-in-List.ensures) (refused one))) c.list_of_file.ensures.refused
+    IfOk-weaker c.list_of_file.result _ _ (λ status refused one. rw c.in-List.is (rw (← c.deref-in-List-2.ensures) (refused one))) c.list_of_file.ensures.refused
 
 pub returns-in_ok-verdict_on-in_default-clause-safe : goal.returns-in_ok-verdict_on-in_default-clause-safe
 returns-in_ok-verdict_on-in_default-clause-safe g c =
@@ -40,7 +87,7 @@ returns-in_ok-verdict_on-in_default-clause-refused g c =
 
 pub returns-in-List-clause-faults : goal.returns-in-List-clause-faults
 unfolding asked
-returns-in-List-clause-faults g c = IfErr-weaker c.list_of_file.result _ _ (λ told is. inl (rw c.in-List.is (rw (← c.deref-in-List.ensures) is))) c.list_of_file.ensures.faults
+returns-in-List-clause-faults g c = IfErr-weaker c.list_of_file.result _ _ (λ told is. inl (rw c.in-List.is (rw (← c.deref-in-List-2.ensures) is))) c.list_of_file.ensures.faults
 
 pub returns-in-List-clause-none : goal.returns-in-List-clause-none
 unfolding asked
@@ -66,7 +113,7 @@ returns-in-Upgrade-clause-none g c =
 pub returns-in-List-clause-printed : goal.returns-in-List-clause-printed
 unfolding asked
 returns-in-List-clause-printed g c =
-    IfOk-weaker c.list_of_file.result _ _ (λ status printed. rw c.in-List.is (rw (← c.deref-in-List.ensures) printed)) c.list_of_file.ensures.printed
+    IfOk-weaker c.list_of_file.result _ _ (λ status printed. rw c.in-List.is (rw (← c.deref-in-List-2.ensures) printed)) c.list_of_file.ensures.printed
 
 pub returns-in-Upgrade-clause-printed : goal.returns-in-Upgrade-clause-printed
 unfolding asked
@@ -81,7 +128,7 @@ returns-in_ok-verdict_on-in_default-clause-printed g c =
     let old = contents c.args.out.now in
     let new = contents c.tell_verdict.new.out in
     let task = c.args.task.now in
-    let asks = for_verdict task c.in_default.not-List c.in_default.not-Upgrade in
+    let asks = for_verdict task c.in_default.not-Scan c.in_default.not-Explain c.in_default.not-List c.in_default.not-Upgrade in
     let told = c.tell_verdict.ensures in
     IfOk-weaker c.tell_verdict.result _ _ (λ status printed. prints_for_verdict (asked task) status old new asks printed)
     (prints_verdict (asked task) c.tell_verdict.result c.in_ok-verdict_on-in_default.field-0 old new c.in_ok-verdict_on-in_default.ensures.given told.accepted told.refused told.written)

@@ -38,9 +38,12 @@ returns-in-Check-clause-refused g c = IfOk-weaker c.check_verdict.result _ _ (λ
 
 pub unreachable-requires : goal.unreachable-requires
 unfolding asked
-unreachable-requires g c = elim c.in-List.is [
-  | inl list ↦ rw list.2 at c.requires
-  | inr upgrade ↦ rw upgrade.2 at c.requires
+unreachable-requires g c = elim c.in-Scan.is [
+  | inl scan ↦ rw scan.1 at c.requires
+  | inr rest ↦ elim rest [
+    | inl explain ↦ rw explain.3 at c.requires
+    | inr others ↦ elim others [ inl list ↦ rw list.2 at c.requires | inr upgrade ↦ rw upgrade.2 at c.requires ]
+  ]
 ]
 
 pub returns-in-Bare-clause-faults : goal.returns-in-Bare-clause-faults

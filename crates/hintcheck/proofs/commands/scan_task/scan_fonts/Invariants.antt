@@ -1,0 +1,10 @@
+use Rattle.std.proofs.Common.{◌≡◌, map, take}
+use Rattle.std.specs.Prelude.{string_bytes}
+use Rattle.hintcheck.specs.MeansSafe.{TellsFonts}
+use Rattle.hintcheck.proofs.commands.scan_task.scan_fonts.Given as goal
+
+abbrev pub invariant-loop-font : goal.invariant-loop-font
+invariant-loop-font g l = record {
+  tells : TellsFonts (map (λ s. string_bytes s) (take l.font-index l.fonts)) l.greatest;
+  failures : g.O.Sink.failures l.out ≡ g.O.Sink.failures l.fn.out;
+}

@@ -1,0 +1,73 @@
+-- One program of a font as it is explained: it is accepted, or it is refused, or one before it is.
+use Rattle.std.specs.Prelude.{◌≡◌, ◌≢◌, ℕ, Bool, true, false, List, Some, slice_get}
+use Rattle.tt_code.specs.Cut.{Instruction}
+use Rattle.tt_cert.specs.declared.fault.ProgramFault.{ProgramFault}
+use Rattle.tt_cert.specs.declared.fault.ProgramFault.TheVariants.{OutOfMemory as NoMemory, Refused as RefusedAt}
+use Rattle.tt_cert_file.specs.Names.{text_of}
+use Rattle.tt_cert_file.specs.declared.name.Name.{Name}
+use Rattle.tt_cert_file.specs.declared.name.Name.TheVariants as name
+use Rattle.tt_font.specs.Reading.{FontData, GlyphData, Reads}
+use Rattle.hintcheck.specs.FontPrograms.{cvt_subject, font_of, font_subject, glyph_subject}
+use Rattle.hintcheck.specs.Programs.{EndsWith, HasLeastFamily, IsRefusal, Subject}
+use Rattle.hintcheck.specs.declared.report.Refused.{Refused}
+
+-- The font's program of this name is accepted: it has its least family. It starts with the
+-- functions that are known where the least families of those before it end.
+pub data IsAcceptedIn (d : FontData) : Name → Type 0 where
+  font_accepted : HasLeastFamily (font_subject d) → IsAcceptedIn d name.Font
+  cvt_accepted : (f : List Instruction) (functions : List (ℕ × ℕ))
+      → EndsWith (font_subject d) f functions
+      → HasLeastFamily (cvt_subject d f functions) → IsAcceptedIn d name.Cvt
+  glyph_accepted : (f p : List Instruction) (functions known : List (ℕ × ℕ)) (id : ℕ)
+      (g : GlyphData)
+      → EndsWith (font_subject d) f functions → EndsWith (cvt_subject d f functions) p known
+      → slice_get d.glyphs id ≡ Some g
+      → HasLeastFamily (glyph_subject (font_of d f p) known id g)
+      → IsAcceptedIn d (name.Glyph id)
+
+-- The font's program of this name is refused, or one before it is, so that it isn't checked.
+pub data IsRefusedIn (d : FontData) : Name → Type 0 where
+  font_refused : (called : Name) (r : Refused) → IsRefusal (font_subject d) r
+      → IsRefusedIn d called
+  cvt_refused : (called : Name) (f : List Instruction) (functions : List (ℕ × ℕ)) (r : Refused)
+      → called ≢ name.Font
+      → EndsWith (font_subject d) f functions → IsRefusal (cvt_subject d f functions) r
+      → IsRefusedIn d called
+  glyph_refused : (f p : List Instruction) (functions known : List (ℕ × ℕ)) (id : ℕ)
+      (g : GlyphData) (r : Refused)
+      → EndsWith (font_subject d) f functions → EndsWith (cvt_subject d f functions) p known
+      → slice_get d.glyphs id ≡ Some g
+      → IsRefusal (glyph_subject (font_of d f p) known id g) r
+      → IsRefusedIn d (name.Glyph id)
+
+-- what an exit status tells of the font's program of this name
+pub record TellsProgram (d : FontData) (called : Name) (status : ℕ) : Type 0 where
+  pub accepted : status ≡ 0 → IsAcceptedIn d called
+  pub refused : status ≡ 1 → IsRefusedIn d called
+
+-- The bytes hold a font, and the word is the name of a program of it that is accepted.
+pub record HoldAcceptedProgram (bytes word : List ℕ) : Type 0 where
+  pub font : FontData
+  pub reads : Reads bytes font
+  pub name : Name
+  pub text : word ≡ text_of name
+  pub accepted : IsAcceptedIn font name
+
+-- The bytes hold a font, and the word is the name of a program of it that is refused, or before
+-- which one is.
+pub record HoldRefusedProgram (bytes word : List ℕ) : Type 0 where
+  pub font : FontData
+  pub reads : Reads bytes font
+  pub name : Name
+  pub text : word ≡ text_of name
+  pub refused : IsRefusedIn font name
+
+-- whether the program is accepted: it has its least family, or it is refused
+abbrev pub IsJudged : Subject → Bool → Type 0
+IsJudged x true = HasLeastFamily x
+IsJudged x false = (r : Refused) × IsRefusal x r
+
+-- the fault refuses a program, and isn't that memory ran out
+abbrev pub RefusesProgram : ProgramFault → Type 0
+RefusesProgram (RefusedAt spot offset r) = Unit {0}
+RefusesProgram (NoMemory e) = ⊥

@@ -1,0 +1,36 @@
+//! The subcommand `explain`: one program of a font file, explained.
+
+ghost use Rattle.std.specs.Prelude.{◌≡◌, ◌+◌, ◌≤◌, IfErr, IfOk, List, ℕ};
+ghost use Rattle.hintcheck.specs.Commands.{TellsFailure};
+ghost use Rattle.hintcheck.specs.CommandFaults.{IsFaultOfFileExplaining};
+ghost use Rattle.hintcheck.specs.Explanations.{HoldAcceptedProgram, HoldRefusedProgram};
+
+use super::faults::CommandFault;
+use super::files::file_bytes;
+use crate::explanation::explain_program;
+use std::rt::Files;
+use tt_stream::Sink;
+
+/// Explains the program of the font file with this name whose name the word is, and returns the
+/// exit status: 0 accepted, 1 refused.
+///
+/// # Errors
+/// `Read` where the file can't be opened or read; the faults of `explain_program`.
+pub(super) fn explain_of_file<R: Files + AllocGlobal, O: Sink>(
+    rt: &R,
+    name: &str,
+    word: &str,
+    offset: Option<u32>,
+    out: &mut O,
+) -> Result<u8, CommandFault>
+    ensures status { IfOk result (λ status. status ≤ 1) }
+    ensures accepted { IfOk result
+        (λ status. status ≡ 0 → (bytes : List ℕ) × HoldAcceptedProgram bytes word.now) }
+    ensures refused { IfOk result
+        (λ status. status ≡ 1 → (bytes : List ℕ) × HoldRefusedProgram bytes word.now) }
+    ensures failures { TellsFailure result (O.failures out.old) (O.failures out.new) }
+    ensures faults { IfErr result (IsFaultOfFileExplaining word.now) }
+{
+    let bytes = file_bytes(rt, name)?;
+    explain_program(rt.alloc(), &bytes, word, offset, out)
+}

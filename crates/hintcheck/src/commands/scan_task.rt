@@ -1,0 +1,138 @@
+//! The subcommand `scan`: the verdicts on font files, a line for each.
+
+ghost use Rattle.std.specs.Prelude.{◌≡◌, ◌≢◌, ◌⊎◌, ◌+◌, ◌≤◌, ◌<◌, All, IfErr, IfOk, List, [], ◌∷◌, OnOk, length, map, string_bytes, ℕ};
+ghost use Rattle.tt_stream.specs.Streams.{CountsPrintFailure};
+ghost use Rattle.hintcheck.specs.Commands.{TellsFailure};
+ghost use Rattle.hintcheck.specs.CommandFaults.{IsFaultOfPrinting, IsFaultOfScan};
+ghost use Rattle.hintcheck.specs.MeansSafe.{HoldRefusedFont, HoldSafeFont, TellsFonts};
+
+use super::faults::CommandFault;
+use super::verdict_task::file_verdict;
+use super::{ACCEPTED, REFUSED};
+use crate::report::{Name, Refused, Verdict};
+use std::rt::Files;
+use tt_code::{Reason, ReasonClass};
+use tt_stream::{PrintFailed, Sink};
+
+/// Returns how many of the refused programs have a reason of this class.
+fn count_of(refused: &[Refused], class: ReasonClass) -> usize
+    ensures { result ≤ length refused.now }
+{
+    let mut count = 0;
+    for program in refused {
+        if program.reason.class() == class {
+            count += 1;
+        }
+    }
+    count
+}
+
+/// Returns the reason's class in words.
+fn class_text(reason: Reason) -> &'static str {
+    match reason.class() {
+        ReasonClass::PossibleFault => "possible fault",
+        ReasonClass::Undecided => "undecided",
+        ReasonClass::LeftOut => "left out",
+        ReasonClass::Certificate => "certificate",
+    }
+}
+
+/// Prints the line of a font of which glyph programs are refused, with how many there are of each
+/// class.
+fn print_counts<O: Sink>(out: &mut O, name: &str, verdict: &Verdict) -> Result<(), PrintFailed>
+    ensures failures { CountsPrintFailure result (O.failures out.old) (O.failures out.new) }
+{
+    let programs = verdict.programs();
+    let count = verdict.refused().len();
+    let possible = count_of(verdict.refused(), ReasonClass::PossibleFault);
+    let undecided = count_of(verdict.refused(), ReasonClass::Undecided);
+    let left_out = count_of(verdict.refused(), ReasonClass::LeftOut);
+    write!(out, "{name}: refused: {count} of {programs} programs ")?;
+    write!(out, "({possible} possible faults, {undecided} undecided")?;
+    if left_out > 0 {
+        write!(out, ", {left_out} left out")?;
+    }
+    writeln!(out, ")")
+}
+
+/// Prints the line of a font.
+fn print_line<O: Sink>(out: &mut O, name: &str, verdict: &Verdict) -> Result<(), PrintFailed>
+    ensures failures { CountsPrintFailure result (O.failures out.old) (O.failures out.new) }
+{
+    let Some(refused) = verdict.refused().first() else {
+        let programs = verdict.programs();
+        return writeln!(out, "{name}: accepted: {programs} programs");
+    };
+    let class = class_text(refused.reason);
+    match refused.program {
+        Name::Font => writeln!(out, "{name}: refused: font program ({class})"),
+        Name::Cvt => writeln!(out, "{name}: refused: cvt program ({class})"),
+        Name::Glyph(_) => print_counts(out, name, verdict),
+    }
+}
+
+/// Returns the exit status of a verdict.
+fn verdict_status(verdict: &Verdict) -> u8
+    ensures status { result ≤ 1 }
+    ensures accepted { result ≡ 0 → verdict.now.refused ≡ [] }
+    ensures refused { result ≡ 1 → verdict.now.refused ≢ [] }
+{
+    if verdict.accepted() {
+        ACCEPTED
+    } else {
+        REFUSED
+    }
+}
+
+/// Prints the line of the font file with this name, and returns its exit status: that of a verdict,
+/// or of the fault.
+fn scan_font<R: Files + AllocGlobal, O: Sink>(
+    rt: &R,
+    name: &str,
+    out: &mut O,
+) -> Result<u8, CommandFault>
+    ensures tells { IfOk result (TellsFonts (name.now ∷ [])) }
+    ensures failures { TellsFailure result (O.failures out.old) (O.failures out.new) }
+    ensures faults { IfErr result IsFaultOfPrinting }
+{
+    match file_verdict(rt, name) {
+        Ok(verdict) => {
+            print_line(out, name, &verdict)?;
+            Ok(verdict_status(&verdict))
+        }
+        Err(fault) => {
+            writeln!(out, "{name}: fault: {fault}")?;
+            Ok(fault.status())
+        }
+    }
+}
+
+/// Prints a line for each of the font files with these names, and returns the greatest exit status
+/// of them: 0 where each is accepted, 1 where one is refused.
+///
+/// # Errors
+/// `ScanFault` and `ScanOutOfMemory` where the greatest status is 2 and 3, after the last line.
+pub(super) fn scan_fonts<R: Files + AllocGlobal, O: Sink>(
+    rt: &R,
+    fonts: &[String],
+    out: &mut O,
+) -> Result<u8, CommandFault>
+    ensures status { IfOk result (λ status. status ≤ 1) }
+    ensures safe { IfOk result (λ status. status ≡ 0 → All
+        (λ font. (bytes : List ℕ) × HoldSafeFont bytes) (map (λ s. string_bytes s) fonts.now)) }
+    ensures refused { IfOk result
+        (λ status. status ≡ 1 → (bytes : List ℕ) × HoldRefusedFont bytes) }
+    ensures failures { TellsFailure result (O.failures out.old) (O.failures out.new) }
+    ensures faults { IfErr result (λ fault. IsFaultOfScan fault ⊎ IsFaultOfPrinting fault) }
+{
+    let mut greatest = ACCEPTED;
+    for font in fonts {
+        let status = scan_font(rt, font, out)?;
+        greatest = greatest.max(status);
+    }
+    match greatest {
+        ACCEPTED | REFUSED => Ok(greatest),
+        2 => Err(CommandFault::ScanFault),
+        _ => Err(CommandFault::ScanOutOfMemory),
+    }
+}
