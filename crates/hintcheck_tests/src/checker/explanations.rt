@@ -133,15 +133,15 @@ const REFUSED: [Refused<'static>; 25] = [
         ("", "", "B00060"),
         "g0",
         "refused g0 at g0:2: 26 underflow\n",
-        "\nWhy: ADD takes 2 numbers from the stack, and there is 1 number on it here.\n",
+        "\nWhy: ADD takes 2 numbers from the stack, which holds 1 number here.\n",
         POSSIBLE,
     ),
     (
         ("", "", "B7000102030405060720"),
         "g0",
         "refused g0 at g0:9: 27 overflow\n",
-        "\nWhy: The stack is 8 deep before DUP, which takes 1 number and pushes 2 numbers: it would \
-        be 9 deep, and maxStackElements is 8.\n",
+        "\nWhy: The stack is 8 deep before DUP, which takes 1 number and pushes 2: it would be 9 \
+        deep, and maxStackElements is 8.\n",
         POSSIBLE,
     ),
     (
