@@ -1,16 +1,30 @@
 # make: proves and builds hintcheck, where that isn't done. make install: puts the program, its manual page and completions under PREFIX.
+# make install-library: proves and builds the library for C and C++, and puts it, its header and a pkg-config file there.
 PREFIX = /usr/local
 DESTDIR =
 bindir = $(DESTDIR)$(PREFIX)/bin
 datadir = $(DESTDIR)$(PREFIX)/share
+includedir = $(DESTDIR)$(PREFIX)/include
+libdir = $(DESTDIR)$(PREFIX)/lib
+library = crates/hintcheck_c/out/libhintcheck_c.a
 
-.PHONY: all check install uninstall
+.PHONY: all check library install install-library uninstall
 
 all:
 	./hintcheck --build
 
 check:
 	rt ci
+
+library:
+	cd crates/hintcheck_c && rt lib >&2
+
+# The archive gets the toolchain's part of the C library too, so that one library is enough to link.
+install-library: library
+	install -d $(includedir) $(libdir)/pkgconfig
+	printf 'create %s\naddlib %s\naddlib %s\nsave\nend\n' $(libdir)/libhintcheck.a $(library) $(dir $(shell rt doc))c/liblibc_c.a | ar -M
+	install -m 644 include/hintcheck.h $(includedir)/hintcheck.h
+	sed 's|@PREFIX@|$(PREFIX)|' include/hintcheck.pc.in >$(libdir)/pkgconfig/hintcheck.pc
 
 install: all
 	install -d $(bindir) $(datadir)/man/man1 $(datadir)/bash-completion/completions \
@@ -23,4 +37,5 @@ install: all
 
 uninstall:
 	rm -f $(bindir)/hintcheck $(datadir)/man/man1/hintcheck.1 $(datadir)/bash-completion/completions/hintcheck \
-		$(datadir)/zsh/site-functions/_hintcheck $(datadir)/fish/vendor_completions.d/hintcheck.fish
+		$(datadir)/zsh/site-functions/_hintcheck $(datadir)/fish/vendor_completions.d/hintcheck.fish \
+		$(includedir)/hintcheck.h $(libdir)/libhintcheck.a $(libdir)/pkgconfig/hintcheck.pc
