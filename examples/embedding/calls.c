@@ -70,7 +70,7 @@ static void call_oddly(const uint8_t *accepted, size_t accepted_length)
 {
     hintcheck_answer answer;
     expect(hintcheck_verdict(NULL, 0, NULL, 0, &answer) == HINTCHECK_FAULT, "no bytes");
-    expect(answer.fault == 1 && answer.programs == 0, "what is told of no bytes");
+    expect(answer.fault == 2 && answer.programs == 0, "what is told of no bytes");
     expect(hintcheck_verdict(NULL, 1, NULL, 0, &answer) == HINTCHECK_USAGE, "a null font");
     expect(answer.status == HINTCHECK_USAGE && answer.programs == 0, "what is told of it");
     expect(hintcheck_verdict(accepted, accepted_length, NULL, 1, &answer) == HINTCHECK_USAGE, "null room");

@@ -203,7 +203,8 @@ const REFUSED: [Refused<'static>; 25] = [
         ("", "", "B00216"),
         "g0",
         "refused g0 at g0:2: 33 zone\n",
-        "\nWhy: SZPS uses 2 as the number of a zone, ",
+        "\nWhy: SZPS uses 2 as the number of a zone: zone 1 is the glyph's, and 0, the twilight zone, \
+        needs maxZones 2. It is 2.\n",
         POSSIBLE,
     ),
     (
