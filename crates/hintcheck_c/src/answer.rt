@@ -74,7 +74,11 @@ pub(crate) fn answer_verdict(
     let refused = verdict.refused();
     let listed = list_refused(refused, refusals);
     HintcheckAnswer {
-        status: if verdict.accepted() { ACCEPTED } else { REFUSED },
+        status: if verdict.accepted() {
+            ACCEPTED
+        } else {
+            REFUSED
+        },
         fault: 0,
         place: 0,
         programs: verdict.programs(),

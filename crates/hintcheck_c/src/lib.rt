@@ -10,10 +10,10 @@ ghost use Rattle.tt_font.specs.Reading.{FontData, Reads};
 mod answer;
 mod refusal;
 
-use answer::{answer_verdict, fault_of_check, fault_of_font};
 pub use answer::HintcheckAnswer;
-pub use refusal::HintcheckRefusal;
+use answer::{answer_verdict, fault_of_check, fault_of_font};
 use hintcheck::{CheckFontFault, Verdict, check_font, verdict};
+pub use refusal::HintcheckRefusal;
 use std::alloc::Global;
 use std::marker::Brand;
 use std::sync::ledger::{Blank, Ledger};

@@ -3,9 +3,8 @@
 use crate::checker::font_files::font_of;
 use crate::checker::outputs::{ROOM, answers, printed};
 use hintcheck_test_fixtures::paths::path_of;
-use std::fs;
 use std::rt::Files;
-use std::str;
+use std::{fs, str};
 
 /// A font's programs, each in hexadecimal digits: the font program, the CVT program and the
 /// program of its one glyph.
@@ -310,9 +309,19 @@ const ACCEPTED: [Accepted<'static>; 5] = [
             "\n    g0:0 PUSHB 0 9\n  > g0:3 MIAP\n",
         ],
     ),
-    (CALLS, "g0", None, &["accepted g0\n", "(maxStackElements)\n"]),
+    (
+        CALLS,
+        "g0",
+        None,
+        &["accepted g0\n", "(maxStackElements)\n"],
+    ),
     (CALLS, "f", None, &["accepted f\nInstructions: 4\n"]),
-    (("", "4B21", ""), "p", None, &["accepted p\nInstructions: 2\n"]),
+    (
+        ("", "4B21", ""),
+        "p",
+        None,
+        &["accepted p\nInstructions: 2\n"],
+    ),
 ];
 
 #[test]

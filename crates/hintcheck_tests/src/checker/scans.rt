@@ -46,11 +46,7 @@ const SCANS: [(Programs<'static>, u8, &str); 7] = [
         1,
         "refused: font program (possible fault)",
     ),
-    (
-        ("", "4B2E", &[""]),
-        1,
-        "refused: cvt program (undecided)",
-    ),
+    (("", "4B2E", &[""]), 1, "refused: cvt program (undecided)"),
     (
         ("B8FFFD1C", "", &[""]),
         1,
@@ -91,8 +87,7 @@ fn scans_all(rt: &HostRuntime) -> Option<bool> {
     let safe = format!(in rt.alloc(); "{one}: accepted: 3 programs\n").ok()?;
     let line = format!(in rt.alloc();
         "{other}: refused: 1 of 3 programs (1 possible faults, 0 undecided)\n"
-    )
-    .ok()?;
+    ).ok()?;
     let both = format!(in rt.alloc(); "{safe}{line}").ok()?;
     let all = format!(in rt.alloc(); "{safe}none.ttf: fault: 44 read\n{line}{safe}").ok()?;
     let words = ["hintcheck", "scan", one, "none.ttf", other, one];
