@@ -23,7 +23,7 @@ PAGE = TOP / "docs/CONTRACTS.md"
 FIXTURES = "hintcheck_test_fixtures"
 
 # The crates of tests that the page names.
-TEST_CRATES = ("tt_tests", "hintcheck_tests")
+TEST_CRATES = ("tt_tests", "hintcheck_file_tests", "hintcheck_tests")
 
 OWNER = re.compile(r"^(?:pub )?(impl|trait)\b([^{]*)\{", re.M)
 FUNCTION = re.compile(r'^ *(pub(?:\(\w+\))? )?(?:final )?(?:extern "C" )?fn (\w+)', re.M)

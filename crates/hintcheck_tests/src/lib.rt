@@ -1,10 +1,5 @@
-//! The tests of certificate files, of the command line's words, and of hintcheck, a module for
-//! each.
+//! The tests of hintcheck: its calls, and its command.
 #![tactic(auto)]
 
 #[cfg(test)]
-mod cert_file;
-#[cfg(test)]
 mod checker;
-#[cfg(test)]
-mod words;

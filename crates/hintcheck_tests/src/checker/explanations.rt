@@ -273,12 +273,17 @@ const REFUSED: [Refused<'static>; 25] = [
     ),
 ];
 
+/// Whether `explain` of this refused program tells its line, why, and the reason's class.
+fn explains_refused(rt: &HostRuntime, refused: Refused<'_>) -> Option<bool> {
+    let (programs, program, line, why, class) = refused;
+    explains(rt, programs, program, None, 1, &[line, why, class])
+}
+
 #[test]
 fn explains_reasons(rt: HostRuntime) {
-    for (programs, program, line, why, class) in &REFUSED {
-        let parts = [*line, *why, *class];
-        let is_so = explains(&rt, *programs, program, None, 1, &parts);
-        assert!(rt; is_so == Some(true), "{line}");
+    for refused in &REFUSED {
+        let is_so = explains_refused(&rt, *refused);
+        assert!(rt; is_so == Some(true), "{refused:?}");
     }
 }
 
