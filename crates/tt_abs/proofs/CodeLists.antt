@@ -1,12 +1,15 @@
 -- Lists of codes only: their differences, their order, and the least codes above two lists.
-use Rattle.std.specs.Prelude.{◌↔◌}
+use Rattle.std.specs.Prelude.{◌↔◌, ◌^◌, Bool, true, false, nat_eq, if◌then◌else◌, take}
+use Rattle.std.specs.Int.{cast_signed, cast_unsigned, w16}
 use Rattle.std.specs.Int.Bits.{bit_or, bit_xor, or_zero_l, xor_add_and, xor_self}
-use Rattle.std.proofs.Common.{◌≡◌, ℕ, ◌+◌, ◌<◌, ◌≤◌, List, get_or, sym, ◌∙◌, ap, subst, arith, inl, inr, length, set, below_more}
-use Rattle.std.proofs.lemmas.Bool.{cases_lt}
+use Rattle.std.proofs.Common.{◌≡◌, ℕ, ◌+◌, ◌<◌, ◌≤◌, List, get_or, sym, ◌∙◌, ap, subst, arith, inl, inr, length, refl, set, below_more}
+use Rattle.std.proofs.Math.ListN.{length-take}
+use Rattle.std.proofs.lemmas.Bool.{cases_lt, eqb-true}
+use Rattle.std.proofs.lemmas.Int.{of_z-to_z}
 use Rattle.std.proofs.lemmas.Nat.{and_le_l, and_le_r, le_or_l, le_or_r}
-use Rattle.std.proofs.lemmas.List.{get_or-map, get_or_past, get_or-set_other, get_or-set_same, length-map}
+use Rattle.std.proofs.lemmas.List.{ext_get_or, get_or-map, get_or_past, get_or-set_other, get_or-set_same, get_or-take, length-map}
 use Rattle.tt_abs.specs.declared.cells.Cell.{Cell}
-use Rattle.tt_abs.specs.declared.cells.Cell.TheVariants.{Unknown}
+use Rattle.tt_abs.specs.declared.cells.Cell.TheVariants.{Known, Unknown}
 use Rattle.tt_abs.specs.CellOrders.{CellBelow}
 use Rattle.tt_abs.specs.Representation.Codes.{cell_of_code, cells_of}
 use Rattle.tt_abs.specs.Stacks.{cell_at, IsLeastCell, StackBelow}
@@ -83,3 +86,39 @@ joined_more old mine theirs i code lt done rest joined = below_more _ _
 pub rest_kept : (old mine : List ℕ) (i code : ℕ) → ((k : ℕ) → i ≤ k → get_or mine k 0 ≡ get_or old k 0)
     → (k : ℕ) → i + 1 ≤ k → get_or (set mine i code) k 0 ≡ get_or old k 0
 rest_kept old mine i code rest k h = get_or-set_other mine i k code 0 (omega arith) ∙ rest k (omega arith)
+
+-- codes of one cell are one code
+code_step : (m n : ℕ) (p q : Bool) → nat_eq m 32768 ≡ p → nat_eq n 32768 ≡ q → m < 2 ^ 16 → n < 2 ^ 16
+    → (if p then Unknown else Known (cast_signed w16 m)) ≡ (if q then Unknown else Known (cast_signed w16 n)) → m ≡ n
+code_step m n true true p q small small_there e = eqb-true m 32768 p ∙ sym (eqb-true n 32768 q)
+code_step m n true false p q small small_there e = cc
+code_step m n false true p q small small_there e = cc
+code_step m n false false p q small small_there e =
+    let same : cast_signed w16 m ≡ cast_signed w16 n = cc in
+    sym (of_z-to_z w16 m small) ∙ ap (λ z. cast_unsigned w16 z) same ∙ of_z-to_z w16 n small_there
+
+same_code : (m n : ℕ) → m < 2 ^ 16 → n < 2 ^ 16 → cell_of_code m ≡ cell_of_code n → m ≡ n
+same_code m n small small_there e = code_step m n (nat_eq m 32768) (nat_eq n 32768) refl refl small small_there e
+
+-- codes of the same cells are the same
+pub same_codes : (a b : List ℕ) (n : ℕ) → n ≤ length a → n ≤ length b
+    → ((k : ℕ) → get_or a k 0 < 2 ^ 16) → ((k : ℕ) → get_or b k 0 < 2 ^ 16)
+    → take n (cells_of a) ≡ take n (cells_of b) → take n a ≡ take n b
+same_codes a b n enough enough_there small small_there e = ext_get_or 0 (take n a) (take n b) (omega (arith, long, long_there)) at
+  where
+    long : length (take n a) ≡ n
+    long = length-take n a ∙ omega arith
+
+    long_there : length (take n b) ≡ n
+    long_there = length-take n b ∙ omega arith
+
+    here : (l : List ℕ) (k : ℕ) → n ≤ length l → k < n → cell_at (take n (cells_of l)) k ≡ cell_of_code (get_or l k 0)
+    here l k h lt = get_or-take n (cells_of l) k Unknown lt ∙ code_at l k (omega arith)
+
+    at : (k : ℕ) → k < length (take n a) → get_or (take n a) k 0 ≡ get_or (take n b) k 0
+    at k h =
+        let lt : k < n = omega (arith, long) in
+        get_or-take n a k 0 lt
+        ∙ same_code (get_or a k 0) (get_or b k 0) (small k) (small_there k)
+        (sym (here a k enough lt) ∙ ap (λ (l : List Cell). cell_at l k) e ∙ here b k enough_there lt)
+        ∙ sym (get_or-take n b k 0 lt)

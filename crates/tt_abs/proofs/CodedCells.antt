@@ -2,16 +2,17 @@
 use Rattle.std.specs.Prelude.{reverse, remove}
 use Rattle.std.proofs.Common.{◌≡◌, ◌≢◌, ℕ, zero, suc, ◌+◌, ◌-◌, ◌<◌, ◌≤◌, List, [], ◌∷◌, ◌++◌, get_or, refl, sym, ◌∙◌, ap, subst, arith, inl, inr, length, take, drop, set, length-append, append_assoc}
 use Rattle.std.specs.List.{refill}
-use Rattle.std.proofs.Math.Seq.{take-append-add}
+use Rattle.std.proofs.Math.ListN.{length-take}
+use Rattle.std.proofs.Math.Seq.{drop-append_seam, take-append-add, take-append_seam}
 use Rattle.std.proofs.lemmas.Bool.{cases_lt}
-use Rattle.std.proofs.lemmas.List.{append-nil, drop-map, drop_more, length-drop, get_or-append_right, get_or-map, get_or-set_other, get_or-set_same, length-map, length-reverse, length-set, map-append, map-set, reverse-append, reverse-reverse, set-append_right, take-append-le, take-map, take_all}
+use Rattle.std.proofs.lemmas.List.{append-nil, drop-map, drop_more, ext_get_or, length-drop, get_or-append_right, get_or-map, get_or-set_other, get_or-set_same, get_or-take, length-map, length-reverse, length-set, map-append, map-set, reverse-append, reverse-reverse, set-append_right, take-append-le, take-map, take_all}
 use Rattle.std.proofs.lemmas.List.Edits.{remove-append_left, remove-append_right}
 use Rattle.tt_abs.specs.declared.cells.Cell.{Cell}
 use Rattle.tt_abs.specs.declared.cells.Cell.TheVariants.{Unknown}
 use Rattle.tt_abs.specs.Representation.Codes.{cell_of_code, cells_of, kept_cells}
 use Rattle.tt_abs.specs.Transfers.{cells_on}
 use Rattle.tt_abs.specs.CellOrders.{CellInRange}
-use Rattle.tt_abs.specs.Stacks.{cell_at, IsLeastCell, StackInRange}
+use Rattle.tt_abs.specs.Stacks.{cell_at, IsLeastCell, ShareBottom, StackInRange}
 use Rattle.tt_abs.proofs.Reversed.{cut_is, removed_is}
 use Rattle.tt_abs.proofs.StackOrders.{refilled}
 
@@ -176,22 +177,60 @@ taken_in_range (suc n) [] stack h below = below
 taken_in_range (suc n) (c ∷ cells) stack h below =
     taken_in_range n cells (c ∷ stack) (λ k lt. h (suc k) (omega arith)) (one_in_range c stack (h zero (omega arith)) below)
 
--- the lowest cells
-bottom_kept : (wide : List Cell) (codes : List ℕ) (stack : List Cell) (n : ℕ) → reverse (kept_cells wide codes) ≡ stack
-    → take (length wide + n) (reverse stack) ≡ kept_cells wide (take n codes)
-bottom_kept wide codes stack n e =
-    ap (take (length wide + n)) (sym (upright wide codes stack e))
-    ∙ take-append-add wide (cells_of codes) n
-    ∙ ap (λ x. wide ++ x) (take-map cell_of_code n codes)
-
-pub same_bottom : (wide theirs : List Cell) (codes other_codes : List ℕ) (stack other : List Cell) (count n : ℕ)
-    → reverse (kept_cells wide codes) ≡ stack → reverse (kept_cells theirs other_codes) ≡ other → wide ≡ theirs → count ≡ length wide + n
-    → take n codes ≡ take n other_codes → take count (reverse stack) ≡ take count (reverse other)
-same_bottom wide theirs codes other_codes stack other count n e f same sum front =
-    let there : count ≡ length theirs + n = sum ∙ ap (λ (l : List Cell). length l + n) same in
+-- so many of the lowest cells: the wide ones, and those of the first codes
+lowest_parts : (wide : List Cell) (codes : List ℕ) (stack : List Cell) (count n : ℕ) → reverse (kept_cells wide codes) ≡ stack
+    → count ≡ length wide + n → take count (reverse stack) ≡ wide ++ take n (cells_of codes)
+lowest_parts wide codes stack count n e sum =
     ap (λ m. take m (reverse stack)) sum
-    ∙ bottom_kept wide codes stack n e
-    ∙ ap (λ (l : List Cell). kept_cells l (take n codes)) same
-    ∙ ap (λ (l : List ℕ). kept_cells theirs l) front
-    ∙ sym (bottom_kept theirs other_codes other n f)
-    ∙ ap (λ m. take m (reverse other)) (sym there)
+    ∙ ap (take (length wide + n)) (sym (upright wide codes stack e))
+    ∙ take-append-add wide (cells_of codes) n
+
+pub lowest_from_parts : (wide theirs : List Cell) (codes other_codes : List ℕ) (stack other : List Cell) (count n : ℕ)
+    → reverse (kept_cells wide codes) ≡ stack → reverse (kept_cells theirs other_codes) ≡ other → count ≡ length wide + n
+    → wide ≡ theirs → take n (cells_of codes) ≡ take n (cells_of other_codes) → take count (reverse stack) ≡ take count (reverse other)
+lowest_from_parts wide theirs codes other_codes stack other count n e f sum same front =
+    let there : count ≡ length theirs + n = sum ∙ ap (λ (l : List Cell). length l + n) same in
+    lowest_parts wide codes stack count n e sum
+    ∙ ap (λ (l : List Cell). l ++ take n (cells_of codes)) same
+    ∙ ap (λ (l : List Cell). theirs ++ l) front
+    ∙ sym (lowest_parts theirs other_codes other count n f there)
+
+pub parts_from_lowest : (wide theirs : List Cell) (codes other_codes : List ℕ) (stack other : List Cell) (count n : ℕ)
+    → reverse (kept_cells wide codes) ≡ stack → reverse (kept_cells theirs other_codes) ≡ other → length wide ≡ length theirs → count ≡ length wide + n
+    → take count (reverse stack) ≡ take count (reverse other) → (wide ≡ theirs) × (take n (cells_of codes) ≡ take n (cells_of other_codes))
+parts_from_lowest wide theirs codes other_codes stack other count n e f long sum same =
+    let mine = take n (cells_of codes) in
+    let others = take n (cells_of other_codes) in
+    let there : count ≡ length theirs + n = sum ∙ ap (λ m. m + n) long in
+    let parts : wide ++ mine ≡ theirs ++ others =
+    sym (lowest_parts wide codes stack count n e sum) ∙ same ∙ lowest_parts theirs other_codes other count n f there in (
+      sym (take-append_seam wide mine) ∙ ap (take (length wide)) parts ∙ ap (λ m. take m (theirs ++ others)) long ∙ take-append_seam theirs others,
+      sym (drop-append_seam wide mine) ∙ ap (drop (length wide)) parts ∙ ap (λ m. drop m (theirs ++ others)) long ∙ drop-append_seam theirs others,
+    )
+
+-- cells that are the same place by place, so many of them
+pub lowest_from_places : (a b : List Cell) (n : ℕ) → n ≤ length a → n ≤ length b → ((k : ℕ) → k < n → cell_at (reverse a) k ≡ cell_at (reverse b) k)
+    → take n (reverse a) ≡ take n (reverse b)
+lowest_from_places a b n enough enough_there each =
+    ext_get_or Unknown (take n (reverse a)) (take n (reverse b)) (long a enough ∙ sym (long b enough_there))
+    (λ k h.
+    let lt : k < n = omega (arith, long a enough) in
+    get_or-take n (reverse a) k Unknown lt ∙ each k lt ∙ sym (get_or-take n (reverse b) k Unknown lt))
+  where
+    long : (l : List Cell) → n ≤ length l → length (take n (reverse l)) ≡ n
+    long l h = length-take n (reverse l) ∙ omega (arith, length-reverse l)
+
+-- all of the lowest cells are all cells
+pub all_lowest : (a b : List Cell) (n : ℕ) → n ≡ length a → n ≡ length b → take n (reverse a) ≡ take n (reverse b) → a ≡ b
+all_lowest a b n long long_there e =
+    sym (reverse-reverse a) ∙ ap reverse (sym (whole a long) ∙ e ∙ whole b long_there) ∙ reverse-reverse b
+  where
+    whole : (l : List Cell) → n ≡ length l → take n (reverse l) ≡ reverse l
+    whole l h = take_all n (reverse l) (omega (arith, length-reverse l))
+
+pub share_all : (a b : List Cell) (n : ℕ) → n ≡ length a → a ≡ b → ShareBottom a b n
+share_all a b n long same = record {
+  enough = omega (arith, long);
+  enough_there = omega (arith, long, ap length same);
+  same = ap (λ (l : List Cell). take n (reverse l)) same;
+}

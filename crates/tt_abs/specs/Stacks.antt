@@ -1,5 +1,5 @@
 -- Stacks of cells, top first, and their order.
-use Rattle.std.specs.Prelude.{◌≡◌, ℕ, ◌+◌, List, [], ◌∷◌, Option, None, Some, length, slice_index_or}
+use Rattle.std.specs.Prelude.{◌≡◌, ℕ, ◌+◌, ◌≤◌, List, [], ◌∷◌, Option, None, Some, length, reverse, slice_index_or, take}
 use Rattle.tt_abs.specs.declared.cells.Cell.{Cell}
 use Rattle.tt_abs.specs.declared.cells.Cell.TheVariants.{Unknown}
 use Rattle.tt_abs.specs.Orders.{Order, IsLeastAbove}
@@ -13,6 +13,12 @@ first (x ∷ xs) = Some x
 -- the cell at a place, and unknown past the end
 abbrev pub cell_at : List Cell → ℕ → Cell
 cell_at cells k = slice_index_or cells k Unknown
+
+-- both have so many cells at the bottom, and the same ones
+pub record ShareBottom (a b : List Cell) (count : ℕ) : Type 0 where
+  pub enough : count ≤ length a
+  pub enough_there : count ≤ length b
+  pub same : take count (reverse a) ≡ take count (reverse b)
 
 -- each number of the stack is one of the machine
 abbrev pub StackInRange : List Cell → Type 0

@@ -142,6 +142,7 @@ fn append_code(codes: &mut Codes, code: u16)
 pub fn append_codes(codes: &mut Codes, cells: &[Cell]) -> usize
     requires { HasRoomFor codes.old (length cells.now) }
     ensures count { result ≤ length cells.now }
+    ensures stop { result < length cells.now → HasNoCode (cell_at cells.now result) }
     ensures cells { cells_of codes.new.items ≡ cells_of codes.old.items ++ take result cells.now }
     ensures len { small_vec_len codes.new ≡ small_vec_len codes.old + result }
     ensures in_range { (k : ℕ) → k < result → CellInRange (cell_at cells.now k) }

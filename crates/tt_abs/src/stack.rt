@@ -7,8 +7,8 @@ ghost use Rattle.tt_abs.specs.Transfers.{cells_on};
 ghost use Rattle.tt_abs.specs.declared.cells.Cell.TheVariants.{Known};
 ghost use Rattle.tt_abs.specs.CellOrders.{CellInRange};
 ghost use Rattle.tt_abs.specs.Orders.{IsLeastAbove};
-ghost use Rattle.tt_abs.specs.Representation.Codes.{kept_cells};
-ghost use Rattle.tt_abs.specs.Stacks.{IsLeastCell, StackBelow, StackInRange, cell_at, first, stack_order};
+ghost use Rattle.tt_abs.specs.Representation.Codes.{HasNoCode, cells_of, kept_cells};
+ghost use Rattle.tt_abs.specs.Stacks.{IsLeastCell, ShareBottom, StackBelow, StackInRange, cell_at, first, stack_order};
 
 use crate::cell_codes::{
     Codes, INLINE_CELLS, append_bytes, append_cells, append_codes, are_below, are_equal, cell_of,
@@ -146,7 +146,7 @@ fn number_facts(cell: Cell)
 /// Whether the cells are the same.
 fn cells_equal(mine: &[Cell], theirs: &[Cell]) -> bool
     requires { length mine.now ≡ length theirs.now }
-    ensures { IsTrue result → mine.now ≡ theirs.now }
+    ensures { IsTrue result ↔ (mine.now ≡ theirs.now) }
 {
     for i in 0..mine.len() {
         if !mine[i].is_same(theirs[i]) {
@@ -156,13 +156,14 @@ fn cells_equal(mine: &[Cell], theirs: &[Cell]) -> bool
     true
 }
 
-/// Whether so many codes at the beginning are there in both lists, and the same.
+/// Whether so many codes at the beginning are those of the same cells in both lists.
 fn have_same_front(mine: &[u16], theirs: &[u16], count: usize) -> bool
-    ensures enough { IsTrue result → count ≤ length mine.now }
-    ensures enough_there { IsTrue result → count ≤ length theirs.now }
-    ensures same { IsTrue result → take count mine.now ≡ take count theirs.now }
+    requires enough { count ≤ length mine.now }
+    requires enough_there { count ≤ length theirs.now }
+    ensures { IsTrue result ↔
+        (take count (cells_of mine.now) ≡ take count (cells_of theirs.now)) }
 {
-    count <= mine.len() && count <= theirs.len() && are_equal(&mine[..count], &theirs[..count])
+    are_equal(&mine[..count], &theirs[..count])
 }
 
 impl Stack {
@@ -208,6 +209,8 @@ impl Stack {
     /// many they are.
     fn push_coded(&mut self, cells: &[Cell]) -> Result<usize, AllocError>
         ensures count { IfOk result (λ n. n ≤ length cells.now) }
+        ensures stop { IfOk result (λ n. n < length cells.now
+            → HasNoCode (cell_at cells.now n)) }
         ensures pushed { IfOk result (λ n. self.new ≡ cells_on (take n cells.now) self.old) }
         ensures in_range { OnOk result (StackInRange self.old → StackInRange self.new) }
     {
@@ -399,28 +402,14 @@ impl Stack {
             && cells_equal(self.wide.as_slice(), other.wide.as_slice())
     }
 
-    /// Whether so many cells at the bottom are found to be the same in both stacks. Those that have
-    /// no code are compared only where all of them are among these cells.
-    pub fn shares_bottom(&self, other: &Stack, count: usize) -> bool
-        ensures enough { IsTrue result → count ≤ length self.now }
-        ensures enough_there { IsTrue result → count ≤ length other.now }
-        ensures same { IsTrue result →
-            take count (reverse self.now) ≡ take count (reverse other.now) }
+    /// Whether so many cells at the bottom are the same in both stacks, place by place.
+    fn has_same_lowest(&self, other: &Stack, count: usize) -> bool
+        requires enough { count ≤ length self.now }
+        requires enough_there { count ≤ length other.now }
+        ensures { IsTrue result ↔
+            (take count (reverse self.now) ≡ take count (reverse other.now)) }
     {
-        let wide = self.wide.len();
-        if wide != other.wide.len() || count < wide {
-            return false;
-        }
-        have_same_front(self.codes.as_slice(), other.codes.as_slice(), count - wide)
-            && cells_equal(self.wide.as_slice(), other.wide.as_slice())
-    }
-
-    /// Whether each cell is the same as its partner, of two equally deep stacks.
-    fn partners_same(&self, other: &Stack) -> bool
-        requires { length self.now ≡ length other.now }
-        ensures { IsTrue result ↔ (self.now ≡ other.now) }
-    {
-        for place in 0..self.len() {
+        for place in 0..count {
             if !self.at(place).is_same(other.at(place)) {
                 return false;
             }
@@ -428,11 +417,28 @@ impl Stack {
         true
     }
 
+    /// Whether both stacks have so many cells at the bottom, and the same ones.
+    pub fn shares_bottom(&self, other: &Stack, count: usize) -> bool
+        ensures { IsTrue result ↔ ShareBottom self.now other.now count }
+    {
+        if count > self.len() || count > other.len() {
+            return false;
+        }
+        let wide = self.wide.len();
+        // The usual case: as many cells are wide in both, mostly none.
+        if wide == other.wide.len() && wide <= count {
+            have_same_front(self.codes.as_slice(), other.codes.as_slice(), count - wide)
+                && cells_equal(self.wide.as_slice(), other.wide.as_slice())
+        } else {
+            self.has_same_lowest(other, count)
+        }
+    }
+
     /// Whether the cells are the same.
     pub fn is_same(&self, other: &Stack) -> bool
         ensures { IsTrue result ↔ (self.now ≡ other.now) }
     {
-        self.len() == other.len() && (self.has_same_parts(other) || self.partners_same(other))
+        self.len() == other.len() && self.shares_bottom(other, self.len())
     }
 
     /// Whether each cell is below its partner, of two equally deep stacks, place by place.

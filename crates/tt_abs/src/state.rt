@@ -32,9 +32,10 @@ const DEFAULT: Graphics<Cell, ZoneCell> = Graphics {
 };
 
 impl State {
-    ghost use Rattle.std.specs.Prelude.{◌≡◌, ◌<◌, ◌≤◌, ◌+◌, ◌∷◌, ◌↔◌, length, reverse, take, slice_get, IsTrue, IfOk, OnOk, OnErr, [], drop};
+    ghost use Rattle.std.specs.Prelude.{◌≡◌, ◌<◌, ◌≤◌, ◌+◌, ◌∷◌, ◌↔◌, length, reverse, slice_get, IsTrue, IfOk, OnOk, OnErr, [], drop};
     ghost use Rattle.tt_code.specs.States.{pointer, reference, with_pointer, with_reference};
     ghost use Rattle.tt_abs.specs.Entries.{Rises, storage_of, with_cell, with_entry};
+    ghost use Rattle.tt_abs.specs.Stacks.{ShareBottom};
     ghost use Rattle.tt_abs.specs.States.{KeepsRange, start_of, state_order};
     ghost use Rattle.tt_abs.specs.Transfers.{cells_on};
 
@@ -104,13 +105,10 @@ impl State {
         self.functions.is_same(&other.functions)
     }
 
-    /// Whether so many cells at the bottom of the stack are found to be the same in both states, as
-    /// they are where it answers `true`. Takes no memory.
+    /// Whether both states' stacks have so many cells at the bottom, and the same ones. Takes no
+    /// memory.
     pub fn shares_bottom(&self, other: &State, count: usize) -> bool
-        ensures enough { IsTrue result → count ≤ length self.now.stack }
-        ensures enough_there { IsTrue result → count ≤ length other.now.stack }
-        ensures same { IsTrue result →
-            take count (reverse self.now.stack) ≡ take count (reverse other.now.stack) }
+        ensures { IsTrue result ↔ ShareBottom self.now.stack other.now.stack count }
     {
         self.stack.shares_bottom(&other.stack, count)
     }
