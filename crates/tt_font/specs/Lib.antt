@@ -1,6 +1,7 @@
 pub mod Numbers
 pub mod Tags
 pub mod FaultNumbers
+pub mod FaultTexts
 pub mod Maxp
 pub mod Directory
 pub mod Locations

@@ -6,39 +6,31 @@ ghost use Rattle.tt_font.specs.FaultNumbers.{fault_number};
 
 use crate::tag::Tag;
 use std::alloc::{AllocError, AllocFailed};
-use thiserror::Error;
+use std::error::Error;
+use std::fmt;
 
 /// Why the bytes of a file aren't a font whose programs can be checked.
-#[derive(Clone, Copy, Debug, PartialEq, Eq, Error)]
+#[derive(Clone, Copy, Debug, PartialEq, Eq, Drop)]
 pub enum FontFault {
     /// The file doesn't begin with a version of TrueType outlines.
-    #[error("not an sfnt file")]
     NotSfnt,
     /// The file ends before its directory does.
-    #[error("directory truncated")]
     DirectoryTruncated,
     /// The directory has no record of the table.
-    #[error("missing table '{0}'")]
     MissingTable(Tag),
     /// The table doesn't lie in the file, or is too short or too long.
-    #[error("table outside '{0}'")]
     TableOutside(Tag),
     /// `maxp` isn't of version 1.0.
-    #[error("maxp version")]
     MaxpVersion,
     /// An entry of `loca` is missing, points outside `glyf` or lies below the one before it; or, as
     /// entry 0, the format of `loca` isn't known.
-    #[error("loca entry {0}")]
     Loca(u32),
     /// A glyph's bytes end too early.
-    #[error("glyph {0} truncated")]
     GlyphTruncated(u16),
     /// A composite glyph leads to no glyph or nests too deep, or a glyph has more than 65,535
     /// points or contours.
-    #[error("composite {0}")]
     Composite(u16),
     /// Memory ran out.
-    #[error("out of memory")]
     OutOfMemory(AllocError),
 }
 
@@ -60,6 +52,29 @@ impl FontFault {
         }
     }
 }
+
+impl fmt::Display for FontFault {
+    ghost use Rattle.std.specs.Prelude.{Some};
+    ghost use Rattle.tt_font.specs.FaultTexts.{fault_text};
+
+    ghost output = { λ fault. Some (fault_text fault) };
+
+    fn fmt<W: fmt::Write>(&self, f: &mut fmt::Formatter<W>) -> fmt::Result {
+        match self {
+            FontFault::NotSfnt => write!(f, "not an sfnt file"),
+            FontFault::DirectoryTruncated => write!(f, "directory truncated"),
+            FontFault::MissingTable(tag) => write!(f, "missing table '{tag}'"),
+            FontFault::TableOutside(tag) => write!(f, "table outside '{tag}'"),
+            FontFault::MaxpVersion => write!(f, "maxp version"),
+            FontFault::Loca(entry) => write!(f, "loca entry {entry}"),
+            FontFault::GlyphTruncated(glyph) => write!(f, "glyph {glyph} truncated"),
+            FontFault::Composite(glyph) => write!(f, "composite {glyph}"),
+            FontFault::OutOfMemory(_) => write!(f, "out of memory"),
+        }
+    }
+}
+
+impl Error for FontFault {}
 
 impl<T: Drop> From<AllocFailed<T>> for FontFault {
     ghost use Rattle.std.specs.Prelude.{◌≡◌, alloc_error};

@@ -4,31 +4,25 @@ ghost use Rattle.std.specs.Prelude.{◌≡◌};
 ghost use Rattle.tt_font.specs.Tags.{tag_bytes, tag_number};
 
 use byteorder::{BigEndian, ByteOrder};
-use thiserror::Error;
+use std::error::Error;
+use std::fmt;
 
 /// The tables of a font file that are read (OpenType specification, "Table directory").
-#[derive(Clone, Copy, Debug, PartialEq, Eq, Error)]
+#[derive(Clone, Copy, Debug, PartialEq, Eq, Drop)]
 pub enum Tag {
     /// The control values.
-    #[error("cvt ")]
     Cvt,
     /// The font program.
-    #[error("fpgm")]
     Fpgm,
     /// The glyphs.
-    #[error("glyf")]
     Glyf,
     /// The font header.
-    #[error("head")]
     Head,
     /// Where each glyph is.
-    #[error("loca")]
     Loca,
     /// The maximum profile: what the programs may use.
-    #[error("maxp")]
     Maxp,
     /// The CVT program.
-    #[error("prep")]
     Prep,
 }
 
@@ -55,3 +49,24 @@ impl Tag {
         BigEndian::read_u32(&self.bytes())
     }
 }
+
+impl fmt::Display for Tag {
+    ghost use Rattle.std.specs.Prelude.{Some};
+    ghost use Rattle.tt_font.specs.Tags.{tag_bytes};
+
+    ghost output = { λ tag. Some (tag_bytes tag) };
+
+    fn fmt<W: fmt::Write>(&self, f: &mut fmt::Formatter<W>) -> fmt::Result {
+        f.write_str(match self {
+            Tag::Cvt => "cvt ",
+            Tag::Fpgm => "fpgm",
+            Tag::Glyf => "glyf",
+            Tag::Head => "head",
+            Tag::Loca => "loca",
+            Tag::Maxp => "maxp",
+            Tag::Prep => "prep",
+        })
+    }
+}
+
+impl Error for Tag {}
