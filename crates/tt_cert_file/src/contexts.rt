@@ -8,7 +8,7 @@ ghost use Rattle.tt_cert.specs.Rising.{IsFinished};
 ghost use Rattle.tt_cert.specs.Contexts.{frames_of};
 ghost use Rattle.tt_stream.specs.Reads.{ConsumesBeginning};
 ghost use Rattle.tt_cert_file.specs.Answers.{CountsRead, IsOutOfMemory};
-ghost use Rattle.tt_cert_file.specs.Representation.Clauses.{ReadsAs, ReadsBy, StopsWhole};
+ghost use Rattle.tt_cert_file.specs.Representation.Clauses.{IsEmptyBuilder, ReadsAs, ReadsBy, StopsWhole};
 ghost use Rattle.tt_cert_file.specs.Forms.{most_contexts};
 ghost use Rattle.tt_cert_file.specs.Readers.{list_at};
 ghost use Rattle.tt_cert_file.specs.Reading.{context_at, context_count_at, contexts_at};
@@ -178,15 +178,17 @@ pub(crate) fn read_contexts<S: Source>(
     read_context_list(alloc, source, at, count)
 }
 
-/// Makes a builder with these contexts, by their numbers, and without a state.
-pub(crate) fn builder_of(alloc: Global, contexts: &[(u32, Frame)]) -> Result<Builder, AllocError>
+/// Makes a builder with these contexts, by their numbers, and without a state, in the memory of one
+/// that has none.
+pub(crate) fn builder_of(spare: Builder, contexts: &[(u32, Frame)]) -> Result<Builder, AllocError>
+    requires spare { IsEmptyBuilder spare }
     requires contexts { AreContexts contexts.now }
     requires few { length contexts.now ≤ 65534 }
     ensures contexts { IfOk result (λ builder. builder.contexts ≡ frames_of contexts.now) }
     ensures states { IfOk result (λ builder. builder.states ≡ []) }
     ensures finished { IfOk result (λ builder. IsFinished builder) }
 {
-    let mut builder = Builder::new(alloc);
+    let mut builder = spare;
     for (parent, frame) in contexts {
         match builder.add_context(*parent, *frame) {
             Ok(_) => {}

@@ -20,5 +20,5 @@ pub use form::Form;
 pub use header::{read_end, read_header, write_header};
 pub use laws::no_section_begins_another;
 pub use name::Name;
-pub use reading::decode;
+pub use reading::{Decoder, decode};
 pub use writing::encode;

@@ -3,7 +3,8 @@
 ghost use Rattle.std.specs.Prelude.{◌≡◌, ◌++◌, ℕ, List, Some, IfErr, IfOk, MatchResult};
 ghost use Rattle.tt_stream.specs.Reads.{ConsumesBeginning};
 ghost use Rattle.tt_cert_file.specs.Answers.{AreBytes, CountsRead, GivesSection, IsFormFault, ReadsSection, StopsAtEnd, input_at};
-ghost use Rattle.tt_cert_file.specs.Representation.Clauses.{ReadsAs, StopsWhole};
+ghost use Rattle.tt_cert_file.specs.Representation.Clauses.{IsEmptyBuilder, ReadsAs, StopsWhole};
+ghost use Rattle.tt_cert_file.specs.Representation.SharedCells.{IsLast};
 ghost use Rattle.tt_cert_file.specs.Reading.{section_at};
 ghost use Rattle.tt_cert_file.specs.Rules.{Fits};
 ghost use Rattle.tt_cert_file.specs.Sections.{Section, section_of};
@@ -13,22 +14,29 @@ use crate::contexts::{builder_of, read_contexts};
 use crate::fault::DecodeFault;
 use crate::form::Form;
 use crate::name::Name;
-use crate::states::read_states;
+use crate::states::{LastState, read_states};
 use crate::units::read_name;
-use std::alloc::Global;
-use tt_cert::Certificate;
+use std::alloc::{AllocError, Global};
+use std::marker::Model;
+use tt_cert::{Builder, Certificate};
 use tt_stream::Source;
 
-/// Reads a section, and returns it with the place after it.
+/// Reads a section in the memory of a builder that has nothing, its first state after this one, and
+/// returns it with the state that was read last and the place after it.
 #[tactic(auto, unfolding(crate::specs::Reading::section_at))]
 fn read_section<S: Source>(
     alloc: Global,
     source: &mut S,
     place: u64,
     form: Form,
-) -> Result<((Name, Certificate), u64), DecodeFault>
+    spare: Builder,
+    before: LastState,
+) -> Result<((Name, Certificate, LastState), u64), DecodeFault>
+    requires spare { IsEmptyBuilder spare }
+    requires before { IsLast before }
     ensures reads { ReadsAs (λ x. section_of x.0 x.1) (section_at form) place result
         (S.remaining source.old) (S.remaining source.new) }
+    ensures kept { IfOk result (λ r. IsLast r.0.2) }
     ensures beginning { ConsumesBeginning (S.remaining source.old) (S.remaining source.new) }
     ensures stopped { StopsWhole (section_at form) place result
         (S.remaining source.old) (S.remaining source.new) }
@@ -36,9 +44,103 @@ fn read_section<S: Source>(
 {
     let (name, at) = read_name(source, place)?;
     let (contexts, at) = read_contexts(alloc, source, at, form)?;
-    let builder = builder_of(alloc, &contexts)?;
-    let (builder, at) = read_states(alloc, builder, source, at, form)?;
-    Ok(((name, Certificate::of(builder)), at))
+    let builder = builder_of(spare, &contexts)?;
+    let ((builder, last), at) = read_states(builder, source, at, form, before)?;
+    Ok(((name, Certificate::of(builder), last), at))
+}
+
+/// A reader of sections, one after the other: each is read in the memory of those before it, and is
+/// compared to the last one, which it mostly resembles. What is read doesn't depend on them.
+#[derive(Drop)]
+pub struct Decoder {
+    /// The state that was read last.
+    last: Option<LastState>,
+    /// A certificate that isn't needed any more.
+    spare: Option<Certificate>,
+}
+
+impl Model for Decoder {
+    ghost use Rattle.std.specs.Prelude.{IfSome};
+    ghost use Rattle.tt_cert_file.specs.Representation.SharedCells.{IsLast};
+
+    ghost Value = { Unit {0} };
+
+    ghost view = { λ _. tt };
+
+    ghost invariant = { λ d. IfSome d.last IsLast };
+}
+
+impl Decoder {
+    /// Makes a reader that has read nothing. It takes no memory.
+    pub fn new() -> Self {
+        Decoder {
+            last: None,
+            spare: None,
+        }
+    }
+
+    /// Takes the state that was read last, or makes one.
+    fn take_last(&mut self, alloc: Global) -> Result<LastState, AllocError>
+        ensures { IfOk result (λ last. IsLast last) }
+    {
+        match self.last.take() {
+            Some(last) => Ok(last),
+            None => LastState::new(alloc),
+        }
+    }
+
+    /// Takes the memory of the certificate that isn't needed any more, if there is one.
+    fn take_spare(&mut self, alloc: Global) -> Builder
+        ensures { IsEmptyBuilder result }
+    {
+        match self.spare.take() {
+            Some(certificate) => certificate.into_builder(),
+            None => Builder::new(alloc),
+        }
+    }
+
+    /// Takes back a certificate, in whose memory the next one is read.
+    pub fn take_back(&mut self, certificate: Certificate) {
+        self.spare = Some(certificate);
+    }
+
+    /// Reads the next section, as `decode` does.
+    ///
+    /// # Errors
+    /// As `decode`.
+    pub fn decode<S: Source>(
+        &mut self,
+        alloc: Global,
+        source: &mut S,
+        start: u64,
+        form: Form,
+    ) -> Result<(Name, Certificate, u64), DecodeFault>
+        // What is read was at the beginning of the input, of which no more is read.
+        ensures found { IfOk result (λ r. (input : List ℕ)
+            → S.remaining source.old ≡ Some input → AreBytes input
+            → ReadsSection form input start (section_of r.0 r.1) (S.remaining source.new) r.2) }
+        // A section at the beginning of the input is read, except for failed reads and out of
+        // memory.
+        ensures only { (s : Section) (rest : List ℕ) → Fits form s
+            → S.remaining source.old ≡ Some (section_text form s ++ rest)
+            → MatchResult result (λ r. section_of r.0 r.1 ≡ s) (λ fault. ¬ IsFormFault fault) }
+        // Which place a fault names.
+        ensures exact { GivesSection (S.remaining source.old) (S.remaining source.new) result
+            (section_at form (input_at start (S.remaining source.old))) }
+        ensures beginning { ConsumesBeginning (S.remaining source.old) (S.remaining source.new) }
+        // Where a read failed, no unit that was read whole breaks a rule.
+        ensures whole_units { IfErr result
+            (StopsAtEnd start (S.remaining source.old) (S.remaining source.new) (section_at form)) }
+        ensures failures { CountsRead result (S.failures source.old) (S.failures source.new) }
+    {
+        let before = self.take_last(alloc)?;
+        let spare = self.take_spare(alloc);
+        let ((name, certificate, last), after) = read_section(
+            alloc, source, start, form, spare, before,
+        )?;
+        self.last = Some(last);
+        Ok((name, certificate, after))
+    }
 }
 
 /// Reads a section of a certificate file of this form, which begins at the place `start` of the
@@ -73,6 +175,5 @@ pub fn decode<S: Source>(
         (StopsAtEnd start (S.remaining source.old) (S.remaining source.new) (section_at form)) }
     ensures failures { CountsRead result (S.failures source.old) (S.failures source.new) }
 {
-    let ((name, certificate), after) = read_section(alloc, source, start, form)?;
-    Ok((name, certificate, after))
+    Decoder::new().decode(alloc, source, start, form)
 }

@@ -92,7 +92,7 @@ fn set_rest(
 /// The state that was read last, in whose memory the next one is made, and the lists of which it
 /// was made, in whose memory those of the next one are read.
 #[derive(Drop)]
-struct LastState {
+pub(crate) struct LastState {
     state: State,
     stack: LastStack,
     functions: Functions,
@@ -104,7 +104,7 @@ impl LastState {
     ///
     /// # Errors
     /// If memory runs out.
-    fn new(alloc: Global) -> Result<Self, AllocError>
+    pub(crate) fn new(alloc: Global) -> Result<Self, AllocError>
         ensures { IfOk result (λ last. IsLast last) }
     {
         Ok(LastState {
@@ -236,19 +236,22 @@ fn add_state(builder: &mut Builder, point: (u32, u32), state: &State) -> Result<
     }
 }
 
-/// Reads this many states into a builder that has their contexts and no state.
+/// Reads this many states into a builder that has their contexts and no state, the first of them
+/// after this one.
 fn read_state_list<S: Source>(
-    alloc: Global,
     builder: Builder,
     source: &mut S,
     place: u64,
     form: Form,
     count: u32,
-) -> Result<(Builder, u64), DecodeFault>
-    requires { builder.states ≡ [] }
-    ensures reads { ReadsAs (λ b. b.states) (entries_at form (length builder.contexts) count)
+    before: LastState,
+) -> Result<((Builder, LastState), u64), DecodeFault>
+    requires empty { builder.states ≡ [] }
+    requires before { IsLast before }
+    ensures reads { ReadsAs (λ x. x.0.states) (entries_at form (length builder.contexts) count)
         place result (S.remaining source.old) (S.remaining source.new) }
-    ensures contexts { IfOk result (λ r. r.0.contexts ≡ builder.contexts) }
+    ensures contexts { IfOk result (λ r. r.0.0.contexts ≡ builder.contexts) }
+    ensures kept { IfOk result (λ r. IsLast r.0.1) }
     ensures beginning { ConsumesBeginning (S.remaining source.old) (S.remaining source.new) }
     ensures stopped { StopsWhole (entries_at form (length builder.contexts) count)
         place result (S.remaining source.old) (S.remaining source.new) }
@@ -257,7 +260,7 @@ fn read_state_list<S: Source>(
     let mut builder = builder;
     let contexts = builder.contexts();
     let mut last = None;
-    let mut last_state = LastState::new(alloc)?;
+    let mut last_state = before;
     let mut at = place;
     'states: for _ in 0..count {
         let ((point, read), after) = read_entry(source, at, form, contexts, last, last_state)?;
@@ -266,27 +269,30 @@ fn read_state_list<S: Source>(
         last = Some(point);
         at = after;
     }
-    Ok((builder, at))
+    Ok(((builder, last_state), at))
 }
 
-/// Reads the states of a section into a builder that has its contexts and no state.
+/// Reads the states of a section into a builder that has its contexts and no state, the first of
+/// them after this one.
 #[tactic(auto, unfolding(crate::specs::Reading::states_at))]
 pub(crate) fn read_states<S: Source>(
-    alloc: Global,
     builder: Builder,
     source: &mut S,
     place: u64,
     form: Form,
-) -> Result<(Builder, u64), DecodeFault>
-    requires { builder.states ≡ [] }
-    ensures reads { ReadsAs (λ b. b.states) (states_at form (length builder.contexts)) place result
-        (S.remaining source.old) (S.remaining source.new) }
-    ensures contexts { IfOk result (λ r. r.0.contexts ≡ builder.contexts) }
+    before: LastState,
+) -> Result<((Builder, LastState), u64), DecodeFault>
+    requires empty { builder.states ≡ [] }
+    requires before { IsLast before }
+    ensures reads { ReadsAs (λ x. x.0.states) (states_at form (length builder.contexts))
+        place result (S.remaining source.old) (S.remaining source.new) }
+    ensures contexts { IfOk result (λ r. r.0.0.contexts ≡ builder.contexts) }
+    ensures kept { IfOk result (λ r. IsLast r.0.1) }
     ensures beginning { ConsumesBeginning (S.remaining source.old) (S.remaining source.new) }
     ensures stopped { StopsWhole (states_at form (length builder.contexts)) place result
         (S.remaining source.old) (S.remaining source.new) }
     ensures failures { CountsRead result (S.failures source.old) (S.failures source.new) }
 {
     let (count, at) = read_long(source, place)?;
-    read_state_list(alloc, builder, source, at, form, count)
+    read_state_list(builder, source, at, form, count, before)
 }

@@ -1,6 +1,7 @@
 -- What clauses of private functions say again and again: how a unit is read, and that a text is
 -- appended.
-use Rattle.std.specs.Prelude.{◌≡◌, ℕ, List, [], ◌++◌, Option, Result, IfErr, OnOk}
+use Rattle.std.specs.Prelude.{◌≡◌, ℕ, List, [], ◌∷◌, ◌++◌, Option, Result, IfErr, OnOk}
+use Rattle.tt_cert.specs.Contents.{Contents, IsFamily}
 use Rattle.tt_cert_file.specs.declared.fault.DecodeFault.{DecodeFault}
 use Rattle.tt_cert_file.specs.Answers.{Gives, StopsAtEnd, input_at}
 use Rattle.tt_cert_file.specs.declared.form.Form.{Form}
@@ -31,3 +32,9 @@ entries_at form contexts count i = list_at (entry_at form contexts) [] count i
 -- the text is appended, unless memory runs out
 abbrev pub Pushes : {X E : Type 0} → List ℕ → Result X E → List ℕ → List ℕ → Type 0
 Pushes text result old new = OnOk result (new ≡ old ++ text)
+
+-- the builder has only the empty context, and no state
+pub record IsEmptyBuilder (builder : Contents) : Type 0 where
+  pub contexts : builder.contexts ≡ [] ∷ []
+  pub states : builder.states ≡ []
+  pub family : IsFamily builder

@@ -75,3 +75,11 @@ returns-in_err-builder-2-clause-stopped g c =
     (stops_second (contexts_at c.args.form) (λ contexts. states_at c.args.form (length contexts + 1)) _ _ _ _ _ contexts e (contexts_steady c.args.form) c.in_ok-contexts.ensures.reads
     (subst (λ (n : ℕ). StopsAtEnd c.in_ok-contexts.at (g.S.Source.remaining c.read_contexts.new.source) (g.S.Source.remaining c.read_states.new.source) (states_at c.args.form n) e) long
     c.in_err-builder-2.ensures.stopped))))
+
+pub returns-in_err-name-clause-stopped : goal.returns-in_err-name-clause-stopped
+unfolding section_at
+returns-in_err-name-clause-stopped g c =
+    let p = err_from_is_err_and c.from_residual.result c.from_residual.ensures.1 in
+    let e = c.in_err-name.field-0.0 in
+    rw (p.1, p.2) (stops_made section_from (fields_at c.args.form) _ _ _ e
+    (stops_first name_at (λ _. after_name c.args.form) _ _ _ e c.in_err-name.ensures.stopped))

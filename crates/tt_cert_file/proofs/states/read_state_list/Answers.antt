@@ -15,15 +15,15 @@ use Rattle.tt_cert_file.proofs.states.read_state_list.Goals as goal
 pub states-init : goal.states-init
 states-init g c = (
   reads_none (entry_at c.args.form (length c.args.builder.contexts)) (g.S.Source.remaining c.args.source.now) c.args.place c.args.builder.states c.args.count
-      (g.S.Source.failures c.args.source.now) c.requires,
+      (g.S.Source.failures c.args.source.now) c.requires.empty,
   refl,
-  sym (ap last_place c.requires),
-  c.in_ok-last_state.ensures,
+  sym (ap last_place c.requires.empty),
+  c.requires.before,
 )
 
 pub returns-in_err-point-clause-reads : goal.returns-in_err-point-clause-reads
 returns-in_err-point-clause-reads g c =
-    let p = err_from_is_err_and c.from_residual-in_err-point.result c.from_residual-in_err-point.ensures.1 in
+    let p = err_from_is_err_and c.from_residual.result c.from_residual.ensures.1 in
     let same = ap (λ (read : Input → Answer Entry). read (input_at c.states.at (g.S.Source.remaining c.states.source))) (entry_same c.args.form c.contexts-contexts.result (length c.args.builder.contexts) c.states.last c.states.builder.states c.contexts-contexts.ensures.value c.states.invariant.2) in
     rw (p.1, p.2) (λ known. reads_fail (entry_at c.args.form (length c.args.builder.contexts)) _ _ _ c.states.builder.states c.args.count c.states.counter c.states.at _ _
     c.in_err-point.field-0.0 c.states.invariant.0 c.states-test.true (λ k. subst (Fails c.in_err-point.field-0.0) same (c.in_err-point.ensures.reads k)) known)
@@ -53,7 +53,7 @@ returns-clause-reads g c =
 
 pub returns-in_err-point-clause-stopped : goal.returns-in_err-point-clause-stopped
 returns-in_err-point-clause-stopped g c =
-    let p = err_from_is_err_and c.from_residual-in_err-point.result c.from_residual-in_err-point.ensures.1 in
+    let p = err_from_is_err_and c.from_residual.result c.from_residual.ensures.1 in
     let one = entry_at c.args.form (length c.args.builder.contexts) in
     let e = c.in_err-point.field-0.0 in
     let same = entry_same c.args.form c.contexts-contexts.result (length c.args.builder.contexts) c.states.last c.states.builder.states c.contexts-contexts.ensures.value c.states.invariant.2 in
