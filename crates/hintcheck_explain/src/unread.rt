@@ -1,8 +1,8 @@
 //! Explains a program that can't be cut or isn't structured.
 
-ghost use Rattle.hintcheck_explain.specs.Faults.{TellsFailure};
+ghost use Rattle.tt_stream.specs.Streams.{CountsPrintFailure};
 
-use crate::asked::{Asked, ExplainFault};
+use crate::asked::Asked;
 use crate::instruction_text::{length_by_code, name_of};
 use crate::listing::{Code, Listing};
 use crate::meaning::{advice_of, class_of, class_text};
@@ -10,7 +10,7 @@ use crate::place::{Place, Refused};
 use crate::trouble::Trouble;
 use std::fmt;
 use tt_code::Reason;
-use tt_stream::Sink;
+use tt_stream::{PrintFailed, Sink};
 
 /// Why the bytes aren't a program.
 #[derive(Clone, Copy)]
@@ -66,8 +66,8 @@ pub fn explain_unread<O: Sink>(
     offset: u32,
     reason: Reason,
     out: &mut O,
-) -> Result<(), ExplainFault>
-    ensures failures { TellsFailure result (O.failures out.old) (O.failures out.new) }
+) -> Result<(), PrintFailed>
+    ensures failures { CountsPrintFailure result (O.failures out.old) (O.failures out.new) }
 {
     let place = Place {
         program: asked.program,
