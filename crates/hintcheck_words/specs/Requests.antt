@@ -116,8 +116,8 @@ pub record HasNumbers (rows : List Row) : Type 0 where
 abbrev pub HasOffset : List Row → Type 0
 HasOffset rows = HasNumberIfAny 4294967295 rows (codes "OFFSET")
 
--- a subcommand that asks for something, whose numbers are there if it is `bare`, and whose offset is
--- a number if it is `explain`
+-- a subcommand that asks for something, whose numbers are there if it is `bare`, and whose offset
+-- is a number if it is `explain`
 pub record IsReadable (found : Text × List Row) : Type 0 where
   pub known : is_some (request_of found) ≡ true
   pub numbers : found.0 ≡ codes "bare" → HasNumbers found.1

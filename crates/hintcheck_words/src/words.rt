@@ -112,8 +112,8 @@ fn needed_number<'a>(alloc: Global, id: &'a str, help: &'a str) -> Arg<'a>
     needed(alloc, id, help).value_parser(value_parser!(u16))
 }
 
-/// What is printed at `--version`, after the program's name: the version, and the kit by which it is
-/// proved.
+/// What is printed at `--version`, after the program's name: the version, and the kit by which it
+/// is proved.
 const VERSION: &str = "0.9.0 (rattle-kit-13f logic dac8208d650f15bf)";
 
 /// A subcommand's name, what it does, and an example of its words.
