@@ -1,5 +1,5 @@
 -- What is told of a program that is explained, and of the faults.
-use Rattle.std.proofs.Common.{◌≡◌, ℕ, Bool, true, false, IfErr, IfOk, IsErrAnd, List, OnOk, Some, Result, Ok, Err, refl}
+use Rattle.std.proofs.Common.{◌≡◌, ◌≢◌, ℕ, Bool, true, false, IfErr, IfOk, IsErrAnd, List, OnOk, Some, Result, Ok, Err, refl}
 use Rattle.std.specs.Prelude.{slice_get}
 use Rattle.tt_code.specs.Cut.{Instruction}
 use Rattle.tt_font.specs.Reading.{FontData, GlyphData}
@@ -12,13 +12,12 @@ use Rattle.hintcheck_explain.specs.declared.asked.ExplainFault.{ExplainFault}
 use Rattle.hintcheck_explain.specs.declared.asked.ExplainFault.TheVariants as explaining
 use Rattle.tt_stream.specs.declared.text.PrintFailed.TheVariants as failed
 use Rattle.hintcheck.specs.Commands.{TellsFailure, fault_of_explain}
-use Rattle.hintcheck.specs.CommandFaults.{IsFaultOfExplaining, IsFaultOfText}
+use Rattle.hintcheck.specs.CommandFaults.{IsFaultOfLines}
 use Rattle.hintcheck.specs.Explanations.{IsJudged, RefusesProgram, TellsProgram, cvt_accepted, cvt_refused, font_accepted, font_refused, glyph_accepted, glyph_refused}
 use Rattle.hintcheck.specs.FontPrograms.{cvt_subject, font_of, font_subject, glyph_subject}
 use Rattle.hintcheck.specs.ProgramVerdicts.{IsFaultOfProgram, reported_at}
 use Rattle.hintcheck.specs.Programs.{EndsWith, HasLeastFamily, IsRefusal, Subject}
 use Rattle.hintcheck.specs.declared.commands.faults.CommandFault.{CommandFault}
-use Rattle.hintcheck.specs.declared.commands.faults.CommandFault.TheVariants as fault
 use Rattle.hintcheck.specs.declared.report.Refused.{Refused}
 
 -- a failed write of an explanation
@@ -29,30 +28,12 @@ failed_text S (explaining.Write failed.Format) (Err told) old new tells is = rw 
 failed_text S explaining.NoInstruction (Err told) old new tells is = rw is tells
 failed_text S (explaining.OutOfMemory error) (Err told) old new tells is = rw is tells
 
-pub fault_of_text : {T : Type 0} (e : ExplainFault) (r : Result T CommandFault) → IsErrAnd r (λ told. told ≡ fault_of_explain e) → IfErr r IsFaultOfText
-fault_of_text e (Ok x) is = absurd is
-fault_of_text (explaining.Write failed.Write) (Err told) is = rw is tt
-fault_of_text (explaining.Write failed.Format) (Err told) is = rw is tt
-fault_of_text explaining.NoInstruction (Err told) is = rw is tt
-fault_of_text (explaining.OutOfMemory error) (Err told) is = rw is tt
-
--- a fault of the text is one of explaining the program
-pub text_of_explaining : (bytes word : List ℕ) (told : CommandFault) → IsFaultOfText told → IsFaultOfExplaining bytes word told
-text_of_explaining bytes word fault.OffsetWord is = tt
-text_of_explaining bytes word fault.OutOfMemory is = tt
-text_of_explaining bytes word fault.Write is = tt
-text_of_explaining bytes word fault.Text is = tt
-text_of_explaining bytes word (fault.Usage t) is = absurd is
-text_of_explaining bytes word fault.MaxpWord is = absurd is
-text_of_explaining bytes word fault.ProgramWord is = absurd is
-text_of_explaining bytes word fault.CertificateWord is = absurd is
-text_of_explaining bytes word fault.NewWord is = absurd is
-text_of_explaining bytes word (fault.Font numbered) is = absurd is
-text_of_explaining bytes word (fault.Form place) is = absurd is
-text_of_explaining bytes word fault.ScanFault is = absurd is
-text_of_explaining bytes word fault.ScanOutOfMemory is = absurd is
-text_of_explaining bytes word fault.Read is = absurd is
-text_of_explaining bytes word fault.File is = absurd is
+pub fault_of_text : {T : Type 0} (e : ExplainFault) (r : Result T CommandFault) → e ≢ explaining.NoInstruction → IsErrAnd r (λ told. told ≡ fault_of_explain e) → IfErr r IsFaultOfLines
+fault_of_text e (Ok x) other is = absurd is
+fault_of_text (explaining.Write failed.Write) (Err told) other is = rw is tt
+fault_of_text (explaining.Write failed.Format) (Err told) other is = rw is tt
+fault_of_text explaining.NoInstruction (Err told) other is = absurd (other refl)
+fault_of_text (explaining.OutOfMemory error) (Err told) other is = rw is tt
 
 -- a program that a fault refuses
 pub refusal_of : (x : Subject) (fault : ProgramFault) → IsFaultOfProgram x fault → RefusesProgram fault → (r : Refused) × IsRefusal x r

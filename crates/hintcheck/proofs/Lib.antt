@@ -26,4 +26,7 @@ pub mod SecondFindings
 pub mod FailedReads
 pub mod UpgradeReads
 pub mod ScanLemmas
+pub mod ScannedLines
+pub mod ScanFaults
+pub mod PlaceLemmas
 pub mod ExplanationLemmas

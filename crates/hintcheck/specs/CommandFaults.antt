@@ -9,6 +9,7 @@ use Rattle.hintcheck_words.specs.HexWords.{IsHexWord, Spells}
 use Rattle.hintcheck_words.specs.Requests.{Request, bare, check, explain, find, is_taken, list, meaning, scan, upgrade, verdict}
 use Rattle.hintcheck.specs.Commands.{ReadsToEnd, status_of}
 use Rattle.hintcheck.specs.BarePrograms.{IsMemory}
+use Rattle.hintcheck.specs.Explanations.{HoldNoSuchPlace, HoldPlace}
 use Rattle.hintcheck.specs.Listing.{HoldNoSuchProgram}
 use Rattle.hintcheck.specs.declared.commands.faults.CommandFault.{CommandFault}
 use Rattle.hintcheck.specs.declared.commands.faults.CommandFault.TheVariants as fault
@@ -136,23 +137,21 @@ abbrev pub IsFaultOfFileListing : List ℕ → CommandFault → Type 0
 IsFaultOfFileListing word reported =
     IsFaultOfReading reported ⊎ ((bytes : List ℕ) × IsFaultOfListing bytes word reported)
 
--- Why the program with this name of the font in these bytes isn't explained. Whether an instruction
--- begins at the offset is left unspecified.
-abbrev pub IsFaultOfExplaining : List ℕ → List ℕ → CommandFault → Type 0
-IsFaultOfExplaining bytes word (fault.Font numbered) = IsFaultOfFont bytes numbered.0
-IsFaultOfExplaining bytes word fault.ProgramWord = HoldNoSuchProgram bytes word
-IsFaultOfExplaining bytes word fault.OffsetWord = Unit {0}
-IsFaultOfExplaining bytes word other = IsFaultOfLines other
+-- Why the program with this name of the font in these bytes isn't explained, where this offset is
+-- asked for or none.
+abbrev pub IsFaultOfExplaining : List ℕ → List ℕ → Option ℕ → CommandFault → Type 0
+IsFaultOfExplaining bytes word offset (fault.Font numbered) = IsFaultOfFont bytes numbered.0
+IsFaultOfExplaining bytes word offset fault.ProgramWord = HoldNoSuchProgram bytes word
+IsFaultOfExplaining bytes word offset fault.OffsetWord = HoldNoSuchPlace bytes word offset
+IsFaultOfExplaining bytes word offset fault.OutOfMemory = Unit {0}
+IsFaultOfExplaining bytes word offset other =
+    HoldPlace bytes word offset × IsFaultOfPrinting other
 
 -- why the program with this name of a font file isn't explained
-abbrev pub IsFaultOfFileExplaining : List ℕ → CommandFault → Type 0
-IsFaultOfFileExplaining word reported =
-    IsFaultOfReading reported ⊎ ((bytes : List ℕ) × IsFaultOfExplaining bytes word reported)
-
--- why the text of a program isn't printed
-abbrev pub IsFaultOfText : CommandFault → Type 0
-IsFaultOfText fault.OffsetWord = Unit {0}
-IsFaultOfText other = IsFaultOfLines other
+abbrev pub IsFaultOfFileExplaining : List ℕ → Option ℕ → CommandFault → Type 0
+IsFaultOfFileExplaining word offset reported =
+    IsFaultOfReading reported
+    ⊎ ((bytes : List ℕ) × IsFaultOfExplaining bytes word offset reported)
 
 -- Why what is asked for isn't answered.
 abbrev pub IsFaultOfRequest : Request → CommandFault → Type 0
@@ -160,18 +159,20 @@ IsFaultOfRequest (bare maxp cvt points contours program) reported =
     IsFaultOfGlyph maxp (unwrap_or program []) reported
 IsFaultOfRequest (verdict font) reported = IsFaultOfFontFile reported
 IsFaultOfRequest (scan fonts) reported = IsFaultOfScan reported
-IsFaultOfRequest (explain font program offset) reported = IsFaultOfFileExplaining program reported
+IsFaultOfRequest (explain font program offset) reported =
+    IsFaultOfFileExplaining program offset reported
 IsFaultOfRequest (find font certificate) reported = IsFaultOfFinding font certificate reported
 IsFaultOfRequest (check font certificate) reported = IsFaultOfChecking reported
 IsFaultOfRequest (list font program) reported = IsFaultOfFileListing program reported
 IsFaultOfRequest (upgrade old new) reported = IsFaultOfUpgrading old new reported
 
--- The words of `bare` have no fault; and those of `find` and of `upgrade` are two different ones.
+-- The words of `bare` have no fault; those of `find` and of `upgrade` are two different ones; and
+-- those of `explain` name a program of some font, and an instruction of it by an offset, if any.
 abbrev pub HasNoFault : Request → Type 0
 HasNoFault (bare maxp cvt points contours program) = SpellNoFault maxp (unwrap_or program [])
 HasNoFault (verdict font) = Unit {0}
 HasNoFault (scan fonts) = Unit {0}
-HasNoFault (explain font program offset) = Unit {0}
+HasNoFault (explain font program offset) = (bytes : List ℕ) × HoldPlace bytes program offset
 HasNoFault (find font certificate) = font ≢ certificate
 HasNoFault (check font certificate) = Unit {0}
 HasNoFault (list font program) = Unit {0}

@@ -1,6 +1,6 @@
 -- One program of a font as it is explained: it is accepted, or it is refused, or one before it is.
-use Rattle.std.specs.Prelude.{◌≡◌, ◌≢◌, ℕ, Bool, true, false, List, Some, slice_get}
-use Rattle.tt_code.specs.Cut.{Instruction}
+use Rattle.std.specs.Prelude.{◌≡◌, ◌≢◌, ℕ, Bool, true, false, List, [], Option, Some, IfSome, slice_get}
+use Rattle.tt_code.specs.Cut.{BeginsWith, Instruction, size}
 use Rattle.tt_cert.specs.declared.fault.ProgramFault.{ProgramFault}
 use Rattle.tt_cert.specs.declared.fault.ProgramFault.TheVariants.{OutOfMemory as NoMemory, Refused as RefusedAt}
 use Rattle.tt_cert_file.specs.Names.{text_of}
@@ -8,6 +8,7 @@ use Rattle.tt_cert_file.specs.declared.name.Name.{Name}
 use Rattle.tt_cert_file.specs.declared.name.Name.TheVariants as name
 use Rattle.tt_font.specs.Reading.{FontData, GlyphData, Reads}
 use Rattle.hintcheck.specs.FontPrograms.{cvt_subject, font_of, font_subject, glyph_subject}
+use Rattle.hintcheck.specs.Listing.{Names, program_in}
 use Rattle.hintcheck.specs.Programs.{EndsWith, HasLeastFamily, IsRefusal, Subject}
 use Rattle.hintcheck.specs.declared.report.Refused.{Refused}
 
@@ -61,6 +62,43 @@ pub record HoldRefusedProgram (bytes word : List ℕ) : Type 0 where
   pub name : Name
   pub text : word ≡ text_of name
   pub refused : IsRefusedIn font name
+
+-- An instruction of the program begins at the offset: the program begins with whole instructions of
+-- that size, and bytes are left after them. (Own: it is said of a program that can't be cut, too,
+-- where the last such offset is that of the instruction that passes the end.)
+pub record BeginsInstruction (program : List ℕ) (offset : ℕ) : Type 0 where
+  pub before : List Instruction
+  pub rest : List ℕ
+  pub begins : BeginsWith program before rest
+  pub reached : size before ≡ offset
+  pub left : rest ≢ []
+
+-- where an offset is asked for, an instruction of the program begins there
+abbrev pub HasPlace : List ℕ → Option ℕ → Type 0
+HasPlace program offset = IfSome offset (BeginsInstruction program)
+
+-- The bytes hold a font, and the word is the name of a program of it; where an offset is asked for,
+-- an instruction of that program begins there.
+pub record HoldPlace (bytes word : List ℕ) (offset : Option ℕ) : Type 0 where
+  pub font : FontData
+  pub reads : Reads bytes font
+  pub program : List ℕ
+  pub named : Names word font program
+  pub place : HasPlace program offset
+
+-- The bytes hold a font, and the word is the name of a program of it; an offset is asked for at
+-- which none of its instructions begins.
+pub record HoldNoSuchPlace (bytes word : List ℕ) (offset : Option ℕ) : Type 0 where
+  pub font : FontData
+  pub reads : Reads bytes font
+  pub program : List ℕ
+  pub named : Names word font program
+  pub none : HasPlace program offset → ⊥
+
+-- where an offset is asked for, an instruction of the font's program of this name begins there
+abbrev pub HasPlaceIn : FontData → Name → Option ℕ → Type 0
+HasPlaceIn d called offset =
+    (program : List ℕ) → program_in d called ≡ Some program → HasPlace program offset
 
 -- whether the program is accepted: it has its least family, or it is refused
 abbrev pub IsJudged : Subject → Bool → Type 0

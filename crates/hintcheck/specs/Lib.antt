@@ -10,6 +10,8 @@ pub mod Commands
 pub mod MeansSafe
 pub mod Printed
 pub mod CommandFaults
+pub mod FaultTexts
+pub mod Scans
 pub mod CheckedFonts
 pub mod CertificateFaults
 pub mod Certificates

@@ -2,11 +2,15 @@
 use Rattle.std.specs.Prelude.{◌≡◌, ◌≢◌, ℕ, List, [], Option, Some}
 use Rattle.std.specs.Io.KnownBytes.{Appends}
 use Rattle.hintcheck_words.specs.Requests.{Request, bare, check, explain, find, list, meaning, scan, upgrade, verdict}
+use Rattle.hintcheck.specs.Commands.{status_of}
+use Rattle.hintcheck.specs.CommandFaults.{IsFaultOfWords}
 use Rattle.hintcheck.specs.Listing.{HoldListedProgram, HoldToldProgram}
 use Rattle.hintcheck.specs.MeansSafe.{IsVerdictAsked}
+use Rattle.hintcheck.specs.Scans.{IsOfScan, PrintsScan}
 use Rattle.hintcheck.specs.Texts.{upgraded_line, verdict_text}
 use Rattle.hintcheck.specs.Upgrades.{IsNumberOfPrograms}
 use Rattle.hintcheck.specs.Verdicts.{Judgement}
+use Rattle.hintcheck.specs.declared.commands.faults.CommandFault.{CommandFault}
 
 -- The lines of the verdict that is asked for were written, where the written bytes are known: of
 -- one that refuses no program where the status is 0, and of one that refuses some where it is 1.
@@ -30,13 +34,12 @@ abbrev pub PrintsUpgrade : Option (List ℕ) → Option (List ℕ) → Type 0
 PrintsUpgrade old new =
     (count : ℕ) × IsNumberOfPrograms count × Appends old new (upgraded_line count)
 
--- What was asked for is answered in these lines; those of `scan` and of `explain` are left
--- unspecified.
+-- What was asked for is answered in these lines; those of `explain` are left unspecified.
 abbrev pub Prints : Request → ℕ → Option (List ℕ) → Option (List ℕ) → Type 0
 Prints (bare maxp cvt points contours program) status old new =
     PrintsVerdict (bare maxp cvt points contours program) status old new
 Prints (verdict font) status old new = PrintsVerdict (verdict font) status old new
-Prints (scan fonts) status old new = Unit {0}
+Prints (scan fonts) status old new = PrintsScan fonts status old new
 Prints (explain font program offset) status old new = Unit {0}
 Prints (find font certificate) status old new = PrintsVerdict (find font certificate) status old new
 Prints (check font certificate) status old new =
@@ -50,3 +53,12 @@ pub record MeansPrinted (words : List (List ℕ)) (status : ℕ)
   pub request : Request
   pub meant : meaning words ≡ Some request
   pub printed : Prints request status old new
+
+-- A fault of the words gives this status. Where it is a scan's, the lines of a scan with this
+-- greatest status were written, as at the statuses 0 and 1.
+pub record TellsScanned (words : List (List ℕ)) (status : ℕ)
+    (old new : Option (List ℕ)) : Type 0 where
+  pub reported : CommandFault
+  pub why : IsFaultOfWords words reported
+  pub status_is : status ≡ status_of reported
+  pub scanned : IsOfScan reported → MeansPrinted words status old new

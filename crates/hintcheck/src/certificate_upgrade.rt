@@ -17,7 +17,9 @@ use crate::report::Name;
 use crate::sections::{HEADER, Progress, SECTIONS, next_section};
 use std::alloc::{AllocError, Global};
 use thiserror::Error;
-use tt_cert_file::{DecodeFault, EncodeFault, encode, read_end, read_header, write_header};
+use tt_cert_file::{
+    DecodeFault, Decoder, EncodeFault, encode, read_end, read_header, write_header,
+};
 use tt_stream::{Sink, Source};
 
 /// How many sections a certificate has at least: those of a font program, a CVT program and no
@@ -89,6 +91,7 @@ fn name_of(number: u32) -> Name
 /// Reads the section with this number and writes it again.
 fn upgrade_section<S: Source, W: Sink>(
     alloc: Global,
+    decoder: &mut Decoder,
     number: u32,
     source: &mut S,
     progress: &mut Progress,
@@ -114,8 +117,9 @@ fn upgrade_section<S: Source, W: Sink>(
     ensures writes { CountsWrites result (W.failures sink.old) (W.failures sink.new) }
 {
     let name = name_of(number);
-    let certificate = next_section(alloc, source, progress, name)?;
+    let certificate = next_section(alloc, decoder, source, progress, name)?;
     encode(alloc, name, &certificate, sink)?;
+    decoder.take_back(certificate);
     Ok(())
 }
 
@@ -145,8 +149,9 @@ fn upgrade_sections<S: Source, W: Sink>(
     ensures reads { CountsReads result (S.failures source.old) (S.failures source.new) }
     ensures writes { CountsWrites result (W.failures sink.old) (W.failures sink.new) }
 {
+    let mut decoder = Decoder::new();
     for number in 0..count {
-        upgrade_section(alloc, number, source, progress, sink)?;
+        upgrade_section(alloc, &mut decoder, number, source, progress, sink)?;
     }
     Ok(())
 }

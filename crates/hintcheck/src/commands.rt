@@ -6,7 +6,8 @@ ghost use Rattle.hintcheck_words.specs.Requests.{asked, is_taken};
 ghost use Rattle.hintcheck.specs.Commands.{IsForVerdict, IsNoWriteFault, TellsFailure, status_of};
 ghost use Rattle.hintcheck.specs.CommandFaults.{HasNoFault, IsFaultOfRequest, IsFaultOfTask, IsFaultOfWords, MeansNoFault, TellsFault};
 ghost use Rattle.hintcheck.specs.MeansSafe.{IsRefusedRequest, IsSafeRequest, IsVerdictAsked, MeansRefused, MeansSafe};
-ghost use Rattle.hintcheck.specs.Printed.{MeansPrinted, Prints};
+ghost use Rattle.hintcheck.specs.Printed.{MeansPrinted, Prints, TellsScanned};
+ghost use Rattle.hintcheck.specs.Scans.{IsOfScan};
 
 mod bare_task;
 mod check_task;
@@ -90,6 +91,8 @@ fn do_task<R: Files + AllocGlobal, O: Sink>(
     ensures refused { IfOk result (λ status. status ≡ 1 → IsRefusedRequest (asked task.now)) }
     ensures printed { IfOk result
         (λ status. Prints (asked task.now) status (O.contents out.old) (O.contents out.new)) }
+    ensures scanned { IfErr result (λ fault. IsOfScan fault → Prints (asked task.now)
+        (status_of fault) (O.contents out.old) (O.contents out.new)) }
     ensures failures { TellsFailure result (O.failures out.old) (O.failures out.new) }
     ensures faults { IfErr result (IsFaultOfTask (asked task.now)) }
     ensures none { OnOk result (HasNoFault (asked task.now)) }
@@ -130,10 +133,14 @@ pub fn try_command<R: Files + AllocGlobal, O: Sink>(
         → MeansSafe (map (λ w. w.now) words.entry.now)) }
     ensures refused { IfOk result
         (λ status. status ≡ 1 → MeansRefused (map (λ w. w.now) words.entry.now)) }
-    // What is printed is the answer: a verdict, the lines of a program, or how many sections were
-    // upgraded. The lines of a scan and of an explanation are left unspecified.
+    // What is printed is the answer: a verdict, a line for each font file of a scan, the lines of a
+    // program, or how many sections were upgraded. Those of an explanation are left unspecified.
     ensures printed { IfOk result (λ status. is_taken (map (λ w. w.now) words.entry.now) ≡ true
         → MeansPrinted (map (λ w. w.now) words.entry.now) status
+        (O.contents out.old) (O.contents out.new)) }
+    // Where a font file of a scan has a fault, the lines of all of them are printed before it.
+    ensures scanned { IfErr result (λ fault. IsOfScan fault
+        → MeansPrinted (map (λ w. w.now) words.entry.now) (status_of fault)
         (O.contents out.old) (O.contents out.new)) }
     ensures failures { TellsFailure result (O.failures out.old) (O.failures out.new) }
     // A fault is one of the words, of what they name or of printing, and there is none where the
@@ -179,6 +186,9 @@ pub fn command<R: Files + AllocGlobal, O: Sink, E: Sink>(
     // Where the status is 2 or 3, a fault of the words gives it; otherwise they have none where the
     // command line takes them.
     ensures told { 2 ≤ result → TellsFault (map (λ w. w.now) words.entry.now) result }
+    // If that is the fault of a font file of a scan, the lines of all of them are printed.
+    ensures scanned { 2 ≤ result → TellsScanned (map (λ w. w.now) words.entry.now) result
+        (O.contents out.old) (O.contents out.new) }
     ensures none { result ≤ 1 → is_taken (map (λ w. w.now) words.entry.now) ≡ true
         → MeansNoFault (map (λ w. w.now) words.entry.now) }
     // At most one write to `out` failed, and none unless the status is 2.

@@ -6,14 +6,16 @@ ghost use Rattle.tt_abs.specs.Settings.{setting_of};
 ghost use Rattle.tt_abs.specs.StateFlow.{FunctionsFit};
 ghost use Rattle.tt_code.specs.Fonts.{font_setting};
 ghost use Rattle.tt_cert_file.specs.declared.name.Name.TheVariants as name;
+ghost use Rattle.hintcheck_explain.specs.Faults.{AsksForInstruction};
 ghost use Rattle.hintcheck.specs.Commands.{TellsFailure};
-ghost use Rattle.hintcheck.specs.CommandFaults.{IsFaultOfExplaining, IsFaultOfText};
-ghost use Rattle.hintcheck.specs.Explanations.{HoldAcceptedProgram, HoldRefusedProgram, IsJudged, RefusesProgram, TellsProgram};
+ghost use Rattle.hintcheck.specs.CommandFaults.{IsFaultOfExplaining, IsFaultOfLines};
+ghost use Rattle.hintcheck.specs.Explanations.{HasPlace, HasPlaceIn, HoldAcceptedProgram, HoldPlace, HoldRefusedProgram, IsJudged, RefusesProgram, TellsProgram};
 ghost use Rattle.hintcheck.specs.FontPrograms.{IsFontInRange, font_subject};
 ghost use Rattle.hintcheck.specs.Listing.{program_in};
 ghost use Rattle.hintcheck.specs.Representation.FontVerdicts.{font_in, glyph_in};
 ghost use Rattle.hintcheck.specs.Representation.ProgramEnds.{IsKnownEnd, cvt_after};
 
+use crate::asked_offset::check_offset;
 use crate::commands::faults::CommandFault;
 use crate::font::{
     Common, Ended, cvt_setting, find_cvt_program, find_font_program, judge_glyph, read_font,
@@ -44,8 +46,9 @@ fn explain_in<O: Sink>(
 ) -> Result<(), CommandFault>
     requires rises { Rises setting.now.start.now }
     requires fits { FunctionsFit (setting_of setting.now) setting.now.start.now }
+    requires place { AsksForInstruction setting.now asked }
     ensures failures { TellsFailure result (O.failures out.old) (O.failures out.new) }
-    ensures faults { IfErr result IsFaultOfText }
+    ensures faults { IfErr result IsFaultOfLines }
 {
     explain(alloc, setting, asked, out)?;
     Ok(())
@@ -59,7 +62,7 @@ fn explain_uncut<O: Sink>(
     out: &mut O,
 ) -> Result<(), CommandFault>
     ensures failures { TellsFailure result (O.failures out.old) (O.failures out.new) }
-    ensures faults { IfErr result IsFaultOfText }
+    ensures faults { IfErr result IsFaultOfLines }
 {
     match fault {
         ProgramFault::Refused { offset, reason, .. } => {
@@ -77,9 +80,10 @@ fn tell_font_program<O: Sink>(
     offset: Option<u32>,
     out: &mut O,
 ) -> Result<(), CommandFault>
-    requires { IsFontInRange font.now }
+    requires range { IsFontInRange font.now }
+    requires place { HasPlaceIn font.now name.Font offset }
     ensures failures { TellsFailure result (O.failures out.old) (O.failures out.new) }
-    ensures faults { IfErr result IsFaultOfText }
+    ensures faults { IfErr result IsFaultOfLines }
 {
     let asked = Asked {
         program: Name::Font,
@@ -104,8 +108,9 @@ fn tell_cvt_program<O: Sink>(
 ) -> Result<(), CommandFault>
     requires range { IsFontInRange font.now }
     requires ended { IsKnownEnd (font_subject font.now) fpgm.now }
+    requires place { HasPlaceIn font.now name.Cvt offset }
     ensures failures { TellsFailure result (O.failures out.old) (O.failures out.new) }
-    ensures faults { IfErr result IsFaultOfText }
+    ensures faults { IfErr result IsFaultOfLines }
 {
     let asked = Asked {
         program: Name::Cvt,
@@ -128,8 +133,9 @@ fn tell_glyph_program<O: Sink>(
     requires few { length glyph.now.program.now < 2 ^ 31 }
     requires rises { Rises common.now.functions.now }
     requires fits { FunctionsFit (font_setting (font_in common.now)) common.now.functions.now }
+    requires place { HasPlace glyph.now.program.now asked.offset }
     ensures failures { TellsFailure result (O.failures out.old) (O.failures out.new) }
-    ensures faults { IfErr result IsFaultOfText }
+    ensures faults { IfErr result IsFaultOfLines }
 {
     match cut(alloc, glyph.program) {
         Ok(program) => {
@@ -251,7 +257,7 @@ fn tell_unchecked<O: Sink>(
     ensures status { IfOk result (λ status. status ≡ 1) }
     ensures refused { OnOk result (RefusesProgram fault) }
     ensures failures { TellsFailure result (O.failures out.old) (O.failures out.new) }
-    ensures faults { IfErr result IsFaultOfText }
+    ensures faults { IfErr result IsFaultOfLines }
 {
     match fault {
         ProgramFault::Refused {
@@ -275,11 +281,12 @@ fn explain_font_program<O: Sink>(
     offset: Option<u32>,
     out: &mut O,
 ) -> Result<u8, CommandFault>
-    requires { IsFontInRange font.now }
+    requires range { IsFontInRange font.now }
+    requires place { HasPlaceIn font.now name.Font offset }
     ensures status { IfOk result (λ status. status ≤ 1) }
     ensures tells { IfOk result (TellsProgram font.now name.Font) }
     ensures failures { TellsFailure result (O.failures out.old) (O.failures out.new) }
-    ensures faults { IfErr result IsFaultOfText }
+    ensures faults { IfErr result IsFaultOfLines }
 {
     let accepted = judge_font_program(alloc, font)?;
     tell_font_program(alloc, font, offset, out)?;
@@ -297,10 +304,11 @@ fn explain_cvt_after<O: Sink>(
 ) -> Result<u8, CommandFault>
     requires range { IsFontInRange font.now }
     requires ended { IsKnownEnd (font_subject font.now) fpgm.now }
+    requires place { HasPlaceIn font.now name.Cvt offset }
     ensures status { IfOk result (λ status. status ≤ 1) }
     ensures tells { IfOk result (TellsProgram font.now name.Cvt) }
     ensures failures { TellsFailure result (O.failures out.old) (O.failures out.new) }
-    ensures faults { IfErr result IsFaultOfText }
+    ensures faults { IfErr result IsFaultOfLines }
 {
     let accepted = judge_cvt_program(alloc, finder, font, fpgm)?;
     tell_cvt_program(alloc, font, fpgm, offset, out)?;
@@ -315,11 +323,12 @@ fn explain_cvt_program<O: Sink>(
     offset: Option<u32>,
     out: &mut O,
 ) -> Result<u8, CommandFault>
-    requires { IsFontInRange font.now }
+    requires range { IsFontInRange font.now }
+    requires place { HasPlaceIn font.now name.Cvt offset }
     ensures status { IfOk result (λ status. status ≤ 1) }
     ensures tells { IfOk result (TellsProgram font.now name.Cvt) }
     ensures failures { TellsFailure result (O.failures out.old) (O.failures out.new) }
-    ensures faults { IfErr result IsFaultOfText }
+    ensures faults { IfErr result IsFaultOfLines }
 {
     let mut finder = Finder::new(alloc);
     match find_font_program(alloc, &mut finder, font, Search::Verdict) {
@@ -347,10 +356,11 @@ fn explain_glyph_after<O: Sink>(
     requires ended { IsKnownEnd (font_subject font.now) fpgm.now }
     requires cvt_ended { IsKnownEnd (cvt_after font.now fpgm.now) prep.now }
     requires there { id < length font.now.glyphs }
+    requires place { HasPlaceIn font.now (name.Glyph id) offset }
     ensures status { IfOk result (λ status. status ≤ 1) }
     ensures tells { IfOk result (TellsProgram font.now (name.Glyph id)) }
     ensures failures { TellsFailure result (O.failures out.old) (O.failures out.new) }
-    ensures faults { IfErr result IsFaultOfText }
+    ensures faults { IfErr result IsFaultOfLines }
 {
     let glyph = font.glyph(id).unwrap();
     let common = Common {
@@ -380,10 +390,11 @@ fn explain_glyph_after_font<O: Sink>(
     requires range { IsFontInRange font.now }
     requires ended { IsKnownEnd (font_subject font.now) fpgm.now }
     requires there { id < length font.now.glyphs }
+    requires place { HasPlaceIn font.now (name.Glyph id) offset }
     ensures status { IfOk result (λ status. status ≤ 1) }
     ensures tells { IfOk result (TellsProgram font.now (name.Glyph id)) }
     ensures failures { TellsFailure result (O.failures out.old) (O.failures out.new) }
-    ensures faults { IfErr result IsFaultOfText }
+    ensures faults { IfErr result IsFaultOfLines }
 {
     match find_cvt_program(alloc, finder, font, fpgm, Search::Verdict) {
         Ok((prep, found)) => {
@@ -405,10 +416,11 @@ fn explain_glyph_program<O: Sink>(
 ) -> Result<u8, CommandFault>
     requires range { IsFontInRange font.now }
     requires there { id < length font.now.glyphs }
+    requires place { HasPlaceIn font.now (name.Glyph id) offset }
     ensures status { IfOk result (λ status. status ≤ 1) }
     ensures tells { IfOk result (TellsProgram font.now (name.Glyph id)) }
     ensures failures { TellsFailure result (O.failures out.old) (O.failures out.new) }
-    ensures faults { IfErr result IsFaultOfText }
+    ensures faults { IfErr result IsFaultOfLines }
 {
     let mut finder = Finder::new(alloc);
     match find_font_program(alloc, &mut finder, font, Search::Verdict) {
@@ -430,10 +442,11 @@ fn explain_named<O: Sink>(
 ) -> Result<u8, CommandFault>
     requires range { IsFontInRange font.now }
     requires there { is_some (program_in font.now called) ≡ true }
+    requires place { HasPlaceIn font.now called offset }
     ensures status { IfOk result (λ status. status ≤ 1) }
     ensures tells { IfOk result (TellsProgram font.now called) }
     ensures failures { TellsFailure result (O.failures out.old) (O.failures out.new) }
-    ensures faults { IfErr result IsFaultOfText }
+    ensures faults { IfErr result IsFaultOfLines }
 {
     match called {
         Name::Font => explain_font_program(alloc, font, offset, out),
@@ -448,8 +461,8 @@ fn explain_named<O: Sink>(
 ///
 /// # Errors
 /// The faults of `Font::read`; `ProgramWord` where the word is the name of none of the font's
-/// programs; `OffsetWord` where no instruction of the program begins at the offset; `Write` exactly
-/// where a write to `out` failed; `OutOfMemory`.
+/// programs; `OffsetWord` where no instruction of the program begins at the offset, whether or not
+/// the program is checked; `Write` exactly where a write to `out` failed; `OutOfMemory`.
 pub fn explain_program<O: Sink>(
     alloc: Global,
     font: &[u8],
@@ -462,11 +475,15 @@ pub fn explain_program<O: Sink>(
         (λ status. status ≡ 0 → HoldAcceptedProgram font.now word.now) }
     ensures refused { IfOk result (λ status. status ≡ 1 → HoldRefusedProgram font.now word.now) }
     ensures failures { TellsFailure result (O.failures out.old) (O.failures out.new) }
-    ensures faults { IfErr result (IsFaultOfExplaining font.now word.now) }
+    ensures faults { IfErr result (IsFaultOfExplaining font.now word.now offset) }
+    ensures none { OnOk result (HoldPlace font.now word.now offset) }
 {
     let read = read_font(alloc, font)?;
     match named_program(&read, word) {
-        Some(named) => explain_named(alloc, &read, named.name, offset, out),
+        Some(named) => {
+            check_offset(alloc, named.bytes, offset)?;
+            explain_named(alloc, &read, named.name, offset, out)
+        }
         None => Err(CommandFault::ProgramWord),
     }
 }

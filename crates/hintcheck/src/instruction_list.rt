@@ -78,7 +78,7 @@ fn program_of<'a>(font: &Font<'a>, name: Name) -> Option<&'a [u8]>
 #[derive(Clone, Copy)]
 pub(crate) struct Named<'a> {
     pub(crate) name: Name,
-    bytes: &'a [u8],
+    pub(crate) bytes: &'a [u8],
 }
 
 /// Returns the font's program whose name the word is, if there is one.

@@ -1,6 +1,7 @@
 //! Checks the hint programs of TrueType fonts against the limits of their font.
 #![tactic(auto)]
 
+mod asked_offset;
 pub mod bare_program;
 pub mod certificate;
 pub mod certificate_upgrade;

@@ -12,7 +12,7 @@ ghost use Rattle.hintcheck.specs.Representation.ReadProgress.{input_from};
 use crate::report::Name;
 use std::alloc::Global;
 use tt_cert::Certificate;
-use tt_cert_file::{DecodeFault, Form, decode};
+use tt_cert_file::{DecodeFault, Decoder, Form};
 use tt_stream::Source;
 
 /// How many bytes the header of a certificate file has.
@@ -42,6 +42,7 @@ fn is_same(one: Name, other: Name) -> bool
 /// `OutOfMemory`.
 pub(crate) fn next_section<S: Source>(
     alloc: Global,
+    decoder: &mut Decoder,
     source: &mut S,
     progress: &mut Progress,
     name: Name,
@@ -58,7 +59,7 @@ pub(crate) fn next_section<S: Source>(
     ensures failures { CountsRead result (S.failures source.old) (S.failures source.new) }
 {
     let start = progress.place;
-    let (named, certificate, after) = decode(alloc, source, start, progress.form)?;
+    let (named, certificate, after) = decoder.decode(alloc, source, start, progress.form)?;
     if !is_same(named, name) {
         return Err(DecodeFault::Form(start));
     }

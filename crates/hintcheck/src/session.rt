@@ -31,7 +31,7 @@ use std::alloc::{AllocError, Global};
 use std::marker::Model;
 use std::mem;
 use tt_cert::ProgramFault;
-use tt_cert_file::read_end;
+use tt_cert_file::{Decoder, read_end};
 use tt_find::{Finder, Found};
 use tt_font::Font;
 use tt_stream::Source;
@@ -141,6 +141,7 @@ fn refused(program: Name, fault: ProgramFault) -> Result<Outcome, CheckFontFault
 /// Returns the font program's outcome, by the next section.
 fn check_first<'a, S: Source>(
     alloc: Global,
+    decoder: &mut Decoder,
     font: &Font<'a>,
     source: &mut S,
     progress: &mut Progress,
@@ -156,7 +157,7 @@ fn check_first<'a, S: Source>(
     ensures failures { CountsCheck result (S.failures source.old) (S.failures source.new) }
     ensures font { IfErr result IsNoFontFault }
 {
-    let certificate = next_section(alloc, source, progress, Name::Font)?;
+    let certificate = next_section(alloc, decoder, source, progress, Name::Font)?;
     match check_font_program(alloc, font, &certificate, progress.form) {
         Ok(fpgm) => Ok(CheckedStep {
             answer: Some(accepted(Name::Font)),
@@ -175,6 +176,7 @@ fn check_first<'a, S: Source>(
 /// Returns the CVT program's outcome, by the next section.
 fn check_second<'a, S: Source>(
     alloc: Global,
+    decoder: &mut Decoder,
     font: &Font<'a>,
     fpgm: Ended<'a>,
     source: &mut S,
@@ -192,7 +194,7 @@ fn check_second<'a, S: Source>(
     ensures failures { CountsCheck result (S.failures source.old) (S.failures source.new) }
     ensures font { IfErr result IsNoFontFault }
 {
-    let certificate = next_section(alloc, source, progress, Name::Cvt)?;
+    let certificate = next_section(alloc, decoder, source, progress, Name::Cvt)?;
     match check_cvt_program(alloc, font, &fpgm, &certificate, progress.form) {
         Ok(prep) => Ok(CheckedStep {
             answer: Some(accepted(Name::Cvt)),
@@ -211,6 +213,7 @@ fn check_second<'a, S: Source>(
 /// Returns the outcome of a glyph program, by the next section, in a font with these programs.
 fn check_glyph<S: Source>(
     alloc: Global,
+    decoder: &mut Decoder,
     font: &Font<'_>,
     fpgm: &Ended<'_>,
     prep: &Ended<'_>,
@@ -231,13 +234,15 @@ fn check_glyph<S: Source>(
     ensures failures { CountsCheck result (S.failures source.old) (S.failures source.new) }
     ensures font { IfErr result IsNoFontFault }
 {
-    let certificate = next_section(alloc, source, progress, Name::Glyph(id))?;
+    let certificate = next_section(alloc, decoder, source, progress, Name::Glyph(id))?;
     let glyph = font.glyph(id).unwrap();
     let common = Common {
         setting: cvt_setting(font, fpgm, &prep.program),
         functions: &prep.functions,
     };
-    match check_glyph_program(alloc, &common, &glyph, &certificate, progress.form) {
+    let checked = check_glyph_program(alloc, &common, &glyph, &certificate, progress.form);
+    decoder.take_back(certificate);
+    match checked {
         Ok(()) => Ok(accepted(Name::Glyph(id))),
         Err(fault) => refused(Name::Glyph(id), fault),
     }
@@ -246,6 +251,7 @@ fn check_glyph<S: Source>(
 /// Returns the next glyph program's outcome, or that no section follows that of the last one.
 fn check_third<'a, S: Source>(
     alloc: Global,
+    decoder: &mut Decoder,
     font: &Font<'a>,
     fpgm: Ended<'a>,
     prep: Ended<'a>,
@@ -273,7 +279,7 @@ fn check_third<'a, S: Source>(
             kept: Kept::Over,
         });
     }
-    let outcome = check_glyph(alloc, font, &fpgm, &prep, id, source, progress)?;
+    let outcome = check_glyph(alloc, decoder, font, &fpgm, &prep, id, source, progress)?;
     Ok(CheckedStep {
         answer: Some(outcome),
         kept: Kept::Glyphs(fpgm, prep, id + 1),
@@ -283,6 +289,7 @@ fn check_third<'a, S: Source>(
 /// Returns what a call of a session that keeps this comes to, after the header was read.
 fn check_on<'a, S: Source>(
     alloc: Global,
+    decoder: &mut Decoder,
     font: &Font<'a>,
     kept: Kept<'a>,
     source: &mut S,
@@ -301,10 +308,10 @@ fn check_on<'a, S: Source>(
     ensures font { IfErr result IsNoFontFault }
 {
     match kept {
-        Kept::Start => check_first(alloc, font, source, progress),
-        Kept::AfterFont(fpgm) => check_second(alloc, font, fpgm, source, progress),
+        Kept::Start => check_first(alloc, decoder, font, source, progress),
+        Kept::AfterFont(fpgm) => check_second(alloc, decoder, font, fpgm, source, progress),
         Kept::Glyphs(fpgm, prep, id) => {
-            check_third(alloc, font, fpgm, prep, id, source, progress)
+            check_third(alloc, decoder, font, fpgm, prep, id, source, progress)
         }
         Kept::Over => Ok(CheckedStep {
             answer: None,
@@ -342,6 +349,7 @@ fn progress_of<S: Source>(
 /// keeps then.
 fn check_from<'a, S: Source>(
     alloc: Global,
+    decoder: &mut Decoder,
     font: &Font<'a>,
     kept: &mut Kept<'a>,
     read: &mut Option<Progress>,
@@ -368,7 +376,7 @@ fn check_from<'a, S: Source>(
 {
     let mut progress = progress_of(font, *read, source)?;
     let now = mem::replace(kept, Kept::Over);
-    let step = check_on(alloc, font, now, source, &mut progress)?;
+    let step = check_on(alloc, decoder, font, now, source, &mut progress)?;
     let CheckedStep { answer, kept: next } = step;
     *kept = next;
     *read = Some(progress);
@@ -376,11 +384,13 @@ fn check_from<'a, S: Source>(
 }
 
 /// The programs of a font, one after the other: the font program, the CVT program, and each glyph
-/// program. It keeps which program is next and what the next ones start with, and no certificate.
+/// program. It keeps which program is next and what the next ones start with, and of a certificate
+/// only the memory.
 #[derive(Drop)]
 pub struct Session<'a> {
     font: &'a Font<'a>,
     kept: Kept<'a>,
+    decoder: Decoder,
     progress: Option<Progress>,
     fault: Option<SessionFault>,
 }
@@ -412,6 +422,7 @@ impl<'a> Session<'a> {
         Session {
             font,
             kept: Kept::Start,
+            decoder: Decoder::new(),
             progress: None,
             fault: None,
         }
@@ -464,7 +475,14 @@ impl<'a> Session<'a> {
         if self.kept.is_over() {
             return Ok(None);
         }
-        let answer = check_from(alloc, self.font, &mut self.kept, &mut self.progress, source);
+        let answer = check_from(
+            alloc,
+            &mut self.decoder,
+            self.font,
+            &mut self.kept,
+            &mut self.progress,
+            source,
+        );
         if let Err(fault) = &answer {
             self.fault = Some(SessionFault::of(fault));
         }

@@ -1,9 +1,9 @@
 //! The subcommand `explain`: one program of a font file, explained.
 
-ghost use Rattle.std.specs.Prelude.{◌≡◌, ◌+◌, ◌≤◌, IfErr, IfOk, List, ℕ};
+ghost use Rattle.std.specs.Prelude.{◌≡◌, ◌+◌, ◌≤◌, IfErr, IfOk, List, OnOk, ℕ};
 ghost use Rattle.hintcheck.specs.Commands.{TellsFailure};
 ghost use Rattle.hintcheck.specs.CommandFaults.{IsFaultOfFileExplaining};
-ghost use Rattle.hintcheck.specs.Explanations.{HoldAcceptedProgram, HoldRefusedProgram};
+ghost use Rattle.hintcheck.specs.Explanations.{HoldAcceptedProgram, HoldPlace, HoldRefusedProgram};
 
 use super::faults::CommandFault;
 use super::files::file_bytes;
@@ -29,7 +29,8 @@ pub(super) fn explain_of_file<R: Files + AllocGlobal, O: Sink>(
     ensures refused { IfOk result
         (λ status. status ≡ 1 → (bytes : List ℕ) × HoldRefusedProgram bytes word.now) }
     ensures failures { TellsFailure result (O.failures out.old) (O.failures out.new) }
-    ensures faults { IfErr result (IsFaultOfFileExplaining word.now) }
+    ensures faults { IfErr result (IsFaultOfFileExplaining word.now offset) }
+    ensures none { OnOk result ((bytes : List ℕ) × HoldPlace bytes word.now offset) }
 {
     let bytes = file_bytes(rt, name)?;
     explain_program(rt.alloc(), &bytes, word, offset, out)

@@ -9,8 +9,8 @@ use crate::font_check::CheckFontFault;
 use hintcheck_explain::ExplainFault;
 use hintcheck_words::{TaskFault, WordFault};
 use std::alloc::AllocError;
+use std::error::Error;
 use std::fmt;
-use thiserror::Error;
 use tt_font::FontFault;
 use tt_stream::{PrintFailed, ReadFault};
 
@@ -25,6 +25,11 @@ const OUT_OF_MEMORY: u8 = 3;
 pub struct Numbered(FontFault);
 
 impl fmt::Display for Numbered {
+    ghost use Rattle.std.specs.Prelude.{Some};
+    ghost use Rattle.hintcheck.specs.FaultTexts.{numbered_text};
+
+    ghost output = { λ numbered. Some (numbered_text numbered.0) };
+
     fn fmt<W: fmt::Write>(&self, f: &mut fmt::Formatter<W>) -> fmt::Result {
         let number = self.0.number();
         write!(f, "{number} {}", self.0)
@@ -32,53 +37,68 @@ impl fmt::Display for Numbered {
 }
 
 /// Why a command gives no verdict: the line for the user, after `fault: `.
-#[derive(Debug, Drop, Error)]
+#[derive(Debug, Drop)]
 pub enum CommandFault {
     /// The words aren't those of the command line. The text is clap's, and is printed alone.
-    #[error("{0}")]
     Usage(TaskFault),
     /// The word spells no bytes.
-    #[error("words: MAXP")]
     MaxpWord,
     /// The word spells no bytes, or names no program of the font.
-    #[error("words: PROGRAM")]
     ProgramWord,
     /// No instruction of the program begins at the offset.
-    #[error("words: OFFSET")]
     OffsetWord,
     /// The font's file is to be its certificate's.
-    #[error("words: CERT")]
     CertificateWord,
     /// The old certificate's file is to be the new one's.
-    #[error("words: NEW")]
     NewWord,
-    #[error("{0}")]
+    /// The first fault of the font's bytes.
     Font(Numbered),
     /// The bytes are no certificate for the font, or for any font, at this place.
-    #[error("43 certificate form at byte {0}")]
     Form(u64),
-    #[error("9 out of memory")]
+    /// Memory ran out.
     OutOfMemory,
     /// A font of a scan has a fault, which its line tells.
-    #[error("fault of a font")]
     ScanFault,
     /// Memory ran out at a font of a scan, as its line tells.
-    #[error("9 out of memory")]
     ScanOutOfMemory,
     /// A file can't be opened or read.
-    #[error("44 read")]
     Read,
     /// The output can't be written.
-    #[error("45 write")]
     Write,
     /// A file can't be made or written.
-    #[error("45 write")]
     File,
     /// A text gave up on being printed, which none here does: each goes to a window in memory that
     /// takes whatever it gets.
-    #[error("text")]
     Text,
 }
+
+impl fmt::Display for CommandFault {
+    ghost use Rattle.hintcheck.specs.FaultTexts.{command_fault_text};
+
+    ghost output = { command_fault_text };
+
+    fn fmt<W: fmt::Write>(&self, f: &mut fmt::Formatter<W>) -> fmt::Result {
+        match self {
+            CommandFault::Usage(text) => write!(f, "{text}"),
+            CommandFault::MaxpWord => write!(f, "words: MAXP"),
+            CommandFault::ProgramWord => write!(f, "words: PROGRAM"),
+            CommandFault::OffsetWord => write!(f, "words: OFFSET"),
+            CommandFault::CertificateWord => write!(f, "words: CERT"),
+            CommandFault::NewWord => write!(f, "words: NEW"),
+            CommandFault::Font(numbered) => write!(f, "{numbered}"),
+            CommandFault::Form(place) => write!(f, "43 certificate form at byte {place}"),
+            CommandFault::OutOfMemory | CommandFault::ScanOutOfMemory => {
+                write!(f, "9 out of memory")
+            }
+            CommandFault::ScanFault => write!(f, "fault of a font"),
+            CommandFault::Read => write!(f, "44 read"),
+            CommandFault::Write | CommandFault::File => write!(f, "45 write"),
+            CommandFault::Text => write!(f, "text"),
+        }
+    }
+}
+
+impl Error for CommandFault {}
 
 impl From<PrintFailed> for CommandFault {
     ghost use Rattle.hintcheck.specs.Commands.{fault_of_print};

@@ -1,10 +1,13 @@
 //! The subcommand `scan`: the verdicts on font files, a line for each.
 
-ghost use Rattle.std.specs.Prelude.{◌≡◌, ◌≢◌, ◌⊎◌, ◌+◌, ◌≤◌, ◌<◌, All, IfErr, IfOk, List, [], ◌∷◌, OnOk, length, map, string_bytes, ℕ};
+ghost use Rattle.std.specs.Prelude.{◌≡◌, ◌≢◌, ◌⊎◌, ◌+◌, ◌≤◌, ◌<◌, All, codes, IfErr, IfOk, List, [], ◌∷◌, ◌++◌, OnOk, length, map, string_bytes, ℕ};
+ghost use Rattle.std.specs.Io.KnownBytes.{Appends};
+ghost use Rattle.tt_code.specs.Refusals.{class_of};
 ghost use Rattle.tt_stream.specs.Streams.{CountsPrintFailure};
-ghost use Rattle.hintcheck.specs.Commands.{TellsFailure};
+ghost use Rattle.hintcheck.specs.Commands.{TellsFailure, status_of};
 ghost use Rattle.hintcheck.specs.CommandFaults.{IsFaultOfPrinting, IsFaultOfScan};
 ghost use Rattle.hintcheck.specs.MeansSafe.{HoldRefusedFont, HoldSafeFont, TellsFonts};
+ghost use Rattle.hintcheck.specs.Scans.{IsOfScan, PrintsScan, class_text, counts_text, judged, left_out_text, line_of, number_of_class, status_of_refused};
 
 use super::faults::CommandFault;
 use super::verdict_task::file_verdict;
@@ -16,7 +19,7 @@ use tt_stream::{PrintFailed, Sink};
 
 /// Returns how many of the refused programs have a reason of this class.
 fn count_of(refused: &[Refused], class: ReasonClass) -> usize
-    ensures { result ≤ length refused.now }
+    ensures { result ≡ number_of_class class refused.now }
 {
     let mut count = 0;
     for program in refused {
@@ -28,7 +31,9 @@ fn count_of(refused: &[Refused], class: ReasonClass) -> usize
 }
 
 /// Returns the reason's class in words.
-fn class_text(reason: Reason) -> &'static str {
+fn text_of_class(reason: Reason) -> &'static str
+    ensures { result.now ≡ class_text (class_of reason) }
+{
     match reason.class() {
         ReasonClass::PossibleFault => "possible fault",
         ReasonClass::Undecided => "undecided",
@@ -37,43 +42,62 @@ fn class_text(reason: Reason) -> &'static str {
     }
 }
 
-/// Prints the line of a font of which glyph programs are refused, with how many there are of each
-/// class.
-fn print_counts<O: Sink>(out: &mut O, name: &str, verdict: &Verdict) -> Result<(), PrintFailed>
+/// Prints how many programs do what is left out, where some do.
+fn print_left_out<O: Sink>(out: &mut O, count: usize) -> Result<(), PrintFailed>
+    ensures written { OnOk result
+        (Appends (O.contents out.old) (O.contents out.new) (left_out_text count)) }
     ensures failures { CountsPrintFailure result (O.failures out.old) (O.failures out.new) }
 {
-    let programs = verdict.programs();
-    let count = verdict.refused().len();
-    let possible = count_of(verdict.refused(), ReasonClass::PossibleFault);
-    let undecided = count_of(verdict.refused(), ReasonClass::Undecided);
-    let left_out = count_of(verdict.refused(), ReasonClass::LeftOut);
+    if count == 0 {
+        return Ok(());
+    }
+    write!(out, ", {count} left out")
+}
+
+/// Prints the line of a font of which glyph programs are refused, with how many there are of each
+/// class.
+fn print_counts<O: Sink>(
+    out: &mut O,
+    name: &str,
+    programs: u32,
+    refused: &[Refused],
+) -> Result<(), PrintFailed>
+    ensures written { OnOk result (Appends (O.contents out.old) (O.contents out.new)
+        (name.now ++ (codes ": refused: " ++ (counts_text programs refused.now ++ codes "\n")))) }
+    ensures failures { CountsPrintFailure result (O.failures out.old) (O.failures out.new) }
+{
+    let count = refused.len();
+    let possible = count_of(refused, ReasonClass::PossibleFault);
+    let undecided = count_of(refused, ReasonClass::Undecided);
+    let left_out = count_of(refused, ReasonClass::LeftOut);
     write!(out, "{name}: refused: {count} of {programs} programs ")?;
     write!(out, "({possible} possible faults, {undecided} undecided")?;
-    if left_out > 0 {
-        write!(out, ", {left_out} left out")?;
-    }
+    print_left_out(out, left_out)?;
     writeln!(out, ")")
 }
 
 /// Prints the line of a font.
 fn print_line<O: Sink>(out: &mut O, name: &str, verdict: &Verdict) -> Result<(), PrintFailed>
+    ensures written { OnOk result (Appends (O.contents out.old) (O.contents out.new)
+        (line_of (record { name = name.now; answer = judged verdict.now }))) }
     ensures failures { CountsPrintFailure result (O.failures out.old) (O.failures out.new) }
 {
-    let Some(refused) = verdict.refused().first() else {
-        let programs = verdict.programs();
+    let programs = verdict.programs();
+    let Some(first) = verdict.refused().first() else {
         return writeln!(out, "{name}: accepted: {programs} programs");
     };
-    let class = class_text(refused.reason);
-    match refused.program {
+    let class = text_of_class(first.reason);
+    match first.program {
         Name::Font => writeln!(out, "{name}: refused: font program ({class})"),
         Name::Cvt => writeln!(out, "{name}: refused: cvt program ({class})"),
-        Name::Glyph(_) => print_counts(out, name, verdict),
+        Name::Glyph(_) => print_counts(out, name, programs, verdict.refused()),
     }
 }
 
 /// Returns the exit status of a verdict.
 fn verdict_status(verdict: &Verdict) -> u8
     ensures status { result ≤ 1 }
+    ensures answer { result ≡ status_of_refused verdict.now.refused }
     ensures accepted { result ≡ 0 → verdict.now.refused ≡ [] }
     ensures refused { result ≡ 1 → verdict.now.refused ≢ [] }
 {
@@ -92,6 +116,8 @@ fn scan_font<R: Files + AllocGlobal, O: Sink>(
     out: &mut O,
 ) -> Result<u8, CommandFault>
     ensures tells { IfOk result (TellsFonts (name.now ∷ [])) }
+    ensures printed { IfOk result (λ status.
+        PrintsScan (name.now ∷ []) status (O.contents out.old) (O.contents out.new)) }
     ensures failures { TellsFailure result (O.failures out.old) (O.failures out.new) }
     ensures faults { IfErr result IsFaultOfPrinting }
 {
@@ -122,6 +148,11 @@ pub(super) fn scan_fonts<R: Files + AllocGlobal, O: Sink>(
         (λ font. (bytes : List ℕ) × HoldSafeFont bytes) (map (λ s. string_bytes s) fonts.now)) }
     ensures refused { IfOk result
         (λ status. status ≡ 1 → (bytes : List ℕ) × HoldRefusedFont bytes) }
+    ensures printed { IfOk result (λ status. PrintsScan (map (λ s. string_bytes s) fonts.now)
+        status (O.contents out.old) (O.contents out.new)) }
+    ensures scanned { IfErr result (λ fault. IsOfScan fault
+        → PrintsScan (map (λ s. string_bytes s) fonts.now) (status_of fault)
+        (O.contents out.old) (O.contents out.new)) }
     ensures failures { TellsFailure result (O.failures out.old) (O.failures out.new) }
     ensures faults { IfErr result (λ fault. IsFaultOfScan fault ⊎ IsFaultOfPrinting fault) }
 {

@@ -7,6 +7,7 @@ use Rattle.hintcheck_words.specs.declared.words.Task.TheVariants as task
 use Rattle.hintcheck.specs.Commands.{IsForVerdict}
 use Rattle.hintcheck.proofs.FaultLemmas.{nothing_said}
 use Rattle.hintcheck.proofs.PrintedLemmas.{prints_for_verdict, prints_upgrade, prints_verdict}
+use Rattle.hintcheck.proofs.ScanFaults.{passed_no_scan, printing_no_scan, task_no_scan, verdict_no_scan}
 use Rattle.hintcheck.proofs.commands.do_task.Goals as goal
 
 for_verdict : (t : Task) → ((fonts : Vec (String Global) Global) → t ≡ task.Scan fonts → ⊥) → ((font program : String Global) (offset : Option ℕ) → t ≡ task.Explain font program offset → ⊥)
@@ -34,7 +35,11 @@ returns-in-Scan-clause-refused g c = IfOk-weaker c.scan_fonts.result _ _ (λ sta
 
 pub returns-in-Scan-clause-printed : goal.returns-in-Scan-clause-printed
 unfolding asked
-returns-in-Scan-clause-printed g c = IfOk-weaker c.scan_fonts.result _ _ (λ status few. rw c.in-Scan.is tt) c.scan_fonts.ensures.status
+returns-in-Scan-clause-printed g c = IfOk-weaker c.scan_fonts.result _ _ (λ status printed. rw c.in-Scan.is (rw (← c.deref.ensures.value) printed)) c.scan_fonts.ensures.printed
+
+pub returns-in-Scan-clause-scanned : goal.returns-in-Scan-clause-scanned
+unfolding asked
+returns-in-Scan-clause-scanned g c = IfErr-weaker c.scan_fonts.result _ _ (λ told scanned of. rw c.in-Scan.is (rw (← c.deref.ensures.value) (scanned of))) c.scan_fonts.ensures.scanned
 
 pub returns-in-Scan-clause-faults : goal.returns-in-Scan-clause-faults
 unfolding asked
@@ -64,9 +69,15 @@ unfolding asked
 returns-in-Explain-clause-faults g c =
     IfErr-weaker c.explain_of_file.result _ _ (λ told is. inl (rw c.in-Explain.is (rw (← c.deref-in-Explain-2.ensures) is))) c.explain_of_file.ensures.faults
 
+pub returns-in-Explain-clause-scanned : goal.returns-in-Explain-clause-scanned
+unfolding asked
+returns-in-Explain-clause-scanned g c =
+    IfErr-weaker c.explain_of_file.result _ _ (λ told is of. absurd (task_no_scan (asked c.args.task.now) told (rw c.in-Explain.is tt) is of)) (returns-in-Explain-clause-faults g c)
+
 pub returns-in-Explain-clause-none : goal.returns-in-Explain-clause-none
 unfolding asked
-returns-in-Explain-clause-none g c = rw c.in-Explain.is (nothing_said c.explain_of_file.result)
+returns-in-Explain-clause-none g c =
+    on_ok_weaker c.explain_of_file.result (λ none. rw c.in-Explain.is (rw (← c.deref-in-Explain-2.ensures) none)) c.explain_of_file.ensures.none
 
 pub returns-in-List-clause-safe : goal.returns-in-List-clause-safe
 unfolding asked
@@ -89,6 +100,11 @@ pub returns-in-List-clause-faults : goal.returns-in-List-clause-faults
 unfolding asked
 returns-in-List-clause-faults g c = IfErr-weaker c.list_of_file.result _ _ (λ told is. inl (rw c.in-List.is (rw (← c.deref-in-List-2.ensures) is))) c.list_of_file.ensures.faults
 
+pub returns-in-List-clause-scanned : goal.returns-in-List-clause-scanned
+unfolding asked
+returns-in-List-clause-scanned g c =
+    IfErr-weaker c.list_of_file.result _ _ (λ told is of. absurd (task_no_scan (asked c.args.task.now) told (rw c.in-List.is tt) is of)) (returns-in-List-clause-faults g c)
+
 pub returns-in-List-clause-none : goal.returns-in-List-clause-none
 unfolding asked
 returns-in-List-clause-none g c = rw c.in-List.is (nothing_said c.list_of_file.result)
@@ -104,6 +120,11 @@ pub returns-in-Upgrade-clause-faults : goal.returns-in-Upgrade-clause-faults
 unfolding asked
 returns-in-Upgrade-clause-faults g c =
     IfErr-weaker c.tell_upgrade.result _ _ (λ told is. rw c.in-Upgrade.is (rw (← c.deref-in-Upgrade.ensures, ← c.deref-in-Upgrade-2.ensures) is)) c.tell_upgrade.ensures.faults
+
+pub returns-in-Upgrade-clause-scanned : goal.returns-in-Upgrade-clause-scanned
+unfolding asked
+returns-in-Upgrade-clause-scanned g c =
+    IfErr-weaker c.tell_upgrade.result _ _ (λ told is of. absurd (task_no_scan (asked c.args.task.now) told (rw c.in-Upgrade.is tt) is of)) (returns-in-Upgrade-clause-faults g c)
 
 pub returns-in-Upgrade-clause-none : goal.returns-in-Upgrade-clause-none
 unfolding asked
@@ -132,3 +153,13 @@ returns-in_ok-verdict_on-in_default-clause-printed g c =
     let told = c.tell_verdict.ensures in
     IfOk-weaker c.tell_verdict.result _ _ (λ status printed. prints_for_verdict (asked task) status old new asks printed)
     (prints_verdict (asked task) c.tell_verdict.result c.in_ok-verdict_on-in_default.field-0 old new c.in_ok-verdict_on-in_default.ensures.given told.accepted told.refused told.written)
+
+pub returns-in_ok-verdict_on-in_default-clause-scanned : goal.returns-in_ok-verdict_on-in_default-clause-scanned
+returns-in_ok-verdict_on-in_default-clause-scanned g c = IfErr-weaker c.tell_verdict.result _ _ (λ told is of. absurd (printing_no_scan told is of)) c.tell_verdict.ensures.faults
+
+pub returns-in_err-verdict_on-in_default-clause-scanned : goal.returns-in_err-verdict_on-in_default-clause-scanned
+returns-in_err-verdict_on-in_default-clause-scanned g c =
+    let task = c.args.task.now in
+    let asks = for_verdict task c.in_default.not-Scan c.in_default.not-Explain c.in_default.not-List c.in_default.not-Upgrade in
+    let failed = c.in_err-verdict_on-in_default in
+    passed_no_scan (asked task) failed.field-0.0 c.from_residual.result _ (verdict_no_scan (asked task) asks) failed.ensures.faults c.from_residual.ensures.1

@@ -42,3 +42,7 @@ returns-in_ok-write-in-Err-Words-clause-printed g c = λ taken. absurd (rw c.in-
 pub returns-in-Ok-clause-printed : goal.returns-in-Ok-clause-printed
 returns-in-Ok-clause-printed g c =
     IfOk-weaker c.do_task.result _ _ (λ status printed taken. record { request = asked c.in-Ok.task; meant = c.in-Ok.ensures.asked; printed = printed }) c.do_task.ensures.printed
+
+pub returns-in-Ok-clause-scanned : goal.returns-in-Ok-clause-scanned
+returns-in-Ok-clause-scanned g c =
+    IfErr-weaker c.do_task.result _ _ (λ told scanned of. record { request = asked c.in-Ok.task; meant = c.in-Ok.ensures.asked; printed = scanned of }) c.do_task.ensures.scanned

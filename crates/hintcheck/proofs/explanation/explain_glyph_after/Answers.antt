@@ -1,5 +1,6 @@
 use Rattle.std.specs.Option.{option_map}
-use Rattle.std.proofs.Common.{◌∙◌, ℕ, List, ap, subst, sym}
+use Rattle.std.proofs.Common.{◌≡◌, ◌∙◌, ℕ, List, Some, ap, subst, sym}
+use Rattle.std.specs.Prelude.{slice_get}
 use Rattle.tt_code.specs.Fonts.{Font}
 use Rattle.tt_font.specs.Reading.{GlyphData, glyph_data}
 use Rattle.hintcheck.specs.Explanations.{IsJudged}
@@ -14,6 +15,12 @@ judge_glyph_program-requires-clause-few g c =
 pub tell_glyph_program-requires-clause-few : goal.tell_glyph_program-requires-clause-few
 tell_glyph_program-requires-clause-few g c =
     (c.requires.range.glyphs c.args.id (glyph_data c.unwrap-glyph.result) (sym c.glyph.ensures ∙ ap (option_map glyph_data) c.unwrap-glyph.ensures)).few
+
+pub tell_glyph_program-requires-clause-place : goal.tell_glyph_program-requires-clause-place
+tell_glyph_program-requires-clause-place g c =
+    let glyph : GlyphData = glyph_data c.unwrap-glyph.result in
+    let there : slice_get c.args.font.now.glyphs c.args.id ≡ Some glyph = sym c.glyph.ensures ∙ ap (option_map glyph_data) c.unwrap-glyph.ensures in
+    c.requires.place glyph.program (ap (option_map (λ (d : GlyphData). d.program)) there)
 
 pub returns-clause-tells : goal.returns-clause-tells
 returns-clause-tells g c =

@@ -31,8 +31,8 @@ returns-in_err-certificate-clause-exact g c = λ told.
 pub unwrap-glyph-requires : goal.unwrap-glyph-requires
 unwrap-glyph-requires g c = glyph_there c.glyph.result c.args.font.now.glyphs c.args.id c.glyph.ensures c.requires.there
 
-pub check_glyph_program-requires-clause-few : goal.check_glyph_program-requires-clause-few
-check_glyph_program-requires-clause-few g c =
+pub check_glyph_program-checked-requires-clause-few : goal.check_glyph_program-checked-requires-clause-few
+check_glyph_program-checked-requires-clause-few g c =
     (c.requires.range.glyphs c.args.id (glyph_data c.unwrap-glyph.result) (sym c.glyph.ensures ∙ ap (option_map glyph_data) c.unwrap-glyph.ensures)).few
 
 pub returns-in-Ok-clause-sound : goal.returns-in-Ok-clause-sound
@@ -57,14 +57,14 @@ returns-in-Ok-clause-exact g c = λ told.
           c.in_ok-certificate.ensures.form c.accepted.ensures section.1 passes.1,
     )
 
-pub returns-clause-sound : goal.returns-clause-sound
-returns-clause-sound g c =
+pub returns-in-Err-clause-sound : goal.returns-in-Err-clause-sound
+returns-in-Err-clause-sound g c =
     let glyph : GlyphData = glyph_data c.unwrap-glyph.result in
     let at = sym c.glyph.ensures ∙ ap (option_map glyph_data) c.unwrap-glyph.ensures in
     third_sound c.args.font.now c.args.fpgm.now.program c.args.prep.now.program c.args.prep.now.functions.items c.args.id glyph at c.in-Err.fault c.refused.result c.refused.ensures
 
-pub returns-clause-exact : goal.returns-clause-exact
-returns-clause-exact g c = λ told.
+pub returns-in-Err-clause-exact : goal.returns-in-Err-clause-exact
+returns-in-Err-clause-exact g c = λ told.
     let section = c.in_ok-certificate.ensures.section told in
     let progress = c.args.progress.now in
     let before = input_at progress.place (g.S.Source.remaining c.args.source.now) in
@@ -82,5 +82,5 @@ returns-in_err-certificate-clause-stopped g c =
     rw (p.1, p.2) (section_cut_short c.args.font.now c.args.progress.now.form _ (name.Glyph c.args.id) c.args.progress.now.place _ _ c.in_err-certificate.field-0.0
     (λ i at none. no_glyph c.args.fpgm.now.program c.args.prep.now.program c.args.prep.now.functions.items c.args.id glyph.0 at glyph.1 none) c.in_err-certificate.ensures.stopped)
 
-pub returns-clause-stopped : goal.returns-clause-stopped
-returns-clause-stopped g c = tells_no_read (name.Glyph c.args.id) c.in-Err.fault c.refused.result _ _ _ c.refused.ensures
+pub returns-in-Err-clause-stopped : goal.returns-in-Err-clause-stopped
+returns-in-Err-clause-stopped g c = tells_no_read (name.Glyph c.args.id) c.in-Err.fault c.refused.result _ _ _ c.refused.ensures

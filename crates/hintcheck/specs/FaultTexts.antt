@@ -1,0 +1,32 @@
+-- The faults of a command in words. (Own: the texts are this product's.)
+use Rattle.std.specs.Prelude.{codes, List, ◌++◌, Option, None, Some, ℕ}
+use Rattle.std.specs.Fmt.{decimal}
+use Rattle.tt_font.specs.FaultNumbers.{fault_number}
+use Rattle.tt_font.specs.FaultTexts.{fault_text}
+use Rattle.tt_font.specs.declared.fault.FontFault.{FontFault}
+use Rattle.hintcheck.specs.declared.commands.faults.CommandFault.{CommandFault}
+use Rattle.hintcheck.specs.declared.commands.faults.CommandFault.TheVariants as fault
+
+-- a font's fault: its number, and the fault in words
+abbrev pub numbered_text : FontFault → List ℕ
+numbered_text f = decimal (fault_number f) ++ (codes " " ++ fault_text f)
+
+-- The fault as it is printed after `fault: `. The text for words that the command line doesn't take
+-- is clap's, and is left unspecified.
+abbrev pub command_fault_text : CommandFault → Option (List ℕ)
+command_fault_text (fault.Usage text) = None
+command_fault_text fault.MaxpWord = Some (codes "words: MAXP")
+command_fault_text fault.ProgramWord = Some (codes "words: PROGRAM")
+command_fault_text fault.OffsetWord = Some (codes "words: OFFSET")
+command_fault_text fault.CertificateWord = Some (codes "words: CERT")
+command_fault_text fault.NewWord = Some (codes "words: NEW")
+command_fault_text (fault.Font numbered) = Some (numbered_text numbered.0)
+command_fault_text (fault.Form place) =
+    Some (codes "43 certificate form at byte " ++ decimal place)
+command_fault_text fault.OutOfMemory = Some (codes "9 out of memory")
+command_fault_text fault.ScanFault = Some (codes "fault of a font")
+command_fault_text fault.ScanOutOfMemory = Some (codes "9 out of memory")
+command_fault_text fault.Read = Some (codes "44 read")
+command_fault_text fault.Write = Some (codes "45 write")
+command_fault_text fault.File = Some (codes "45 write")
+command_fault_text fault.Text = Some (codes "text")
