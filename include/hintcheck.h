@@ -4,7 +4,7 @@
  * programs keep to the limits that its 'maxp' table declares. Where the status is HINTCHECK_ACCEPTED, no run of any of these programs
  * reaches a fault of the hint machine: no stack underflow, no stack above maxStackElements, no CVT, storage, function, zone, contour or
  * point number out of range, and no step outside the program's bytes. That is proved, for every font and every certificate
- * (crates/hintcheck_c/src/lib.rt, the clauses `accepted`). What is told beside the status is tested, not proved.
+ * (crates/hintcheck_c/src/lib.rt, the clauses `accepted`), and so is what is told beside the status (the clauses `verdict` and `fault`).
  *
  * Units: lengths, offsets and places are in bytes. Ownership: everything that is handed in stays the caller's, is only read (but for
  * `refusals` and `answer`, which are written), and isn't kept: there is no state between calls. Memory is taken with malloc while a

@@ -1,6 +1,7 @@
 //! What a call answers, in numbers.
 
-ghost use Rattle.std.specs.Prelude.{◌≡◌, ◌≢◌, ◌≤◌, ◌⊎◌, [], length};
+ghost use Rattle.std.specs.Prelude.{◌≡◌, length};
+ghost use Rattle.hintcheck_c.specs.Answers.{Answers, check_answer, fault_answer as answer_of_fault, font_answer};
 
 use crate::refusal::{HintcheckRefusal, list_refused};
 use hintcheck::{CheckFontFault, FontFault, Verdict};
@@ -47,8 +48,7 @@ pub struct HintcheckAnswer {
 
 /// Returns the answer that a fault is.
 fn fault_answer(status: u32, fault: u32, place: u64) -> HintcheckAnswer
-    ensures status { result.status ≡ status }
-    ensures none { result.listed ≡ 0 }
+    ensures { result ≡ answer_of_fault status fault place }
 {
     HintcheckAnswer {
         status,
@@ -65,11 +65,7 @@ pub(crate) fn answer_verdict(
     verdict: &Verdict,
     refusals: &mut [HintcheckRefusal],
 ) -> HintcheckAnswer
-    ensures accepted { result.status ≡ 0 → verdict.now.refused ≡ [] }
-    ensures refused { result.status ≡ 1 → verdict.now.refused ≢ [] }
-    ensures status { result.status ≤ 1 }
-    ensures room { length refusals.new ≡ length refusals.old }
-    ensures listed { result.listed ≤ length refusals.old }
+    ensures { Answers verdict.now result refusals.old refusals.new }
 {
     let refused = verdict.refused();
     let listed = list_refused(refused, refusals);
@@ -89,8 +85,7 @@ pub(crate) fn answer_verdict(
 
 /// Returns the answer that a fault of a font is.
 pub(crate) fn fault_of_font(fault: &FontFault) -> HintcheckAnswer
-    ensures status { (result.status ≡ 2) ⊎ (result.status ≡ 3) }
-    ensures none { result.listed ≡ 0 }
+    ensures { result ≡ font_answer fault.now }
 {
     match fault {
         FontFault::OutOfMemory(_) => fault_answer(OUT_OF_MEMORY, MEMORY_FAULT, 0),
@@ -100,8 +95,7 @@ pub(crate) fn fault_of_font(fault: &FontFault) -> HintcheckAnswer
 
 /// Returns the answer that a fault of a check is.
 pub(crate) fn fault_of_check(fault: &CheckFontFault) -> HintcheckAnswer
-    ensures status { (result.status ≡ 2) ⊎ (result.status ≡ 3) }
-    ensures none { result.listed ≡ 0 }
+    ensures { result ≡ check_answer fault.now }
 {
     match fault {
         CheckFontFault::Font(fault) => fault_of_font(fault),

@@ -2,9 +2,11 @@
 //! says for each what it takes and answers.
 #![tactic(auto)]
 
-ghost use Rattle.std.specs.Prelude.{◌≡◌, ◌≢◌, ◌+◌, ◌<◌, ◌≤◌, [], IfOk, length};
+ghost use Rattle.std.specs.Prelude.{◌≡◌, ◌≢◌, ◌+◌, ◌<◌, ◌≤◌, [], IfErr, IfOk, length};
+ghost use Rattle.hintcheck.specs.CheckedFonts.{AnswersFinding};
 ghost use Rattle.hintcheck.specs.FontPrograms.{IsSafeFont};
 ghost use Rattle.hintcheck.specs.MeansSafe.{HoldRefusedFont, HoldSafeFont};
+ghost use Rattle.hintcheck_c.specs.Answers.{AnswersCheck, AnswersCheckFault, AnswersFontFault, AnswersVerdict, IsFaultOfCheck};
 ghost use Rattle.tt_font.specs.Reading.{FontData, Reads};
 
 mod answer;
@@ -43,6 +45,12 @@ pub extern "C" fn hintcheck_verdict_of_bytes(
     // fault.
     ensures accepted { result ≡ 0 → HoldSafeFont font.now }
     ensures refused { result ≡ 1 → HoldRefusedFont font.now }
+    // The answer is the font's verdict in numbers, and its first refusals are listed; or why there
+    // is none, and nothing is listed.
+    ensures verdict { result ≤ 1
+        → AnswersVerdict font.now answer.new refusals.old refusals.new }
+    ensures fault { 2 ≤ result
+        → AnswersFontFault font.now answer.new refusals.old refusals.new }
     ensures status { result ≤ 3 }
     ensures told { answer.new.status ≡ result }
     ensures room { length refusals.new ≡ length refusals.old }
@@ -65,6 +73,9 @@ fn check_bytes<L: Ledger>(
     requires { (blank.name ≡ L.name) × (blank.parts ≡ L.parts) × (0 < blank.parts) }
     ensures safe { IfOk result (λ v. (d : FontData) × Reads font.now d
         × (v.refused ≡ [] → IsSafeFont d)) }
+    ensures exact { IfOk result (λ v. (d : FontData) × Reads font.now d
+        × AnswersFinding d certificate.now v) }
+    ensures fault { IfErr result (IsFaultOfCheck font.now certificate.now) }
 {
     let source = Counted::<&[u8], L>::new(certificate, blank);
     match Buffered::new(alloc, source) {
@@ -86,6 +97,12 @@ pub extern "C" fn hintcheck_check_of_bytes(
     // Where the status is 0, the bytes hold a font, and no run of any of its programs reaches a
     // fault, whoever made the certificate.
     ensures accepted { result ≡ 0 → HoldSafeFont font.now }
+    // The answer is the verdict by the certificate in numbers, and its first refusals are listed;
+    // or why there is none, and nothing is listed.
+    ensures verdict { result ≤ 1
+        → AnswersCheck font.now certificate.now answer.new refusals.old refusals.new }
+    ensures fault { 2 ≤ result
+        → AnswersCheckFault font.now certificate.now answer.new refusals.old refusals.new }
     ensures status { result ≤ 3 }
     ensures told { answer.new.status ≡ result }
     ensures room { length refusals.new ≡ length refusals.old }

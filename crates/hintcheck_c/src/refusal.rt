@@ -1,6 +1,7 @@
 //! A refused program in numbers.
 
-ghost use Rattle.std.specs.Prelude.{◌≡◌, ◌≤◌, length};
+ghost use Rattle.std.specs.Prelude.{◌≡◌, length, min};
+ghost use Rattle.hintcheck_c.specs.Refusals.{class_number as number_of_class, listed_in, numbers_of, program_number as number_of_program};
 
 use hintcheck::{Name, Refused};
 use tt_code::ReasonClass;
@@ -30,7 +31,9 @@ pub struct HintcheckRefusal {
 }
 
 /// Returns the number of a program.
-fn program_number(name: Name) -> u32 {
+fn program_number(name: Name) -> u32
+    ensures { result ≡ number_of_program name }
+{
     match name {
         Name::Font => FONT_PROGRAM,
         Name::Cvt => CVT_PROGRAM,
@@ -39,7 +42,9 @@ fn program_number(name: Name) -> u32 {
 }
 
 /// Returns the number of a class of reasons.
-fn class_number(class: ReasonClass) -> u32 {
+fn class_number(class: ReasonClass) -> u32
+    ensures { result ≡ number_of_class class }
+{
     match class {
         ReasonClass::PossibleFault => 0,
         ReasonClass::Undecided => 1,
@@ -49,7 +54,9 @@ fn class_number(class: ReasonClass) -> u32 {
 }
 
 /// Returns a refused program in numbers.
-fn in_numbers(refused: &Refused) -> HintcheckRefusal {
+fn in_numbers(refused: &Refused) -> HintcheckRefusal
+    ensures { result ≡ numbers_of refused.now }
+{
     HintcheckRefusal {
         program: program_number(refused.program),
         place: program_number(refused.place.program),
@@ -61,9 +68,8 @@ fn in_numbers(refused: &Refused) -> HintcheckRefusal {
 
 /// Lists the first refused programs, as many as there is room for, and returns how many.
 pub(crate) fn list_refused(refused: &[Refused], room: &mut [HintcheckRefusal]) -> usize
-    ensures listed { result ≤ length room.old }
-    ensures known { result ≤ length refused.now }
-    ensures room { length room.new ≡ length room.old }
+    ensures listed { room.new ≡ listed_in refused.now room.old }
+    ensures count { result ≡ min (length refused.now) (length room.old) }
 {
     let count = refused.len().min(room.len());
     for place in 0..count {

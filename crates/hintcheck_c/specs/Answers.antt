@@ -1,0 +1,110 @@
+-- What the calls of C and C++ answer: a verdict or a fault, in numbers.
+use Rattle.std.specs.Prelude.{◌≡◌, ◌≢◌, ℕ, ◌-◌, ◌^◌, List, [], ◌∷◌, length, min, Some, Err, alloc_error}
+use Rattle.tt_font.specs.FaultNumbers.{fault_number}
+use Rattle.tt_font.specs.FileFaults.{font_fault}
+use Rattle.tt_font.specs.Reading.{FontData, Reads}
+use Rattle.tt_font.specs.declared.fault.FontFault.{FontFault}
+use Rattle.tt_font.specs.declared.fault.FontFault.TheVariants as font
+use Rattle.hintcheck.specs.Certificates.{IsChecked}
+use Rattle.hintcheck.specs.CheckedFonts.{AnswersFinding}
+use Rattle.hintcheck.specs.FontPrograms.{IsVerdict}
+use Rattle.hintcheck.specs.Verdicts.{Judgement}
+use Rattle.hintcheck.specs.declared.font_check.CheckFontFault.{CheckFontFault}
+use Rattle.hintcheck.specs.declared.font_check.CheckFontFault.TheVariants as check
+use Rattle.hintcheck.specs.declared.report.Refused.{Refused}
+use Rattle.hintcheck_c.specs.Refusals.{listed_in}
+use Rattle.hintcheck_c.specs.declared.answer.HintcheckAnswer.{HintcheckAnswer}
+use Rattle.hintcheck_c.specs.declared.refusal.HintcheckRefusal.{HintcheckRefusal}
+
+-- 0 where no program is refused, and otherwise 1
+abbrev pub status_of : List Refused → ℕ
+status_of [] = 0
+status_of (r ∷ rs) = 1
+
+-- a verdict in numbers, with room for so many refusals; 32 bits tell how many are refused
+abbrev pub verdict_answer : Judgement → ℕ → HintcheckAnswer
+verdict_answer judgement room = record {
+  status = status_of judgement.refused;
+  fault = 0;
+  place = 0;
+  programs = judgement.programs;
+  refused = min (length judgement.refused) (2 ^ 32 - 1);
+  listed = min (length judgement.refused) room;
+}
+
+-- a fault in numbers: the status, the fault's own number, and its place
+abbrev pub fault_answer : ℕ → ℕ → ℕ → HintcheckAnswer
+fault_answer status fault place = record {
+  status = status;
+  fault = fault;
+  place = place;
+  programs = 0;
+  refused = 0;
+  listed = 0;
+}
+
+-- a fault of a font in numbers
+abbrev pub font_answer : FontFault → HintcheckAnswer
+font_answer (font.OutOfMemory error) = fault_answer 3 9 0
+font_answer fault = fault_answer 2 (fault_number fault) 0
+
+-- why there is no check, in numbers
+abbrev pub check_answer : CheckFontFault → HintcheckAnswer
+check_answer (check.Font fault) = font_answer fault
+check_answer (check.Form place) = fault_answer 2 43 place
+check_answer check.Read = fault_answer 2 44 0
+check_answer (check.OutOfMemory error) = fault_answer 3 9 0
+
+-- The answer is this verdict in numbers, and its first refusals are listed, as many as there is
+-- room for.
+pub record Answers (judgement : Judgement) (answer : HintcheckAnswer)
+    (old new : List HintcheckRefusal) : Type 0 where
+  pub in_numbers : answer ≡ verdict_answer judgement (length old)
+  pub listed : new ≡ listed_in judgement.refused old
+
+-- The answer is the verdict on the font that is in the bytes.
+pub record AnswersVerdict (bytes : List ℕ) (answer : HintcheckAnswer)
+    (old new : List HintcheckRefusal) : Type 0 where
+  pub font : FontData
+  pub reads : Reads bytes font
+  pub judgement : Judgement
+  pub given : IsVerdict font judgement
+  pub answered : Answers judgement answer old new
+
+-- The answer is the verdict on the font that is in the bytes, by a certificate.
+pub record AnswersCheck (bytes certificate : List ℕ) (answer : HintcheckAnswer)
+    (old new : List HintcheckRefusal) : Type 0 where
+  pub font : FontData
+  pub reads : Reads bytes font
+  pub judgement : Judgement
+  pub given : AnswersFinding font certificate judgement
+  pub answered : Answers judgement answer old new
+
+-- the fault of a font is the first one of the bytes, unless memory ran out
+abbrev pub IsFaultOfFont : List ℕ → FontFault → Type 0
+IsFaultOfFont bytes fault = fault ≢ font.OutOfMemory alloc_error → font_fault bytes ≡ Some fault
+
+-- The fault is the font's, or the certificate breaks the rules of its form at this place; a failed
+-- read and out of memory are unspecified.
+abbrev pub IsFaultOfCheck : List ℕ → List ℕ → CheckFontFault → Type 0
+IsFaultOfCheck bytes certificate (check.Font fault) = IsFaultOfFont bytes fault
+IsFaultOfCheck bytes certificate (check.Form place) =
+    (d : FontData) × Reads bytes d × IsChecked d certificate (Err place)
+IsFaultOfCheck bytes certificate check.Read = Unit {0}
+IsFaultOfCheck bytes certificate (check.OutOfMemory error) = Unit {0}
+
+-- The answer is why the bytes have no verdict, in numbers, and nothing is listed.
+pub record AnswersFontFault (bytes : List ℕ) (answer : HintcheckAnswer)
+    (old new : List HintcheckRefusal) : Type 0 where
+  pub fault : FontFault
+  pub of_font : IsFaultOfFont bytes fault
+  pub in_numbers : answer ≡ font_answer fault
+  pub unlisted : new ≡ old
+
+-- the same of a verdict by a certificate
+pub record AnswersCheckFault (bytes certificate : List ℕ) (answer : HintcheckAnswer)
+    (old new : List HintcheckRefusal) : Type 0 where
+  pub fault : CheckFontFault
+  pub of_check : IsFaultOfCheck bytes certificate fault
+  pub in_numbers : answer ≡ check_answer fault
+  pub unlisted : new ≡ old
