@@ -3,9 +3,9 @@
 
 ghost use Rattle.std.specs.Prelude.{◌≡◌, ◌<◌};
 
-use crate::examples::{CALL_POPS, files_of};
+use crate::examples::{CALL_POPS, CALL_UNDERFLOWS, Programs, file_of, files_of};
 use crate::heap::Heap;
-use crate::matching::Matching;
+use crate::matching::{Either, Matching};
 use crate::trials::{Told, Trial, assert_refused};
 use hintcheck::command;
 use hintcheck_test_fixtures::fonts::MAXP_WORD;
@@ -19,22 +19,60 @@ use std::test::Fail;
 use std::{env, fs, process};
 use tt_stream::Counted;
 
+/// What a command has to print.
+#[derive(Clone, Copy)]
+enum Printed<'a> {
+    /// This text with ample memory, and otherwise nothing.
+    Text(&'a str),
+    /// With ample memory the first line; otherwise nothing, or the other one, which tells that
+    /// memory ran out.
+    Line(&'a str, &'a str),
+    /// As many bytes as with ample memory, and otherwise any number of them.
+    Explanation,
+}
+
 /// What a command is asked for, and what it has to print.
 #[derive(Clone, Copy)]
 pub(crate) struct Order<'a> {
     words: &'a [&'a str],
-    text: &'a str,
+    printed: Printed<'a>,
 }
 
 /// What is printed where memory ran out.
 const OUT_OF_MEMORY: &[u8] = b"fault: 9 out of memory\n";
 
 /// Returns what a status tells, and what was printed with it.
-fn told_of_status(status: u8, out: &Matching<'_>, err: &Matching<'_>) -> Told {
-    match status {
-        0 if out.has_all() && err.has_none() => Told::Answer(0),
-        3 if out.has_none() && err.has_all() => Told::OutOfMemory,
+fn told_of_status(status: u8, printed: Printed<'_>, out: &Either<'_>, err: &Matching<'_>) -> Told {
+    match printed {
+        Printed::Text(_) if status == 0 && out.one.has_all() && err.has_none() => Told::Answer(0),
+        Printed::Text(_) if status == 3 && out.one.has_none() && err.has_all() => {
+            Told::OutOfMemory
+        }
+        Printed::Line(_, _) if status == 0 && out.one.has_all() && err.has_none() => {
+            Told::Answer(0)
+        }
+        Printed::Line(_, _) if status == 3 && out.one.has_none() && err.has_all() => {
+            Told::OutOfMemory
+        }
+        Printed::Line(_, _) if status == 3 && out.other.has_all() && err.has_none() => {
+            Told::OutOfMemory
+        }
+        Printed::Explanation if status < 2 && err.has_none() => Told::Answer(out.one.count()),
+        Printed::Explanation if status == 3 && err.has_all() => Told::OutOfMemory,
         _ => Told::Wrong,
+    }
+}
+
+/// Returns the writer that knows what is to be printed.
+fn writer_of<'a>(printed: Printed<'a>) -> Either<'a> {
+    let (one, other) = match printed {
+        Printed::Text(text) => (text, ""),
+        Printed::Line(line, fault) => (line, fault),
+        Printed::Explanation => ("", ""),
+    };
+    Either {
+        one: Matching::new(one.as_bytes()),
+        other: Matching::new(other.as_bytes()),
     }
 }
 
@@ -48,12 +86,12 @@ fn command_over<L: Ledger, M: Ledger>(
     requires out { (first.name ≡ L.name) × (first.parts ≡ L.parts) × (0 < first.parts) }
     requires err { (second.name ≡ M.name) × (second.parts ≡ M.parts) × (0 < second.parts) }
 {
-    let mut out = Counted::<Matching<'_>, L>::new(Matching::new(order.text.as_bytes()), first);
+    let mut out = Counted::<Either<'_>, L>::new(writer_of(order.printed), first);
     let mut err = Counted::<Matching<'_>, M>::new(Matching::new(OUT_OF_MEMORY), second);
     heap.take_room();
     let status = command(rt, order.words, &mut out, &mut err);
     heap.give_back();
-    told_of_status(status, &out.into_inner(), &err.into_inner())
+    told_of_status(status, order.printed, &out.into_inner(), &err.into_inner())
 }
 
 /// Returns what a command tells.
@@ -61,7 +99,20 @@ pub(crate) fn told_of_command(rt: &HostRuntime, heap: &mut Heap, order: &Order<'
     command_over::<Brand, Brand>(rt, heap, order, Blank::new(1), Blank::new(1))
 }
 
-/// Asserts that a command is refused memory, which accepts with ample memory and prints this.
+/// Asserts that a command is refused memory, which prints this.
+fn assert_order_refused<'a>(
+    rt: &(impl Abort + Print),
+    host: &'a HostRuntime,
+    heap: &mut Heap,
+    words: &'a [&'a str],
+    printed: Printed<'a>,
+) {
+    let order = Order { words, printed };
+    let name = words.get(1).copied().unwrap_or("no words");
+    assert_refused(rt, heap, name, &Trial::Command(host, order));
+}
+
+/// Asserts that a command is refused memory, which accepts with ample memory and prints this text.
 fn assert_command_refused<'a>(
     rt: &(impl Abort + Print),
     host: &'a HostRuntime,
@@ -69,9 +120,7 @@ fn assert_command_refused<'a>(
     words: &'a [&'a str],
     text: &'a str,
 ) {
-    let order = Order { words, text };
-    let name = words.get(1).copied().unwrap_or(text);
-    assert_refused(rt, heap, name, &Trial::Command(host, order));
+    assert_order_refused(rt, host, heap, words, Printed::Text(text));
 }
 
 /// What is printed of a font with one glyph.
@@ -116,4 +165,44 @@ fn command_without_files(rt: HostRuntime) {
     let mut heap = Heap::new(rt.alloc());
     let words = ["hintcheck", "bare", MAXP_WORD, "10", "4", "1", "B100093E"];
     assert_command_refused(&rt, &rt, &mut heap, &words, "accepted: 1 programs\n");
+}
+
+#[test]
+fn scan_of_a_file(rt: HostRuntime) -> Result<(), Fail> {
+    let files = files_of(rt.alloc(), &CALL_POPS)?;
+    let path = path_of(&rt, "ttf").ok_or("a path")?;
+    let font = path.as_str();
+    fs::write(&rt, font, &files.font)?;
+    let line = format!(in rt.alloc(); "{font}: {ACCEPTED}")?;
+    let fault = format!(in rt.alloc(); "{font}: fault: 9 out of memory\n")?;
+    let mut heap = Heap::new(rt.alloc());
+    let words = ["hintcheck", "scan", font];
+    assert_order_refused(&rt, &rt, &mut heap, &words, Printed::Line(&line, &fault));
+    fs::remove_file(&rt, font)?;
+    Ok(())
+}
+
+/// Asserts that `explain` is refused memory for a program of these files, accepted or refused.
+fn assert_explanation_refused(
+    rt: &(impl Abort + Print),
+    host: &HostRuntime,
+    heap: &mut Heap,
+    programs: &Programs<'_>,
+    place: &str,
+) -> Result<(), Fail> {
+    let font = file_of(host.alloc(), programs)?;
+    let path = path_of(host, "ttf").ok_or("a path")?;
+    fs::write(host, path.as_str(), &font)?;
+    let words = ["hintcheck", "explain", path.as_str(), "g0", place];
+    assert_order_refused(rt, host, heap, &words[..4], Printed::Explanation);
+    assert_order_refused(rt, host, heap, &words, Printed::Explanation);
+    fs::remove_file(host, path.as_str())?;
+    Ok(())
+}
+
+#[test]
+fn explanations_of_files(rt: HostRuntime) -> Result<(), Fail> {
+    let mut heap = Heap::new(rt.alloc());
+    assert_explanation_refused(&rt, &rt, &mut heap, &CALL_POPS, "3")?;
+    assert_explanation_refused(&rt, &rt, &mut heap, &CALL_UNDERFLOWS, "0")
 }

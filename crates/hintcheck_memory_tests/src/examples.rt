@@ -43,6 +43,15 @@ pub(crate) const CALL_POPS: Programs<'static> = Programs {
     components: &[],
 };
 
+/// A call of function 0 that leaves it no number to pop: the glyph's program is refused.
+pub(crate) const CALL_UNDERFLOWS: Programs<'static> = Programs {
+    name: "call-underflows",
+    font: &POPPING,
+    glyph: &[0xB0, 0x00, 0x2B],
+    size: (4, 1),
+    components: &[],
+};
+
 /// Three turns of function 0.
 const LOOPCALL: Programs<'static> = Programs {
     name: "loopcall",
@@ -70,7 +79,7 @@ pub(crate) const EXAMPLES: [Programs<'static>; 4] = [
 ];
 
 /// Returns the font file of these programs.
-fn file_of(alloc: Global, programs: &Programs<'_>) -> Result<Vec<u8>, NoFile> {
+pub(crate) fn file_of(alloc: Global, programs: &Programs<'_>) -> Result<Vec<u8>, NoFile> {
     if !programs.components.is_empty() {
         return font_with(alloc, programs.components);
     }

@@ -370,9 +370,16 @@ fn tells_programs_that_are_not_checked(rt: HostRuntime) {
 }
 
 /// Whether the command answers by status 2 and this line where it is asked for this program and
-/// this place of a font with one glyph; nothing where the file can't be written or removed.
-fn tells_fault(rt: &HostRuntime, program: &str, offset: &str, line: &str) -> Option<bool> {
-    let font = font_of(rt.alloc(), "", "", &["B100093E"])?;
+/// this place of a font with these programs; nothing where the file can't be written or removed.
+fn tells_fault(
+    rt: &HostRuntime,
+    programs: Programs<'_>,
+    program: &str,
+    offset: &str,
+    line: &str,
+) -> Option<bool> {
+    let (fpgm, prep, glyph) = programs;
+    let font = font_of(rt.alloc(), fpgm, prep, &[glyph])?;
     let path = path_of(rt, "unexplained.ttf")?;
     fs::write(rt, path.as_str(), &font).ok()?;
     let words = ["hintcheck", "explain", path.as_str(), program, offset];
@@ -383,11 +390,14 @@ fn tells_fault(rt: &HostRuntime, program: &str, offset: &str, line: &str) -> Opt
 
 /// A word for a program and one for a place, and the line of the fault: places inside an
 /// instruction, after the end, and of a program without instructions.
-const FAULTS: [(&str, &str, &str); 6] = [
+const FAULTS: [(&str, &str, &str); 9] = [
     ("g0", "1", "fault: words: OFFSET\n"),
     ("g0", "2", "fault: words: OFFSET\n"),
+    ("g0", "4", "fault: words: OFFSET\n"),
     ("g0", "5", "fault: words: OFFSET\n"),
     ("g0", "4294967295", "fault: words: OFFSET\n"),
+    ("f", "0", "fault: words: OFFSET\n"),
+    ("p", "0", "fault: words: OFFSET\n"),
     ("g1", "0", "fault: words: PROGRAM\n"),
     ("x", "0", "fault: words: PROGRAM\n"),
 ];
@@ -395,9 +405,90 @@ const FAULTS: [(&str, &str, &str); 6] = [
 #[test]
 fn tells_faults_of_words(rt: HostRuntime) {
     for (program, offset, line) in &FAULTS {
-        let is_so = tells_fault(&rt, program, offset, line);
+        let is_so = tells_fault(&rt, ("", "", "B100093E"), program, offset, line);
         assert!(rt; is_so == Some(true), "{program} {offset}");
     }
     let words = ["hintcheck", "explain", "no such file.ttf", "g0"];
     assert!(rt; answers(&rt, &words, 2, "", "fault: 44 read\n"));
+}
+
+/// A font's programs, the one that is asked for, a place that it has, the answer's beginning, and a
+/// place that it hasn't.
+type Place<'a> = (Programs<'a>, &'a str, &'a str, &'a str, &'a str);
+
+/// Places of programs that can't be cut or aren't structured, and of those that aren't checked.
+const PLACES: [Place<'static>; 9] = [
+    (
+        ("", "", "B00040030102"),
+        "g0",
+        "0",
+        "refused g0 at g0:2: 20 cannot cut\n",
+        "1",
+    ),
+    (
+        ("", "", "B00040030102"),
+        "g0",
+        "2",
+        "refused g0 at g0:2: 20 cannot cut\n",
+        "4",
+    ),
+    (
+        ("", "", "40"),
+        "g0",
+        "0",
+        "refused g0 at g0:0: 20 cannot cut\n",
+        "1",
+    ),
+    (
+        ("", "", "B00059"),
+        "g0",
+        "0",
+        "refused g0 at g0:2: 21 structure\n",
+        "1",
+    ),
+    (
+        ("", "", "B00059"),
+        "g0",
+        "2",
+        "refused g0 at g0:2: 21 structure\n",
+        "3",
+    ),
+    (
+        ("21", "", "B100093E"),
+        "g0",
+        "3",
+        "not checked: the font program is refused\n",
+        "1",
+    ),
+    (
+        ("21", "4B21", ""),
+        "p",
+        "1",
+        "not checked: the font program is refused\n",
+        "2",
+    ),
+    (
+        ("", "21", "B100093E"),
+        "g0",
+        "0",
+        "not checked: the cvt program is refused\n",
+        "4",
+    ),
+    (
+        ("59", "", "B00059"),
+        "g0",
+        "2",
+        "not checked: the font program is refused\n",
+        "1",
+    ),
+];
+
+#[test]
+fn looks_at_places_of_programs_that_are_not_accepted(rt: HostRuntime) {
+    for (programs, program, place, text, other) in &PLACES {
+        let is_so = explains(&rt, *programs, program, Some(*place), 1, &[*text]);
+        assert!(rt; is_so == Some(true), "{programs:?} {program} {place}");
+        let is_so = tells_fault(&rt, *programs, program, other, "fault: words: OFFSET\n");
+        assert!(rt; is_so == Some(true), "{programs:?} {program} {other}");
+    }
 }
