@@ -68,6 +68,7 @@ finds_fault Is Is' At At' (check.Form place) h f = f place h
 finds_fault Is Is' At At' check.Read h f = tt
 finds_fault Is Is' At At' (check.Font e) h f = tt
 finds_fault Is Is' At At' (check.OutOfMemory e) h f = tt
+finds_fault Is Is' At At' check.Budget h f = tt
 
 -- so does a section that isn't there
 pub finds_decoding : {T U : Type 0} (Is : T → Type 0) (Is' : U → Type 0) (At At' : ℕ → Type 0) (e : DecodeFault) → Decodes {T = T} (Err e) Is At → ((place : ℕ) → At place → At' place)

@@ -274,6 +274,7 @@ pub has_read_weaker : (old new : Option (List ℕ)) (Is Also : List ℕ → Type
 has_read_weaker old new Is Also (check.Form place) so has = tt
 has_read_weaker old new Is Also (check.Font font) so has = tt
 has_read_weaker old new Is Also (check.OutOfMemory error) so has = tt
+has_read_weaker old new Is Also check.Budget so has = tt
 has_read_weaker old new Is Also check.Read so has = λ told. let (front, consumed, is) = has told in (front, consumed, so front is)
 
 -- after the header
@@ -282,6 +283,7 @@ pub cut_short_after : (s : Standing) (form : Form) (place : ℕ) (old mid new : 
 cut_short_after s form place old mid new (check.Form at) reads has = tt
 cut_short_after s form place old mid new (check.Font font) reads has = tt
 cut_short_after s form place old mid new (check.OutOfMemory error) reads has = tt
+cut_short_after s form place old mid new check.Budget reads has = tt
 cut_short_after s form place old mid new check.Read reads has = λ told.
     let (told', on) = reads told in
     let r = reads_on_always s old form (input_at place mid) on in

@@ -153,3 +153,4 @@ check_accepts font bytes read (Err (check.Form place)) reads answers d reads_too
 check_accepts font bytes read (Err check.Read) reads answers d reads_too checked = tt
 check_accepts font bytes read (Err (check.Font e)) reads answers d reads_too checked = tt
 check_accepts font bytes read (Err (check.OutOfMemory e)) reads answers d reads_too checked = tt
+check_accepts font bytes read (Err check.Budget) reads answers d reads_too checked = tt

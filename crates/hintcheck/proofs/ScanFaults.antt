@@ -9,39 +9,39 @@ use Rattle.hintcheck.specs.declared.commands.faults.CommandFault.TheVariants as 
 
 -- no scan is asked for
 abbrev pub IsNoScan : Request → Type 0
-IsNoScan (scan fonts) = ⊥
+IsNoScan (scan fonts points) = ⊥
 IsNoScan other = Unit {0}
 
 fault_of_scan : (q : Request) → IsNoScan q → IsFaultOfRequest q fault.ScanFault → ⊥
 fault_of_scan (bare maxp cvt points contours program) no_scan is = is
-fault_of_scan (verdict font) no_scan is = is
-fault_of_scan (scan fonts) no_scan is = no_scan
+fault_of_scan (verdict font points) no_scan is = is.0
+fault_of_scan (scan fonts points) no_scan is = no_scan
 fault_of_scan (explain font program offset) no_scan is = elim is [ inl reading ↦ reading | inr some ↦ some.1.1 ]
-fault_of_scan (find font certificate) no_scan is = elim is [ inl e ↦ cc | inr other ↦ other.1 ]
-fault_of_scan (check font certificate) no_scan is = is
+fault_of_scan (find font certificate points) no_scan is = elim is.0 [ inl e ↦ cc | inr other ↦ other.1 ]
+fault_of_scan (check font certificate points) no_scan is = is.0
 fault_of_scan (list font program) no_scan is = elim is [ inl reading ↦ reading | inr some ↦ some.1 ]
 fault_of_scan (upgrade old new) no_scan is = elim is [ inl e ↦ cc | inr other ↦ other.1 ]
 
-memory_of_scan : (q : Request) → IsNoScan q → IsFaultOfRequest q fault.ScanOutOfMemory → ⊥
-memory_of_scan (bare maxp cvt points contours program) no_scan is = is
-memory_of_scan (verdict font) no_scan is = is
-memory_of_scan (scan fonts) no_scan is = no_scan
-memory_of_scan (explain font program offset) no_scan is = elim is [ inl reading ↦ reading | inr some ↦ some.1.1 ]
-memory_of_scan (find font certificate) no_scan is = elim is [ inl e ↦ cc | inr other ↦ other.1 ]
-memory_of_scan (check font certificate) no_scan is = is
-memory_of_scan (list font program) no_scan is = elim is [ inl reading ↦ reading | inr some ↦ some.1 ]
-memory_of_scan (upgrade old new) no_scan is = elim is [ inl e ↦ cc | inr other ↦ other.1 ]
+unfinished_scan : (q : Request) → IsNoScan q → IsFaultOfRequest q fault.ScanUnfinished → ⊥
+unfinished_scan (bare maxp cvt points contours program) no_scan is = is
+unfinished_scan (verdict font points) no_scan is = is.0
+unfinished_scan (scan fonts points) no_scan is = no_scan
+unfinished_scan (explain font program offset) no_scan is = elim is [ inl reading ↦ reading | inr some ↦ some.1.1 ]
+unfinished_scan (find font certificate points) no_scan is = elim is.0 [ inl e ↦ cc | inr other ↦ other.1 ]
+unfinished_scan (check font certificate points) no_scan is = is.0
+unfinished_scan (list font program) no_scan is = elim is [ inl reading ↦ reading | inr some ↦ some.1 ]
+unfinished_scan (upgrade old new) no_scan is = elim is [ inl e ↦ cc | inr other ↦ other.1 ]
 
 -- a fault of printing isn't a scan's
 pub printing_no_scan : (f : CommandFault) → IsFaultOfPrinting f → IsOfScan f → ⊥
 printing_no_scan fault.ScanFault is of = is
-printing_no_scan fault.ScanOutOfMemory is of = is
+printing_no_scan fault.ScanUnfinished is of = is
 printing_no_scan _ is of = of
 
 -- nor is one of another request
 pub request_no_scan : (q : Request) (f : CommandFault) → IsNoScan q → IsFaultOfRequest q f → IsOfScan f → ⊥
 request_no_scan q fault.ScanFault no_scan is of = fault_of_scan q no_scan is
-request_no_scan q fault.ScanOutOfMemory no_scan is of = memory_of_scan q no_scan is
+request_no_scan q fault.ScanUnfinished no_scan is of = unfinished_scan q no_scan is
 request_no_scan q _ no_scan is of = of
 
 pub task_no_scan : (q : Request) (f : CommandFault) → IsNoScan q → IsFaultOfTask q f → IsOfScan f → ⊥
@@ -49,11 +49,11 @@ task_no_scan q f no_scan is of = elim is [ inl asked ↦ request_no_scan q f no_
 
 pub verdict_no_scan : (q : Request) → IsForVerdict q → IsNoScan q
 verdict_no_scan (bare maxp cvt points contours program) is = tt
-verdict_no_scan (verdict font) is = tt
-verdict_no_scan (scan fonts) is = is
+verdict_no_scan (verdict font points) is = tt
+verdict_no_scan (scan fonts points) is = is
 verdict_no_scan (explain font program offset) is = tt
-verdict_no_scan (find font certificate) is = tt
-verdict_no_scan (check font certificate) is = tt
+verdict_no_scan (find font certificate points) is = tt
+verdict_no_scan (check font certificate points) is = tt
 verdict_no_scan (list font program) is = tt
 verdict_no_scan (upgrade old new) is = tt
 

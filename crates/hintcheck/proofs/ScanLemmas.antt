@@ -53,7 +53,7 @@ scan_fault fonts status tells two =
     let told = tells.fault (omega arith) in
     (told.0, told.1, told.2 ∙ two)
 
-pub scan_memory : (fonts : List (List ℕ)) (status : ℕ) → TellsFonts fonts status → (status ≡ 0 → ⊥) → (status ≡ 1 → ⊥) → (status ≡ 2 → ⊥) → IsFaultOfScan fault.ScanOutOfMemory
+pub scan_memory : (fonts : List (List ℕ)) (status : ℕ) → TellsFonts fonts status → (status ≡ 0 → ⊥) → (status ≡ 1 → ⊥) → (status ≡ 2 → ⊥) → IsFaultOfScan fault.ScanUnfinished
 scan_memory fonts status tells zero one two =
     let three : status ≡ 3 = exactly status tells.few zero one two in
     let told = tells.fault (omega arith) in

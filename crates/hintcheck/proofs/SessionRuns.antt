@@ -337,6 +337,7 @@ pub read_failed : (d : FontData) (bytes : Option (List ℕ)) (s : Standing) (lef
 read_failed d bytes s left new rs (fault.Form place) so_far has = tt
 read_failed d bytes s left new rs (fault.Font font) so_far has = tt
 read_failed d bytes s left new rs (fault.OutOfMemory error) so_far has = tt
+read_failed d bytes s left new rs fault.Budget so_far has = tt
 read_failed d bytes s left new rs fault.Read so_far has = λ told.
     let w = so_far.so_far told in
     let (front, consumed, ends) = has (so_far.told told) in

@@ -234,6 +234,7 @@ finds_weaker (Err (check.Form place)) Is Is' At At' h f k = k place h
 finds_weaker (Err check.Read) Is Is' At At' h f k = tt
 finds_weaker (Err (check.Font e)) Is Is' At At' h f k = tt
 finds_weaker (Err (check.OutOfMemory e)) Is Is' At At' h f k = tt
+finds_weaker (Err check.Budget) Is Is' At At' h f k = tt
 
 -- a source that tells its bytes still does where a beginning of them was read
 pub still_told : (old new : Option (List ℕ)) → ConsumesBeginning old new → IsTold old → IsTold new

@@ -33,9 +33,10 @@ CountsCheck (Err fault.Read) old new = new ≡ old + 1
 CountsCheck (Err (fault.Font font)) old new = new ≡ old
 CountsCheck (Err (fault.Form place)) old new = new ≡ old
 CountsCheck (Err (fault.OutOfMemory error)) old new = new ≡ old
+CountsCheck (Err fault.Budget) old new = new ≡ old
 
 -- The check of a font tests the condition on its bytes: a fault of the font's is the one that
--- holds, unless memory ran out, and any other answer means that none does.
+-- holds, unless memory ran out, and any other answer means that none does. There is no budget.
 abbrev pub TestsInCheck : {T : Type 0} → Condition → Result T CheckFontFault → Type 0
 TestsInCheck condition (Ok done) = condition ≡ None
 TestsInCheck condition (Err (fault.Font font)) =
@@ -43,13 +44,15 @@ TestsInCheck condition (Err (fault.Font font)) =
 TestsInCheck condition (Err (fault.Form place)) = condition ≡ None
 TestsInCheck condition (Err fault.Read) = condition ≡ None
 TestsInCheck condition (Err (fault.OutOfMemory error)) = condition ≡ None
+TestsInCheck condition (Err fault.Budget) = ⊥
 
--- the fault isn't the font's
+-- the fault is neither the font's nor a budget's
 abbrev pub IsNoFontFault : CheckFontFault → Type 0
 IsNoFontFault (fault.Font font) = ⊥
 IsNoFontFault (fault.Form place) = Unit {0}
 IsNoFontFault fault.Read = Unit {0}
 IsNoFontFault (fault.OutOfMemory error) = Unit {0}
+IsNoFontFault fault.Budget = ⊥
 
 -- the fault of a certificate that can't be written
 abbrev pub fault_of_encoding : EncodeFault → FindFontFault
@@ -62,6 +65,7 @@ CountsFind (Ok done) old new = new ≡ old
 CountsFind (Err find.Write) old new = new ≡ old + 1
 CountsFind (Err (find.Font font)) old new = new ≡ old
 CountsFind (Err (find.OutOfMemory error)) old new = new ≡ old
+CountsFind (Err find.Budget) old new = new ≡ old
 
 -- so does the search for its certificate
 abbrev pub TestsInFind : {T : Type 0} → Condition → Result T FindFontFault → Type 0
@@ -70,12 +74,14 @@ TestsInFind condition (Err (find.Font font)) =
     font ≢ OutOfMemory alloc_error → condition ≡ Some font
 TestsInFind condition (Err find.Write) = condition ≡ None
 TestsInFind condition (Err (find.OutOfMemory error)) = condition ≡ None
+TestsInFind condition (Err find.Budget) = ⊥
 
--- the fault isn't the font's
+-- the fault is neither the font's nor a budget's
 abbrev pub IsNoFaultOfFont : FindFontFault → Type 0
 IsNoFaultOfFont (find.Font font) = ⊥
 IsNoFaultOfFont find.Write = Unit {0}
 IsNoFaultOfFont (find.OutOfMemory error) = Unit {0}
+IsNoFaultOfFont find.Budget = ⊥
 
 -- where the verdict names a refused program, nothing was written
 abbrev pub WritesNothing : Option (List ℕ) → Option (List ℕ) → Judgement → Type 0

@@ -31,6 +31,15 @@ IsFaultOfSource old new (fault.Font numbered) =
     (bytes : List ℕ) × ReadsToEnd old new bytes × IsFaultOfFont bytes numbered.0
 IsFaultOfSource old new other = ⊥
 
+-- a budget is met only where points are counted
+abbrev pub IsWithin : Option ℕ → CommandFault → Type 0
+IsWithin points reported = reported ≡ fault.Budget → points ≢ None
+
+-- The same where a number of points bounds the verdict: they may have been too few.
+abbrev pub IsFaultWithin : Option ℕ → Option (List ℕ) → Option (List ℕ) → CommandFault → Type 0
+IsFaultWithin points old new fault.Budget = points ≢ None
+IsFaultWithin points old new other = IsFaultOfSource old new other
+
 -- all bytes were read, and have no fault as those of a font
 abbrev pub ReadNoFault : Option (List ℕ) → Option (List ℕ) → Type 0
 ReadNoFault old new = (bytes : List ℕ) × ReadsToEnd old new bytes × (font_fault bytes ≡ None)
@@ -68,6 +77,7 @@ abbrev pub IsFaultOfFontFile : CommandFault → Type 0
 IsFaultOfFontFile (fault.Font numbered) = IsFaultOfSomeFont numbered.0
 IsFaultOfFontFile fault.Read = Unit {0}
 IsFaultOfFontFile fault.OutOfMemory = Unit {0}
+IsFaultOfFontFile fault.Budget = Unit {0}
 IsFaultOfFontFile other = ⊥
 
 -- Why a scan has a fault: one of the font files has it, as its line tells. It is the one of the
@@ -75,7 +85,7 @@ IsFaultOfFontFile other = ⊥
 abbrev pub IsFaultOfScan : CommandFault → Type 0
 IsFaultOfScan fault.ScanFault =
     (reported : CommandFault) × IsFaultOfFontFile reported × (status_of reported ≡ 2)
-IsFaultOfScan fault.ScanOutOfMemory =
+IsFaultOfScan fault.ScanUnfinished =
     (reported : CommandFault) × IsFaultOfFontFile reported × (status_of reported ≡ 3)
 IsFaultOfScan other = ⊥
 
@@ -89,6 +99,7 @@ IsFaultOfReading other = ⊥
 abbrev pub IsFaultOfCertifying : CommandFault → Type 0
 IsFaultOfCertifying (fault.Font numbered) = IsFaultOfSomeFont numbered.0
 IsFaultOfCertifying fault.File = Unit {0}
+IsFaultOfCertifying fault.Budget = Unit {0}
 IsFaultOfCertifying other = IsFaultOfReading other
 
 -- The same for a font file and a certificate's file with these names. One name stands for one file;
@@ -101,6 +112,7 @@ IsFaultOfFinding font certificate reported =
 abbrev pub IsFaultOfChecking : CommandFault → Type 0
 IsFaultOfChecking (fault.Font numbered) = IsFaultOfSomeFont numbered.0
 IsFaultOfChecking (fault.Form place) = Unit {0}
+IsFaultOfChecking fault.Budget = Unit {0}
 IsFaultOfChecking other = IsFaultOfReading other
 
 -- why a certificate file isn't upgraded
@@ -157,12 +169,15 @@ IsFaultOfFileExplaining word offset reported =
 abbrev pub IsFaultOfRequest : Request → CommandFault → Type 0
 IsFaultOfRequest (bare maxp cvt points contours program) reported =
     IsFaultOfGlyph maxp (unwrap_or program []) reported
-IsFaultOfRequest (verdict font) reported = IsFaultOfFontFile reported
-IsFaultOfRequest (scan fonts) reported = IsFaultOfScan reported
+IsFaultOfRequest (verdict font points) reported =
+    IsFaultOfFontFile reported × IsWithin points reported
+IsFaultOfRequest (scan fonts points) reported = IsFaultOfScan reported
 IsFaultOfRequest (explain font program offset) reported =
     IsFaultOfFileExplaining program offset reported
-IsFaultOfRequest (find font certificate) reported = IsFaultOfFinding font certificate reported
-IsFaultOfRequest (check font certificate) reported = IsFaultOfChecking reported
+IsFaultOfRequest (find font certificate points) reported =
+    IsFaultOfFinding font certificate reported × IsWithin points reported
+IsFaultOfRequest (check font certificate points) reported =
+    IsFaultOfChecking reported × IsWithin points reported
 IsFaultOfRequest (list font program) reported = IsFaultOfFileListing program reported
 IsFaultOfRequest (upgrade old new) reported = IsFaultOfUpgrading old new reported
 
@@ -170,11 +185,11 @@ IsFaultOfRequest (upgrade old new) reported = IsFaultOfUpgrading old new reporte
 -- those of `explain` name a program of some font, and an instruction of it by an offset, if any.
 abbrev pub HasNoFault : Request → Type 0
 HasNoFault (bare maxp cvt points contours program) = SpellNoFault maxp (unwrap_or program [])
-HasNoFault (verdict font) = Unit {0}
-HasNoFault (scan fonts) = Unit {0}
+HasNoFault (verdict font points) = Unit {0}
+HasNoFault (scan fonts points) = Unit {0}
 HasNoFault (explain font program offset) = (bytes : List ℕ) × HoldPlace bytes program offset
-HasNoFault (find font certificate) = font ≢ certificate
-HasNoFault (check font certificate) = Unit {0}
+HasNoFault (find font certificate points) = font ≢ certificate
+HasNoFault (check font certificate points) = Unit {0}
 HasNoFault (list font program) = Unit {0}
 HasNoFault (upgrade old new) = old ≢ new
 

@@ -7,6 +7,8 @@ use Rattle.hintcheck.specs.declared.font_check.CheckFontFault.{CheckFontFault}
 use Rattle.hintcheck.specs.declared.font_check.CheckFontFault.TheVariants as check
 use Rattle.hintcheck.specs.declared.certificate.FindFontFault.{FindFontFault}
 use Rattle.hintcheck.specs.declared.certificate.FindFontFault.TheVariants as find
+use Rattle.hintcheck.specs.declared.font.VerdictFault.{VerdictFault}
+use Rattle.hintcheck.specs.declared.font.VerdictFault.TheVariants as judging
 use Rattle.hintcheck.specs.declared.certificate_upgrade.UpgradeFault.{UpgradeFault}
 use Rattle.hintcheck.specs.declared.certificate_upgrade.UpgradeFault.TheVariants as upgrading
 use Rattle.hintcheck_explain.specs.declared.asked.ExplainFault.{ExplainFault}
@@ -25,10 +27,11 @@ abbrev pub font_status : FontFault → ℕ
 font_status (font.OutOfMemory error) = 3
 font_status other = 2
 
--- the exit status: 3 where memory ran out, and otherwise 2
+-- the exit status: 3 where memory or the budget ran out, and otherwise 2
 abbrev pub status_of : CommandFault → ℕ
 status_of fault.OutOfMemory = 3
-status_of fault.ScanOutOfMemory = 3
+status_of fault.ScanUnfinished = 3
+status_of fault.Budget = 3
 status_of (fault.Font numbered) = font_status numbered.0
 status_of other = 2
 
@@ -58,12 +61,19 @@ fault_of_check (check.Font font) = fault.Font (record { 0 = font })
 fault_of_check (check.Form place) = fault.Form place
 fault_of_check check.Read = fault.Read
 fault_of_check (check.OutOfMemory error) = fault.OutOfMemory
+fault_of_check check.Budget = fault.Budget
 
 -- the fault of a font whose certificate isn't found or written
 abbrev pub fault_of_find : FindFontFault → CommandFault
 fault_of_find (find.Font font) = fault.Font (record { 0 = font })
 fault_of_find find.Write = fault.File
 fault_of_find (find.OutOfMemory error) = fault.OutOfMemory
+fault_of_find find.Budget = fault.Budget
+
+-- the fault of a font without a verdict within a budget
+abbrev pub fault_of_verdict : VerdictFault → CommandFault
+fault_of_verdict (judging.Font font) = fault.Font (record { 0 = font })
+fault_of_verdict judging.Budget = fault.Budget
 
 -- the fault of a program that isn't explained
 abbrev pub fault_of_explain : ExplainFault → CommandFault
@@ -106,10 +116,10 @@ HasAll left bytes = IfSome left (λ known. bytes ≡ known)
 -- one verdict is asked for, and not a scan, an explanation, a listing or an upgrade
 abbrev pub IsForVerdict : Request → Type 0
 IsForVerdict (bare maxp cvt points contours program) = Unit {0}
-IsForVerdict (verdict font) = Unit {0}
-IsForVerdict (scan fonts) = ⊥
+IsForVerdict (verdict font points) = Unit {0}
+IsForVerdict (scan fonts points) = ⊥
 IsForVerdict (explain font program offset) = ⊥
-IsForVerdict (find font certificate) = Unit {0}
-IsForVerdict (check font certificate) = Unit {0}
+IsForVerdict (find font certificate points) = Unit {0}
+IsForVerdict (check font certificate points) = Unit {0}
 IsForVerdict (list font program) = ⊥
 IsForVerdict (upgrade old new) = ⊥

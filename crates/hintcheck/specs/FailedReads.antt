@@ -25,6 +25,7 @@ HasRead old new Is fault.Read = OfRead old new Is
 HasRead old new Is (fault.Form place) = Unit {0}
 HasRead old new Is (fault.Font font) = Unit {0}
 HasRead old new Is (fault.OutOfMemory error) = Unit {0}
+HasRead old new Is fault.Budget = Unit {0}
 
 -- and in an upgrade
 abbrev pub HasReadOld : Option (List ℕ) → Option (List ℕ) → (List ℕ → Type 0) → UpgradeFault

@@ -21,4 +21,5 @@ pub mod UpgradeFaults
 pub mod Sessions
 pub mod FindingSessions
 pub mod FailedReads
+pub mod Bounds
 pub mod Representation

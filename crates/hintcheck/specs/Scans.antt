@@ -118,5 +118,5 @@ pub record PrintsScan (names : List (List ℕ)) (status : ℕ)
 -- the fault is a scan's, which comes after the last line
 abbrev pub IsOfScan : CommandFault → Type 0
 IsOfScan fault.ScanFault = Unit {0}
-IsOfScan fault.ScanOutOfMemory = Unit {0}
+IsOfScan fault.ScanUnfinished = Unit {0}
 IsOfScan other = ⊥

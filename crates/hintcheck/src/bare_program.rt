@@ -13,6 +13,7 @@ use crate::program::{Search, list_refused};
 use crate::report::{Name, Refused, Verdict};
 use std::alloc::{AllocError, Global};
 use tt_abs::Setting;
+use tt_cert::Budget;
 use tt_code::{CodeFault, Limits, Program};
 use tt_find::Finder;
 use tt_font::{FontFault, GlyphPart, read_maxp};
@@ -59,7 +60,8 @@ fn refused_programs(
     };
     let mut finder = Finder::new(alloc);
     let mut refused = Vec::new(alloc);
-    match judge_glyph(alloc, &mut finder, &common, glyph, Search::Verdict) {
+    let mut budget = Budget::unlimited();
+    match judge_glyph(alloc, &mut finder, &common, glyph, Search::Verdict, &mut budget) {
         Ok(()) => {}
         Err(fault) => list_refused(&mut refused, Name::Glyph(0), fault)?,
     }

@@ -1,8 +1,10 @@
 //! The certificate of a font: found, and written where no program is refused.
 
 ghost use Rattle.std.specs.Prelude.{◌≡◌, [], IfErr, IfOk, OnErr, OnOk};
+ghost use Rattle.tt_cert.specs.Budgets.{Spends};
 ghost use Rattle.tt_font.specs.FileFaults.{font_fault};
 ghost use Rattle.tt_font.specs.Reading.{FontData, Reads};
+ghost use Rattle.hintcheck.specs.Bounds.{IsNoFaultInAFont, TellsBudgetOfFind, TestsInFindWithin};
 ghost use Rattle.hintcheck.specs.CertificateFaults.{CountsFind, IsNoFaultOfFont, TestsInFind, WritesNothing};
 ghost use Rattle.hintcheck.specs.CertificateTexts.{IsPassingCertificate, WritesBeginning, WritesText};
 ghost use Rattle.hintcheck.specs.FindingSessions.{BeginsCertificate, IsCertificateBegun};
@@ -17,6 +19,7 @@ use crate::report::Verdict;
 use crate::session::Session;
 use std::alloc::{AllocError, Global};
 use thiserror::Error;
+use tt_cert::Budget;
 use tt_cert_file::{EncodeFault, encode, write_header};
 use tt_find::Finder;
 use tt_font::{Font, FontFault};
@@ -34,6 +37,9 @@ pub enum FindFontFault {
     /// Memory ran out.
     #[error("out of memory")]
     OutOfMemory(AllocError),
+    /// More points were to be made than the budget allows.
+    #[error("budget")]
+    Budget,
 }
 
 impl From<FontFault> for FindFontFault {
@@ -78,6 +84,7 @@ fn write_sections<W: Sink>(
     alloc: Global,
     font: &Font<'_>,
     sink: &mut W,
+    budget: &mut Budget,
 ) -> Result<(), FindFontFault>
     requires range { IsFontInRange font.now }
     requires accepted { AreAllRefused font.now [] }
@@ -87,10 +94,11 @@ fn write_sections<W: Sink>(
         (AreSomeSections font.now)) }
     ensures failures { CountsFind result (W.failures sink.old) (W.failures sink.new) }
     ensures font { IfErr result IsNoFaultOfFont }
+    ensures spends { Spends budget.old budget.new }
 {
     let mut session = Session::new(font);
     let mut finder = Finder::new(alloc);
-    while let Some((outcome, found)) = session.search_next(alloc, &mut finder, Search::Writing)? {
+    while let Some((outcome, found)) = session.search_next(alloc, &mut finder, Search::Writing, budget)? {
         // No program was refused when the families were found first, so none is now.
         let found = found.unwrap();
         found.certificate.order_facts();
@@ -105,6 +113,7 @@ fn write_certificate<W: Sink>(
     alloc: Global,
     font: &Font<'_>,
     sink: &mut W,
+    budget: &mut Budget,
 ) -> Result<(), FindFontFault>
     requires range { IsFontInRange font.now }
     requires accepted { AreAllRefused font.now [] }
@@ -114,9 +123,10 @@ fn write_certificate<W: Sink>(
         (IsCertificateBegun font.now)) }
     ensures failures { CountsFind result (W.failures sink.old) (W.failures sink.new) }
     ensures font { IfErr result IsNoFaultOfFont }
+    ensures spends { Spends budget.old budget.new }
 {
     write_header(u32::from(font.glyph_count()) + 2, sink)?;
-    write_sections(alloc, font, sink)
+    write_sections(alloc, font, sink, budget)
 }
 
 /// Returns the verdict on the programs of a font that was read, whose certificate is written where
@@ -125,6 +135,7 @@ pub(crate) fn find_programs<W: Sink>(
     alloc: Global,
     font: &Font<'_>,
     sink: &mut W,
+    budget: &mut Budget,
 ) -> Result<Verdict, FindFontFault>
     requires { IsFontInRange font.now }
     ensures exact { IfOk result (λ v. IsVerdict font.now v) }
@@ -135,12 +146,39 @@ pub(crate) fn find_programs<W: Sink>(
     ensures unwritten { IfOk result (WritesNothing (W.contents sink.old) (W.contents sink.new)) }
     ensures failures { CountsFind result (W.failures sink.old) (W.failures sink.new) }
     ensures font { IfErr result IsNoFaultOfFont }
+    ensures spends { Spends budget.old budget.new }
 {
-    let refused = refused_programs(alloc, font, Search::BeforeWriting)?;
+    let refused = refused_programs(alloc, font, Search::BeforeWriting, budget)?;
     if refused.is_empty() {
-        write_certificate(alloc, font, sink)?;
+        write_certificate(alloc, font, sink, budget)?;
     }
     Ok(Verdict::new(u32::from(font.glyph_count()) + 2, refused))
+}
+
+/// Returns the verdict as `find_programs` does, and tells a budget that is met.
+pub(crate) fn find_programs_within<W: Sink>(
+    alloc: Global,
+    font: &Font<'_>,
+    sink: &mut W,
+    budget: &mut Budget,
+) -> Result<Verdict, FindFontFault>
+    requires { IsFontInRange font.now }
+    ensures exact { IfOk result (λ v. IsVerdict font.now v) }
+    ensures written { IfOk result (λ v. v.refused ≡ []
+        → WritesText (W.contents sink.old) (W.contents sink.new) (IsPassingCertificate font.now)) }
+    ensures begun { OnErr result (WritesBeginning (W.contents sink.old) (W.contents sink.new)
+        (IsCertificateBegun font.now)) }
+    ensures unwritten { IfOk result (WritesNothing (W.contents sink.old) (W.contents sink.new)) }
+    ensures failures { CountsFind result (W.failures sink.old) (W.failures sink.new) }
+    ensures font { IfErr result IsNoFaultInAFont }
+    ensures spends { Spends budget.old budget.new }
+    ensures budget { TellsBudgetOfFind budget.new result }
+{
+    let found = find_programs(alloc, font, sink, budget);
+    match found {
+        Err(FindFontFault::OutOfMemory(_)) if budget.is_met() => Err(FindFontFault::Budget),
+        found => found,
+    }
 }
 
 /// Returns the verdict on the programs of a font file, as `verdict` gives it. Where no program is
@@ -173,5 +211,35 @@ pub fn find_font<W: Sink>(
     ensures faults { TestsInFind (font_fault font.now) result }
 {
     let read = read_font(alloc, font)?;
-    find_programs(alloc, &read, sink)
+    find_programs(alloc, &read, sink, &mut Budget::unlimited())
+}
+
+/// Returns the verdict on the programs of a font file and writes its certificate, as `find_font`
+/// does, and makes at most as many points as the budget allows: each state that is carried on is
+/// one, and those that are found once more to be written are further ones.
+///
+/// # Errors
+/// As `find_font`; `Budget` exactly where more points were to be made. Then too a beginning of the
+/// certificate was written, perhaps an empty one.
+pub fn find_font_within<W: Sink>(
+    alloc: Global,
+    font: &[u8],
+    sink: &mut W,
+    budget: &mut Budget,
+) -> Result<Verdict, FindFontFault>
+    ensures exact { IfOk result (λ v. (d : FontData) × Reads font.now d × IsVerdict d v
+        × (v.refused ≡ [] → IsSafeFont d)) }
+    ensures written { IfOk result (λ v. v.refused ≡ []
+        → (d : FontData) × Reads font.now d
+        × WritesText (W.contents sink.old) (W.contents sink.new) (IsPassingCertificate d)) }
+    ensures unwritten { IfOk result (WritesNothing (W.contents sink.old) (W.contents sink.new)) }
+    ensures begun { OnErr result
+        (BeginsCertificate font.now (W.contents sink.old) (W.contents sink.new)) }
+    ensures failures { CountsFind result (W.failures sink.old) (W.failures sink.new) }
+    ensures faults { TestsInFindWithin (font_fault font.now) result }
+    ensures spends { Spends budget.old budget.new }
+    ensures budget { TellsBudgetOfFind budget.new result }
+{
+    let read = read_font(alloc, font)?;
+    find_programs_within(alloc, &read, sink, budget)
 }

@@ -71,9 +71,17 @@ fn verdict_on<R: Files + AllocGlobal>(rt: &R, task: &Task) -> Result<Verdict, Co
             *contours,
             word_or_empty(program),
         ),
-        Task::Verdict { font } => file_verdict(rt, font),
-        Task::Find { font, certificate } => find_verdict(rt, font, certificate),
-        Task::Check { font, certificate } => check_verdict(rt, font, certificate),
+        Task::Verdict { font, points } => file_verdict(rt, font, *points),
+        Task::Find {
+            font,
+            certificate,
+            points,
+        } => find_verdict(rt, font, certificate, *points),
+        Task::Check {
+            font,
+            certificate,
+            points,
+        } => check_verdict(rt, font, certificate, *points),
         Task::Scan { .. } | Task::Explain { .. } | Task::List { .. } | Task::Upgrade { .. } => {
             unreachable!()
         }
@@ -98,7 +106,7 @@ fn do_task<R: Files + AllocGlobal, O: Sink>(
     ensures none { OnOk result (HasNoFault (asked task.now)) }
 {
     match task {
-        Task::Scan { fonts } => scan_fonts(rt, fonts, out),
+        Task::Scan { fonts, points } => scan_fonts(rt, fonts, *points, out),
         Task::Explain {
             font,
             program,
@@ -118,8 +126,8 @@ fn do_task<R: Files + AllocGlobal, O: Sink>(
 /// `Write` exactly where a write to `out` failed; `Usage` for words that the command line doesn't
 /// take; `MaxpWord` and `ProgramWord` for a word that spells no bytes; `ProgramWord` also for one
 /// that names no program of the font; `OffsetWord` for an offset at which none of its instructions
-/// begins; `ScanFault` and `ScanOutOfMemory` where a font of a scan has a fault, which its line
-/// tells; `CertificateWord` where a font's file is to be its
+/// begins; `ScanFault` and `ScanUnfinished` where a font of a scan has a fault, which its line
+/// tells; `Budget` where more points were to be made than `--points` allows; `CertificateWord` where a font's file is to be its
 /// certificate's; `NewWord` where an old certificate's file is to be the new one's; `Font` for the
 /// first fault of the font or of `bare`'s `maxp`; `Form`, `Read`, `File` and `OutOfMemory`.
 pub fn try_command<R: Files + AllocGlobal, O: Sink>(
@@ -164,7 +172,7 @@ pub fn try_command<R: Files + AllocGlobal, O: Sink>(
 
 /// Does what the words of a command line ask for, prints the answer to `out` or a fault to `err`,
 /// and returns the exit status: 0 accepted, listed or upgraded, 1 refused, 2 words, input or output
-/// that can't be read or written, 3 out of memory; for a scan the greatest one of its fonts, whose
+/// that can't be read or written, 3 out of memory or budget; for a scan the greatest one of its fonts, whose
 /// faults are printed to `out`. The first word is the program's own name.
 /// Printing takes no memory.
 pub fn command<R: Files + AllocGlobal, O: Sink, E: Sink>(
@@ -210,7 +218,7 @@ fn tell<E: Sink>(err: &mut E, fault: &CommandFault) -> u8
 {
     let _ = match fault {
         CommandFault::Usage(text) => write!(err, "{text}"),
-        CommandFault::ScanFault | CommandFault::ScanOutOfMemory => Ok(()),
+        CommandFault::ScanFault | CommandFault::ScanUnfinished => Ok(()),
         fault => writeln!(err, "fault: {fault}"),
     };
     fault.status()

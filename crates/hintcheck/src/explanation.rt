@@ -26,7 +26,7 @@ use crate::report::Name;
 use hintcheck_explain::{Asked, explain, explain_unread};
 use std::alloc::{AllocError, Global};
 use tt_abs::Setting;
-use tt_cert::ProgramFault;
+use tt_cert::{Budget, ProgramFault};
 use tt_find::Finder;
 use tt_font::{Font, GlyphPart};
 use tt_stream::Sink;
@@ -172,7 +172,8 @@ fn judge_font_program(alloc: Global, font: &Font<'_>) -> Result<bool, CommandFau
     ensures faults { IfErr result (λ fault. fault ≡ CommandFault.OutOfMemory) }
 {
     let mut finder = Finder::new(alloc);
-    match find_font_program(alloc, &mut finder, font, Search::Verdict) {
+    let mut budget = Budget::unlimited();
+    match find_font_program(alloc, &mut finder, font, Search::Verdict, &mut budget) {
         Ok((_fpgm, found)) => {
             finder.take_back(found.certificate);
             Ok(true)
@@ -196,7 +197,8 @@ fn judge_cvt_program(
     ensures judged { IfOk result (IsJudged (cvt_after font.now fpgm.now)) }
     ensures faults { IfErr result (λ fault. fault ≡ CommandFault.OutOfMemory) }
 {
-    match find_cvt_program(alloc, finder, font, fpgm, Search::Verdict) {
+    let mut budget = Budget::unlimited();
+    match find_cvt_program(alloc, finder, font, fpgm, Search::Verdict, &mut budget) {
         Ok((_prep, found)) => {
             finder.take_back(found.certificate);
             Ok(true)
@@ -221,7 +223,8 @@ fn judge_glyph_program(
     ensures judged { (id : ℕ) → IfOk result (IsJudged (glyph_in common.now id glyph.now)) }
     ensures faults { IfErr result (λ fault. fault ≡ CommandFault.OutOfMemory) }
 {
-    match judge_glyph(alloc, finder, common, glyph, Search::Verdict) {
+    let mut budget = Budget::unlimited();
+    match judge_glyph(alloc, finder, common, glyph, Search::Verdict, &mut budget) {
         Ok(()) => Ok(true),
         Err(fault) => refused_by(fault),
     }
@@ -331,7 +334,8 @@ fn explain_cvt_program<O: Sink>(
     ensures faults { IfErr result IsFaultOfLines }
 {
     let mut finder = Finder::new(alloc);
-    match find_font_program(alloc, &mut finder, font, Search::Verdict) {
+    let mut budget = Budget::unlimited();
+    match find_font_program(alloc, &mut finder, font, Search::Verdict, &mut budget) {
         Ok((fpgm, found)) => {
             finder.take_back(found.certificate);
             explain_cvt_after(alloc, &mut finder, font, &fpgm, offset, out)
@@ -396,7 +400,8 @@ fn explain_glyph_after_font<O: Sink>(
     ensures failures { TellsFailure result (O.failures out.old) (O.failures out.new) }
     ensures faults { IfErr result IsFaultOfLines }
 {
-    match find_cvt_program(alloc, finder, font, fpgm, Search::Verdict) {
+    let mut budget = Budget::unlimited();
+    match find_cvt_program(alloc, finder, font, fpgm, Search::Verdict, &mut budget) {
         Ok((prep, found)) => {
             finder.take_back(found.certificate);
             explain_glyph_after(alloc, finder, font, fpgm, &prep, id, offset, out)
@@ -423,7 +428,8 @@ fn explain_glyph_program<O: Sink>(
     ensures faults { IfErr result IsFaultOfLines }
 {
     let mut finder = Finder::new(alloc);
-    match find_font_program(alloc, &mut finder, font, Search::Verdict) {
+    let mut budget = Budget::unlimited();
+    match find_font_program(alloc, &mut finder, font, Search::Verdict, &mut budget) {
         Ok((fpgm, found)) => {
             finder.take_back(found.certificate);
             explain_glyph_after_font(alloc, &mut finder, font, &fpgm, id, offset, out)

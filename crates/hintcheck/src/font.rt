@@ -4,10 +4,12 @@ ghost use Rattle.std.specs.Prelude.{◌≡◌, ℕ, ◌<◌, ◌^◌, [], IfErr,
 ghost use Rattle.tt_abs.specs.Entries.{Rises};
 ghost use Rattle.tt_abs.specs.Settings.{programs_of, setting_of};
 ghost use Rattle.tt_abs.specs.StateFlow.{FunctionsFit};
+ghost use Rattle.tt_cert.specs.Budgets.{Spends};
 ghost use Rattle.tt_code.specs.Fonts.{cvt_setting as setting_of_cvt_program, font_setting};
 ghost use Rattle.tt_font.specs.Conditions.{TestsWithMemory};
 ghost use Rattle.tt_font.specs.FileFaults.{font_fault};
 ghost use Rattle.tt_font.specs.Reading.{FontData, Reads};
+ghost use Rattle.hintcheck.specs.Bounds.{TellsBudget, TestsInVerdict};
 ghost use Rattle.hintcheck.specs.FindingSessions.{IsFound, IsFoundToEnd};
 ghost use Rattle.hintcheck.specs.Representation.FontVerdicts.{AreAllRefused, ComesToEnd, HasSubject, IsKnownAtEnd, font_in, glyph_in};
 ghost use Rattle.hintcheck.specs.FontPrograms.{AreRefused, IsFontInRange, IsSafeFont, IsVerdict, font_of, font_subject};
@@ -18,8 +20,9 @@ ghost use Rattle.hintcheck.specs.Representation.ProgramEnds.{IsFoundEnd, IsKnown
 use crate::program::{Search, cut, find_and_check, list_refused};
 use crate::report::{Name, Refused, Verdict};
 use std::alloc::{AllocError, Global};
+use thiserror::Error;
 use tt_abs::Setting;
-use tt_cert::ProgramFault;
+use tt_cert::{Budget, ProgramFault};
 use tt_code::Program;
 use tt_find::{Finder, Found};
 use tt_font::{Font, FontFault, GlyphPart};
@@ -31,6 +34,7 @@ fn find_to_end(
     finder: &mut Finder,
     setting: &Setting<'_>,
     search: Search,
+    budget: &mut Budget,
 ) -> Result<(Vec<(u16, u32)>, Found), ProgramFault>
     requires subject { HasSubject setting.now }
     requires ends { ComesToEnd (setting_of setting.now).kind }
@@ -42,8 +46,9 @@ fn find_to_end(
         → IfOk result (λ e. IsFoundToEnd x setting.now.main.now e.1 e.0.items) }
     ensures refused { (x : Subject) → IsSubjectOf x setting.now
         → IfErr result (IsFaultOfProgram x) }
+    ensures spends { Spends budget.old budget.new }
 {
-    let found = find_and_check(alloc, finder, setting, search)?;
+    let found = find_and_check(alloc, finder, setting, search, budget)?;
     // An accepted font program or CVT program has a state at its end.
     let functions = found.certificate.end_functions(setting.main.len()).unwrap();
     let copy = Vec::from_slice(alloc, functions)?;
@@ -67,16 +72,18 @@ pub(crate) fn find_font_program<'a>(
     finder: &mut Finder,
     font: &Font<'a>,
     search: Search,
+    budget: &mut Budget,
 ) -> Result<(Ended<'a>, Found), ProgramFault>
     requires { IsFontInRange font.now }
     ensures known { IfOk result (λ e. IsKnownEnd (font_subject font.now) e.0) }
     ensures found { IsForCertificate search
         → IfOk result (λ e. IsFoundEnd (font_subject font.now) e.0 e.1) }
     ensures refused { IfErr result (IsFaultOfProgram (font_subject font.now)) }
+    ensures spends { Spends budget.old budget.new }
 {
     let program = cut(alloc, font.fpgm())?;
     let setting = Setting::for_font_program(font.limits(), font.cvt_count(), &program);
-    let (functions, found) = find_to_end(alloc, finder, &setting, search)?;
+    let (functions, found) = find_to_end(alloc, finder, &setting, search, budget)?;
     Ok((Ended { program, functions }, found))
 }
 
@@ -109,6 +116,7 @@ pub(crate) fn find_cvt_program<'a>(
     font: &Font<'a>,
     fpgm: &Ended<'_>,
     search: Search,
+    budget: &mut Budget,
 ) -> Result<(Ended<'a>, Found), ProgramFault>
     requires range { IsFontInRange font.now }
     requires ended { IsKnownEnd (font_subject font.now) fpgm.now }
@@ -116,10 +124,11 @@ pub(crate) fn find_cvt_program<'a>(
     ensures found { IsForCertificate search
         → IfOk result (λ e. IsFoundEnd (cvt_after font.now fpgm.now) e.0 e.1) }
     ensures refused { IfErr result (IsFaultOfProgram (cvt_after font.now fpgm.now)) }
+    ensures spends { Spends budget.old budget.new }
 {
     let program = cut(alloc, font.prep())?;
     let setting = cvt_setting(font, fpgm, &program);
-    let (functions, found) = find_to_end(alloc, finder, &setting, search)?;
+    let (functions, found) = find_to_end(alloc, finder, &setting, search, budget)?;
     Ok((Ended { program, functions }, found))
 }
 
@@ -141,6 +150,7 @@ pub(crate) fn find_glyph_program(
     common: &Common<'_>,
     glyph: &GlyphPart<'_>,
     search: Search,
+    budget: &mut Budget,
 ) -> Result<Found, ProgramFault>
     requires few { length glyph.now.program.now < 2 ^ 31 }
     requires rises { Rises common.now.functions.now }
@@ -152,12 +162,13 @@ pub(crate) fn find_glyph_program(
     ensures refused { (id : ℕ)
         → IfErr result (IsFaultOfProgram (glyph_in common.now id glyph.now)) }
     ensures none_good { (id : ℕ) → IfErr result (NoneIsGoodFor (glyph_in common.now id glyph.now)) }
+    ensures spends { Spends budget.old budget.new }
 {
     let program = cut(alloc, glyph.program)?;
     let setting = common
         .setting
         .for_glyph_program(glyph.points, glyph.contours, &program, common.functions);
-    find_and_check(alloc, finder, &setting, search)
+    find_and_check(alloc, finder, &setting, search, budget)
 }
 
 /// Judges the program of a glyph, if it has instructions, in a finder's memory, which the finder
@@ -171,6 +182,7 @@ pub(crate) fn judge_glyph(
     common: &Common<'_>,
     glyph: &GlyphPart<'_>,
     search: Search,
+    budget: &mut Budget,
 ) -> Result<(), ProgramFault>
     requires few { length glyph.now.program.now < 2 ^ 31 }
     requires rises { Rises common.now.functions.now }
@@ -180,12 +192,13 @@ pub(crate) fn judge_glyph(
     ensures refused { (id : ℕ)
         → IfErr result (IsFaultOfProgram (glyph_in common.now id glyph.now)) }
     ensures none_good { (id : ℕ) → IfErr result (NoneIsGoodFor (glyph_in common.now id glyph.now)) }
+    ensures spends { Spends budget.old budget.new }
 {
     // A glyph without instructions: nothing can be refused.
     if glyph.program.is_empty() {
         return Ok(());
     }
-    let found = find_glyph_program(alloc, finder, common, glyph, search)?;
+    let found = find_glyph_program(alloc, finder, common, glyph, search, budget)?;
     finder.take_back(found.certificate);
     Ok(())
 }
@@ -197,17 +210,19 @@ fn refused_glyphs(
     font: &Font<'_>,
     common: &Common<'_>,
     search: Search,
+    budget: &mut Budget,
 ) -> Result<Vec<Refused>, AllocError>
     requires range { IsFontInRange font.now }
     requires rises { Rises common.now.functions.now }
     requires fits { FunctionsFit (font_setting (font_in common.now)) common.now.functions.now }
-    ensures { IfOk result (λ refused. AreRefused (font_in common.now) common.now.functions.now 0
+    ensures refused { IfOk result (λ refused. AreRefused (font_in common.now) common.now.functions.now 0
         font.now.glyphs refused.items) }
+    ensures spends { Spends budget.old budget.new }
 {
     let mut refused = Vec::new(alloc);
     for id in 0..font.glyph_count() {
         let glyph = font.glyph(id).unwrap();
-        match judge_glyph(alloc, finder, common, &glyph, search) {
+        match judge_glyph(alloc, finder, common, &glyph, search, budget) {
             Ok(()) => {}
             Err(fault) => list_refused(&mut refused, Name::Glyph(id), fault)?,
         }
@@ -231,17 +246,19 @@ pub(crate) fn refused_programs(
     alloc: Global,
     font: &Font<'_>,
     search: Search,
+    budget: &mut Budget,
 ) -> Result<Vec<Refused>, AllocError>
     requires { IsFontInRange font.now }
-    ensures { IfOk result (λ refused. AreAllRefused font.now refused.items) }
+    ensures refused { IfOk result (λ refused. AreAllRefused font.now refused.items) }
+    ensures spends { Spends budget.old budget.new }
 {
     let mut finder = Finder::new(alloc);
-    let (fpgm, found) = match find_font_program(alloc, &mut finder, font, search) {
+    let (fpgm, found) = match find_font_program(alloc, &mut finder, font, search, budget) {
         Ok(answer) => answer,
         Err(fault) => return refused_alone(alloc, Name::Font, fault),
     };
     finder.take_back(found.certificate);
-    let (prep, found) = match find_cvt_program(alloc, &mut finder, font, &fpgm, search) {
+    let (prep, found) = match find_cvt_program(alloc, &mut finder, font, &fpgm, search, budget) {
         Ok(answer) => answer,
         Err(fault) => return refused_alone(alloc, Name::Cvt, fault),
     };
@@ -250,7 +267,7 @@ pub(crate) fn refused_programs(
         setting: cvt_setting(font, &fpgm, &prep.program),
         functions: &prep.functions,
     };
-    refused_glyphs(alloc, &mut finder, font, &common, search)
+    refused_glyphs(alloc, &mut finder, font, &common, search, budget)
 }
 
 /// Reads a font, whose programs and numbers are in their ranges.
@@ -278,6 +295,58 @@ pub fn verdict(alloc: Global, font: &[u8]) -> Result<Verdict, FontFault>
     ensures faults { TestsWithMemory (font_fault font.now) result }
 {
     let read = read_font(alloc, font)?;
-    let refused = refused_programs(alloc, &read, Search::Verdict)?;
+    let refused = refused_programs(alloc, &read, Search::Verdict, &mut Budget::unlimited())?;
     Ok(Verdict::new(u32::from(read.glyph_count()) + 2, refused))
+}
+
+/// Why there is no verdict on a font within a budget.
+#[derive(Debug, Drop, Error)]
+pub enum VerdictFault {
+    /// The font's own fault, or that memory ran out.
+    #[error(transparent)]
+    Font(FontFault),
+    /// More points were to be made than the budget allows.
+    #[error("budget")]
+    Budget,
+}
+
+impl From<FontFault> for VerdictFault {
+    ghost use Rattle.std.specs.Prelude.{◌≡◌};
+    ghost use Rattle.hintcheck.specs.declared.font.VerdictFault.TheVariants.{Font};
+
+    ghost from_gives = { λ font fault. fault ≡ Font font };
+
+    fn from(font: FontFault) -> VerdictFault {
+        VerdictFault::Font(font)
+    }
+}
+
+/// Returns the verdict on the programs of a font file, as `verdict` does, and makes at most as many
+/// points as the budget allows: each state that is carried on, to find a family or to check it, is
+/// one.
+///
+/// # Errors
+/// As `verdict`; `Budget` exactly where more points were to be made.
+pub fn verdict_within(
+    alloc: Global,
+    font: &[u8],
+    budget: &mut Budget,
+) -> Result<Verdict, VerdictFault>
+    ensures exact { IfOk result (λ v. (d : FontData) × Reads font.now d × IsVerdict d v
+        × (v.refused ≡ [] → IsSafeFont d)) }
+    ensures faults { TestsInVerdict (font_fault font.now) result }
+    // What it costs: at most as many points as the budget has left, which is met exactly where the
+    // answer says so.
+    ensures spends { Spends budget.old budget.new }
+    ensures budget { TellsBudget budget.new result }
+{
+    let read = read_font(alloc, font)?;
+    let judged = refused_programs(alloc, &read, Search::Verdict, budget);
+    if budget.is_met() {
+        return Err(VerdictFault::Budget);
+    }
+    match judged {
+        Ok(refused) => Ok(Verdict::new(u32::from(read.glyph_count()) + 2, refused)),
+        Err(error) => Err(VerdictFault::Font(FontFault::OutOfMemory(error))),
+    }
 }

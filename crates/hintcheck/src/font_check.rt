@@ -3,10 +3,12 @@
 ghost use Rattle.std.specs.Prelude.{◌≡◌, ℕ, ◌+◌, ◌<◌, ◌^◌, [], IfErr, IfOk, Ok, Err, OnOk, length};
 ghost use Rattle.tt_abs.specs.Entries.{Rises};
 ghost use Rattle.tt_abs.specs.Settings.{setting_of};
+ghost use Rattle.tt_cert.specs.Budgets.{Spends};
 ghost use Rattle.tt_cert.specs.Checks.{IsOutOfMemory, Names};
 ghost use Rattle.tt_font.specs.FileFaults.{font_fault};
 ghost use Rattle.tt_font.specs.Reading.{FontData, Reads};
 ghost use Rattle.tt_stream.specs.Reads.{ConsumesBeginning};
+ghost use Rattle.hintcheck.specs.Bounds.{IsNoFaultOfAFont, TellsBudgetOfCheck, TestsInCheckWithin};
 ghost use Rattle.hintcheck.specs.CertificateFaults.{CountsCheck, IsNoFontFault, TestsInCheck};
 ghost use Rattle.hintcheck.specs.Certificates.{IsChecked, IsListingBrokenFirst, PassesToEnd};
 ghost use Rattle.hintcheck.specs.CheckedFonts.{AnswersFinding, Finds, HasGoodFamilies, IsGoodAtEnd, IsPassed, IsRefusedBy, IsTold, bytes_in};
@@ -27,7 +29,7 @@ use crate::session::{Outcome, Session};
 use std::alloc::{AllocError, Global};
 use thiserror::Error;
 use tt_abs::Setting;
-use tt_cert::{Certificate, ProgramFault, check, check_full};
+use tt_cert::{Budget, Certificate, ProgramFault, check_full_within, check_within};
 use tt_cert_file::{DecodeFault, Form, read_header};
 use tt_font::{Font, FontFault, GlyphPart};
 use tt_stream::Source;
@@ -48,6 +50,9 @@ pub enum CheckFontFault {
     /// Memory ran out.
     #[error("out of memory")]
     OutOfMemory(AllocError),
+    /// More points were to be made than the budget allows.
+    #[error("budget")]
+    Budget,
 }
 
 impl From<FontFault> for CheckFontFault {
@@ -122,6 +127,7 @@ fn check_section(
     setting: &Setting<'_>,
     certificate: &Certificate,
     form: Form,
+    budget: &mut Budget,
 ) -> Result<(), ProgramFault>
     requires { Rises setting.now.start.now }
     ensures good { OnOk result (IsFilledIn setting.now certificate.now) }
@@ -129,10 +135,13 @@ fn check_section(
     ensures first { IfErr result (Names (IsListingBrokenFirst form (setting_of setting.now)
         setting.now.start.now certificate.now)) }
     ensures exact { IsListedIn form setting.now certificate.now → IfErr result IsOutOfMemory }
+    ensures spends { Spends budget.old budget.new }
 {
     match form {
-        Form::One => check_full(alloc, setting, certificate),
-        Form::Two | Form::Three | Form::Four => check(alloc, setting, certificate),
+        Form::One => check_full_within(alloc, setting, certificate, budget),
+        Form::Two | Form::Three | Form::Four => {
+            check_within(alloc, setting, certificate, budget)
+        }
     }
 }
 
@@ -143,6 +152,7 @@ fn certified_functions(
     setting: &Setting<'_>,
     certificate: &Certificate,
     form: Form,
+    budget: &mut Budget,
 ) -> Result<Vec<(u16, u32)>, ProgramFault>
     requires subject { HasSubject setting.now }
     requires ends { ComesToEnd (setting_of setting.now).kind }
@@ -153,8 +163,9 @@ fn certified_functions(
         (λ functions. PassesToEnd form x setting.now.main.now certificate.now functions.items) }
     ensures refused { (x : Subject) → IsSubjectOf x setting.now
         → IfErr result (IsRefusedBy form x certificate.now) }
+    ensures spends { Spends budget.old budget.new }
 {
-    check_section(alloc, setting, certificate, form)?;
+    check_section(alloc, setting, certificate, form, budget)?;
     // A checked font program or CVT program has a state at its end.
     let functions = certificate.end_functions(setting.main.len()).unwrap();
     Ok(Vec::from_slice(alloc, functions)?)
@@ -169,15 +180,17 @@ pub(crate) fn check_font_program<'a>(
     font: &Font<'a>,
     certificate: &Certificate,
     form: Form,
+    budget: &mut Budget,
 ) -> Result<Ended<'a>, ProgramFault>
     requires { IsFontInRange font.now }
     ensures known { IfOk result (IsGoodEnd (font_subject font.now)) }
     ensures passed { IfOk result (IsPassedEnd form (font_subject font.now) certificate.now) }
     ensures refused { IfErr result (IsRefusedBy form (font_subject font.now) certificate.now) }
+    ensures spends { Spends budget.old budget.new }
 {
     let program = cut(alloc, font.fpgm())?;
     let setting = Setting::for_font_program(font.limits(), font.cvt_count(), &program);
-    let functions = certified_functions(alloc, &setting, certificate, form)?;
+    let functions = certified_functions(alloc, &setting, certificate, form, budget)?;
     Ok(Ended { program, functions })
 }
 
@@ -191,6 +204,7 @@ pub(crate) fn check_cvt_program<'a>(
     fpgm: &Ended<'_>,
     certificate: &Certificate,
     form: Form,
+    budget: &mut Budget,
 ) -> Result<Ended<'a>, ProgramFault>
     requires range { IsFontInRange font.now }
     requires rises { Rises fpgm.now.functions.items }
@@ -198,10 +212,11 @@ pub(crate) fn check_cvt_program<'a>(
     ensures passed { IfOk result (IsPassedEnd form (cvt_after font.now fpgm.now) certificate.now) }
     ensures refused { IfErr result
         (IsRefusedBy form (cvt_after font.now fpgm.now) certificate.now) }
+    ensures spends { Spends budget.old budget.new }
 {
     let program = cut(alloc, font.prep())?;
     let setting = cvt_setting(font, fpgm, &program);
-    let functions = certified_functions(alloc, &setting, certificate, form)?;
+    let functions = certified_functions(alloc, &setting, certificate, form, budget)?;
     Ok(Ended { program, functions })
 }
 
@@ -215,6 +230,7 @@ pub(crate) fn check_glyph_program(
     glyph: &GlyphPart<'_>,
     certificate: &Certificate,
     form: Form,
+    budget: &mut Budget,
 ) -> Result<(), ProgramFault>
     requires few { length glyph.now.program.now < 2 ^ 31 }
     requires rises { Rises common.now.functions.now }
@@ -223,12 +239,13 @@ pub(crate) fn check_glyph_program(
         → OnOk result (IsPassed form (glyph_in common.now id glyph.now) certificate.now) }
     ensures refused { (id : ℕ)
         → IfErr result (IsRefusedBy form (glyph_in common.now id glyph.now) certificate.now) }
+    ensures spends { Spends budget.old budget.new }
 {
     let program = cut(alloc, glyph.program)?;
     let setting = common
         .setting
         .for_glyph_program(glyph.points, glyph.contours, &program, common.functions);
-    check_section(alloc, &setting, certificate, form)
+    check_section(alloc, &setting, certificate, form, budget)
 }
 
 /// Adds the outcome's program to the list of the refused ones, if it is refused.
@@ -247,6 +264,7 @@ fn check_programs<S: Source>(
     alloc: Global,
     font: &Font<'_>,
     source: &mut S,
+    budget: &mut Budget,
 ) -> Result<Vec<Refused>, CheckFontFault>
     requires { IsFontInRange font.now }
     ensures good { IfOk result (λ refused. refused.items ≡ [] → HasGoodFamilies font.now) }
@@ -258,10 +276,11 @@ fn check_programs<S: Source>(
         (HasRead (S.remaining source.old) (S.remaining source.new) (IsUnbroken font.now)) }
     ensures failures { CountsCheck result (S.failures source.old) (S.failures source.new) }
     ensures font { IfErr result IsNoFontFault }
+    ensures spends { Spends budget.old budget.new }
 {
     let mut session = Session::new(font);
     let mut refused = Vec::new(alloc);
-    while let Some(outcome) = session.check_next(alloc, source)? {
+    while let Some(outcome) = session.check_next_spending(alloc, source, budget)? {
         list_outcome(&mut refused, outcome)?;
     }
     Ok(refused)
@@ -272,6 +291,7 @@ pub(crate) fn check_read_font<S: Source>(
     alloc: Global,
     font: &Font<'_>,
     source: &mut S,
+    budget: &mut Budget,
 ) -> Result<Verdict, CheckFontFault>
     requires { IsFontInRange font.now }
     ensures safe { IfOk result (λ v. v.refused ≡ [] → IsSafeFont font.now) }
@@ -284,9 +304,40 @@ pub(crate) fn check_read_font<S: Source>(
         (HasRead (S.remaining source.old) (S.remaining source.new) (IsUnbroken font.now)) }
     ensures failures { CountsCheck result (S.failures source.old) (S.failures source.new) }
     ensures font { IfErr result IsNoFontFault }
+    ensures spends { Spends budget.old budget.new }
 {
-    let refused = check_programs(alloc, font, source)?;
+    let refused = check_programs(alloc, font, source, budget)?;
     Ok(Verdict::new(u32::from(font.glyph_count()) + 2, refused))
+}
+
+/// Returns the verdict as `check_read_font` does, and tells a budget that is met.
+pub(crate) fn check_read_font_within<S: Source>(
+    alloc: Global,
+    font: &Font<'_>,
+    source: &mut S,
+    budget: &mut Budget,
+) -> Result<Verdict, CheckFontFault>
+    requires { IsFontInRange font.now }
+    ensures safe { IfOk result (λ v. v.refused ≡ [] → IsSafeFont font.now) }
+    ensures programs { IfOk result (λ v. v.programs ≡ length font.now.glyphs + 2) }
+    ensures exact { IsTold (S.remaining source.old) → Finds result
+        (AnswersFinding font.now (bytes_in (S.remaining source.old)))
+        (λ place. IsChecked font.now (bytes_in (S.remaining source.old)) (Err place)) }
+    ensures beginning { ConsumesBeginning (S.remaining source.old) (S.remaining source.new) }
+    ensures whole_units { IfErr result
+        (HasRead (S.remaining source.old) (S.remaining source.new) (IsUnbroken font.now)) }
+    ensures failures { CountsCheck result (S.failures source.old) (S.failures source.new) }
+    ensures font { IfErr result IsNoFaultOfAFont }
+    ensures spends { Spends budget.old budget.new }
+    ensures budget { TellsBudgetOfCheck budget.new result }
+{
+    let checked = check_read_font(alloc, font, source, budget);
+    match checked {
+        Ok(_) | Err(CheckFontFault::OutOfMemory(_)) if budget.is_met() => {
+            Err(CheckFontFault::Budget)
+        }
+        checked => checked,
+    }
 }
 
 /// Returns the verdict on the programs of a font file by its certificate, which is all that is left
@@ -330,5 +381,40 @@ pub fn check_font<S: Source>(
     ensures faults { TestsInCheck (font_fault font.now) result }
 {
     let read = read_font(alloc, font)?;
-    check_read_font(alloc, &read, source)
+    check_read_font(alloc, &read, source, &mut Budget::unlimited())
+}
+
+/// Returns the verdict on the programs of a font file by its certificate, as `check_font` does, and
+/// makes at most as many points as the budget allows: each state that is carried on is one.
+///
+/// # Errors
+/// As `check_font`; `Budget` exactly where more points were to be made.
+pub fn check_font_within<S: Source>(
+    alloc: Global,
+    font: &[u8],
+    source: &mut S,
+    budget: &mut Budget,
+) -> Result<Verdict, CheckFontFault>
+    ensures beginning { ConsumesBeginning (S.remaining source.old) (S.remaining source.new) }
+    ensures safe { IfOk result (λ v. (d : FontData) × Reads font.now d
+        × (v.refused ≡ [] → IsSafeFont d)) }
+    ensures exact { IsTold (S.remaining source.old) → Finds result
+        (λ v. (d : FontData) × Reads font.now d
+        × AnswersFinding d (bytes_in (S.remaining source.old)) v)
+        (λ place. (d : FontData) × Reads font.now d
+        × IsChecked d (bytes_in (S.remaining source.old)) (Err place)) }
+    ensures accepts { IsTold (S.remaining source.old) → (d : FontData) → Reads font.now d
+        → IsChecked d (bytes_in (S.remaining source.old)) (Ok [])
+        → Finds result (λ v. v.refused ≡ []) (λ _. ⊥) }
+    ensures whole_units { IfErr result
+        (HasRead (S.remaining source.old) (S.remaining source.new) (IsUnbrokenFor font.now)) }
+    ensures failures { CountsCheck result (S.failures source.old) (S.failures source.new) }
+    ensures faults { TestsInCheckWithin (font_fault font.now) result }
+    // What it costs: at most as many points as the budget has left, which is met exactly where the
+    // answer says so.
+    ensures spends { Spends budget.old budget.new }
+    ensures budget { TellsBudgetOfCheck budget.new result }
+{
+    let read = read_font(alloc, font)?;
+    check_read_font_within(alloc, &read, source, budget)
 }

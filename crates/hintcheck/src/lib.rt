@@ -16,14 +16,15 @@ mod sections;
 pub mod session;
 
 pub use bare_program::bare;
-pub use certificate::{FindFontFault, find_font};
+pub use certificate::{FindFontFault, find_font, find_font_within};
 pub use certificate_upgrade::{UpgradeFault, upgrade};
 pub use commands::faults::CommandFault;
 pub use commands::{command, try_command, verdict_of};
 pub use explanation::explain_program;
-pub use font::{read_font, verdict};
-pub use font_check::{CheckFontFault, check_font};
+pub use font::{VerdictFault, read_font, verdict, verdict_within};
+pub use font_check::{CheckFontFault, check_font, check_font_within};
 pub use instruction_list::list_program;
 pub use report::{Name, Place, Refused, Verdict};
 pub use session::{Outcome, Session};
+pub use tt_cert::Budget;
 pub use tt_font::{FontFault, Tag, read_maxp};

@@ -8,6 +8,7 @@ ghost use Rattle.tt_code.specs.Settings.{GlyphProgram};
 ghost use Rattle.tt_abs.specs.Entries.{Rises};
 ghost use Rattle.tt_abs.specs.Settings.{setting_of};
 ghost use Rattle.tt_abs.specs.StateFlow.{FunctionsFit};
+ghost use Rattle.tt_cert.specs.Budgets.{Spends};
 ghost use Rattle.tt_cert.specs.Checks.{IsOutOfMemory};
 ghost use Rattle.tt_cert.specs.Contents.{Contents, family_of};
 ghost use Rattle.tt_cert_file.specs.declared.form.Form.{Form};
@@ -20,7 +21,7 @@ ghost use Rattle.hintcheck.specs.ProgramVerdicts.{IsAccepted, IsFaultOfProgram, 
 use crate::report::{Name, Place, Refused};
 use std::alloc::{AllocError, Global};
 use tt_abs::Setting;
-use tt_cert::{ProgramFault, Spot, check};
+use tt_cert::{Budget, ProgramFault, Spot, check_within};
 use tt_code::{CodeFault, Program, Reason};
 use tt_find::{Finder, Found};
 
@@ -116,14 +117,16 @@ fn checked(
     finder: &mut Finder,
     setting: &Setting<'_>,
     found: Found,
+    budget: &mut Budget,
 ) -> Result<Found, ProgramFault>
     requires { Rises setting.now.start.now }
     ensures same { IfOk result (λ accepted. accepted ≡ found) }
     // The check accepts it: this relies on no promise of the finder's.
     ensures good { OnOk result (IsFilledIn setting.now found.certificate) }
     ensures exact { IsFilledIn setting.now found.certificate → IfErr result IsOutOfMemory }
+    ensures spends { Spends budget.old budget.new }
 {
-    match check(alloc, setting, &found.certificate) {
+    match check_within(alloc, setting, &found.certificate, budget) {
         Ok(()) => Ok(found),
         Err(fault) => {
             finder.take_back(found.certificate);
@@ -157,6 +160,7 @@ fn find(
     finder: &mut Finder,
     setting: &Setting<'_>,
     search: Search,
+    budget: &mut Budget,
 ) -> Result<Found, ProgramFault>
     requires rises { Rises setting.now.start.now }
     requires fits { FunctionsFit (setting_of setting.now) setting.now.start.now }
@@ -171,10 +175,13 @@ fn find(
         (NamesPlace (IsJustified (setting_of setting.now) setting.now.start.now)) }
     ensures none_good { IfErr result (λ fault. IsOutOfMemory fault ⊎ IsNeverEnding fault
         ⊎ NoneIsGood (setting_of setting.now) setting.now.start.now) }
+    ensures spends { Spends budget.old budget.new }
 {
     match search {
-        Search::Verdict | Search::BeforeWriting => finder.find(alloc, setting),
-        Search::Certificate | Search::Writing => finder.find_needed(alloc, setting),
+        Search::Verdict | Search::BeforeWriting => finder.find_within(alloc, setting, budget),
+        Search::Certificate | Search::Writing => {
+            finder.find_needed_within(alloc, setting, budget)
+        }
     }
 }
 
@@ -189,6 +196,7 @@ pub(crate) fn find_and_check(
     finder: &mut Finder,
     setting: &Setting<'_>,
     search: Search,
+    budget: &mut Budget,
 ) -> Result<Found, ProgramFault>
     requires rises { Rises setting.now.start.now }
     requires fits { FunctionsFit (setting_of setting.now) setting.now.start.now }
@@ -201,11 +209,14 @@ pub(crate) fn find_and_check(
     ensures none_good { (x : Subject) (points contours : ℕ) → IsSubjectOf x setting.now
         → (setting_of setting.now).kind ≡ GlyphProgram points contours
         → IfErr result (NoneIsGoodFor x) }
+    ensures spends { Spends budget.old budget.new }
 {
     setting.range_facts();
-    let found = find(alloc, finder, setting, search)?;
+    let found = find(alloc, finder, setting, search, budget)?;
     match search {
         Search::BeforeWriting | Search::Writing => Ok(found),
-        Search::Verdict | Search::Certificate => checked(alloc, finder, setting, found),
+        Search::Verdict | Search::Certificate => {
+            checked(alloc, finder, setting, found, budget)
+        }
     }
 }

@@ -1,9 +1,11 @@
 //! The programs of a font, one a call, each checked by its section of a certificate or found anew:
 //! a session holds one certificate at a time.
 
-ghost use Rattle.std.specs.Prelude.{◌≡◌, ◌+◌, ◌<◌, ◌↔◌, IfErr, IfOk, IsTrue, None, Ok, Err, Option, Some, length};
+ghost use Rattle.std.specs.Prelude.{◌≡◌, ◌≢◌, ◌+◌, ◌<◌, ◌↔◌, IfErr, IfOk, IsTrue, None, Ok, Err, Option, Some, length};
 ghost use Rattle.tt_abs.specs.Entries.{Rises};
+ghost use Rattle.tt_cert.specs.Budgets.{Spends};
 ghost use Rattle.tt_stream.specs.Reads.{ConsumesBeginning};
+ghost use Rattle.hintcheck.specs.Bounds.{IsNoFaultOfAFont, TellsBudgetOfCheck};
 ghost use Rattle.hintcheck.specs.CertificateFaults.{CountsCheck, IsNoFontFault};
 ghost use Rattle.hintcheck.specs.CheckedFonts.{Finds, IsTold};
 ghost use Rattle.hintcheck.specs.FailedReads.{EndsInCall, HasRead};
@@ -30,7 +32,7 @@ use crate::session::find::find_from;
 use std::alloc::{AllocError, Global};
 use std::marker::Model;
 use std::mem;
-use tt_cert::ProgramFault;
+use tt_cert::{Budget, ProgramFault};
 use tt_cert_file::{Decoder, read_end};
 use tt_find::{Finder, Found};
 use tt_font::Font;
@@ -49,6 +51,7 @@ enum SessionFault {
     Form(u64),
     Read,
     OutOfMemory,
+    Budget,
 }
 
 impl SessionFault {
@@ -60,7 +63,9 @@ impl SessionFault {
         match fault {
             CheckFontFault::Form(place) => SessionFault::Form(*place),
             CheckFontFault::Read => SessionFault::Read,
-            CheckFontFault::OutOfMemory(_) | CheckFontFault::Font(_) => SessionFault::OutOfMemory,
+            CheckFontFault::OutOfMemory(_) | CheckFontFault::Font(_) | CheckFontFault::Budget => {
+                SessionFault::OutOfMemory
+            }
         }
     }
 
@@ -72,6 +77,7 @@ impl SessionFault {
             SessionFault::Form(place) => CheckFontFault::Form(place),
             SessionFault::Read => CheckFontFault::Read,
             SessionFault::OutOfMemory => CheckFontFault::OutOfMemory(AllocError),
+            SessionFault::Budget => CheckFontFault::Budget,
         }
     }
 }
@@ -145,6 +151,7 @@ fn check_first<'a, S: Source>(
     font: &Font<'a>,
     source: &mut S,
     progress: &mut Progress,
+    budget: &mut Budget,
 ) -> Result<CheckedStep<'a>, CheckFontFault>
     requires { IsFontInRange font.now }
     ensures sound { IfOk result (IsSoundStep font.now at_start) }
@@ -156,9 +163,10 @@ fn check_first<'a, S: Source>(
         progress.old (S.remaining source.old) (S.remaining source.new)) }
     ensures failures { CountsCheck result (S.failures source.old) (S.failures source.new) }
     ensures font { IfErr result IsNoFontFault }
+    ensures spends { Spends budget.old budget.new }
 {
     let certificate = next_section(alloc, decoder, source, progress, Name::Font)?;
-    match check_font_program(alloc, font, &certificate, progress.form) {
+    match check_font_program(alloc, font, &certificate, progress.form, budget) {
         Ok(fpgm) => Ok(CheckedStep {
             answer: Some(accepted(Name::Font)),
             kept: Kept::AfterFont(fpgm),
@@ -181,6 +189,7 @@ fn check_second<'a, S: Source>(
     fpgm: Ended<'a>,
     source: &mut S,
     progress: &mut Progress,
+    budget: &mut Budget,
 ) -> Result<CheckedStep<'a>, CheckFontFault>
     requires range { IsFontInRange font.now }
     requires rises { Rises fpgm.functions.items }
@@ -193,9 +202,10 @@ fn check_second<'a, S: Source>(
         progress.old (S.remaining source.old) (S.remaining source.new)) }
     ensures failures { CountsCheck result (S.failures source.old) (S.failures source.new) }
     ensures font { IfErr result IsNoFontFault }
+    ensures spends { Spends budget.old budget.new }
 {
     let certificate = next_section(alloc, decoder, source, progress, Name::Cvt)?;
-    match check_cvt_program(alloc, font, &fpgm, &certificate, progress.form) {
+    match check_cvt_program(alloc, font, &fpgm, &certificate, progress.form, budget) {
         Ok(prep) => Ok(CheckedStep {
             answer: Some(accepted(Name::Cvt)),
             kept: Kept::Glyphs(fpgm, prep, 0),
@@ -220,6 +230,7 @@ fn check_glyph<S: Source>(
     id: u16,
     source: &mut S,
     progress: &mut Progress,
+    budget: &mut Budget,
 ) -> Result<Outcome, CheckFontFault>
     requires range { IsFontInRange font.now }
     requires rises { Rises prep.now.functions.items }
@@ -233,6 +244,7 @@ fn check_glyph<S: Source>(
         progress.old (S.remaining source.old) (S.remaining source.new)) }
     ensures failures { CountsCheck result (S.failures source.old) (S.failures source.new) }
     ensures font { IfErr result IsNoFontFault }
+    ensures spends { Spends budget.old budget.new }
 {
     let certificate = next_section(alloc, decoder, source, progress, Name::Glyph(id))?;
     let glyph = font.glyph(id).unwrap();
@@ -240,7 +252,7 @@ fn check_glyph<S: Source>(
         setting: cvt_setting(font, fpgm, &prep.program),
         functions: &prep.functions,
     };
-    let checked = check_glyph_program(alloc, &common, &glyph, &certificate, progress.form);
+    let checked = check_glyph_program(alloc, &common, &glyph, &certificate, progress.form, budget);
     decoder.take_back(certificate);
     match checked {
         Ok(()) => Ok(accepted(Name::Glyph(id))),
@@ -258,6 +270,7 @@ fn check_third<'a, S: Source>(
     id: u16,
     source: &mut S,
     progress: &mut Progress,
+    budget: &mut Budget,
 ) -> Result<CheckedStep<'a>, CheckFontFault>
     requires range { IsFontInRange font.now }
     requires good { KeepsGood font.now (at_glyph_program fpgm prep id) }
@@ -271,6 +284,7 @@ fn check_third<'a, S: Source>(
         progress.old (S.remaining source.old) (S.remaining source.new)) }
     ensures failures { CountsCheck result (S.failures source.old) (S.failures source.new) }
     ensures font { IfErr result IsNoFontFault }
+    ensures spends { Spends budget.old budget.new }
 {
     if id == font.glyph_count() {
         read_end(source, progress.place)?;
@@ -279,7 +293,7 @@ fn check_third<'a, S: Source>(
             kept: Kept::Over,
         });
     }
-    let outcome = check_glyph(alloc, decoder, font, &fpgm, &prep, id, source, progress)?;
+    let outcome = check_glyph(alloc, decoder, font, &fpgm, &prep, id, source, progress, budget)?;
     Ok(CheckedStep {
         answer: Some(outcome),
         kept: Kept::Glyphs(fpgm, prep, id + 1),
@@ -294,6 +308,7 @@ fn check_on<'a, S: Source>(
     kept: Kept<'a>,
     source: &mut S,
     progress: &mut Progress,
+    budget: &mut Budget,
 ) -> Result<CheckedStep<'a>, CheckFontFault>
     requires range { IsFontInRange font.now }
     requires good { KeepsGood font.now (stage_of kept) }
@@ -306,12 +321,15 @@ fn check_on<'a, S: Source>(
         progress.old (S.remaining source.old) (S.remaining source.new)) }
     ensures failures { CountsCheck result (S.failures source.old) (S.failures source.new) }
     ensures font { IfErr result IsNoFontFault }
+    ensures spends { Spends budget.old budget.new }
 {
     match kept {
-        Kept::Start => check_first(alloc, decoder, font, source, progress),
-        Kept::AfterFont(fpgm) => check_second(alloc, decoder, font, fpgm, source, progress),
+        Kept::Start => check_first(alloc, decoder, font, source, progress, budget),
+        Kept::AfterFont(fpgm) => {
+            check_second(alloc, decoder, font, fpgm, source, progress, budget)
+        }
         Kept::Glyphs(fpgm, prep, id) => {
-            check_third(alloc, decoder, font, fpgm, prep, id, source, progress)
+            check_third(alloc, decoder, font, fpgm, prep, id, source, progress, budget)
         }
         Kept::Over => Ok(CheckedStep {
             answer: None,
@@ -354,6 +372,7 @@ fn check_from<'a, S: Source>(
     kept: &mut Kept<'a>,
     read: &mut Option<Progress>,
     source: &mut S,
+    budget: &mut Budget,
 ) -> Result<Option<Outcome>, CheckFontFault>
     requires range { IsFontInRange font.now }
     requires good { KeepsGood font.now (stage_of kept.old) }
@@ -373,10 +392,11 @@ fn check_from<'a, S: Source>(
         (EndsInCall (standing_of font.now kept.old read.old))) }
     ensures failures { CountsCheck result (S.failures source.old) (S.failures source.new) }
     ensures font { IfErr result IsNoFontFault }
+    ensures spends { Spends budget.old budget.new }
 {
     let mut progress = progress_of(font, *read, source)?;
     let now = mem::replace(kept, Kept::Over);
-    let step = check_on(alloc, decoder, font, now, source, &mut progress)?;
+    let step = check_on(alloc, decoder, font, now, source, &mut progress, budget)?;
     let CheckedStep { answer, kept: next } = step;
     *kept = next;
     *read = Some(progress);
@@ -469,6 +489,45 @@ impl<'a> Session<'a> {
             → CountsCheck result (S.failures source.old) (S.failures source.new) }
         ensures no_font_fault { self.old.fault ≡ None → IfErr result IsNoFontFault }
     {
+        self.check_next_spending(alloc, source, &mut Budget::unlimited())
+    }
+
+    /// Checks the next program as `check_next` does, and makes at most as many points as the budget
+    /// allows. A budget that is met is answered as if memory had run out.
+    pub(crate) fn check_next_spending<S: Source>(
+        &mut self,
+        alloc: Global,
+        source: &mut S,
+        budget: &mut Budget,
+    ) -> Result<Option<Outcome>, CheckFontFault>
+        requires { IsForChecking self.old }
+        // The outcome is the next program's, and an accepted one has a good family.
+        ensures sound { IfOk result
+            (λ answer. IsSoundAnswer self.old.font self.old.stage answer self.new.stage) }
+        // It comes from the program's section, where the source tells its bytes, which is read from
+        // where the call before ended.
+        ensures exact { self.old.fault ≡ None → IsTold (S.remaining source.old) → Finds result
+            (λ answer. IsTold (S.remaining source.new)
+            × AnswersNext self.old (S.remaining source.old)
+            answer self.new (S.remaining source.new))
+            (IsNextFault self.old (S.remaining source.old)) }
+        ensures after_fault { (fault : AnyFault) → self.old.fault ≡ Some fault
+            → (result ≡ Err fault) × (self.new ≡ self.old) × (source.new ≡ source.old) }
+        ensures after_none { self.old.fault ≡ None → self.old.stage ≡ over
+            → (result ≡ Ok None) × (self.new ≡ self.old) × (source.new ≡ source.old) }
+        ensures fault { IfErr result (λ fault. self.new.fault ≡ Some fault) }
+        ensures no_fault { IfOk result (λ _. self.new.fault ≡ None) }
+        ensures font { self.new.font ≡ self.old.font }
+        ensures checking { IsForChecking self.new }
+        ensures beginning { ConsumesBeginning (S.remaining source.old) (S.remaining source.new) }
+        // Where a read failed, the call read no unit whole that breaks a rule.
+        ensures whole_units { self.old.fault ≡ None → IfErr result
+            (HasRead (S.remaining source.old) (S.remaining source.new) (EndsInCall self.old)) }
+        ensures failures { self.old.fault ≡ None
+            → CountsCheck result (S.failures source.old) (S.failures source.new) }
+        ensures no_font_fault { self.old.fault ≡ None → IfErr result IsNoFontFault }
+        ensures spends { Spends budget.old budget.new }
+    {
         if let Some(fault) = self.fault {
             return Err(fault.reported());
         }
@@ -482,11 +541,70 @@ impl<'a> Session<'a> {
             &mut self.kept,
             &mut self.progress,
             source,
+            budget,
         );
         if let Err(fault) = &answer {
             self.fault = Some(SessionFault::of(fault));
         }
         answer
+    }
+
+    /// Checks the next program as `check_next` does, and makes at most as many points as the budget
+    /// allows: each state that is carried on is one. The next call may have another budget.
+    ///
+    /// # Errors
+    /// As `check_next`; `Budget` exactly where more points were to be made. After a fault each call
+    /// returns it, and reads nothing.
+    pub fn check_next_within<S: Source>(
+        &mut self,
+        alloc: Global,
+        source: &mut S,
+        budget: &mut Budget,
+    ) -> Result<Option<Outcome>, CheckFontFault>
+        requires { IsForChecking self.old }
+        // The outcome is the next program's, and an accepted one has a good family.
+        ensures sound { IfOk result
+            (λ answer. IsSoundAnswer self.old.font self.old.stage answer self.new.stage) }
+        // It comes from the program's section, where the source tells its bytes, which is read from
+        // where the call before ended.
+        ensures exact { self.old.fault ≡ None → IsTold (S.remaining source.old) → Finds result
+            (λ answer. IsTold (S.remaining source.new)
+            × AnswersNext self.old (S.remaining source.old)
+            answer self.new (S.remaining source.new))
+            (IsNextFault self.old (S.remaining source.old)) }
+        ensures after_fault { (fault : AnyFault) → self.old.fault ≡ Some fault
+            → (result ≡ Err fault) × (self.new ≡ self.old) × (source.new ≡ source.old) }
+        ensures after_none { self.old.fault ≡ None → self.old.stage ≡ over
+            → (result ≡ Ok None) × (self.new ≡ self.old) × (source.new ≡ source.old) }
+        ensures fault { IfErr result (λ fault. self.new.fault ≡ Some fault) }
+        ensures no_fault { IfOk result (λ _. self.new.fault ≡ None) }
+        ensures font { self.new.font ≡ self.old.font }
+        ensures checking { IsForChecking self.new }
+        ensures beginning { ConsumesBeginning (S.remaining source.old) (S.remaining source.new) }
+        // Where a read failed, the call read no unit whole that breaks a rule.
+        ensures whole_units { self.old.fault ≡ None → IfErr result
+            (HasRead (S.remaining source.old) (S.remaining source.new) (EndsInCall self.old)) }
+        ensures failures { self.old.fault ≡ None
+            → CountsCheck result (S.failures source.old) (S.failures source.new) }
+        ensures no_font_fault { self.old.fault ≡ None → IfErr result IsNoFaultOfAFont }
+        ensures spends { Spends budget.old budget.new }
+        ensures budget { self.old.fault ≡ None → self.old.stage ≢ over
+            → TellsBudgetOfCheck budget.new result }
+    {
+        if let Some(fault) = self.fault {
+            return Err(fault.reported());
+        }
+        if self.kept.is_over() {
+            return Ok(None);
+        }
+        let answer = self.check_next_spending(alloc, source, budget);
+        match answer {
+            Ok(_) | Err(CheckFontFault::OutOfMemory(_)) if budget.is_met() => {
+                self.fault = Some(SessionFault::Budget);
+                Err(CheckFontFault::Budget)
+            }
+            answer => answer,
+        }
     }
 
     /// Searches the family of the next program for what is asked: returns its outcome, and what is
@@ -499,6 +617,7 @@ impl<'a> Session<'a> {
         alloc: Global,
         finder: &mut Finder,
         search: Search,
+        budget: &mut Budget,
     ) -> Result<Option<(Outcome, Option<Found>)>, FindFontFault>
         requires finding { IsForFinding self.old }
         requires search { IsForCertificate search }
@@ -513,6 +632,7 @@ impl<'a> Session<'a> {
         ensures no_fault { IfOk result (λ _. self.new.fault ≡ None) }
         ensures font { self.new.font ≡ self.old.font }
         ensures finding { IsForFinding self.new }
+        ensures spends { Spends budget.old budget.new }
     {
         if self.fault.is_some() {
             return Err(FindFontFault::OutOfMemory(AllocError));
@@ -520,7 +640,7 @@ impl<'a> Session<'a> {
         if self.kept.is_over() {
             return Ok(None);
         }
-        let answer = find_from(alloc, finder, self.font, &mut self.kept, search);
+        let answer = find_from(alloc, finder, self.font, &mut self.kept, search, budget);
         if answer.is_err() {
             self.fault = Some(SessionFault::OutOfMemory);
         }
@@ -554,6 +674,6 @@ impl<'a> Session<'a> {
         ensures font { self.new.font ≡ self.old.font }
         ensures finding { IsForFinding self.new }
     {
-        self.search_next(alloc, finder, Search::Certificate)
+        self.search_next(alloc, finder, Search::Certificate, &mut Budget::unlimited())
     }
 }

@@ -10,6 +10,7 @@ pub mod GoodFamilies
 pub mod Spots
 pub mod Fillings
 pub mod Checks
+pub mod Budgets
 pub mod Landings
 pub mod CheckedSubjects
 pub mod Ends

@@ -8,6 +8,7 @@ ghost use Rattle.tt_abs.specs.Families.{CoversAt};
 ghost use Rattle.tt_abs.specs.Lines.{EndsAt};
 ghost use Rattle.tt_abs.specs.Settings.{setting_of};
 ghost use Rattle.tt_abs.specs.States.{state_order};
+ghost use Rattle.tt_cert.specs.Budgets.{Spends};
 ghost use Rattle.tt_cert.specs.CheckedSubjects.{EndsWellFor, HasGoodFillingFor, HasSafeFillingFor, IsGoodFor, IsSafeFor, IsShortFor, NamesBrokenFirst, NamesFillingBrokenFirst};
 ghost use Rattle.tt_cert.specs.Representation.Cursors.{IsFoundSoundFor, NamesFirstFor, AreToCome, AreUnlisted, IsLeftOutAfter, IsWalk, IsWalkedThrough, NamesBreak, NamesFirstBreak, PassesPoint, to_come};
 ghost use Rattle.tt_cert.specs.Checks.{AreToldBefore, IsOutOfMemory, NamesGap};
@@ -15,6 +16,7 @@ ghost use Rattle.tt_cert.specs.Contents.{family_of};
 ghost use Rattle.tt_cert.specs.Fillings.{HasOneGoodFilling, place_of_point};
 ghost use Rattle.tt_cert.specs.GoodFamilies.{HasEnd};
 
+use crate::budget::Budget;
 use crate::builder::Builder;
 use crate::certificate::Certificate;
 use crate::cursor::Cursor;
@@ -110,6 +112,7 @@ fn check_point(
     certificate: &Certificate,
     walk: &mut Cursor<'_>,
     offset: u32,
+    budget: &mut Budget,
 ) -> Result<(), ProgramFault>
     requires walk { IsWalk certificate.now walk.old }
     requires told { AreToldBefore certificate.now walk.old.context }
@@ -123,7 +126,9 @@ fn check_point(
     ensures next { walk.new.next ≡ walk.old.next }
     ensures context { walk.new.context ≡ walk.old.context }
     ensures within { offset < 2 ^ 32 }
+    ensures spends { Spends budget.old budget.new }
 {
+    budget.spend()?;
     walk.is_next = false;
     walk.carried = None;
     if !are_stored_within(walk.made.stored(), setting.limits.storage) {
@@ -162,6 +167,7 @@ fn check_points<'a>(
     certificate: &Certificate,
     walk: &mut Cursor<'a>,
     mut states: States<'a>,
+    budget: &mut Budget,
 ) -> Result<(), ProgramFault>
     requires walk { IsWalk certificate.now walk.old }
     requires to_come { AreToCome certificate.now walk.old.next states }
@@ -171,10 +177,11 @@ fn check_points<'a>(
         IsWalkedThrough (setting_of setting.now) listing certificate.now) }
     ensures broken { IfErr result
         (NamesFirstBreak (setting_of setting.now) listing certificate.now) }
+    ensures spends { Spends budget.old budget.new }
 {
     certificate.order_facts();
     while let Some(offset) = walk.go_on(certificate, &mut states)? {
-        if let Err(fault) = check_point(setting, listing, certificate, walk, offset) {
+        if let Err(fault) = check_point(setting, listing, certificate, walk, offset, budget) {
             return Err(fault);
         }
     }
@@ -190,10 +197,12 @@ fn check_listed(
     setting: &Setting<'_>,
     listing: Listing,
     certificate: &Certificate,
+    budget: &mut Budget,
 ) -> Result<(), ProgramFault>
     requires rises { Rises setting.now.start.now }
     ensures sound { IfOk result (λ _. IsFoundSoundFor setting.now listing certificate.now) }
     ensures first { IfErr result (NamesFirstFor setting.now listing certificate.now) }
+    ensures spends { Spends budget.old budget.new }
 {
     certificate.order_facts();
     if !is_short(setting) {
@@ -215,7 +224,7 @@ fn check_listed(
             reason: Reason::MissingPoint,
         });
     }
-    check_points(setting, listing, certificate, &mut walk, states)
+    check_points(setting, listing, certificate, &mut walk, states, budget)
 }
 
 /// Checks that the family is good for the program of this setting, which is all that a certificate
@@ -239,9 +248,30 @@ pub fn check_full(
     ensures exact { IsGoodFor setting.now certificate.now → IfErr result IsOutOfMemory }
     ensures first { IfErr result (NamesBrokenFirst setting.now certificate.now) }
 {
+    check_full_within(alloc, setting, certificate, &mut Budget::unlimited())
+}
+
+/// Checks that the family is good as `check_full` does, and makes at most as many points as the
+/// budget allows.
+///
+/// # Errors
+/// As `check_full`; `OutOfMemory` too where the budget is met.
+pub fn check_full_within(
+    alloc: Global,
+    setting: &Setting<'_>,
+    certificate: &Certificate,
+    budget: &mut Budget,
+) -> Result<(), ProgramFault>
+    requires rises { Rises setting.now.start.now }
+    ensures family { IfOk result (λ _. IsGoodFor setting.now certificate.now) }
+    ensures safe { IfOk result (λ _. IsSafeFor setting.now certificate.now) }
+    ensures exact { IsGoodFor setting.now certificate.now → IfErr result IsOutOfMemory }
+    ensures first { IfErr result (NamesBrokenFirst setting.now certificate.now) }
+    ensures spends { Spends budget.old budget.new }
+{
     setting.range_facts();
     certificate.order_facts();
-    check_listed(alloc, setting, Listing::Whole, certificate)
+    check_listed(alloc, setting, Listing::Whole, certificate, budget)
 }
 
 /// Checks that the family, filled up with the states that it leaves out, is good for the program of
@@ -263,9 +293,30 @@ pub fn check(
     ensures exact { HasGoodFillingFor setting.now certificate.now → IfErr result IsOutOfMemory }
     ensures first { IfErr result (NamesFillingBrokenFirst setting.now certificate.now) }
 {
+    check_within(alloc, setting, certificate, &mut Budget::unlimited())
+}
+
+/// Checks that the family, filled up, is good as `check` does, and makes at most as many points as
+/// the budget allows.
+///
+/// # Errors
+/// As `check`; `OutOfMemory` too where the budget is met.
+pub fn check_within(
+    alloc: Global,
+    setting: &Setting<'_>,
+    certificate: &Certificate,
+    budget: &mut Budget,
+) -> Result<(), ProgramFault>
+    requires rises { Rises setting.now.start.now }
+    ensures filling { IfOk result (λ _. HasGoodFillingFor setting.now certificate.now) }
+    ensures safe { IfOk result (λ _. HasSafeFillingFor setting.now certificate.now) }
+    ensures exact { HasGoodFillingFor setting.now certificate.now → IfErr result IsOutOfMemory }
+    ensures first { IfErr result (NamesFillingBrokenFirst setting.now certificate.now) }
+    ensures spends { Spends budget.old budget.new }
+{
     setting.range_facts();
     certificate.order_facts();
-    check_listed(alloc, setting, Listing::Sparse, certificate)
+    check_listed(alloc, setting, Listing::Sparse, certificate, budget)
 }
 
 /// States that a family has at most one good filling. The function does nothing: its contract is

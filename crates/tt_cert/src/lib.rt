@@ -1,6 +1,7 @@
 //! Families of abstract states by context and offset: their builder, and the finished certificate.
 #![tactic(auto)]
 
+pub mod budget;
 pub mod builder;
 pub mod certificate;
 pub mod checker;
@@ -17,9 +18,12 @@ pub mod spot;
 mod state_store;
 pub mod states;
 
+pub use budget::Budget;
 pub use builder::Builder;
 pub use certificate::Certificate;
-pub use checker::{check, check_full, ends_well, is_short, one_good_filling};
+pub use checker::{
+    check, check_full, check_full_within, check_within, ends_well, is_short, one_good_filling,
+};
 pub use fault::{ContextFault, JoinFault, ProgramFault, ProgramFault as CheckFault};
 pub use joined::Joined;
 pub use landing::{Landing, landing_of};

@@ -5,6 +5,7 @@ ghost use Rattle.std.specs.Prelude.{◌≡◌, None, [], ◌∷◌, IfErr, IfOk,
 ghost use Rattle.tt_abs.specs.Entries.{Rises};
 ghost use Rattle.tt_abs.specs.Settings.{setting_of};
 ghost use Rattle.tt_abs.specs.StateFlow.{FunctionsFit};
+ghost use Rattle.tt_cert.specs.Budgets.{Spends};
 ghost use Rattle.tt_find.specs.FoundSubjects.{HasLeastContexts, HasOnlyNeeded, IsJustifiedFor, IsLeastFor, TellsNoEnd, TellsNoneIsGood};
 ghost use Rattle.tt_find.specs.Representation.SolverSubjects.{HasLawsFor, IsFoundFor, IsWholeFor, StopsFor};
 ghost use Rattle.tt_find.specs.Finders.{IsEmptySolver};
@@ -18,7 +19,7 @@ use std::alloc::{AllocError, Global};
 use std::mem;
 use tt_abs::Setting;
 use tt_abs::laws::flow_laws;
-use tt_cert::{Builder, Certificate, ProgramFault, Spot, ends_well, is_short};
+use tt_cert::{Budget, Builder, Certificate, ProgramFault, Spot, ends_well, is_short};
 use tt_code::Reason;
 
 /// How often the finder starts with the marks that it has found. After that it keeps states
@@ -67,13 +68,19 @@ fn law_facts(setting: &Setting<'_>)
 ///
 /// # Errors
 /// As the run from each point.
-fn run_to_fixpoint(alloc: Global, solver: &mut Solver, setting: &Setting<'_>) -> Result<(), Stop>
+fn run_to_fixpoint(
+    alloc: Global,
+    solver: &mut Solver,
+    setting: &Setting<'_>,
+    budget: &mut Budget,
+) -> Result<(), Stop>
     requires rises { Rises setting.now.start.now }
     requires laws { HasLawsFor setting.now }
     requires empty { IsEmptySolver solver.old }
     ensures whole { IfOk result (λ _. IsWholeFor setting.now solver.new) }
     ensures none { IfOk result (λ _. solver.new.worklist ≡ []) }
     ensures stops { IfErr result (StopsFor setting.now solver.old.marks.everywhere) }
+    ensures spends { Spends budget.old budget.new }
 {
     let mut walk = Walk::start(alloc, setting.start)?;
     solver.builder.family_facts();
@@ -81,7 +88,7 @@ fn run_to_fixpoint(alloc: Global, solver: &mut Solver, setting: &Setting<'_>) ->
         return Err(stop);
     }
     while let Some((context, offset)) = solver.worklist.pop_first() {
-        if let Err(stop) = run(solver, &mut walk, setting, context, offset) {
+        if let Err(stop) = run(solver, &mut walk, setting, context, offset, budget) {
             return Err(stop);
         }
     }
@@ -96,16 +103,18 @@ fn fill_everywhere(
     alloc: Global,
     solver: &mut Solver,
     setting: &Setting<'_>,
+    budget: &mut Budget,
 ) -> Result<(), ProgramFault>
     requires rises { Rises setting.now.start.now }
     requires laws { HasLawsFor setting.now }
     ensures whole { IfOk result (λ _. IsWholeFor setting.now solver.new) }
     ensures none { IfOk result (λ _. solver.new.worklist ≡ []) }
     ensures justified { IfErr result (IsJustifiedFor setting.now) }
+    ensures spends { Spends budget.old budget.new }
 {
     solver.clear();
     solver.marks.everywhere = true;
-    match run_to_fixpoint(alloc, solver, setting) {
+    match run_to_fixpoint(alloc, solver, setting, budget) {
         Ok(()) => Ok(()),
         Err(Stop::Fault(fault)) => Err(fault),
         Err(Stop::Restart) => unreachable!(),
@@ -121,23 +130,25 @@ fn restart_to_fixpoint(
     alloc: Global,
     solver: &mut Solver,
     setting: &Setting<'_>,
+    budget: &mut Budget,
 ) -> Result<(), ProgramFault>
     requires rises { Rises setting.now.start.now }
     requires laws { HasLawsFor setting.now }
     ensures whole { IfOk result (λ _. IsWholeFor setting.now solver.new) }
     ensures none { IfOk result (λ _. solver.new.worklist ≡ []) }
     ensures justified { IfErr result (IsJustifiedFor setting.now) }
+    ensures spends { Spends budget.old budget.new }
 {
     solver.marks.begin(setting)?;
     for _ in 0..STARTS {
         solver.clear();
-        match run_to_fixpoint(alloc, solver, setting) {
+        match run_to_fixpoint(alloc, solver, setting, budget) {
             Ok(()) => return Ok(()),
             Err(Stop::Fault(fault)) => return Err(fault),
             Err(Stop::Restart) => {}
         }
     }
-    fill_everywhere(alloc, solver, setting)
+    fill_everywhere(alloc, solver, setting, budget)
 }
 
 /// Fills a solver anew, with states kept everywhere or where ways meet.
@@ -149,16 +160,18 @@ fn fill(
     solver: &mut Solver,
     setting: &Setting<'_>,
     kept: KeptStates,
+    budget: &mut Budget,
 ) -> Result<(), ProgramFault>
     requires rises { Rises setting.now.start.now }
     requires laws { HasLawsFor setting.now }
     ensures whole { IfOk result (λ _. IsWholeFor setting.now solver.new) }
     ensures none { IfOk result (λ _. solver.new.worklist ≡ []) }
     ensures justified { IfErr result (IsJustifiedFor setting.now) }
+    ensures spends { Spends budget.old budget.new }
 {
     match kept {
-        KeptStates::WhereWaysMeet => restart_to_fixpoint(alloc, solver, setting),
-        KeptStates::Everywhere => fill_everywhere(alloc, solver, setting),
+        KeptStates::WhereWaysMeet => restart_to_fixpoint(alloc, solver, setting, budget),
+        KeptStates::Everywhere => fill_everywhere(alloc, solver, setting, budget),
     }
 }
 
@@ -182,19 +195,21 @@ fn find_fixpoint(
     solver: &mut Solver,
     setting: &Setting<'_>,
     kept: KeptStates,
+    budget: &mut Budget,
 ) -> Result<u64, ProgramFault>
     requires rises { Rises setting.now.start.now }
     requires fits { FunctionsFit (setting_of setting.now) setting.now.start.now }
     ensures laws { HasLawsFor setting.now }
     ensures found { IfOk result (IsFoundFor setting.now solver.new) }
     ensures justified { IfErr result (IsJustifiedFor setting.now) }
+    ensures spends { Spends budget.old budget.new }
 {
     law_facts(setting);
     if !is_short(setting) {
         let most = u32::from(setting.limits.program_size);
         return Err(refused_in_main(most, Reason::ProgramTooLong));
     }
-    if let Err(fault) = fill(alloc, solver, setting, kept) {
+    if let Err(fault) = fill(alloc, solver, setting, kept, budget) {
         return Err(fault);
     }
     if !ends_well(setting, &solver.builder) {
@@ -245,8 +260,31 @@ impl Finder {
         ensures none_good { IfErr result (TellsNoneIsGood setting.now) }
         ensures never_ends { TellsNoEnd setting.now result }
     {
+        self.find_within(alloc, setting, &mut Budget::unlimited())
+    }
+
+    /// Returns the least family as `Finder::find` does, and makes at most as many points as the
+    /// budget allows.
+    ///
+    /// # Errors
+    /// As `find`; `OutOfMemory` too where the budget is met.
+    pub fn find_within(
+        &mut self,
+        alloc: Global,
+        setting: &Setting<'_>,
+        budget: &mut Budget,
+    ) -> Result<Found, ProgramFault>
+        requires rises { Rises setting.now.start.now }
+        requires fits { FunctionsFit (setting_of setting.now) setting.now.start.now }
+        ensures filling { IfOk result (IsLeastFor setting.now) }
+        ensures contexts { IfOk result (HasLeastContexts setting.now) }
+        ensures justified { IfErr result (IsJustifiedFor setting.now) }
+        ensures none_good { IfErr result (TellsNoneIsGood setting.now) }
+        ensures never_ends { TellsNoEnd setting.now result }
+        ensures spends { Spends budget.old budget.new }
+    {
         let kept = KeptStates::WhereWaysMeet;
-        let updates = match find_fixpoint(alloc, &mut self.solver, setting, kept) {
+        let updates = match find_fixpoint(alloc, &mut self.solver, setting, kept, budget) {
             Ok(updates) => updates,
             Err(fault) => return Err(fault),
         };
@@ -279,8 +317,32 @@ impl Finder {
         ensures none_good { IfErr result (TellsNoneIsGood setting.now) }
         ensures never_ends { TellsNoEnd setting.now result }
     {
+        self.find_needed_within(alloc, setting, &mut Budget::unlimited())
+    }
+
+    /// Returns the least family as `Finder::find_needed` does, and makes at most as many points as
+    /// the budget allows.
+    ///
+    /// # Errors
+    /// As `find`; `OutOfMemory` too where the budget is met.
+    pub fn find_needed_within(
+        &mut self,
+        alloc: Global,
+        setting: &Setting<'_>,
+        budget: &mut Budget,
+    ) -> Result<Found, ProgramFault>
+        requires rises { Rises setting.now.start.now }
+        requires fits { FunctionsFit (setting_of setting.now) setting.now.start.now }
+        ensures filling { IfOk result (IsLeastFor setting.now) }
+        ensures contexts { IfOk result (HasLeastContexts setting.now) }
+        ensures needed { IfOk result (HasOnlyNeeded setting.now) }
+        ensures justified { IfErr result (IsJustifiedFor setting.now) }
+        ensures none_good { IfErr result (TellsNoneIsGood setting.now) }
+        ensures never_ends { TellsNoEnd setting.now result }
+        ensures spends { Spends budget.old budget.new }
+    {
         let kept = KeptStates::WhereWaysMeet;
-        let updates = match find_fixpoint(alloc, &mut self.solver, setting, kept) {
+        let updates = match find_fixpoint(alloc, &mut self.solver, setting, kept, budget) {
             Ok(updates) => updates,
             Err(fault) => return Err(fault),
         };
@@ -337,7 +399,8 @@ pub fn explore(alloc: Global, setting: &Setting<'_>) -> Result<Explored, AllocEr
         (TellsNoneIsGood setting.now)) }
 {
     let mut solver = Solver::new(alloc);
-    let outcome = find_fixpoint(alloc, &mut solver, setting, KeptStates::Everywhere);
+    let kept = KeptStates::Everywhere;
+    let outcome = find_fixpoint(alloc, &mut solver, setting, kept, &mut Budget::unlimited());
     let builder = mem::replace(&mut solver.builder, Builder::new(alloc));
     let Ok(certificate) = builder.finish() else {
         return Err(AllocError);

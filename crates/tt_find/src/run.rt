@@ -3,6 +3,7 @@
 
 ghost use Rattle.std.specs.Prelude.{◌≡◌, ◌<◌, IfErr, IfOk, IfSome, IsTrue, length};
 ghost use Rattle.tt_abs.specs.States.{state_order};
+ghost use Rattle.tt_cert.specs.Budgets.{Spends};
 ghost use Rattle.tt_cert.specs.Checks.{IsOutOfMemory};
 ghost use Rattle.tt_find.specs.Representation.SolverSubjects.{EndsJustBefore, GoesOnFor, HasLawsFor, IsNextAfter, IsOnWayFor, IsPoppedFor, IsSteppedAt, IsWholeFor, LeadsAlong, LeadsOver, NamesRefusalAt, StopsFor};
 ghost use Rattle.tt_find.specs.Representation.Solvers.{HasRisen, IsStored, IsWalk, KeepsEverywhere, StopsApart, TellsSource, refused_in};
@@ -14,7 +15,7 @@ use crate::successor::resolve_successor;
 use crate::walk::Walk;
 use std::alloc::AllocError;
 use tt_abs::{Moves, Point, Refusal, Setting, Stepped, step_at};
-use tt_cert::{Builder, ContextFault, ProgramFault, added_after};
+use tt_cert::{Budget, Builder, ContextFault, ProgramFault, added_after};
 use tt_code::Reason;
 
 /// Returns where the state at an offset of the walk's context leads; the walk then holds what it
@@ -203,13 +204,14 @@ fn store_successors(
 ///
 /// # Errors
 /// `Fault` with `Refused`, if the state is refused there, or enters one context too many; or for
-/// two states of different depths, where they meet; or with `OutOfMemory`. `Restart` where a state
-/// is to be kept at an offset over which states went.
+/// two states of different depths, where they meet; or with `OutOfMemory`, also where the budget is
+/// met. `Restart` where a state is to be kept at an offset over which states went.
 fn step_point(
     solver: &mut Solver,
     walk: &mut Walk,
     setting: &Setting<'_>,
     offset: u32,
+    budget: &mut Budget,
 ) -> Result<Option<u32>, Stop>
     requires laws { HasLawsFor setting.now }
     requires walk { IsWalk solver.old.builder walk.old }
@@ -220,7 +222,9 @@ fn step_point(
     ensures walk { IfOk result (λ _. IsWalk solver.new.builder walk.new) }
     ensures stops { IfErr result (StopsFor setting.now solver.old.marks.everywhere) }
     ensures everywhere { IfOk result (λ _. KeepsEverywhere solver.old solver.new) }
+    ensures spends { Spends budget.old budget.new }
 {
+    budget.spend()?;
     let step = match step_state(&solver.builder, walk, setting, offset) {
         Ok(Some(step)) => step,
         Ok(None) => return Ok(None),
@@ -244,6 +248,7 @@ pub(crate) fn run(
     setting: &Setting<'_>,
     context: u32,
     offset: u32,
+    budget: &mut Budget,
 ) -> Result<(), Stop>
     requires laws { HasLawsFor setting.now }
     requires walk { IsWalk solver.old.builder walk.old }
@@ -253,13 +258,14 @@ pub(crate) fn run(
     ensures walk { IfOk result (λ _. IsWalk solver.new.builder walk.new) }
     ensures stops { IfErr result (StopsFor setting.now solver.old.marks.everywhere) }
     ensures everywhere { IfOk result (λ _. KeepsEverywhere solver.old solver.new) }
+    ensures spends { Spends budget.old budget.new }
 {
     walk.go_to(&solver.builder, context)?;
     if !walk.take(&solver.builder, context, offset)? {
         return Ok(());
     }
     let mut at = offset;
-    while let Some(next) = step_point(solver, walk, setting, at)? {
+    while let Some(next) = step_point(solver, walk, setting, at, budget)? {
         at = next;
     }
     Ok(())

@@ -55,6 +55,7 @@ abbrev pub fault_of : SessionFault → CheckFontFault
 fault_of (session.Form place) = fault.Form place
 fault_of session.Read = fault.Read
 fault_of session.OutOfMemory = fault.OutOfMemory alloc_error
+fault_of session.Budget = fault.Budget
 
 abbrev pub fault_in : Option SessionFault → Option CheckFontFault
 fault_in None = None

@@ -3,14 +3,14 @@
 ghost use Rattle.std.specs.Prelude.{◌≡◌, ◌+◌, ◌<◌, IfErr, IfOk, IfSome, List, Err, Ok, length, ℕ, []};
 ghost use Rattle.hintcheck.specs.Certificates.{IsChecked};
 ghost use Rattle.hintcheck.specs.Commands.{AtForm, IsNoWriteFault};
-ghost use Rattle.hintcheck.specs.CommandFaults.{IsFaultOfChecking};
+ghost use Rattle.hintcheck.specs.CommandFaults.{IsFaultOfChecking, IsWithin};
 ghost use Rattle.hintcheck.specs.FontPrograms.{IsFontInRange, IsSafeFont};
 ghost use Rattle.hintcheck.specs.MeansSafe.{HoldFont, HoldSafeFont, IsCheckOn};
 
 use super::faults::CommandFault;
 use super::files::file_bytes;
 use crate::font::read_font;
-use crate::font_check::check_read_font;
+use crate::font_check::{check_read_font, check_read_font_within};
 use crate::report::Verdict;
 use std::alloc::Global;
 use std::fs;
@@ -18,14 +18,17 @@ use std::io::Read;
 use std::marker::Brand;
 use std::rt::Files;
 use std::sync::ledger::{Blank, Ledger};
+use tt_cert::Budget;
 use tt_font::Font;
 use tt_stream::{Buffered, Counted};
 
-/// Returns the verdict on a font by the certificate that is left in the file.
+/// Returns the verdict on a font by the certificate that is left in the file, and makes at most so
+/// many points, where they are bounded.
 fn verdict_by_file<L: Ledger, F: Read + Drop>(
     alloc: Global,
     font: &Font<'_>,
     file: F,
+    points: Option<u64>,
     blank: Blank,
 ) -> Result<Verdict, CommandFault>
     requires range { IsFontInRange font.now }
@@ -37,32 +40,40 @@ fn verdict_by_file<L: Ledger, F: Read + Drop>(
     ensures form { IfErr result (λ fault. AtForm fault (λ place. IfSome (F.remaining file)
         (λ bytes. IsChecked font.now bytes (Err place)))) }
     ensures fault { IfErr result IsNoWriteFault }
-    ensures faults { IfErr result IsFaultOfChecking }
+    ensures faults { IfErr result
+        (λ fault. IsFaultOfChecking fault × IsWithin points fault) }
 {
     let Ok(mut source) = Buffered::new(alloc, Counted::<F, L>::new(file, blank)) else {
         return Err(CommandFault::OutOfMemory);
     };
-    Ok(check_read_font(alloc, font, &mut source)?)
+    let verdict = match points {
+        Some(most) => check_read_font_within(alloc, font, &mut source, &mut Budget::of(most)),
+        None => check_read_font(alloc, font, &mut source, &mut Budget::unlimited()),
+    };
+    Ok(verdict?)
 }
 
 /// Returns the verdict on the font file with the first name by the certificate in the file with the
-/// second, opened where the first is a font.
+/// second, opened where the first is a font. It makes at most so many points, where they are
+/// bounded.
 pub(super) fn check_verdict<R: Files + AllocGlobal>(
     rt: &R,
     font: &str,
     certificate: &str,
+    points: Option<u64>,
 ) -> Result<Verdict, CommandFault>
     ensures safe { IfOk result
         (λ verdict. verdict.refused ≡ [] → (bytes : List ℕ) × HoldSafeFont bytes) }
     ensures font { IfOk result (λ verdict. (bytes : List ℕ) × HoldFont bytes) }
     ensures given { IfOk result (λ verdict. (bytes : List ℕ) × IsCheckOn bytes verdict) }
     ensures fault { IfErr result IsNoWriteFault }
-    ensures faults { IfErr result IsFaultOfChecking }
+    ensures faults { IfErr result
+        (λ fault. IsFaultOfChecking fault × IsWithin points fault) }
 {
     let bytes = file_bytes(rt, font)?;
     let font = read_font(rt.alloc(), &bytes)?;
     let Ok(file) = fs::open(rt, certificate) else {
         return Err(CommandFault::Read);
     };
-    verdict_by_file::<Brand, _>(rt.alloc(), &font, file, Blank::new(1))
+    verdict_by_file::<Brand, _>(rt.alloc(), &font, file, points, Blank::new(1))
 }

@@ -5,6 +5,7 @@ ghost use Rattle.hintcheck.specs.Commands.{IsNoWriteFault, fault_of_word, status
 
 use crate::certificate::FindFontFault;
 use crate::certificate_upgrade::UpgradeFault;
+use crate::font::VerdictFault;
 use crate::font_check::CheckFontFault;
 use hintcheck_explain::ExplainFault;
 use hintcheck_words::{TaskFault, WordFault};
@@ -17,8 +18,8 @@ use tt_stream::{PrintFailed, ReadFault};
 /// The exit status where the words or what they name can't be read, or the output can't be written.
 const UNREADABLE: u8 = 2;
 
-/// The exit status where memory ran out.
-const OUT_OF_MEMORY: u8 = 3;
+/// The exit status where memory or the budget ran out.
+const UNFINISHED: u8 = 3;
 
 /// A font's fault, whose text begins with its number.
 #[derive(Debug, Drop)]
@@ -59,8 +60,10 @@ pub enum CommandFault {
     OutOfMemory,
     /// A font of a scan has a fault, which its line tells.
     ScanFault,
-    /// Memory ran out at a font of a scan, as its line tells.
-    ScanOutOfMemory,
+    /// Memory or the budget ran out at a font of a scan, as its line tells.
+    ScanUnfinished,
+    /// More points were to be made than may be.
+    Budget,
     /// A file can't be opened or read.
     Read,
     /// The output can't be written.
@@ -87,9 +90,9 @@ impl fmt::Display for CommandFault {
             CommandFault::NewWord => write!(f, "words: NEW"),
             CommandFault::Font(numbered) => write!(f, "{numbered}"),
             CommandFault::Form(place) => write!(f, "43 certificate form at byte {place}"),
-            CommandFault::OutOfMemory | CommandFault::ScanOutOfMemory => {
-                write!(f, "9 out of memory")
-            }
+            CommandFault::OutOfMemory => write!(f, "9 out of memory"),
+            CommandFault::Budget => write!(f, "46 budget"),
+            CommandFault::ScanUnfinished => write!(f, "unfinished font"),
             CommandFault::ScanFault => write!(f, "fault of a font"),
             CommandFault::Read => write!(f, "44 read"),
             CommandFault::Write | CommandFault::File => write!(f, "45 write"),
@@ -136,6 +139,19 @@ impl From<FontFault> for CommandFault {
     }
 }
 
+impl From<VerdictFault> for CommandFault {
+    ghost use Rattle.hintcheck.specs.Commands.{fault_of_verdict};
+
+    ghost from_gives = { λ judging fault. fault ≡ fault_of_verdict judging };
+
+    fn from(fault: VerdictFault) -> CommandFault {
+        match fault {
+            VerdictFault::Font(font) => CommandFault::Font(Numbered(font)),
+            VerdictFault::Budget => CommandFault::Budget,
+        }
+    }
+}
+
 impl From<CheckFontFault> for CommandFault {
     ghost use Rattle.hintcheck.specs.Commands.{fault_of_check};
 
@@ -147,6 +163,7 @@ impl From<CheckFontFault> for CommandFault {
             CheckFontFault::Form(place) => CommandFault::Form(place),
             CheckFontFault::Read => CommandFault::Read,
             CheckFontFault::OutOfMemory(AllocError) => CommandFault::OutOfMemory,
+            CheckFontFault::Budget => CommandFault::Budget,
         }
     }
 }
@@ -161,6 +178,7 @@ impl From<FindFontFault> for CommandFault {
             FindFontFault::Font(font) => CommandFault::Font(Numbered(font)),
             FindFontFault::Write => CommandFault::File,
             FindFontFault::OutOfMemory(AllocError) => CommandFault::OutOfMemory,
+            FindFontFault::Budget => CommandFault::Budget,
         }
     }
 }
@@ -207,15 +225,16 @@ impl CommandFault {
         }
     }
 
-    /// Returns the exit status: 3 where memory ran out, and otherwise 2.
+    /// Returns the exit status: 3 where memory or the budget ran out, and otherwise 2.
     pub fn status(&self) -> u8
         ensures status { result ≡ status_of self.now }
         ensures within { (2 ≤ result) × (result ≤ 3) }
     {
         match self {
             CommandFault::OutOfMemory
-            | CommandFault::ScanOutOfMemory
-            | CommandFault::Font(Numbered(FontFault::OutOfMemory(_))) => { OUT_OF_MEMORY },
+            | CommandFault::ScanUnfinished
+            | CommandFault::Budget
+            | CommandFault::Font(Numbered(FontFault::OutOfMemory(_))) => { UNFINISHED },
             _ => UNREADABLE,
         }
     }

@@ -4,13 +4,13 @@ ghost use Rattle.std.specs.Prelude.{◌≡◌, ◌≢◌, ◌+◌, ◌<◌, IfEr
 ghost use Rattle.std.specs.Io.KnownBytes.{Keeps};
 ghost use Rattle.hintcheck.specs.CertificateTexts.{IsPassingCertificate, WritesText};
 ghost use Rattle.hintcheck.specs.Commands.{IsNoWriteFault};
-ghost use Rattle.hintcheck.specs.CommandFaults.{IsFaultOfCertifying, IsFaultOfFinding};
+ghost use Rattle.hintcheck.specs.CommandFaults.{IsFaultOfCertifying, IsFaultOfFinding, IsWithin};
 ghost use Rattle.hintcheck.specs.FontPrograms.{IsFontInRange, IsVerdict};
 ghost use Rattle.hintcheck.specs.MeansSafe.{HoldRefusedFont, HoldSafeFont, IsVerdictOn};
 
 use super::faults::CommandFault;
 use super::files::{ROOM, file_bytes, file_numbers, is_same_file, write_rest};
-use crate::certificate::find_programs;
+use crate::certificate::{find_programs, find_programs_within};
 use crate::font::read_font;
 use crate::report::Verdict;
 use std::alloc::Global;
@@ -19,15 +19,17 @@ use std::io::{BufWriter, Write};
 use std::marker::Brand;
 use std::rt::Files;
 use std::sync::ledger::{Blank, Ledger};
+use tt_cert::Budget;
 use tt_font::Font;
 use tt_stream::Counted;
 
 /// Returns the verdict on a font, and the file, to which the font's certificate is written where no
-/// program is refused.
+/// program is refused. It makes at most so many points, where they are bounded.
 fn verdict_to_file<L: Ledger, F: Write + Drop>(
     alloc: Global,
     font: &Font<'_>,
     file: F,
+    points: Option<u64>,
     blank: Blank,
 ) -> Result<(Verdict, F), CommandFault>
     requires range { IsFontInRange font.now }
@@ -38,13 +40,17 @@ fn verdict_to_file<L: Ledger, F: Write + Drop>(
     ensures unwritten { IfOk result
         (λ r. r.0.refused ≢ [] → Keeps (F.contents file) (F.contents r.1)) }
     ensures fault { IfErr result IsNoWriteFault }
-    ensures faults { IfErr result IsFaultOfCertifying }
+    ensures faults { IfErr result
+        (λ fault. IsFaultOfCertifying fault × IsWithin points fault) }
 {
     let Ok(file) = BufWriter::with_capacity(alloc, ROOM, file) else {
         return Err(CommandFault::OutOfMemory);
     };
     let mut sink = Counted::<BufWriter<F>, L>::new(file, blank);
-    let verdict = find_programs(alloc, font, &mut sink)?;
+    let verdict = match points {
+        Some(most) => find_programs_within(alloc, font, &mut sink, &mut Budget::of(most))?,
+        None => find_programs(alloc, font, &mut sink, &mut Budget::unlimited())?,
+    };
     let file = write_rest(sink.into_inner())?;
     Ok((verdict, file))
 }
@@ -56,6 +62,7 @@ pub(super) fn find_verdict<R: Files + AllocGlobal>(
     rt: &R,
     font: &str,
     certificate: &str,
+    points: Option<u64>,
 ) -> Result<Verdict, CommandFault>
     ensures safe { IfOk result
         (λ verdict. verdict.refused ≡ [] → (bytes : List ℕ) × HoldSafeFont bytes) }
@@ -63,7 +70,8 @@ pub(super) fn find_verdict<R: Files + AllocGlobal>(
         (λ verdict. verdict.refused ≢ [] → (bytes : List ℕ) × HoldRefusedFont bytes) }
     ensures given { IfOk result (λ verdict. (bytes : List ℕ) × IsVerdictOn bytes verdict) }
     ensures fault { IfErr result IsNoWriteFault }
-    ensures faults { IfErr result (IsFaultOfFinding font.now certificate.now) }
+    ensures faults { IfErr result
+        (λ fault. IsFaultOfFinding font.now certificate.now fault × IsWithin points fault) }
     ensures none { OnOk result (font.now ≢ certificate.now) }
 {
     if font == certificate || is_same_file(file_numbers(rt, font), file_numbers(rt, certificate)) {
@@ -74,6 +82,6 @@ pub(super) fn find_verdict<R: Files + AllocGlobal>(
     let Ok(file) = fs::create(rt, certificate) else {
         return Err(CommandFault::File);
     };
-    let (verdict, _file) = verdict_to_file::<Brand, _>(rt.alloc(), &font, file, Blank::new(1))?;
+    let (verdict, _file) = verdict_to_file::<Brand, _>(rt.alloc(), &font, file, points, Blank::new(1))?;
     Ok(verdict)
 }

@@ -108,11 +108,12 @@ fn verdict_status(verdict: &Verdict) -> u8
     }
 }
 
-/// Prints the line of the font file with this name, and returns its exit status: that of a verdict,
-/// or of the fault.
+/// Prints the line of the font file with this name, for which so many points may be made, and
+/// returns its exit status: that of a verdict, or of the fault.
 fn scan_font<R: Files + AllocGlobal, O: Sink>(
     rt: &R,
     name: &str,
+    points: Option<u64>,
     out: &mut O,
 ) -> Result<u8, CommandFault>
     ensures tells { IfOk result (TellsFonts (name.now ∷ [])) }
@@ -121,7 +122,7 @@ fn scan_font<R: Files + AllocGlobal, O: Sink>(
     ensures failures { TellsFailure result (O.failures out.old) (O.failures out.new) }
     ensures faults { IfErr result IsFaultOfPrinting }
 {
-    match file_verdict(rt, name) {
+    match file_verdict(rt, name, points) {
         Ok(verdict) => {
             print_line(out, name, &verdict)?;
             Ok(verdict_status(&verdict))
@@ -133,14 +134,16 @@ fn scan_font<R: Files + AllocGlobal, O: Sink>(
     }
 }
 
-/// Prints a line for each of the font files with these names, and returns the greatest exit status
-/// of them: 0 where each is accepted, 1 where one is refused.
+/// Prints a line for each of the font files with these names, for each of which so many points may
+/// be made, and returns the greatest exit status of them: 0 where each is accepted, 1 where one is
+/// refused.
 ///
 /// # Errors
-/// `ScanFault` and `ScanOutOfMemory` where the greatest status is 2 and 3, after the last line.
+/// `ScanFault` and `ScanUnfinished` where the greatest status is 2 and 3, after the last line.
 pub(super) fn scan_fonts<R: Files + AllocGlobal, O: Sink>(
     rt: &R,
     fonts: &[String],
+    points: Option<u64>,
     out: &mut O,
 ) -> Result<u8, CommandFault>
     ensures status { IfOk result (λ status. status ≤ 1) }
@@ -158,12 +161,12 @@ pub(super) fn scan_fonts<R: Files + AllocGlobal, O: Sink>(
 {
     let mut greatest = ACCEPTED;
     for font in fonts {
-        let status = scan_font(rt, font, out)?;
+        let status = scan_font(rt, font, points, out)?;
         greatest = greatest.max(status);
     }
     match greatest {
         ACCEPTED | REFUSED => Ok(greatest),
         2 => Err(CommandFault::ScanFault),
-        _ => Err(CommandFault::ScanOutOfMemory),
+        _ => Err(CommandFault::ScanUnfinished),
     }
 }

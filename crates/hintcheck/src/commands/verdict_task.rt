@@ -2,11 +2,11 @@
 
 ghost use Rattle.std.specs.Prelude.{◌≡◌, ◌≢◌, ◌+◌, ◌<◌, IfErr, IfOk, List, Err, Ok, OnOk, ℕ, []};
 ghost use Rattle.hintcheck.specs.Commands.{HasAll, IsNoWriteFault, ReadsToEnd, TellsFailedRead};
-ghost use Rattle.hintcheck.specs.CommandFaults.{IsFaultOfFontFile, IsFaultOfSource, ReadNoFault};
+ghost use Rattle.hintcheck.specs.CommandFaults.{IsFaultOfFontFile, IsFaultOfSource, IsFaultWithin, IsWithin, ReadNoFault};
 ghost use Rattle.hintcheck.specs.MeansSafe.{HoldRefusedFont, HoldSafeFont, IsVerdictOn};
 
 use super::faults::CommandFault;
-use crate::font;
+use crate::font::{self, verdict_within};
 use crate::report::Verdict;
 use std::alloc::Global;
 use std::fs;
@@ -14,6 +14,7 @@ use std::io::Read;
 use std::marker::Brand;
 use std::rt::Files;
 use std::sync::ledger::{Blank, Ledger};
+use tt_cert::Budget;
 use tt_stream::{Counted, Source, read_all};
 
 /// Returns the verdict on all programs of the font whose bytes are all that is left in the source,
@@ -37,10 +38,33 @@ pub fn verdict_of<S: Source>(alloc: Global, source: &mut S) -> Result<Verdict, C
     Ok(font::verdict(alloc, &bytes)?)
 }
 
-/// Returns the verdict on all programs of a font, whose bytes are those that are left in the file.
+/// Returns the verdict as `verdict_of` does, and makes at most so many points, where they are
+/// bounded.
+fn verdict_within_points<S: Source>(
+    alloc: Global,
+    source: &mut S,
+    points: Option<u64>,
+) -> Result<Verdict, CommandFault>
+    ensures exact { IfOk result (λ v. (bytes : List ℕ)
+        × ReadsToEnd (S.remaining source.old) (S.remaining source.new) bytes
+        × IsVerdictOn bytes v) }
+    ensures fault { IfErr result IsNoWriteFault }
+    ensures faults { IfErr result
+        (IsFaultWithin points (S.remaining source.old) (S.remaining source.new)) }
+{
+    let Some(most) = points else {
+        return verdict_of(alloc, source);
+    };
+    let bytes = read_all(alloc, source)?;
+    Ok(verdict_within(alloc, &bytes, &mut Budget::of(most))?)
+}
+
+/// Returns the verdict on all programs of a font, whose bytes are those that are left in the file,
+/// and makes at most so many points, where they are bounded.
 fn verdict_on_bytes<L: Ledger, F: Read + Drop>(
     alloc: Global,
     file: F,
+    points: Option<u64>,
     blank: Blank,
 ) -> Result<Verdict, CommandFault>
     requires { (blank.name ≡ L.name) × (blank.parts ≡ L.parts) × (0 < blank.parts) }
@@ -51,16 +75,19 @@ fn verdict_on_bytes<L: Ledger, F: Read + Drop>(
     ensures given { IfOk result (λ verdict. (bytes : List ℕ)
         × HasAll (F.remaining file) bytes × IsVerdictOn bytes verdict) }
     ensures fault { IfErr result IsNoWriteFault }
-    ensures faults { IfErr result IsFaultOfFontFile }
+    ensures faults { IfErr result
+        (λ fault. IsFaultOfFontFile fault × IsWithin points fault) }
 {
     let mut source = Counted::<F, L>::new(file, blank);
-    verdict_of(alloc, &mut source)
+    verdict_within_points(alloc, &mut source, points)
 }
 
-/// Returns the verdict on all programs of the font file with this name.
+/// Returns the verdict on all programs of the font file with this name, and makes at most so many
+/// points, where they are bounded.
 pub(super) fn file_verdict<R: Files + AllocGlobal>(
     rt: &R,
     name: &str,
+    points: Option<u64>,
 ) -> Result<Verdict, CommandFault>
     ensures safe { IfOk result
         (λ verdict. verdict.refused ≡ [] → (bytes : List ℕ) × HoldSafeFont bytes) }
@@ -68,10 +95,11 @@ pub(super) fn file_verdict<R: Files + AllocGlobal>(
         (λ verdict. verdict.refused ≢ [] → (bytes : List ℕ) × HoldRefusedFont bytes) }
     ensures given { IfOk result (λ verdict. (bytes : List ℕ) × IsVerdictOn bytes verdict) }
     ensures fault { IfErr result IsNoWriteFault }
-    ensures faults { IfErr result IsFaultOfFontFile }
+    ensures faults { IfErr result
+        (λ fault. IsFaultOfFontFile fault × IsWithin points fault) }
 {
     let Ok(file) = fs::open(rt, name) else {
         return Err(CommandFault::Read);
     };
-    verdict_on_bytes::<Brand, _>(rt.alloc(), file, Blank::new(1))
+    verdict_on_bytes::<Brand, _>(rt.alloc(), file, points, Blank::new(1))
 }

@@ -3,6 +3,7 @@
 ghost use Rattle.std.specs.Prelude.{◌+◌, ◌<◌, IfOk, Some, length};
 ghost use Rattle.tt_abs.specs.Entries.{Rises};
 ghost use Rattle.tt_abs.specs.StateFlow.{FunctionsFit};
+ghost use Rattle.tt_cert.specs.Budgets.{Spends};
 ghost use Rattle.tt_code.specs.Fonts.{font_setting};
 ghost use Rattle.hintcheck.specs.FindingSessions.{IsFoundAnswer};
 ghost use Rattle.hintcheck.specs.FontPrograms.{IsFontInRange, font_of, font_subject};
@@ -19,7 +20,7 @@ use crate::program::{Search, reported};
 use crate::report::Name;
 use std::alloc::{AllocError, Global};
 use std::mem;
-use tt_cert::ProgramFault;
+use tt_cert::{Budget, ProgramFault};
 use tt_find::{Finder, Found};
 use tt_font::Font;
 
@@ -56,12 +57,14 @@ fn find_first<'a>(
     finder: &mut Finder,
     font: &Font<'a>,
     search: Search,
+    budget: &mut Budget,
 ) -> Result<FoundStep<'a>, AllocError>
     requires range { IsFontInRange font.now }
     requires search { IsForCertificate search }
-    ensures { IfOk result (IsFoundStep font.now at_start) }
+    ensures found { IfOk result (IsFoundStep font.now at_start) }
+    ensures spends { Spends budget.old budget.new }
 {
-    match find_font_program(alloc, finder, font, search) {
+    match find_font_program(alloc, finder, font, search, budget) {
         Ok((fpgm, found)) => Ok(FoundStep {
             answer: Some((accepted(Name::Font), Some(found))),
             kept: Kept::AfterFont(fpgm),
@@ -80,13 +83,15 @@ fn find_second<'a>(
     font: &Font<'a>,
     fpgm: Ended<'a>,
     search: Search,
+    budget: &mut Budget,
 ) -> Result<FoundStep<'a>, AllocError>
     requires range { IsFontInRange font.now }
     requires search { IsForCertificate search }
     requires known { IsKnownEnd (font_subject font.now) fpgm }
-    ensures { IfOk result (IsFoundStep font.now (after_font_program fpgm.entry)) }
+    ensures found { IfOk result (IsFoundStep font.now (after_font_program fpgm.entry)) }
+    ensures spends { Spends budget.old budget.new }
 {
-    match find_cvt_program(alloc, finder, font, &fpgm, search) {
+    match find_cvt_program(alloc, finder, font, &fpgm, search, budget) {
         Ok((prep, found)) => Ok(FoundStep {
             answer: Some((accepted(Name::Cvt), Some(found))),
             kept: Kept::Glyphs(fpgm, prep, 0),
@@ -107,6 +112,7 @@ fn find_glyph(
     prep: &Ended<'_>,
     id: u16,
     search: Search,
+    budget: &mut Budget,
 ) -> Result<(Outcome, Option<Found>), AllocError>
     requires range { IsFontInRange font.now }
     requires search { IsForCertificate search }
@@ -115,14 +121,15 @@ fn find_glyph(
         (font_setting (font_of font.now fpgm.now.program prep.now.program))
         prep.now.functions.items }
     requires there { id < length font.now.glyphs }
-    ensures { IfOk result (IsFoundGlyph font.now fpgm.now prep.now id) }
+    ensures found { IfOk result (IsFoundGlyph font.now fpgm.now prep.now id) }
+    ensures spends { Spends budget.old budget.new }
 {
     let glyph = font.glyph(id).unwrap();
     let common = Common {
         setting: cvt_setting(font, fpgm, &prep.program),
         functions: &prep.functions,
     };
-    match find_glyph_program(alloc, finder, &common, &glyph, search) {
+    match find_glyph_program(alloc, finder, &common, &glyph, search, budget) {
         Ok(found) => Ok((accepted(Name::Glyph(id)), Some(found))),
         Err(fault) => Ok((refused(Name::Glyph(id), fault)?, None)),
     }
@@ -137,11 +144,13 @@ fn find_third<'a>(
     prep: Ended<'a>,
     id: u16,
     search: Search,
+    budget: &mut Budget,
 ) -> Result<FoundStep<'a>, AllocError>
     requires range { IsFontInRange font.now }
     requires search { IsForCertificate search }
     requires known { KeepsKnown font.now (at_glyph_program fpgm prep id) }
-    ensures { IfOk result (IsFoundStep font.now (at_glyph_program fpgm.entry prep.entry id)) }
+    ensures found { IfOk result (IsFoundStep font.now (at_glyph_program fpgm.entry prep.entry id)) }
+    ensures spends { Spends budget.old budget.new }
 {
     if id == font.glyph_count() {
         return Ok(FoundStep {
@@ -149,7 +158,7 @@ fn find_third<'a>(
             kept: Kept::Over,
         });
     }
-    let answer = find_glyph(alloc, finder, font, &fpgm, &prep, id, search)?;
+    let answer = find_glyph(alloc, finder, font, &fpgm, &prep, id, search, budget)?;
     Ok(FoundStep {
         answer: Some(answer),
         kept: Kept::Glyphs(fpgm, prep, id + 1),
@@ -163,16 +172,20 @@ fn find_on<'a>(
     font: &Font<'a>,
     kept: Kept<'a>,
     search: Search,
+    budget: &mut Budget,
 ) -> Result<FoundStep<'a>, AllocError>
     requires range { IsFontInRange font.now }
     requires search { IsForCertificate search }
     requires known { KeepsKnown font.now (stage_of kept) }
-    ensures { IfOk result (IsFoundStep font.now (stage_of kept.entry)) }
+    ensures found { IfOk result (IsFoundStep font.now (stage_of kept.entry)) }
+    ensures spends { Spends budget.old budget.new }
 {
     match kept {
-        Kept::Start => find_first(alloc, finder, font, search),
-        Kept::AfterFont(fpgm) => find_second(alloc, finder, font, fpgm, search),
-        Kept::Glyphs(fpgm, prep, id) => find_third(alloc, finder, font, fpgm, prep, id, search),
+        Kept::Start => find_first(alloc, finder, font, search, budget),
+        Kept::AfterFont(fpgm) => find_second(alloc, finder, font, fpgm, search, budget),
+        Kept::Glyphs(fpgm, prep, id) => {
+            find_third(alloc, finder, font, fpgm, prep, id, search, budget)
+        }
         Kept::Over => Ok(FoundStep {
             answer: None,
             kept: Kept::Over,
@@ -187,6 +200,7 @@ pub(super) fn find_from<'a>(
     font: &Font<'a>,
     kept: &mut Kept<'a>,
     search: Search,
+    budget: &mut Budget,
 ) -> Result<Option<(Outcome, Option<Found>)>, AllocError>
     requires range { IsFontInRange font.now }
     requires search { IsForCertificate search }
@@ -194,9 +208,10 @@ pub(super) fn find_from<'a>(
     ensures found { IfOk result
         (λ answer. IsFoundAnswer font.now (stage_of kept.old) answer (stage_of kept.new)) }
     ensures known { KeepsKnown font.now (stage_of kept.new) }
+    ensures spends { Spends budget.old budget.new }
 {
     let now = mem::replace(kept, Kept::Over);
-    let step = find_on(alloc, finder, font, now, search)?;
+    let step = find_on(alloc, finder, font, now, search, budget)?;
     let FoundStep { answer, kept: next } = step;
     *kept = next;
     Ok(answer)

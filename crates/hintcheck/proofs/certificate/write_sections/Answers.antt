@@ -1,11 +1,12 @@
-use Rattle.std.proofs.Common.{refl, ◌∙◌}
+use Rattle.std.proofs.Common.{refl, arith, ◌∙◌}
 use Rattle.std.proofs.lemmas.Result.{err_from_is_err_and}
+use Rattle.tt_cert.proofs.Spending.{spends_on}
 use Rattle.hintcheck.proofs.CertificateWriting.{fewer_after, found_next, nothing_found, sections_written, stopped, stopped_within}
 use Rattle.hintcheck.proofs.SecondFindings.{none_refused_next}
 use Rattle.hintcheck.proofs.certificate.write_sections.Goals as goal
 
 pub loop-finder-init : goal.loop-finder-init
-loop-finder-init g c = (refl, nothing_found c.args.font.now (g.W.Sink.contents c.args.sink.now) c.new-session.result c.requires.accepted c.new-session.ensures)
+loop-finder-init g c = (refl, nothing_found c.args.font.now (g.W.Sink.contents c.args.sink.now) c.new-session.result c.requires.accepted c.new-session.ensures, refl, omega arith)
 
 pub loop-finder-smaller : goal.loop-finder-smaller
 loop-finder-smaller g c =
@@ -20,6 +21,7 @@ loop-finder-preserved g c =
       found_next c.args.font.now (g.W.Sink.contents c.args.sink.now) (g.W.Sink.contents c.loop-finder.sink) (g.W.Sink.contents c.encode.new.sink) c.loop-finder.session c.search_next.new.self
           c.in_ok-outcome.field-0 c.in-Some.outcome c.in-Some.found c.unwrap-found.result c.in-Some.is c.unwrap-found.ensures so_far e.found e.font e.no_fault e.finding
           c.order_facts.ensures c.in_ok-encode.ensures.fits c.in_ok-encode.ensures.written,
+      spends_on c.args.budget.now c.loop-finder.budget c.search_next.new.budget c.loop-finder.invariant.2 c.search_next.ensures.spends,
     )
 
 pub returns-clause-written : goal.returns-clause-written

@@ -15,7 +15,7 @@ for_verdict : (t : Task) → ((fonts : Vec (String Global) Global) → t ≡ tas
 unfolding asked
 for_verdict (task.Bare maxp cvt points contours program) scan explain other another = tt
 for_verdict (task.Verdict font) scan explain other another = tt
-for_verdict (task.Scan fonts) scan explain other another = absurd (scan fonts refl)
+for_verdict (task.Scan fonts points) scan explain other another = absurd (scan fonts refl)
 for_verdict (task.Explain font program offset) scan explain other another = absurd (explain font program offset refl)
 for_verdict (task.Find font certificate) scan explain other another = tt
 for_verdict (task.Check font certificate) scan explain other another = tt

@@ -56,7 +56,8 @@ returns-in-Bare-clause-none g c = on_ok_weaker c.bare_verdict.result (λ none. r
 
 pub returns-in-Verdict-clause-faults : goal.returns-in-Verdict-clause-faults
 unfolding asked
-returns-in-Verdict-clause-faults g c = IfErr-weaker c.file_verdict.result _ _ (λ told is. rw c.in-Verdict.is is) c.file_verdict.ensures.faults
+returns-in-Verdict-clause-faults g c =
+    IfErr-weaker c.file_verdict.result _ _ (λ told is. rw c.in-Verdict.is (is.0, is.1)) c.file_verdict.ensures.faults
 
 pub returns-in-Verdict-clause-none : goal.returns-in-Verdict-clause-none
 unfolding asked
@@ -73,7 +74,7 @@ returns-in-Find-clause-none g c = on_ok_weaker c.find_verdict.result (λ none. r
 
 pub returns-in-Check-clause-faults : goal.returns-in-Check-clause-faults
 unfolding asked
-returns-in-Check-clause-faults g c = IfErr-weaker c.check_verdict.result _ _ (λ told is. rw c.in-Check.is is) c.check_verdict.ensures.faults
+returns-in-Check-clause-faults g c = IfErr-weaker c.check_verdict.result _ _ (λ told is. rw c.in-Check.is (is.0, is.1)) c.check_verdict.ensures.faults
 
 pub returns-in-Check-clause-none : goal.returns-in-Check-clause-none
 unfolding asked

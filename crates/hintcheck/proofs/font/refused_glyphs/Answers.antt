@@ -5,6 +5,7 @@ use Rattle.hintcheck.specs.Representation.FontVerdicts.{AreRefusedBelow, font_in
 use Rattle.hintcheck.specs.ProgramVerdicts.{IsListed}
 use Rattle.tt_cert_file.specs.declared.name.Name.TheVariants as name
 use Rattle.hintcheck.specs.declared.report.Refused.{Refused}
+use Rattle.tt_cert.proofs.Spending.{spends_on}
 use Rattle.hintcheck.proofs.FontLists.{accepted_next, all_below, glyph_there, listed_next}
 use Rattle.hintcheck.proofs.font.refused_glyphs.Goals as goal
 use Rattle.hintcheck.proofs.font.refused_glyphs.Goals.{in-Ok, in-Err+in_ok-list_refused-in-Err}
@@ -24,18 +25,21 @@ loop-id-preserved c =
     let glyph = glyph_data c.unwrap-glyph.result in
     let at = sym c.glyph.ensures ∙ ap (option_map glyph_data) c.unwrap-glyph.ensures in
     let B : List Refused → Type 0 = λ rs. AreRefusedBelow font known glyphs (c.loop-id.id + 1) rs in
-    elim c.match-judge_glyph.branch [
-      | in-Ok w ↦
-          let same : c.match-judge_glyph.refused.items ≡ c.loop-id.refused.items = ap (λ v. v.items) w.refused-is in
-          subst B (sym same) (accepted_next font known glyphs c.loop-id.id glyph c.loop-id.refused.items c.loop-id.invariant at (w.in-Ok.ensures.least c.loop-id.id))
-      | in-Err+in_ok-list_refused-in-Err w ↦
-          let I : List Refused → Type 0 = λ rs. IsListed (name.Glyph c.loop-id.id) w.in-Err.fault c.loop-id.refused.items rs in
-          listed_next font known glyphs c.loop-id.id glyph c.loop-id.refused.items c.match-judge_glyph.refused.items w.in-Err.fault c.loop-id.invariant at
-          (w.in-Err.ensures.refused c.loop-id.id) (subst I (sym (ap (λ v. v.items) w.refused-is)) w.in_ok-list_refused-in-Err.ensures)
-    ]
+    record {
+      refused = elim c.match-judge_glyph.branch [
+          | in-Ok w ↦
+              let same : c.match-judge_glyph.refused.items ≡ c.loop-id.refused.items = ap (λ v. v.items) w.refused-is in
+              subst B (sym same) (accepted_next font known glyphs c.loop-id.id glyph c.loop-id.refused.items c.loop-id.invariant.refused at (w.in-Ok.ensures.least c.loop-id.id))
+          | in-Err+in_ok-list_refused-in-Err w ↦
+              let I : List Refused → Type 0 = λ rs. IsListed (name.Glyph c.loop-id.id) w.in-Err.fault c.loop-id.refused.items rs in
+              listed_next font known glyphs c.loop-id.id glyph c.loop-id.refused.items c.match-judge_glyph.refused.items w.in-Err.fault c.loop-id.invariant.refused at
+              (w.in-Err.ensures.refused c.loop-id.id) (subst I (sym (ap (λ v. v.items) w.refused-is)) w.in_ok-list_refused-in-Err.ensures)
+        ];
+      spends = spends_on c.args.budget.now c.loop-id.budget c.judge_glyph.new.budget c.loop-id.invariant.spends c.judge_glyph.ensures.spends;
+    }
 
-pub returns : goal.returns
-returns c =
+pub returns-clause-refused : goal.returns-clause-refused
+returns-clause-refused c =
     let n : c.loop-id.id ≡ length c.args.font.now.glyphs = omega (arith, c.loop-id-test.false, c.loop-id.auto.id-end, c.glyph_count-id-end.ensures) in
     let B : ℕ → Type 0 = λ k. AreRefusedBelow (font_in c.args.common.now) c.args.common.now.functions.now c.args.font.now.glyphs k c.loop-id.refused.items in
-    all_below (font_in c.args.common.now) c.args.common.now.functions.now c.args.font.now.glyphs c.loop-id.refused.items (subst B n c.loop-id.invariant)
+    all_below (font_in c.args.common.now) c.args.common.now.functions.now c.args.font.now.glyphs c.loop-id.refused.items (subst B n c.loop-id.invariant.refused)

@@ -14,5 +14,5 @@ returns-clause-exact c =
     let count : c.from.result ≡ length d.glyphs = c.from.ensures ∙ c.glyph_count.ensures in
     let same : c.new.result ≡ judgement_on d c.in_ok-refused.refused.items = c.new.ensures ∙ (λ i. record { programs = count i + 2; refused = c.in_ok-refused.refused.items }) in
     let V : Judgement → Type 0 = λ v. IsVerdict d v in
-    let is : IsVerdict d c.new.result = subst V (sym same) c.in_ok-refused.ensures in
+    let is : IsVerdict d c.new.result = subst V (sym same) c.in_ok-refused.ensures.refused in
     (d, c.in_ok-read.ensures.reads, is, font_is_safe d range c.new.result is)

@@ -1,4 +1,5 @@
 use Rattle.std.proofs.Common.{◌≡◌}
+use Rattle.tt_cert.specs.Budgets.{Spends}
 use Rattle.tt_stream.specs.Reads.{ConsumesBeginning}
 use Rattle.hintcheck.proofs.SessionRuns.{IsCheckedSoFar, calls_left}
 use Rattle.hintcheck.proofs.font_check.check_programs.Given as goal
@@ -8,6 +9,7 @@ invariant-loop-refused g l =
     IsCheckedSoFar l.fn.font (g.S.Source.remaining l.fn.source) l.session (g.S.Source.remaining l.source) l.refused.items
     × (g.S.Source.failures l.source ≡ g.S.Source.failures l.fn.source)
     × ConsumesBeginning (g.S.Source.remaining l.fn.source) (g.S.Source.remaining l.source)
+    × Spends l.fn.budget l.budget
 
 abbrev pub decreases-loop-refused : goal.decreases-loop-refused
 decreases-loop-refused g l = calls_left l.session.font l.session.stage

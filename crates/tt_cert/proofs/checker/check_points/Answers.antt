@@ -1,10 +1,11 @@
-use Rattle.std.proofs.Common.{arith, ◌≡◌, ◌+◌, ℕ, Option, length, sym, ◌∙◌, ap, subst, inl, inr}
+use Rattle.std.proofs.Common.{arith, refl, ◌≡◌, ◌+◌, ℕ, Option, length, sym, ◌∙◌, ap, subst, inl, inr}
 use Rattle.std.specs.Borrow.{Bor}
 use Rattle.tt_abs.specs.Settings.{setting_of}
 use Rattle.tt_abs.specs.declared.state.State.{State}
 use Rattle.tt_cert.specs.Puts.{place_of}
 use Rattle.tt_cert.specs.Representation.Cursors.{AreToCome, IsAtNext, MayLeaveOut, to_come}
 use Rattle.tt_cert.proofs.FillingLaws.{filled_in_range}
+use Rattle.tt_cert.proofs.Spending.{spends_on}
 use Rattle.tt_cert.proofs.Walking.{first_on_way, line_of, nothing_walked, on_way, told_at, unlisted_after, way_shorter}
 use Rattle.tt_cert.proofs.checker.check_points.Goals as goal
 
@@ -12,6 +13,7 @@ pub loop-offset-init : goal.loop-offset-init
 loop-offset-init c = record {
   walk = c.requires.walk;
   to_come = c.requires.to_come;
+  spends = (refl, omega arith);
   way = nothing_walked (setting_of c.args.setting.now) c.args.listing c.args.certificate.now c.order_facts.ensures.0 c.args.walk.now c.args.states c.requires.all c.requires.carried;
 }
 
@@ -73,6 +75,7 @@ loop-offset-preserved c =
     record {
       walk = c.in_default-check_point.ensures.walk;
       to_come = subst C (sym c.check_point.ensures.next) c.in_ok-offset.ensures.to_come;
+      spends = spends_on c.args.budget.now c.loop-offset.budget c.check_point.new.budget c.loop-offset.invariant.spends c.check_point.ensures.spends;
       way = on_way S c.args.listing v c.order_facts.ensures.0 c.go_on.new.self c.go_on.new.states c.in-Some.offset point c.in_ok-offset.ensures.walk.there
           c.check_point.new.walk c.check_point.ensures.context c.check_point.ensures.next c.in_default-check_point.ensures.passed;
     }

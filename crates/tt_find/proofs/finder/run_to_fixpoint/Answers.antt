@@ -12,6 +12,7 @@ loop-context-init c = record {
   whole = whole_start (setting_of c.args.setting.now) c.args.setting.now.start.now c.requires.laws c.args.solver.now c.store.new.solver c.in_ok-walk.walk.state c.in_ok-walk.ensures.state
       c.requires.empty c.in_default.ensures.stored;
   walk = c.in_default.ensures.walk;
+  spends = (refl, omega arith);
   everywhere = refl;
 }
 

@@ -16,5 +16,6 @@ loop-next-init c =
           (way_begins s fs c.requires.laws solver c.args.context c.args.offset c.take.new.self.state c.requires.popped (c.in_ok-take.ensures.some c.if-not-branch.false));
       walk = c.in_ok-take.ensures.walk;
       risen = record { worklist = omega arith; changes = omega arith };
+      spends = (refl, omega arith);
       everywhere = refl;
     }

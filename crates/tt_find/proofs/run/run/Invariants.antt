@@ -1,5 +1,6 @@
 use Rattle.std.proofs.Common.{◌≡◌, ◌-◌}
 use Rattle.tt_abs.specs.Settings.{setting_of}
+use Rattle.tt_cert.specs.Budgets.{Spends}
 use Rattle.tt_find.specs.Representation.Solvers.{HasRisen, IsOnWay, IsWalk, here_of}
 use Rattle.tt_find.proofs.run.run.Given as goal
 
@@ -8,6 +9,7 @@ invariant-loop-next l = record {
   way : IsOnWay (setting_of l.setting) l.setting.start.now l.solver (here_of l.solver.builder l.walk l.at) l.walk.state;
   walk : IsWalk l.solver.builder l.walk;
   risen : HasRisen l.initial.solver l.solver;
+  spends : Spends l.initial.budget l.budget;
   everywhere : l.solver.marks.everywhere ≡ l.initial.solver.marks.everywhere;
 }
 

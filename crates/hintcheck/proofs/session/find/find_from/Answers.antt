@@ -10,4 +10,4 @@ returns-clause-known c =
     let step = c.in_ok-step.step in
     let K : Kept → Type 0 = λ k. KeepsKnown d (stage_of k) in
     let known = subst K (sym c.replace-now.ensures.value) c.requires.known in
-    stays_known d (stage_of c.replace-now.result) (stage_of step.kept) step.answer c.in_ok-step.ensures known
+    stays_known d (stage_of c.replace-now.result) (stage_of step.kept) step.answer c.in_ok-step.ensures.found known

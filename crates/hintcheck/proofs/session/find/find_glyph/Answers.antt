@@ -21,16 +21,16 @@ find_glyph_program-requires-clause-fits c =
     let S : Font → Type 0 = λ f. FunctionsFit (font_setting f) c.deref.result.now in
     subst S (sym c.cvt_setting.ensures.programs) (subst F (sym c.deref.ensures.value) c.requires.fits)
 
-pub returns-in-Ok : goal.returns-in-Ok
-returns-in-Ok c =
+pub returns-in-Ok-clause-found : goal.returns-in-Ok-clause-found
+returns-in-Ok-clause-found c =
     let glyph : GlyphData = glyph_data c.unwrap-glyph.result in
     let at = sym c.glyph.ensures ∙ ap (option_map glyph_data) c.unwrap-glyph.ensures in
     let found = c.in-Ok.ensures.found c.requires.search c.args.id in
     third_found c.args.font.now c.args.fpgm.now.program c.args.prep.now.program c.args.prep.now.functions.items _ c.deref.result.now c.cvt_setting.ensures.programs
     c.deref.ensures.value c.args.id glyph at found.0 c.in-Ok.found c.accepted.result c.accepted.ensures found.1
 
-pub returns-in_ok-refused-in-Err : goal.returns-in_ok-refused-in-Err
-returns-in_ok-refused-in-Err c =
+pub returns-in_ok-refused-in-Err-clause-found : goal.returns-in_ok-refused-in-Err-clause-found
+returns-in_ok-refused-in-Err-clause-found c =
     let glyph : GlyphData = glyph_data c.unwrap-glyph.result in
     let at = sym c.glyph.ensures ∙ ap (option_map glyph_data) c.unwrap-glyph.ensures in
     third_refused c.args.font.now c.args.fpgm.now.program c.args.prep.now.program c.args.prep.now.functions.items _ c.deref.result.now c.cvt_setting.ensures.programs

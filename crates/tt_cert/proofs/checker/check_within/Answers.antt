@@ -1,7 +1,7 @@
 use Rattle.tt_abs.specs.Settings.{setting_of}
 use Rattle.tt_cert.proofs.Checked.{ok_map, err_map}
 use Rattle.tt_cert.proofs.Judged.{filling_here, filling_memory, safe_filling}
-use Rattle.tt_cert.proofs.checker.check.Goals as goal
+use Rattle.tt_cert.proofs.checker.check_within.Goals as goal
 
 pub returns-clause-filling : goal.returns-clause-filling
 returns-clause-filling c =

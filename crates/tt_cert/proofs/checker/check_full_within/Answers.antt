@@ -1,7 +1,7 @@
 use Rattle.tt_abs.specs.Settings.{setting_of}
 use Rattle.tt_cert.proofs.Checked.{ok_map, err_map}
 use Rattle.tt_cert.proofs.Judged.{broken_whole, family_here, safe_here, whole_memory}
-use Rattle.tt_cert.proofs.checker.check_full.Goals as goal
+use Rattle.tt_cert.proofs.checker.check_full_within.Goals as goal
 
 pub returns-clause-family : goal.returns-clause-family
 returns-clause-family c =

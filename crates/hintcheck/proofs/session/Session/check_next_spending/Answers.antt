@@ -1,7 +1,7 @@
 use Rattle.std.proofs.Common.{sym, ◌∙◌, ap}
 use Rattle.hintcheck.specs.Sessions.{Standing}
 use Rattle.hintcheck.proofs.SessionSteps.{over_answers, over_is_last}
-use Rattle.hintcheck.proofs.session.Session.check_next.Goals as goal
+use Rattle.hintcheck.proofs.session.Session.check_next_spending.Goals as goal
 
 pub returns-then-is_over-clause-sound : goal.returns-then-is_over-clause-sound
 returns-then-is_over-clause-sound g c =

@@ -1,0 +1,86 @@
+-- What an answer tells of a budget: how many points may be made for it. (own)
+use Rattle.std.specs.Prelude.{◌≡◌, ◌≢◌, true, false, Some, None, alloc_error, Result, Ok, Err}
+use Rattle.tt_cert.specs.declared.budget.Budget.{Budget}
+use Rattle.tt_font.specs.Conditions.{Condition}
+use Rattle.tt_font.specs.declared.fault.FontFault.TheVariants.{OutOfMemory}
+use Rattle.hintcheck.specs.declared.certificate.FindFontFault.{FindFontFault}
+use Rattle.hintcheck.specs.declared.certificate.FindFontFault.TheVariants as find
+use Rattle.hintcheck.specs.declared.font.VerdictFault.{VerdictFault}
+use Rattle.hintcheck.specs.declared.font.VerdictFault.TheVariants as verdict
+use Rattle.hintcheck.specs.declared.font_check.CheckFontFault.{CheckFontFault}
+use Rattle.hintcheck.specs.declared.font_check.CheckFontFault.TheVariants as check
+
+-- more points were to be made than may be
+abbrev pub IsMet : Budget → Type 0
+IsMet budget = budget.is_over ≡ true
+
+-- no more points were to be made than may be
+abbrev pub IsEnough : Budget → Type 0
+IsEnough budget = budget.is_over ≡ false
+
+-- A verdict comes only within the budget, and the budget is told where it is met; a fault of the
+-- font comes before any point is made.
+abbrev pub TellsBudget : {T : Type 0} → Budget → Result T VerdictFault → Type 0
+TellsBudget budget (Ok done) = IsEnough budget
+TellsBudget budget (Err verdict.Budget) = IsMet budget
+TellsBudget budget (Err (verdict.Font font)) = Unit {0}
+
+-- The same of the check by a certificate, where a fault of its form may come first.
+abbrev pub TellsBudgetOfCheck : {T : Type 0} → Budget → Result T CheckFontFault → Type 0
+TellsBudgetOfCheck budget (Ok done) = IsEnough budget
+TellsBudgetOfCheck budget (Err check.Budget) = IsMet budget
+TellsBudgetOfCheck budget (Err (check.OutOfMemory error)) = IsEnough budget
+TellsBudgetOfCheck budget (Err (check.Font font)) = Unit {0}
+TellsBudgetOfCheck budget (Err (check.Form place)) = Unit {0}
+TellsBudgetOfCheck budget (Err check.Read) = Unit {0}
+
+-- The same of the search for a certificate, where a failed write may come first. What is written
+-- with the last point that may be made is a certificate too.
+abbrev pub TellsBudgetOfFind : {T : Type 0} → Budget → Result T FindFontFault → Type 0
+TellsBudgetOfFind budget (Ok done) = Unit {0}
+TellsBudgetOfFind budget (Err find.Budget) = IsMet budget
+TellsBudgetOfFind budget (Err (find.OutOfMemory error)) = IsEnough budget
+TellsBudgetOfFind budget (Err (find.Font font)) = Unit {0}
+TellsBudgetOfFind budget (Err find.Write) = Unit {0}
+
+-- A fault of the font is the condition that holds on its bytes, unless memory ran out, and any
+-- other answer means that none does.
+abbrev pub TestsInVerdict : {T : Type 0} → Condition → Result T VerdictFault → Type 0
+TestsInVerdict condition (Ok done) = condition ≡ None
+TestsInVerdict condition (Err (verdict.Font font)) =
+    font ≢ OutOfMemory alloc_error → condition ≡ Some font
+TestsInVerdict condition (Err verdict.Budget) = condition ≡ None
+
+-- the same of the check by a certificate
+abbrev pub TestsInCheckWithin : {T : Type 0} → Condition → Result T CheckFontFault → Type 0
+TestsInCheckWithin condition (Ok done) = condition ≡ None
+TestsInCheckWithin condition (Err (check.Font font)) =
+    font ≢ OutOfMemory alloc_error → condition ≡ Some font
+TestsInCheckWithin condition (Err (check.Form place)) = condition ≡ None
+TestsInCheckWithin condition (Err check.Read) = condition ≡ None
+TestsInCheckWithin condition (Err (check.OutOfMemory error)) = condition ≡ None
+TestsInCheckWithin condition (Err check.Budget) = condition ≡ None
+
+-- the same of the search for a certificate
+abbrev pub TestsInFindWithin : {T : Type 0} → Condition → Result T FindFontFault → Type 0
+TestsInFindWithin condition (Ok done) = condition ≡ None
+TestsInFindWithin condition (Err (find.Font font)) =
+    font ≢ OutOfMemory alloc_error → condition ≡ Some font
+TestsInFindWithin condition (Err find.Write) = condition ≡ None
+TestsInFindWithin condition (Err (find.OutOfMemory error)) = condition ≡ None
+TestsInFindWithin condition (Err find.Budget) = condition ≡ None
+
+-- the fault isn't the font's
+abbrev pub IsNoFaultOfAFont : CheckFontFault → Type 0
+IsNoFaultOfAFont (check.Font font) = ⊥
+IsNoFaultOfAFont (check.Form place) = Unit {0}
+IsNoFaultOfAFont check.Read = Unit {0}
+IsNoFaultOfAFont (check.OutOfMemory error) = Unit {0}
+IsNoFaultOfAFont check.Budget = Unit {0}
+
+-- the same of the search for a certificate
+abbrev pub IsNoFaultInAFont : FindFontFault → Type 0
+IsNoFaultInAFont (find.Font font) = ⊥
+IsNoFaultInAFont find.Write = Unit {0}
+IsNoFaultInAFont (find.OutOfMemory error) = Unit {0}
+IsNoFaultInAFont find.Budget = Unit {0}

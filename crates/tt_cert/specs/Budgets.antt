@@ -1,0 +1,27 @@
+-- How many points may be made: each state that a finder or a check carries on is one. (own)
+use Rattle.std.specs.Prelude.{◌≡◌, ◌+◌, ◌-◌, ◌≤◌, ℕ, true, false}
+use Rattle.tt_cert.specs.declared.budget.Budget.{Budget}
+
+-- a budget of which nothing was spent
+abbrev pub new_budget : ℕ → Budget
+new_budget points = record { most = points; left = points; is_over = false }
+
+-- the greatest budget
+abbrev pub unlimited_budget : Budget
+unlimited_budget = new_budget 18446744073709551615
+
+-- how many points were made, which are no more than may be
+abbrev pub made_by : Budget → ℕ
+made_by budget = budget.most - budget.left
+
+-- one more point is counted
+abbrev pub Counts : Budget → Budget → Type 0
+Counts old new = (old.left ≡ new.left + 1) × (new ≡ record old { left = new.left })
+
+-- as many points were made as may be, and one more was to be made
+abbrev pub IsUsedUp : Budget → Budget → Type 0
+IsUsedUp old new = (old.left ≡ 0) × (new ≡ record old { is_over = true })
+
+-- the bound is as before, and no point is taken back
+abbrev pub Spends : Budget → Budget → Type 0
+Spends old new = (new.most ≡ old.most) × (new.left ≤ old.left)

@@ -1,0 +1,5 @@
+use Rattle.tt_cert.specs.Budgets.{Spends}
+use Rattle.tt_find.proofs.finder.restart_to_fixpoint.Given as goal
+
+abbrev pub invariant-loop : goal.invariant-loop
+invariant-loop l = Spends l.initial.budget l.budget
