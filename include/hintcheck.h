@@ -9,8 +9,8 @@
  * Units: lengths, offsets and places are in bytes. Ownership: everything that is handed in stays the caller's, is only read (but for
  * `refusals` and `answer`, which are written), and isn't kept: there is no state between calls. Memory is taken with malloc while a
  * call runs, and given back before it returns. Threads: calls may run at once in several threads, each with its own `refusals` and
- * `answer`; not from a signal handler, and not in the forked child of a process with threads. Time isn't bounded but by the font's own
- * limits: docs/EMBEDDING.md says what to do about it.
+ * `answer`; not from a signal handler, and not in the forked child of a process with threads. Time: `points` bounds how many states are
+ * carried on, which is proved (the clauses `points`); docs/EMBEDDING.md says which numbers real fonts need, and what time that bounds.
  */
 #ifndef HINTCHECK_H
 #define HINTCHECK_H
@@ -32,7 +32,8 @@ enum hintcheck_status {
     HINTCHECK_REFUSED = 1,       /* a program is refused: answer->refused says how many */
     HINTCHECK_FAULT = 2,         /* there is no verdict: no font that can be read (answer->fault is 1 to 8), or no certificate for it (43) */
     HINTCHECK_OUT_OF_MEMORY = 3, /* there is no verdict: memory ran out (answer->fault is 9) */
-    HINTCHECK_USAGE = 4          /* there is no verdict: a null pointer was handed in with a length that isn't 0, or no answer */
+    HINTCHECK_BUDGET = 4,        /* there is no verdict: more points were to be made than may be (answer->fault is 46) */
+    HINTCHECK_USAGE = 5          /* there is no verdict: a null pointer was handed in with a length that isn't 0, or no answer */
 };
 
 /* What a reason tells. */
@@ -42,6 +43,9 @@ enum hintcheck_reason_class {
     HINTCHECK_LEFT_OUT = 2,       /* the program does what hintcheck doesn't follow */
     HINTCHECK_CERTIFICATE = 3     /* the certificate doesn't fit the program */
 };
+
+/* As many points as the font asks for. */
+#define HINTCHECK_UNLIMITED UINT64_MAX
 
 /* The numbers of the two programs that no glyph has. */
 #define HINTCHECK_FONT_PROGRAM 65536u
@@ -61,6 +65,7 @@ typedef struct hintcheck_answer {
     uint32_t status;   /* an enum hintcheck_status */
     uint32_t fault;    /* the fault's number, as README.md lists them; 0 where there is a verdict */
     uint64_t place;    /* at fault 43, the first byte of the certificate that is wrong; otherwise 0 */
+    uint64_t points;   /* how many points were made, also where there is no verdict: states that were carried on */
     uint32_t programs; /* how many programs the font has: its glyphs and 2; 0 where there is no verdict */
     uint32_t refused;  /* how many of them are refused */
     size_t listed;     /* how many of these were written to `refusals`: the first ones, as many as there was room for */
@@ -70,9 +75,10 @@ typedef struct hintcheck_answer {
 uint32_t hintcheck_version(void);
 
 /* The library's own functions, which take no null pointer, also where a length is 0. Use the two below, which do. */
-uint32_t hintcheck_verdict_of_bytes(const uint8_t *font, size_t font_length, hintcheck_refusal *refusals, size_t room, hintcheck_answer *answer);
+uint32_t hintcheck_verdict_of_bytes(const uint8_t *font, size_t font_length, uint64_t points, hintcheck_refusal *refusals, size_t room,
+                                    hintcheck_answer *answer);
 uint32_t hintcheck_check_of_bytes(const uint8_t *font, size_t font_length, const uint8_t *certificate, size_t certificate_length,
-                                  hintcheck_refusal *refusals, size_t room, hintcheck_answer *answer);
+                                  uint64_t points, hintcheck_refusal *refusals, size_t room, hintcheck_answer *answer);
 
 /* Answers that the pointers can't be taken. */
 static inline uint32_t hintcheck_usage(hintcheck_answer *answer)
@@ -81,6 +87,7 @@ static inline uint32_t hintcheck_usage(hintcheck_answer *answer)
         answer->status = HINTCHECK_USAGE;
         answer->fault = 0;
         answer->place = 0;
+        answer->points = 0;
         answer->programs = 0;
         answer->refused = 0;
         answer->listed = 0;
@@ -88,10 +95,11 @@ static inline uint32_t hintcheck_usage(hintcheck_answer *answer)
     return HINTCHECK_USAGE;
 }
 
-/* Checks the programs of the font in `font_length` bytes at `font`, and returns the status. The first refusals, at most `room`, are
- * written to `refusals`; what was there after them stays. A null pointer with a length of 0 is no bytes, or no room.
+/* Checks the programs of the font in `font_length` bytes at `font`, and returns the status. At most `points` points are made, or
+ * as many as the font asks for with HINTCHECK_UNLIMITED: where that is too few, the status is HINTCHECK_BUDGET. The first refusals, at
+ * most `room`, are written to `refusals`; what was there after them stays. A null pointer with a length of 0 is no bytes, or no room.
  * Statuses: each of enum hintcheck_status. A length above 2^31 is taken like any other. */
-static inline uint32_t hintcheck_verdict(const uint8_t *font, size_t font_length, hintcheck_refusal *refusals, size_t room,
+static inline uint32_t hintcheck_verdict(const uint8_t *font, size_t font_length, uint64_t points, hintcheck_refusal *refusals, size_t room,
                                          hintcheck_answer *answer)
 {
     static const uint8_t no_bytes[1] = {0};
@@ -99,7 +107,7 @@ static inline uint32_t hintcheck_verdict(const uint8_t *font, size_t font_length
     if (!answer || (!font && font_length) || (!refusals && room)) {
         return hintcheck_usage(answer);
     }
-    return hintcheck_verdict_of_bytes(font ? font : no_bytes, font_length, refusals ? refusals : &no_room, room, answer);
+    return hintcheck_verdict_of_bytes(font ? font : no_bytes, font_length, points, refusals ? refusals : &no_room, room, answer);
 }
 
 /* Checks the programs of the font in `font_length` bytes at `font` by the certificate in `certificate_length` bytes at `certificate`,
@@ -107,14 +115,14 @@ static inline uint32_t hintcheck_verdict(const uint8_t *font, size_t font_length
  * same as that of hintcheck_verdict. A certificate of another font is answered by HINTCHECK_FAULT (43) or by HINTCHECK_REFUSED (41, 42
  * among the reasons). All else is as for hintcheck_verdict. */
 static inline uint32_t hintcheck_check(const uint8_t *font, size_t font_length, const uint8_t *certificate, size_t certificate_length,
-                                       hintcheck_refusal *refusals, size_t room, hintcheck_answer *answer)
+                                       uint64_t points, hintcheck_refusal *refusals, size_t room, hintcheck_answer *answer)
 {
     static const uint8_t no_bytes[1] = {0};
     hintcheck_refusal no_room;
     if (!answer || (!font && font_length) || (!certificate && certificate_length) || (!refusals && room)) {
         return hintcheck_usage(answer);
     }
-    return hintcheck_check_of_bytes(font ? font : no_bytes, font_length, certificate ? certificate : no_bytes, certificate_length,
+    return hintcheck_check_of_bytes(font ? font : no_bytes, font_length, certificate ? certificate : no_bytes, certificate_length, points,
                                     refusals ? refusals : &no_room, room, answer);
 }
 

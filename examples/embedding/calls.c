@@ -34,19 +34,19 @@ static void call_verdict(const uint8_t *accepted, size_t accepted_length, const 
     hintcheck_answer answer;
     hintcheck_refusal refusals[4];
     memset(refusals, 0x55, sizeof refusals);
-    expect(hintcheck_verdict(accepted, accepted_length, refusals, 4, &answer) == HINTCHECK_ACCEPTED, "an accepted font");
+    expect(hintcheck_verdict(accepted, accepted_length, HINTCHECK_UNLIMITED, refusals, 4, &answer) == HINTCHECK_ACCEPTED, "an accepted font");
     expect(answer.status == HINTCHECK_ACCEPTED && answer.fault == 0, "its status");
     expect(answer.programs == 5 && answer.refused == 0 && answer.listed == 0, "its counts");
-    expect(hintcheck_verdict(refused, refused_length, refusals, 4, &answer) == HINTCHECK_REFUSED, "a refused font");
+    expect(hintcheck_verdict(refused, refused_length, HINTCHECK_UNLIMITED, refusals, 4, &answer) == HINTCHECK_REFUSED, "a refused font");
     expect(answer.programs == 5 && answer.refused == 2 && answer.listed == 2, "counts of a refused font");
     expect(refusals[0].program == 1 && refusals[0].place == HINTCHECK_FONT_PROGRAM && refusals[0].offset == 10, "the first refusal");
     expect(refusals[0].reason == 26 && refusals[0].reason_class == HINTCHECK_POSSIBLE_FAULT, "its reason");
     expect(refusals[1].program == 2 && refusals[1].place == 2 && refusals[1].offset == 8, "the second refusal");
     expect(refusals[1].reason == 38 && refusals[1].reason_class == HINTCHECK_UNDECIDED, "its reason");
     expect(refusals[2].program == 0x55555555u, "what is after the refusals");
-    expect(hintcheck_verdict(refused, refused_length, refusals, 1, &answer) == HINTCHECK_REFUSED, "room for one");
+    expect(hintcheck_verdict(refused, refused_length, HINTCHECK_UNLIMITED, refusals, 1, &answer) == HINTCHECK_REFUSED, "room for one");
     expect(answer.refused == 2 && answer.listed == 1, "counts with room for one");
-    expect(hintcheck_verdict(refused, refused_length, NULL, 0, &answer) == HINTCHECK_REFUSED, "no room");
+    expect(hintcheck_verdict(refused, refused_length, HINTCHECK_UNLIMITED, NULL, 0, &answer) == HINTCHECK_REFUSED, "no room");
     expect(answer.refused == 2 && answer.listed == 0, "counts with no room");
 }
 
@@ -55,27 +55,48 @@ static void call_check(const uint8_t *accepted, size_t accepted_length, const ui
 {
     hintcheck_answer answer;
     hintcheck_refusal refusals[4];
-    expect(hintcheck_check(accepted, accepted_length, certificate, certificate_length, refusals, 4, &answer) == HINTCHECK_ACCEPTED, "a certificate");
-    expect(hintcheck_check(refused, refused_length, certificate, certificate_length, refusals, 4, &answer) != HINTCHECK_ACCEPTED,
+    expect(hintcheck_check(accepted, accepted_length, certificate, certificate_length, HINTCHECK_UNLIMITED, refusals, 4, &answer) == HINTCHECK_ACCEPTED, "a certificate");
+    expect(hintcheck_check(refused, refused_length, certificate, certificate_length, HINTCHECK_UNLIMITED, refusals, 4, &answer) != HINTCHECK_ACCEPTED,
            "another font's certificate");
     expect(answer.status == HINTCHECK_REFUSED || answer.fault == 43, "what is told of it");
-    expect(hintcheck_check(accepted, accepted_length, certificate, certificate_length - 1, refusals, 4, &answer) == HINTCHECK_FAULT, "a cut certificate");
+    expect(hintcheck_check(accepted, accepted_length, certificate, certificate_length - 1, HINTCHECK_UNLIMITED, refusals, 4, &answer) == HINTCHECK_FAULT, "a cut certificate");
     expect(answer.fault == 43 && answer.place == certificate_length - 1, "where it is cut");
-    expect(hintcheck_check(accepted, accepted_length, NULL, 0, refusals, 4, &answer) == HINTCHECK_FAULT, "no certificate");
+    expect(hintcheck_check(accepted, accepted_length, NULL, 0, HINTCHECK_UNLIMITED, refusals, 4, &answer) == HINTCHECK_FAULT, "no certificate");
     expect(answer.fault == 43 && answer.place == 0, "where it is at fault");
-    expect(hintcheck_check(accepted, accepted_length, NULL, 1, refusals, 4, &answer) == HINTCHECK_USAGE, "a null certificate");
+    expect(hintcheck_check(accepted, accepted_length, NULL, 1, HINTCHECK_UNLIMITED, refusals, 4, &answer) == HINTCHECK_USAGE, "a null certificate");
 }
 
 static void call_oddly(const uint8_t *accepted, size_t accepted_length)
 {
     hintcheck_answer answer;
-    expect(hintcheck_verdict(NULL, 0, NULL, 0, &answer) == HINTCHECK_FAULT, "no bytes");
+    expect(hintcheck_verdict(NULL, 0, HINTCHECK_UNLIMITED, NULL, 0, &answer) == HINTCHECK_FAULT, "no bytes");
     expect(answer.fault == 2 && answer.programs == 0, "what is told of no bytes");
-    expect(hintcheck_verdict(NULL, 1, NULL, 0, &answer) == HINTCHECK_USAGE, "a null font");
+    expect(hintcheck_verdict(NULL, 1, HINTCHECK_UNLIMITED, NULL, 0, &answer) == HINTCHECK_USAGE, "a null font");
     expect(answer.status == HINTCHECK_USAGE && answer.programs == 0, "what is told of it");
-    expect(hintcheck_verdict(accepted, accepted_length, NULL, 1, &answer) == HINTCHECK_USAGE, "null room");
-    expect(hintcheck_verdict(accepted, accepted_length, NULL, 0, NULL) == HINTCHECK_USAGE, "a null answer");
+    expect(hintcheck_verdict(accepted, accepted_length, HINTCHECK_UNLIMITED, NULL, 1, &answer) == HINTCHECK_USAGE, "null room");
+    expect(hintcheck_verdict(accepted, accepted_length, HINTCHECK_UNLIMITED, NULL, 0, NULL) == HINTCHECK_USAGE, "a null answer");
     expect(hintcheck_version() == HINTCHECK_VERSION, "the version");
+}
+
+/* With each number of points up to the one that the font needs, and with that one. */
+static void call_within(const uint8_t *font, size_t length, uint32_t status, const uint8_t *certificate, size_t certificate_length)
+{
+    hintcheck_answer answer;
+    hintcheck_refusal refusals[4];
+    hintcheck_verdict(font, length, HINTCHECK_UNLIMITED, refusals, 4, &answer);
+    uint64_t needed = answer.points;
+    expect(needed > 0, "points are counted");
+    for (uint64_t points = 0; points < needed; points++) {
+        memset(refusals, 0x55, sizeof refusals);
+        expect(hintcheck_verdict(font, length, points, refusals, 4, &answer) == HINTCHECK_BUDGET, "too few points");
+        expect(answer.status == HINTCHECK_BUDGET && answer.fault == 46 && answer.points == points, "what is told of them");
+        expect(answer.programs == 0 && answer.listed == 0 && refusals[0].program == 0x55555555u, "nothing else");
+    }
+    expect(hintcheck_verdict(font, length, needed, refusals, 4, &answer) == status, "enough points");
+    expect(answer.points == needed, "how many they are");
+    expect(hintcheck_check(font, length, certificate, certificate_length, 0, refusals, 4, &answer) == HINTCHECK_BUDGET, "a check without points");
+    hintcheck_check(font, length, certificate, certificate_length, HINTCHECK_UNLIMITED, refusals, 4, &answer);
+    expect(answer.points > 0 && answer.points <= needed, "a check makes no more points");
 }
 
 /* A font of more than 2^31 bytes, of which all after the first one are 0. */
@@ -87,9 +108,9 @@ static void call_with_many_bytes(const uint8_t *accepted, size_t accepted_length
     if (!bytes) {
         return;
     }
-    expect(hintcheck_verdict(bytes, length, NULL, 0, &answer) == HINTCHECK_FAULT && answer.fault == 1, "many zeros");
+    expect(hintcheck_verdict(bytes, length, HINTCHECK_UNLIMITED, NULL, 0, &answer) == HINTCHECK_FAULT && answer.fault == 1, "many zeros");
     memcpy(bytes, accepted, accepted_length);
-    expect(hintcheck_verdict(bytes, length, NULL, 0, &answer) == HINTCHECK_ACCEPTED, "a font before many zeros");
+    expect(hintcheck_verdict(bytes, length, HINTCHECK_UNLIMITED, NULL, 0, &answer) == HINTCHECK_ACCEPTED, "a font before many zeros");
     free(bytes);
 }
 
@@ -106,6 +127,7 @@ int main(int argc, char **argv)
     call_verdict(accepted, accepted_length, refused, refused_length);
     call_check(accepted, accepted_length, refused, refused_length, certificate, certificate_length);
     call_oddly(accepted, accepted_length);
+    call_within(accepted, accepted_length, HINTCHECK_ACCEPTED, certificate, certificate_length);
     if (argc == 4) {
         call_with_many_bytes(accepted, accepted_length);
     }

@@ -11,6 +11,9 @@
 
 enum { SIZE = 24, WIDTH = 480, HEIGHT = 40, BASELINE = 30, LISTED = 3 };
 
+/* More than real fonts need, and a bound on the time: some seconds. */
+#define POINTS 20000000u
+
 static unsigned char image[HEIGHT][WIDTH];
 
 /* The bytes of a file, or null. */
@@ -54,10 +57,10 @@ static int load_flags(const unsigned char *font, size_t length, const char *cert
     if (certificate_name) {
         size_t size = 0;
         unsigned char *certificate = read_file(certificate_name, &size);
-        status = hintcheck_check(font, length, certificate, certificate ? size : 0, refusals, LISTED, &answer);
+        status = hintcheck_check(font, length, certificate, certificate ? size : 0, POINTS, refusals, LISTED, &answer);
         free(certificate);
     } else {
-        status = hintcheck_verdict(font, length, refusals, LISTED, &answer);
+        status = hintcheck_verdict(font, length, POINTS, refusals, LISTED, &answer);
     }
     switch (status) {
     case HINTCHECK_ACCEPTED:

@@ -1,10 +1,10 @@
 //! What a call answers, in numbers.
 
 ghost use Rattle.std.specs.Prelude.{◌≡◌, length};
-ghost use Rattle.hintcheck_c.specs.Answers.{Answers, check_answer, fault_answer as answer_of_fault, font_answer};
+ghost use Rattle.hintcheck_c.specs.Answers.{Answers, check_answer, fault_answer as answer_of_fault, font_answer, judging_answer};
 
 use crate::refusal::{HintcheckRefusal, list_refused};
-use hintcheck::{CheckFontFault, FontFault, Verdict};
+use hintcheck::{CheckFontFault, FontFault, Verdict, VerdictFault};
 
 /// The status where every program is accepted.
 const ACCEPTED: u32 = 0;
@@ -18,6 +18,9 @@ const FAULT: u32 = 2;
 /// The status where there is no answer since memory ran out.
 const OUT_OF_MEMORY: u32 = 3;
 
+/// The status where there is no answer since more points were to be made than may be.
+const BUDGET: u32 = 4;
+
 /// The number of the fault that memory ran out.
 const MEMORY_FAULT: u32 = 9;
 
@@ -27,17 +30,22 @@ const FORM_FAULT: u32 = 43;
 /// The number of the fault that a certificate can't be read.
 const READ_FAULT: u32 = 44;
 
+/// The number of the fault that the budget is met.
+const BUDGET_FAULT: u32 = 46;
+
 /// What a call answers.
 #[repr(C)]
 #[derive(Clone, Copy)]
 pub struct HintcheckAnswer {
-    /// 0 accepted, 1 refused, 2 a fault, 3 out of memory.
+    /// 0 accepted, 1 refused, 2 a fault, 3 out of memory, 4 a budget that is met.
     pub status: u32,
-    /// The number of the fault: 1 to 8 of the font, 43 of the certificate, 9 out of memory; 0 where
-    /// there is a verdict.
+    /// The number of the fault: 1 to 8 of the font, 43 of the certificate, 9 out of memory, 46 a
+    /// budget that is met; 0 where there is a verdict.
     pub fault: u32,
     /// Where the certificate is at fault, in bytes; 0 at any other fault.
     pub place: u64,
+    /// How many points were made: states that were carried on.
+    pub points: u64,
     /// How many programs there are; 0 at a fault.
     pub programs: u32,
     /// How many of them are refused.
@@ -47,25 +55,29 @@ pub struct HintcheckAnswer {
 }
 
 /// Returns the answer that a fault is.
-fn fault_answer(status: u32, fault: u32, place: u64) -> HintcheckAnswer
-    ensures { result ≡ answer_of_fault status fault place }
+fn fault_answer(status: u32, fault: u32, place: u64, points: u64) -> HintcheckAnswer
+    ensures { result ≡ answer_of_fault status fault place points }
 {
     HintcheckAnswer {
         status,
         fault,
         place,
+        points,
         programs: 0,
         refused: 0,
         listed: 0,
     }
 }
 
-/// Returns the answer that a verdict is, and lists its first refusals.
+/// Returns the answer that a verdict is, for which so many points were made, and lists its first
+/// refusals.
 pub(crate) fn answer_verdict(
     verdict: &Verdict,
     refusals: &mut [HintcheckRefusal],
+    points: u64,
 ) -> HintcheckAnswer
-    ensures { Answers verdict.now result refusals.old refusals.new }
+    ensures answers { Answers verdict.now result refusals.old refusals.new }
+    ensures points { result.points ≡ points }
 {
     let refused = verdict.refused();
     let listed = list_refused(refused, refusals);
@@ -77,30 +89,42 @@ pub(crate) fn answer_verdict(
         },
         fault: 0,
         place: 0,
+        points,
         programs: verdict.programs(),
         refused: u32::try_from(refused.len()).unwrap_or(u32::MAX),
         listed,
     }
 }
 
-/// Returns the answer that a fault of a font is.
-pub(crate) fn fault_of_font(fault: &FontFault) -> HintcheckAnswer
-    ensures { result ≡ font_answer fault.now }
+/// Returns the answer that a fault of a font is, after so many points.
+fn fault_of_font(fault: &FontFault, points: u64) -> HintcheckAnswer
+    ensures { result ≡ font_answer fault.now points }
 {
     match fault {
-        FontFault::OutOfMemory(_) => fault_answer(OUT_OF_MEMORY, MEMORY_FAULT, 0),
-        fault => fault_answer(FAULT, u32::from(fault.number()), 0),
+        FontFault::OutOfMemory(_) => fault_answer(OUT_OF_MEMORY, MEMORY_FAULT, 0, points),
+        fault => fault_answer(FAULT, u32::from(fault.number()), 0, points),
     }
 }
 
-/// Returns the answer that a fault of a check is.
-pub(crate) fn fault_of_check(fault: &CheckFontFault) -> HintcheckAnswer
-    ensures { result ≡ check_answer fault.now }
+/// Returns the answer that a fault of a verdict is, after so many points.
+pub(crate) fn fault_of_verdict(fault: &VerdictFault, points: u64) -> HintcheckAnswer
+    ensures { result ≡ judging_answer fault.now points }
 {
     match fault {
-        CheckFontFault::Font(fault) => fault_of_font(fault),
-        CheckFontFault::Form(place) => fault_answer(FAULT, FORM_FAULT, *place),
-        CheckFontFault::Read => fault_answer(FAULT, READ_FAULT, 0),
-        CheckFontFault::OutOfMemory(_) => fault_answer(OUT_OF_MEMORY, MEMORY_FAULT, 0),
+        VerdictFault::Font(fault) => fault_of_font(fault, points),
+        VerdictFault::Budget => fault_answer(BUDGET, BUDGET_FAULT, 0, points),
+    }
+}
+
+/// Returns the answer that a fault of a check is, after so many points.
+pub(crate) fn fault_of_check(fault: &CheckFontFault, points: u64) -> HintcheckAnswer
+    ensures { result ≡ check_answer fault.now points }
+{
+    match fault {
+        CheckFontFault::Font(fault) => fault_of_font(fault, points),
+        CheckFontFault::Form(place) => fault_answer(FAULT, FORM_FAULT, *place, points),
+        CheckFontFault::Read => fault_answer(FAULT, READ_FAULT, 0, points),
+        CheckFontFault::OutOfMemory(_) => fault_answer(OUT_OF_MEMORY, MEMORY_FAULT, 0, points),
+        CheckFontFault::Budget => fault_answer(BUDGET, BUDGET_FAULT, 0, points),
     }
 }

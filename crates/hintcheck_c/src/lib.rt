@@ -3,6 +3,7 @@
 #![tactic(auto)]
 
 ghost use Rattle.std.specs.Prelude.{◌≡◌, ◌≢◌, ◌+◌, ◌<◌, ◌≤◌, [], IfErr, IfOk, length};
+ghost use Rattle.tt_cert.specs.Budgets.{Spends};
 ghost use Rattle.hintcheck.specs.CheckedFonts.{AnswersFinding};
 ghost use Rattle.hintcheck.specs.FontPrograms.{IsSafeFont};
 ghost use Rattle.hintcheck.specs.MeansSafe.{HoldRefusedFont, HoldSafeFont};
@@ -13,8 +14,8 @@ mod answer;
 mod refusal;
 
 pub use answer::HintcheckAnswer;
-use answer::{answer_verdict, fault_of_check, fault_of_font};
-use hintcheck::{CheckFontFault, Verdict, check_font, verdict};
+use answer::{answer_verdict, fault_of_check, fault_of_verdict};
+use hintcheck::{Budget, CheckFontFault, Verdict, check_font_within, verdict_within};
 pub use refusal::HintcheckRefusal;
 use std::alloc::Global;
 use std::marker::Brand;
@@ -32,12 +33,14 @@ pub extern "C" fn hintcheck_version() -> u32
     VERSION
 }
 
-/// Answers the verdict on the programs of the font in these bytes, and returns its status. The
-/// first refusals are listed, as many as there is room for.
+/// Answers the verdict on the programs of the font in these bytes, and returns its status. At most
+/// so many points are made: states that are carried on. The first refusals are listed, as many as
+/// there is room for.
 #[unsafe(no_mangle)]
 pub extern "C" fn hintcheck_verdict_of_bytes(
     alloc: Global,
     font: &[u8],
+    points: u64,
     refusals: &mut [HintcheckRefusal],
     answer: &mut HintcheckAnswer,
 ) -> u32
@@ -51,23 +54,28 @@ pub extern "C" fn hintcheck_verdict_of_bytes(
         → AnswersVerdict font.now answer.new refusals.old refusals.new }
     ensures fault { 2 ≤ result
         → AnswersFontFault font.now answer.new refusals.old refusals.new }
-    ensures status { result ≤ 3 }
+    ensures status { result ≤ 4 }
+    // What it costs: no more points than may be made.
+    ensures points { answer.new.points ≤ points }
     ensures told { answer.new.status ≡ result }
     ensures room { length refusals.new ≡ length refusals.old }
     ensures listed { answer.new.listed ≤ length refusals.old }
 {
-    *answer = match verdict(alloc, font) {
-        Ok(verdict) => answer_verdict(&verdict, refusals),
-        Err(fault) => fault_of_font(&fault),
+    let mut budget = Budget::of(points);
+    *answer = match verdict_within(alloc, font, &mut budget) {
+        Ok(verdict) => answer_verdict(&verdict, refusals, budget.made()),
+        Err(fault) => fault_of_verdict(&fault, budget.made()),
     };
     answer.status
 }
 
-/// Returns the verdict on the programs of a font by the certificate in these bytes.
+/// Returns the verdict on the programs of a font by the certificate in these bytes, and makes at
+/// most as many points as the budget allows.
 fn check_bytes<L: Ledger>(
     alloc: Global,
     font: &[u8],
     certificate: &[u8],
+    budget: &mut Budget,
     blank: Blank,
 ) -> Result<Verdict, CheckFontFault>
     requires { (blank.name ≡ L.name) × (blank.parts ≡ L.parts) × (0 < blank.parts) }
@@ -76,21 +84,24 @@ fn check_bytes<L: Ledger>(
     ensures exact { IfOk result (λ v. (d : FontData) × Reads font.now d
         × AnswersFinding d certificate.now v) }
     ensures fault { IfErr result (IsFaultOfCheck font.now certificate.now) }
+    ensures spends { Spends budget.old budget.new }
 {
     let source = Counted::<&[u8], L>::new(certificate, blank);
     match Buffered::new(alloc, source) {
-        Ok(mut source) => check_font(alloc, font, &mut source),
+        Ok(mut source) => check_font_within(alloc, font, &mut source, budget),
         Err(error) => Err(CheckFontFault::OutOfMemory(error)),
     }
 }
 
 /// Answers the verdict on the programs of the font in these bytes by the certificate in the others,
-/// and returns its status. The first refusals are listed, as many as there is room for.
+/// and returns its status. At most so many points are made. The first refusals are listed, as many
+/// as there is room for.
 #[unsafe(no_mangle)]
 pub extern "C" fn hintcheck_check_of_bytes(
     alloc: Global,
     font: &[u8],
     certificate: &[u8],
+    points: u64,
     refusals: &mut [HintcheckRefusal],
     answer: &mut HintcheckAnswer,
 ) -> u32
@@ -103,14 +114,17 @@ pub extern "C" fn hintcheck_check_of_bytes(
         → AnswersCheck font.now certificate.now answer.new refusals.old refusals.new }
     ensures fault { 2 ≤ result
         → AnswersCheckFault font.now certificate.now answer.new refusals.old refusals.new }
-    ensures status { result ≤ 3 }
+    ensures status { result ≤ 4 }
+    // What it costs: no more points than may be made.
+    ensures points { answer.new.points ≤ points }
     ensures told { answer.new.status ≡ result }
     ensures room { length refusals.new ≡ length refusals.old }
     ensures listed { answer.new.listed ≤ length refusals.old }
 {
-    *answer = match check_bytes::<Brand>(alloc, font, certificate, Blank::new(1)) {
-        Ok(verdict) => answer_verdict(&verdict, refusals),
-        Err(fault) => fault_of_check(&fault),
+    let mut budget = Budget::of(points);
+    *answer = match check_bytes::<Brand>(alloc, font, certificate, &mut budget, Blank::new(1)) {
+        Ok(verdict) => answer_verdict(&verdict, refusals, budget.made()),
+        Err(fault) => fault_of_check(&fault, budget.made()),
     };
     answer.status
 }
