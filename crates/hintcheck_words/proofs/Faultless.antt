@@ -1,91 +1,27 @@
 -- Words in which clap finds no fault name a subcommand that asks for something, and what is given as
 -- a number is one then.
-use Rattle.std.proofs.Common.{◌≡◌, ◌<◌, ℕ, Bool, true, false, List, [], ◌∷◌, Option, Some, None, length, refl, sym, ap, subst, ◌∙◌, inl, inr, arith, codes}
+use Rattle.std.proofs.Common.{◌≡◌, ◌<◌, ℕ, Bool, true, false, List, [], ◌∷◌, Option, Some, None, length, refl, sym, ap, subst, ◌∙◌, ◌⊎◌, inl, inr, arith, codes}
 use Rattle.std.specs.Prelude.{find, fold, option_map, option_and_then, is_some, not, pos, ◌&&◌, ◌||◌}
 use Rattle.std.specs.List.{list_all, list_any}
 use Rattle.std.specs.Option.{option_map_or}
 use Rattle.std.specs.Str.{bytes_eq}
 use Rattle.std.proofs.lemmas.Slice.Eq.{bytes_eq-Decides}
 use Rattle.clap.specs.Facts.{explicit_source, parser_of_value}
-use Rattle.clap.specs.Faults.{action_fault, built_fault, entered_fault, level_fault, long_fault, react_fault, short_fault, values_fault}
+use Rattle.clap.specs.Faults.{built_fault, entered_fault, level_fault, values_fault}
 use Rattle.clap.specs.Kinds.{Kinds, check_kinds, value_kinds}
-use Rattle.clap.specs.Lexer.{without_minus}
 use Rattle.clap.specs.Simple.{App, Shape, entered, label_of, names_of, rows_at}
 use Rattle.clap.specs.Takes.{is_given}
-use Rattle.clap.specs.Values.{IsSignedIn, read_as}
+use Rattle.clap.specs.Values.{Accepts, read_as, reading_of}
 use Rattle.clap.specs.ValueTests.{accepts}
-use Rattle.clap.specs.Walk.{Held, Row, Rule, Text, action_of, answers_to, arg_by_id, arg_by_long, arg_by_short, finished, has_long, has_row, has_short, idle, is_empty, nothing_held, option, positional, row_text, rows_after, settled, takes_values, walk, walk_from, with_default}
-use Rattle.clap.specs.declared.builder.action.ArgAction.{ArgAction}
-use Rattle.clap.specs.declared.builder.action.ArgAction.TheVariants.{Set, Append, SetTrue, SetFalse, Count, Help, HelpShort, HelpLong, Version}
+use Rattle.clap.specs.Walk.{Row, Rule, Text, action_of, answers_to, arg_by_id, finished, has_row, idle, is_empty, nothing_held, one_of, option, positional, row_text, rows_after, settled, walk, walk_from, with_default}
+use Rattle.clap.specs.declared.builder.value_parser.ValueParser.{ValueParser}
 use Rattle.clap.specs.declared.builder.value_parser.ValueParser.TheVariants as vp
 use Rattle.clap.proofs.ValueTestLemmas.{accepts-Accepts}
 use Rattle.clap.proofs.SimpleLemmas.{is_nil}
 use Rattle.clap.proofs.WalkLemmas.{both}
-use Rattle.hintcheck_words.specs.Requests.{HasNumber, HasNumberIfAny, request_of}
-use Rattle.hintcheck_words.proofs.Rows.{FitsRule, RowFits, RowsFit, all_found, both_empty, found_passes, takes_value, true_or_false}
-use Rattle.hintcheck_words.proofs.Walks.{Fits, HelpsIfAbove, IsNotHelp, OnlyHelp, settled_fits, walk_fits}
-
--- ---- help and the version as the only flags
-
-abbrev pub is_help_action : ArgAction → Bool
-is_help_action Help = true
-is_help_action Version = true
-is_help_action _ = false
-
-abbrev pub is_help : Rule → Bool
-is_help a = not (takes_values a) && is_help_action (action_of a)
-
-abbrev pub is_no_flag_but_help : Rule → Bool
-is_no_flag_but_help a = is_some a.index || is_help a
-
-help_refused : (x : ArgAction) (again : Bool) (a : Rule) (values : List Text) (rows : List Row) → is_help_action x ≡ true → action_fault x again a values rows ≡ [] → ⊥
-help_refused Help again a values rows h e = cc
-help_refused Set again a values rows h e = cc
-help_refused Append again a values rows h e = cc
-help_refused SetTrue again a values rows h e = cc
-help_refused SetFalse again a values rows h e = cc
-help_refused Count again a values rows h e = cc
-help_refused HelpShort again a values rows h e = cc
-help_refused HelpLong again a values rows h e = cc
-help_refused Version again a values rows h e = cc
-
-react_refused : (c : List Rule) (again : Bool) (a : Rule) (h : Held) → is_help a ≡ true → react_fault c again a [] h ≡ [] → ⊥
-react_refused c again a h help e = help_refused (action_of a) again a _ _ (both _ _ help).1 (both_empty _ _ (both_empty _ _ e).1).1
-
-is_not : (b : Bool) → not b ≡ true → b ≡ false
-is_not false e = refl
-is_not true e = cc
-
-help_found : (c : List Rule) (named : Rule → Bool) (a : Rule) → list_all is_no_flag_but_help c ≡ true → find (λ b. not (is_some b.index) && named b) c ≡ Some a → is_help a ≡ true
-help_found c named a all found =
-    let flag = both _ _ (found_passes (λ b. not (is_some b.index) && named b) c a found) in
-    let placed : is_some a.index ≡ false = is_not _ flag.0 in
-    let known : (is_some a.index || is_help a) ≡ true = all_found is_no_flag_but_help (λ b. not (is_some b.index) && named b) c a all found in
-    rw placed at known
-
-pub only_help : (c : List Rule) → list_all is_no_flag_but_help c ≡ true → list_all (λ a. takes_value (action_of a) a) c ≡ true → OnlyHelp c
-only_help c all takes = record {
-  long = λ again name v h. long_go again v h (arg_by_long c name) (λ a found. help_found c (λ b. has_long b name) a all found);
-  short = λ again x rest h next. short_go again rest h next (arg_by_short c x) (λ a found. help_found c (λ b. has_short b x) a all found);
-  takes = takes;
-}
-  where
-    long_go : (again : Bool) (v : Option Text) (h : Held) (found : Option Rule) → ((a : Rule) → found ≡ Some a → is_help a ≡ true) → long_fault c again found v h ≡ [] → ⊥
-    long_go again v h None helps e = cc
-    long_go again None h (Some a) helps e =
-        let none : takes_values a ≡ false = is_not _ (both _ _ (helps a refl)).0 in
-        react_refused c again a h (helps a refl) (rw none at e)
-    long_go again (Some t) h (Some a) helps e =
-        let none : takes_values a ≡ false = is_not _ (both _ _ (helps a refl)).0 in
-        let bad = rw none at e in
-        cc
-
-    short_go : (again : Bool) (rest : Text) (h : Held) (next : Held → Kinds) (found : Option Rule) → ((a : Rule) → found ≡ Some a → is_help a ≡ true) → short_fault c again found rest h next ≡ [] → ⊥
-    short_go again rest h next None helps e = cc
-    short_go again rest h next (Some a) helps e =
-        let none : takes_values a ≡ false = is_not _ (both _ _ (helps a refl)).0 in
-        let refused = rw none at e in
-        react_refused c again a h (helps a refl) (both_empty _ _ refused).0
+use Rattle.hintcheck_words.specs.Requests.{HasLongNumberIfAny, HasNumber, HasNumberIfAny, request_of}
+use Rattle.hintcheck_words.proofs.Rows.{FitsRule, RowFits, RowsFit, all_found, are_distinct, both_empty, found_passes, is_not, not_any, takes_value, true_or_false}
+use Rattle.hintcheck_words.proofs.Walks.{Fits, HelpsIfAbove, IsNotHelp, TakesValues, settled_fits, walk_fits}
 
 -- ---- the rows of a level without fault
 
@@ -97,7 +33,7 @@ no_defaults (a ∷ c) rows e =
     ap (λ rs. fold with_default rs c) same ∙ no_defaults c rows (both _ _ e).1
 
 nothing_fits : (c : List Rule) → Fits c (walk_from nothing_held)
-nothing_fits c = record { rows = tt; skip = refl; waits = refl; stopped = tt }
+nothing_fits c = record { rows = tt; stopped = tt }
 
 leaf_helps : (s : Shape) → HelpsIfAbove s []
 leaf_helps s idle word name e = absurd cc
@@ -110,23 +46,23 @@ check_last true y true e = absurd cc
 check_last false true true e = absurd cc
 check_last false false true e = absurd cc
 
--- a subcommand: help is its only flag, and no argument has a default
+-- a subcommand whose arguments take values, except for help, and have no default
 record IsLeaf (s : Shape) : Type 0 where
-  flags : OnlyHelp s.rules
+  values : TakesValues s.rules
   defaults : list_all (λ a. is_empty a.defaults) s.rules ≡ true
   negates : s.subcommand_negates_reqs ≡ false
 
 -- the same as a test
 abbrev pub is_leaf : Shape → Bool
-is_leaf s = list_all is_no_flag_but_help s.rules
+is_leaf s = are_distinct s.rules
     && (list_all (λ a. takes_value (action_of a) a) s.rules && (list_all (λ a. is_empty a.defaults) s.rules && not s.subcommand_negates_reqs))
 
 leaf_of : (s : Shape) → is_leaf s ≡ true → IsLeaf s
 leaf_of s e =
-    let flags = both _ _ e in
-    let takes = both _ _ flags.1 in
+    let distinct = both _ _ e in
+    let takes = both _ _ distinct.1 in
     let defaults = both _ _ takes.1 in
-    record { flags = only_help s.rules flags.0 takes.0; defaults = defaults.0; negates = is_not _ defaults.1 }
+    record { values = record { takes = takes.0; distinct = distinct.0 }; defaults = defaults.0; negates = is_not _ defaults.1 }
 
 pub record LevelRows (s : Shape) (rows : List Row) : Type 0 where
   pub fit : RowsFit s.rules rows
@@ -138,31 +74,13 @@ level_rows s l words e =
     let after = both_empty _ _ parts.1 in
     let last = both_empty _ _ after.1 in
     let end = (walk s.rules [] nothing_held words).held in
-    let walked_fits = walk_fits s [] l.flags (leaf_helps s) words (walk_from nothing_held) (nothing_fits s.rules) parts.0 in
-    let rows = settled_fits s.rules s.args_override_self end l.flags.takes after.0 walked_fits.rows in
+    let walked_fits = walk_fits s [] l.values (leaf_helps s) words (walk_from nothing_held) (nothing_fits s.rules) parts.0 in
+    let rows = settled_fits s.rules s.args_override_self end l.values.takes after.0 walked_fits.rows in
     let same : finished s.rules end ≡ (settled s.rules end).rows = no_defaults s.rules (settled s.rules end).rows l.defaults in
     let checked : (not (s.subcommand_negates_reqs && false) && list_any (λ a. a.required && not (is_given a.id (finished s.rules end))) s.rules) ≡ false = check_last _ _ _ last.1 in
     record { fit = subst (RowsFit s.rules) (sym same) rows; given = rw l.negates at checked }
 
--- ---- a number among the rows
-
-not_any : {X : Type 0} (q p : X → Bool) (xs : List X) (x : X) → list_any q xs ≡ false → find p xs ≡ Some x → q x ≡ false
-not_any q p [] x none e = absurd cc
-not_any q p (y ∷ ys) x none e = elim (true_or_false (p y)) [
-  | inl here ↦
-      let found : Some y ≡ Some x = rw here at e in
-      let same : y ≡ x = cc in
-      subst (λ z. q z ≡ false) same (first_false (q y) _ none)
-  | inr other ↦ not_any q p ys x (rest_false (q y) _ none) (rw other at e)
-]
-  where
-    first_false : (a b : Bool) → (a || b) ≡ false → a ≡ false
-    first_false false b h = refl
-    first_false true b h = absurd cc
-
-    rest_false : (a b : Bool) → (a || b) ≡ false → b ≡ false
-    rest_false false b h = h
-    rest_false true b h = absurd cc
+-- ---- a value among the rows
 
 row_found : (c : List Rule) (p : Row → Bool) (rows : List Row) (r : Row) → RowsFit c rows → find p rows ≡ Some r → RowFits c r
 row_found c p [] r fits e = absurd cc
@@ -174,45 +92,74 @@ row_found c p (x ∷ rows) r fits e = elim (true_or_false (p x)) [
   | inr other ↦ row_found c p rows r fits.1 (rw other at e)
 ]
 
--- a rule of a number up to this one
-pub record IsNumberRule (c : List Rule) (most : ℕ) (id : Text) (a : Rule) : Type 0 where
+-- a rule with this parser
+pub record HasParser (c : List Rule) (p : ValueParser) (id : Text) (a : Rule) : Type 0 where
   pub found : arg_by_id c id ≡ Some a
   pub named : a.id ≡ id
-  pub parser : a.parser ≡ Some (vp.Signed (pos 0) (pos most))
+  pub parser : a.parser ≡ Some p
 
-value_accepted : (a : Rule) (most : ℕ) (v : Text) (vs : List Text) → a.parser ≡ Some (vp.Signed (pos 0) (pos most)) → values_fault a (v ∷ vs) ≡ [] → IsSignedIn (pos 0) (pos most) v
-value_accepted a most v vs parser e =
-    go (accepts a.ignore_case (vp.Signed (pos 0) (pos most)) v) refl (subst (λ q. value_kinds a.ignore_case (parser_of_value q) v ≡ []) parser (both_empty _ _ e).0)
+-- a rule of a number up to this one
+abbrev pub IsNumberRule : List Rule → ℕ → Text → Rule → Type 0
+IsNumberRule c most id a = HasParser c (vp.Signed (pos 0) (pos most)) id a
+
+-- a rule of a number of 64 bits
+abbrev pub IsLongNumberRule : List Rule → Text → Rule → Type 0
+IsLongNumberRule c id a = HasParser c (vp.Unsigned 0 18446744073709551615) id a
+
+-- a text that passed the parser is what an argument got
+record HasValue (p : ValueParser) (ignore_case : Bool) (got : Option Text) : Type 0 where
+  text : Text
+  found : got ≡ Some (read_as (reading_of p) text)
+  passed : Accepts ignore_case p text
+
+value_accepted : (a : Rule) (p : ValueParser) (v : Text) (vs : List Text) → a.parser ≡ Some p → values_fault a (v ∷ vs) ≡ [] → Accepts a.ignore_case p v
+value_accepted a p v vs parser e =
+    go (accepts a.ignore_case p v) refl (subst (λ q. value_kinds a.ignore_case (parser_of_value q) v ≡ []) parser (both_empty _ _ e).0)
   where
-    go : (b : Bool) → accepts a.ignore_case (vp.Signed (pos 0) (pos most)) v ≡ b → value_kinds a.ignore_case (vp.Signed (pos 0) (pos most)) v ≡ [] → IsSignedIn (pos 0) (pos most) v
-    go true h f = accepts-Accepts a.ignore_case (vp.Signed (pos 0) (pos most)) v h
+    go : (b : Bool) → accepts a.ignore_case p v ≡ b → value_kinds a.ignore_case p v ≡ [] → Accepts a.ignore_case p v
+    go true h f = accepts-Accepts a.ignore_case p v h
     go false h f = let bad = rw h at f in absurd cc
 
-row_number : (a : Rule) (most : ℕ) (r : Row) → FitsRule a r → a.parser ≡ Some (vp.Signed (pos 0) (pos most)) → (t : Text) × (row_text r ≡ Some (without_minus t)) × IsSignedIn (pos 0) (pos most) t
-row_number a most r f parser = go r.values f.values f.some refl
+row_value : (a : Rule) (p : ValueParser) (r : Row) → FitsRule a r → a.parser ≡ Some p → HasValue p a.ignore_case (row_text r)
+row_value a p r f parser = go r.values f.values f.some refl
   where
-    reads : (v : Text) → read_as r.reading v ≡ without_minus v
+    reads : (v : Text) → read_as r.reading v ≡ read_as (reading_of p) v
     reads v = rw (f.reading, parser) refl
 
-    go : (values : List Text) → values_fault a values ≡ [] → 0 < length values → r.values ≡ values → (t : Text) × (row_text r ≡ Some (without_minus t)) × IsSignedIn (pos 0) (pos most) t
+    go : (values : List Text) → values_fault a values ≡ [] → 0 < length values → r.values ≡ values → HasValue p a.ignore_case (row_text r)
     go [] e some is = absurd (omega arith)
-    go (v ∷ vs) e some is = (v, rw is (ap (λ (t : Text). Some t) (reads v)), value_accepted a most v vs parser e)
+    go (v ∷ vs) e some is = record { text = v; found = rw is (ap (λ (t : Text). Some t) (reads v)); passed = value_accepted a p v vs parser e }
 
--- the number of a row that was found
-number_found : (s : Shape) (rows : List Row) (most : ℕ) (id : Text) (a : Rule) (r : Row) → LevelRows s rows → IsNumberRule s.rules most id a → find (λ r. bytes_eq r.id id) rows ≡ Some r
-    → HasNumber most rows id
-number_found s rows most id a r level n e =
+-- the value of a row that was found
+value_found : (s : Shape) (rows : List Row) (p : ValueParser) (id : Text) (a : Rule) (r : Row) → LevelRows s rows → HasParser s.rules p id a → find (λ r. bytes_eq r.id id) rows ≡ Some r
+    → HasValue p a.ignore_case (one_of id rows)
+value_found s rows p id a r level n e =
     let id_is : r.id ≡ id = (bytes_eq-Decides r.id id).0 (found_passes (λ x. bytes_eq x.id id) rows r e) in
     let rule : arg_by_id s.rules r.id ≡ Some a = subst (λ (t : Text). arg_by_id s.rules t ≡ Some a) (sym id_is) n.found in
-    let number = row_number a most r (row_found s.rules (λ x. bytes_eq x.id id) rows r level.fit e a rule) n.parser in
-    record { text = number.0; found = ap (option_and_then row_text) e ∙ number.1; number = number.2 }
+    let value = row_value a p r (row_found s.rules (λ x. bytes_eq x.id id) rows r level.fit e a rule) n.parser in
+    record { text = value.text; found = ap (option_and_then row_text) e ∙ value.found; passed = value.passed }
+
+value_if_any : (s : Shape) (rows : List Row) (p : ValueParser) (id : Text) (a : Rule) → LevelRows s rows → HasParser s.rules p id a → (one_of id rows ≡ None) ⊎ HasValue p a.ignore_case (one_of id rows)
+value_if_any s rows p id a level n = go (find (λ r. bytes_eq r.id id) rows) refl
+  where
+    go : (found : Option Row) → find (λ r. bytes_eq r.id id) rows ≡ found → (one_of id rows ≡ None) ⊎ HasValue p a.ignore_case (one_of id rows)
+    go None e = inl (ap (option_and_then row_text) e)
+    go (Some r) e = inr (value_found s rows p id a r level n e)
+
+number_of : (rows : List Row) (most : ℕ) (id : Text) (ignore_case : Bool) → HasValue (vp.Signed (pos 0) (pos most)) ignore_case (one_of id rows) → HasNumber most rows id
+number_of rows most id ignore_case v = record { text = v.text; found = v.found; number = v.passed }
 
 pub number_if_any : (s : Shape) (rows : List Row) (most : ℕ) (id : Text) (a : Rule) → LevelRows s rows → IsNumberRule s.rules most id a → HasNumberIfAny most rows id
-number_if_any s rows most id a level n = go (find (λ r. bytes_eq r.id id) rows) refl
-  where
-    go : (found : Option Row) → find (λ r. bytes_eq r.id id) rows ≡ found → HasNumberIfAny most rows id
-    go None e = inl (ap (option_and_then row_text) e)
-    go (Some r) e = inr (number_found s rows most id a r level n e)
+number_if_any s rows most id a level n = elim (value_if_any s rows (vp.Signed (pos 0) (pos most)) id a level n) [
+  | inl none ↦ inl none
+  | inr value ↦ inr (number_of rows most id a.ignore_case value)
+]
+
+pub long_number_if_any : (s : Shape) (rows : List Row) (id : Text) (a : Rule) → LevelRows s rows → IsLongNumberRule s.rules id a → HasLongNumberIfAny rows id
+long_number_if_any s rows id a level n = elim (value_if_any s rows (vp.Unsigned 0 18446744073709551615) id a level n) [
+  | inl none ↦ inl none
+  | inr value ↦ inr (record { text = value.text; found = value.found; number = value.passed })
+]
 
 pub number_among : (s : Shape) (rows : List Row) (most : ℕ) (id : Text) (a : Rule) → LevelRows s rows → IsNumberRule s.rules most id a → a.required ≡ true → HasNumber most rows id
 number_among s rows most id a level n required = go (find (λ r. bytes_eq r.id id) rows) refl given
@@ -229,7 +176,7 @@ number_among s rows most id a level n required = go (find (λ r. bytes_eq r.id i
 
     go : (found : Option Row) → find (λ r. bytes_eq r.id id) rows ≡ found → option_map_or (λ r. explicit_source r.source) found false ≡ true → HasNumber most rows id
     go None e g = absurd cc
-    go (Some r) e g = number_found s rows most id a r level n e
+    go (Some r) e g = number_of rows most id a.ignore_case (value_found s rows (vp.Signed (pos 0) (pos most)) id a r level n e)
 
 -- ---- the whole command line
 
@@ -239,7 +186,7 @@ is_part rows s = is_empty s.aliases && (bytes_eq s.name (codes "help") || (is_so
 
 -- a command with such subcommands
 pub record IsLine (a : App) : Type 0 where
-  pub flags : OnlyHelp a.top.rules
+  pub values : TakesValues a.top.rules
   pub helped : a.top.disable_help_subcommand ≡ false
   pub parts : (rows : List Row) → list_all (is_part rows) a.subs ≡ true
 
@@ -305,5 +252,5 @@ pub line_names : (a : App) (line : IsLine a) (words : List Text) (name : Text) (
     → entered a (walk a.top.rules (names_of a) nothing_held words).stopped ≡ Some (name, rows) → Names a name rows
 line_names a line words name rows e met =
     let parts = both_empty _ _ e in
-    let walked_fits = walk_fits a.top (names_of a) line.flags (λ waiting word met is. line.helped) words (walk_from nothing_held) (nothing_fits a.top.rules) parts.0 in
+    let walked_fits = walk_fits a.top (names_of a) line.values (λ waiting word met is. line.helped) words (walk_from nothing_held) (nothing_fits a.top.rules) parts.0 in
     stop_names a line (walk a.top.rules (names_of a) nothing_held words).stopped name rows walked_fits.stopped (both_empty _ _ parts.1).0 met

@@ -10,19 +10,31 @@ use Rattle.clap.specs.Walk.{Row, Rule, Text, arg_by_id}
 use Rattle.clap.proofs.OnLiterals.{clap_on_literals}
 use Rattle.hintcheck_words.specs.CommandLine.{hintcheck}
 use Rattle.hintcheck_words.specs.Requests.{IsReadable, met, request_of, requests}
-use Rattle.hintcheck_words.proofs.Faultless.{IsLine, IsNumberRule, level_at, line_names, number_among, number_if_any, only_help, subcommand_at}
+use Rattle.hintcheck_words.proofs.Faultless.{IsLine, IsLongNumberRule, IsNumberRule, level_at, line_names, long_number_if_any, number_among, number_if_any, subcommand_at}
 use Rattle.std.specs.Prelude.{drop, true, unwrap_or}
 
 abbrev first_or : {X : Type 0} → X → List X → X
 first_or d [] = d
 first_or d (x ∷ xs) = x
 
--- `bare` and `explain`, as parts of the built command line
+-- the subcommands with numbers, as parts of the built command line
 unfoldable pub bare_built : Shape
 bare_built = first_or hintcheck.top (built hintcheck).subs
 
 unfoldable pub explain_built : Shape
 explain_built = first_or hintcheck.top (drop 3 (built hintcheck).subs)
+
+unfoldable pub verdict_built : Shape
+verdict_built = first_or hintcheck.top (drop 1 (built hintcheck).subs)
+
+unfoldable pub scan_built : Shape
+scan_built = first_or hintcheck.top (drop 2 (built hintcheck).subs)
+
+unfoldable pub find_built : Shape
+find_built = first_or hintcheck.top (drop 4 (built hintcheck).subs)
+
+unfoldable pub check_built : Shape
+check_built = first_or hintcheck.top (drop 5 (built hintcheck).subs)
 
 bare_found : subcommand_at (built hintcheck) (codes "bare") ≡ Some bare_built
 unfolding hintcheck bare_built clap_on_literals
@@ -32,10 +44,26 @@ explain_found : subcommand_at (built hintcheck) (codes "explain") ≡ Some expla
 unfolding hintcheck explain_built clap_on_literals
 explain_found = refl
 
+verdict_found : subcommand_at (built hintcheck) (codes "verdict") ≡ Some verdict_built
+unfolding hintcheck verdict_built clap_on_literals
+verdict_found = refl
+
+scan_found : subcommand_at (built hintcheck) (codes "scan") ≡ Some scan_built
+unfolding hintcheck scan_built clap_on_literals
+scan_found = refl
+
+find_found : subcommand_at (built hintcheck) (codes "find") ≡ Some find_built
+unfolding hintcheck find_built clap_on_literals
+find_found = refl
+
+check_found : subcommand_at (built hintcheck) (codes "check") ≡ Some check_built
+unfolding hintcheck check_built clap_on_literals
+check_found = refl
+
 line : IsLine (built hintcheck)
 unfolding hintcheck request_of requests clap_on_literals
 line = record {
-  flags = only_help (built hintcheck).top.rules refl refl;
+  values = record { takes = refl; distinct = refl };
   helped = refl;
   parts = λ rows. refl;
 }
@@ -71,6 +99,22 @@ offset_rule : IsNumberRule explain_built.rules 4294967295 (codes "OFFSET") (rule
 unfolding hintcheck explain_built rule_at clap_on_literals
 offset_rule = record { found = refl; named = refl; parser = refl }
 
+verdict_rule : IsLongNumberRule verdict_built.rules (codes "POINTS") (rule_at verdict_built (codes "POINTS"))
+unfolding hintcheck verdict_built rule_at clap_on_literals
+verdict_rule = record { found = refl; named = refl; parser = refl }
+
+scan_rule : IsLongNumberRule scan_built.rules (codes "POINTS") (rule_at scan_built (codes "POINTS"))
+unfolding hintcheck scan_built rule_at clap_on_literals
+scan_rule = record { found = refl; named = refl; parser = refl }
+
+find_rule : IsLongNumberRule find_built.rules (codes "POINTS") (rule_at find_built (codes "POINTS"))
+unfolding hintcheck find_built rule_at clap_on_literals
+find_rule = record { found = refl; named = refl; parser = refl }
+
+check_rule : IsLongNumberRule check_built.rules (codes "POINTS") (rule_at check_built (codes "POINTS"))
+unfolding hintcheck check_built rule_at clap_on_literals
+check_rule = record { found = refl; named = refl; parser = refl }
+
 simple_and_free : is_simple_and_free hintcheck ≡ true
 unfolding hintcheck clap_on_literals
 simple_and_free = refl
@@ -92,6 +136,18 @@ meets_one words name rows e found =
       offset = λ explain.
           let at_explain = level_at (built hintcheck) name (codes "explain") rows explain_built named explain explain_found in
           number_if_any explain_built rows 4294967295 (codes "OFFSET") (rule_at explain_built (codes "OFFSET")) at_explain offset_rule;
+      of_verdict = λ verdict.
+          let at_verdict = level_at (built hintcheck) name (codes "verdict") rows verdict_built named verdict verdict_found in
+          long_number_if_any verdict_built rows (codes "POINTS") (rule_at verdict_built (codes "POINTS")) at_verdict verdict_rule;
+      of_scan = λ scan.
+          let at_scan = level_at (built hintcheck) name (codes "scan") rows scan_built named scan scan_found in
+          long_number_if_any scan_built rows (codes "POINTS") (rule_at scan_built (codes "POINTS")) at_scan scan_rule;
+      of_find = λ find.
+          let at_find = level_at (built hintcheck) name (codes "find") rows find_built named find find_found in
+          long_number_if_any find_built rows (codes "POINTS") (rule_at find_built (codes "POINTS")) at_find find_rule;
+      of_check = λ check.
+          let at_check = level_at (built hintcheck) name (codes "check") rows check_built named check check_found in
+          long_number_if_any check_built rows (codes "POINTS") (rule_at check_built (codes "POINTS")) at_check check_rule;
     }
 
 pub fault_is : (a : App) (words : List Text) → a ≡ hintcheck → (is_simple_and_free a ≡ true → fault_of a words ≡ []) → fault_of hintcheck words ≡ []

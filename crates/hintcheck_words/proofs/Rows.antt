@@ -1,15 +1,15 @@
 -- The rows of a parse that has no fault: each value passed the parser of its argument. For commands
 -- whose arguments take values, except for help and the version.
 use Rattle.std.proofs.Common.{◌≡◌, ℕ, zero, suc, ◌<◌, Bool, true, false, List, [], ◌∷◌, ◌++◌, Option, Some, None, length, refl, sym, subst, ◌⊎◌, inl, inr, arith, length-append}
-use Rattle.std.specs.Prelude.{nat_lt, find}
-use Rattle.std.specs.List.{list_all}
+use Rattle.std.specs.Prelude.{nat_lt, find, not, ◌&&◌, ◌||◌}
+use Rattle.std.specs.List.{list_all, list_any}
 use Rattle.std.specs.Option.{option_map_or}
 use Rattle.std.specs.Str.{bytes_eq}
 use Rattle.std.proofs.lemmas.Slice.Eq.{bytes_eq-Decides}
 use Rattle.clap.specs.Facts.{unwrap_or_range}
 use Rattle.clap.specs.Faults.{action_fault, use_fault, values_fault}
 use Rattle.clap.specs.Kinds.{Kinds, or_else, range_kinds}
-use Rattle.clap.specs.Walk.{Row, Rule, Text, action_of, arg_by_id, at_row, more_values, most_values, reading_by, used_as, used_by_id, values_or_missing, with_values, without}
+use Rattle.clap.specs.Walk.{Row, Rule, Text, action_of, arg_by_id, at_row, more_values, most_values, reading_by, used, used_as, used_by_id, values_or_missing, with_values, without}
 use Rattle.clap.specs.declared.builder.action.ArgAction.{ArgAction}
 use Rattle.clap.specs.declared.builder.action.ArgAction.TheVariants.{Set, Append, SetTrue, SetFalse, Count, Help, HelpShort, HelpLong, Version}
 use Rattle.clap.specs.declared.error.kind.ErrorKind.{ErrorKind}
@@ -51,6 +51,48 @@ all_found q p (y ∷ ys) x all e = elim (true_or_false (p y)) [
       let same : y ≡ x = cc in
       subst (λ z. q z ≡ true) same (both _ _ all).0
   | inr other ↦ all_found q p ys x (both _ _ all).1 (rw other at e)
+]
+
+pub not_any : {X : Type 0} (q p : X → Bool) (xs : List X) (x : X) → list_any q xs ≡ false → find p xs ≡ Some x → q x ≡ false
+not_any q p [] x none e = absurd cc
+not_any q p (y ∷ ys) x none e = elim (true_or_false (p y)) [
+  | inl here ↦
+      let found : Some y ≡ Some x = rw here at e in
+      let same : y ≡ x = cc in
+      subst (λ z. q z ≡ false) same (first_false (q y) _ none)
+  | inr other ↦ not_any q p ys x (rest_false (q y) _ none) (rw other at e)
+]
+  where
+    first_false : (a b : Bool) → (a || b) ≡ false → a ≡ false
+    first_false false b h = refl
+    first_false true b h = absurd cc
+
+    rest_false : (a b : Bool) → (a || b) ≡ false → b ≡ false
+    rest_false false b h = h
+    rest_false true b h = absurd cc
+
+pub is_not : (b : Bool) → not b ≡ true → b ≡ false
+is_not false e = refl
+is_not true e = cc
+
+-- no two arguments have one id
+abbrev pub are_distinct : List Rule → Bool
+are_distinct [] = true
+are_distinct (a ∷ c) = not (list_any (λ b. bytes_eq a.id b.id) c) && are_distinct c
+
+-- an argument that was found in any way is the one of its id
+pub own_id : (p : Rule → Bool) (c : List Rule) (a : Rule) → are_distinct c ≡ true → find p c ≡ Some a → arg_by_id c a.id ≡ Some a
+own_id p [] a distinct e = absurd cc
+own_id p (x ∷ c) a distinct e = elim (true_or_false (p x)) [
+  | inl here ↦
+      let found : Some x ≡ Some a = rw here at e in
+      let same : x ≡ a = cc in
+      let itself : bytes_eq x.id x.id ≡ true = (bytes_eq-Decides x.id x.id).1 refl in
+      subst (λ (b : Rule). arg_by_id (x ∷ c) b.id ≡ Some b) same (rw itself refl)
+  | inr other ↦
+      let found : find p c ≡ Some a = rw other at e in
+      let differs : bytes_eq x.id a.id ≡ false = not_any (λ b. bytes_eq x.id b.id) p c a (is_not _ (both _ _ distinct).0) found in
+      rw differs (own_id p c a (both _ _ distinct).1 found)
 ]
 
 -- the row has values, which passed the argument's parser
@@ -153,3 +195,8 @@ pub used_by_id_fits : (c : List Rule) (again : Bool) (id : Text) (found : Option
 used_by_id_fits c again id None values rows plain is e fits = fits
 used_by_id_fits c again id (Some a) values rows plain is e fits =
     used_as_fits (action_of a) c again a values rows (all_found (λ b. takes_value (action_of b) b) (λ b. bytes_eq b.id id) c a plain is) (found_again c id a is) e fits
+
+-- a use of an argument that takes values
+pub used_fits : (c : List Rule) (again : Bool) (a : Rule) (values : List Text) (rows : List Row) → takes_value (action_of a) a ≡ true → arg_by_id c a.id ≡ Some a
+    → use_fault again a values rows ≡ [] → RowsFit c rows → RowsFit c (used a values rows)
+used_fits c again a values rows takes own e fits = used_as_fits (action_of a) c again a values rows takes own e fits

@@ -1,5 +1,5 @@
 -- What the values of a subcommand give, by the rows of its matches.
-use Rattle.std.proofs.Common.{◌≡◌, ◌∙◌, ◌≤◌, ◌<◌, ◌^◌, inl, inr, ℕ, List, [], Option, Some, None, Result, Ok, refl, sym, ap, arith, Bor}
+use Rattle.std.proofs.Common.{◌≡◌, ◌∙◌, ◌≤◌, ◌<◌, ◌^◌, inl, inr, ℕ, List, [], Option, Some, None, Result, Ok, Err, refl, sym, ap, Bor}
 use Rattle.std.specs.Prelude.{unwrap_or, option_map, find, map}
 use Rattle.std.specs.Str.Parse.{ParsesUnsigned, digits_value, without_leading_plus}
 use Rattle.clap.specs.Matches.{ReadsOne}
@@ -10,7 +10,7 @@ use Rattle.clap.specs.Words.{Row, Text, all_of, matched_of, one_of, raw_values, 
 use Rattle.clap.specs.declared.parser.matches.Found.{Found}
 use Rattle.clap.proofs.WalkLemmas.{find_row}
 use Rattle.clap.proofs.CallerReads.{signed_reads}
-use Rattle.hintcheck_words.specs.Requests.{HasNumber, HasNumberIfAny, number_in, optional_number_in}
+use Rattle.hintcheck_words.specs.Requests.{HasLongNumberIfAny, HasNumber, HasNumberIfAny, number_in, optional_number_in}
 
 pub text_or_empty : (o : Option (Bor (List ℕ))) (empty : Bor (List ℕ)) → empty.now ≡ [] → (unwrap_or o empty).now ≡ unwrap_or (option_map (λ s. s.now) o) []
 text_or_empty None empty e = e
@@ -33,6 +33,17 @@ optional_number_read G bits most rows id n (inl none) few parses absent reads = 
 optional_number_read G bits most rows id n (inr h) few parses absent reads =
     let read = number_read G bits most rows id n h few parses reads in
     read.1 ∙ ap (λ (x : ℕ). Some x) read.2 ∙ rw h.found refl
+
+-- the same of a number of 64 bits
+pub long_number_read : {E : Type 0} (G : List ℕ → Result ℕ E → Type 0) (rows : List Row) (id : Text) (n : Option ℕ) (h : HasLongNumberIfAny rows id)
+    → ((t : List ℕ) (r : Result ℕ E) → G t r → ParsesUnsigned 64 10 t r) → (one_of id rows ≡ None → n ≡ None) → ((t : List ℕ) → one_of id rows ≡ Some t → ReadsOne G t n)
+    → n ≡ optional_number_in rows id
+long_number_read G rows id n (inl none) parses absent reads = absent none ∙ rw none refl
+long_number_read {E} G rows id n (inr h) parses absent reads = go n (reads h.text h.found)
+  where
+    go : (o : Option ℕ) → ReadsOne G h.text o → o ≡ optional_number_in rows id
+    go None r = absurd (parses h.text (Err r.0) r.1 (h.number.0, h.number.1))
+    go (Some x) r = ap (λ (y : ℕ). Some y) (parses h.text (Ok x) r).1 ∙ rw h.found refl
 
 -- the texts of an argument, by the rows
 pub all_of-rows : (f : Found) (id : Text) → option_map raw_values (matched_of f id) ≡ all_of id (rows_of f)

@@ -1,13 +1,14 @@
 -- The command line, in clap's words:
 --     hintcheck bare MAXP CVT POINTS CONTOURS [PROGRAM]
---     hintcheck verdict FONT
---     hintcheck scan FONT..
+--     hintcheck verdict [--points POINTS] FONT
+--     hintcheck scan [--points POINTS] FONT..
 --     hintcheck explain FONT PROGRAM [OFFSET]
---     hintcheck find FONT CERT
---     hintcheck check FONT CERT
+--     hintcheck find [--points POINTS] FONT CERT
+--     hintcheck check [--points POINTS] FONT CERT
 --     hintcheck list FONT PROGRAM
 --     hintcheck upgrade OLD NEW
 --     hintcheck --version
+-- The option `--points` may also stand behind the names of the files, or between them.
 use Rattle.std.specs.Prelude.{codes, fold, List, [], ◌∷◌, true, pos, Some}
 use Rattle.clap.specs.Lexer.{usize_max}
 use Rattle.clap.specs.Words.{App, Rule, Text, new_app, new_rule, with_rule, with_subcommand}
@@ -29,6 +30,13 @@ needed_number id = record (needed id) { parser = Some (parser.Signed (pos 0) (po
 abbrev pub optional_number : Text → Rule
 optional_number id = record (new_rule id) { parser = Some (parser.Signed (pos 0) (pos 4294967295)) }
 
+-- an option of this long name, which may be left out, and takes a number of 64 bits otherwise
+abbrev pub number_option : Text → Text → Rule
+number_option id name = record (new_rule id) {
+  long = Some name;
+  parser = Some (parser.Unsigned 0 18446744073709551615);
+}
+
 -- an argument that must be given, and takes each word from there on
 abbrev pub needed_list : Text → Rule
 needed_list id = record (needed id) {
@@ -39,6 +47,14 @@ needed_list id = record (needed id) {
 abbrev pub of_texts : Text → List Text → App
 of_texts name ids = fold (λ a id. with_rule a (needed id)) (new_app name) ids
 
+-- the option `--points`, which limits how many points may be made
+abbrev pub points : Rule
+points = number_option (codes "POINTS") (codes "points")
+
+-- a subcommand whose arguments are texts that must be given, and the option `--points`
+abbrev pub of_texts_and_points : Text → List Text → App
+of_texts_and_points name ids = with_rule (of_texts name ids) points
+
 -- the subcommand `bare`, which checks one glyph program
 abbrev pub bare : App
 bare = with_rule (with_rule (with_rule (with_rule (with_rule (new_app (codes "bare"))
@@ -47,11 +63,11 @@ bare = with_rule (with_rule (with_rule (with_rule (with_rule (new_app (codes "ba
 
 -- the subcommand `verdict`, which checks all programs of a font file
 abbrev pub verdict : App
-verdict = of_texts (codes "verdict") (codes "FONT" ∷ [])
+verdict = of_texts_and_points (codes "verdict") (codes "FONT" ∷ [])
 
 -- the subcommand `scan`, which checks all programs of each of several font files
 abbrev pub scan : App
-scan = with_rule (new_app (codes "scan")) (needed_list (codes "FONT"))
+scan = with_rule (with_rule (new_app (codes "scan")) (needed_list (codes "FONT"))) points
 
 -- the subcommand `explain`, which tells how one program is checked
 abbrev pub explain : App
@@ -60,11 +76,11 @@ explain = with_rule (with_rule (with_rule (new_app (codes "explain"))
 
 -- the subcommand `find`, which writes the certificate of a font file
 abbrev pub find : App
-find = of_texts (codes "find") (codes "FONT" ∷ codes "CERT" ∷ [])
+find = of_texts_and_points (codes "find") (codes "FONT" ∷ codes "CERT" ∷ [])
 
 -- the subcommand `check`, which checks a font file by its certificate
 abbrev pub check : App
-check = of_texts (codes "check") (codes "FONT" ∷ codes "CERT" ∷ [])
+check = of_texts_and_points (codes "check") (codes "FONT" ∷ codes "CERT" ∷ [])
 
 -- the subcommand `list`, which lists the instructions of one program
 abbrev pub list : App

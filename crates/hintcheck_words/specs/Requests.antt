@@ -4,7 +4,7 @@ use denote.Ref.{Bor}
 use Rattle.std.specs.Str.{bytes_eq}
 use Rattle.std.specs.Str.Parse.{digits_value, without_leading_plus}
 use Rattle.clap.specs.Faults.{fault_of}
-use Rattle.clap.specs.Words.{IsAmong, IsSignedIn, Kinds, Row, Text, all_of, first_of, found_of, kind_of, one_of, rows_of, subcommand_of, takes, without_minus}
+use Rattle.clap.specs.Words.{IsAmong, IsSignedIn, IsUnsignedIn, Kinds, Row, Text, all_of, first_of, found_of, kind_of, one_of, rows_of, subcommand_of, takes, without_minus}
 use Rattle.clap.specs.declared.parser.matches.ArgMatches.{ArgMatches}
 use Rattle.hintcheck_words.specs.CommandLine.{hintcheck}
 use Rattle.hintcheck_words.specs.declared.words.Task.{Task}
@@ -23,11 +23,11 @@ rows_in values = rows_of (found_of values)
 -- a subcommand and its values
 pub data Request : Type 0 where
   bare : Text → ℕ → ℕ → ℕ → Option Text → Request
-  verdict : Text → Request
-  scan : List Text → Request
+  verdict : Text → Option ℕ → Request
+  scan : List Text → Option ℕ → Request
   explain : Text → Text → Option ℕ → Request
-  find : Text → Text → Request
-  check : Text → Text → Request
+  find : Text → Text → Option ℕ → Request
+  check : Text → Text → Option ℕ → Request
   list : Text → Text → Request
   upgrade : Text → Text → Request
 
@@ -62,6 +62,20 @@ pub record HasNumber (most : ℕ) (rows : List Row) (id : Text) : Type 0 where
 abbrev pub HasNumberIfAny : ℕ → List Row → Text → Type 0
 HasNumberIfAny most rows id = (one_of id rows ≡ None) ⊎ HasNumber most rows id
 
+-- an argument got the text of a number of 64 bits
+pub record HasLongNumber (rows : List Row) (id : Text) : Type 0 where
+  pub text : Text
+  pub found : one_of id rows ≡ Some text
+  pub number : IsUnsignedIn 0 18446744073709551615 text
+
+-- an argument got no text, or that of a number of 64 bits
+abbrev pub HasLongNumberIfAny : List Row → Text → Type 0
+HasLongNumberIfAny rows id = (one_of id rows ≡ None) ⊎ HasLongNumber rows id
+
+-- how many points may be made at most, if that is limited
+abbrev pub points_in : List Row → Option ℕ
+points_in rows = optional_number_in rows (codes "POINTS")
+
 -- what `bare` asks for, by what its arguments got
 unfoldable pub bare_request : List Row → Request
 bare_request rows =
@@ -74,14 +88,32 @@ unfoldable pub explain_request : List Row → Request
 explain_request rows = explain (text_in rows (codes "FONT")) (text_in rows (codes "PROGRAM"))
     (optional_number_in rows (codes "OFFSET"))
 
+-- what `verdict` asks for, by what its arguments got
+unfoldable pub verdict_request : List Row → Request
+verdict_request rows = verdict (text_in rows (codes "FONT")) (points_in rows)
+
+-- what `scan` asks for, by what its arguments got
+unfoldable pub scan_request : List Row → Request
+scan_request rows = scan (texts_in rows (codes "FONT")) (points_in rows)
+
+-- what `find` asks for, by what its arguments got
+unfoldable pub find_request : List Row → Request
+find_request rows =
+    find (text_in rows (codes "FONT")) (text_in rows (codes "CERT")) (points_in rows)
+
+-- what `check` asks for, by what its arguments got
+unfoldable pub check_request : List Row → Request
+check_request rows =
+    check (text_in rows (codes "FONT")) (text_in rows (codes "CERT")) (points_in rows)
+
 -- each subcommand, and what it asks for by what its arguments got
 unfoldable pub requests : List (Text × (List Row → Request))
 requests = (codes "bare", bare_request)
-    ∷ (codes "verdict", λ rows. verdict (text_in rows (codes "FONT")))
-    ∷ (codes "scan", λ rows. scan (texts_in rows (codes "FONT")))
+    ∷ (codes "verdict", verdict_request)
+    ∷ (codes "scan", scan_request)
     ∷ (codes "explain", explain_request)
-    ∷ (codes "find", λ rows. find (text_in rows (codes "FONT")) (text_in rows (codes "CERT")))
-    ∷ (codes "check", λ rows. check (text_in rows (codes "FONT")) (text_in rows (codes "CERT")))
+    ∷ (codes "find", find_request)
+    ∷ (codes "check", check_request)
     ∷ (codes "list", λ rows. list (text_in rows (codes "FONT")) (text_in rows (codes "PROGRAM")))
     ∷ (codes "upgrade", λ rows. upgrade (text_in rows (codes "OLD")) (text_in rows (codes "NEW")))
     ∷ []
@@ -116,12 +148,20 @@ pub record HasNumbers (rows : List Row) : Type 0 where
 abbrev pub HasOffset : List Row → Type 0
 HasOffset rows = HasNumberIfAny 4294967295 rows (codes "OFFSET")
 
--- a subcommand that asks for something, whose numbers are there if it is `bare`, and whose offset
--- is a number if it is `explain`
+-- the limit of the points is a number of 64 bits, where it is given
+abbrev pub HasPoints : List Row → Type 0
+HasPoints rows = HasLongNumberIfAny rows (codes "POINTS")
+
+-- a subcommand that asks for something, whose numbers are there if it is `bare`, whose offset is a
+-- number if it is `explain`, and whose limit of the points is one if it has that option
 pub record IsReadable (found : Text × List Row) : Type 0 where
   pub known : is_some (request_of found) ≡ true
   pub numbers : found.0 ≡ codes "bare" → HasNumbers found.1
   pub offset : found.0 ≡ codes "explain" → HasOffset found.1
+  pub of_verdict : found.0 ≡ codes "verdict" → HasPoints found.1
+  pub of_scan : found.0 ≡ codes "scan" → HasPoints found.1
+  pub of_find : found.0 ≡ codes "find" → HasPoints found.1
+  pub of_check : found.0 ≡ codes "check" → HasPoints found.1
 
 -- there is a subcommand, and it asks for something
 abbrev pub MeetsSubcommand : Option (Text × List Row) → Type 0
@@ -131,12 +171,14 @@ MeetsSubcommand found = IsSomeAnd found IsReadable
 unfoldable pub asked : Task → Request
 asked (task.Bare maxp cvt points contours program) =
     bare (string_bytes maxp) cvt points contours (option_map (λ s. string_bytes s) program)
-asked (task.Verdict font) = verdict (string_bytes font)
-asked (task.Scan fonts) = scan (map (λ s. string_bytes s) fonts.items)
+asked (task.Verdict font points) = verdict (string_bytes font) points
+asked (task.Scan fonts points) = scan (map (λ s. string_bytes s) fonts.items) points
 asked (task.Explain font program offset) =
     explain (string_bytes font) (string_bytes program) offset
-asked (task.Find font certificate) = find (string_bytes font) (string_bytes certificate)
-asked (task.Check font certificate) = check (string_bytes font) (string_bytes certificate)
+asked (task.Find font certificate points) =
+    find (string_bytes font) (string_bytes certificate) points
+asked (task.Check font certificate points) =
+    check (string_bytes font) (string_bytes certificate) points
 asked (task.List font program) = list (string_bytes font) (string_bytes program)
 asked (task.Upgrade old new) = upgrade (string_bytes old) (string_bytes new)
 

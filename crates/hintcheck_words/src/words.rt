@@ -2,8 +2,8 @@
 
 ghost use Rattle.std.specs.Prelude.{◌≡◌, IfErr, IfOk, Some, codes, false, map, option_map, string_bytes};
 ghost use Rattle.clap.specs.Words.{app_of, new_app, rule_of, subcommand_rows_of};
-ghost use Rattle.hintcheck_words.specs.CommandLine.{bare, explain, hintcheck, needed as needed_rule, needed_number as number_rule, of_texts, optional_number as optional_rule, scan};
-ghost use Rattle.hintcheck_words.specs.Requests.{HasNumber, HasNumberIfAny, HasNumbers, HasOffset, IsReadable, IsMemoryIfTaken, MeetsSubcommand, TellsFault, asked, bare_request, explain_request, faults_in, meaning, met, number_in, optional_in, optional_number_in, request_of, rows_in, text_in, texts_in, texts_of};
+ghost use Rattle.hintcheck_words.specs.CommandLine.{bare, explain, hintcheck, needed as needed_rule, needed_number as number_rule, of_texts, of_texts_and_points, optional_number as optional_rule, points as points_rule, scan};
+ghost use Rattle.hintcheck_words.specs.Requests.{HasNumber, HasNumberIfAny, HasNumbers, HasOffset, HasPoints, IsReadable, IsMemoryIfTaken, MeetsSubcommand, TellsFault, asked, bare_request, check_request, explain_request, faults_in, find_request, meaning, met, number_in, optional_in, optional_number_in, points_in, request_of, rows_in, scan_request, text_in, texts_in, texts_of, verdict_request};
 
 use clap::error::ErrorKind;
 use clap::{Arg, ArgMatches, Command, value_parser};
@@ -30,11 +30,15 @@ pub enum Task {
     Verdict {
         /// The name of the font file.
         font: String,
+        /// How many points may be made; None where that isn't limited.
+        points: Option<u64>,
     },
     /// Checks all programs of each of several font files.
     Scan {
         /// The names of the font files.
         fonts: Vec<String>,
+        /// How many points may be made per font; None where that isn't limited.
+        points: Option<u64>,
     },
     /// Tells how one program of a font file is checked.
     Explain {
@@ -51,6 +55,8 @@ pub enum Task {
         font: String,
         /// The name of the certificate's file.
         certificate: String,
+        /// How many points may be made; None where that isn't limited.
+        points: Option<u64>,
     },
     /// Checks a font file by a certificate.
     Check {
@@ -58,6 +64,8 @@ pub enum Task {
         font: String,
         /// The name of the certificate's file.
         certificate: String,
+        /// How many points may be made; None where that isn't limited.
+        points: Option<u64>,
     },
     /// Lists the instructions of one program of a font file.
     List {
@@ -114,7 +122,7 @@ fn needed_number<'a>(alloc: Global, id: &'a str, help: &'a str) -> Arg<'a>
 
 /// What is printed at `--version`, after the program's name: the version, and the kit by which it
 /// is proved.
-const VERSION: &str = "0.9.0 (rattle-kit-13f logic dac8208d650f15bf)";
+const VERSION: &str = "0.9.0 (rattle-kit-13b logic dac8208d650f15bf)";
 
 /// A subcommand's name, what it does, and an example of its words.
 #[derive(Clone, Copy)]
@@ -239,6 +247,35 @@ fn texts_command<'a>(
     Ok(with_texts)
 }
 
+/// Makes the option `--points`.
+fn points_option<'a>(alloc: Global, help: &'a str) -> Arg<'a>
+    ensures rule { rule_of result ≡ points_rule }
+    ensures local { result.global ≡ false }
+{
+    Arg::new(alloc, "POINTS")
+        .long("points")
+        .value_parser(value_parser!(u64))
+        .help(help)
+}
+
+/// Makes a subcommand whose arguments are texts that must be given, and the option `--points`.
+///
+/// # Errors
+/// If memory runs out.
+fn limited_command<'a>(
+    alloc: Global,
+    command: Subcommand<'a>,
+    texts: &[(&'a str, &'a str)],
+) -> Result<Command<'a>, AllocError>
+    ensures { IfOk result (λ c.
+        app_of c ≡ of_texts_and_points command.entry.name.now (map (λ t. t.0.now) texts.now)) }
+{
+    texts_command(alloc, command, texts)?.arg(points_option(
+        alloc,
+        "How many points may be made; without it, as many as the font asks for",
+    ))
+}
+
 /// Makes the subcommand `scan`.
 ///
 /// # Errors
@@ -246,9 +283,12 @@ fn texts_command<'a>(
 fn scan_command<'a>(alloc: Global) -> Result<Command<'a>, AllocError>
     ensures { IfOk result (λ c. app_of c ≡ scan) }
 {
-    plain_command(alloc, SCAN).arg(needed(alloc, "FONT", "The names of the font files").num_args(
-        1..,
-    ))
+    plain_command(alloc, SCAN)
+        .arg(needed(alloc, "FONT", "The names of the font files").num_args(1..))?
+        .arg(points_option(
+            alloc,
+            "How many points may be made per font; without it, as many as the font asks for",
+        ))
 }
 
 /// Makes the argument that is an offset, which may be left out.
@@ -289,11 +329,11 @@ fn command_line<'a>(alloc: Global) -> Result<Command<'a>, AllocError>
         .subcommand_required(true)
         .bin_name("hintcheck")?
         .subcommand(bare_command(alloc)?)?
-        .subcommand(texts_command(alloc, VERDICT, &[FONT])?)?
+        .subcommand(limited_command(alloc, VERDICT, &[FONT])?)?
         .subcommand(scan_command(alloc)?)?
         .subcommand(explain_command(alloc)?)?
-        .subcommand(texts_command(alloc, FIND, &[FONT, CERTIFICATE])?)?
-        .subcommand(texts_command(alloc, CHECK, &[FONT, CERTIFICATE])?)?
+        .subcommand(limited_command(alloc, FIND, &[FONT, CERTIFICATE])?)?
+        .subcommand(limited_command(alloc, CHECK, &[FONT, CERTIFICATE])?)?
         .subcommand(texts_command(alloc, LIST, &[FONT, PROGRAM])?)?
         .subcommand(texts_command(alloc, UPGRADE, &[OLD, NEW])?)
 }
@@ -357,6 +397,14 @@ fn optional_number(values: &ArgMatches<'_>, id: &str) -> Option<u32>
     values.get_one::<u32>(id)
 }
 
+/// Returns the limit of the points that the words give, if they give one.
+fn points(values: &ArgMatches<'_>) -> Option<u64>
+    requires { HasPoints (rows_in values.now) }
+    ensures { result ≡ points_in (rows_in values.now) }
+{
+    values.get_one::<u64>("POINTS")
+}
+
 /// Returns the task of the subcommand `bare`.
 ///
 /// # Errors
@@ -389,6 +437,64 @@ fn explain_task(alloc: Global, values: &ArgMatches<'_>) -> Result<Task, AllocErr
     })
 }
 
+/// Returns the task of the subcommand `verdict`.
+///
+/// # Errors
+/// If memory runs out.
+fn verdict_task(alloc: Global, values: &ArgMatches<'_>) -> Result<Task, AllocError>
+    requires { HasPoints (rows_in values.now) }
+    ensures { IfOk result (λ t. asked t ≡ verdict_request (rows_in values.now)) }
+{
+    Ok(Task::Verdict {
+        font: text(alloc, values, "FONT")?,
+        points: points(values),
+    })
+}
+
+/// Returns the task of the subcommand `scan`.
+///
+/// # Errors
+/// If memory runs out.
+fn scan_task(alloc: Global, values: &ArgMatches<'_>) -> Result<Task, AllocError>
+    requires { HasPoints (rows_in values.now) }
+    ensures { IfOk result (λ t. asked t ≡ scan_request (rows_in values.now)) }
+{
+    Ok(Task::Scan {
+        fonts: all_texts(alloc, values, "FONT")?,
+        points: points(values),
+    })
+}
+
+/// Returns the task of the subcommand `find`.
+///
+/// # Errors
+/// If memory runs out.
+fn find_task(alloc: Global, values: &ArgMatches<'_>) -> Result<Task, AllocError>
+    requires { HasPoints (rows_in values.now) }
+    ensures { IfOk result (λ t. asked t ≡ find_request (rows_in values.now)) }
+{
+    Ok(Task::Find {
+        font: text(alloc, values, "FONT")?,
+        certificate: text(alloc, values, "CERT")?,
+        points: points(values),
+    })
+}
+
+/// Returns the task of the subcommand `check`.
+///
+/// # Errors
+/// If memory runs out.
+fn check_task(alloc: Global, values: &ArgMatches<'_>) -> Result<Task, AllocError>
+    requires { HasPoints (rows_in values.now) }
+    ensures { IfOk result (λ t. asked t ≡ check_request (rows_in values.now)) }
+{
+    Ok(Task::Check {
+        font: text(alloc, values, "FONT")?,
+        certificate: text(alloc, values, "CERT")?,
+        points: points(values),
+    })
+}
+
 /// Returns the task of the subcommand with this name.
 ///
 /// # Errors
@@ -399,21 +505,11 @@ fn task_of(alloc: Global, name: &str, values: &ArgMatches<'_>) -> Result<Task, A
 {
     match name {
         "bare" => bare_task(alloc, values),
-        "verdict" => Ok(Task::Verdict {
-            font: text(alloc, values, "FONT")?,
-        }),
-        "scan" => Ok(Task::Scan {
-            fonts: all_texts(alloc, values, "FONT")?,
-        }),
+        "verdict" => verdict_task(alloc, values),
+        "scan" => scan_task(alloc, values),
         "explain" => explain_task(alloc, values),
-        "find" => Ok(Task::Find {
-            font: text(alloc, values, "FONT")?,
-            certificate: text(alloc, values, "CERT")?,
-        }),
-        "check" => Ok(Task::Check {
-            font: text(alloc, values, "FONT")?,
-            certificate: text(alloc, values, "CERT")?,
-        }),
+        "find" => find_task(alloc, values),
+        "check" => check_task(alloc, values),
         "list" => Ok(Task::List {
             font: text(alloc, values, "FONT")?,
             program: text(alloc, values, "PROGRAM")?,

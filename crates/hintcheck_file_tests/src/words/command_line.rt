@@ -52,11 +52,19 @@ fn text_at(texts: &[String], place: usize) -> &str {
 fn texts(task: &Task) -> (&str, &str, &str) {
     match task {
         Task::Bare { maxp, .. } => ("bare", maxp.as_str(), ""),
-        Task::Verdict { font } => ("verdict", font.as_str(), ""),
-        Task::Scan { fonts } => ("scan", text_at(fonts, 0), text_at(fonts, 1)),
+        Task::Verdict { font, .. } => ("verdict", font.as_str(), ""),
+        Task::Scan { fonts, .. } => ("scan", text_at(fonts, 0), text_at(fonts, 1)),
         Task::Explain { font, program, .. } => ("explain", font.as_str(), program.as_str()),
-        Task::Find { font, certificate } => ("find", font.as_str(), certificate.as_str()),
-        Task::Check { font, certificate } => ("check", font.as_str(), certificate.as_str()),
+        Task::Find {
+            font,
+            certificate,
+            ..
+        } => ("find", font.as_str(), certificate.as_str()),
+        Task::Check {
+            font,
+            certificate,
+            ..
+        } => ("check", font.as_str(), certificate.as_str()),
         Task::List { font, program } => ("list", font.as_str(), program.as_str()),
         Task::Upgrade { old, new } => ("upgrade", old.as_str(), new.as_str()),
     }
@@ -116,7 +124,7 @@ fn reads_words_of_texts(rt: HostRuntime) {
 /// Whether words ask for the scan of so many fonts, or for the explanation of this place.
 fn asks_further<'a>(alloc: Global, words: &'a [&'a str], fonts: usize, place: Option<u32>) -> bool {
     match read_words(alloc, words) {
-        Ok(Task::Scan { fonts: names }) => names.len() == fonts,
+        Ok(Task::Scan { fonts: names, .. }) => names.len() == fonts,
         Ok(Task::Explain { offset, .. }) => offset == place,
         _ => false,
     }
@@ -138,6 +146,127 @@ const FURTHER: [(&[&str], usize, Option<u32>); 4] = [
 fn reads_words_of_scans_and_explanations(rt: HostRuntime) {
     for (words, fonts, place) in FURTHER {
         let is_so = asks_further(rt.alloc(), words, fonts, place);
+        assert!(rt; is_so, "of {words:?}");
+    }
+}
+
+/// Returns how many points a task lets be made, if it limits them.
+fn most_points(task: &Task) -> Option<u64> {
+    match task {
+        Task::Verdict { points, .. } => *points,
+        Task::Scan { points, .. } => *points,
+        Task::Find { points, .. } => *points,
+        Task::Check { points, .. } => *points,
+        _ => None,
+    }
+}
+
+/// Whether words ask for the task with these texts and this limit of the points.
+fn asks_within<'a>(
+    alloc: Global,
+    words: &'a [&'a str],
+    want: (&str, &str, &str),
+    most: Option<u64>,
+) -> bool {
+    match read_words(alloc, words) {
+        Ok(task) => texts(&task) == want && most_points(&task) == most,
+        Err(_) => false,
+    }
+}
+
+/// Words of the subcommands that take `--points`, the texts of the task, and the limit.
+const LIMITED: [(&[&str], (&str, &str, &str), Option<u64>); 19] = [
+    (&["hintcheck", "verdict", "a"], ("verdict", "a", ""), None),
+    (&["hintcheck", "scan", "a", "b"], ("scan", "a", "b"), None),
+    (&["hintcheck", "find", "a", "b"], ("find", "a", "b"), None),
+    (&["hintcheck", "check", "a", "b"], ("check", "a", "b"), None),
+    (
+        &["hintcheck", "verdict", "--points", "5", "a"],
+        ("verdict", "a", ""),
+        Some(5),
+    ),
+    (
+        &["hintcheck", "verdict", "a", "--points", "5"],
+        ("verdict", "a", ""),
+        Some(5),
+    ),
+    (
+        &["hintcheck", "verdict", "--points=7", "a"],
+        ("verdict", "a", ""),
+        Some(7),
+    ),
+    (
+        &["hintcheck", "verdict", "--points", "0", "a"],
+        ("verdict", "a", ""),
+        Some(0),
+    ),
+    (
+        &[
+            "hintcheck",
+            "verdict",
+            "--points",
+            "18446744073709551615",
+            "a",
+        ],
+        ("verdict", "a", ""),
+        Some(18_446_744_073_709_551_615),
+    ),
+    (
+        &["hintcheck", "scan", "--points", "5", "a", "b"],
+        ("scan", "a", "b"),
+        Some(5),
+    ),
+    (
+        &["hintcheck", "scan", "a", "b", "--points", "5"],
+        ("scan", "a", "b"),
+        Some(5),
+    ),
+    (
+        &["hintcheck", "scan", "a", "--points", "5", "b"],
+        ("scan", "a", "b"),
+        Some(5),
+    ),
+    (
+        &["hintcheck", "scan", "a", "b", "--points=7"],
+        ("scan", "a", "b"),
+        Some(7),
+    ),
+    (
+        &["hintcheck", "scan", "--", "--points", "5"],
+        ("scan", "--points", "5"),
+        None,
+    ),
+    (
+        &["hintcheck", "find", "--points", "5", "a", "b"],
+        ("find", "a", "b"),
+        Some(5),
+    ),
+    (
+        &["hintcheck", "find", "a", "b", "--points", "5"],
+        ("find", "a", "b"),
+        Some(5),
+    ),
+    (
+        &["hintcheck", "find", "a", "--points=7", "b"],
+        ("find", "a", "b"),
+        Some(7),
+    ),
+    (
+        &["hintcheck", "check", "--points", "5", "a", "b"],
+        ("check", "a", "b"),
+        Some(5),
+    ),
+    (
+        &["hintcheck", "check", "a", "b", "--points", "5"],
+        ("check", "a", "b"),
+        Some(5),
+    ),
+];
+
+#[test]
+fn reads_how_many_points_may_be_made(rt: HostRuntime) {
+    for (words, want, most) in LIMITED {
+        let is_so = asks_within(rt.alloc(), words, want, most);
         assert!(rt; is_so, "of {words:?}");
     }
 }
@@ -226,11 +355,94 @@ fn refuses_other_words(rt: HostRuntime) {
     }
 }
 
+/// Words with a `--points` that isn't one, and the kind of the error.
+const OTHER_LIMITS: [(&[&str], ErrorKind); 14] = [
+    (
+        &["hintcheck", "verdict", "a", "--points"],
+        ErrorKind::InvalidValue,
+    ),
+    (
+        &["hintcheck", "scan", "a", "--points"],
+        ErrorKind::InvalidValue,
+    ),
+    (
+        &["hintcheck", "find", "a", "b", "--points"],
+        ErrorKind::InvalidValue,
+    ),
+    (
+        &["hintcheck", "check", "a", "b", "--points"],
+        ErrorKind::InvalidValue,
+    ),
+    (
+        &["hintcheck", "verdict", "--points", "a"],
+        ErrorKind::ValueValidation,
+    ),
+    (
+        &["hintcheck", "verdict", "--points=", "a"],
+        ErrorKind::ValueValidation,
+    ),
+    (
+        &["hintcheck", "verdict", "--points", "-1", "a"],
+        ErrorKind::UnknownArgument,
+    ),
+    (
+        &["hintcheck", "verdict", "--points=-1", "a"],
+        ErrorKind::ValueValidation,
+    ),
+    (
+        &["hintcheck", "scan", "--points", "18446744073709551616", "a"],
+        ErrorKind::ValueValidation,
+    ),
+    (
+        &[
+            "hintcheck",
+            "check",
+            "a",
+            "b",
+            "--points=18446744073709551616",
+        ],
+        ErrorKind::ValueValidation,
+    ),
+    (
+        &["hintcheck", "scan", "--points", "5"],
+        ErrorKind::MissingRequiredArgument,
+    ),
+    (
+        &[
+            "hintcheck",
+            "find",
+            "--points",
+            "5",
+            "a",
+            "b",
+            "--points",
+            "5",
+        ],
+        ErrorKind::ArgumentConflict,
+    ),
+    (
+        &["hintcheck", "list", "--points", "5", "a", "g0"],
+        ErrorKind::UnknownArgument,
+    ),
+    (
+        &["hintcheck", "explain", "--points", "5", "a", "g0"],
+        ErrorKind::UnknownArgument,
+    ),
+];
+
+#[test]
+fn refuses_other_limits(rt: HostRuntime) {
+    for (words, want) in OTHER_LIMITS {
+        assert_eq!(rt; refusal(rt.alloc(), words), Some(want), "of {words:?}");
+    }
+}
+
 /// Words that ask for help.
-const HELP: [&[&str]; 3] = [
+const HELP: [&[&str]; 4] = [
     &["hintcheck", "--help"],
     &["hintcheck", "help", "bare"],
     &["hintcheck", "list", "-h"],
+    &["hintcheck", "scan", "--points", "5", "--help"],
 ];
 
 #[test]

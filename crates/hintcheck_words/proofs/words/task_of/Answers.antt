@@ -11,13 +11,19 @@ pub returns-in-bare : goal.returns-in-bare
 unfolding request_of requests
 returns-in-bare c = IfOk-weaker c.bare_task.result _ _ (λ t h. rw c.in-bare.is (ap (λ (r : Request). Some r) (sym h))) c.bare_task.ensures
 
-pub returns-in_ok-text-in-verdict : goal.returns-in_ok-text-in-verdict
-unfolding request_of requests asked
-returns-in_ok-text-in-verdict c = rw (c.in-verdict.is, c.in_ok-text-in-verdict.ensures) refl
+pub verdict_task-requires : goal.verdict_task-requires
+verdict_task-requires c = c.requires.of_verdict c.in-verdict.is
 
-pub returns-in_ok-all_texts-in-scan : goal.returns-in_ok-all_texts-in-scan
-unfolding request_of requests asked
-returns-in_ok-all_texts-in-scan c = rw (c.in-scan.is, c.in_ok-all_texts-in-scan.ensures) refl
+pub returns-in-verdict : goal.returns-in-verdict
+unfolding request_of requests
+returns-in-verdict c = IfOk-weaker c.verdict_task.result _ _ (λ t h. rw c.in-verdict.is (ap (λ (r : Request). Some r) (sym h))) c.verdict_task.ensures
+
+pub scan_task-requires : goal.scan_task-requires
+scan_task-requires c = c.requires.of_scan c.in-scan.is
+
+pub returns-in-scan : goal.returns-in-scan
+unfolding request_of requests
+returns-in-scan c = IfOk-weaker c.scan_task.result _ _ (λ t h. rw c.in-scan.is (ap (λ (r : Request). Some r) (sym h))) c.scan_task.ensures
 
 pub explain_task-requires : goal.explain_task-requires
 explain_task-requires c = c.requires.offset c.in-explain.is
@@ -26,13 +32,19 @@ pub returns-in-explain : goal.returns-in-explain
 unfolding request_of requests
 returns-in-explain c = IfOk-weaker c.explain_task.result _ _ (λ t h. rw c.in-explain.is (ap (λ (r : Request). Some r) (sym h))) c.explain_task.ensures
 
-pub returns-in_ok-text-in-find-2 : goal.returns-in_ok-text-in-find-2
-unfolding request_of requests asked
-returns-in_ok-text-in-find-2 c = rw (c.in-find.is, c.in_ok-text-in-find.ensures, c.in_ok-text-in-find-2.ensures) refl
+pub find_task-requires : goal.find_task-requires
+find_task-requires c = c.requires.of_find c.in-find.is
 
-pub returns-in_ok-text-in-check-2 : goal.returns-in_ok-text-in-check-2
-unfolding request_of requests asked
-returns-in_ok-text-in-check-2 c = rw (c.in-check.is, c.in_ok-text-in-check.ensures, c.in_ok-text-in-check-2.ensures) refl
+pub returns-in-find : goal.returns-in-find
+unfolding request_of requests
+returns-in-find c = IfOk-weaker c.find_task.result _ _ (λ t h. rw c.in-find.is (ap (λ (r : Request). Some r) (sym h))) c.find_task.ensures
+
+pub check_task-requires : goal.check_task-requires
+check_task-requires c = c.requires.of_check c.in-check.is
+
+pub returns-in-check : goal.returns-in-check
+unfolding request_of requests
+returns-in-check c = IfOk-weaker c.check_task.result _ _ (λ t h. rw c.in-check.is (ap (λ (r : Request). Some r) (sym h))) c.check_task.ensures
 
 pub returns-in_ok-text-in-list-2 : goal.returns-in_ok-text-in-list-2
 unfolding request_of requests asked
