@@ -23,6 +23,7 @@ pub enum Told {
     Read,
     Write,
     OutOfMemory,
+    Budget,
 }
 
 /// Returns what a verdict says.
@@ -52,6 +53,7 @@ pub fn told_of_check_fault(fault: &CheckFontFault) -> Told {
         CheckFontFault::Form(place) => Told::Form(*place),
         CheckFontFault::Read => Told::Read,
         CheckFontFault::OutOfMemory(_) => Told::OutOfMemory,
+        CheckFontFault::Budget => Told::Budget,
     }
 }
 
@@ -85,6 +87,7 @@ fn find_on<L: Ledger>(alloc: Global, font: &[u8], taker: Taker, blank: Blank) ->
         Err(FindFontFault::Font(fault)) => Told::Font(fault.number()),
         Err(FindFontFault::Write) => Told::Write,
         Err(FindFontFault::OutOfMemory(_)) => Told::OutOfMemory,
+        Err(FindFontFault::Budget) => Told::Budget,
     };
     (told, sink.into_inner().bytes)
 }

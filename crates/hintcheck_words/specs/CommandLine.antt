@@ -8,7 +8,7 @@
 --     hintcheck list FONT PROGRAM
 --     hintcheck upgrade OLD NEW
 --     hintcheck --version
--- The option `--points` may also stand behind the names of the files, or between them.
+-- The option `--points` may also come after the names of the files, or between them.
 use Rattle.std.specs.Prelude.{codes, fold, List, [], ◌∷◌, true, pos, Some}
 use Rattle.clap.specs.Lexer.{usize_max}
 use Rattle.clap.specs.Words.{App, Rule, Text, new_app, new_rule, with_rule, with_subcommand}
