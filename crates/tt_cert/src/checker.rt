@@ -1,14 +1,14 @@
 //! The check of a certificate: whether its family is good for a program, or can be filled up to a
 //! good one.
 
-ghost use Rattle.std.specs.Prelude.{◌≡◌, ◌↔◌, ◌<◌, ◌^◌, [], None, IfOk, IfErr, IsFalse, IsTrue};
+ghost use Rattle.std.specs.Prelude.{◌≡◌, ◌↔◌, ◌<◌, ◌^◌, [], None, IfOk, IfErr, IsFalse, IsTrue, OnOk};
 ghost use Rattle.std.specs.List.{All};
 ghost use Rattle.tt_abs.specs.Entries.{Rises};
 ghost use Rattle.tt_abs.specs.Families.{CoversAt};
 ghost use Rattle.tt_abs.specs.Lines.{EndsAt};
 ghost use Rattle.tt_abs.specs.Settings.{setting_of};
 ghost use Rattle.tt_abs.specs.States.{state_order};
-ghost use Rattle.tt_cert.specs.Budgets.{Spends};
+ghost use Rattle.tt_cert.specs.Budgets.{Counts, Spends};
 ghost use Rattle.tt_cert.specs.CheckedSubjects.{EndsWellFor, HasGoodFillingFor, HasSafeFillingFor, IsGoodFor, IsSafeFor, IsShortFor, NamesBrokenFirst, NamesFillingBrokenFirst};
 ghost use Rattle.tt_cert.specs.Representation.Cursors.{IsFoundSoundFor, NamesFirstFor, AreToCome, AreUnlisted, IsLeftOutAfter, IsWalk, IsWalkedThrough, NamesBreak, NamesFirstBreak, PassesPoint, to_come};
 ghost use Rattle.tt_cert.specs.Checks.{AreToldBefore, IsOutOfMemory, NamesGap};
@@ -126,6 +126,7 @@ fn check_point(
     ensures next { walk.new.next ≡ walk.old.next }
     ensures context { walk.new.context ≡ walk.old.context }
     ensures within { offset < 2 ^ 32 }
+    ensures counted { OnOk result (Counts budget.old budget.new) }
     ensures spends { Spends budget.old budget.new }
 {
     budget.spend()?;

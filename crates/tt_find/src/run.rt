@@ -1,9 +1,9 @@
 //! A run: the state that is kept at a point is carried on in place, until it comes to where states
 //! are kept, or until it goes elsewhere.
 
-ghost use Rattle.std.specs.Prelude.{◌≡◌, ◌<◌, IfErr, IfOk, IfSome, IsTrue, length};
+ghost use Rattle.std.specs.Prelude.{◌≡◌, ◌<◌, IfErr, IfOk, IfSome, IsTrue, OnOk, length};
 ghost use Rattle.tt_abs.specs.States.{state_order};
-ghost use Rattle.tt_cert.specs.Budgets.{Spends};
+ghost use Rattle.tt_cert.specs.Budgets.{Counts, Spends};
 ghost use Rattle.tt_cert.specs.Checks.{IsOutOfMemory};
 ghost use Rattle.tt_find.specs.Representation.SolverSubjects.{EndsJustBefore, GoesOnFor, HasLawsFor, IsNextAfter, IsOnWayFor, IsPoppedFor, IsSteppedAt, IsWholeFor, LeadsAlong, LeadsOver, NamesRefusalAt, StopsFor};
 ghost use Rattle.tt_find.specs.Representation.Solvers.{HasRisen, IsStored, IsWalk, KeepsEverywhere, StopsApart, TellsSource, refused_in};
@@ -222,6 +222,7 @@ fn step_point(
     ensures walk { IfOk result (λ _. IsWalk solver.new.builder walk.new) }
     ensures stops { IfErr result (StopsFor setting.now solver.old.marks.everywhere) }
     ensures everywhere { IfOk result (λ _. KeepsEverywhere solver.old solver.new) }
+    ensures counted { OnOk result (Counts budget.old budget.new) }
     ensures spends { Spends budget.old budget.new }
 {
     budget.spend()?;
