@@ -1,12 +1,29 @@
 # Completion of hintcheck's words for bash.
 _hintcheck() {
     local word=${COMP_WORDS[COMP_CWORD]} commands='verdict scan explain find check list upgrade bare help'
+    local command=${COMP_WORDS[1]} at=$COMP_CWORD i
     COMPREPLY=()
     if [ "$COMP_CWORD" -eq 1 ]; then
         mapfile -t COMPREPLY < <(compgen -W "$commands --help --version" -- "$word")
         return
     fi
-    case ${COMP_WORDS[1]}:$COMP_CWORD in
+    case $command in
+        verdict | scan | find | check)
+            if [[ $word == -* ]]; then
+                mapfile -t COMPREPLY < <(compgen -W '--points --help' -- "$word")
+                return
+            fi
+            # The option and its number aren't among the names. In `--points=5` bash takes `=` for a word of its own.
+            for ((i = 2; i < COMP_CWORD; i++)); do
+                if [ "${COMP_WORDS[i]}" = --points ]; then
+                    [ "${COMP_WORDS[i + 1]}" = = ] && i=$((i + 1)) && at=$((at - 1))
+                    i=$((i + 1)) at=$((at - 2))
+                    [ "$i" -ge "$COMP_CWORD" ] && return
+                fi
+            done
+            ;;
+    esac
+    case $command:$at in
         verdict:2 | scan:* | explain:2 | find:[23] | check:[23] | list:2 | upgrade:[23])
             compopt -o filenames
             mapfile -t COMPREPLY < <(compgen -f -- "$word")

@@ -10,7 +10,7 @@
  * `refusals` and `answer`, which are written), and isn't kept: there is no state between calls. Memory is taken with malloc while a
  * call runs, and given back before it returns. Threads: calls may run at once in several threads, each with its own `refusals` and
  * `answer`; not from a signal handler, and not in the forked child of a process with threads. Time: `points` bounds how many states are
- * carried on, which is proved (the clauses `points`); docs/EMBEDDING.md says which numbers real fonts need, and what time that bounds.
+ * carried on (that no more are counted is proved); docs/EMBEDDING.md says which numbers real fonts need, and what time that bounds.
  */
 #ifndef HINTCHECK_H
 #define HINTCHECK_H
