@@ -89,7 +89,6 @@ fn find_over<L: Ledger>(heap: &mut Heap, example: &Example<'_>, blank: Blank) ->
     let told = match found {
         Ok(verdict) => Told::Answer(u64::from(verdict.programs())),
         Err(FindFontFault::OutOfMemory(_)) => Told::OutOfMemory,
-        Err(FindFontFault::Budget) => Told::Budget,
         Err(FindFontFault::Font(FontFault::OutOfMemory(_))) => Told::OutOfMemory,
         Err(_) => Told::Wrong,
     };
