@@ -125,6 +125,7 @@ pub fault_line : (name : List â„•) (f : CommandFault) (old new : Option (List â„
 fault_line name (fault.Font numbered) old new is written = written
 fault_line name fault.Read old new is written = written
 fault_line name fault.OutOfMemory old new is written = written
+fault_line name fault.Budget old new is written = written
 fault_line name (fault.Usage text) old new is written = absurd is
 fault_line name fault.MaxpWord old new is written = absurd is
 fault_line name fault.ProgramWord old new is written = absurd is

@@ -326,7 +326,7 @@ impl From<FontFault> for VerdictFault {
 /// one.
 ///
 /// # Errors
-/// As `verdict`; `Budget` exactly where more points were to be made.
+/// As `verdict`; `Budget` exactly where more points were to be made, also in an earlier call.
 pub fn verdict_within(
     alloc: Global,
     font: &[u8],
@@ -340,6 +340,9 @@ pub fn verdict_within(
     ensures spends { Spends budget.old budget.new }
     ensures budget { TellsBudget budget.new result }
 {
+    if budget.is_met() {
+        return Err(VerdictFault::Budget);
+    }
     let read = read_font(alloc, font)?;
     let judged = refused_programs(alloc, &read, Search::Verdict, budget);
     if budget.is_met() {

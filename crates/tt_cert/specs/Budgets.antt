@@ -14,6 +14,10 @@ unlimited_budget = new_budget 18446744073709551615
 abbrev pub made_by : Budget → ℕ
 made_by budget = budget.most - budget.left
 
+-- all points were made that may be, and one more was to be made
+abbrev pub IsMet : Budget → Type 0
+IsMet budget = (budget.is_over ≡ true) × (budget.left ≡ 0)
+
 -- one more point is counted
 abbrev pub Counts : Budget → Budget → Type 0
 Counts old new = (old.left ≡ new.left + 1) × (new ≡ record old { left = new.left })

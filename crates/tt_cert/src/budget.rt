@@ -1,7 +1,7 @@
 //! How many points may be made.
 
-ghost use Rattle.std.specs.Prelude.{◌≡◌, OnErr, OnOk};
-ghost use Rattle.tt_cert.specs.Budgets.{Counts, IsUsedUp, made_by, new_budget, unlimited_budget};
+ghost use Rattle.std.specs.Prelude.{◌≡◌, ◌↔◌, IsTrue, OnErr, OnOk};
+ghost use Rattle.tt_cert.specs.Budgets.{Counts, IsMet, IsUsedUp, made_by, new_budget, unlimited_budget};
 
 use std::alloc::AllocError;
 
@@ -43,11 +43,11 @@ impl Budget {
         self.most.saturating_sub(self.left)
     }
 
-    /// Whether one more point was to be made than may be.
+    /// Whether all points were made that may be, and one more was to be made.
     pub fn is_met(&self) -> bool
-        ensures { result ≡ self.now.is_over }
+        ensures { IsTrue result ↔ IsMet self.now }
     {
-        self.is_over
+        self.is_over && self.left == 0
     }
 
     /// Counts one more point: nothing else does.

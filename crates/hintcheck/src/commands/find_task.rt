@@ -1,7 +1,9 @@
 //! The subcommand `find`: the verdict on a font file, and its certificate.
 
-ghost use Rattle.std.specs.Prelude.{◌≡◌, ◌≢◌, ◌+◌, ◌<◌, IfErr, IfOk, List, Err, Ok, OnOk, ℕ, []};
+ghost use Rattle.std.specs.Prelude.{◌≡◌, ◌≢◌, ◌+◌, ◌<◌, IfErr, IfOk, List, Err, Ok, OnOk, None, ℕ, []};
 ghost use Rattle.std.specs.Io.KnownBytes.{Keeps};
+ghost use Rattle.hintcheck.specs.Bounds.{IsNoFaultInAFont};
+ghost use Rattle.hintcheck.specs.CertificateFaults.{WritesNothing};
 ghost use Rattle.hintcheck.specs.CertificateTexts.{IsPassingCertificate, WritesText};
 ghost use Rattle.hintcheck.specs.Commands.{IsNoWriteFault};
 ghost use Rattle.hintcheck.specs.CommandFaults.{IsFaultOfCertifying, IsFaultOfFinding, IsWithin};
@@ -10,7 +12,7 @@ ghost use Rattle.hintcheck.specs.MeansSafe.{HoldRefusedFont, HoldSafeFont, IsVer
 
 use super::faults::CommandFault;
 use super::files::{ROOM, file_bytes, file_numbers, is_same_file, write_rest};
-use crate::certificate::{find_programs, find_programs_within};
+use crate::certificate::{FindFontFault, find_programs, find_programs_within};
 use crate::font::read_font;
 use crate::report::Verdict;
 use std::alloc::Global;
@@ -21,7 +23,29 @@ use std::rt::Files;
 use std::sync::ledger::{Blank, Ledger};
 use tt_cert::Budget;
 use tt_font::Font;
-use tt_stream::Counted;
+use tt_stream::{Counted, Sink};
+
+/// Returns the verdict on a font, whose certificate is written to the sink where no program is
+/// refused, and makes at most so many points, where they are bounded.
+fn find_within_points<W: Sink>(
+    alloc: Global,
+    font: &Font<'_>,
+    sink: &mut W,
+    points: Option<u64>,
+) -> Result<Verdict, FindFontFault>
+    requires { IsFontInRange font.now }
+    ensures exact { IfOk result (λ v. IsVerdict font.now v) }
+    ensures written { IfOk result (λ v. v.refused ≡ []
+        → WritesText (W.contents sink.old) (W.contents sink.new) (IsPassingCertificate font.now)) }
+    ensures unwritten { IfOk result (WritesNothing (W.contents sink.old) (W.contents sink.new)) }
+    ensures font { IfErr result IsNoFaultInAFont }
+    ensures within { IfErr result (λ fault. fault ≡ FindFontFault.Budget → points ≢ None) }
+{
+    match points {
+        Some(most) => find_programs_within(alloc, font, sink, &mut Budget::of(most)),
+        None => find_programs(alloc, font, sink, &mut Budget::unlimited()),
+    }
+}
 
 /// Returns the verdict on a font, and the file, to which the font's certificate is written where no
 /// program is refused. It makes at most so many points, where they are bounded.
@@ -47,10 +71,7 @@ fn verdict_to_file<L: Ledger, F: Write + Drop>(
         return Err(CommandFault::OutOfMemory);
     };
     let mut sink = Counted::<BufWriter<F>, L>::new(file, blank);
-    let verdict = match points {
-        Some(most) => find_programs_within(alloc, font, &mut sink, &mut Budget::of(most))?,
-        None => find_programs(alloc, font, &mut sink, &mut Budget::unlimited())?,
-    };
+    let verdict = find_within_points(alloc, font, &mut sink, points)?;
     let file = write_rest(sink.into_inner())?;
     Ok((verdict, file))
 }

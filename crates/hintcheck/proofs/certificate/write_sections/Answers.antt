@@ -6,7 +6,7 @@ use Rattle.hintcheck.proofs.SecondFindings.{none_refused_next}
 use Rattle.hintcheck.proofs.certificate.write_sections.Goals as goal
 
 pub loop-finder-init : goal.loop-finder-init
-loop-finder-init g c = (refl, nothing_found c.args.font.now (g.W.Sink.contents c.args.sink.now) c.new-session.result c.requires.accepted c.new-session.ensures, refl, omega arith)
+loop-finder-init g c = (refl, nothing_found c.args.font.now (g.W.Sink.contents c.args.sink.now) c.new-session.result c.requires.accepted c.new-session.ensures, (refl, omega arith))
 
 pub loop-finder-smaller : goal.loop-finder-smaller
 loop-finder-smaller g c =

@@ -27,4 +27,5 @@ returns c =
           let x = subject_in c.args.common.now id (glyph_data c.args.glyph.now) in
           let subject = is_subject x s.result c.in_ok-program.program (c.in_ok-program.ensures.cut x refl) s.ensures.main s.ensures.setting s.ensures.start in
           broken_result c.args.form x s.result certificate c.check_section.result subject c.check_section.ensures.first c.check_section.ensures.exact;
+      spends = c.check_section.ensures.spends;
     }

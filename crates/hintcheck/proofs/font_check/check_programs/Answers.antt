@@ -13,8 +13,7 @@ loop-refused-init g c =
       nothing_checked c.args.font.now bytes c.new-session.result c.new-refused.result.items c.new-session.ensures c.new-refused.ensures.items,
       refl,
       consumes_beginning _ _ _ (Consumes-nil bytes),
-      refl,
-      omega arith,
+      (refl, omega arith),
     )
 
 pub check_next_spending-requires : goal.check_next_spending-requires

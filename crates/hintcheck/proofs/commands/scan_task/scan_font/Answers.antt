@@ -9,7 +9,7 @@ returns-in_ok-print_line-in-Ok-clause-tells g c =
     verdict_tells _ _ status.status (λ zero. c.in-Ok.ensures.safe (status.accepted zero)) (λ one. c.in-Ok.ensures.refused (status.refused one))
 
 pub returns-in_ok-writeln-in-Err-clause-tells : goal.returns-in_ok-writeln-in-Err-clause-tells
-returns-in_ok-writeln-in-Err-clause-tells g c = fault_tells _ c.in-Err.fault _ c.in-Err.ensures.faults c.status.ensures.status c.status.ensures.within
+returns-in_ok-writeln-in-Err-clause-tells g c = fault_tells _ c.in-Err.fault _ c.in-Err.ensures.faults.0 c.status.ensures.status c.status.ensures.within
 
 pub returns-in_ok-print_line-in-Ok-clause-printed : goal.returns-in_ok-print_line-in-Ok-clause-printed
 returns-in_ok-print_line-in-Ok-clause-printed g c =
@@ -22,6 +22,6 @@ returns-in_ok-writeln-in-Err-clause-printed g c =
     let contents = g.O.Sink.contents in
     let old = contents c.args.out.now in
     let new = contents c.writeln.new.self in
-    let faults = c.in-Err.ensures.faults in
+    let faults = c.in-Err.ensures.faults.0 in
     scans_one c.args.name.now (unread c.in-Err.fault) c.status.result old new faults c.status.ensures.status
     (fault_line c.args.name.now c.in-Err.fault old new faults c.in_ok-writeln-in-Err.ensures.written)
