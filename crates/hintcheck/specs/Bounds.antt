@@ -40,6 +40,14 @@ TellsBudgetOfFind budget (Err (find.OutOfMemory error)) = IsEnough budget
 TellsBudgetOfFind budget (Err (find.Font font)) = Unit {0}
 TellsBudgetOfFind budget (Err find.Write) = Unit {0}
 
+-- The same where nothing is written: an answer comes only within the budget.
+abbrev pub TellsBudgetOfSearch : {T : Type 0} → Budget → Result T FindFontFault → Type 0
+TellsBudgetOfSearch budget (Ok done) = IsEnough budget
+TellsBudgetOfSearch budget (Err find.Budget) = IsMet budget
+TellsBudgetOfSearch budget (Err (find.OutOfMemory error)) = IsEnough budget
+TellsBudgetOfSearch budget (Err (find.Font font)) = Unit {0}
+TellsBudgetOfSearch budget (Err find.Write) = Unit {0}
+
 -- A fault of the font is the condition that holds on its bytes, unless memory ran out, and a verdict
 -- means that none does; a budget that is met may be told before the font is read.
 abbrev pub TestsInVerdict : {T : Type 0} → Condition → Result T VerdictFault → Type 0

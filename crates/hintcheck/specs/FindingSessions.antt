@@ -82,15 +82,26 @@ out_of_memory = find.OutOfMemory alloc_error
 abbrev pub out_of_memory_here : CheckFontFault
 out_of_memory_here = fault.OutOfMemory alloc_error
 
--- the only fault of a session that finds is that memory ran out
-abbrev pub IsMemoryAlone : Option CheckFontFault → Type 0
-IsMemoryAlone None = Unit {0}
-IsMemoryAlone (Some other) = other ≡ out_of_memory_here
+-- a fault that a session keeps, as one that finds reports it
+abbrev pub found_fault : CheckFontFault → FindFontFault
+found_fault fault.Budget = find.Budget
+found_fault other = out_of_memory
+
+-- the only faults of a session that finds are that memory or a budget ran out
+abbrev pub IsUnfinished : Option CheckFontFault → Type 0
+IsUnfinished None = Unit {0}
+IsUnfinished (Some fault.Budget) = Unit {0}
+IsUnfinished (Some other) = other ≡ out_of_memory_here
+
+-- the session keeps a fault that is reported so
+abbrev pub KeepsFault : Standing → FindFontFault → Type 0
+KeepsFault s told =
+    (kept : CheckFontFault) × (s.fault ≡ Some kept) × (told ≡ found_fault kept)
 
 -- a session that was used for no other calls than those that find: no certificate was read
 pub record IsForFinding (s : Standing) : Type 0 where
   pub unread : s.read ≡ None
-  pub memory : IsMemoryAlone s.fault
+  pub unfinished : IsUnfinished s.fault
 
 -- The sections of the programs that are accepted one after the other, from the font program up to a
 -- stage.

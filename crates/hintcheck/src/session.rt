@@ -5,11 +5,11 @@ ghost use Rattle.std.specs.Prelude.{◌≡◌, ◌≢◌, ◌+◌, ◌<◌, ◌�
 ghost use Rattle.tt_abs.specs.Entries.{Rises};
 ghost use Rattle.tt_cert.specs.Budgets.{Spends};
 ghost use Rattle.tt_stream.specs.Reads.{ConsumesBeginning};
-ghost use Rattle.hintcheck.specs.Bounds.{IsNoFaultOfAFont, TellsBudgetOfCheck};
+ghost use Rattle.hintcheck.specs.Bounds.{IsNoFaultOfAFont, TellsBudgetOfCheck, TellsBudgetOfSearch};
 ghost use Rattle.hintcheck.specs.CertificateFaults.{CountsCheck, IsNoFontFault};
 ghost use Rattle.hintcheck.specs.CheckedFonts.{Finds, IsTold};
 ghost use Rattle.hintcheck.specs.FailedReads.{EndsInCall, HasRead};
-ghost use Rattle.hintcheck.specs.FindingSessions.{IsForFinding, IsFoundAnswer, out_of_memory, out_of_memory_here};
+ghost use Rattle.hintcheck.specs.FindingSessions.{IsForFinding, IsFoundAnswer, KeepsFault, found_fault, out_of_memory, out_of_memory_here};
 ghost use Rattle.hintcheck.specs.FontPrograms.{IsFontInRange};
 ghost use Rattle.hintcheck.specs.ProgramVerdicts.{IsForCertificate};
 ghost use Rattle.hintcheck.specs.Sessions.{AnswersNext, IsForChecking, IsNextFault, IsSoundAnswer, ReadsOn, Stage, accepted_as, at_start, new_standing, over, standing_at};
@@ -78,6 +78,18 @@ impl SessionFault {
             SessionFault::Read => CheckFontFault::Read,
             SessionFault::OutOfMemory => CheckFontFault::OutOfMemory(AllocError),
             SessionFault::Budget => CheckFontFault::Budget,
+        }
+    }
+
+    /// Returns the fault as each call that finds returns it.
+    fn found(self) -> FindFontFault
+        ensures { result ≡ found_fault (fault_of self) }
+    {
+        match self {
+            SessionFault::Budget => FindFontFault::Budget,
+            SessionFault::Form(_) | SessionFault::Read | SessionFault::OutOfMemory => {
+                FindFontFault::OutOfMemory(AllocError)
+            }
         }
     }
 }
@@ -624,18 +636,18 @@ impl<'a> Session<'a> {
         ensures found { IfOk result
             (λ answer. IsFoundAnswer self.old.font self.old.stage answer self.new.stage) }
         ensures after_fault { (fault : AnyFault) → self.old.fault ≡ Some fault
-            → (result ≡ Err out_of_memory) × (self.new ≡ self.old) }
+            → (result ≡ Err (found_fault fault)) × (self.new ≡ self.old) }
         ensures after_none { self.old.fault ≡ None → self.old.stage ≡ over
             → (result ≡ Ok None) × (self.new ≡ self.old) }
-        ensures fault { IfErr result
+        ensures fault { self.old.fault ≡ None → IfErr result
             (λ fault. (fault ≡ out_of_memory) × (self.new.fault ≡ Some out_of_memory_here)) }
         ensures no_fault { IfOk result (λ _. self.new.fault ≡ None) }
         ensures font { self.new.font ≡ self.old.font }
         ensures finding { IsForFinding self.new }
         ensures spends { Spends budget.old budget.new }
     {
-        if self.fault.is_some() {
-            return Err(FindFontFault::OutOfMemory(AllocError));
+        if let Some(fault) = self.fault {
+            return Err(fault.found());
         }
         if self.kept.is_over() {
             return Ok(None);
@@ -653,7 +665,7 @@ impl<'a> Session<'a> {
     /// which this is called is used for no other calls.
     ///
     /// # Errors
-    /// `OutOfMemory`, which each call returns from then on.
+    /// `OutOfMemory`. After a fault each call returns it.
     pub fn find_next(
         &mut self,
         alloc: Global,
@@ -665,15 +677,61 @@ impl<'a> Session<'a> {
         ensures found { IfOk result
             (λ answer. IsFoundAnswer self.old.font self.old.stage answer self.new.stage) }
         ensures after_fault { (fault : AnyFault) → self.old.fault ≡ Some fault
-            → (result ≡ Err out_of_memory) × (self.new ≡ self.old) }
+            → (result ≡ Err (found_fault fault)) × (self.new ≡ self.old) }
         ensures after_none { self.old.fault ≡ None → self.old.stage ≡ over
             → (result ≡ Ok None) × (self.new ≡ self.old) }
-        ensures fault { IfErr result
+        ensures fault { self.old.fault ≡ None → IfErr result
             (λ fault. (fault ≡ out_of_memory) × (self.new.fault ≡ Some out_of_memory_here)) }
         ensures no_fault { IfOk result (λ _. self.new.fault ≡ None) }
         ensures font { self.new.font ≡ self.old.font }
         ensures finding { IsForFinding self.new }
     {
         self.search_next(alloc, finder, Search::Certificate, &mut Budget::unlimited())
+    }
+
+    /// Finds the next program as `find_next` does, and makes at most as many points as the budget
+    /// allows: each state that is carried on, to find a family or to check it, is one. The next
+    /// call may have another budget.
+    ///
+    /// # Errors
+    /// `OutOfMemory`; `Budget` exactly where more points were to be made. After a fault each call
+    /// returns it.
+    pub fn find_next_within(
+        &mut self,
+        alloc: Global,
+        finder: &mut Finder,
+        budget: &mut Budget,
+    ) -> Result<Option<(Outcome, Option<Found>)>, FindFontFault>
+        requires { IsForFinding self.old }
+        // The outcome is the next program's: what is found for an accepted one is its least family,
+        // and a refused one has none.
+        ensures found { IfOk result
+            (λ answer. IsFoundAnswer self.old.font self.old.stage answer self.new.stage) }
+        ensures after_fault { (fault : AnyFault) → self.old.fault ≡ Some fault
+            → (result ≡ Err (found_fault fault)) × (self.new ≡ self.old) }
+        ensures after_none { self.old.fault ≡ None → self.old.stage ≡ over
+            → (result ≡ Ok None) × (self.new ≡ self.old) }
+        ensures fault { self.old.fault ≡ None → IfErr result (KeepsFault self.new) }
+        ensures no_fault { IfOk result (λ _. self.new.fault ≡ None) }
+        ensures font { self.new.font ≡ self.old.font }
+        ensures finding { IsForFinding self.new }
+        ensures spends { Spends budget.old budget.new }
+        ensures budget { self.old.fault ≡ None → self.old.stage ≢ over
+            → TellsBudgetOfSearch budget.new result }
+    {
+        if let Some(fault) = self.fault {
+            return Err(fault.found());
+        }
+        if self.kept.is_over() {
+            return Ok(None);
+        }
+        let answer = self.search_next(alloc, finder, Search::Certificate, budget);
+        match answer {
+            Ok(_) | Err(FindFontFault::OutOfMemory(_)) if budget.is_met() => {
+                self.fault = Some(SessionFault::Budget);
+                Err(FindFontFault::Budget)
+            }
+            answer => answer,
+        }
     }
 }
