@@ -4,7 +4,8 @@ ghost use Rattle.std.specs.Prelude.{◌≡◌, ◌<◌};
 
 use crate::streams::{Steps, Taker, steps_of};
 use hintcheck::{
-    CheckFontFault, FindFontFault, UpgradeFault, Verdict, check_font, find_font, upgrade, verdict,
+    Budget, CheckFontFault, FindFontFault, UpgradeFault, Verdict, VerdictFault, check_font,
+    check_font_within, find_font, find_font_within, upgrade, verdict, verdict_within,
 };
 use std::alloc::Global;
 use std::marker::Brand;
@@ -46,6 +47,15 @@ pub fn judged(alloc: Global, font: &[u8]) -> Told {
     }
 }
 
+/// Returns what the verdict on a font's bytes is within a budget.
+pub fn judged_within(alloc: Global, font: &[u8], budget: &mut Budget) -> Told {
+    match verdict_within(alloc, font, budget) {
+        Ok(verdict) => told_of_verdict(&verdict),
+        Err(VerdictFault::Font(fault)) => Told::Font(fault.number()),
+        Err(VerdictFault::Budget) => Told::Budget,
+    }
+}
+
 /// Returns what the fault of a check says.
 pub fn told_of_check_fault(fault: &CheckFontFault) -> Told {
     match fault {
@@ -78,17 +88,43 @@ pub fn checked(alloc: Global, font: &[u8], bytes: &[u8], fails: bool) -> Told {
     checked_by(alloc, font, steps_of(bytes, fails))
 }
 
-fn find_on<L: Ledger>(alloc: Global, font: &[u8], taker: Taker, blank: Blank) -> (Told, Vec<u8>)
+fn check_within_on<L: Ledger>(
+    alloc: Global,
+    font: &[u8],
+    steps: Steps<'_>,
+    budget: &mut Budget,
+    blank: Blank,
+) -> Told
     requires { (blank.name ≡ L.name) × (blank.parts ≡ L.parts) × (0 < blank.parts) }
 {
-    let mut sink = Counted::<Taker, L>::new(taker, blank);
-    let told = match find_font(alloc, font, &mut sink) {
+    let mut source = Counted::<Steps<'_>, L>::new(steps, blank);
+    match check_font_within(alloc, font, &mut source, budget) {
         Ok(verdict) => told_of_verdict(&verdict),
+        Err(fault) => told_of_check_fault(&fault),
+    }
+}
+
+/// Returns what the check of a font answers by what this reader gives, within a budget.
+pub fn checked_within(alloc: Global, font: &[u8], steps: Steps<'_>, budget: &mut Budget) -> Told {
+    check_within_on::<Brand>(alloc, font, steps, budget, Blank::new(1))
+}
+
+/// Returns what the search for a font's certificate says.
+fn told_of_search(answer: &Result<Verdict, FindFontFault>) -> Told {
+    match answer {
+        Ok(verdict) => told_of_verdict(verdict),
         Err(FindFontFault::Font(fault)) => Told::Font(fault.number()),
         Err(FindFontFault::Write) => Told::Write,
         Err(FindFontFault::OutOfMemory(_)) => Told::OutOfMemory,
         Err(FindFontFault::Budget) => Told::Budget,
-    };
+    }
+}
+
+fn find_on<L: Ledger>(alloc: Global, font: &[u8], taker: Taker, blank: Blank) -> (Told, Vec<u8>)
+    requires { (blank.name ≡ L.name) × (blank.parts ≡ L.parts) × (0 < blank.parts) }
+{
+    let mut sink = Counted::<Taker, L>::new(taker, blank);
+    let told = told_of_search(&find_font(alloc, font, &mut sink));
     (told, sink.into_inner().bytes)
 }
 
@@ -101,6 +137,31 @@ pub fn found_by(alloc: Global, font: &[u8], taker: Taker) -> (Told, Vec<u8>) {
 /// room for so many bytes.
 pub fn found(alloc: Global, font: &[u8], room: usize) -> (Told, Vec<u8>) {
     found_by(alloc, font, Taker::new(alloc, 1, room))
+}
+
+fn find_within_on<L: Ledger>(
+    alloc: Global,
+    font: &[u8],
+    taker: Taker,
+    budget: &mut Budget,
+    blank: Blank,
+) -> (Told, Vec<u8>)
+    requires { (blank.name ≡ L.name) × (blank.parts ≡ L.parts) × (0 < blank.parts) }
+{
+    let mut sink = Counted::<Taker, L>::new(taker, blank);
+    let told = told_of_search(&find_font_within(alloc, font, &mut sink, budget));
+    (told, sink.into_inner().bytes)
+}
+
+/// Returns what the search for a font's certificate answers within a budget, and what this writer
+/// took.
+pub fn found_within(
+    alloc: Global,
+    font: &[u8],
+    taker: Taker,
+    budget: &mut Budget,
+) -> (Told, Vec<u8>) {
+    find_within_on::<Brand>(alloc, font, taker, budget, Blank::new(1))
 }
 
 fn upgrade_on<L: Ledger, M: Ledger>(

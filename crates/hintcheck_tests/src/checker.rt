@@ -1,5 +1,9 @@
 //! Tests of the verdicts, and of what the command prints of them.
 
+mod budget_commands;
+mod budget_sessions;
+mod budgets;
+mod budgets_handed_on;
 pub(crate) mod certificate_commands;
 mod certificates;
 mod commands;

@@ -13,9 +13,11 @@ pub(crate) const ACCEPTED: &str = "accepted: 3 programs\n";
 
 const CHECKED_WHOLE: &str = "refused g0 at g0:2: 41 missing point\nrefused: 1 of 3 programs\n";
 
-const CHECKED: &str = "refused g0 at f:3: 41 missing point\nrefused: 1 of 3 programs\n";
+/// What is printed of the underflowing one by the font's certificate.
+pub(crate) const CHECKED: &str = "refused g0 at f:3: 41 missing point\nrefused: 1 of 3 programs\n";
 
-const FOUND: &str = "refused g0 at f:3: 26 underflow\nrefused: 1 of 3 programs\n";
+/// What is printed of the underflowing one.
+pub(crate) const FOUND: &str = "refused g0 at f:3: 26 underflow\nrefused: 1 of 3 programs\n";
 
 /// Certificates of the font that don't fit the underflowing one, and what is printed of it.
 const UNFIT: [(&[&str], &str); 3] = [

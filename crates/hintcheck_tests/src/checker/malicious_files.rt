@@ -19,7 +19,7 @@ fn is_answer(told: Told) -> bool {
     match told {
         Told::Accepted | Told::Refused(_, _, _) | Told::Form(_) => true,
         Told::Font(number) => number < 9,
-        Told::Read | Told::Write | Told::OutOfMemory => false,
+        Told::Read | Told::Write | Told::OutOfMemory | Told::Budget => false,
     }
 }
 

@@ -14,8 +14,8 @@ use tt_stream::{ReadFailed, Source};
 
 /// Bytes in memory, which are read without a failure until a read should fail.
 #[derive(Drop)]
-struct Bytes<'a> {
-    left: &'a [u8],
+pub(crate) struct Bytes<'a> {
+    pub(crate) left: &'a [u8],
 }
 
 impl Source for Bytes<'_> {
@@ -65,16 +65,18 @@ fn first_refused<S: Source>(
 
 /// What a call of a session answers.
 #[derive(Clone, Copy, Debug, PartialEq, Eq)]
-enum Told {
+pub(crate) enum Told {
     Accepted(Name),
     /// The program is refused by this reason's number, at this offset.
     Refused(Name, u8, u32),
     NoneLeft,
     Form(u64),
+    Budget,
     Other,
 }
 
-fn told_of(answer: Result<Option<Outcome>, CheckFontFault>) -> Told {
+/// Returns what an answer says.
+pub(crate) fn told_of(answer: Result<Option<Outcome>, CheckFontFault>) -> Told {
     match answer {
         Ok(Some(outcome)) => match outcome.refused {
             None => Told::Accepted(outcome.program),
@@ -86,6 +88,7 @@ fn told_of(answer: Result<Option<Outcome>, CheckFontFault>) -> Told {
         },
         Ok(None) => Told::NoneLeft,
         Err(CheckFontFault::Form(place)) => Told::Form(place),
+        Err(CheckFontFault::Budget) => Told::Budget,
         Err(_) => Told::Other,
     }
 }

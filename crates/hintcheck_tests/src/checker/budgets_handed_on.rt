@@ -1,0 +1,125 @@
+//! One budget for several calls, and which fault comes first.
+
+use hintcheck::Budget;
+use hintcheck_test_fixtures::font_calls::{Told, checked_within, found_within, judged_within};
+use hintcheck_test_fixtures::hex_bytes::bytes_of;
+use hintcheck_test_fixtures::stored_certificates::{FONT, FORM_4, UNDERFLOWING};
+use hintcheck_test_fixtures::streams::{ALL, Taker, steps_of};
+
+/// The points of these fonts: 18 to judge the first, 9 to check it by its certificate and 18 to
+/// find that; 11 to judge the other one, which is refused.
+#[test]
+fn one_budget_for_several_fonts(rt: HostRuntime) {
+    let alloc = rt.alloc();
+    let font = bytes_of(alloc, &FONT).expect(&rt, "font");
+    let other = bytes_of(alloc, &UNDERFLOWING).expect(&rt, "other font");
+    let form_4 = bytes_of(alloc, &FORM_4).expect(&rt, "certificate");
+    let mut budget = Budget::of(60);
+    assert_eq!(rt; judged_within(alloc, &font, &mut budget), Told::Accepted);
+    assert_eq!(rt; budget.made(), 18);
+    assert_eq!(rt;
+        judged_within(alloc, &other, &mut budget),
+        Told::Refused(1, 3, 26)
+    );
+    assert_eq!(rt; budget.made(), 29);
+    let told = checked_within(alloc, &font, steps_of(&form_4, false), &mut budget);
+    assert_eq!(rt; told, Told::Accepted);
+    assert_eq!(rt; budget.made(), 38);
+    let taker = Taker::new(alloc, 1, ALL);
+    let (told, bytes) = found_within(alloc, &font, taker, &mut budget);
+    assert_eq!(rt; told, Told::Accepted);
+    assert!(rt; *bytes == *form_4, "the stored certificate");
+    assert_eq!(rt; budget.made(), 56);
+    assert!(rt; !budget.is_met());
+    assert_eq!(rt; judged_within(alloc, &font, &mut budget), Told::Budget);
+    assert_eq!(rt; budget.made(), 60, "four points were left");
+    assert!(rt; budget.is_met());
+    assert_eq!(rt; judged_within(alloc, &font, &mut budget), Told::Budget);
+    assert_eq!(rt; budget.made(), 60, "none is made then");
+}
+
+#[test]
+fn no_point_for_what_is_no_font(rt: HostRuntime) {
+    let alloc = rt.alloc();
+    let form_4 = bytes_of(alloc, &FORM_4).expect(&rt, "certificate");
+    let mut budget = Budget::of(0);
+    assert_eq!(rt; judged_within(alloc, &[0; 12], &mut budget), Told::Font(1));
+    let told = checked_within(alloc, &[0; 12], steps_of(&form_4, false), &mut budget);
+    assert_eq!(rt; told, Told::Font(1));
+    let taker = Taker::new(alloc, 1, ALL);
+    let (told, bytes) = found_within(alloc, &[0; 12], taker, &mut budget);
+    assert_eq!(rt; told, Told::Font(1));
+    assert_eq!(rt; bytes.len(), 0);
+    assert_eq!(rt; (budget.made(), budget.is_met()), (0, false));
+}
+
+/// How many bytes of the certificate are there, whether the read after them fails, the budget, what
+/// is told, and how many points were made. The header has 10 bytes, and the three sections end at
+/// 95, 145 and 300: their programs have 3, 1 and 5 points.
+const CHECKS: [(usize, bool, u64, Told, u64); 10] = [
+    (9, false, 0, Told::Form(9), 0),
+    (94, false, 0, Told::Form(94), 0),
+    (94, true, 0, Told::Read, 0),
+    (95, false, 2, Told::Budget, 2),
+    (95, false, 3, Told::Form(95), 3),
+    (95, true, 3, Told::Read, 3),
+    (145, true, 3, Told::Budget, 3),
+    (299, false, 4, Told::Form(299), 4),
+    (300, true, 8, Told::Budget, 8),
+    (300, true, 9, Told::Read, 9),
+];
+
+#[test]
+fn faults_of_a_certificate_before_the_budget(rt: HostRuntime) {
+    let alloc = rt.alloc();
+    let font = bytes_of(alloc, &FONT).expect(&rt, "font");
+    let form_4 = bytes_of(alloc, &FORM_4).expect(&rt, "certificate");
+    for (length, fails, most, want, made) in CHECKS {
+        let Some(bytes) = form_4.get(..length) else {
+            panic!(rt; "no {length} bytes");
+        };
+        let mut budget = Budget::of(most);
+        let told = checked_within(alloc, &font, steps_of(bytes, fails), &mut budget);
+        assert_eq!(rt; told, want, "{length} bytes, {most} points");
+        assert_eq!(rt; budget.made(), made, "{length} bytes, {most} points");
+        let is_met = want == Told::Budget;
+        assert_eq!(rt; budget.is_met(), is_met, "{length} bytes, {most} points");
+    }
+}
+
+/// The budget, how many bytes can be written, what is told, how many points were made, and how many
+/// bytes were written. The families are found with 9 points, and once more with 3, 1 and 5: each is
+/// written once it is found, and the header before the first of them.
+const SEARCHES: [(u64, usize, Told, u64, usize); 12] = [
+    (8, ALL, Told::Budget, 8, 0),
+    (8, 0, Told::Budget, 8, 0),
+    (9, 0, Told::Write, 9, 0),
+    (9, 9, Told::Write, 9, 9),
+    (9, ALL, Told::Budget, 9, 10),
+    (11, 10, Told::Budget, 11, 10),
+    (12, 10, Told::Write, 12, 10),
+    (12, ALL, Told::Budget, 12, 95),
+    (13, ALL, Told::Budget, 13, 145),
+    (17, 145, Told::Budget, 17, 145),
+    (18, 299, Told::Write, 18, 299),
+    (18, 300, Told::Accepted, 18, 300),
+];
+
+#[test]
+fn what_is_written_within_a_budget(rt: HostRuntime) {
+    let alloc = rt.alloc();
+    let font = bytes_of(alloc, &FONT).expect(&rt, "font");
+    let form_4 = bytes_of(alloc, &FORM_4).expect(&rt, "certificate");
+    for (most, room, want, made, length) in SEARCHES {
+        let mut budget = Budget::of(most);
+        let taker = Taker::new(alloc, 1, room);
+        let (told, bytes) = found_within(alloc, &font, taker, &mut budget);
+        assert_eq!(rt; told, want, "{most} points, room for {room}");
+        assert_eq!(rt; budget.made(), made, "{most} points, room for {room}");
+        assert_eq!(rt; bytes.len(), length, "{most} points, room for {room}");
+        assert!(rt;
+            form_4.starts_with(&bytes),
+            "{most} points, room for {room}"
+        );
+    }
+}
