@@ -61,7 +61,14 @@ fn refused_programs(
     let mut finder = Finder::new(alloc);
     let mut refused = Vec::new(alloc);
     let mut budget = Budget::unlimited();
-    match judge_glyph(alloc, &mut finder, &common, glyph, Search::Verdict, &mut budget) {
+    match judge_glyph(
+        alloc,
+        &mut finder,
+        &common,
+        glyph,
+        Search::Verdict,
+        &mut budget,
+    ) {
         Ok(()) => {}
         Err(fault) => list_refused(&mut refused, Name::Glyph(0), fault)?,
     }

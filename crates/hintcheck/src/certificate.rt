@@ -98,7 +98,12 @@ fn write_sections<W: Sink>(
 {
     let mut session = Session::new(font);
     let mut finder = Finder::new(alloc);
-    while let Some((outcome, found)) = session.search_next(alloc, &mut finder, Search::Writing, budget)? {
+    while let Some((outcome, found)) = session.search_next(
+        alloc,
+        &mut finder,
+        Search::Writing,
+        budget,
+    )? {
         // No program was refused when the families were found first, so none is now.
         let found = found.unwrap();
         found.certificate.order_facts();
@@ -174,6 +179,9 @@ pub(crate) fn find_programs_within<W: Sink>(
     ensures spends { Spends budget.old budget.new }
     ensures budget { TellsBudgetOfFind budget.new result }
 {
+    if budget.is_met() {
+        return Err(FindFontFault::Budget);
+    }
     let found = find_programs(alloc, font, sink, budget);
     match found {
         Err(FindFontFault::OutOfMemory(_)) if budget.is_met() => Err(FindFontFault::Budget),

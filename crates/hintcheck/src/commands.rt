@@ -127,8 +127,8 @@ fn do_task<R: Files + AllocGlobal, O: Sink>(
 /// take; `MaxpWord` and `ProgramWord` for a word that spells no bytes; `ProgramWord` also for one
 /// that names no program of the font; `OffsetWord` for an offset at which none of its instructions
 /// begins; `ScanFault` and `ScanUnfinished` where a font of a scan has a fault, which its line
-/// tells; `Budget` where more points were to be made than `--points` allows; `CertificateWord` where a font's file is to be its
-/// certificate's; `NewWord` where an old certificate's file is to be the new one's; `Font` for the
+/// tells; `Budget` where more points were to be made than `--points` allows; `CertificateWord`
+/// where a font's file is to be its certificate's; `NewWord` where an old certificate's file is to be the new one's; `Font` for the
 /// first fault of the font or of `bare`'s `maxp`; `Form`, `Read`, `File` and `OutOfMemory`.
 pub fn try_command<R: Files + AllocGlobal, O: Sink>(
     rt: &R,
@@ -172,8 +172,8 @@ pub fn try_command<R: Files + AllocGlobal, O: Sink>(
 
 /// Does what the words of a command line ask for, prints the answer to `out` or a fault to `err`,
 /// and returns the exit status: 0 accepted, listed or upgraded, 1 refused, 2 words, input or output
-/// that can't be read or written, 3 out of memory or budget; for a scan the greatest one of its fonts, whose
-/// faults are printed to `out`. The first word is the program's own name.
+/// that can't be read or written, 3 out of memory or budget; for a scan the greatest one of its
+/// fonts, whose faults are printed to `out`. The first word is the program's own name.
 /// Printing takes no memory.
 pub fn command<R: Files + AllocGlobal, O: Sink, E: Sink>(
     rt: &R,

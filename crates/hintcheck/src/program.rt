@@ -215,8 +215,6 @@ pub(crate) fn find_and_check(
     let found = find(alloc, finder, setting, search, budget)?;
     match search {
         Search::BeforeWriting | Search::Writing => Ok(found),
-        Search::Verdict | Search::Certificate => {
-            checked(alloc, finder, setting, found, budget)
-        }
+        Search::Verdict | Search::Certificate => { checked(alloc, finder, setting, found, budget) }
     }
 }

@@ -305,7 +305,9 @@ fn check_third<'a, S: Source>(
             kept: Kept::Over,
         });
     }
-    let outcome = check_glyph(alloc, decoder, font, &fpgm, &prep, id, source, progress, budget)?;
+    let outcome = check_glyph(
+        alloc, decoder, font, &fpgm, &prep, id, source, progress, budget,
+    )?;
     Ok(CheckedStep {
         answer: Some(outcome),
         kept: Kept::Glyphs(fpgm, prep, id + 1),
@@ -341,7 +343,9 @@ fn check_on<'a, S: Source>(
             check_second(alloc, decoder, font, fpgm, source, progress, budget)
         }
         Kept::Glyphs(fpgm, prep, id) => {
-            check_third(alloc, decoder, font, fpgm, prep, id, source, progress, budget)
+            check_third(
+                alloc, decoder, font, fpgm, prep, id, source, progress, budget,
+            )
         }
         Kept::Over => Ok(CheckedStep {
             answer: None,

@@ -103,6 +103,12 @@ pub(super) fn find_verdict<R: Files + AllocGlobal>(
     let Ok(file) = fs::create(rt, certificate) else {
         return Err(CommandFault::File);
     };
-    let (verdict, _file) = verdict_to_file::<Brand, _>(rt.alloc(), &font, file, points, Blank::new(1))?;
+    let (verdict, _file) = verdict_to_file::<Brand, _>(
+        rt.alloc(),
+        &font,
+        file,
+        points,
+        Blank::new(1),
+    )?;
     Ok(verdict)
 }

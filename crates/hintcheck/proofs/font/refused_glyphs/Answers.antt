@@ -27,14 +27,14 @@ loop-id-preserved c =
     let B : List Refused → Type 0 = λ rs. AreRefusedBelow font known glyphs (c.loop-id.id + 1) rs in
     record {
       refused = elim c.match-judge_glyph.branch [
-          | in-Ok w ↦
-              let same : c.match-judge_glyph.refused.items ≡ c.loop-id.refused.items = ap (λ v. v.items) w.refused-is in
-              subst B (sym same) (accepted_next font known glyphs c.loop-id.id glyph c.loop-id.refused.items c.loop-id.invariant.refused at (w.in-Ok.ensures.least c.loop-id.id))
-          | in-Err+in_ok-list_refused-in-Err w ↦
-              let I : List Refused → Type 0 = λ rs. IsListed (name.Glyph c.loop-id.id) w.in-Err.fault c.loop-id.refused.items rs in
-              listed_next font known glyphs c.loop-id.id glyph c.loop-id.refused.items c.match-judge_glyph.refused.items w.in-Err.fault c.loop-id.invariant.refused at
-              (w.in-Err.ensures.refused c.loop-id.id) (subst I (sym (ap (λ v. v.items) w.refused-is)) w.in_ok-list_refused-in-Err.ensures)
-        ];
+        | in-Ok w ↦
+            let same : c.match-judge_glyph.refused.items ≡ c.loop-id.refused.items = ap (λ v. v.items) w.refused-is in
+            subst B (sym same) (accepted_next font known glyphs c.loop-id.id glyph c.loop-id.refused.items c.loop-id.invariant.refused at (w.in-Ok.ensures.least c.loop-id.id))
+        | in-Err+in_ok-list_refused-in-Err w ↦
+            let I : List Refused → Type 0 = λ rs. IsListed (name.Glyph c.loop-id.id) w.in-Err.fault c.loop-id.refused.items rs in
+            listed_next font known glyphs c.loop-id.id glyph c.loop-id.refused.items c.match-judge_glyph.refused.items w.in-Err.fault c.loop-id.invariant.refused at
+            (w.in-Err.ensures.refused c.loop-id.id) (subst I (sym (ap (λ v. v.items) w.refused-is)) w.in_ok-list_refused-in-Err.ensures)
+      ];
       spends = spends_on c.args.budget.now c.loop-id.budget c.judge_glyph.new.budget c.loop-id.invariant.spends c.judge_glyph.ensures.spends;
     }
 
