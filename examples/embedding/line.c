@@ -11,7 +11,7 @@
 
 enum { SIZE = 24, WIDTH = 480, HEIGHT = 40, BASELINE = 30, LISTED = 3 };
 
-/* More than real fonts need, and a bound on the time: some seconds. */
+/* More than three times what real fonts need, and a bound on the time: some seconds. */
 #define POINTS 20000000u
 
 static unsigned char image[HEIGHT][WIDTH];
