@@ -128,8 +128,9 @@ fn do_task<R: Files + AllocGlobal, O: Sink>(
 /// that names no program of the font; `OffsetWord` for an offset at which none of its instructions
 /// begins; `ScanFault` and `ScanUnfinished` where a font of a scan has a fault, which its line
 /// tells; `Budget` where more points were to be made than `--points` allows; `CertificateWord`
-/// where a font's file is to be its certificate's; `NewWord` where an old certificate's file is to be the new one's; `Font` for the
-/// first fault of the font or of `bare`'s `maxp`; `Form`, `Read`, `File` and `OutOfMemory`.
+/// where a font's file is to be its certificate's; `NewWord` where an old certificate's file is to
+/// be the new one's; `Font` for the first fault of the font or of `bare`'s `maxp`; `Form`, `Read`,
+/// `File` and `OutOfMemory`.
 pub fn try_command<R: Files + AllocGlobal, O: Sink>(
     rt: &R,
     words: &[&str],

@@ -215,8 +215,8 @@ fn refused_glyphs(
     requires range { IsFontInRange font.now }
     requires rises { Rises common.now.functions.now }
     requires fits { FunctionsFit (font_setting (font_in common.now)) common.now.functions.now }
-    ensures refused { IfOk result (λ refused. AreRefused (font_in common.now) common.now.functions.now 0
-        font.now.glyphs refused.items) }
+    ensures refused { IfOk result (λ refused. AreRefused (font_in common.now)
+        common.now.functions.now 0 font.now.glyphs refused.items) }
     ensures spends { Spends budget.old budget.new }
 {
     let mut refused = Vec::new(alloc);
