@@ -20,6 +20,28 @@ fn file_of(rt: &HostRuntime, parts: &[&str], ending: &str) -> Result<PathBuf, Fa
     Ok(path)
 }
 
+/// Returns the words for a font's file.
+fn on_a_font<'a>(subcommand: &'a str, points: &'a str, font: &'a str) -> [&'a str; 5] {
+    ["hintcheck", subcommand, "--points", points, font]
+}
+
+/// Returns the words for a font's file and its certificate's, with the option after them.
+fn with_a_certificate<'a>(
+    subcommand: &'a str,
+    points: &'a str,
+    font: &'a str,
+    certificate: &'a str,
+) -> [&'a str; 6] {
+    [
+        "hintcheck",
+        subcommand,
+        font,
+        certificate,
+        "--points",
+        points,
+    ]
+}
+
 /// How many points may be made, the status, the output and the error output: of the font, whose
 /// verdict takes 18 points, and of the underflowing one, whose verdict takes 11.
 const VERDICTS: [(&[&str], &str, u8, &str, &str); 7] = [
@@ -40,11 +62,11 @@ const VERDICTS: [(&[&str], &str, u8, &str, &str); 7] = [
 
 #[test]
 fn verdicts_within_points(rt: HostRuntime) -> Result<(), Fail> {
-    for (parts, points, status, out, err) in &VERDICTS {
+    for &(parts, points, status, out, err) in &VERDICTS {
         let font = file_of(&rt, parts, "verdicts.ttf")?;
-        let words = ["hintcheck", "verdict", "--points", points, font.as_str()];
+        let words = on_a_font("verdict", points, font.as_str());
         assert!(rt;
-            answers(&rt, &words, *status, out, err),
+            answers(&rt, &words, status, out, err),
             "{points} points: {out}{err}"
         );
         fs::remove_file(&rt, font.as_str())?;
@@ -67,18 +89,11 @@ const CHECKS: [(&[&str], &str, u8, &str, &str); 5] = [
 #[test]
 fn checks_within_points(rt: HostRuntime) -> Result<(), Fail> {
     let cert = file_of(&rt, &FORM_4, "checks.cert")?;
-    for (parts, points, status, out, err) in &CHECKS {
+    for &(parts, points, status, out, err) in &CHECKS {
         let font = file_of(&rt, parts, "checks.ttf")?;
-        let words = [
-            "hintcheck",
-            "check",
-            font.as_str(),
-            cert.as_str(),
-            "--points",
-            points,
-        ];
+        let words = with_a_certificate("check", points, font.as_str(), cert.as_str());
         assert!(rt;
-            answers(&rt, &words, *status, out, err),
+            answers(&rt, &words, status, out, err),
             "{points} points: {out}{err}"
         );
         fs::remove_file(&rt, font.as_str())?;
@@ -104,23 +119,16 @@ const SEARCHES: [(&[&str], &str, u8, &str, &str, usize); 8] = [
 #[test]
 fn searches_within_points(rt: HostRuntime) -> Result<(), Fail> {
     let form_4 = bytes_of(rt.alloc(), &FORM_4)?;
-    for (parts, points, status, out, err, length) in &SEARCHES {
+    for &(parts, points, status, out, err, length) in &SEARCHES {
         let font = file_of(&rt, parts, "searches.ttf")?;
         let cert = file_of(&rt, &["FF"], "searches.cert")?;
-        let words = [
-            "hintcheck",
-            "find",
-            "--points",
-            points,
-            font.as_str(),
-            cert.as_str(),
-        ];
+        let words = with_a_certificate("find", points, font.as_str(), cert.as_str());
         assert!(rt;
-            answers(&rt, &words, *status, out, err),
+            answers(&rt, &words, status, out, err),
             "{points} points: {out}{err}"
         );
         let written = fs::read(&rt, cert.as_str())?;
-        assert_eq!(rt; written.len(), *length, "{points} points");
+        assert_eq!(rt; written.len(), length, "{points} points");
         assert!(rt; form_4.starts_with(&written), "{points} points");
         fs::remove_file(&rt, font.as_str())?;
         fs::remove_file(&rt, cert.as_str())?;
@@ -168,44 +176,69 @@ fn long_certificate_without_its_last_section(rt: HostRuntime) -> Result<(), Fail
     Ok(())
 }
 
-/// How many points may be made for each font, the status, and what is told of the font and of the
-/// underflowing one.
-const SCANS: [(&str, u8, &str, &str); 4] = [
-    ("0", 3, "fault: 46 budget", "fault: 46 budget"),
-    ("10", 3, "fault: 46 budget", "fault: 46 budget"),
-    ("17", 3, "fault: 46 budget", REFUSED),
-    ("18", 2, "accepted: 3 programs", REFUSED),
-];
-
 /// What is told of the underflowing one in a scan.
 const REFUSED: &str = "refused: 1 of 3 programs (1 possible faults, 0 undecided)";
 
-/// Each font has a budget of its own, and a name without a file has status 2.
+/// What is told of a font for which more points were to be made than may be.
+const MET: &str = "fault: 46 budget";
+
+/// Returns the lines of a scan of a font's file, a name without a file, another font's file, and
+/// the first one again.
+fn lines_of(
+    rt: &HostRuntime,
+    one: &str,
+    two: &str,
+    first: &str,
+    second: &str,
+) -> Result<String, Fail> {
+    Ok(format!(in rt.alloc();
+        "{one}: {first}\nnone.ttf: fault: 44 read\n{two}: {second}\n{one}: {first}\n"
+    )?)
+}
+
+/// Whether a scan with 10, 17 and 18 points tells of the fonts what it should: each font has a
+/// budget of its own, and a name without a file has status 2.
+fn scans_all(rt: &HostRuntime, font: &str, other: &str) -> Result<bool, Fail> {
+    let neither = lines_of(rt, font, other, MET, MET)?;
+    let second = lines_of(rt, font, other, MET, REFUSED)?;
+    let both = lines_of(rt, font, other, "accepted: 3 programs", REFUSED)?;
+    Ok(
+        scans(rt, "10", font, other, 3, &neither)
+            && scans(rt, "17", font, other, 3, &second)
+            && scans(rt, "18", font, other, 2, &both),
+    )
+}
+
+/// Whether a scan of a font's file, a name without a file, another font's file and the first one
+/// again has this status and these lines.
+fn scans<'a>(
+    rt: &HostRuntime,
+    points: &'a str,
+    one: &'a str,
+    two: &'a str,
+    status: u8,
+    lines: &str,
+) -> bool {
+    let words = [
+        "hintcheck",
+        "scan",
+        "--points",
+        points,
+        one,
+        "none.ttf",
+        two,
+        one,
+    ];
+    answers(rt, &words, status, lines, "")
+}
+
 #[test]
 fn scans_within_points(rt: HostRuntime) -> Result<(), Fail> {
     let font = file_of(&rt, &FONT, "scans.ttf")?;
     let other = file_of(&rt, &UNDERFLOWING, "scans_other.ttf")?;
-    let (one, two) = (font.as_str(), other.as_str());
-    for (points, status, first, second) in &SCANS {
-        let words = [
-            "hintcheck",
-            "scan",
-            "--points",
-            points,
-            one,
-            "none.ttf",
-            two,
-            one,
-        ];
-        let out = format!(in rt.alloc();
-            "{one}: {first}\nnone.ttf: fault: 44 read\n{two}: {second}\n{one}: {first}\n"
-        )?;
-        assert!(rt; answers(&rt, &words, *status, &out, ""), "{points} points");
-    }
-    let words = ["hintcheck", "scan", "--points", "18", one, two];
-    let out = format!(in rt.alloc(); "{one}: accepted: 3 programs\n{two}: {REFUSED}\n")?;
-    assert!(rt; answers(&rt, &words, 1, &out, ""), "a budget for each");
-    fs::remove_file(&rt, one)?;
-    fs::remove_file(&rt, two)?;
+    let is_so = scans_all(&rt, font.as_str(), other.as_str())?;
+    assert!(rt; is_so, "a budget for each font");
+    fs::remove_file(&rt, font.as_str())?;
+    fs::remove_file(&rt, other.as_str())?;
     Ok(())
 }
