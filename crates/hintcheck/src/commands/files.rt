@@ -17,9 +17,9 @@ use std::rt::Files;
 use std::sync::ledger::{Blank, Ledger};
 use tt_stream::{Counted, read_all};
 
-/// How many bytes of a certificate are written at a time, where its sections are short. A longer
-/// one is written as it is.
-pub(super) const ROOM: usize = 16_384;
+/// How many bytes of a certificate are written at a time: those of many sections, since most are
+/// short. Sections of their own length take the system half as long again.
+pub(super) const ROOM: usize = 65_536;
 
 /// Returns the bytes that are left in the file.
 fn read_file<L: Ledger, F: Read + Drop>(
