@@ -7,7 +7,7 @@ use Rattle.std.proofs.Common.{◌≡◌, ◌∙◌, ℕ, ◌+◌, ◌<◌, ◌�
 use Rattle.std.proofs.KnownBytes.{Appends-nil, Appends-trans}
 use Rattle.std.proofs.lemmas.List.{append-nil, flat_map_more, take_more}
 use Rattle.tt_code.specs.Cut.{Instruction, IsInstruction, instruction_at, size}
-use Rattle.tt_code.specs.Grammar.{StandsAt}
+use Rattle.tt_code.specs.Grammar.{IsInstructionAt}
 use Rattle.tt_code.specs.declared.reason.Reason.{Reason}
 use Rattle.tt_abs.specs.StateFlow.{Place}
 use Rattle.tt_cert_file.specs.declared.name.Name.{Name}
@@ -66,12 +66,12 @@ next_listed is offset i old mid new each listed found within line = go listed.af
         let some : 0 < length i = some_bytes i (found_is is each offset i found) in
         let reached = listed.reached in absurd (omega arith)
     go (j ∷ after) whole =
-        let stands : StandsAt is offset j = record { before = listed.before; after = after; whole = whole; offset = listed.reached } in
+        let stands : IsInstructionAt is offset j = record { before = listed.before; after = after; whole = whole; offset = listed.reached } in
         let there : instruction_at is offset ≡ Some j = (found_iff_stands is offset j each).1 stands in
         let same : j ≡ i = cc in
         one_more is offset old mid new i listed.before after (whole ∙ ap (λ x. listed.before ++ (x ∷ after)) same) listed.reached listed.written line
 
-pub all_listed : (is : List Instruction) (offset : ℕ) (old new : Option (List ℕ)) → IsListedBefore is offset old new → ((i : Instruction) → StandsAt is offset i → ⊥)
+pub all_listed : (is : List Instruction) (offset : ℕ) (old new : Option (List ℕ)) → IsListedBefore is offset old new → ((i : Instruction) → IsInstructionAt is offset i → ⊥)
     → Appends old new (lines_of 0 is)
 all_listed is offset old new listed none = go listed.after listed.whole
   where

@@ -1,6 +1,6 @@
 -- What an answer tells of a budget: how many points may be made for it. (own)
 use Rattle.std.specs.Prelude.{◌≡◌, ◌≢◌, Some, None, alloc_error, Result, Ok, Err}
-use Rattle.tt_cert.specs.Budgets.{IsMet}
+use Rattle.tt_cert.specs.Budgets.{IsExceeded}
 use Rattle.tt_cert.specs.declared.budget.Budget.{Budget}
 use Rattle.tt_font.specs.Conditions.{Condition}
 use Rattle.tt_font.specs.declared.fault.FontFault.TheVariants.{OutOfMemory}
@@ -13,19 +13,19 @@ use Rattle.hintcheck.specs.declared.font_check.CheckFontFault.TheVariants as che
 
 -- no more points were to be made than may be
 abbrev pub IsEnough : Budget → Type 0
-IsEnough budget = IsMet budget → ⊥
+IsEnough budget = IsExceeded budget → ⊥
 
 -- A verdict comes only within the budget, out of memory only where the budget is enough, and the
 -- fault of the budget only where it is met.
 abbrev pub TellsBudget : {T : Type 0} → Budget → Result T VerdictFault → Type 0
 TellsBudget budget (Ok done) = IsEnough budget
-TellsBudget budget (Err verdict.Budget) = IsMet budget
+TellsBudget budget (Err verdict.Budget) = IsExceeded budget
 TellsBudget budget (Err (verdict.Font font)) = IsEnough budget
 
 -- The same of the check by a certificate, where a fault of its form may come first.
 abbrev pub TellsBudgetOfCheck : {T : Type 0} → Budget → Result T CheckFontFault → Type 0
 TellsBudgetOfCheck budget (Ok done) = IsEnough budget
-TellsBudgetOfCheck budget (Err check.Budget) = IsMet budget
+TellsBudgetOfCheck budget (Err check.Budget) = IsExceeded budget
 TellsBudgetOfCheck budget (Err (check.OutOfMemory error)) = IsEnough budget
 TellsBudgetOfCheck budget (Err (check.Font font)) = Unit {0}
 TellsBudgetOfCheck budget (Err (check.Form place)) = Unit {0}
@@ -35,7 +35,7 @@ TellsBudgetOfCheck budget (Err check.Read) = Unit {0}
 -- failed write may come first, and a verdict with its certificate is right in any case.
 abbrev pub TellsBudgetOfFind : {T : Type 0} → Budget → Result T FindFontFault → Type 0
 TellsBudgetOfFind budget (Ok done) = Unit {0}
-TellsBudgetOfFind budget (Err find.Budget) = IsMet budget
+TellsBudgetOfFind budget (Err find.Budget) = IsExceeded budget
 TellsBudgetOfFind budget (Err (find.OutOfMemory error)) = IsEnough budget
 TellsBudgetOfFind budget (Err (find.Font font)) = Unit {0}
 TellsBudgetOfFind budget (Err find.Write) = Unit {0}
@@ -43,13 +43,13 @@ TellsBudgetOfFind budget (Err find.Write) = Unit {0}
 -- The same where nothing is written: an answer comes only within the budget.
 abbrev pub TellsBudgetOfSearch : {T : Type 0} → Budget → Result T FindFontFault → Type 0
 TellsBudgetOfSearch budget (Ok done) = IsEnough budget
-TellsBudgetOfSearch budget (Err find.Budget) = IsMet budget
+TellsBudgetOfSearch budget (Err find.Budget) = IsExceeded budget
 TellsBudgetOfSearch budget (Err (find.OutOfMemory error)) = IsEnough budget
 TellsBudgetOfSearch budget (Err (find.Font font)) = Unit {0}
 TellsBudgetOfSearch budget (Err find.Write) = Unit {0}
 
 -- A fault of the font is the condition that holds on its bytes, unless memory ran out, and a verdict
--- means that none does; a budget that is met may be told before the font is read.
+-- means that none does; a budget that is exceeded may be told before the font is read.
 abbrev pub TestsInVerdict : {T : Type 0} → Condition → Result T VerdictFault → Type 0
 TestsInVerdict condition (Ok done) = condition ≡ None
 TestsInVerdict condition (Err (verdict.Font font)) =

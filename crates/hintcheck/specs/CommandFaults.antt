@@ -31,7 +31,7 @@ IsFaultOfSource old new (fault.Font numbered) =
     (bytes : List ℕ) × ReadsToEnd old new bytes × IsFaultOfFont bytes numbered.0
 IsFaultOfSource old new other = ⊥
 
--- a budget is met only where points are counted
+-- a budget is exceeded only where points are counted
 abbrev pub IsWithin : Option ℕ → CommandFault → Type 0
 IsWithin points reported = reported ≡ fault.Budget → points ≢ None
 

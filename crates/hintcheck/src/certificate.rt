@@ -160,7 +160,7 @@ pub(crate) fn find_programs<W: Sink>(
     Ok(Verdict::new(u32::from(font.glyph_count()) + 2, refused))
 }
 
-/// Returns the verdict as `find_programs` does, and tells a budget that is met.
+/// Returns the verdict as `find_programs` does, and tells a budget that is exceeded.
 pub(crate) fn find_programs_within<W: Sink>(
     alloc: Global,
     font: &Font<'_>,
@@ -179,12 +179,12 @@ pub(crate) fn find_programs_within<W: Sink>(
     ensures spends { Spends budget.old budget.new }
     ensures budget { TellsBudgetOfFind budget.new result }
 {
-    if budget.is_met() {
+    if budget.is_exceeded() {
         return Err(FindFontFault::Budget);
     }
     let found = find_programs(alloc, font, sink, budget);
     match found {
-        Err(FindFontFault::OutOfMemory(_)) if budget.is_met() => Err(FindFontFault::Budget),
+        Err(FindFontFault::OutOfMemory(_)) if budget.is_exceeded() => Err(FindFontFault::Budget),
         found => found,
     }
 }

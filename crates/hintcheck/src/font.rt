@@ -340,12 +340,12 @@ pub fn verdict_within(
     ensures spends { Spends budget.old budget.new }
     ensures budget { TellsBudget budget.new result }
 {
-    if budget.is_met() {
+    if budget.is_exceeded() {
         return Err(VerdictFault::Budget);
     }
     let read = read_font(alloc, font)?;
     let judged = refused_programs(alloc, &read, Search::Verdict, budget);
-    if budget.is_met() {
+    if budget.is_exceeded() {
         return Err(VerdictFault::Budget);
     }
     match judged {

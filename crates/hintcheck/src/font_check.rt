@@ -310,7 +310,7 @@ pub(crate) fn check_read_font<S: Source>(
     Ok(Verdict::new(u32::from(font.glyph_count()) + 2, refused))
 }
 
-/// Returns the verdict as `check_read_font` does, and tells a budget that is met.
+/// Returns the verdict as `check_read_font` does, and tells a budget that is exceeded.
 pub(crate) fn check_read_font_within<S: Source>(
     alloc: Global,
     font: &Font<'_>,
@@ -333,7 +333,7 @@ pub(crate) fn check_read_font_within<S: Source>(
 {
     let checked = check_read_font(alloc, font, source, budget);
     match checked {
-        Ok(_) | Err(CheckFontFault::OutOfMemory(_)) if budget.is_met() => {
+        Ok(_) | Err(CheckFontFault::OutOfMemory(_)) if budget.is_exceeded() => {
             Err(CheckFontFault::Budget)
         }
         checked => checked,

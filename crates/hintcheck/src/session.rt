@@ -509,7 +509,7 @@ impl<'a> Session<'a> {
     }
 
     /// Checks the next program as `check_next` does, and makes at most as many points as the budget
-    /// allows. A budget that is met is answered as if memory had run out.
+    /// allows. A budget that is exceeded is answered as if memory had run out.
     pub(crate) fn check_next_spending<S: Source>(
         &mut self,
         alloc: Global,
@@ -615,7 +615,7 @@ impl<'a> Session<'a> {
         }
         let answer = self.check_next_spending(alloc, source, budget);
         match answer {
-            Ok(_) | Err(CheckFontFault::OutOfMemory(_)) if budget.is_met() => {
+            Ok(_) | Err(CheckFontFault::OutOfMemory(_)) if budget.is_exceeded() => {
                 self.fault = Some(SessionFault::Budget);
                 Err(CheckFontFault::Budget)
             }
@@ -731,7 +731,7 @@ impl<'a> Session<'a> {
         }
         let answer = self.search_next(alloc, finder, Search::Certificate, budget);
         match answer {
-            Ok(_) | Err(FindFontFault::OutOfMemory(_)) if budget.is_met() => {
+            Ok(_) | Err(FindFontFault::OutOfMemory(_)) if budget.is_exceeded() => {
                 self.fault = Some(SessionFault::Budget);
                 Err(FindFontFault::Budget)
             }

@@ -95,13 +95,13 @@ pub record AnswersCheck (bytes certificate : List ℕ) (answer : HintcheckAnswer
 abbrev pub IsFaultOfFont : List ℕ → FontFault → Type 0
 IsFaultOfFont bytes fault = fault ≢ font.OutOfMemory alloc_error → font_fault bytes ≡ Some fault
 
--- a fault of the font is the first one of the bytes; that the budget is met is told by the points
+-- a fault of the font is the first one of the bytes; that the budget is exceeded is told by the points
 abbrev pub IsFaultOfVerdict : List ℕ → VerdictFault → Type 0
 IsFaultOfVerdict bytes (judging.Font fault) = IsFaultOfFont bytes fault
 IsFaultOfVerdict bytes judging.Budget = Unit {0}
 
 -- The fault is the font's, or the certificate breaks the rules of its form at this place; a failed
--- read and out of memory are unspecified, and that the budget is met is told by the points.
+-- read and out of memory are unspecified, and that the budget is exceeded is told by the points.
 abbrev pub IsFaultOfCheck : List ℕ → List ℕ → CheckFontFault → Type 0
 IsFaultOfCheck bytes certificate (check.Font fault) = IsFaultOfFont bytes fault
 IsFaultOfCheck bytes certificate (check.Form place) =

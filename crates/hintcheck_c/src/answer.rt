@@ -30,17 +30,17 @@ const FORM_FAULT: u32 = 43;
 /// The number of the fault that a certificate can't be read.
 const READ_FAULT: u32 = 44;
 
-/// The number of the fault that the budget is met.
+/// The number of the fault that the budget is exceeded.
 const BUDGET_FAULT: u32 = 46;
 
 /// What a call answers.
 #[repr(C)]
 #[derive(Clone, Copy)]
 pub struct HintcheckAnswer {
-    /// 0 accepted, 1 refused, 2 a fault, 3 out of memory, 4 a budget that is met.
+    /// 0 accepted, 1 refused, 2 a fault, 3 out of memory, 4 a budget that is exceeded.
     pub status: u32,
     /// The number of the fault: 1 to 8 of the font, 43 of the certificate, 9 out of memory, 46 a
-    /// budget that is met; 0 where there is a verdict.
+    /// budget that is exceeded; 0 where there is a verdict.
     pub fault: u32,
     /// Where the certificate is at fault, in bytes; 0 at any other fault.
     pub place: u64,

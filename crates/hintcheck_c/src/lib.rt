@@ -3,7 +3,7 @@
 #![tactic(auto)]
 
 ghost use Rattle.std.specs.Prelude.{◌≡◌, ◌≢◌, ◌+◌, ◌<◌, ◌≤◌, [], IfErr, IfOk, length};
-ghost use Rattle.tt_cert.specs.Budgets.{IsMet, Spends};
+ghost use Rattle.tt_cert.specs.Budgets.{IsExceeded, Spends};
 ghost use Rattle.hintcheck.specs.CheckedFonts.{AnswersFinding};
 ghost use Rattle.hintcheck.specs.FontPrograms.{IsSafeFont};
 ghost use Rattle.hintcheck.specs.MeansSafe.{HoldRefusedFont, HoldSafeFont};
@@ -57,7 +57,7 @@ pub extern "C" fn hintcheck_verdict_of_bytes(
     ensures status { result ≤ 4 }
     // What it costs: no more points than may be made, and all of these where the status is 4.
     ensures points { answer.new.points ≤ points }
-    ensures met { result ≡ 4 → answer.new.points ≡ points }
+    ensures exceeded { result ≡ 4 → answer.new.points ≡ points }
     ensures told { answer.new.status ≡ result }
     ensures room { length refusals.new ≡ length refusals.old }
     ensures listed { answer.new.listed ≤ length refusals.old }
@@ -86,7 +86,7 @@ fn check_bytes<L: Ledger>(
         × AnswersFinding d certificate.now v) }
     ensures fault { IfErr result (IsFaultOfCheck font.now certificate.now) }
     ensures spends { Spends budget.old budget.new }
-    ensures met { IfErr result (λ fault. fault ≡ CheckFontFault.Budget → IsMet budget.new) }
+    ensures exceeded { IfErr result (λ fault. fault ≡ CheckFontFault.Budget → IsExceeded budget.new) }
 {
     let source = Counted::<&[u8], L>::new(certificate, blank);
     match Buffered::new(alloc, source) {
@@ -119,7 +119,7 @@ pub extern "C" fn hintcheck_check_of_bytes(
     ensures status { result ≤ 4 }
     // What it costs: no more points than may be made, and all of these where the status is 4.
     ensures points { answer.new.points ≤ points }
-    ensures met { result ≡ 4 → answer.new.points ≡ points }
+    ensures exceeded { result ≡ 4 → answer.new.points ≡ points }
     ensures told { answer.new.status ≡ result }
     ensures room { length refusals.new ≡ length refusals.old }
     ensures listed { answer.new.listed ≤ length refusals.old }

@@ -141,6 +141,6 @@ end_of_a_turn_in_the_cvt_program : comes_to (called_from 2147483651 1 1 2 ∷ []
 unfolding outcome_on_cells effect_of keyword
 end_of_a_turn_in_the_cvt_program = refl
 
-end_goes_behind_the_innermost_call : comes_to (called_from 2147483651 3 1 1 ∷ called_from 3 0 1 1 ∷ []) 5 [] (called_from 3 0 1 1 ∷ []) 4 []
+end_goes_past_the_innermost_call : comes_to (called_from 2147483651 3 1 1 ∷ called_from 3 0 1 1 ∷ []) 5 [] (called_from 3 0 1 1 ∷ []) 4 []
 unfolding outcome_on_cells effect_of keyword
-end_goes_behind_the_innermost_call = refl
+end_goes_past_the_innermost_call = refl

@@ -446,15 +446,15 @@ shp_by_rp2_refuses_unknown_points :
 unfolding performed
 shp_by_rp2_refuses_unknown_points = refl
 
-shp_tests_rp2_in_both_zones_of_zp1_behind_its_points :
+shp_tests_rp2_in_both_zones_of_zp1_after_its_points :
     each_faults (0x32 ∷ []) (record (zones Zero Either Zero) { rp2 = k 8 }) ((k 0 ∷ k 0 ∷ []) ∷ []) reason.Point
 unfolding performed
-shp_tests_rp2_in_both_zones_of_zp1_behind_its_points = refl
+shp_tests_rp2_in_both_zones_of_zp1_after_its_points = refl
 
-shp_refuses_an_unknown_rp2_behind_its_points :
+shp_refuses_an_unknown_rp2_after_its_points :
     each_faults (0x32 ∷ []) (record (zones Zero Zero Zero) { rp2 = Unknown }) ((k 0 ∷ k 0 ∷ []) ∷ []) reason.UnknownOperand
 unfolding performed
-shp_refuses_an_unknown_rp2_behind_its_points = refl
+shp_refuses_an_unknown_rp2_after_its_points = refl
 
 shp_takes_its_points_before_it_looks_at_rp2 :
     each_faults (0x32 ∷ []) (record (zones Zero Zero Zero) { rp2 = Unknown }) ([] ∷ (k 0 ∷ []) ∷ []) reason.Underflow
@@ -491,15 +491,15 @@ shp_by_rp1_refuses_unknown_points :
 unfolding performed
 shp_by_rp1_refuses_unknown_points = refl
 
-shp_tests_rp1_in_both_zones_of_zp0_behind_its_points :
+shp_tests_rp1_in_both_zones_of_zp0_after_its_points :
     each_faults (0x33 ∷ []) (record (zones Either Zero Zero) { rp1 = k 8 }) ((k 0 ∷ k 0 ∷ []) ∷ []) reason.Point
 unfolding performed
-shp_tests_rp1_in_both_zones_of_zp0_behind_its_points = refl
+shp_tests_rp1_in_both_zones_of_zp0_after_its_points = refl
 
-shp_refuses_an_unknown_rp1_behind_its_points :
+shp_refuses_an_unknown_rp1_after_its_points :
     each_faults (0x33 ∷ []) (record (zones Zero Zero Zero) { rp1 = Unknown }) ((k 0 ∷ k 0 ∷ []) ∷ []) reason.UnknownOperand
 unfolding performed
-shp_refuses_an_unknown_rp1_behind_its_points = refl
+shp_refuses_an_unknown_rp1_after_its_points = refl
 
 shp_takes_its_points_before_it_looks_at_rp1 :
     each_faults (0x33 ∷ []) (record (zones Zero Zero Zero) { rp1 = Unknown }) ([] ∷ (k 0 ∷ []) ∷ []) reason.Underflow

@@ -623,10 +623,10 @@ unfolding shown
 operations_on_one_need_one = refl
 
 -- An IF on an unknown number leads both ways.
-if_leads_behind_its_else_or_its_eif_where_its_number_is_zero :
+if_leads_past_its_else_or_its_eif_where_its_number_is_zero :
     each_leads (0x58 ∷ 0x18 ∷ 0x1b ∷ 0x18 ∷ 0x59 ∷ 0x18 ∷ []) 0 ((k 0 ∷ k 9 ∷ [], (3, k 9 ∷ []) ∷ []) ∷ [])
 unfolding shown
-if_leads_behind_its_else_or_its_eif_where_its_number_is_zero = refl
+if_leads_past_its_else_or_its_eif_where_its_number_is_zero = refl
 
 if_goes_on_where_its_number_is_another :
     each_leads (0x58 ∷ 0x18 ∷ 0x1b ∷ 0x18 ∷ 0x59 ∷ 0x18 ∷ []) 0 ((k 1 ∷ k 9 ∷ [], (1, k 9 ∷ []) ∷ [])
@@ -640,11 +640,11 @@ if_on_an_unknown_number_leads_both_ways :
 unfolding shown
 if_on_an_unknown_number_leads_both_ways = refl
 
-if_without_else_leads_behind_its_eif :
+if_without_else_leads_past_its_eif :
     each_leads (0x58 ∷ 0x18 ∷ 0x59 ∷ 0x18 ∷ []) 0 ((k 0 ∷ [], (3, []) ∷ []) ∷ (k 1 ∷ [], (1, []) ∷ [])
     ∷ (Unknown ∷ [], (1, []) ∷ (3, []) ∷ []) ∷ [])
 unfolding shown
-if_without_else_leads_behind_its_eif = refl
+if_without_else_leads_past_its_eif = refl
 
 an_empty_if_leads_to_two_places_too :
     each_leads (0x58 ∷ 0x59 ∷ []) 0 ((Unknown ∷ [], (1, []) ∷ (2, []) ∷ []) ∷ [])
@@ -662,10 +662,10 @@ if_tests_the_depth_both_ways :
 unfolding shown
 if_tests_the_depth_both_ways = refl
 
-else_leads_behind_its_eif :
+else_leads_past_its_eif :
     each_leads (0x58 ∷ 0x18 ∷ 0x1b ∷ 0x18 ∷ 0x59 ∷ 0x18 ∷ []) 2 ((Unknown ∷ [], (5, Unknown ∷ []) ∷ []) ∷ [])
 unfolding shown
-else_leads_behind_its_eif = refl
+else_leads_past_its_eif = refl
 
 else_tests_the_depth :
     each_is_refused_by (record usual_limits { stack = 2 }) (0x58 ∷ 0x18 ∷ 0x1b ∷ 0x18 ∷ 0x59 ∷ 0x18 ∷ []) 2
@@ -680,11 +680,11 @@ jmpr_jumps_forwards_and_back :
 unfolding shown
 jmpr_jumps_forwards_and_back = refl
 
-jmpr_refuses_a_target_before_or_behind_the_program :
+jmpr_refuses_a_target_before_or_after_the_program :
     each_is_refused (0x18 ∷ 0x18 ∷ 0x18 ∷ 0x1c ∷ 0x18 ∷ []) 3 ((lowest ∷ []) ∷ (Known (negsuc 3) ∷ []) ∷ (k 3 ∷ [])
     ∷ (highest ∷ []) ∷ []) reason.Target
 unfolding shown
-jmpr_refuses_a_target_before_or_behind_the_program = refl
+jmpr_refuses_a_target_before_or_after_the_program = refl
 
 jmpr_refuses_an_unknown_offset :
     each_is_refused (0x18 ∷ 0x18 ∷ 0x18 ∷ 0x1c ∷ 0x18 ∷ []) 3 ((Unknown ∷ []) ∷ []) reason.UnknownOperand
@@ -736,10 +736,10 @@ jrot_leads_both_ways_where_its_condition_is_unknown :
 unfolding shown
 jrot_leads_both_ways_where_its_condition_is_unknown = refl
 
-jrot_to_the_place_behind_it_leads_there_alone :
+jrot_to_the_place_after_it_leads_there_alone :
     each_leads (0x18 ∷ 0x78 ∷ 0x18 ∷ 0x18 ∷ []) 1 ((Unknown ∷ k 1 ∷ [], (2, []) ∷ []) ∷ [])
 unfolding shown
-jrot_to_the_place_behind_it_leads_there_alone = refl
+jrot_to_the_place_after_it_leads_there_alone = refl
 
 jrot_refuses_an_unknown_offset_where_its_condition_may_hold :
     each_is_refused (0x18 ∷ 0x78 ∷ 0x18 ∷ 0x18 ∷ []) 1 ((k 1 ∷ Unknown ∷ []) ∷ (Unknown ∷ Unknown ∷ []) ∷ [])
@@ -788,10 +788,10 @@ jrof_leads_both_ways_where_its_condition_is_unknown :
 unfolding shown
 jrof_leads_both_ways_where_its_condition_is_unknown = refl
 
-jrof_to_the_place_behind_it_leads_there_alone :
+jrof_to_the_place_after_it_leads_there_alone :
     each_leads (0x18 ∷ 0x79 ∷ 0x18 ∷ 0x18 ∷ []) 1 ((Unknown ∷ k 1 ∷ [], (2, []) ∷ []) ∷ [])
 unfolding shown
-jrof_to_the_place_behind_it_leads_there_alone = refl
+jrof_to_the_place_after_it_leads_there_alone = refl
 
 jrof_refuses_an_unknown_offset_where_its_condition_may_hold :
     each_is_refused (0x18 ∷ 0x79 ∷ 0x18 ∷ 0x18 ∷ []) 1 ((k 0 ∷ Unknown ∷ []) ∷ (Unknown ∷ Unknown ∷ []) ∷ [])
@@ -828,10 +828,10 @@ fdef_lists_functions_by_number :
 unfolding shown
 fdef_lists_functions_by_number = refl
 
-fdef_lists_a_higher_number_behind :
+fdef_lists_a_higher_number_after :
     in_font_program (0x18 ∷ 0x2c ∷ 0x18 ∷ 0x2d ∷ []) 1 (k 1 ∷ []) ((0, 7) ∷ []) ≡ Ok ((4, (0, 7) ∷ (1, 2) ∷ []) ∷ [])
 unfolding shown
-fdef_lists_a_higher_number_behind = refl
+fdef_lists_a_higher_number_after = refl
 
 fdef_defines_a_function_anew :
     in_font_program (0x18 ∷ 0x2c ∷ 0x18 ∷ 0x2d ∷ []) 1 (k 1 ∷ []) ((0, 3) ∷ (1, 7) ∷ []) ≡ Ok
@@ -839,10 +839,10 @@ fdef_defines_a_function_anew :
 unfolding shown
 fdef_defines_a_function_anew = refl
 
-fdef_names_a_function_of_the_cvt_program_behind_all_offsets :
+fdef_names_a_function_of_the_cvt_program_after_all_offsets :
     in_cvt_program (0x2c ∷ 0x18 ∷ 0x2d ∷ []) 0 (k 0 ∷ []) [] ≡ Ok ((3, (0, 2147483649) ∷ []) ∷ [])
 unfolding shown
-fdef_names_a_function_of_the_cvt_program_behind_all_offsets = refl
+fdef_names_a_function_of_the_cvt_program_after_all_offsets = refl
 
 fdef_refuses_a_number_at_the_limit :
     in_font_program (0x2c ∷ 0x18 ∷ 0x2d ∷ []) 0 (k 2 ∷ []) [] ≡ Err reason.Function
@@ -1005,10 +1005,10 @@ endf_leads_to_the_next_turn :
 unfolding shown
 endf_leads_to_the_next_turn = refl
 
-endf_of_the_last_turn_leads_behind_the_call :
+endf_of_the_last_turn_leads_past_the_call :
     body_does usual_limits (call_of 1 0 3 3 ∷ []) 3 (Unknown ∷ []) ≡ at_place [] 1 (Unknown ∷ [])
 unfolding shown
-endf_of_the_last_turn_leads_behind_the_call = refl
+endf_of_the_last_turn_leads_past_the_call = refl
 
 endf_leads_back_into_the_calling_body :
     body_does usual_limits (call_of 1 4 1 1 ∷ call_of 2147483649 0 1 2 ∷ []) 3 [] ≡ at_place (call_of 2147483649 0 1 2 ∷ []) 5 []
@@ -1026,10 +1026,10 @@ the_data_of_a_push_is_no_instruction :
 unfolding shown
 the_data_of_a_push_is_no_instruction = refl
 
-behind_the_program_there_is_no_instruction :
+after_the_program_there_is_no_instruction :
     each_is_refused (0x18 ∷ []) 1 ([] ∷ (Unknown ∷ []) ∷ []) reason.Target
 unfolding shown
-behind_the_program_there_is_no_instruction = refl
+after_the_program_there_is_no_instruction = refl
 
 -- Storage, over some instructions.
 a_stored_number_is_read_again :

@@ -6,7 +6,7 @@ use Rattle.std.proofs.lemmas.Bool.{ltb-true, ltb-false, eqb-true}
 use Rattle.tt_code.specs.Refusals.{Tested, holds_or, some_or}
 use Rattle.tt_code.specs.Table.{Meaning, NoEntry, Plain, Pushes, Stack, Computes, Controls, effect_of}
 use Rattle.tt_code.specs.Cut.{Instruction, size}
-use Rattle.tt_code.specs.Structure.{keyword, is_keyword, still_open, behind_end, leads_from, after_if, after_else, after_fdef, body_behind, body_from, body_at}
+use Rattle.tt_code.specs.Structure.{keyword, is_keyword, still_open, after_end, leads_from, after_if, after_else, after_fdef, following_body, body_from, body_at}
 use Rattle.tt_code.specs.Settings.{Setting, program_of, body_of, is_body, starts_in_body, is_main_end, is_target, body_offset, CVT_BODIES}
 use Rattle.tt_code.specs.States.{is_below, is_true}
 use Rattle.tt_code.specs.Operands.{top}
@@ -42,21 +42,21 @@ within_more : (low high : ℕ) (o : Option ℕ) → low ≤ high → IsWithin lo
 within_more low high None le h = tt
 within_more low high (Some n) le h = omega (arith, h)
 
-end_within : (opener : BlockKeyword) (is : List Instruction) (offset inside : ℕ) → IsWithin (offset + size is) (behind_end opener is offset inside)
+end_within : (opener : BlockKeyword) (is : List Instruction) (offset inside : ℕ) → IsWithin (offset + size is) (after_end opener is offset inside)
 end_within opener [] offset inside = tt
 end_within opener (i ∷ is) offset inside = go (still_open opener (keyword i) inside) (λ more. end_within opener is (offset + length i) more)
   where
-    go : (o : Option ℕ) → ((more : ℕ) → IsWithin (offset + length i + size is) (behind_end opener is (offset + length i) more))
-        → IsWithin (offset + (length i + size is)) (elim o as (λ p. Option ℕ) [ None ↦ Some (offset + length i) | Some more ↦ behind_end opener is (offset + length i) more ])
+    go : (o : Option ℕ) → ((more : ℕ) → IsWithin (offset + length i + size is) (after_end opener is (offset + length i) more))
+        → IsWithin (offset + (length i + size is)) (elim o as (λ p. Option ℕ) [ None ↦ Some (offset + length i) | Some more ↦ after_end opener is (offset + length i) more ])
     go None h = omega arith
-    go (Some more) h = within_more (offset + length i + size is) (offset + (length i + size is)) (behind_end opener is (offset + length i) more) (omega arith) (h more)
+    go (Some more) h = within_more (offset + length i + size is) (offset + (length i + size is)) (after_end opener is (offset + length i) more) (omega arith) (h more)
 
 leads_within : (start : ℕ) (opener : BlockKeyword) (is : List Instruction) (offset : ℕ) → IsWithin (start + size is) (leads_from start opener is offset)
 leads_within start opener [] offset = tt
 leads_within start opener (i ∷ is) offset = go (nat_eq start offset) (is_keyword opener (keyword i)) (leads_within (start + length i) opener is offset)
   where
-    go : (b c : Bool) → IsWithin (start + length i + size is) (leads_from (start + length i) opener is offset) → IsWithin (start + (length i + size is)) (if b then (if c then behind_end opener is (start + length i) 0 else None) else leads_from (start + length i) opener is offset)
-    go true true h = within_more (start + length i + size is) (start + (length i + size is)) (behind_end opener is (start + length i) 0) (omega arith) (end_within opener is (start + length i) 0)
+    go : (b c : Bool) → IsWithin (start + length i + size is) (leads_from (start + length i) opener is offset) → IsWithin (start + (length i + size is)) (if b then (if c then after_end opener is (start + length i) 0 else None) else leads_from (start + length i) opener is offset)
+    go true true h = within_more (start + length i + size is) (start + (length i + size is)) (after_end opener is (start + length i) 0) (omega arith) (end_within opener is (start + length i) 0)
     go true false h = tt
     go false c h = within_more (start + length i + size is) (start + (length i + size is)) (leads_from (start + length i) opener is offset) (omega arith) h
 
@@ -66,7 +66,7 @@ IsIn end offset (Some b) = offset ≤ end
 
 body_within : (here : Body) (start : ℕ) (is : List Instruction) (offset : ℕ) → IsIn (start + size is) offset (body_from here start is offset)
 body_within here start [] offset = tt
-body_within here start (i ∷ is) offset = go (nat_eq start offset) refl (body_from (body_behind here (keyword i) (start + length i)) (start + length i) is offset) (body_within (body_behind here (keyword i) (start + length i)) (start + length i) is offset)
+body_within here start (i ∷ is) offset = go (nat_eq start offset) refl (body_from (following_body here (keyword i) (start + length i)) (start + length i) is offset) (body_within (following_body here (keyword i) (start + length i)) (start + length i) is offset)
   where
     go : (b : Bool) → nat_eq start offset ≡ b → (o : Option Body) → IsIn (start + length i + size is) offset o → IsIn (start + (length i + size is)) offset (if b then Some here else o)
     go true e o h = let same : start ≡ offset = eqb-true start offset e in omega arith

@@ -1,7 +1,7 @@
 -- Push instructions: their outcome on cells stands for the machine's outcomes, whatever bytes follow the code.
 use Rattle.std.specs.Prelude.{ℤ, map}
 use Rattle.std.proofs.Common.{ℕ, suc, List, [], ◌∷◌, Ok, refl}
-use Rattle.tt_code.specs.Cut.{data_behind}
+use Rattle.tt_code.specs.Cut.{data_after}
 use Rattle.tt_code.specs.Computing.{numbers_in, exactly, pushed}
 use Rattle.tt_code.specs.Runs.{Choices, pushed_on}
 use Rattle.tt_code.specs.declared.kinds.Push.{Push}
@@ -24,5 +24,5 @@ pub pushes_stand : (a : Abstract) (frames : List Frame) (offset : ℕ) (push : P
 pushes_stand a frames offset push rest =
     let (m, s, is) = some_machine a frames offset in
     transfers_same a frames offset (λ m. Ok (pushed push m rest)) (λ m. pushed push m rest) (pushed_cells push a rest) (λ m st. refl)
-    (numbers_best (May a frames offset) (m, zeros) (may a frames offset m s) (numbers_in push (data_behind push rest)) (λ x. x.1) (λ x. x.0.stack) a.stack (stack_best a frames offset))
+    (numbers_best (May a frames offset) (m, zeros) (may a frames offset m s) (numbers_in push (data_after push rest)) (λ x. x.1) (λ x. x.0.stack) a.stack (stack_best a frames offset))
     (registers_best a frames offset) (λ m st. refl) refl

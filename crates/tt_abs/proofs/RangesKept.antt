@@ -6,7 +6,7 @@ use Rattle.std.proofs.lemmas.Int.{ints}
 use Rattle.std.proofs.lemmas.Bool.{leb-true, and_parts}
 use Rattle.tt_code.specs.Refusals.{Tested, ◌>>=◌, holds_or, some_or}
 use Rattle.tt_code.specs.Table.{Meaning, NoEntry, Plain, Pushes, Stack, Computes, Controls, Lists, effect_of}
-use Rattle.tt_code.specs.Cut.{Instruction, instruction_at, data_behind}
+use Rattle.tt_code.specs.Cut.{Instruction, instruction_at, data_after}
 use Rattle.tt_code.specs.Structure.{after_if, after_else, after_fdef}
 use Rattle.tt_code.specs.Settings.{Setting, program_of, body_offset, starts_in_body, CVT_BODIES}
 use Rattle.tt_code.specs.States.{IsNumber, Registers, is_number, is_below, is_true, reference}
@@ -192,14 +192,14 @@ tail_bytes : (bytes : List ℕ) → AreBytes bytes → AreBytes (drop 1 bytes)
 tail_bytes [] h = tt
 tail_bytes (b ∷ bytes) h = h.1
 
-numbers_in_range : (push : Push) (rest : List ℕ) → AreBytes rest → AreInRange (map Known (numbers_in push (data_behind push rest)))
+numbers_in_range : (push : Push) (rest : List ℕ) → AreBytes rest → AreInRange (map Known (numbers_in push (data_after push rest)))
 numbers_in_range CountedBytes rest h = bytes_in_range (drop 1 rest) (tail_bytes rest h)
 numbers_in_range CountedWords rest h = words_in_range (drop 1 rest) (tail_bytes rest h)
 numbers_in_range (Bytes n) rest h = bytes_in_range rest h
 numbers_in_range (Words n) rest h = words_in_range rest h
 
 pushed_kept : (depth : ℕ) (push : Push) (a : Abstract) (rest : List ℕ) → AreBytes rest → IsStateInRange a → IsKept depth (pushed_cells push a rest)
-pushed_kept depth push a rest h k = left_in_range depth a a.stack (map Known (numbers_in push (data_behind push rest))) k k.stack (numbers_in_range push rest h)
+pushed_kept depth push a rest h k = left_in_range depth a a.stack (map Known (numbers_in push (data_after push rest))) k k.stack (numbers_in_range push rest h)
 
 -- Stack instructions.
 

@@ -5,7 +5,7 @@ use Rattle.std.proofs.Common.{◌≡◌, ℕ, suc, ◌+◌, List, [], ◌∷◌,
 use Rattle.std.proofs.lemmas.Bool.{le-leb, lt-leb}
 use Rattle.tt_code.specs.Refusals.{Tested, ◌>>=◌, holds_or}
 use Rattle.tt_code.specs.Table.{Meaning, Pushes, effect_of}
-use Rattle.tt_code.specs.Cut.{Instruction, instruction_at, code_of, data_of, data_in, data_behind}
+use Rattle.tt_code.specs.Cut.{Instruction, instruction_at, code_of, data_of, data_in, data_after}
 use Rattle.tt_code.specs.Computing.{numbers_in}
 use Rattle.tt_code.specs.declared.kinds.Push.{Push}
 use Rattle.tt_code.specs.Settings.{Setting, body_of, is_body, program_of, starts_in_body}
@@ -61,7 +61,7 @@ acts_not s fs at a w code rest r q e f g =
 pub push_done : (old new : State) (i : Instruction) (code : ℕ) (rest : List ℕ) (push : Push) (bytes : List ℕ) (stack : List Cell) → i ≡ code ∷ rest → effect_of code ≡ Pushes push → bytes ≡ data_of i
     → stack ≡ cells_on (map Known (numbers_in push bytes)) old.stack → new ≡ record old { stack = stack } → ◌≡◌ {A = Tested Abstract} (Ok (pushed_cells push (abstract_of old) rest)) (Ok (abstract_of new))
 push_done old new i code rest push bytes stack e f g h k =
-    let is_data : bytes ≡ data_behind push rest = g ∙ ap data_of e ∙ ap (λ w. data_in w rest) f in
+    let is_data : bytes ≡ data_after push rest = g ∙ ap data_of e ∙ ap (λ w. data_in w rest) f in
     rw (k, h, is_data) refl
 
 -- the depth afterwards

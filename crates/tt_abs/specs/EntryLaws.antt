@@ -5,7 +5,7 @@ use Rattle.std.proofs.Common.{refl, sym, ◌∙◌, ap, subst, arith, inl, inr}
 use Rattle.std.proofs.lemmas.Bool.{cases_eq, eqb-true, eq-eqb, ne_eqb, and_parts, and_from}
 use Rattle.tt_abs.specs.Orders.{OrderLaws, IsLeastAbove}
 use Rattle.tt_abs.specs.Entries.{Rises, listed}
-use Rattle.tt_abs.specs.EntryLists.{IsEquality, EntriesBelow, EntriesInRange, behind_entry, missing_entries, holds_value, common_entries, entry_order}
+use Rattle.tt_abs.specs.EntryLists.{IsEquality, EntriesBelow, EntriesInRange, after_entry, missing_entries, holds_value, common_entries, entry_order}
 
 -- What is listed.
 
@@ -55,9 +55,9 @@ below-with_first x xs b above p n v l =
     listed-there x xs n (λ q. omega arith) ∙ p n v l
 
 -- the second list's first entry may be removed
-pub below-behind_first : {V : Type 0} (a : List (ℕ × V)) (y : ℕ × V) (ys : List (ℕ × V))
+pub below-after_first : {V : Type 0} (a : List (ℕ × V)) (y : ℕ × V) (ys : List (ℕ × V))
     → AllByRecursion (λ e. y.0 < e.0) ys → EntriesBelow a (y ∷ ys) → EntriesBelow a ys
-below-behind_first a y ys above p n v l =
+below-after_first a y ys above p n v l =
     let lt : y.0 < n = number-above y.0 n v ys above l in
     p n v (listed-there y ys n (λ q. omega arith) ∙ l)
 
@@ -98,7 +98,7 @@ entries-length {V} (x ∷ xs) (y ∷ ys) ra rb p = elim (first-below x y xs ys r
       let A : ℕ × V → Type 0 = λ z. AllByRecursion (λ e. z.0 < e.0) ys in
       let ih = entries-length xs ys ra.1 rb.1
       (below-without_first x xs ys (subst A (sym same) rb.0)
-      (below-behind_first (x ∷ xs) y ys rb.0 p)) in omega arith
+      (below-after_first (x ∷ xs) y ys rb.0 p)) in omega arith
   | inr lt ↦
       let ih = entries-length xs (y ∷ ys) ra.1 rb
       (below-without_first x xs (y ∷ ys) (lt, all-above x.0 y.0 ys lt rb.0) p) in omega arith
@@ -115,7 +115,7 @@ entries-same {V} (x ∷ xs) (y ∷ ys) ra rb p e = elim (first-below x y xs ys r
       let tail : xs ≡ ys =
       entries-same xs ys ra.1 rb.1
       (below-without_first x xs ys (subst A (sym same) rb.0)
-      (below-behind_first (x ∷ xs) y ys rb.0 p)) (omega arith) in cc
+      (below-after_first (x ∷ xs) y ys rb.0 p)) (omega arith) in cc
   | inr lt ↦
       let less = entries-length xs (y ∷ ys) ra.1 rb
       (below-without_first x xs (y ∷ ys) (lt, all-above x.0 y.0 ys lt rb.0) p) in
@@ -249,7 +249,7 @@ missing_step {V} same decides x y xs ys true is rx ry =
       below-same_first x y xs ys equal rx.0,
       λ p.
           below-without_first x xs ys (subst A (sym equal) ry.0)
-          (below-behind_first (x ∷ xs) y ys ry.0 p),
+          (below-after_first (x ∷ xs) y ys ry.0 p),
     )
 missing_step {V} same decides x y xs ys false is rx ry = (
   below-with_first x xs (y ∷ ys) rx.0,
@@ -261,10 +261,10 @@ missing_step {V} same decides x y xs ys false is rx ry = (
   ],
 )
 
-Rises-behind : {V : Type 0} (same : V → V → Bool) (e : ℕ × V) (b : List (ℕ × V)) → Rises b
-    → Rises (behind_entry same e b)
-Rises-behind same e [] r = tt
-Rises-behind same e (x ∷ xs) r = go (nat_eq x.0 e.0 && same x.1 e.1)
+Rises-after : {V : Type 0} (same : V → V → Bool) (e : ℕ × V) (b : List (ℕ × V)) → Rises b
+    → Rises (after_entry same e b)
+Rises-after same e [] r = tt
+Rises-after same e (x ∷ xs) r = go (nat_eq x.0 e.0 && same x.1 e.1)
   where
     go : (t : Bool) → Rises (if t then xs else x ∷ xs)
     go true = r.1
@@ -280,7 +280,7 @@ missing-below {V} same decides (x ∷ xs) [] ra rb =
     let nothing : (es : List (ℕ × V)) → EntriesBelow es [] = λ es n v l. cc in
     (λ e. nothing (x ∷ xs), λ p. ih.1 (nothing xs))
 missing-below same decides (x ∷ xs) (y ∷ ys) ra rb =
-    let ih = missing-below same decides xs (behind_entry same x (y ∷ ys)) ra.1
-    (Rises-behind same x (y ∷ ys) rb) in
+    let ih = missing-below same decides xs (after_entry same x (y ∷ ys)) ra.1
+    (Rises-after same x (y ∷ ys) rb) in
     let step = missing_step same decides x y xs ys (nat_eq y.0 x.0 && same y.1 x.1) refl ra rb in
     (λ e. step.0 (ih.0 e), λ p. ih.1 (step.1 p))

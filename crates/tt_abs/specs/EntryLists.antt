@@ -37,9 +37,9 @@ begins_with_entry same e [] = false
 begins_with_entry same e (x ∷ xs) = nat_eq x.0 e.0 && same x.1 e.1
 
 -- the entries after the first, if that is this one, and all of them otherwise
-abbrev pub behind_entry : {V : Type 0} → (V → V → Bool) → ℕ × V → List (ℕ × V) → List (ℕ × V)
-behind_entry same e [] = []
-behind_entry same e (x ∷ xs) = if begins_with_entry same e (x ∷ xs) then xs else x ∷ xs
+abbrev pub after_entry : {V : Type 0} → (V → V → Bool) → ℕ × V → List (ℕ × V) → List (ℕ × V)
+after_entry same e [] = []
+after_entry same e (x ∷ xs) = if begins_with_entry same e (x ∷ xs) then xs else x ∷ xs
 
 -- the entries from a number on
 abbrev pub entries_from : {V : Type 0} → ℕ → List (ℕ × V) → List (ℕ × V)
@@ -50,7 +50,7 @@ entries_from n (x ∷ xs) = if nat_lt x.0 n then entries_from n xs else x ∷ xs
 abbrev pub missing_entries : {V : Type 0} → (V → V → Bool) → List (ℕ × V) → List (ℕ × V)
     → List (ℕ × V)
 missing_entries same [] b = b
-missing_entries same (e ∷ es) b = missing_entries same es (behind_entry same e b)
+missing_entries same (e ∷ es) b = missing_entries same es (after_entry same e b)
 
 -- whether an option holds this value
 abbrev pub holds_value : {V : Type 0} → (V → V → Bool) → Option V → V → Bool

@@ -23,22 +23,22 @@ use Rattle.tt_abs.specs.States.{abstract_of}
 use Rattle.tt_abs.specs.Transfers.{Next, controlled_cells, instruction_of, outcome_on_cells}
 
 -- the calls after a move, the innermost first
-abbrev pub frames_behind : List Frame → Move → List Frame
-frames_behind fs (To offset) = fs
-frames_behind fs (Enter f) = f ∷ fs
-frames_behind [] NextTurn = []
-frames_behind (f ∷ fs) NextTurn = record f { turn = f.turn + 1 } ∷ fs
-frames_behind [] Return = []
-frames_behind (f ∷ fs) Return = fs
+abbrev pub frames_after : List Frame → Move → List Frame
+frames_after fs (To offset) = fs
+frames_after fs (Enter f) = f ∷ fs
+frames_after [] NextTurn = []
+frames_after (f ∷ fs) NextTurn = record f { turn = f.turn + 1 } ∷ fs
+frames_after [] Return = []
+frames_after (f ∷ fs) Return = fs
 
 -- and the offset
-abbrev pub offset_behind : List Frame → Move → ℕ
-offset_behind fs (To offset) = offset
-offset_behind fs (Enter f) = body_offset f.body
-offset_behind [] NextTurn = 0
-offset_behind (f ∷ fs) NextTurn = body_offset f.body
-offset_behind [] Return = 0
-offset_behind (f ∷ fs) Return = f.call + 1
+abbrev pub offset_after : List Frame → Move → ℕ
+offset_after fs (To offset) = offset
+offset_after fs (Enter f) = body_offset f.body
+offset_after [] NextTurn = 0
+offset_after (f ∷ fs) NextTurn = body_offset f.body
+offset_after [] Return = 0
+offset_after (f ∷ fs) Return = f.call + 1
 
 -- the ways, one after the other
 abbrev pub ways_of : Moves → List Move
@@ -48,7 +48,7 @@ ways_of (moves.Two m n) = To m ∷ To n ∷ []
 -- the place to which a way leads, with the state
 abbrev pub next_by : List Frame → Abstract → Move → Next
 next_by fs a way =
-    record { frames = frames_behind fs way; offset = offset_behind fs way; state = a }
+    record { frames = frames_after fs way; offset = offset_after fs way; state = a }
 
 -- the places to which the ways lead, with the state
 abbrev pub nexts_of : List Frame → Moves → Abstract → List Next

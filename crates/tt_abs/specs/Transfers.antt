@@ -5,7 +5,7 @@
 use Rattle.std.specs.Prelude.{ℕ, zero, suc, ◌+◌, ℤ, pos, negsuc, ◌+ℤ◌, ◌-ℤ◌, neg_ℤ, int_lt, int_le, List, [], ◌∷◌, Option, None, Some, Ok, Err, Bool, true, false, not, ◌&&◌, ◌||◌, length, map, remove, nat_eq, nat_lt, nat_le, if◌then◌else◌}
 use Rattle.tt_code.specs.Refusals.{Tested, ◌>>=◌, holds_or, some_or}
 use Rattle.tt_code.specs.Table.{Meaning, NoEntry, Plain, Pushes, Stack, Computes, Controls, Lists, effect_of}
-use Rattle.tt_code.specs.Cut.{Instruction, instruction_at, data_behind}
+use Rattle.tt_code.specs.Cut.{Instruction, instruction_at, data_after}
 use Rattle.tt_code.specs.Structure.{after_if, after_else, after_fdef}
 use Rattle.tt_code.specs.Settings.{Setting, ZoneNumber, Zero, One, zone_size, contours_in, body_name, body_offset, program_of, starts_in_body, is_target}
 use Rattle.tt_code.specs.States.{is_number, is_below, is_true, reference, pointer}
@@ -144,7 +144,7 @@ plain_cells s a line = do
 
 abbrev pub pushed_cells : Push → Abstract → List ℕ → Abstract
 pushed_cells push a rest =
-    leaves_cells a a.stack (map Known (numbers_in push (data_behind push rest)))
+    leaves_cells a a.stack (map Known (numbers_in push (data_after push rest)))
 
 abbrev pub shuffled_cells : StackOp → Abstract → Tested Abstract
 shuffled_cells Dup a = do

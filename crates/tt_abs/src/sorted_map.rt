@@ -7,7 +7,7 @@ ghost use Rattle.std.specs.Result.{IsOk};
 ghost use Rattle.std.specs.List.{insert};
 ghost use Rattle.tt_abs.specs.Orders.{IsLeastAbove};
 ghost use Rattle.tt_abs.specs.Entries.{Rises, listed, with_entry, without_entry};
-ghost use Rattle.tt_abs.specs.EntryLists.{IsEquality, IsAt, IsGap, EntriesBelow, EntriesInRange, entry_order, behind_entry, entries_from, begins_with_entry, common_entries};
+ghost use Rattle.tt_abs.specs.EntryLists.{IsEquality, IsAt, IsGap, EntriesBelow, EntriesInRange, entry_order, after_entry, entries_from, begins_with_entry, common_entries};
 
 use crate::order::{AbsFault, Order};
 use std::alloc::{AllocError, Global};
@@ -160,7 +160,7 @@ fn begins_with<T: EntryValue>(entries: &[(u16, T)], entry: &(u16, T)) -> bool
 
 /// Returns the entries after the first, if that is this one, and all of them otherwise.
 fn rest_after<'a, T: EntryValue>(entries: &'a [(u16, T)], entry: &(u16, T)) -> &'a [(u16, T)]
-    ensures { result.now ≡ behind_entry T.eq entry.now entries.now }
+    ensures { result.now ≡ after_entry T.eq entry.now entries.now }
 {
     match entries {
         [_, rest @ ..] if begins_with(entries, entry) => rest,

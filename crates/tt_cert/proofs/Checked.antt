@@ -16,7 +16,7 @@ use Rattle.tt_abs.specs.declared.moves.Move.TheVariants.{To, Enter, NextTurn, Re
 use Rattle.tt_abs.specs.declared.moves.Moves.{Moves}
 use Rattle.tt_abs.specs.Cells.{Abstract}
 use Rattle.tt_abs.specs.Families.{CoversAt}
-use Rattle.tt_abs.specs.Moves.{frames_behind, next_by, nexts_of, offset_behind, ways_of}
+use Rattle.tt_abs.specs.Moves.{frames_after, next_by, nexts_of, offset_after, ways_of}
 use Rattle.tt_abs.specs.StateFlow.{Place, GivesState}
 use Rattle.tt_abs.specs.States.{abstract_of, state_order}
 use Rattle.tt_abs.specs.Transfers.{Next, outcome_on_cells}
@@ -60,7 +60,7 @@ named_gap_same family L L' q t f (OutOfMemory e) h = tt
 
 -- a move that doesn't stay in the body leads to no place just after
 pub leads_elsewhere : (fs : List Frame) (way : Move) (after : Option ℕ) → ((offset : ℕ) → way ≡ To offset → ⊥) → ((end : ℕ) → after ≡ Some end → 0 < end)
-    → IsAfter fs after (frames_behind fs way, offset_behind fs way) → ⊥
+    → IsAfter fs after (frames_after fs way, offset_after fs way) → ⊥
 leads_elsewhere fs (To offset) after other forward h = other offset refl
 leads_elsewhere fs (Enter f) after other forward (same, is) = let long = ap length same in omega arith
 leads_elsewhere [] NextTurn after other forward (same, is) = let lt = forward 0 is in omega arith

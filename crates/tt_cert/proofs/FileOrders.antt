@@ -14,7 +14,7 @@ use Rattle.tt_abs.specs.declared.state.State.{State}
 use Rattle.tt_cert.specs.Contexts.{frames_of}
 use Rattle.tt_cert.specs.Contents.{Contents, frames_at}
 use Rattle.tt_cert.specs.Built.{Key, key_cmp, key_of, IsBuilt}
-use Rattle.tt_cert.specs.Rising.{StandsAt, IsRising}
+use Rattle.tt_cert.specs.Rising.{IsContextAt, IsRising}
 use Rattle.tt_cert.specs.Representation.FileOrder.{in_order, IsFileOrder}
 use Rattle.tt_cert.proofs.Adding.{at_entry, length_is, family_is, cons_same, key_same, frame_same}
 use Rattle.tt_cert.proofs.Queues.{IsQueue, under, map_back, map_at, is_number}
@@ -146,7 +146,7 @@ module _ (entries : List (ℕ × Frame)) (index : BTreeMap Key ℕ) (states : Li
       listed_at (under j (key_of e)) (suc k) (queue.all j e.0 (key_of e) (suc k) (omega arith) at_j refl (built.found k e at_k ∙ ap Some n_is))
 
   -- a context that was found, in the order
-  found_stands : (a : ℕ) (x : Key × ℕ) → slice_get queue.found a ≡ Some x → StandsAt (in_order v.contexts order) (suc a) (x.0.0, frame_of x.0)
+  found_stands : (a : ℕ) (x : Key × ℕ) → slice_get queue.found a ≡ Some x → IsContextAt (in_order v.contexts order) (suc a) (x.0.0, frame_of x.0)
   found_stands a x at =
       let (p, k, _, before, parent, x_is, at_k) = entry_found a x at in
       let at_n = number_at a x at in
@@ -181,7 +181,7 @@ module _ (entries : List (ℕ × Frame)) (index : BTreeMap Key ℕ) (states : Li
       (b, x, refl, at_x)
 
   -- a context's key is the one by which it was found
-  key_is : (a : ℕ) (x : Key × ℕ) (d : ℕ × Frame) → slice_get queue.found a ≡ Some x → StandsAt (in_order v.contexts order) (suc a) d → x.0 ≡ key_of d
+  key_is : (a : ℕ) (x : Key × ℕ) (d : ℕ × Frame) → slice_get queue.found a ≡ Some x → IsContextAt (in_order v.contexts order) (suc a) d → x.0 ≡ key_of d
   key_is a x d at stands =
       let mine = found_stands a x at in
       let both = cons_same (frame_of x.0) d.1 (frames_at (in_order v.contexts order) x.0.0) (frames_at (in_order v.contexts order) d.0) (sym mine.2 ∙ stands.2) in
@@ -194,13 +194,13 @@ module _ (entries : List (ℕ × Frame)) (index : BTreeMap Key ℕ) (states : Li
   rising = record {
     parents = λ n some lt.
         let (a, x, n_is, at) = found_of n some lt in
-        let S : ℕ → Type 0 = λ m. StandsAt (in_order v.contexts order) m (x.0.0, frame_of x.0) in
+        let S : ℕ → Type 0 = λ m. IsContextAt (in_order v.contexts order) m (x.0.0, frame_of x.0) in
         ((x.0.0, frame_of x.0), subst S (sym n_is) (found_stands a x at));
     rises = λ m n d e less at_d at_e.
         let some = at_d.1 in
         let (a, x, m_is, at_x) = found_of m (omega arith) at_d.0 in
         let (b, y, n_is, at_y) = found_of n (omega arith) at_e.0 in
-        let S : ℕ × Frame → ℕ → Type 0 = λ z k. StandsAt (in_order v.contexts order) k z in
+        let S : ℕ × Frame → ℕ → Type 0 = λ z k. IsContextAt (in_order v.contexts order) k z in
         let key_x = key_is a x d at_x (subst (S d) m_is at_d) in
         let key_y = key_is b y e at_y (subst (S e) n_is at_e) in
         ap (λ k. key_cmp k (key_of e)) (sym key_x) ∙ ap (key_cmp x.0) (sym key_y) ∙ queue.rises a b x y (omega arith) at_x at_y;

@@ -9,7 +9,7 @@ use Rattle.tt_abs.specs.States.{state_laws, state_order}
 use Rattle.tt_cert.specs.Contents.{Contents, IsFamily, family_of, frames_at, number_of}
 use Rattle.tt_cert.specs.Numbers.{number_of-is}
 use Rattle.tt_cert.specs.Places.{states_of}
-use Rattle.tt_cert.specs.Checks.{AreToldBefore}
+use Rattle.tt_cert.specs.Checks.{FitOffsetsBefore}
 use Rattle.tt_cert.specs.Representation.Cursors.{IsComing, IsEntry, IsNextState}
 
 -- a context's state is the family's
@@ -20,7 +20,7 @@ state_there v p n o family lt frames offset =
     λ i. states_of v.states (sym number i, offset i)
 
 -- at an offset of more than 32 bits there is no state in a context whose states are below that
-pub no_state_above : (v : Contents) (p : Place) (n from : ℕ) → IsFamily v → from < length v.contexts → AreToldBefore v from → n < from → frames_at v.contexts n ≡ p.0
+pub no_state_above : (v : Contents) (p : Place) (n from : ℕ) → IsFamily v → from < length v.contexts → FitOffsetsBefore v from → n < from → frames_at v.contexts n ≡ p.0
     → 2 ^ 32 ≤ p.1 → family_of v p ≡ None
 no_state_above v p n from family lt told before frames above = sym (state_there v p n p.1 family (omega arith) frames refl) ∙ go (states_of v.states (n, p.1)) refl
   where

@@ -13,7 +13,7 @@ use Rattle.std.proofs.Common.{refl, sym, ◌∙◌, ap, subst}
 use Rattle.std.proofs.lemmas.Cmp.{tied_itself}
 use Rattle.std.proofs.lemmas.Map.Lookups.{exact_pairs, exact_unsigned}
 use Rattle.tt_cert.specs.Places.{place_cmp, states_of}
-use Rattle.tt_cert.specs.Representation.SlotRows.{Point, merged}
+use Rattle.tt_cert.specs.Representation.SlotLists.{Point, merged}
 use Rattle.tt_cert.proofs.Putting.{place_total}
 
 -- places that ascend, by the library's test

@@ -14,7 +14,7 @@ use Rattle.tt_abs.specs.declared.state.State.{State}
 use Rattle.tt_cert.specs.Contexts.{frames_of}
 use Rattle.tt_cert.specs.Contents.{Contents, frames_at}
 use Rattle.tt_cert.specs.Built.{Key, key_cmp, key_of, IsBuilt, RisesByKey}
-use Rattle.tt_cert.specs.Rising.{StandsAt, IsFinished}
+use Rattle.tt_cert.specs.Rising.{IsContextAt, IsFinished}
 use Rattle.tt_cert.proofs.Adding.{no_frame, at_entry, length_is, family_is, cons_same, key_same}
 
 pub key_total : IsTotalOrder key_cmp
@@ -45,7 +45,7 @@ rises_over entries rises i (suc j) d e at_d at_e =
 module _ (entries : List (ℕ × Frame)) (index : BTreeMap Key ℕ) (states : List ((ℕ × ℕ) × State)) (v : Contents)
     (is : ◌≡◌ {A = Contents} (record { contexts = frames_of entries; states = states }) v) (built : IsBuilt entries index states) where
   -- the entry of a context other than the empty one
-  pub entry_of : (n : ℕ) → 0 < n → n < length v.contexts → (i : ℕ) × (e : ℕ × Frame) × (n ≡ i + 1) × (slice_get entries i ≡ Some e) × StandsAt v.contexts n e
+  pub entry_of : (n : ℕ) → 0 < n → n < length v.contexts → (i : ℕ) × (e : ℕ × Frame) × (n ≡ i + 1) × (slice_get entries i ≡ Some e) × IsContextAt v.contexts n e
   entry_of zero some lt = absurd (omega arith)
   entry_of (suc i) some lt =
       let long = length_is entries index states v is built in
@@ -55,7 +55,7 @@ module _ (entries : List (ℕ × Frame)) (index : BTreeMap Key ℕ) (states : Li
       (i, e, n, at, (lt, omega arith, ap (frames_at v.contexts) n ∙ at_entry entries index states v is built i e at))
 
   -- a context has one parent and one last frame
-  pub one_entry : (n : ℕ) (d e : ℕ × Frame) → StandsAt v.contexts n d → StandsAt v.contexts n e → key_of d ≡ key_of e
+  pub one_entry : (n : ℕ) (d e : ℕ × Frame) → IsContextAt v.contexts n d → IsContextAt v.contexts n e → key_of d ≡ key_of e
   one_entry n d e at_d at_e =
       let both = cons_same d.1 e.1 (frames_at v.contexts d.0) (frames_at v.contexts e.0) (sym at_d.2 ∙ at_e.2) in
       let lt = at_d.0 in

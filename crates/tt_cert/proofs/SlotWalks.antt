@@ -1,4 +1,4 @@
--- The walk through points in rows and beside them: the first of both, and what is left after it.
+-- The walk through points in lists and beside them: the first of both, and what is left after it.
 use Rattle.std.specs.Prelude.{◌≡◌, ℕ, Bool, true, false, cond, Option, Some, None, List, [], ◌∷◌, IfSome}
 use Rattle.std.specs.declared.cmp.Ordering.{Ordering}
 use Rattle.std.specs.declared.cmp.Ordering.TheVariants.{Less, Equal, Greater}
@@ -13,7 +13,7 @@ use Rattle.std.proofs.lemmas.Cmp.{tied_itself}
 use Rattle.std.proofs.lemmas.Map.Entries.{lookup_head}
 use Rattle.std.proofs.lemmas.Map.Keys.{sorted_head, sorted_tail}
 use Rattle.tt_cert.specs.Places.{place_cmp, states_of}
-use Rattle.tt_cert.specs.Representation.SlotRows.{Point, merged, AreApart, with_first, comes_first}
+use Rattle.tt_cert.specs.Representation.SlotLists.{Point, merged, AreApart, with_first, comes_first}
 use Rattle.tt_cert.proofs.Putting.{place_total}
 use Rattle.tt_cert.proofs.PlaceEntries.{merged_first, merged_other, below_below, place_exact}
 
@@ -63,7 +63,7 @@ module _ (e : Point) (points rest : List Point) (apart : AreApart (e ∷ points)
     once = λ p n at. none_behind_first e points p (apart.once p n at);
   }
 
--- the first point beside the rows comes before all those of the rows
+-- the first point beside the lists comes before all those of the lists
 other_before : (e : Point) (first : Option Point) (points : List Point) → IsStrictlySortedBy place_cmp (keys_of (with_first first points)) → comes_first (Some e) first ≡ true
     → AllByRecursion (λ q. place_cmp e.0 q ≡ Less) (keys_of (with_first first points))
 other_before e None points rise before = tt
@@ -76,7 +76,7 @@ other_before e (Some f) points rise before =
     go Equal h = absurd (false≢true h)
     go Greater h = absurd (false≢true h)
 
--- the first point of the rows comes before all those beside them
+-- the first point of the lists comes before all those beside them
 first_before : (e : Point) (points : List Point) (other : Option Point) (rest : List Point) → AreApart (e ∷ points) (with_first other rest) → comes_first other (Some e) ≡ false
     → AllByRecursion (λ q. place_cmp e.0 q ≡ Less) (keys_of (with_first other rest))
 first_before e points None rest apart behind = tt
@@ -91,7 +91,7 @@ first_before e points (Some d) rest apart behind =
         absurd (cc)
     go Greater h k = place_total.antisymm e.0 d.0 ∙ ap ordering_reverse h
 
--- the first point beside the rows is taken
+-- the first point beside the lists is taken
 module _ (first other : Option Point) (points rest : List Point) (apart : AreApart (with_first first points) (with_first other rest)) (before : comes_first other first ≡ true)
     (r : Option Point) (rest' : List Point) (none : r ≡ None → rest ≡ []) (some : IfSome r (λ e. rest ≡ e ∷ rest')) where
   pub other_taken_apart : AreApart (with_first first points) (with_first r rest')
@@ -114,7 +114,7 @@ module _ (first other : Option Point) (points rest : List Point) (apart : AreApa
           sym at ∙ merged_other (with_first first points) rest e (other_before e first points h.points_rise k) (sorted_head place_cmp e.0 (keys_of rest) h.rest_rises)
           ∙ ap (λ l. e ∷ merged (with_first first points) l) (sym (taken_first r rest rest' none some))
 
--- the first point of the rows is taken
+-- the first point of the lists is taken
 module _ (e : Point) (other : Option Point) (points rest : List Point) (apart : AreApart (e ∷ points) (with_first other rest)) (behind : comes_first other (Some e) ≡ false)
     (r : Option Point) (points' : List Point) (none : r ≡ None → points ≡ []) (some : IfSome r (λ d. points ≡ d ∷ points')) where
   pub first_taken_apart : AreApart (with_first r points') (with_first other rest)

@@ -22,7 +22,7 @@ use Rattle.tt_cert.specs.Contents.{Contents, HasContext, IsFamily, family_of, fr
 use Rattle.tt_cert.specs.Numbers.{at-number_of, same_frames-decides}
 use Rattle.tt_cert.specs.Places.{IsLess, place_cmp, states_of}
 use Rattle.tt_cert.specs.Puts.{number_at, place_of}
-use Rattle.tt_cert.specs.Checks.{AreToldBefore, BreaksAt, IsFilledBy, IsFirstBreakOnTheWay, IsSoundAt, Names, WasAdded, point_key_of}
+use Rattle.tt_cert.specs.Checks.{FitOffsetsBefore, BreaksAt, IsFilledBy, IsFirstBreakOnTheWay, IsSoundAt, Names, WasAdded, point_key_of}
 use Rattle.tt_cert.specs.Representation.Cursors.{Entry, IsAtPoint, IsCarried, IsComingAfter, IsEntry, IsOnWay, IsPassed, IsRead, IsUnlisted, IsWalkedThrough, IsWalkedTo, MayLeaveOut, to_come}
 use Rattle.tt_cert.specs.Fillings.{IsAfter}
 use Rattle.tt_cert.specs.declared.fault.ProgramFault.{ProgramFault}
@@ -181,7 +181,7 @@ module _ (v : Contents) (rises : IsStrictlySortedBy place_cmp (keys_of v.states)
   ]
 
   -- the states of the contexts before are at offsets of 32 bits
-  pub told_at : (entries : List Entry) (c n : ℕ) → IsRead v entries (c, n) → AreToldBefore v c
+  pub told_at : (entries : List Entry) (c n : ℕ) → IsRead v entries (c, n) → FitOffsetsBefore v c
   told_at entries c n read d o a less at =
       let (i, e, at_i, key_is, how) = read_or_coming entries (c, n) read (d, o) a at in
       elim how [

@@ -15,16 +15,16 @@ abbrev pub made_by : Budget → ℕ
 made_by budget = budget.most - budget.left
 
 -- all points were made that may be, and one more was to be made
-abbrev pub IsMet : Budget → Type 0
-IsMet budget = (budget.is_over ≡ true) × (budget.left ≡ 0)
+abbrev pub IsExceeded : Budget → Type 0
+IsExceeded budget = (budget.is_over ≡ true) × (budget.left ≡ 0)
 
 -- one more point is counted
 abbrev pub Counts : Budget → Budget → Type 0
 Counts old new = (old.left ≡ new.left + 1) × (new ≡ record old { left = new.left })
 
 -- as many points were made as may be, and one more was to be made
-abbrev pub IsUsedUp : Budget → Budget → Type 0
-IsUsedUp old new = (old.left ≡ 0) × (new ≡ record old { is_over = true })
+abbrev pub Exceeds : Budget → Budget → Type 0
+Exceeds old new = (old.left ≡ 0) × (new ≡ record old { is_over = true })
 
 -- the bound is as before, and no point is taken back
 abbrev pub Spends : Budget → Budget → Type 0

@@ -124,8 +124,8 @@ abbrev pub HasNextTurn : List Frame → Type 0
 HasNextTurn frames = (f : Frame) (fs : List Frame) → frames ≡ f ∷ fs → f.turn < f.count
 
 -- the states of the contexts before this one are at offsets of 32 bits
-abbrev pub AreToldBefore : Contents → ℕ → Type 0
-AreToldBefore contents context =
+abbrev pub FitOffsetsBefore : Contents → ℕ → Type 0
+FitOffsetsBefore contents context =
     (c o : ℕ) (a : State) → c < context → states_of contents.states (c, o) ≡ Some a → o < 2 ^ 32
 
 -- each state of the family is sound at its place

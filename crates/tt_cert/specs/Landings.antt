@@ -3,7 +3,7 @@ use Rattle.std.specs.Prelude.{◌≡◌, ℕ, ◌+◌, ◌≤◌, ◌<◌, ◌^�
 use Rattle.tt_code.specs.Settings.{body_offset}
 use Rattle.tt_code.specs.declared.machine.Frame.{Frame}
 use Rattle.tt_code.specs.declared.reason.Reason.TheVariants.{MissingPoint}
-use Rattle.tt_abs.specs.Moves.{frames_behind, offset_behind}
+use Rattle.tt_abs.specs.Moves.{frames_after, offset_after}
 use Rattle.tt_abs.specs.StateFlow.{Place}
 use Rattle.tt_abs.specs.declared.moves.Move.{Move}
 use Rattle.tt_cert.specs.Checks.{saturated_offset}
@@ -17,7 +17,7 @@ use Rattle.tt_cert.specs.declared.landing.Landing.TheVariants.{In, Body, Beyond}
 -- the place to which a way leads from a context
 abbrev pub place_from : List (List Frame) → ℕ → Move → Place
 place_from contexts context way =
-    (frames_behind (frames_at contexts context) way, offset_behind (frames_at contexts context) way)
+    (frames_after (frames_at contexts context) way, offset_after (frames_at contexts context) way)
 
 -- the innermost call's next turn is a number of 32 bits, if its count is one
 abbrev pub IsTurnCountable : List Frame → Type 0

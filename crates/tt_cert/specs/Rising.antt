@@ -8,15 +8,15 @@ use Rattle.tt_cert.specs.Built.{key_cmp, key_of}
 use Rattle.tt_cert.specs.Places.{has_point}
 
 -- the context of this number has this parent, which comes before, and this last frame
-abbrev pub StandsAt : List (List Frame) → ℕ → ℕ × Frame → Type 0
-StandsAt contexts n e =
+abbrev pub IsContextAt : List (List Frame) → ℕ → ℕ × Frame → Type 0
+IsContextAt contexts n e =
     (n < length contexts) × (e.0 < n) × (frames_at contexts n ≡ e.1 ∷ frames_at contexts e.0)
 
 -- each context except for the empty one has a parent that comes before, and contexts ascend by
 -- parent, call, body, turn and count
 pub record IsRising (contexts : List (List Frame)) : Type 0 where
-  pub parents : (n : ℕ) → 0 < n → n < length contexts → (e : ℕ × Frame) × StandsAt contexts n e
-  pub rises : (m n : ℕ) (d e : ℕ × Frame) → m < n → StandsAt contexts m d → StandsAt contexts n e
+  pub parents : (n : ℕ) → 0 < n → n < length contexts → (e : ℕ × Frame) × IsContextAt contexts n e
+  pub rises : (m n : ℕ) (d e : ℕ × Frame) → m < n → IsContextAt contexts m d → IsContextAt contexts n e
       → key_cmp (key_of d) (key_of e) ≡ Less
 
 -- the same contexts, whatever their numbers, and the same state at each point

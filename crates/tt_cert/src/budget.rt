@@ -1,7 +1,7 @@
 //! How many points may be made.
 
 ghost use Rattle.std.specs.Prelude.{◌≡◌, ◌↔◌, IsTrue, OnErr, OnOk};
-ghost use Rattle.tt_cert.specs.Budgets.{Counts, IsMet, IsUsedUp, made_by, new_budget, unlimited_budget};
+ghost use Rattle.tt_cert.specs.Budgets.{Counts, IsExceeded, Exceeds, made_by, new_budget, unlimited_budget};
 
 use std::alloc::AllocError;
 
@@ -44,8 +44,8 @@ impl Budget {
     }
 
     /// Whether all points were made that may be, and one more was to be made.
-    pub fn is_met(&self) -> bool
-        ensures { IsTrue result ↔ IsMet self.now }
+    pub fn is_exceeded(&self) -> bool
+        ensures { IsTrue result ↔ IsExceeded self.now }
     {
         self.is_over && self.left == 0
     }
@@ -54,10 +54,10 @@ impl Budget {
     ///
     /// # Errors
     /// If as many points were made as may be, which is answered as if memory had run out. Then the
-    /// budget is met.
+    /// budget is exceeded.
     pub fn spend(&mut self) -> Result<(), AllocError>
         ensures counted { OnOk result (Counts self.old self.new) }
-        ensures met { OnErr result (IsUsedUp self.old self.new) }
+        ensures exceeded { OnErr result (Exceeds self.old self.new) }
     {
         if self.left == 0 {
             self.is_over = true;

@@ -12,7 +12,7 @@ ghost use Rattle.tt_cert.specs.Puts.{Reweighs, family_state, place_of};
 ghost use Rattle.tt_cert.specs.Built.{RisesByKey, key_cmp, key_of as key_of_entry};
 ghost use Rattle.std.specs.BTreeMap.{IsOrdered, get};
 ghost use Rattle.tt_cert.specs.Representation.FileOrder.{IsFileOrder, children};
-ghost use Rattle.tt_cert.specs.Rising.{IsFinished, StandsAt};
+ghost use Rattle.tt_cert.specs.Rising.{IsFinished, IsContextAt};
 ghost use Rattle.tt_cert.specs.Ends.{AreDefinedAtEnd, AreKnownAtEnd};
 ghost use Rattle.tt_cert.specs.Contents.{AddsChild, HasChild, IsChild, IsFamily, family_of, frames_at, points_of, state_at};
 ghost use Rattle.tt_cert.specs.Spots.{spot_of};
@@ -156,7 +156,7 @@ impl Builder {
     /// under which there is no context.
     pub fn context(&self, number: u32) -> Option<(u32, Frame)>
         ensures none { result ≡ None → (number ≡ 0) ⊎ (length self.now.contexts ≤ number) }
-        ensures some { IfSome result (StandsAt self.now.contexts number) }
+        ensures some { IfSome result (IsContextAt self.now.contexts number) }
     {
         if number == 0 {
             return None;

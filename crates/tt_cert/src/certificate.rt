@@ -9,7 +9,7 @@ ghost use Rattle.tt_cert.specs.Places.{place_cmp, states_of};
 ghost use Rattle.tt_cert.specs.Puts.{family_state};
 ghost use Rattle.tt_cert.specs.Ends.{AreDefinedAtEnd, AreKnownAtEnd};
 ghost use Rattle.tt_cert.specs.Contents.{HasChild, IsChild, IsFamily, family_of, frames_at, points_of, state_at};
-ghost use Rattle.tt_cert.specs.Rising.{IsFinished, StandsAt};
+ghost use Rattle.tt_cert.specs.Rising.{IsFinished, IsContextAt};
 ghost use Rattle.tt_cert.specs.Spots.{spot_of};
 
 use crate::builder::Builder;
@@ -80,7 +80,7 @@ impl Certificate {
     /// under which there is no context.
     pub fn context(&self, number: u32) -> Option<(u32, Frame)>
         ensures none { result ≡ None → (number ≡ 0) ⊎ (length self.now.contexts ≤ number) }
-        ensures some { IfSome result (StandsAt self.now.contexts number) }
+        ensures some { IfSome result (IsContextAt self.now.contexts number) }
     {
         self.builder.context(number)
     }

@@ -11,7 +11,7 @@ ghost use Rattle.tt_abs.specs.States.{state_order};
 ghost use Rattle.tt_cert.specs.Budgets.{Counts, Spends};
 ghost use Rattle.tt_cert.specs.CheckedSubjects.{EndsWellFor, HasGoodFillingFor, HasSafeFillingFor, IsGoodFor, IsSafeFor, IsShortFor, NamesBrokenFirst, NamesFillingBrokenFirst};
 ghost use Rattle.tt_cert.specs.Representation.Cursors.{IsFoundSoundFor, NamesFirstFor, AreToCome, AreUnlisted, IsLeftOutAfter, IsWalk, IsWalkedThrough, NamesBreak, NamesFirstBreak, PassesPoint, to_come};
-ghost use Rattle.tt_cert.specs.Checks.{AreToldBefore, IsOutOfMemory, NamesGap};
+ghost use Rattle.tt_cert.specs.Checks.{FitOffsetsBefore, IsOutOfMemory, NamesGap};
 ghost use Rattle.tt_cert.specs.Contents.{family_of};
 ghost use Rattle.tt_cert.specs.Fillings.{HasOneGoodFilling, place_of_point};
 ghost use Rattle.tt_cert.specs.GoodFamilies.{HasEnd};
@@ -115,7 +115,7 @@ fn check_point(
     budget: &mut Budget,
 ) -> Result<(), ProgramFault>
     requires walk { IsWalk certificate.now walk.old }
-    requires told { AreToldBefore certificate.now walk.old.context }
+    requires told { FitOffsetsBefore certificate.now walk.old.context }
     requires in_range { state_order.InRange walk.old.made }
     requires unlisted { AreUnlisted certificate.now walk.old.next walk.old.context offset }
     ensures passed { IfOk result (λ _.
@@ -256,7 +256,7 @@ pub fn check_full(
 /// budget allows.
 ///
 /// # Errors
-/// As `check_full`; `OutOfMemory` too where the budget is met.
+/// As `check_full`; `OutOfMemory` too where the budget is exceeded.
 pub fn check_full_within(
     alloc: Global,
     setting: &Setting<'_>,
@@ -301,7 +301,7 @@ pub fn check(
 /// the budget allows.
 ///
 /// # Errors
-/// As `check`; `OutOfMemory` too where the budget is met.
+/// As `check`; `OutOfMemory` too where the budget is exceeded.
 pub fn check_within(
     alloc: Global,
     setting: &Setting<'_>,

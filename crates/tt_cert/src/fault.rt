@@ -39,7 +39,7 @@ pub enum ProgramFault {
         offset: u32,
         reason: Reason,
     },
-    /// A growth of memory was refused, or the budget is met, which then tells so. Neither tells
+    /// A growth of memory was refused, or the budget is exceeded, which then tells so. Neither tells
     /// anything of the program.
     #[error(transparent)]
     OutOfMemory(AllocError),

@@ -1,7 +1,7 @@
 //! Where a way leads from a context.
 
 ghost use Rattle.std.specs.Prelude.{◌≡◌, ◌<◌, IfErr, IfOk, None, length};
-ghost use Rattle.tt_cert.specs.Checks.{AreToldBefore, HasNextTurn};
+ghost use Rattle.tt_cert.specs.Checks.{FitOffsetsBefore, HasNextTurn};
 ghost use Rattle.tt_cert.specs.Contents.{frames_at};
 ghost use Rattle.tt_cert.specs.Landings.{IsLanding, IsMissing, IsPointOf, IsTurnCountable, place_from};
 
@@ -90,7 +90,7 @@ pub(crate) fn look_up_successor(
     way: Move,
 ) -> Result<PointKey, ProgramFault>
     requires there { context < length certificate.now.contexts }
-    requires told { AreToldBefore certificate.now context }
+    requires told { FitOffsetsBefore certificate.now context }
     requires turn { way ≡ Move.NextTurn → HasNextTurn (frames_at certificate.now.contexts context) }
     ensures point { IfOk result
         (IsPointOf certificate.now.contexts (place_from certificate.now.contexts context way)) }

@@ -1,11 +1,11 @@
 //! How a state is covered at the places to which it goes, or added there.
 
 ghost use Rattle.std.specs.Prelude.{◌≡◌, ◌<◌, IfErr, IfOk, IsTrue, Some, length};
-ghost use Rattle.tt_cert.specs.Checks.{AreToldBefore, HasNextTurn, NamesGap, saturated_offset};
+ghost use Rattle.tt_cert.specs.Checks.{FitOffsetsBefore, HasNextTurn, NamesGap, saturated_offset};
 ghost use Rattle.tt_cert.specs.Contents.{family_of, frames_at};
 ghost use Rattle.tt_cert.specs.Puts.{place_of};
 ghost use Rattle.tt_cert.specs.Spots.{spot_of};
-ghost use Rattle.tt_cert.specs.Representation.Cursors.{AreMadeMet, IsEntry, IsMadeMet, IsMetBy, IsPastStart, IsUnlisted, IsUnlistedAfter, IsWalk, MayTurn, NamesFirstGapMade, NamesGapMade, calls_of, coverage_of_both, place_behind as place_of_move, point_of};
+ghost use Rattle.tt_cert.specs.Representation.Cursors.{AreMadeMet, IsEntry, IsMadeMet, IsMetBy, IsPastStart, IsUnlisted, IsUnlistedAfter, IsWalk, MayTurn, NamesFirstGapMade, NamesGapMade, calls_of, coverage_of_both, place_of_way as place_of_move, point_of};
 
 use crate::certificate::Certificate;
 use crate::cursor::{Cursor, is_coming, is_coming_after};
@@ -133,7 +133,7 @@ fn check_successor(
     after: Option<u32>,
 ) -> Result<Coverage, ProgramFault>
     requires walk { IsWalk certificate.now walk.now }
-    requires told { AreToldBefore certificate.now walk.now.context }
+    requires told { FitOffsetsBefore certificate.now walk.now.context }
     requires turn { way ≡ Move.NextTurn → HasNextTurn (calls_of certificate.now walk.now) }
     requires unlisted { IsUnlistedAfter certificate.now walk.now after }
     requires forward { IsPastStart after }
@@ -162,7 +162,7 @@ pub(crate) fn check_successors(
     after: Option<u32>,
 ) -> Result<Coverage, ProgramFault>
     requires walk { IsWalk certificate.now walk.now }
-    requires told { AreToldBefore certificate.now walk.now.context }
+    requires told { FitOffsetsBefore certificate.now walk.now.context }
     requires turn { MayTurn (calls_of certificate.now walk.now) moves }
     requires unlisted { IsUnlistedAfter certificate.now walk.now after }
     requires forward { IsPastStart after }

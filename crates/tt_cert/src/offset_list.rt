@@ -3,7 +3,7 @@
 ghost use Rattle.std.specs.Prelude.{◌≡◌, ◌↔◌, ◌<◌, ◌≤◌, length, [], ◌∷◌, ◌++◌, IsTrue, MatchResult, OnOk, OnErr};
 ghost use Rattle.tt_abs.specs.Entries.{Rises, listed};
 ghost use Rattle.tt_abs.specs.EntryLists.{IsAt, IsGap};
-ghost use Rattle.tt_cert.specs.Representation.SlotRows.{AreBelow};
+ghost use Rattle.tt_cert.specs.Representation.SlotLists.{AreBelow};
 
 use std::alloc::{AllocError, Global};
 use std::marker::Model;

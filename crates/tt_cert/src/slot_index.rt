@@ -3,7 +3,7 @@
 ghost use Rattle.std.specs.Prelude.{◌≡◌, ℕ, ◌<◌, ◌≤◌, None, [], ◌∷◌, IfSome, OnOk, OnErr, length};
 ghost use Rattle.std.specs.BTreeMap.{insert_entry};
 ghost use Rattle.tt_cert.specs.Places.{place_cmp, states_of};
-ghost use Rattle.tt_cert.specs.Representation.SlotRows.{AddsRows, AreEmptyFrom, AreSlotRows, comes_first, points_in, row_of, rows_points};
+ghost use Rattle.tt_cert.specs.Representation.SlotLists.{AddsLists, AreEmptyFrom, AreSlotLists, comes_first, points_in, list_of, lists_points};
 
 use crate::offset_list::OffsetList;
 use std::alloc::{AllocError, Global};
@@ -11,19 +11,19 @@ use std::collections::BTreeMap;
 use std::collections::btree_map::Iter;
 use std::marker::Model;
 
-/// How many rows keep their memory.
-const KEPT_ROWS: usize = 64;
+/// How many lists keep their memory.
+const KEPT_LISTS: usize = 64;
 
 /// What a stored state is found by: its context's number and its offset.
 pub type PointKey = (u32, u32);
 
 /// The slots of points by context and offset. Within a context the points mostly come by ascending
-/// offset: those are in a row, and the others in a tree.
+/// offset: those are in a list, and the others in a tree.
 #[derive(Drop)]
 pub(crate) struct SlotIndex {
     /// For each context the points that came after all others of the context.
-    rows: Vec<OffsetList>,
-    /// How many rows may hold points. The rows after those are empty, and are kept only for their
+    lists: Vec<OffsetList>,
+    /// How many lists may hold points. The lists after those are empty, and are kept only for their
     /// memory.
     used: usize,
     /// The points that came before a greater offset of their context.
@@ -34,73 +34,73 @@ pub(crate) struct SlotIndex {
 
 impl Model for SlotIndex {
     ghost use Rattle.std.specs.Prelude.{◌≡◌, List, ℕ, length};
-    ghost use Rattle.tt_cert.specs.Representation.SlotRows.{AreEmptyFrom, AreSlotRows, points_in};
+    ghost use Rattle.tt_cert.specs.Representation.SlotLists.{AreEmptyFrom, AreSlotLists, points_in};
 
     ghost Value = { List ((ℕ × ℕ) × ℕ) };
 
-    ghost view = { λ p. points_in p.rows.items p.rest.entries };
+    ghost view = { λ p. points_in p.lists.items p.rest.entries };
 
-    ghost invariant = { λ p. AreSlotRows p.rows.items p.rest.entries
-        × (p.count ≡ length (points_in p.rows.items p.rest.entries))
-        × AreEmptyFrom p.used p.rows.items };
+    ghost invariant = { λ p. AreSlotLists p.lists.items p.rest.entries
+        × (p.count ≡ length (points_in p.lists.items p.rest.entries))
+        × AreEmptyFrom p.used p.lists.items };
 }
 
-/// Adds empty rows until there is one for a context.
+/// Adds empty lists until there is one for a context.
 ///
 /// # Errors
-/// If memory runs out; then some of the rows may be there.
-fn add_rows(rows: &mut Vec<OffsetList>, context: u32) -> Result<(), AllocError>
-    requires { length rows.old.items ≤ 4294967296 }
-    ensures enough { OnOk result (context < length rows.new.items) }
-    ensures adds { AddsRows rows.old.items rows.new.items }
-    ensures fits { length rows.new.items ≤ 4294967296 }
+/// If memory runs out; then some of the lists may be there.
+fn add_lists(lists: &mut Vec<OffsetList>, context: u32) -> Result<(), AllocError>
+    requires { length lists.old.items ≤ 4294967296 }
+    ensures enough { OnOk result (context < length lists.new.items) }
+    ensures adds { AddsLists lists.old.items lists.new.items }
+    ensures fits { length lists.new.items ≤ 4294967296 }
 {
-    let alloc = *rows.allocator();
-    while rows.len() <= context as usize {
-        rows.push(OffsetList::new(alloc))?;
+    let alloc = *lists.allocator();
+    while lists.len() <= context as usize {
+        lists.push(OffsetList::new(alloc))?;
     }
     Ok(())
 }
 
-/// Puts a point that isn't there after the others of its row, or beside the rows.
+/// Puts a point that isn't there after the others of its list, or beside the lists.
 ///
 /// # Errors
 /// If memory runs out; then the points stay as they are.
 fn put(
-    rows: &mut Vec<OffsetList>,
+    lists: &mut Vec<OffsetList>,
     rest: &mut BTreeMap<PointKey, u32>,
     point: PointKey,
     slot: u32,
 ) -> Result<(), AllocError>
-    requires places { AreSlotRows rows.old.items rest.old.entries }
-    requires within { point.0 < length rows.old.items }
-    requires absent { states_of (points_in rows.old.items rest.old.entries) point ≡ None }
-    ensures places { AreSlotRows rows.new.items rest.new.entries }
-    ensures ok { OnOk result (points_in rows.new.items rest.new.entries
-        ≡ insert_entry place_cmp (points_in rows.old.items rest.old.entries) point slot) }
+    requires places { AreSlotLists lists.old.items rest.old.entries }
+    requires within { point.0 < length lists.old.items }
+    requires absent { states_of (points_in lists.old.items rest.old.entries) point ≡ None }
+    ensures places { AreSlotLists lists.new.items rest.new.entries }
+    ensures ok { OnOk result (points_in lists.new.items rest.new.entries
+        ≡ insert_entry place_cmp (points_in lists.old.items rest.old.entries) point slot) }
     ensures err { OnErr result
-        (points_in rows.new.items rest.new.entries ≡ points_in rows.old.items rest.old.entries) }
-    ensures behind { (used : ℕ) → point.0 < used
-        → AreEmptyFrom used rows.old.items → AreEmptyFrom used rows.new.items }
+        (points_in lists.new.items rest.new.entries ≡ points_in lists.old.items rest.old.entries) }
+    ensures unused { (used : ℕ) → point.0 < used
+        → AreEmptyFrom used lists.old.items → AreEmptyFrom used lists.new.items }
 {
-    let row = &mut rows[point.0 as usize];
-    if row.is_below(point.1) {
-        return row.push(point.1, slot);
+    let list = &mut lists[point.0 as usize];
+    if list.is_below(point.1) {
+        return list.push(point.1, slot);
     }
     rest.insert(point, slot)?;
     Ok(())
 }
 
-/// Empties the first `used` rows, after which all are empty, and keeps the memory of the first
-/// `KEPT_ROWS` rows.
-fn clear_rows(rows: &mut Vec<OffsetList>, used: usize)
-    requires { AreEmptyFrom used rows.old.items }
-    ensures empty { (c : ℕ) → row_of rows.new.items c ≡ [] }
-    ensures fits { length rows.new.items ≤ 4294967296 }
+/// Empties the first `used` lists, after which all are empty, and keeps the memory of the first
+/// `KEPT_LISTS` lists.
+fn clear_lists(lists: &mut Vec<OffsetList>, used: usize)
+    requires { AreEmptyFrom used lists.old.items }
+    ensures empty { (c : ℕ) → list_of lists.new.items c ≡ [] }
+    ensures fits { length lists.new.items ≤ 4294967296 }
 {
-    rows.truncate(KEPT_ROWS);
-    for context in 0..used.min(rows.len()) {
-        rows[context].clear();
+    lists.truncate(KEPT_LISTS);
+    for context in 0..used.min(lists.len()) {
+        lists[context].clear();
     }
 }
 
@@ -110,7 +110,7 @@ impl SlotIndex {
         ensures { result ≡ [] }
     {
         SlotIndex {
-            rows: Vec::new(alloc),
+            lists: Vec::new(alloc),
             used: 0,
             rest: BTreeMap::new(alloc),
             count: 0,
@@ -128,13 +128,13 @@ impl SlotIndex {
     pub(crate) fn get(&self, context: u32, offset: u32) -> Option<u32>
         ensures { result ≡ states_of self.now (context, offset) }
     {
-        let Some(row) = self.rows.get(context as usize) else {
+        let Some(list) = self.lists.get(context as usize) else {
             return None;
         };
-        if row.is_below(offset) {
+        if list.is_below(offset) {
             return None;
         }
-        match row.get(offset) {
+        match list.get(offset) {
             Some(slot) => Some(slot),
             None => self.rest.get(&(context, offset)).copied(),
         }
@@ -145,11 +145,11 @@ impl SlotIndex {
     pub(crate) fn iter(&self) -> SlotIndexIter<'_>
         ensures { result ≡ self.now }
     {
-        let mut rows = OffsetListsIter::new(&self.rows[..self.used]);
+        let mut lists = OffsetListsIter::new(&self.lists[..self.used]);
         let mut rest = self.rest.iter();
         SlotIndexIter {
-            first: rows.take_first(),
-            rows,
+            first: lists.take_first(),
+            lists,
             other: next_in(&mut rest),
             rest,
         }
@@ -166,62 +166,62 @@ impl SlotIndex {
             (self.new ≡ insert_entry place_cmp self.old (context, offset) slot) }
         ensures err { OnErr result (self.new ≡ self.old) }
     {
-        add_rows(&mut self.rows, context)?;
+        add_lists(&mut self.lists, context)?;
         self.used = self.used.max(context as usize + 1);
-        put(&mut self.rows, &mut self.rest, (context, offset), slot)?;
+        put(&mut self.lists, &mut self.rest, (context, offset), slot)?;
         self.count += 1;
         Ok(())
     }
 
-    /// Removes all points, and keeps the memory of the first rows.
+    /// Removes all points, and keeps the memory of the first lists.
     pub(crate) fn clear(&mut self)
         ensures { self.new ≡ [] }
     {
-        clear_rows(&mut self.rows, self.used);
+        clear_lists(&mut self.lists, self.used);
         self.used = 0;
         self.rest.clear();
         self.count = 0;
     }
 }
 
-/// The points of rows that are still to come.
+/// The points of lists that are still to come.
 #[derive(Drop)]
 struct OffsetListsIter<'a> {
-    /// The context of the row.
+    /// The context of the list.
     context: u32,
-    /// The offsets of the row that are still to come, with their slots.
-    row: &'a [(u32, u32)],
-    /// The rows of the next contexts.
-    rows: &'a [OffsetList],
+    /// The offsets of the list that are still to come, with their slots.
+    list: &'a [(u32, u32)],
+    /// The lists of the next contexts.
+    lists: &'a [OffsetList],
 }
 
 impl<'a> Model for OffsetListsIter<'a> {
     ghost use Rattle.std.specs.Prelude.{List, ℕ, suc, ◌+◌, ◌++◌, ◌<◌, length};
-    ghost use Rattle.tt_cert.specs.Representation.SlotRows.{row_points, rows_points};
+    ghost use Rattle.tt_cert.specs.Representation.SlotLists.{list_points, lists_points};
 
     ghost Value = { List ((ℕ × ℕ) × ℕ) };
 
-    ghost view = { λ r. row_points r.context r.row.now ++ rows_points (suc r.context) r.rows.now };
+    ghost view = { λ r. list_points r.context r.list.now ++ lists_points (suc r.context) r.lists.now };
 
-    ghost invariant = { λ r. r.context + length r.rows.now < 4294967296 };
+    ghost invariant = { λ r. r.context + length r.lists.now < 4294967296 };
 }
 
 impl<'a> OffsetListsIter<'a> {
-    /// Returns all points of the rows, the first of which is that of the first context.
-    fn new(rows: &'a [OffsetList]) -> Self
-        requires { length rows.now ≤ 4294967296 }
-        ensures { result ≡ rows_points 0 rows.now }
+    /// Returns all points of the lists, the first of which is that of the first context.
+    fn new(lists: &'a [OffsetList]) -> Self
+        requires { length lists.now ≤ 4294967296 }
+        ensures { result ≡ lists_points 0 lists.now }
     {
-        match rows {
-            [first, rows @ ..] => OffsetListsIter {
+        match lists {
+            [first, lists @ ..] => OffsetListsIter {
                 context: 0,
-                row: first.as_slice(),
-                rows,
+                list: first.as_slice(),
+                lists,
             },
             [] => OffsetListsIter {
                 context: 0,
-                row: &[],
-                rows,
+                list: &[],
+                lists,
             },
         }
     }
@@ -232,15 +232,15 @@ impl<'a> OffsetListsIter<'a> {
         ensures some { IfSome result (λ e. self.old ≡ e ∷ self.new) }
     {
         loop {
-            if let [first, row @ ..] = self.row {
-                self.row = row;
+            if let [first, list @ ..] = self.list {
+                self.list = list;
                 return Some(((self.context, first.0), first.1));
             }
-            let [row, rows @ ..] = self.rows else {
+            let [list, lists @ ..] = self.lists else {
                 return None;
             };
-            self.row = row.as_slice();
-            self.rows = rows;
+            self.list = list.as_slice();
+            self.lists = lists;
             self.context += 1;
         }
     }
@@ -255,7 +255,7 @@ fn next_in(rest: &mut Iter<'_, PointKey, u32>) -> Option<(PointKey, u32)>
     Some((*point, *slot))
 }
 
-/// Whether the first point beside the rows comes before the first point of the rows.
+/// Whether the first point beside the lists comes before the first point of the lists.
 fn is_first(other: Option<(PointKey, u32)>, first: Option<(PointKey, u32)>) -> bool
     ensures { result ≡ comes_first other first }
 {
@@ -269,25 +269,25 @@ fn is_first(other: Option<(PointKey, u32)>, first: Option<(PointKey, u32)>) -> b
 /// The points that are still to come, with their slots.
 #[derive(Drop)]
 pub(crate) struct SlotIndexIter<'a> {
-    /// The first point of the rows.
+    /// The first point of the lists.
     first: Option<(PointKey, u32)>,
-    /// The others of the rows.
-    rows: OffsetListsIter<'a>,
-    /// The first point beside the rows.
+    /// The others of the lists.
+    lists: OffsetListsIter<'a>,
+    /// The first point beside the lists.
     other: Option<(PointKey, u32)>,
-    /// The others beside the rows.
+    /// The others beside the lists.
     rest: Iter<'a, PointKey, u32>,
 }
 
 impl<'a> Model for SlotIndexIter<'a> {
     ghost use Rattle.std.specs.Prelude.{List, ℕ};
-    ghost use Rattle.tt_cert.specs.Representation.SlotRows.{AreApart, merged, with_first};
+    ghost use Rattle.tt_cert.specs.Representation.SlotLists.{AreApart, merged, with_first};
 
     ghost Value = { List ((ℕ × ℕ) × ℕ) };
 
-    ghost view = { λ p. merged (with_first p.first p.rows) (with_first p.other p.rest) };
+    ghost view = { λ p. merged (with_first p.first p.lists) (with_first p.other p.rest) };
 
-    ghost invariant = { λ p. AreApart (with_first p.first p.rows) (with_first p.other p.rest) };
+    ghost invariant = { λ p. AreApart (with_first p.first p.lists) (with_first p.other p.rest) };
 }
 
 impl<'a> SlotIndexIter<'a> {
@@ -302,7 +302,7 @@ impl<'a> SlotIndexIter<'a> {
             return point;
         }
         let point = self.first?;
-        self.first = self.rows.take_first();
+        self.first = self.lists.take_first();
         Some(point)
     }
 }

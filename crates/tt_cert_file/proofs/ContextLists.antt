@@ -11,7 +11,7 @@ use Rattle.tt_code.specs.declared.machine.Frame.{Frame}
 use Rattle.tt_cert.specs.Built.{Key, RisesByKey, key_cmp, key_of}
 use Rattle.tt_cert.specs.Contents.{AddsContext, Contents, IsFamily, frames_at}
 use Rattle.tt_cert.specs.Contexts.{frames_of, grow-at, grow-push, length-grow}
-use Rattle.tt_cert.specs.Rising.{IsFinished, StandsAt}
+use Rattle.tt_cert.specs.Rising.{IsFinished, IsContextAt}
 use Rattle.tt_cert.proofs.Adding.{cons_apart, cons_same, key_same}
 use Rattle.tt_cert.proofs.Rising.{entry_at, key_total, rises_over}
 use Rattle.tt_cert_file.specs.Rules.{AreContexts, EachAfter, HaveParents, is_above_context, last_of, may_follow}
@@ -75,7 +75,7 @@ module _ (contexts : List Context) (v : Contents) (is : v.contexts ≡ frames_of
       let P : List (List Frame) → Type 0 = λ x. frames_at x (i + 1) ≡ c.1 ∷ frames_at x c.0 in
       subst P (sym is) (ap (frames_at (frames_of contexts)) (sym one) ∙ grow-at ([] ∷ []) contexts i c at (omega arith))
 
-  entry_of : (n : ℕ) → 0 < n → n < length v.contexts → (i : ℕ) × (c : Context) × (n ≡ i + 1) × (slice_get contexts i ≡ Some c) × StandsAt v.contexts n c
+  entry_of : (n : ℕ) → 0 < n → n < length v.contexts → (i : ℕ) × (c : Context) × (n ≡ i + 1) × (slice_get contexts i ≡ Some c) × IsContextAt v.contexts n c
   entry_of zero some lt = absurd (omega arith)
   entry_of (suc i) some lt =
       let len = long in
@@ -85,7 +85,7 @@ module _ (contexts : List Context) (v : Contents) (is : v.contexts ≡ frames_of
       (i, c, n, at, (lt, omega arith, ap (frames_at v.contexts) n ∙ at_context i c at))
 
   -- a context has one parent and one last call
-  one_entry : (n : ℕ) (d e : Context) → StandsAt v.contexts n d → StandsAt v.contexts n e → key_of d ≡ key_of e
+  one_entry : (n : ℕ) (d e : Context) → IsContextAt v.contexts n d → IsContextAt v.contexts n e → key_of d ≡ key_of e
   one_entry n d e at_d at_e =
       let same = cons_same d.1 e.1 (frames_at v.contexts d.0) (frames_at v.contexts e.0) (sym at_d.2 ∙ at_e.2) in
       let lt = at_d.0 in

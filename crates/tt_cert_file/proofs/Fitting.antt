@@ -30,7 +30,7 @@ use Rattle.tt_abs.proofs.StateParts.{one_of_all}
 use Rattle.tt_cert.specs.Contents.{Contents, frames_at}
 use Rattle.tt_cert.specs.Contexts.{frames_of, grow-push, length-grow}
 use Rattle.tt_cert.specs.Places.{place_cmp}
-use Rattle.tt_cert.specs.Rising.{IsFinished, StandsAt}
+use Rattle.tt_cert.specs.Rising.{IsFinished, IsContextAt}
 use Rattle.tt_cert_file.specs.declared.form.Form.TheVariants.{Four}
 use Rattle.tt_cert_file.specs.declared.name.Name.{Name}
 use Rattle.tt_cert_file.specs.Rules.{AreCallsInTurn, CallFits, CellFits, ContextFits, EachAfter, EntryFits, Fits, FunctionFits, GraphicsFits, HasRoom, NameFits, StateFits, StoredFits, is_above, is_above_context, is_new_body, is_turn, last_of, last_place}
@@ -139,7 +139,7 @@ module _ (n : ℕ) (few : n ≤ 65535) where
 -- the contexts of a family, as its section lists them
 
 module _ (v : Contents) (finished : IsFinished v) where
-  entry_at : (i : ℕ) → i < length (contexts_in v.contexts) → (c : Context) × (slice_get (contexts_in v.contexts) i ≡ Some c) × StandsAt v.contexts (i + 1) c
+  entry_at : (i : ℕ) → i < length (contexts_in v.contexts) → (c : Context) × (slice_get (contexts_in v.contexts) i ≡ Some c) × IsContextAt v.contexts (i + 1) c
   entry_at i lt =
       let long = length_listed v in
       let (c, stands) = finished.1.parents (i + 1) (omega arith) (omega arith) in
@@ -191,7 +191,7 @@ module _ (v : Contents) (finished : IsFinished v) where
           λ i. head i ∷ tail i
 
   module _ (calls : AreCallsInTurn v.contexts) (numbers : AllByRecursion CallFits (contexts_in v.contexts)) where
-    is_above_before : (i : ℕ) (c : Context) → i < length (contexts_in v.contexts) → StandsAt v.contexts (i + 1) c → is_above_context (last_of (take i (contexts_in v.contexts))) c ≡ true
+    is_above_before : (i : ℕ) (c : Context) → i < length (contexts_in v.contexts) → IsContextAt v.contexts (i + 1) c → is_above_context (last_of (take i (contexts_in v.contexts))) c ≡ true
     is_above_before zero c lt stands = refl
     is_above_before (suc j) c lt stands =
         let (d, at, stands_d) = entry_at j (omega arith) in
@@ -212,7 +212,7 @@ module _ (v : Contents) (finished : IsFinished v) where
         let few = finished.0.few in
         let (d, at_d, stands_d) = entry_at i within in
         let same : d ≡ c = some_same d c (sym at_d ∙ at) in
-        let stands = subst (StandsAt v.contexts (i + 1)) same stands_d in
+        let stands = subst (IsContextAt v.contexts (i + 1)) same stands_d in
         let before = stands.1 in
         let fits : FramesFit (c.1 ∷ frames_at v.contexts c.0) = subst FramesFit stands.2 (calls (i + 1) stands.0) in
         let turn = fits.each.0 in

@@ -11,7 +11,7 @@ use Rattle.tt_code.specs.declared.machine.Body.{Body}
 use Rattle.tt_code.specs.declared.machine.Body.TheVariants as body
 use Rattle.tt_code.specs.Cut.{Instruction, IsInstruction, size}
 use Rattle.tt_code.specs.Structure.{keyword}
-use Rattle.tt_code.specs.Grammar.{IsList, none, definition, begins_definition, Ends, GoesTo, StandsAt, InDefinition, IsBodyAt, IsStructured}
+use Rattle.tt_code.specs.Grammar.{IsList, none, definition, begins_definition, Ends, GoesTo, IsInstructionAt, InDefinition, IsBodyAt, IsStructured}
 use Rattle.tt_code.specs.Representation.Pass.{within, step, steps, body_of, place, closed, Head, Opened, Leaves}
 use Rattle.tt_code.specs.Representation.Slots.{body_found, Opens, IsOpenAt, IsTable}
 use Rattle.tt_code.proofs.CutLemmas.{size-append, size_more, some_bytes}
@@ -364,7 +364,7 @@ open_definition is a b i o s in_body goes each table whole run open_in def =
         elim (order (size a) t) [ inl h ↦ (t, goes, low, h) | inr h ↦ absurd (high t goes h) ]
 
 -- an instruction has its body
-pub body_there : (is : List Instruction) (in_body : List (Option Body)) (goes : List (Option ℕ)) (k : ℕ) (i : Instruction) → IsTable is [] in_body goes → StandsAt is k i →
+pub body_there : (is : List Instruction) (in_body : List (Option Body)) (goes : List (Option ℕ)) (k : ℕ) (i : Instruction) → IsTable is [] in_body goes → IsInstructionAt is k i →
     (b : Body) × (body_found in_body k ≡ Some b)
 body_there is in_body goes k i table stands =
     let row = table.rows stands.before i stands.after stands.whole in
@@ -372,20 +372,20 @@ body_there is in_body goes k i table stands =
 
 -- an offset that has a body is an instruction's
 pub body_starts : (is : List Instruction) (in_body : List (Option Body)) (goes : List (Option ℕ)) (k : ℕ) (b : Body) → IsTable is [] in_body goes → body_found in_body k ≡ Some b →
-    (i : Instruction) × StandsAt is k i
+    (i : Instruction) × IsInstructionAt is k i
 body_starts is in_body goes k b table at =
     let o = table.starts k b at in
     (o.1, record { before = o.0; after = o.2; whole = o.3; offset = o.4 })
 
 -- the body of a definition in which an instruction is
 pub inside_body : (is : List Instruction) (k : ℕ) (i : Instruction) (s : List Open) → AllByRecursion IsInstruction is →
-    (stands : StandsAt is k i) → steps stands.before 0 [] ≡ Some s → (o : Open) (from : ℕ) → place o ≡ from → Defines (keyword_for o) → InDefinition (keyword_for o) is from k → body_of s ≡ body_of (o ∷ [])
+    (stands : IsInstructionAt is k i) → steps stands.before 0 [] ≡ Some s → (o : Open) (from : ℕ) → place o ≡ from → Defines (keyword_for o) → InDefinition (keyword_for o) is from k → body_of s ≡ body_of (o ∷ [])
 inside_body is k i s each stands run o from at def (to, goes_to, low, high) =
     in_definition_body is stands.before stands.after i from to o s each stands.whole run goes_to at def (rw stands.offset low) (rw stands.offset high)
 
 -- the body that is kept is the instruction's
 pub body_is : (is : List Instruction) (in_body : List (Option Body)) (goes : List (Option ℕ)) (k : ℕ) (i : Instruction) (b : Body) → AllByRecursion IsInstruction is →
-    IsTable is [] in_body goes → StandsAt is k i → body_found in_body k ≡ Some b → IsBodyAt is k b
+    IsTable is [] in_body goes → IsInstructionAt is k i → body_found in_body k ≡ Some b → IsBodyAt is k b
 body_is is in_body goes k i b each table stands at =
     subst (λ b. IsBodyAt is k b) one (elim (body_from row.0) [ inl h ↦ subst (λ b. IsBodyAt is k b) (sym h) (none_there h) | inr h ↦ subst (λ b. IsBodyAt is k b) (sym h.3) (one_there h.0 h.1 h.2) ])
   where
@@ -415,7 +415,7 @@ body_is is in_body goes k i b each table stands at =
         (j, refl, (r.0, r.1, subst (λ x. j < x) stands.offset r.2, subst (λ x. x < r.0) stands.offset r.3))
 
 -- each instruction of structured ones has a way to it
-pub way_to : (is : List Instruction) (k : ℕ) (i : Instruction) → IsStructured is → (stands : StandsAt is k i) → (s : List Open) × (steps stands.before 0 [] ≡ Some s)
+pub way_to : (is : List Instruction) (k : ℕ) (i : Instruction) → IsStructured is → (stands : IsInstructionAt is k i) → (s : List Open) × (steps stands.before 0 [] ≡ Some s)
 way_to is k i l stands = go (steps stands.before 0 []) refl
   where
     go : (r : Option (List Open)) → steps stands.before 0 [] ≡ r → (s : List Open) × (steps stands.before 0 [] ≡ Some s)
@@ -426,7 +426,7 @@ way_to is k i l stands = go (steps stands.before 0 []) refl
     go (Some s) h = (s, h)
 
 -- an instruction has one body
-pub one_body : (is : List Instruction) (k : ℕ) (b c : Body) (i : Instruction) → AllByRecursion IsInstruction is → IsStructured is → StandsAt is k i →
+pub one_body : (is : List Instruction) (k : ℕ) (b c : Body) (i : Instruction) → AllByRecursion IsInstruction is → IsStructured is → IsInstructionAt is k i →
     IsBodyAt is k b → IsBodyAt is k c → b ≡ c
 one_body is k b c i each l stands g h = go b c g h
   where
@@ -455,20 +455,20 @@ one_body is k b c i each l stands g h = go b c g h
 
 -- what a body that was looked up says
 pub body_found_is : (is : List Instruction) (in_body : List (Option Body)) (goes : List (Option ℕ)) (k : ℕ) (r : Option Body) → AllByRecursion IsInstruction is →
-    IsTable is [] in_body goes → r ≡ body_found in_body k → IfSome r (λ b. ((i : Instruction) × StandsAt is k i) × IsBodyAt is k b)
+    IsTable is [] in_body goes → r ≡ body_found in_body k → IfSome r (λ b. ((i : Instruction) × IsInstructionAt is k i) × IsBodyAt is k b)
 body_found_is is in_body goes k None each table e = tt
 body_found_is is in_body goes k (Some b) each table e =
     let stands = body_starts is in_body goes k b table (sym e) in
     ((stands.0, stands.1), body_is is in_body goes k stands.0 b each table stands.1 (sym e))
 
 pub body_only_is : (is : List Instruction) (in_body : List (Option Body)) (goes : List (Option ℕ)) (k : ℕ) (r : Option Body) → AllByRecursion IsInstruction is → IsStructured is →
-    IsTable is [] in_body goes → r ≡ body_found in_body k → (i : Instruction) (b : Body) → StandsAt is k i → IsBodyAt is k b → r ≡ Some b
+    IsTable is [] in_body goes → r ≡ body_found in_body k → (i : Instruction) (b : Body) → IsInstructionAt is k i → IsBodyAt is k b → r ≡ Some b
 body_only_is is in_body goes k r each l table e i b stands h =
     let there = body_there is in_body goes k i table stands in
     e ∙ there.1 ∙ ap Some (one_body is k there.0 b i each l stands (body_is is in_body goes k i there.0 each table stands there.1) h)
 
 pub body_none_is : (is : List Instruction) (in_body : List (Option Body)) (goes : List (Option ℕ)) (k : ℕ) (r : Option Body) → IsTable is [] in_body goes →
-    r ≡ body_found in_body k → IfNone r ((i : Instruction) → StandsAt is k i → ⊥)
+    r ≡ body_found in_body k → IfNone r ((i : Instruction) → IsInstructionAt is k i → ⊥)
 body_none_is is in_body goes k None table e = λ i stands.
     let b = body_there is in_body goes k i table stands in
     let wrong : None ≡ Some b.0 = e ∙ b.1 in cc

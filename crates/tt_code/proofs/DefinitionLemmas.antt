@@ -7,14 +7,14 @@ use Rattle.tt_code.specs.declared.nest.Open.TheVariants.{InFunction, InInstructi
 use Rattle.tt_code.specs.declared.machine.Body.TheVariants as body
 use Rattle.tt_code.specs.Cut.{Instruction, IsInstruction, size}
 use Rattle.tt_code.specs.Structure.{body_at, keyword}
-use Rattle.tt_code.specs.Grammar.{IsBodyAt, IsStructured, StandsAt}
+use Rattle.tt_code.specs.Grammar.{IsBodyAt, IsStructured, IsInstructionAt}
 use Rattle.tt_code.specs.Representation.Pass.{body_of, follow, step, steps, within}
 use Rattle.tt_code.proofs.NestingLemmas.{steps-append, whole_steps, within-false, within_main}
 use Rattle.tt_code.proofs.BodyLemmas.{first_step, inside_body, way_to}
 use Rattle.tt_code.proofs.StructureLawsOfBodies.{body_is}
 
 -- the body of an FDEF is the main program
-pub definition_in_main : (is : List Instruction) (at : ℕ) (i : Instruction) → IsStructured is → AllByRecursion IsInstruction is → StandsAt is at i → keyword i ≡ Fdef → body_at is at ≡ Some body.Main
+pub definition_in_main : (is : List Instruction) (at : ℕ) (i : Instruction) → IsStructured is → AllByRecursion IsInstruction is → IsInstructionAt is at i → keyword i ≡ Fdef → body_at is at ≡ Some body.Main
 definition_in_main is at i structured each stands defines = body_is body.Main structured each stands outside
   where
     way : (s : List Open) × (steps stands.before 0 [] ≡ Some s)

@@ -3,7 +3,7 @@ use Rattle.std.proofs.Common.{◌≡◌, ◌⊎◌, inl, inr, ℕ, ◌+◌, List
 use Rattle.std.specs.List.{AllByRecursion}
 use Rattle.tt_code.specs.declared.block_keyword.BlockKeyword.{BlockKeyword}
 use Rattle.tt_code.specs.Cut.{Instruction, IsInstruction, size, CannotBeCut}
-use Rattle.tt_code.specs.Grammar.{CanGoOn, IsStructured, IsFault, GoesTo, StandsAt}
+use Rattle.tt_code.specs.Grammar.{CanGoOn, IsStructured, IsFault, GoesTo, IsInstructionAt}
 use Rattle.tt_code.proofs.CutLemmas.{size-append, size_more}
 use Rattle.tt_code.proofs.ProgramLemmas.{all_after}
 use Rattle.tt_code.proofs.LookupLemmas.{compare}
@@ -46,10 +46,10 @@ one_uncut bytes k m f g =
     omega (arith, f.reached.3, g.reached.3)
 
 -- After an instruction there is another, or the program's end.
-pub next_stands : (is : List Instruction) (k : ℕ) (i : Instruction) → StandsAt is k i → ((j : Instruction) × StandsAt is (k + length i) j) ⊎ (k + length i ≡ size is)
-next_stands is k i s = go s.after s.whole
+pub next_is_there : (is : List Instruction) (k : ℕ) (i : Instruction) → IsInstructionAt is k i → ((j : Instruction) × IsInstructionAt is (k + length i) j) ⊎ (k + length i ≡ size is)
+next_is_there is k i s = go s.after s.whole
   where
-    go : (after : List Instruction) → is ≡ s.before ++ (i ∷ after) → ((j : Instruction) × StandsAt is (k + length i) j) ⊎ (k + length i ≡ size is)
+    go : (after : List Instruction) → is ≡ s.before ++ (i ∷ after) → ((j : Instruction) × IsInstructionAt is (k + length i) j) ⊎ (k + length i ≡ size is)
     go [] e = inr (omega (arith, ap size e, size_more s.before i, s.offset))
     go (j ∷ after) e = inl (
       j,
@@ -62,12 +62,12 @@ next_stands is k i s = go s.after s.whole
     )
 
 -- Where control goes there is an instruction, or the program ends.
-pub target_stands : (is : List Instruction) (w : BlockKeyword) (k t : ℕ) → GoesTo w is k t → ((j : Instruction) × StandsAt is t j) ⊎ (t ≡ size is)
-target_stands is w k t g =
+pub target_is_there : (is : List Instruction) (w : BlockKeyword) (k t : ℕ) → GoesTo w is k t → ((j : Instruction) × IsInstructionAt is t j) ⊎ (t ≡ size is)
+target_is_there is w k t g =
     let before = g.before ++ (g.i ∷ g.inner) in
-    let s : StandsAt is (size before) g.e = record { before = before; after = g.after; whole = g.whole ∙ sym (append_assoc g.before (g.i ∷ g.inner) (g.e ∷ g.after)); offset = refl } in
+    let s : IsInstructionAt is (size before) g.e = record { before = before; after = g.after; whole = g.whole ∙ sym (append_assoc g.before (g.i ∷ g.inner) (g.e ∷ g.after)); offset = refl } in
     let n : size before + length g.e ≡ t = omega (arith, size-append g.before (g.i ∷ g.inner), g.target) in
-    elim (next_stands is (size before) g.e s) [
-      | inl r ↦ inl (r.0, subst (λ x. StandsAt is x r.0) n r.1)
+    elim (next_is_there is (size before) g.e s) [
+      | inl r ↦ inl (r.0, subst (λ x. IsInstructionAt is x r.0) n r.1)
       | inr r ↦ inr (sym n ∙ r)
     ]

@@ -7,7 +7,7 @@ use Rattle.tt_code.specs.declared.block_keyword.BlockKeyword.TheVariants.{If, El
 use Rattle.tt_code.specs.declared.machine.Body.{Body}
 use Rattle.tt_code.specs.Cut.{Instruction, IsInstruction, size}
 use Rattle.tt_code.specs.Structure.{keyword}
-use Rattle.tt_code.specs.Grammar.{IsList, Ends, GoesTo, StandsAt}
+use Rattle.tt_code.specs.Grammar.{IsList, Ends, GoesTo, IsInstructionAt}
 use Rattle.tt_code.specs.Representation.Pass.{step, steps}
 use Rattle.tt_code.specs.Representation.Slots.{target_found, Opens, IsTable}
 use Rattle.tt_code.proofs.CutLemmas.{some_bytes}
@@ -95,24 +95,24 @@ goes_same is w v k s t each g h =
     ]
 
 -- two instructions at one offset are the same
-pub one_stands : (is : List Instruction) (k : ℕ) (i j : Instruction) → AllByRecursion IsInstruction is → StandsAt is k i → StandsAt is k j → i ≡ j
+pub one_stands : (is : List Instruction) (k : ℕ) (i j : Instruction) → AllByRecursion IsInstruction is → IsInstructionAt is k i → IsInstructionAt is k j → i ≡ j
 one_stands is k i j each s t =
     let same : Some i ≡ Some j = sym (stands_found is k i (each_bytes is each) s) ∙ stands_found is k j (each_bytes is each) t in cc
 
 -- an instruction that leads on is at its offset
-pub goes_stands : (w : BlockKeyword) (is : List Instruction) (k t : ℕ) (g : GoesTo w is k t) → StandsAt is k g.i
+pub goes_stands : (w : BlockKeyword) (is : List Instruction) (k t : ℕ) (g : GoesTo w is k t) → IsInstructionAt is k g.i
 goes_stands w is k t g = record { before = g.before; after = g.inner ++ (g.e ∷ g.after); whole = g.whole; offset = g.from }
 
 -- the target that is kept of an instruction is where it goes
 pub goes_found : (is : List Instruction) (in_body : List (Option Body)) (goes : List (Option ℕ)) (k t : ℕ) (i : Instruction) → AllByRecursion IsInstruction is →
-    IsTable is [] in_body goes → StandsAt is k i → target_found goes k ≡ Some t → GoesTo (keyword i) is k t
+    IsTable is [] in_body goes → IsInstructionAt is k i → target_found goes k ≡ Some t → GoesTo (keyword i) is k t
 goes_found is in_body goes k t i each table stands at =
     let g = table.target_right k t at in
     let same : g.1.i ≡ i = one_stands is k g.1.i i each (goes_stands g.0 is k t g.1) stands in
     subst (λ w. GoesTo w is k t) (sym g.1.opens ∙ ap keyword same) g.1
 
 -- an opening instruction has its target
-pub goes_there : (is : List Instruction) (in_body : List (Option Body)) (goes : List (Option ℕ)) (k : ℕ) (i : Instruction) → IsTable is [] in_body goes → StandsAt is k i →
+pub goes_there : (is : List Instruction) (in_body : List (Option Body)) (goes : List (Option ℕ)) (k : ℕ) (i : Instruction) → IsTable is [] in_body goes → IsInstructionAt is k i →
     Opens (keyword i) → (t : ℕ) × (target_found goes k ≡ Some t)
 goes_there is in_body goes k i table stands o =
     elim (table.target_there stands.before i stands.after stands.whole o) [
@@ -129,12 +129,12 @@ goes_only is in_body goes k t w each table g =
 
 -- what a target that was looked up says
 pub target_found_is : (is : List Instruction) (in_body : List (Option Body)) (goes : List (Option ℕ)) (k : ℕ) (i : Instruction) (w : BlockKeyword) (r : Option ℕ) → AllByRecursion IsInstruction is →
-    IsTable is [] in_body goes → StandsAt is k i → keyword i ≡ w → r ≡ target_found goes k → IfSome r (GoesTo w is k)
+    IsTable is [] in_body goes → IsInstructionAt is k i → keyword i ≡ w → r ≡ target_found goes k → IfSome r (GoesTo w is k)
 target_found_is is in_body goes k i w None each table stands same e = tt
 target_found_is is in_body goes k i w (Some t) each table stands same e = subst (λ w. GoesTo w is k t) same (goes_found is in_body goes k t i each table stands (sym e))
 
 pub target_none_is : (is : List Instruction) (in_body : List (Option Body)) (goes : List (Option ℕ)) (k : ℕ) (w : BlockKeyword) (r : Option ℕ) → IsTable is [] in_body goes → Opens w →
-    r ≡ target_found goes k → IfNone r ((i : Instruction) → StandsAt is k i → keyword i ≡ w → ⊥)
+    r ≡ target_found goes k → IfNone r ((i : Instruction) → IsInstructionAt is k i → keyword i ≡ w → ⊥)
 target_none_is is in_body goes k w None table o e = λ i stands same.
     let t = goes_there is in_body goes k i table stands (subst Opens (sym same) o) in
     let wrong : None ≡ Some t.0 = e ∙ t.1 in cc

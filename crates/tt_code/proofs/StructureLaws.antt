@@ -5,8 +5,8 @@ use Rattle.std.specs.List.{AllByRecursion}
 use Rattle.std.proofs.lemmas.Bool.{eqb-true, eq-eqb, ne_eqb, ltb-false, le-ltb}
 use Rattle.tt_code.specs.Cut.{Instruction, IsInstruction, size, instruction_at}
 use Rattle.tt_code.specs.Representation.Slots.{Opens}
-use Rattle.tt_code.specs.Structure.{keyword, is_keyword, still_open, behind_end, leads_from, leads}
-use Rattle.tt_code.specs.Grammar.{IsDefinition, IsList, none, plain, if_eif, if_else_eif, definition, IsStructured, StandsAt, Ends, begins_definition, GoesTo}
+use Rattle.tt_code.specs.Structure.{keyword, is_keyword, still_open, after_end, leads_from, leads}
+use Rattle.tt_code.specs.Grammar.{IsDefinition, IsList, none, plain, if_eif, if_else_eif, definition, IsStructured, IsInstructionAt, Ends, begins_definition, GoesTo}
 use Rattle.tt_code.specs.declared.block_keyword.BlockKeyword.{BlockKeyword}
 use Rattle.tt_code.specs.declared.block_keyword.BlockKeyword.TheVariants.{If, Else, Eif, Fdef, Idef, Endf, Other}
 use Rattle.tt_code.proofs.CutLemmas.{size-append, some_bytes}
@@ -122,40 +122,40 @@ abbrev PassesEndf : BlockKeyword → Type 0
 PassesEndf opener = (n : ℕ) → still_open opener Endf n ≡ Some n
 
 one_over : (opener : BlockKeyword) (i : Instruction) (is : List Instruction) (w : BlockKeyword) (k n m : ℕ) → keyword i ≡ w → still_open opener w n ≡ Some m
-    → behind_end opener (i ∷ is) k n ≡ behind_end opener is (k + length i) m
-one_over opener i is w k n m hw h = rw (hw, h, behind_end) refl
+    → after_end opener (i ∷ is) k n ≡ after_end opener is (k + length i) m
+one_over opener i is w k n m hw h = rw (hw, h, after_end) refl
 
 list_over : {inside : Bool} {is : List Instruction} → IsList inside is → (opener : BlockKeyword) → (inside ≡ true) ⊎ PassesEndf opener → (rest : List Instruction) (k n : ℕ)
-    → behind_end opener (is ++ rest) k n ≡ behind_end opener rest (k + size is) n
+    → after_end opener (is ++ rest) k n ≡ after_end opener rest (k + size is) n
 list_over none opener p rest k n = rw add-zero refl
 list_over (plain {i = i} {rest = r} h t) opener p rest k n =
     one_over opener i (r ++ rest) Other k n n h (over_other opener n)
     ∙ list_over t opener p rest (k + length i) n
-    ∙ ap (λ x. behind_end opener rest x n) (omega arith)
+    ∙ ap (λ x. after_end opener rest x n) (omega arith)
 list_over (if_eif {i = i} {yes = inner} e {rest = r} hi ly he lr) opener p rest k n =
-    ap (λ x. behind_end opener (i ∷ x) k n) (append_assoc inner (e ∷ r) rest)
+    ap (λ x. after_end opener (i ∷ x) k n) (append_assoc inner (e ∷ r) rest)
     ∙ one_over opener i (inner ++ (e ∷ (r ++ rest))) If k n (deeper opener n) hi (over_if opener n)
     ∙ list_over ly opener p (e ∷ (r ++ rest)) (k + length i) (deeper opener n)
     ∙ one_over opener e (r ++ rest) Eif ((k + length i) + size inner) (deeper opener n) n he (over_eif opener n)
     ∙ list_over lr opener p rest (((k + length i) + size inner) + length e) n
-    ∙ ap (λ x. behind_end opener rest x n) (omega (arith, size-append inner (e ∷ r)))
+    ∙ ap (λ x. after_end opener rest x n) (omega (arith, size-append inner (e ∷ r)))
 list_over (if_else_eif {i = i} {yes = inner} l {otherwise = otherwise} e {rest = r} hi ly hl lo he lr) opener p rest k n =
-    ap (λ x. behind_end opener (i ∷ x) k n) (append_assoc inner (l ∷ (otherwise ++ (e ∷ r))) rest ∙ ap (λ x. inner ++ (l ∷ x)) (append_assoc otherwise (e ∷ r) rest))
+    ap (λ x. after_end opener (i ∷ x) k n) (append_assoc inner (l ∷ (otherwise ++ (e ∷ r))) rest ∙ ap (λ x. inner ++ (l ∷ x)) (append_assoc otherwise (e ∷ r) rest))
     ∙ one_over opener i (inner ++ (l ∷ (otherwise ++ (e ∷ (r ++ rest))))) If k n (deeper opener n) hi (over_if opener n)
     ∙ list_over ly opener p (l ∷ (otherwise ++ (e ∷ (r ++ rest)))) (k + length i) (deeper opener n)
     ∙ one_over opener l (otherwise ++ (e ∷ (r ++ rest))) Else ((k + length i) + size inner) (deeper opener n) (deeper opener n) hl (over_else opener n)
     ∙ list_over lo opener p (e ∷ (r ++ rest)) (((k + length i) + size inner) + length l) (deeper opener n)
     ∙ one_over opener e (r ++ rest) Eif ((((k + length i) + size inner) + length l) + size otherwise) (deeper opener n) n he (over_eif opener n)
     ∙ list_over lr opener p rest (((((k + length i) + size inner) + length l) + size otherwise) + length e) n
-    ∙ ap (λ x. behind_end opener rest x n) (omega (arith, size-append inner (l ∷ (otherwise ++ (e ∷ r))), size-append otherwise (e ∷ r)))
+    ∙ ap (λ x. after_end opener rest x n) (omega (arith, size-append inner (l ∷ (otherwise ++ (e ∷ r))), size-append otherwise (e ∷ r)))
 list_over (definition {d = d} {defined = defined} e {rest = r} hd ld he lr) opener (inl bad) rest k n = cc
 list_over (definition {d = d} {defined = defined} e {rest = r} hd ld he lr) opener (inr p) rest k n =
-    ap (λ x. behind_end opener (d ∷ x) k n) (append_assoc defined (e ∷ r) rest)
+    ap (λ x. after_end opener (d ∷ x) k n) (append_assoc defined (e ∷ r) rest)
     ∙ one_over opener d (defined ++ (e ∷ (r ++ rest))) (keyword d) k n n refl (over_definition opener (keyword d) n hd)
     ∙ list_over ld opener (inr p) (e ∷ (r ++ rest)) (k + length d) n
     ∙ one_over opener e (r ++ rest) Endf ((k + length d) + size defined) n n he (p n)
     ∙ list_over lr opener (inr p) rest (((k + length d) + size defined) + length e) n
-    ∙ ap (λ x. behind_end opener rest x n) (omega (arith, size-append defined (e ∷ r)))
+    ∙ ap (λ x. after_end opener rest x n) (omega (arith, size-append defined (e ∷ r)))
 
 ends_now : (opener w : BlockKeyword) → Ends opener w → still_open opener w zero ≡ None
 ends_now If w (inl h) = rw h refl
@@ -178,10 +178,10 @@ passes Other w h = absurd h
 
 -- after a list comes its end
 pub end_found : (opener : BlockKeyword) (inner : List Instruction) (e : Instruction) (after : List Instruction) (k : ℕ) → IsList (begins_definition opener) inner → Ends opener (keyword e)
-    → behind_end opener (inner ++ (e ∷ after)) k zero ≡ Some ((k + size inner) + length e)
+    → after_end opener (inner ++ (e ∷ after)) k zero ≡ Some ((k + size inner) + length e)
 end_found opener inner e after k l h =
     list_over l opener (passes opener (keyword e) h) (e ∷ after) k zero
-    ∙ rw (ends_now opener (keyword e) h, behind_end) refl
+    ∙ rw (ends_now opener (keyword e) h, after_end) refl
 
 -- What follows an opening instruction: a list and its end.
 
@@ -314,12 +314,12 @@ same_keyword Other Other h = refl
 same_keyword _ _ h = cc
 
 leads_there : (before : List Instruction) (i : Instruction) (rest : List Instruction) (start at : ℕ) (opener : BlockKeyword) → AllByRecursion HasBytes before → start + size before ≡ at → keyword i ≡ opener
-    → leads_from start opener (before ++ (i ∷ rest)) at ≡ behind_end opener rest (at + length i) zero
+    → leads_from start opener (before ++ (i ∷ rest)) at ≡ after_end opener rest (at + length i) zero
 leads_there [] i rest start at opener each from opens =
     let here : start ≡ at = omega arith in
     let test : nat_eq start at ≡ true = eq-eqb start at here in
     let it : is_keyword opener (keyword i) ≡ true = subst (λ x. is_keyword opener x ≡ true) (sym opens) (is_itself opener) in
-    rw (test, it, leads_from) (ap (λ x. behind_end opener rest (x + length i) zero) here)
+    rw (test, it, leads_from) (ap (λ x. after_end opener rest (x + length i) zero) here)
 leads_there (b ∷ before) i rest start at opener each from opens =
     let some : 0 < length b = each.0 in
     let test : nat_eq start at ≡ false = ne_eqb start at (λ q. let bad : ⊥ = omega arith in bad) in
@@ -333,7 +333,7 @@ record Found (opener : BlockKeyword) (is : List Instruction) (start at to : ℕ)
   whole : is ≡ before ++ (i ∷ rest)
   opens : keyword i ≡ opener
   from : start + size before ≡ at
-  ends : behind_end opener rest (at + length i) zero ≡ Some to
+  ends : after_end opener rest (at + length i) zero ≡ Some to
 
 found_more : (opener : BlockKeyword) (i : Instruction) (is : List Instruction) (start at to : ℕ) → Found opener is (start + length i) at to → Found opener (i ∷ is) start at to
 found_more opener i is start at to f = record {
@@ -359,7 +359,7 @@ leads_found (i ∷ is) opener start at to h = elim (taken (nat_eq start at) _ _ 
           whole = refl;
           opens = same_keyword opener (keyword i) opens.0;
           from = omega arith;
-          ends = ap (λ x. behind_end opener is (x + length i) zero) (sym same_place) ∙ opens.1;
+          ends = ap (λ x. after_end opener is (x + length i) zero) (sym same_place) ∙ opens.1;
         }
         | inr bad ↦ let wrong : None ≡ Some to = bad.1 in cc
       ]
@@ -378,7 +378,7 @@ goes_leads {opener} {is} {at} {to} each g =
     ∙ ap Some (omega (arith, g.from, g.target))
 
 -- an opening instruction with its end after it
-pub closed_goes : {opener : BlockKeyword} {is : List Instruction} {at : ℕ} {i : Instruction} → (s : StandsAt is at i) → keyword i ≡ opener → (c : Closed opener s.after)
+pub closed_goes : {opener : BlockKeyword} {is : List Instruction} {at : ℕ} {i : Instruction} → (s : IsInstructionAt is at i) → keyword i ≡ opener → (c : Closed opener s.after)
     → GoesTo opener is at (at + (length i + (size c.inner + length c.e)))
 closed_goes {i = i} s opens c = record {
   before = s.before;
@@ -395,22 +395,22 @@ closed_goes {i = i} s opens c = record {
 }
 
 -- every opening instruction of a structured program has its end
-pub opener_goes : {opener : BlockKeyword} {is : List Instruction} {at : ℕ} {i : Instruction} → IsStructured is → Opens opener → StandsAt is at i → keyword i ≡ opener → (to : ℕ) × GoesTo opener is at to
+pub opener_goes : {opener : BlockKeyword} {is : List Instruction} {at : ℕ} {i : Instruction} → IsStructured is → Opens opener → IsInstructionAt is at i → keyword i ≡ opener → (to : ℕ) × GoesTo opener is at to
 opener_goes {opener} {at = at} {i} structured o s opens =
     let c = opener_closed structured s.before i s.after s.whole opener o opens in
     (at + (length i + (size c.inner + length c.e)), closed_goes s opens c)
 
-pub opener_leads : {opener : BlockKeyword} {is : List Instruction} {at : ℕ} {i : Instruction} → IsStructured is → AllByRecursion HasBytes is → Opens opener → StandsAt is at i → keyword i ≡ opener
+pub opener_leads : {opener : BlockKeyword} {is : List Instruction} {at : ℕ} {i : Instruction} → IsStructured is → AllByRecursion HasBytes is → Opens opener → IsInstructionAt is at i → keyword i ≡ opener
     → (to : ℕ) × (leads opener is at ≡ Some to)
 opener_leads structured each o s opens = let g = opener_goes structured o s opens in (g.0, goes_leads each g.1)
 
 pub leads_goes : {opener : BlockKeyword} {is : List Instruction} {at to : ℕ} → IsStructured is → Opens opener → leads opener is at ≡ Some to → GoesTo opener is at to
 leads_goes {opener} {is} {at} {to} structured o h =
     let f = leads_found is opener 0 at to h in
-    let s : StandsAt is at f.i = record { before = f.before; after = f.rest; whole = f.whole; offset = omega (arith, f.from) } in
+    let s : IsInstructionAt is at f.i = record { before = f.before; after = f.rest; whole = f.whole; offset = omega (arith, f.from) } in
     let c = opener_closed structured f.before f.i f.rest f.whole opener o f.opens in
-    let there : behind_end opener f.rest (at + length f.i) zero ≡ Some (((at + length f.i) + size c.inner) + length c.e) =
-    ap (λ x. behind_end opener x (at + length f.i) zero) c.whole ∙ end_found opener c.inner c.e c.after (at + length f.i) c.nested c.ends in
+    let there : after_end opener f.rest (at + length f.i) zero ≡ Some (((at + length f.i) + size c.inner) + length c.e) =
+    ap (λ x. after_end opener x (at + length f.i) zero) c.whole ∙ end_found opener c.inner c.e c.after (at + length f.i) c.nested c.ends in
     let one : Some (((at + length f.i) + size c.inner) + length c.e) ≡ Some to = sym there ∙ f.ends in
     let target : ((at + length f.i) + size c.inner) + length c.e ≡ to = cc in
     subst (λ x. GoesTo opener is at x) (omega arith) (closed_goes s f.opens c)
@@ -420,7 +420,7 @@ leads_iff_goes {is = is} structured each o = (leads_goes structured o, goes_lead
 
 -- The instruction that starts at an offset is the one that is there.
 
-pub found_stands : (is : List Instruction) (at : ℕ) (i : Instruction) → instruction_at is at ≡ Some i → StandsAt is at i
+pub found_stands : (is : List Instruction) (at : ℕ) (i : Instruction) → instruction_at is at ≡ Some i → IsInstructionAt is at i
 found_stands [] at i h = let wrong : None ≡ Some i = h in cc
 found_stands (j ∷ is) zero i h =
     let same : j ≡ i = cc in
@@ -441,12 +441,12 @@ stands_there (b ∷ before) (suc k) i after each e =
     let test : nat_lt (suc k) (length b) ≡ false = le-ltb (suc k) (length b) (omega arith) in
     rw test (stands_there before (suc k - length b) i after each.1 (omega arith))
 
-pub stands_found : (is : List Instruction) (at : ℕ) (i : Instruction) → AllByRecursion HasBytes is → StandsAt is at i → instruction_at is at ≡ Some i
+pub stands_found : (is : List Instruction) (at : ℕ) (i : Instruction) → AllByRecursion HasBytes is → IsInstructionAt is at i → instruction_at is at ≡ Some i
 stands_found is at i each s =
     let parted : AllByRecursion HasBytes (s.before ++ (i ∷ s.after)) = subst (λ x. AllByRecursion HasBytes x) s.whole each in
     ap (λ x. instruction_at x at) s.whole ∙ stands_there s.before at i s.after (each_before HasBytes s.before (i ∷ s.after) parted) s.offset
 
-pub found_iff_stands : (is : List Instruction) (at : ℕ) (i : Instruction) → AllByRecursion IsInstruction is → (instruction_at is at ≡ Some i) ↔ StandsAt is at i
+pub found_iff_stands : (is : List Instruction) (at : ℕ) (i : Instruction) → AllByRecursion IsInstruction is → (instruction_at is at ≡ Some i) ↔ IsInstructionAt is at i
 found_iff_stands is at i each = (found_stands is at i, stands_found is at i (each_bytes is each))
 
 -- an answer that the grammar determines is that of the function

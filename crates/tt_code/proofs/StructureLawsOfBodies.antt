@@ -7,8 +7,8 @@ use Rattle.std.proofs.lemmas.Bool.{eqb-true, eq-eqb, ne_eqb}
 use Rattle.tt_code.specs.Cut.{Instruction, IsInstruction, size}
 use Rattle.tt_code.specs.Table.{effect_of}
 use Rattle.tt_code.specs.Representation.Slots.{Opens}
-use Rattle.tt_code.specs.Structure.{keyword, keyword_of, body_behind, body_from, body_at}
-use Rattle.tt_code.specs.Grammar.{IsDefinition, IsList, none, plain, if_eif, if_else_eif, definition, IsStructured, StandsAt, Ends, begins_definition, GoesTo, InDefinition, IsBodyAt}
+use Rattle.tt_code.specs.Structure.{keyword, keyword_of, following_body, body_from, body_at}
+use Rattle.tt_code.specs.Grammar.{IsDefinition, IsList, none, plain, if_eif, if_else_eif, definition, IsStructured, IsInstructionAt, Ends, begins_definition, GoesTo, InDefinition, IsBodyAt}
 use Rattle.tt_code.specs.declared.block_keyword.BlockKeyword.{BlockKeyword}
 use Rattle.tt_code.specs.declared.block_keyword.BlockKeyword.TheVariants.{If, Else, Eif, Fdef, Idef, Endf, Other}
 use Rattle.tt_code.specs.declared.machine.Body.{Body}
@@ -70,7 +70,7 @@ Keeps i = KeepsBody (keyword i)
 keeps_keyword : (i : Instruction) (w : BlockKeyword) → keyword i ≡ w → KeepsBody w → Keeps i
 keeps_keyword i w h k = subst KeepsBody (sym h) k
 
-kept_body : (here : Body) (w : BlockKeyword) (next : ℕ) → KeepsBody w → body_behind here w next ≡ here
+kept_body : (here : Body) (w : BlockKeyword) (next : ℕ) → KeepsBody w → following_body here w next ≡ here
 kept_body here If next k = refl
 kept_body here Else next k = refl
 kept_body here Eif next k = refl
@@ -95,16 +95,16 @@ list_keeps (definition e hd ld he lr) t = cc
 -- the body after the beginning of a program
 abbrev pub body_after : Body → ℕ → List Instruction → Body
 body_after here start [] = here
-body_after here start (i ∷ is) = body_after (body_behind here (keyword i) (start + length i)) (start + length i) is
+body_after here start (i ∷ is) = body_after (following_body here (keyword i) (start + length i)) (start + length i) is
 
 after_kept : (is : List Instruction) (here : Body) (start : ℕ) → AllByRecursion Keeps is → body_after here start is ≡ here
 after_kept [] here start k = refl
-after_kept (i ∷ is) here start k = after_kept is (body_behind here (keyword i) (start + length i)) (start + length i) k.1 ∙ kept_body here (keyword i) (start + length i) k.0
+after_kept (i ∷ is) here start k = after_kept is (following_body here (keyword i) (start + length i)) (start + length i) k.1 ∙ kept_body here (keyword i) (start + length i) k.0
 
 after_joined : (is js : List Instruction) (here : Body) (start : ℕ) → body_after here start (is ++ js) ≡ body_after (body_after here start is) (start + size is) js
 after_joined [] js here start = ap (λ n. body_after here n js) (omega arith)
 after_joined (i ∷ is) js here start =
-    let beyond : Body = body_behind here (keyword i) (start + length i) in
+    let beyond : Body = following_body here (keyword i) (start + length i) in
     after_joined is js beyond (start + length i) ∙ ap (λ n. body_after (body_after beyond (start + length i) is) n js) (omega arith)
 
 body_there : (before : List Instruction) (i : Instruction) (rest : List Instruction) (here : Body) (start at : ℕ) → AllByRecursion HasBytes before → start + size before ≡ at
@@ -115,7 +115,7 @@ body_there [] i rest here start at each from =
 body_there (b ∷ before) i rest here start at each from =
     let some : 0 < length b = each.0 in
     let test : nat_eq start at ≡ false = ne_eqb start at (λ q. let bad : ⊥ = omega arith in bad) in
-    rw test (body_there before i rest (body_behind here (keyword b) (start + length b)) (start + length b) at each.1 (omega arith))
+    rw test (body_there before i rest (following_body here (keyword b) (start + length b)) (start + length b) at each.1 (omega arith))
 
 -- the instruction whose body was found
 record HasBody (here : Body) (is : List Instruction) (start at : ℕ) (b : Body) : Type 0 where
@@ -133,7 +133,7 @@ body_found (i ∷ is) here start at b h = elim (taken (nat_eq start at) _ _ (Som
       let there : start ≡ at = eqb-true start at found.0 in
       record { before = []; i = i; rest = is; whole = refl; from = omega arith; is_body = (let e = found.1 in cc) }
   | inr beyond ↦
-      let f = body_found is (body_behind here (keyword i) (start + length i)) (start + length i) at b beyond.1 in
+      let f = body_found is (following_body here (keyword i) (start + length i)) (start + length i) at b beyond.1 in
       record { before = i ∷ f.before; i = f.i; rest = f.rest; whole = ap (λ x. i ∷ x) f.whole; from = omega (arith, f.from); is_body = f.is_body }
 ]
 
@@ -159,7 +159,7 @@ is_inside Eif d = absurd d
 is_inside Endf d = absurd d
 is_inside Other d = absurd d
 
-reaches : {opener : BlockKeyword} {is : List Instruction} {from at to : ℕ} {i : Instruction} → IsDefinition opener → (s : StandsAt is at i) → GoesTo opener is from to → from < at → at < to
+reaches : {opener : BlockKeyword} {is : List Instruction} {from at to : ℕ} {i : Instruction} → IsDefinition opener → (s : IsInstructionAt is at i) → GoesTo opener is from to → from < at → at < to
     → Reaches opener from s.before
 reaches {opener} {i = i} d s g low high = elim (place s.before i s.after g.before g.i (g.inner ++ (g.e ∷ g.after)) (sym s.whole ∙ g.whole)) [
   | earlier part p r ↦ record {
@@ -186,7 +186,7 @@ reaches {opener} {i = i} d s g low high = elim (place s.before i s.after g.befor
           absurd (omega (arith, s.offset, g.from, g.target, ap size p, size-append g.before (g.i ∷ part), ap size q, size-append g.inner (g.e ∷ between)))
     ]
 
-begun_body : (here : Body) (opener : BlockKeyword) (first : ℕ) → IsDefinition opener → body_behind here opener first ≡ body_behind body.Main opener first
+begun_body : (here : Body) (opener : BlockKeyword) (first : ℕ) → IsDefinition opener → following_body here opener first ≡ following_body body.Main opener first
 begun_body here Fdef first d = refl
 begun_body here Idef first d = refl
 begun_body here If first d = absurd d
@@ -196,19 +196,19 @@ begun_body here Endf first d = absurd d
 begun_body here Other first d = absurd d
 
 reached_body : (opener : BlockKeyword) (from : ℕ) (before : List Instruction) → IsDefinition opener → (r : Reaches opener from before)
-    → body_after body.Main 0 before ≡ body_behind body.Main opener (from + length r.d)
+    → body_after body.Main 0 before ≡ following_body body.Main opener (from + length r.d)
 reached_body opener from before d r =
     let outside : Body = body_after body.Main 0 r.outer in
     let first : ℕ = (0 + size r.outer) + length r.d in
     ap (λ x. body_after body.Main 0 x) r.whole
     ∙ after_joined r.outer (r.d ∷ r.part) body.Main 0
-    ∙ after_kept r.part (body_behind outside (keyword r.d) first) first r.keeps
-    ∙ ap (λ w. body_behind outside w first) r.opens
+    ∙ after_kept r.part (following_body outside (keyword r.d) first) first r.keeps
+    ∙ ap (λ w. following_body outside w first) r.opens
     ∙ begun_body outside opener first d
-    ∙ ap (λ n. body_behind body.Main opener n) (omega (arith, r.starts))
+    ∙ ap (λ n. following_body body.Main opener n) (omega (arith, r.starts))
 
 -- the instruction between the parts of a beginning is one of the program's
-parted : {is : List Instruction} {at : ℕ} {i : Instruction} (s : StandsAt is at i) (outer : List Instruction) (d : Instruction) (part : List Instruction) → s.before ≡ outer ++ (d ∷ part)
+parted : {is : List Instruction} {at : ℕ} {i : Instruction} (s : IsInstructionAt is at i) (outer : List Instruction) (d : Instruction) (part : List Instruction) → s.before ≡ outer ++ (d ∷ part)
     → is ≡ outer ++ (d ∷ (part ++ (i ∷ s.after)))
 parted {i = i} s outer d part e = s.whole ∙ ap (λ x. x ++ (i ∷ s.after)) e ∙ append_assoc outer (d ∷ part) (i ∷ s.after)
 
@@ -216,17 +216,17 @@ each_parted : {is : List Instruction} (outer : List Instruction) (d : Instructio
     → AllByRecursion IsInstruction (d ∷ rest)
 each_parted outer d rest each e = each_after IsInstruction outer (d ∷ rest) (subst (λ x. AllByRecursion IsInstruction x) e each)
 
-definition_body : {opener : BlockKeyword} {is : List Instruction} {from at : ℕ} {i : Instruction} → AllByRecursion IsInstruction is → IsDefinition opener → (s : StandsAt is at i)
-    → InDefinition opener is from at → body_after body.Main 0 s.before ≡ body_behind body.Main opener (from + 1)
+definition_body : {opener : BlockKeyword} {is : List Instruction} {from at : ℕ} {i : Instruction} → AllByRecursion IsInstruction is → IsDefinition opener → (s : IsInstructionAt is at i)
+    → InDefinition opener is from at → body_after body.Main 0 s.before ≡ following_body body.Main opener (from + 1)
 definition_body {opener} {is} {from} {i = i} each d s (to, g, low, high) =
     let r = reaches d s g low high in
     let there = each_parted r.outer r.d (r.part ++ (i ∷ s.after)) each (parted s r.outer r.d r.part r.whole) in
-    reached_body opener from s.before d r ∙ ap (λ n. body_behind body.Main opener (from + n)) (definition_length r.d there.0 (subst IsDefinition (sym r.opens) d))
+    reached_body opener from s.before d r ∙ ap (λ n. following_body body.Main opener (from + n)) (definition_length r.d there.0 (subst IsDefinition (sym r.opens) d))
 
 -- What has the body of a definition is in that definition.
 
-last_keyword : (here : Body) (opener w : BlockKeyword) (k n : ℕ) → IsDefinition opener → body_behind here w k ≡ body_behind body.Main opener n
-    → ((here ≡ body_behind body.Main opener n) × KeepsBody w) ⊎ ((w ≡ opener) × (k ≡ n))
+last_keyword : (here : Body) (opener w : BlockKeyword) (k n : ℕ) → IsDefinition opener → following_body here w k ≡ following_body body.Main opener n
+    → ((here ≡ following_body body.Main opener n) × KeepsBody w) ⊎ ((w ≡ opener) × (k ≡ n))
 last_keyword here opener If k n d h = inl (h, tt)
 last_keyword here opener Else k n d h = inl (h, tt)
 last_keyword here opener Eif k n d h = inl (h, tt)
@@ -253,11 +253,11 @@ record Begun (opener : BlockKeyword) (is : List Instruction) (start first : ℕ)
   begins : (start + size outer) + length d ≡ first
   keeps : AllByRecursion Keeps part
 
-last_definition : (is : List Instruction) (here : Body) (start n : ℕ) (opener : BlockKeyword) → IsDefinition opener → body_after here start is ≡ body_behind body.Main opener n
-    → ((here ≡ body_behind body.Main opener n) × AllByRecursion Keeps is) ⊎ Begun opener is start n
+last_definition : (is : List Instruction) (here : Body) (start n : ℕ) (opener : BlockKeyword) → IsDefinition opener → body_after here start is ≡ following_body body.Main opener n
+    → ((here ≡ following_body body.Main opener n) × AllByRecursion Keeps is) ⊎ Begun opener is start n
 last_definition [] here start n opener d h = inl (h, tt)
 last_definition (i ∷ is) here start n opener d h =
-    elim (last_definition is (body_behind here (keyword i) (start + length i)) (start + length i) n opener d h) [
+    elim (last_definition is (following_body here (keyword i) (start + length i)) (start + length i) n opener d h) [
       | inl kept ↦ elim (last_keyword here opener (keyword i) (start + length i) n d kept.0) [
         | inl before ↦ inl (before.0, (before.1, kept.1))
         | inr this ↦ inr (record { outer = []; d = i; part = is; whole = refl; opens = this.0; begins = omega (arith, this.1); keeps = kept.1 })
@@ -273,7 +273,7 @@ last_definition (i ∷ is) here start n opener d h =
       })
     ]
 
-not_main : (opener : BlockKeyword) (n : ℕ) → IsDefinition opener → body.Main ≡ body_behind body.Main opener n → ⊥
+not_main : (opener : BlockKeyword) (n : ℕ) → IsDefinition opener → body.Main ≡ following_body body.Main opener n → ⊥
 not_main Fdef n d h = cc
 not_main Idef n d h = cc
 not_main If n d h = d
@@ -301,7 +301,7 @@ ends_body Eif w d e k = d
 ends_body Endf w d e k = d
 ends_body Other w d e k = d
 
-begun_definition : {opener : BlockKeyword} {is : List Instruction} {at first : ℕ} {i : Instruction} → IsStructured is → AllByRecursion IsInstruction is → IsDefinition opener → (s : StandsAt is at i)
+begun_definition : {opener : BlockKeyword} {is : List Instruction} {at first : ℕ} {i : Instruction} → IsStructured is → AllByRecursion IsInstruction is → IsDefinition opener → (s : IsInstructionAt is at i)
     → Begun opener s.before 0 first → (from : ℕ) × (first ≡ from + 1) × InDefinition opener is from at
 begun_definition {opener} {is} {at} {first} {i} structured each d s b = (
   size b.outer,
@@ -314,7 +314,7 @@ begun_definition {opener} {is} {at} {first} {i} structured each d s b = (
   ),
 )
   where
-    beginning : StandsAt is (size b.outer) b.d
+    beginning : IsInstructionAt is (size b.outer) b.d
     beginning = record { before = b.outer; after = b.part ++ (i ∷ s.after); whole = parted s b.outer b.d b.part b.whole; offset = refl }
 
     each_there : AllByRecursion IsInstruction (b.d ∷ beginning.after)
@@ -343,8 +343,8 @@ begun_definition {opener} {is} {at} {first} {i} structured each d s b = (
           absurd (ends_body opener (keyword closed.e) d closed.ends kept.0)
     ]
 
-body_definition : {opener : BlockKeyword} {is : List Instruction} {at first : ℕ} {i : Instruction} → IsStructured is → AllByRecursion IsInstruction is → IsDefinition opener → (s : StandsAt is at i)
-    → body_after body.Main 0 s.before ≡ body_behind body.Main opener first → (from : ℕ) × (first ≡ from + 1) × InDefinition opener is from at
+body_definition : {opener : BlockKeyword} {is : List Instruction} {at first : ℕ} {i : Instruction} → IsStructured is → AllByRecursion IsInstruction is → IsDefinition opener → (s : IsInstructionAt is at i)
+    → body_after body.Main 0 s.before ≡ following_body body.Main opener first → (from : ℕ) × (first ≡ from + 1) × InDefinition opener is from at
 body_definition {opener} {first = first} structured each d s h = elim (last_definition s.before body.Main 0 first opener d h) [
   | inl outside ↦ absurd (not_main opener first d outside.0)
   | inr b ↦ begun_definition structured each d s b
@@ -352,7 +352,7 @@ body_definition {opener} {first = first} structured each d s h = elim (last_defi
 
 -- The body after what comes before an instruction is the instruction's.
 
-after_is : {is : List Instruction} {at : ℕ} {i : Instruction} (b : Body) → IsStructured is → AllByRecursion IsInstruction is → (s : StandsAt is at i) → body_after body.Main 0 s.before ≡ b → IsBodyAt is at b
+after_is : {is : List Instruction} {at : ℕ} {i : Instruction} (b : Body) → IsStructured is → AllByRecursion IsInstruction is → (s : IsInstructionAt is at i) → body_after body.Main 0 s.before ≡ b → IsBodyAt is at b
 after_is body.Main structured each s h = (
   λ from inside. not_main Fdef (from + 1) tt (sym h ∙ definition_body {opener = Fdef} each tt s inside),
   λ from inside. not_main Idef (from + 1) tt (sym h ∙ definition_body {opener = Idef} each tt s inside),
@@ -361,7 +361,7 @@ after_is (body.Function first) structured each s h = body_definition {opener = F
 after_is (body.Instruction first) structured each s h = body_definition {opener = Idef} structured each tt s h
 
 -- an instruction has one body
-one_body : {is : List Instruction} {at : ℕ} {i : Instruction} (b : Body) → AllByRecursion IsInstruction is → (s : StandsAt is at i) → (found : Body) → body_after body.Main 0 s.before ≡ found → IsBodyAt is at found → IsBodyAt is at b
+one_body : {is : List Instruction} {at : ℕ} {i : Instruction} (b : Body) → AllByRecursion IsInstruction is → (s : IsInstructionAt is at i) → (found : Body) → body_after body.Main 0 s.before ≡ found → IsBodyAt is at found → IsBodyAt is at b
     → found ≡ b
 one_body body.Main each s body.Main e f h = refl
 one_body body.Main each s (body.Function first) e f h = absurd (h.0 f.0 f.2)
@@ -370,40 +370,40 @@ one_body (body.Function first) each s found e f (from, first_is, inside) = sym e
 one_body (body.Instruction first) each s found e f (from, first_is, inside) = sym e ∙ definition_body {opener = Idef} each tt s inside ∙ ap body.Instruction (sym first_is)
 
 -- each instruction has a body
-stands_body : {is : List Instruction} {at : ℕ} {i : Instruction} → AllByRecursion IsInstruction is → (s : StandsAt is at i) → body_at is at ≡ Some (body_after body.Main 0 s.before)
+stands_body : {is : List Instruction} {at : ℕ} {i : Instruction} → AllByRecursion IsInstruction is → (s : IsInstructionAt is at i) → body_at is at ≡ Some (body_after body.Main 0 s.before)
 stands_body {is} {at} {i} each s =
     let front = each_before HasBytes s.before (i ∷ s.after) (subst (λ x. AllByRecursion HasBytes x) s.whole (each_bytes is each)) in
     ap (λ x. body_at x at) s.whole ∙ body_there s.before i s.after body.Main 0 at front (omega (arith, s.offset))
 
-pub has_body : {is : List Instruction} {at : ℕ} {i : Instruction} → AllByRecursion IsInstruction is → StandsAt is at i → (b : Body) × (body_at is at ≡ Some b)
+pub has_body : {is : List Instruction} {at : ℕ} {i : Instruction} → AllByRecursion IsInstruction is → IsInstructionAt is at i → (b : Body) × (body_at is at ≡ Some b)
 has_body each s = (body_after body.Main 0 s.before, stands_body each s)
 
-pub body_is : {is : List Instruction} {at : ℕ} {i : Instruction} (b : Body) → IsStructured is → AllByRecursion IsInstruction is → StandsAt is at i → IsBodyAt is at b → body_at is at ≡ Some b
+pub body_is : {is : List Instruction} {at : ℕ} {i : Instruction} (b : Body) → IsStructured is → AllByRecursion IsInstruction is → IsInstructionAt is at i → IsBodyAt is at b → body_at is at ≡ Some b
 body_is b structured each s h =
     let found : Body = body_after body.Main 0 s.before in
     stands_body each s ∙ ap Some (one_body b each s found refl (after_is found structured each s refl) h)
 
-pub body_stands : (is : List Instruction) (at : ℕ) (b : Body) → body_at is at ≡ Some b → (i : Instruction) × StandsAt is at i
+pub body_stands : (is : List Instruction) (at : ℕ) (b : Body) → body_at is at ≡ Some b → (i : Instruction) × IsInstructionAt is at i
 body_stands is at b h =
     let f = body_found is body.Main 0 at b h in
     (f.i, record { before = f.before; after = f.rest; whole = f.whole; offset = omega (arith, f.from) })
 
-pub is_body : (is : List Instruction) (at : ℕ) (b : Body) → IsStructured is → AllByRecursion IsInstruction is → body_at is at ≡ Some b → ((i : Instruction) × StandsAt is at i) × IsBodyAt is at b
+pub is_body : (is : List Instruction) (at : ℕ) (b : Body) → IsStructured is → AllByRecursion IsInstruction is → body_at is at ≡ Some b → ((i : Instruction) × IsInstructionAt is at i) × IsBodyAt is at b
 is_body is at b structured each h =
     let s = body_stands is at b h in
     let one : Some (body_after body.Main 0 s.1.before) ≡ Some b = sym (stands_body each s.1) ∙ h in
     (s, after_is b structured each s.1 (cc))
 
-pub body_iff_is : (is : List Instruction) (at : ℕ) (i : Instruction) (b : Body) → IsStructured is → AllByRecursion IsInstruction is → StandsAt is at i → (body_at is at ≡ Some b) ↔ IsBodyAt is at b
+pub body_iff_is : (is : List Instruction) (at : ℕ) (i : Instruction) (b : Body) → IsStructured is → AllByRecursion IsInstruction is → IsInstructionAt is at i → (body_at is at ≡ Some b) ↔ IsBodyAt is at b
 body_iff_is is at i b structured each s = (λ h. (is_body is at b structured each h).1, body_is b structured each s)
 
 -- by the grammar each instruction has a body
-pub stands_in_body : {is : List Instruction} {at : ℕ} {i : Instruction} → IsStructured is → AllByRecursion IsInstruction is → StandsAt is at i → (b : Body) × IsBodyAt is at b
+pub stands_in_body : {is : List Instruction} {at : ℕ} {i : Instruction} → IsStructured is → AllByRecursion IsInstruction is → IsInstructionAt is at i → (b : Body) × IsBodyAt is at b
 stands_in_body structured each s = let found : Body = body_after body.Main 0 s.before in (found, after_is found structured each s refl)
 
 -- an answer that the grammar determines is that of the function
 pub body_value : (is : List Instruction) (at : ℕ) (found : Option Body) → IsStructured is → AllByRecursion IsInstruction is
-    → IfSome found (λ b. ((i : Instruction) × StandsAt is at i) × IsBodyAt is at b) → IfNone found ((i : Instruction) → StandsAt is at i → ⊥) → found ≡ body_at is at
+    → IfSome found (λ b. ((i : Instruction) × IsInstructionAt is at i) × IsBodyAt is at b) → IfNone found ((i : Instruction) → IsInstructionAt is at i → ⊥) → found ≡ body_at is at
 body_value is at (Some b) structured each there absent = sym (body_is b structured each there.0.1 there.1)
 body_value is at None structured each there absent = by_body (body_at is at) refl
   where

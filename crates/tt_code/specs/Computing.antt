@@ -4,7 +4,7 @@
 use Rattle.std.specs.Prelude.{ℕ, zero, suc, ◌+◌, ◌*◌, ℤ, pos, negsuc, ◌+ℤ◌, ◌-ℤ◌, neg_ℤ, int_lt, int_le, List, [], ◌∷◌, Ok, Err, Bool, true, false, not, ◌&&◌, ◌||◌, length, map, nat_lt, remove, if◌then◌else◌}
 use Rattle.tt_code.specs.Refusals.{Tested, ◌>>=◌}
 use Rattle.tt_code.specs.States.{Machine, Value, Exactly, Anything, Outcome, leaves, is_number, is_true}
-use Rattle.tt_code.specs.Cut.{data_behind}
+use Rattle.tt_code.specs.Cut.{data_after}
 use Rattle.tt_code.specs.Operands.{top}
 use Rattle.tt_code.specs.declared.reason.Reason.TheVariants as reason
 use Rattle.tt_code.specs.declared.kinds.Push.{Push}
@@ -39,7 +39,7 @@ exactly zs = map Exactly zs
 
 -- a push instruction: its data are pushed
 abbrev pub pushed : Push → Machine → List ℕ → Outcome
-pushed push m rest = leaves m m.stack (exactly (numbers_in push (data_behind push rest)))
+pushed push m rest = leaves m m.stack (exactly (numbers_in push (data_after push rest)))
 
 -- Stack instructions. For CINDEX and MINDEX the index counts from 1, the top once the index is
 -- taken; an index below 1 is a bad count, one above the depth an underflow (own).

@@ -40,15 +40,15 @@ abbrev pub NoInstructionInFront : List ℕ → Type 0
 NoInstructionInFront bytes = (i rest : List ℕ) → IsInstruction i → i ++ rest ≡ bytes → ⊥
 
 -- the data of a push instruction, among the bytes after its code: all of them but a count byte
-abbrev pub data_behind : Push → List ℕ → List ℕ
-data_behind CountedBytes rest = drop 1 rest
-data_behind CountedWords rest = drop 1 rest
-data_behind (Bytes n) rest = rest
-data_behind (Words n) rest = rest
+abbrev pub data_after : Push → List ℕ → List ℕ
+data_after CountedBytes rest = drop 1 rest
+data_after CountedWords rest = drop 1 rest
+data_after (Bytes n) rest = rest
+data_after (Words n) rest = rest
 
 -- the data among the bytes after a code: those of a push, otherwise none
 abbrev pub data_in : Meaning → List ℕ → List ℕ
-data_in (Pushes push) rest = data_behind push rest
+data_in (Pushes push) rest = data_after push rest
 data_in NoEntry rest = []
 data_in (Plain lists) rest = []
 data_in (Stack op) rest = []

@@ -77,23 +77,23 @@ abbrev pub HasFault : List ℕ → ℕ → Type 0
 HasFault bytes at = (is : List Instruction) × IsCut bytes is × IsFault is at
 
 -- the instruction at an offset
-pub record StandsAt (is : List Instruction) (at : ℕ) (i : Instruction) : Type 0 where
+pub record IsInstructionAt (is : List Instruction) (at : ℕ) (i : Instruction) : Type 0 where
   pub before : List Instruction
   pub after : List Instruction
   pub whole : is ≡ before ++ (i ∷ after)
   pub offset : size before ≡ at
 
 -- no instruction starts at the offset
-abbrev pub NoneStandsAt : List Instruction → ℕ → Type 0
-NoneStandsAt is at = (i : Instruction) → StandsAt is at i → ⊥
+abbrev pub NoInstructionAt : List Instruction → ℕ → Type 0
+NoInstructionAt is at = (i : Instruction) → IsInstructionAt is at i → ⊥
 
 -- no instruction with this keyword starts at the offset
 abbrev pub NoKeywordAt : BlockKeyword → List Instruction → ℕ → Type 0
-NoKeywordAt opener is at = (i : Instruction) → StandsAt is at i → keyword i ≡ opener → ⊥
+NoKeywordAt opener is at = (i : Instruction) → IsInstructionAt is at i → keyword i ≡ opener → ⊥
 
 -- at the offset there is an instruction, or the program ends
 abbrev pub IsStartOrEnd : List Instruction → ℕ → Type 0
-IsStartOrEnd is at = ((i : Instruction) × StandsAt is at i) ⊎ (at ≡ size is)
+IsStartOrEnd is at = ((i : Instruction) × IsInstructionAt is at i) ⊎ (at ≡ size is)
 
 -- Partners. An opening instruction is followed by a list, and then by what ends it: an IF by its
 -- ELSE or its EIF, an ELSE by its EIF, an FDEF or IDEF by its ENDF. Control goes to just after that
@@ -141,7 +141,7 @@ FindsTargets opener find =
 abbrev pub FindsEachTarget : BlockKeyword → (List Instruction → ℕ → Option ℕ) → Type 0
 FindsEachTarget opener find =
     (is : List Instruction) (at : ℕ) (i : Instruction) → IsStructured is →
-    AllByRecursion IsInstruction is → StandsAt is at i → keyword i ≡ opener →
+    AllByRecursion IsInstruction is → IsInstructionAt is at i → keyword i ≡ opener →
     (to : ℕ) × (find is at ≡ Some to)
 
 -- Bodies. What follows an FDEF up to and including its ENDF is the body of a function; after an

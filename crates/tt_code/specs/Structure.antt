@@ -54,11 +54,11 @@ still_open _ _ inside = Some inside
 
 -- the offset after the end of what the opening instruction began, in the instructions from an
 -- offset on
-abbrev pub behind_end : BlockKeyword → List Instruction → ℕ → ℕ → Option ℕ
-behind_end opener [] offset inside = None
-behind_end opener (i ∷ is) offset inside = elim (still_open opener (keyword i) inside) [
+abbrev pub after_end : BlockKeyword → List Instruction → ℕ → ℕ → Option ℕ
+after_end opener [] offset inside = None
+after_end opener (i ∷ is) offset inside = elim (still_open opener (keyword i) inside) [
   | None ↦ Some (offset + length i)
-  | Some more ↦ behind_end opener is (offset + length i) more
+  | Some more ↦ after_end opener is (offset + length i) more
 ]
 
 -- where the opening instruction at an offset leads, in the instructions from another offset on
@@ -66,7 +66,7 @@ abbrev pub leads_from : ℕ → BlockKeyword → List Instruction → ℕ → Op
 leads_from start opener [] offset = None
 leads_from start opener (i ∷ is) offset =
     if nat_eq start offset
-    then (if is_keyword opener (keyword i) then behind_end opener is (start + length i) 0 else None)
+    then (if is_keyword opener (keyword i) then after_end opener is (start + length i) 0 else None)
     else leads_from (start + length i) opener is offset
 
 -- where the opening instruction at an offset leads, in a whole program
@@ -86,11 +86,11 @@ abbrev pub after_fdef : List Instruction → ℕ → Option ℕ
 after_fdef = leads Fdef
 
 -- the body of what follows an instruction of a body, where the instruction ends at an offset
-abbrev pub body_behind : Body → BlockKeyword → ℕ → Body
-body_behind here Fdef next = body.Function next
-body_behind here Idef next = body.Instruction next
-body_behind here Endf next = body.Main
-body_behind here _ next = here
+abbrev pub following_body : Body → BlockKeyword → ℕ → Body
+following_body here Fdef next = body.Function next
+following_body here Idef next = body.Instruction next
+following_body here Endf next = body.Main
+following_body here _ next = here
 
 -- the body of the instruction at an offset, in instructions from another offset on that begin in a
 -- body
@@ -98,7 +98,7 @@ abbrev pub body_from : Body → ℕ → List Instruction → ℕ → Option Body
 body_from here start [] offset = None
 body_from here start (i ∷ is) offset =
     if nat_eq start offset then Some here
-    else body_from (body_behind here (keyword i) (start + length i)) (start + length i) is offset
+    else body_from (following_body here (keyword i) (start + length i)) (start + length i) is offset
 
 -- the body of the instruction that starts at the offset
 abbrev pub body_at : List Instruction → ℕ → Option Body

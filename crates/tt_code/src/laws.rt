@@ -5,7 +5,7 @@
 ghost use Rattle.std.specs.Prelude.{◌≡◌, ◌↔◌, ℕ, ◌+◌, List, Some, length};
 ghost use Rattle.std.specs.List.{AllByRecursion};
 ghost use Rattle.tt_code.specs.Cut.{CannotBeCut, Instruction, IsCut, IsInstruction, instruction_at};
-ghost use Rattle.tt_code.specs.Grammar.{Ends, FindsEachTarget, FindsTargets, GoesTo, IsBodyAt, IsFault, IsStartOrEnd, IsStructured, StandsAt};
+ghost use Rattle.tt_code.specs.Grammar.{Ends, FindsEachTarget, FindsTargets, GoesTo, IsBodyAt, IsFault, IsStartOrEnd, IsStructured, IsInstructionAt};
 ghost use Rattle.tt_code.specs.Structure.{after_else, after_fdef, after_if, body_at, leads, keyword};
 ghost use Rattle.tt_code.specs.declared.machine.Body.{Body};
 ghost use Rattle.tt_code.specs.declared.block_keyword.BlockKeyword.{BlockKeyword};
@@ -44,38 +44,38 @@ pub fn one_target()
 /// somewhere.
 pub fn each_target()
     ensures { (bytes : List ℕ) (is : List Instruction) (offset : ℕ) (i : Instruction) →
-        (e : BlockKeyword) → IsCut bytes is → IsStructured is → StandsAt is offset i →
+        (e : BlockKeyword) → IsCut bytes is → IsStructured is → IsInstructionAt is offset i →
         Ends (keyword i) e → (to : ℕ) × GoesTo (keyword i) is offset to }
 {}
 
 /// States that there is one instruction at an offset.
 pub fn one_instruction()
     ensures { (bytes : List ℕ) (is : List Instruction) (offset : ℕ) (i j : Instruction) →
-        IsCut bytes is → StandsAt is offset i → StandsAt is offset j → i ≡ j }
+        IsCut bytes is → IsInstructionAt is offset i → IsInstructionAt is offset j → i ≡ j }
 {}
 
 /// States that an instruction of a structured program has one body.
 pub fn one_body()
     ensures { (bytes : List ℕ) (is : List Instruction) (offset : ℕ) (i : Instruction) →
-        (b c : Body) → IsCut bytes is → IsStructured is → StandsAt is offset i →
+        (b c : Body) → IsCut bytes is → IsStructured is → IsInstructionAt is offset i →
         IsBodyAt is offset b → IsBodyAt is offset c → b ≡ c }
 {}
 
 /// States that by the grammar each instruction of a structured program has a body.
 pub fn each_body()
     ensures { (bytes : List ℕ) (is : List Instruction) (offset : ℕ) (i : Instruction) →
-        IsCut bytes is → IsStructured is → StandsAt is offset i →
+        IsCut bytes is → IsStructured is → IsInstructionAt is offset i →
         (b : Body) × IsBodyAt is offset b }
 {}
 
 /// States that after an instruction there is another one, or the program ends.
-pub fn next_stands()
+pub fn next_is_there()
     ensures { (is : List Instruction) (offset : ℕ) (i : Instruction) →
-        StandsAt is offset i → IsStartOrEnd is (offset + length i) }
+        IsInstructionAt is offset i → IsStartOrEnd is (offset + length i) }
 {}
 
 /// States that where control goes there is an instruction, or the program ends.
-pub fn target_stands()
+pub fn target_is_there()
     ensures { (is : List Instruction) (opener : BlockKeyword) (offset to : ℕ) →
         GoesTo opener is offset to → IsStartOrEnd is to }
 {}
@@ -83,7 +83,7 @@ pub fn target_stands()
 /// States that the instruction that is found at an offset is the one that is there.
 pub fn instructions_are_found()
     ensures { (is : List Instruction) (at : ℕ) (i : Instruction) →
-        AllByRecursion IsInstruction is → ((instruction_at is at ≡ Some i) ↔ StandsAt is at i) }
+        AllByRecursion IsInstruction is → ((instruction_at is at ≡ Some i) ↔ IsInstructionAt is at i) }
 {}
 
 /// States that in a structured program IF, ELSE, FDEF and IDEF lead to just after the instruction
@@ -107,18 +107,18 @@ pub fn partners_are_there()
 /// to which the instruction belongs.
 pub fn bodies_are_found()
     ensures found { (is : List Instruction) (at : ℕ) (i : Instruction) (b : Body) →
-        IsStructured is → AllByRecursion IsInstruction is → StandsAt is at i →
+        IsStructured is → AllByRecursion IsInstruction is → IsInstructionAt is at i →
         ((body_at is at ≡ Some b) ↔ IsBodyAt is at b) }
     ensures there { (is : List Instruction) (at : ℕ) (i : Instruction) →
-        AllByRecursion IsInstruction is → StandsAt is at i →
+        AllByRecursion IsInstruction is → IsInstructionAt is at i →
         (b : Body) × (body_at is at ≡ Some b) }
     ensures only { (is : List Instruction) (at : ℕ) (b : Body) → body_at is at ≡ Some b →
-        (i : Instruction) × StandsAt is at i }
+        (i : Instruction) × IsInstructionAt is at i }
 {}
 
 /// States that in a structured program each FDEF is in the main program.
-pub fn definitions_stand_in_main()
+pub fn definitions_are_in_main()
     ensures { (is : List Instruction) (at : ℕ) (i : Instruction) →
-        IsStructured is → AllByRecursion IsInstruction is → StandsAt is at i →
+        IsStructured is → AllByRecursion IsInstruction is → IsInstructionAt is at i →
         keyword i ≡ BlockKeyword.Fdef → body_at is at ≡ Some Body.Main }
 {}

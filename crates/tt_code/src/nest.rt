@@ -2,7 +2,7 @@
 //! control", "Defining and using functions and instructions").
 
 ghost use Rattle.std.specs.Prelude.{◌≡◌, ◌<◌, ◌-◌, ◌^◌, IfOk, reverse};
-ghost use Rattle.tt_code.specs.Representation.Pass.{Turns, body_of, body_after};
+ghost use Rattle.tt_code.specs.Representation.Pass.{Applies, body_of, body_after};
 
 use crate::block_keyword::BlockKeyword;
 use crate::machine::Body;
@@ -30,7 +30,7 @@ pub enum Nesting {
 }
 
 /// Adds an instruction at an offset, in a body, to what is open, the innermost last.
-pub fn take_turn(
+pub fn apply_keyword(
     stack: &mut Vec<Open>,
     keyword: BlockKeyword,
     offset: u32,
@@ -38,7 +38,7 @@ pub fn take_turn(
 ) -> Result<Nesting, AllocError>
     requires { body ≡ body_of (reverse stack.old.items) }
     ensures { IfOk result (λ t.
-        Turns t keyword offset (reverse stack.old.items) (reverse stack.new.items)) }
+        Applies t keyword offset (reverse stack.old.items) (reverse stack.new.items)) }
 {
     match keyword {
         BlockKeyword::Other => Ok(Nesting::Passed),

@@ -6,7 +6,7 @@ ghost use Rattle.std.specs.Prelude.{◌≡◌, ℕ, ◌+◌, ◌^◌, ◌<◌, �
 ghost use Rattle.std.specs.List.{AllByRecursion};
 ghost use Rattle.tt_code.specs.Cut.{CanBeCut, CannotBeCut, Instruction, IsCut, instruction_at, size};
 ghost use Rattle.tt_code.specs.Faults.{IsMemory, IsMisnested};
-ghost use Rattle.tt_code.specs.Grammar.{GoesTo, HasFault, IsBodyAt, IsStructured, NoKeywordAt, NoneStandsAt, StandsAt};
+ghost use Rattle.tt_code.specs.Grammar.{GoesTo, HasFault, IsBodyAt, IsStructured, NoKeywordAt, NoInstructionAt, IsInstructionAt};
 ghost use Rattle.tt_code.specs.Representation.Slots.{IsKept, IsReading, Opens, kept};
 ghost use Rattle.tt_code.specs.Structure.{body_at as body_on_cut, leads};
 
@@ -115,8 +115,8 @@ impl<'a> Program<'a> {
     pub fn at(&self, offset: u32) -> Option<Instr<'a>>
         ensures value { result ≡ instruction_at self.now offset }
         ensures within { IfSome result (λ i. offset + length i ≤ size self.now) }
-        ensures found { IfSome result (StandsAt self.now offset) }
-        ensures none { IfNone result (NoneStandsAt self.now offset) }
+        ensures found { IfSome result (IsInstructionAt self.now offset) }
+        ensures none { IfNone result (NoInstructionAt self.now offset) }
     {
         let (instruction, _) = self.found_at(offset)?;
         Some(instruction)
@@ -190,10 +190,10 @@ impl<'a> Program<'a> {
     pub fn body_at(&self, offset: u32) -> Option<Body>
         ensures value { result ≡ body_on_cut self.now offset }
         ensures found { IfSome result (λ b.
-            ((i : Instruction) × StandsAt self.now offset i) × IsBodyAt self.now offset b) }
+            ((i : Instruction) × IsInstructionAt self.now offset i) × IsBodyAt self.now offset b) }
         ensures only { (i : Instruction) (b : Body) →
-            StandsAt self.now offset i → IsBodyAt self.now offset b → result ≡ Some b }
-        ensures none { IfNone result (NoneStandsAt self.now offset) }
+            IsInstructionAt self.now offset i → IsBodyAt self.now offset b → result ≡ Some b }
+        ensures none { IfNone result (NoInstructionAt self.now offset) }
     {
         let (_, body) = self.found_at(offset)?;
         Some(body)
@@ -207,10 +207,10 @@ impl<'a> Program<'a> {
         ensures body { option_map (λ found. found.1) result ≡ body_on_cut self.now offset }
         ensures within { IfSome result (λ found. offset + length found.0 ≤ size self.now) }
         ensures found { IfSome result (λ found.
-            StandsAt self.now offset found.0 × IsBodyAt self.now offset found.1) }
+            IsInstructionAt self.now offset found.0 × IsBodyAt self.now offset found.1) }
         ensures only { (i : Instruction) (b : Body) →
-            StandsAt self.now offset i → IsBodyAt self.now offset b → result ≡ Some (i, b) }
-        ensures none { IfNone result (NoneStandsAt self.now offset) }
+            IsInstructionAt self.now offset i → IsBodyAt self.now offset b → result ≡ Some (i, b) }
+        ensures none { IfNone result (NoInstructionAt self.now offset) }
     {
         let (n, body) = start_at(&self.slots, offset)?;
         let start = offset as usize;

@@ -8,7 +8,7 @@ ghost use Rattle.tt_code.specs.Grammar.{CanGoOn};
 
 use crate::block_keyword::keyword_of_code;
 use crate::machine::Body;
-use crate::nest::{Nesting, Open, next_body, take_turn};
+use crate::nest::{Nesting, Open, apply_keyword, next_body};
 use crate::slot::Slot;
 use std::alloc::{AllocError, Global};
 
@@ -53,7 +53,7 @@ impl Reading {
         let end = offset + instruction.len() as u32;
         let keyword = keyword_of_code(instruction[0]);
         let slot = Slot::start(instruction.len() as u16, self.body);
-        match take_turn(&mut self.stack, keyword, offset, self.body)? {
+        match apply_keyword(&mut self.stack, keyword, offset, self.body)? {
             Nesting::Refused => return Ok(false),
             Nesting::Passed => {}
             Nesting::Closed(opener) => self.slots[opener as usize].target = end,

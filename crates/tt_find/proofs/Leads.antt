@@ -9,7 +9,7 @@ use Rattle.tt_abs.specs.declared.moves.Moves.{Moves}
 use Rattle.tt_abs.specs.declared.state.State.{State}
 use Rattle.tt_abs.proofs.FamilyLaws.{derived_is}
 use Rattle.tt_abs.specs.Lines.{Precedes}
-use Rattle.tt_abs.specs.Moves.{frames_behind, offset_behind, ways_of}
+use Rattle.tt_abs.specs.Moves.{frames_after, offset_after, ways_of}
 use Rattle.tt_abs.specs.StateFlow.{Place, flow_of, height_of}
 use Rattle.tt_abs.specs.States.{state_order}
 use Rattle.tt_cert.specs.Contents.{AddsContext, Contents, HasContext, IsFamily, frames_at}
@@ -23,7 +23,7 @@ use Rattle.tt_cert.specs.declared.fault.ProgramFault.{ProgramFault}
 use Rattle.tt_cert.specs.declared.fault.ProgramFault.TheVariants.{Refused, OutOfMemory}
 use Rattle.tt_find.specs.Found.{IsJustified, NamesPlace}
 use Rattle.tt_cert.specs.Fillings.{IsJustAfter}
-use Rattle.tt_find.specs.Representation.Solvers.{ComesFrom, IsCountable, HasLaws, IsLeading, IsLeadingAt, IsLeadingOn, IsLeadingTo, IsOnWay, IsStored, IsWalk, IsWhole, TellsSource, calls_of, here_of, place_behind, place_over, places_from}
+use Rattle.tt_find.specs.Representation.Solvers.{ComesFrom, IsCountable, HasLaws, IsLeading, IsLeadingAt, IsLeadingOn, IsLeadingTo, IsOnWay, IsStored, IsWalk, IsWhole, TellsSource, calls_of, here_of, place_of_way, place_over, places_from}
 use Rattle.tt_find.specs.declared.origin.Origin.{Origin}
 use Rattle.tt_find.specs.declared.origin.Origin.TheVariants.{JustBefore, Elsewhere}
 use Rattle.tt_find.specs.declared.solver.Solver.{Solver}
@@ -92,22 +92,22 @@ module _ (s : Setting) (functions : List (ℕ × ℕ)) (laws : HasLaws s functio
   -- the place of the next way comes first
   way_first : (solver : Solver) (p : Place) (fs : List Frame) (ways : Moves) (index : ℕ) (over : Option ℕ) (way : Move) (t : State) → slice_get (ways_of ways) index ≡ Some way
       → IsLeading s functions solver p (place_over fs over ++ places_from fs ways index) t
-      → IsLeading s functions solver p (place_behind fs way ∷ place_over fs over ++ places_from fs ways (index + 1)) t
+      → IsLeading s functions solver p (place_of_way fs way ∷ place_over fs over ++ places_from fs ways (index + 1)) t
   way_first solver p fs ways index None way t e leading =
       let L : List Place → Type 0 = λ x. IsLeading s functions solver p x t in
-      subst L (ap (map (place_behind fs)) (drop_found (ways_of ways) index way e)) leading
+      subst L (ap (map (place_of_way fs)) (drop_found (ways_of ways) index way e)) leading
   way_first solver p fs ways index (Some o) way t e leading =
       let L : List Place → Type 0 = λ x. IsLeading s functions solver p ((fs, o) ∷ x) t in
-      leading_swap s functions laws solver p (fs, o) (place_behind fs way) (places_from fs ways (index + 1)) t
-      (subst L (ap (map (place_behind fs)) (drop_found (ways_of ways) index way e)) leading)
+      leading_swap s functions laws solver p (fs, o) (place_of_way fs way) (places_from fs ways (index + 1)) t
+      (subst L (ap (map (place_of_way fs)) (drop_found (ways_of ways) index way e)) leading)
 
   -- its context may be new
   module _ (solver : Solver) (walk : Walk) (off : ℕ) (after : Option ℕ) (ways : Moves) (index : ℕ) (over : Option ℕ) (v' : Contents) (way : Move) (number next : ℕ)
       (on : IsLeadingOn s functions solver walk off after ways index over) (found : slice_get (ways_of ways) index ≡ Some way)
-      (adds : AddsContext solver.builder.contexts v'.contexts (frames_behind (calls_of solver walk) way) number)
-      (offset : next ≡ offset_behind (calls_of solver walk) way) (states : v'.states ≡ solver.builder.states) (family' : IsFamily v') where
+      (adds : AddsContext solver.builder.contexts v'.contexts (frames_after (calls_of solver walk) way) number)
+      (offset : next ≡ offset_after (calls_of solver walk) way) (states : v'.states ≡ solver.builder.states) (family' : IsFamily v') where
     stay : (frames_at v'.contexts walk.context ≡ calls_of solver walk) × (walk.context < length v'.contexts)
-    stay = frames_stay solver.builder.contexts v'.contexts (frames_behind (calls_of solver walk) way) number walk.context adds on.walks.there
+    stay = frames_stay solver.builder.contexts v'.contexts (frames_after (calls_of solver walk) way) number walk.context adds on.walks.there
 
     pub walk_still : IsWalk v' walk
     walk_still = record {
@@ -121,23 +121,23 @@ module _ (s : Setting) (functions : List (ℕ × ℕ)) (laws : HasLaws s functio
     reached =
         let fs = calls_of solver walk in
         let qs = place_over fs over ++ places_from fs ways (index + 1) in
-        let grown = leading_grown s functions laws solver v' (fs, off) (frames_behind fs way) number (offset_behind fs way) walk.state qs
+        let grown = leading_grown s functions laws solver v' (fs, off) (frames_after fs way) number (offset_after fs way) walk.state qs
         (way_first solver (fs, off) fs ways index over way walk.state found on.leading) adds states family' in
         let L : List Frame × Place → Type 0 =
         λ x. IsLeading s functions (record solver { builder = v' }) (x.0, off) (x.1 ∷ place_over x.0 over ++ places_from x.0 ways (index + 1)) walk.state in
-        let both : ◌≡◌ {A = List Frame × Place} (fs, place_behind fs way) (frames_at v'.contexts walk.context, place_of v' number next) = λ i. (sym stay.0 i, (sym adds.at i, sym offset i)) in
+        let both : ◌≡◌ {A = List Frame × Place} (fs, place_of_way fs way) (frames_at v'.contexts walk.context, place_of v' number next) = λ i. (sym stay.0 i, (sym adds.at i, sym offset i)) in
         let A : List Frame → Type 0 = λ x. IsJustAfter s (x, off) after in
         record { leading = subst L both grown; there = adds.there; just_after = subst A (sym stay.0) on.just_after; goes_over = on.goes_over; walks = walk_still }
 
   -- the same where the walk's context has this number
   module _ (solver : Solver) (walk : Walk) (off : ℕ) (after : Option ℕ) (ways : Moves) (index : ℕ) (over : Option ℕ) (way : Move) (here : ℕ) (same : walk.context ≡ here)
       (on : IsLeadingOn s functions solver walk off after ways index over) (found : slice_get (ways_of ways) index ≡ Some way) where
-    pub reached_from : (v' : Contents) (number next : ℕ) → AddsContext solver.builder.contexts v'.contexts (frames_behind (frames_at solver.builder.contexts here) way) number
-        → next ≡ offset_behind (frames_at solver.builder.contexts here) way → v'.states ≡ solver.builder.states → IsFamily v'
+    pub reached_from : (v' : Contents) (number next : ℕ) → AddsContext solver.builder.contexts v'.contexts (frames_after (frames_at solver.builder.contexts here) way) number
+        → next ≡ offset_after (frames_at solver.builder.contexts here) way → v'.states ≡ solver.builder.states → IsFamily v'
         → IsLeadingTo s functions (record solver { builder = v' }) walk off after ways (index + 1) over number next
     reached_from v' number next adds offset states family' =
-        let A : ℕ → Type 0 = λ n. AddsContext solver.builder.contexts v'.contexts (frames_behind (frames_at solver.builder.contexts n) way) number in
-        let O : ℕ → Type 0 = λ n. next ≡ offset_behind (frames_at solver.builder.contexts n) way in
+        let A : ℕ → Type 0 = λ n. AddsContext solver.builder.contexts v'.contexts (frames_after (frames_at solver.builder.contexts n) way) number in
+        let O : ℕ → Type 0 = λ n. next ≡ offset_after (frames_at solver.builder.contexts n) way in
         reached solver walk off after ways index over v' way number next on found (subst A (sym same) adds) (subst O (sym same) offset) states family'
 
     pub countable_on : IsCountable solver.builder.contexts here
@@ -146,14 +146,14 @@ module _ (s : Setting) (functions : List (ℕ × ℕ)) (laws : HasLaws s functio
         subst C same (countable_left s functions laws solver walk.context _ _ on.leading.sound on.walks.there)
 
     -- there is one context too many
-    pub too_many_on : (HasContext solver.builder.contexts (frames_behind (frames_at solver.builder.contexts here) way) → ⊥) → length solver.builder.contexts ≡ 65535
+    pub too_many_on : (HasContext solver.builder.contexts (frames_after (frames_at solver.builder.contexts here) way) → ⊥) → length solver.builder.contexts ≡ 65535
         → IsJustified s functions (frames_at solver.builder.contexts here, off) TooManyContexts
     too_many_on absent full =
         let fs = calls_of solver walk in
         let qs = place_over fs over ++ places_from fs ways (index + 1) in
-        let H : ℕ → Type 0 = λ n. HasContext solver.builder.contexts (frames_behind (frames_at solver.builder.contexts n) way) → ⊥ in
+        let H : ℕ → Type 0 = λ n. HasContext solver.builder.contexts (frames_after (frames_at solver.builder.contexts n) way) → ⊥ in
         let J : ℕ → Type 0 = λ n. IsJustified s functions (frames_at solver.builder.contexts n, off) TooManyContexts in
-        subst J same (too_many_left s functions laws solver (fs, off) (place_behind fs way) walk.state qs (way_first solver (fs, off) fs ways index over way walk.state found on.leading) (subst H (sym same) absent) full)
+        subst J same (too_many_left s functions laws solver (fs, off) (place_of_way fs way) walk.state qs (way_first solver (fs, off) fs ways index over way walk.state found on.leading) (subst H (sym same) absent) full)
 
   -- over it the state goes last
   pub held : (solver : Solver) (walk : Walk) (off : ℕ) (after : Option ℕ) (ways : Moves) (index number next : ℕ) → IsLeadingTo s functions solver walk off after ways index None number next
@@ -182,14 +182,14 @@ module _ (s : Setting) (functions : List (ℕ × ℕ)) (laws : HasLaws s functio
   pub none_over : (solver : Solver) (walk : Walk) (off : ℕ) (after : Option ℕ) (ways : Moves) (index : ℕ) (over : Option ℕ) → IsLeadingOn s functions solver walk off after ways index over
       → slice_get (ways_of ways) index ≡ None → over ≡ None → IsWhole s functions solver
   none_over solver walk off after ways index over on none is =
-      let L : Option ℕ × List Move → Type 0 = λ x. IsLeadingAt s functions solver walk off (place_over (calls_of solver walk) x.0 ++ map (place_behind (calls_of solver walk)) x.1) in
+      let L : Option ℕ × List Move → Type 0 = λ x. IsLeadingAt s functions solver walk off (place_over (calls_of solver walk) x.0 ++ map (place_of_way (calls_of solver walk)) x.1) in
       let both : ◌≡◌ {A = Option ℕ × List Move} (over, drop index (ways_of ways)) (None, []) = λ i. (is i, drop_none (ways_of ways) index none i) in
       leading_ends s functions laws solver (here_of solver.builder walk off) walk.state (subst L both on.leading)
 
   pub last_over : (solver : Solver) (walk : Walk) (off : ℕ) (after : Option ℕ) (ways : Moves) (index : ℕ) (over : Option ℕ) (next : ℕ) → IsLeadingOn s functions solver walk off after ways index over
       → slice_get (ways_of ways) index ≡ None → over ≡ Some next → IsLeadingAt s functions solver walk off (here_of solver.builder walk next ∷ [])
   last_over solver walk off after ways index over next on none is =
-      let L : Option ℕ × List Move → Type 0 = λ x. IsLeadingAt s functions solver walk off (place_over (calls_of solver walk) x.0 ++ map (place_behind (calls_of solver walk)) x.1) in
+      let L : Option ℕ × List Move → Type 0 = λ x. IsLeadingAt s functions solver walk off (place_over (calls_of solver walk) x.0 ++ map (place_of_way (calls_of solver walk)) x.1) in
       let both : ◌≡◌ {A = Option ℕ × List Move} (over, drop index (ways_of ways)) (Some next, []) = λ i. (is i, drop_none (ways_of ways) index none i) in
       subst L both on.leading
 

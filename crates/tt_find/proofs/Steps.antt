@@ -1,4 +1,4 @@
--- What the steps of a run leave of the finder's solver, and what justifies its refusals.
+-- What the steps of a state that is carried on leave of the finder's solver, and what justifies its refusals.
 use Rattle.std.specs.Prelude.{◌≡◌, ◌≢◌, ◌⊎◌, ℕ, ◌+◌, ◌≤◌, ◌<◌, Bool, true, false, cond, Option, Some, None, List, [], ◌∷◌, ◌++◌, length}
 use Rattle.std.specs.BTreeSet.{BTreeSet}
 use Rattle.std.proofs.Common.{refl, sym, ◌∙◌, ap, subst, arith, inl, inr, length-append}

@@ -14,16 +14,16 @@ use Rattle.tt_abs.specs.Transfers.{Next, outcome_on_cells}
 use Rattle.tt_abs.proofs.StateParts.{one_state}
 use Rattle.tt_cert.specs.Checks.{place_of_next}
 use Rattle.tt_cert.proofs.Checked.{same_states}
-use Rattle.tt_find.specs.Representation.Solvers.{Pends, place_behind, places_from}
+use Rattle.tt_find.specs.Representation.Solvers.{Pends, place_of_way, places_from}
 
 pends_at : (fs : List Frame) (ways : List Move) (t : State) (i : ℕ) (n : Next) → slice_get (map (next_by fs (abstract_of t)) ways) i ≡ Some n
-    → Pends (map (place_behind fs) ways) t (place_of_next n) t
+    → Pends (map (place_of_way fs) ways) t (place_of_next n) t
 pends_at fs [] t i n e = absurd (cc)
 pends_at fs (way ∷ ways) t zero n e = let same : next_by fs (abstract_of t) way ≡ n = cc in inl (ap place_of_next (sym same), refl)
 pends_at fs (way ∷ ways) t (suc i) n e = inr (pends_at fs ways t i n e)
 
 -- what waits is a next abstract state
-next_of : (fs : List Frame) (ways : List Move) (t : State) (q : Place) (u : State) → Pends (map (place_behind fs) ways) t q u
+next_of : (fs : List Frame) (ways : List Move) (t : State) (q : Place) (u : State) → Pends (map (place_of_way fs) ways) t q u
     → (u ≡ t) × (i : ℕ) × (n : Next) × (slice_get (map (next_by fs (abstract_of t)) ways) i ≡ Some n) × (place_of_next n ≡ q)
 next_of fs [] t q u never = absurd never
 next_of fs (way ∷ ways) t q u (inl h) = (h.1, 0, next_by fs (abstract_of t) way, refl, sym h.0)

@@ -10,8 +10,8 @@ ghost use Rattle.tt_find.specs.FoundSubjects.{HasLeastContexts, HasOnlyNeeded, I
 ghost use Rattle.tt_find.specs.Representation.SolverSubjects.{HasLawsFor, IsFoundFor, IsWholeFor, StopsFor};
 ghost use Rattle.tt_find.specs.Finders.{IsEmptySolver};
 
+use crate::carry::{carry_on, store};
 use crate::origin::Origin;
-use crate::run::{run, store};
 use crate::solver::Solver;
 use crate::stop::Stop;
 use crate::walk::Walk;
@@ -67,7 +67,7 @@ fn law_facts(setting: &Setting<'_>)
 /// Fills an empty solver, from the start on, until no point waits.
 ///
 /// # Errors
-/// As the run from each point.
+/// As `carry_on`, from each point.
 fn run_to_fixpoint(
     alloc: Global,
     solver: &mut Solver,
@@ -88,7 +88,7 @@ fn run_to_fixpoint(
         return Err(stop);
     }
     while let Some((context, offset)) = solver.worklist.pop_first() {
-        if let Err(stop) = run(solver, &mut walk, setting, context, offset, budget) {
+        if let Err(stop) = carry_on(solver, &mut walk, setting, context, offset, budget) {
             return Err(stop);
         }
     }
@@ -267,7 +267,7 @@ impl Finder {
     /// budget allows.
     ///
     /// # Errors
-    /// As `find`; `OutOfMemory` too where the budget is met.
+    /// As `find`; `OutOfMemory` too where the budget is exceeded.
     pub fn find_within(
         &mut self,
         alloc: Global,
@@ -324,7 +324,7 @@ impl Finder {
     /// the budget allows.
     ///
     /// # Errors
-    /// As `find`; `OutOfMemory` too where the budget is met.
+    /// As `find`; `OutOfMemory` too where the budget is exceeded.
     pub fn find_needed_within(
         &mut self,
         alloc: Global,

@@ -32,7 +32,7 @@ const EMPTY: OutlineSize = OutlineSize {
 };
 
 /// The size of a glyph that the font doesn't have.
-const MISSING: OutlineSize = OutlineSize {
+const UNRESOLVED: OutlineSize = OutlineSize {
     unresolved: true,
     points: 0,
     contours: 0,
@@ -62,7 +62,7 @@ impl OutlineSize {
         ensures contours { result.contours ≡ min (own_contours (outline_of glyph.now)) 65536 }
     {
         if is_composite(glyph) {
-            return MISSING;
+            return UNRESOLVED;
         }
         OutlineSize {
             unresolved: false,
@@ -75,7 +75,7 @@ impl OutlineSize {
     pub(crate) fn of(sizes: &[OutlineSize], id: u16) -> OutlineSize
         ensures { result ≡ size_at sizes.now id }
     {
-        sizes.get(usize::from(id)).copied().unwrap_or(MISSING)
+        sizes.get(usize::from(id)).copied().unwrap_or(UNRESOLVED)
     }
 
     /// Adds two sizes.

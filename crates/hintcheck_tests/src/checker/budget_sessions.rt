@@ -28,7 +28,7 @@ fn told_each(
     for most in budgets {
         let mut budget = Budget::of(*most);
         let told = told_of(session.check_next_within(alloc, &mut source, &mut budget));
-        answers.push((told, budget.made(), budget.is_met(), source.left.len()))?;
+        answers.push((told, budget.made(), budget.is_exceeded(), source.left.len()))?;
     }
     Ok(answers)
 }
@@ -48,7 +48,7 @@ fn told_together(
     let mut budget = Budget::of(most);
     for _ in 0..5 {
         let told = told_of(session.check_next_within(alloc, &mut source, &mut budget));
-        answers.push((told, budget.made(), budget.is_met(), source.left.len()))?;
+        answers.push((told, budget.made(), budget.is_exceeded(), source.left.len()))?;
     }
     Ok(answers)
 }
@@ -174,7 +174,7 @@ fn one_budget_for_all_calls(rt: HostRuntime) {
         for (answer, want) in answers.iter().zip(told_within(most)) {
             assert_eq!(rt; answer.0, want, "{most} points");
         }
-        let (_, made, is_met, _) = answers[4];
-        assert_eq!(rt; (made, is_met), (most.min(9), most < 9), "{most} points");
+        let (_, made, is_exceeded, _) = answers[4];
+        assert_eq!(rt; (made, is_exceeded), (most.min(9), most < 9), "{most} points");
     }
 }

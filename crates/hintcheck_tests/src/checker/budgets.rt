@@ -78,9 +78,9 @@ const REFUSED: [(Programs<'static>, Told, u64, u64); 6] = [
 /// a budget of so many, which counted what was made.
 fn is_right(told: Told, budget: &Budget, most: u64, needed: u64, want: Told) -> bool {
     if most < needed {
-        return told == Told::Budget && budget.made() == most && budget.is_met();
+        return told == Told::Budget && budget.made() == most && budget.is_exceeded();
     }
-    told == want && budget.made() == needed && !budget.is_met()
+    told == want && budget.made() == needed && !budget.is_exceeded()
 }
 
 /// Returns the first budget within which a verdict that needs so many points isn't told as it
@@ -207,6 +207,6 @@ fn points_without_a_bound(rt: HostRuntime) {
         let mut budget = Budget::unlimited();
         let told = checked_within(alloc, &font, steps_of(&bytes, false), &mut budget);
         assert_eq!(rt; (told, budget.made()), (want, *check), "{programs:?}");
-        assert!(rt; !budget.is_met(), "{programs:?}");
+        assert!(rt; !budget.is_exceeded(), "{programs:?}");
     }
 }

@@ -30,10 +30,10 @@ fn one_budget_for_several_fonts(rt: HostRuntime) {
     assert_eq!(rt; told, Told::Accepted);
     assert!(rt; *bytes == *form_4, "the stored certificate");
     assert_eq!(rt; budget.made(), 56);
-    assert!(rt; !budget.is_met());
+    assert!(rt; !budget.is_exceeded());
     assert_eq!(rt; judged_within(alloc, &font, &mut budget), Told::Budget);
     assert_eq!(rt; budget.made(), 60, "four points were left");
-    assert!(rt; budget.is_met());
+    assert!(rt; budget.is_exceeded());
     assert_eq!(rt; judged_within(alloc, &font, &mut budget), Told::Budget);
     assert_eq!(rt; budget.made(), 60, "none is made then");
 }
@@ -50,7 +50,7 @@ fn no_point_for_what_is_no_font(rt: HostRuntime) {
     let (told, bytes) = found_within(alloc, &[0; 12], taker, &mut budget);
     assert_eq!(rt; told, Told::Font(1));
     assert_eq!(rt; bytes.len(), 0);
-    assert_eq!(rt; (budget.made(), budget.is_met()), (0, false));
+    assert_eq!(rt; (budget.made(), budget.is_exceeded()), (0, false));
 }
 
 /// How many bytes of the certificate are there, whether the read after them fails, the budget, what
@@ -82,8 +82,8 @@ fn faults_of_a_certificate_before_the_budget(rt: HostRuntime) {
         let told = checked_within(alloc, &font, steps_of(bytes, fails), &mut budget);
         assert_eq!(rt; told, want, "{length} bytes, {most} points");
         assert_eq!(rt; budget.made(), made, "{length} bytes, {most} points");
-        let is_met = want == Told::Budget;
-        assert_eq!(rt; budget.is_met(), is_met, "{length} bytes, {most} points");
+        let is_exceeded = want == Told::Budget;
+        assert_eq!(rt; budget.is_exceeded(), is_exceeded, "{length} bytes, {most} points");
     }
 }
 

@@ -13,7 +13,7 @@ use Rattle.tt_abs.specs.Lines.{Precedes}
 use Rattle.tt_abs.specs.StateFlow.{Place, GivesState, RefusesState}
 use Rattle.tt_abs.specs.Settings.{setting_of}
 use Rattle.tt_abs.specs.declared.setting.Setting.{Setting as Subject}
-use Rattle.tt_abs.specs.Moves.{frames_behind, nexts_of, offset_behind, ways_of}
+use Rattle.tt_abs.specs.Moves.{frames_after, nexts_of, offset_after, ways_of}
 use Rattle.tt_abs.specs.States.{abstract_of, start_of, state_order}
 use Rattle.tt_abs.specs.declared.moves.Move.{Move}
 use Rattle.tt_abs.specs.declared.moves.Move.TheVariants.{NextTurn}
@@ -229,9 +229,9 @@ abbrev pub point_of : Contents → Cursor → ℕ → Place
 point_of contents walk offset = place_of contents walk.context offset
 
 -- the place to which a move leads from the walk's context
-abbrev pub place_behind : Contents → Cursor → Move → Place
-place_behind contents walk way =
-    (frames_behind (calls_of contents walk) way, offset_behind (calls_of contents walk) way)
+abbrev pub place_of_way : Contents → Cursor → Move → Place
+place_of_way contents walk way =
+    (frames_after (calls_of contents walk) way, offset_after (calls_of contents walk) way)
 
 -- what was made, at the places to which moves lead
 abbrev pub nexts_made : Contents → Cursor → Moves → List Next

@@ -66,10 +66,10 @@ closed Endf (o ∷ s) = Some (place o)
 closed _ _ = None
 
 -- what an instruction does to the things that are open, and what is open then
-abbrev pub Turns : Nesting → BlockKeyword → ℕ → List Open → List Open → Type 0
-Turns Refused w k s t = step w k s ≡ None
-Turns Passed w k s t = (step w k s ≡ Some t) × (closed w s ≡ None)
-Turns (Closed at) w k s t = (step w k s ≡ Some t) × (closed w s ≡ Some at)
+abbrev pub Applies : Nesting → BlockKeyword → ℕ → List Open → List Open → Type 0
+Applies Refused w k s t = step w k s ≡ None
+Applies Passed w k s t = (step w k s ≡ Some t) × (closed w s ≡ None)
+Applies (Closed at) w k s t = (step w k s ≡ Some t) × (closed w s ≡ Some at)
 
 -- the body of the next instruction, by what is open
 abbrev pub body_of : List Open → Body

@@ -13,7 +13,7 @@ use Rattle.tt_abs.specs.declared.instruction.Stepped.{Stepped}
 use Rattle.tt_abs.specs.Families.{CoversAt, Derived}
 use Rattle.tt_abs.specs.Flows.{Flow, FlowLaws}
 use Rattle.tt_abs.specs.Lines.{EndsAt, Precedes}
-use Rattle.tt_abs.specs.Moves.{frames_behind, nexts_of, offset_behind, ways_of}
+use Rattle.tt_abs.specs.Moves.{frames_after, nexts_of, offset_after, ways_of}
 use Rattle.tt_abs.specs.Orders.{Order}
 use Rattle.tt_abs.specs.StateFlow.{AreProgramsShort, GivesState, Place, RefusesState, flow_of, height_of}
 use Rattle.tt_abs.specs.States.{abstract_of, state_order}
@@ -264,12 +264,12 @@ pub record IsRefusedAt (s : Setting) (at : Place) (state : State) (p : Place) (r
   pub refused : RefusesState s at state r
 
 -- the place to which a way leads
-abbrev pub place_behind : List Frame → Move → Place
-place_behind fs way = (frames_behind fs way, offset_behind fs way)
+abbrev pub place_of_way : List Frame → Move → Place
+place_of_way fs way = (frames_after fs way, offset_after fs way)
 
 -- the places to which the ways lead from this number on
 abbrev pub places_from : List Frame → Moves → ℕ → List Place
-places_from fs ways index = map (place_behind fs) (drop index (ways_of ways))
+places_from fs ways index = map (place_of_way fs) (drop index (ways_of ways))
 
 -- the place over which the state goes last, if there is one
 abbrev pub place_over : List Frame → Option ℕ → List Place

@@ -146,7 +146,7 @@ const FAMILIES_OF_DEFINES: [Family<'static>; 2] = [
 ];
 
 #[test]
-fn place_behind_a_definition(rt: HostRuntime) {
+fn place_after_a_definition(rt: HostRuntime) {
     assert_families(&rt, rt.alloc(), &DEFINES, &FAMILIES_OF_DEFINES);
 }
 

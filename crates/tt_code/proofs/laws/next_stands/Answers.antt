@@ -1,5 +1,5 @@
-use Rattle.tt_code.proofs.LawLemmas.{next_stands}
-use Rattle.tt_code.proofs.laws.next_stands.Goals as goal
+use Rattle.tt_code.proofs.LawLemmas.{next_is_there}
+use Rattle.tt_code.proofs.laws.next_is_there.Goals as goal
 
 pub returns : goal.returns
-returns c = next_stands
+returns c = next_is_there

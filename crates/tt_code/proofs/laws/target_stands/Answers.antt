@@ -1,5 +1,5 @@
-use Rattle.tt_code.proofs.LawLemmas.{target_stands}
-use Rattle.tt_code.proofs.laws.target_stands.Goals as goal
+use Rattle.tt_code.proofs.LawLemmas.{target_is_there}
+use Rattle.tt_code.proofs.laws.target_is_there.Goals as goal
 
 pub returns : goal.returns
-returns c = target_stands
+returns c = target_is_there

@@ -16,15 +16,15 @@ loop-context-init c = record {
   everywhere = refl;
 }
 
-pub run-requires-clause-popped : goal.run-requires-clause-popped
-run-requires-clause-popped c =
+pub carry_on-requires-clause-popped : goal.carry_on-requires-clause-popped
+carry_on-requires-clause-popped c =
     popped_left (setting_of c.args.setting.now) c.args.setting.now.start.now c.requires.laws c.loop-context.solver c.in-Some.context c.in-Some.offset c.pop_first.new.self
     c.loop-context.invariant.whole c.in-Some.ensures.some c.in-Some.ensures.apart
 
 pub loop-context-smaller : goal.loop-context-smaller
 loop-context-smaller c =
     let h = height_of (setting_of c.args.setting.now) in
-    let whole = c.in_default-run.ensures.whole in
-    let fit = updates_fit state_order state_laws h c.run.new.solver.builder c.run.new.solver.changes whole.kept.family whole.budget in
+    let whole = c.in_default-carry_on.ensures.whole in
+    let fit = updates_fit state_order state_laws h c.carry_on.new.solver.builder c.carry_on.new.solver.changes whole.kept.family whole.budget in
     let one : length c.pop_first.new.self + 1 ≡ length c.loop-context.solver.worklist = let e = ap length c.in-Some.ensures.some in omega arith in
-    measure_falls h c.loop-context.solver.changes c.run.new.solver.changes _ _ _ fit one c.in_default-run.ensures.risen.worklist c.in_default-run.ensures.risen.changes
+    measure_falls h c.loop-context.solver.changes c.carry_on.new.solver.changes _ _ _ fit one c.in_default-carry_on.ensures.risen.worklist c.in_default-carry_on.ensures.risen.changes

@@ -8,13 +8,13 @@ use Rattle.tt_code.proofs.reading.Reading.read.Goals.{in-Passed, in-Closed}
 
 pub returns-in-Refused-clause-refused : goal.returns-in-Refused-clause-refused
 returns-in-Refused-clause-refused c = λ _ p r.
-    let turn = rw c.in-Refused.is at c.in_ok-take_turn.ensures in
+    let turn = rw c.in-Refused.is at c.in_ok-apply_keyword.ensures in
     let here : length c.args.self.now.slots.items ≡ c.len-offset.result = omega (arith, c.len-offset.ensures, c.args.self.now.slots.ok.0) in
     read_refused p c.len-offset.result _ _ _ c.args.instruction.now c.keyword_of_code-keyword.result r here c.requires.whole c.keyword_of_code-keyword.ensures turn
 
 pub index_mut-requires : goal.index_mut-requires
 index_mut-requires c =
-    let turn = rw c.in-Closed.is at c.in_ok-take_turn.ensures in
+    let turn = rw c.in-Closed.is at c.in_ok-apply_keyword.ensures in
     let so_far = c.requires.so_far in
     let here : length c.args.self.now.slots.items ≡ c.len-offset.result = omega (arith, c.len-offset.ensures, c.args.self.now.slots.ok.0) in
     let less = read_closed so_far.0 c.len-offset.result (reverse c.args.self.now.stack.items) _ c.args.self.now.body c.args.self.now.slots.items c.args.instruction.now c.keyword_of_code-keyword.result c.in-Closed.opener so_far.1 here c.requires.whole c.keyword_of_code-keyword.ensures turn.0 turn.1 in
@@ -32,9 +32,9 @@ returns-clause-stands c = λ _ p r.
     × (length c.match-branch-2.self.slots.items ≡ offset)
     × (c.match-branch-2.self.body ≡ c.args.self.now.body) =
     elim c.match-branch-2.branch [
-      | in-Passed w ↦ let turn = rw w.in-Passed.is at c.in_ok-take_turn.ensures in
+      | in-Passed w ↦ let turn = rw w.in-Passed.is at c.in_ok-apply_keyword.ensures in
           (rw w.self-is turn.0, rw (w.self-is, turn.1) refl, rw w.self-is here, rw w.self-is refl)
-      | in-Closed w ↦ let turn = rw w.in-Closed.is at c.in_ok-take_turn.ensures in
+      | in-Closed w ↦ let turn = rw w.in-Closed.is at c.in_ok-apply_keyword.ensures in
           let less = read_closed p offset (reverse c.args.self.now.stack.items) _ c.args.self.now.body slots i keyword w.in-Closed.opener r here c.requires.whole c.keyword_of_code-keyword.ensures turn.0 turn.1 in
           (rw w.self-is turn.0, rw (w.self-is, turn.1) (retargeted slots w.in-Closed.opener (offset + length i) _ less w.index_mut.ensures.value), rw w.self-is (length-set slots w.in-Closed.opener _ ∙ here), rw w.self-is refl)
     ] in

@@ -6,7 +6,7 @@ use Rattle.tt_find.specs.Representation.OffsetMarks.{SetsMark, mark_of}
 use Rattle.tt_find.specs.declared.marks.Mark.TheVariants.{Kept, Passed}
 use Rattle.tt_find.specs.declared.solver.Solver.{Solver}
 use Rattle.tt_find.proofs.Steps.{stored_from}
-use Rattle.tt_find.proofs.run.store.Goals as goal
+use Rattle.tt_find.proofs.carry.store.Goals as goal
 
 pub returns-clause-stored : goal.returns-clause-stored
 returns-clause-stored c =

@@ -1,7 +1,7 @@
 use Rattle.std.proofs.Common.{reverse, refl, sym, ◌∙◌}
 use Rattle.std.proofs.lemmas.List.{reverse-append}
 use Rattle.tt_code.proofs.NestingLemmas.{main_within, not_main_within}
-use Rattle.tt_code.proofs.nest.take_turn.Goals as goal
+use Rattle.tt_code.proofs.nest.apply_keyword.Goals as goal
 
 pub returns-in_ok-push-in-Main : goal.returns-in_ok-push-in-Main
 returns-in_ok-push-in-Main c =

@@ -3,7 +3,7 @@ use Rattle.tt_abs.specs.Settings.{setting_of}
 use Rattle.tt_cert.specs.Puts.{place_of}
 use Rattle.tt_find.specs.Representation.Solvers.{IsOnWay}
 use Rattle.tt_find.proofs.Steps.{way_begins}
-use Rattle.tt_find.proofs.run.run.Goals as goal
+use Rattle.tt_find.proofs.carry.carry_on.Goals as goal
 
 pub loop-next-init : goal.loop-next-init
 loop-next-init c =

@@ -1,7 +1,7 @@
 use Rattle.std.proofs.Common.{◌≡◌, ◌-◌}
 use Rattle.tt_abs.specs.Settings.{setting_of}
 use Rattle.tt_find.specs.Representation.Solvers.{HasRisen, IsLeadingOn}
-use Rattle.tt_find.proofs.run.store_successors.Given as goal
+use Rattle.tt_find.proofs.carry.store_successors.Given as goal
 
 abbrev pub invariant-loop-way : goal.invariant-loop-way
 invariant-loop-way l = record {

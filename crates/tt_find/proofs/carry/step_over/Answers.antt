@@ -8,7 +8,7 @@ use Rattle.tt_find.specs.Representation.Solvers.{IsApart, IsPassed}
 use Rattle.tt_find.specs.declared.origin.Origin.TheVariants.{JustBefore}
 use Rattle.tt_find.proofs.Leads.{comes_before, ranged_to, whole_put}
 use Rattle.tt_find.proofs.Steps.{apart_left, leading_passed, stop_map}
-use Rattle.tt_find.proofs.run.step_over.Goals as goal
+use Rattle.tt_find.proofs.carry.step_over.Goals as goal
 
 pub returns-then-may_pass-clause-goes : goal.returns-then-may_pass-clause-goes
 returns-then-may_pass-clause-goes c =

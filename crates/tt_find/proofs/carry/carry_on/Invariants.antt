@@ -2,7 +2,7 @@ use Rattle.std.proofs.Common.{◌≡◌, ◌-◌}
 use Rattle.tt_abs.specs.Settings.{setting_of}
 use Rattle.tt_cert.specs.Budgets.{Spends}
 use Rattle.tt_find.specs.Representation.Solvers.{HasRisen, IsOnWay, IsWalk, here_of}
-use Rattle.tt_find.proofs.run.run.Given as goal
+use Rattle.tt_find.proofs.carry.carry_on.Given as goal
 
 abbrev pub invariant-loop-next : goal.invariant-loop-next
 invariant-loop-next l = record {

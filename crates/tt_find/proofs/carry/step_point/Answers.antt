@@ -7,7 +7,7 @@ use Rattle.tt_cert.specs.Puts.{place_of}
 use Rattle.tt_find.specs.Representation.Solvers.{IsCarried, IsLeading, places_from}
 use Rattle.tt_find.proofs.Leads.{ranged_on}
 use Rattle.tt_find.proofs.Steps.{refused_left, way_ends, way_leads}
-use Rattle.tt_find.proofs.run.step_point.Goals as goal
+use Rattle.tt_find.proofs.carry.step_point.Goals as goal
 
 pub step_state-requires-clause-in_range : goal.step_state-requires-clause-in_range
 step_state-requires-clause-in_range c =

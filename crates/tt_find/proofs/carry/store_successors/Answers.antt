@@ -13,8 +13,8 @@ use Rattle.tt_find.specs.declared.solver.Solver.{Solver}
 use Rattle.tt_find.specs.declared.walk.Walk.{Walk}
 use Rattle.tt_find.proofs.Leads.{countable_on, held, just_over, last_over, none_over, not_entered, put, ranged_to, reached_from, too_many_on}
 use Rattle.tt_find.proofs.Steps.{apart_left, risen_on, stop_map}
-use Rattle.tt_find.proofs.run.store_successors.Goals as goal
-use Rattle.tt_find.proofs.run.store_successors.Goals.{then-is_none+then-goes_over, else-is_none+in_default-store}
+use Rattle.tt_find.proofs.carry.store_successors.Goals as goal
+use Rattle.tt_find.proofs.carry.store_successors.Goals.{then-is_none+then-goes_over, else-is_none+in_default-store}
 
 pub resolve_successor-requires-clause-countable : goal.resolve_successor-requires-clause-countable
 resolve_successor-requires-clause-countable c =
@@ -94,7 +94,7 @@ loop-way-preserved c =
     elim c.if-is_none.branch [
       | then-is_none+then-goes_over w ↦
           let none : c.loop-way.over ≡ None = none_of c.loop-way.over w.if-is_none.ensures in
-          let (same, at) = c.source_of-source.ensures.0 (w.goes_over.ensures w.if-goes_over.true) in
+          let (same, at) = c.origin_of-source.ensures.0 (w.goes_over.ensures w.if-goes_over.true) in
           let T : Option ℕ → Type 0 = λ o. IsLeadingTo s fs solver walk c.args.offset c.args.after c.args.ways (c.loop-way.index + 1) o number next in
           let later = held s fs c.requires.laws solver walk c.args.offset c.args.after c.args.ways (c.loop-way.index + 1) number next (subst T none to) (same ∙ sym on.here) at in
           let P : Solver × Walk × Option ℕ → Type 0 = λ x. IsLeadingOn s fs x.0 x.1 c.args.offset c.args.after c.args.ways (c.loop-way.index + 1) x.2 in
@@ -109,9 +109,9 @@ loop-way-preserved c =
           }
       | else-is_none+in_default-store w ↦
           let stored = w.in_default-store.ensures.stored in
-          let S : ℕ → Type 0 = λ n. TellsSource n number c.args.after next c.source_of-source.result in
+          let S : ℕ → Type 0 = λ n. TellsSource n number c.args.after next c.origin_of-source.result in
           let later = put s fs c.requires.laws solver w.store.new.solver walk w.store.new.walk c.args.offset c.args.after c.args.ways (c.loop-way.index + 1) c.loop-way.over number next
-          c.source_of-source.result to stored (subst S (sym on.here) c.source_of-source.ensures) w.in_default-store.ensures.walk w.in_default-store.ensures.context w.in_default-store.ensures.state in
+          c.origin_of-source.result to stored (subst S (sym on.here) c.origin_of-source.ensures) w.in_default-store.ensures.walk w.in_default-store.ensures.context w.in_default-store.ensures.state in
           let P : Solver × Walk × Option ℕ → Type 0 = λ x. IsLeadingOn s fs x.0 x.1 c.args.offset c.args.after c.args.ways (c.loop-way.index + 1) x.2 in
           let all : ◌≡◌ {A = Solver × Walk × Option ℕ} (w.store.new.solver, w.store.new.walk, c.loop-way.over) (c.if-is_none.solver, c.if-is_none.walk, c.if-is_none.over) =
           λ i. (sym w.solver-is i, sym w.walk-is i, sym w.over-is i) in

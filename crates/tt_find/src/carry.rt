@@ -1,5 +1,5 @@
-//! A run: the state that is kept at a point is carried on in place, until it comes to where states
-//! are kept, or until it goes elsewhere.
+//! How the state that is kept at a point is carried on, in place: until it comes to where states are
+//! kept, or until it goes elsewhere.
 
 ghost use Rattle.std.specs.Prelude.{◌≡◌, ◌<◌, IfErr, IfOk, IfSome, IsTrue, OnOk, length};
 ghost use Rattle.tt_abs.specs.States.{state_order};
@@ -50,7 +50,7 @@ fn step_state(
 
 /// Returns from where a state comes to an offset of a context, if it leads there: from one in which
 /// an instruction ends at `after`.
-fn source_of(here: u32, context: u32, after: Option<u32>, next: u32) -> Origin
+fn origin_of(here: u32, context: u32, after: Option<u32>, next: u32) -> Origin
     ensures { TellsSource here context after next result }
 {
     match after {
@@ -185,7 +185,7 @@ fn store_successors(
                 return Err(Stop::Fault(not_entered(&solver.builder, here, offset, fault)));
             }
         };
-        let source = source_of(here, context, after, next);
+        let source = origin_of(here, context, after, next);
         if over.is_none() && goes_over(solver, walk, source, next) {
             over = Some(next);
         } else if let Err(stop) = store(solver, walk, context, next, source) {
@@ -243,7 +243,7 @@ fn step_point(
 ///
 /// # Errors
 /// As for each instruction on the way.
-pub(crate) fn run(
+pub(crate) fn carry_on(
     solver: &mut Solver,
     walk: &mut Walk,
     setting: &Setting<'_>,
