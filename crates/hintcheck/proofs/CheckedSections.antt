@@ -3,7 +3,7 @@ use Rattle.std.proofs.Common.{◌≡◌, ◌≢◌, ℕ, zero, suc, ◌+◌, ◌
 use Rattle.std.specs.Prelude.{slice_get}
 use Rattle.std.proofs.lemmas.List.{drop_all}
 use Rattle.tt_cert.specs.Contents.{Contents}
-use Rattle.tt_cert.specs.Rising.{IsFinished}
+use Rattle.tt_cert.specs.Ascending.{IsFinished}
 use Rattle.tt_cert_file.specs.Answers.{CountsRead, GivesSection, input_at}
 use Rattle.tt_cert_file.specs.declared.fault.DecodeFault.{DecodeFault}
 use Rattle.tt_cert_file.specs.declared.fault.DecodeFault.TheVariants as decode

@@ -3,7 +3,7 @@ use Rattle.std.proofs.Common.{◌≡◌, ℕ, zero, suc, List, [], ◌∷◌, Op
 use Rattle.tt_code.specs.Fonts.{Font, glyph_setting}
 use Rattle.tt_code.specs.Grammar.{none}
 use Rattle.tt_abs.specs.declared.state.State.{State}
-use Rattle.tt_abs.specs.Entries.{Rises}
+use Rattle.tt_abs.specs.Entries.{Ascends}
 use Rattle.tt_abs.specs.Families.{CoversAt, started}
 use Rattle.tt_abs.specs.StateFlow.{GivesState, Place, RefusesState}
 use Rattle.tt_abs.specs.States.{start_of, state_laws, state_order}
@@ -29,13 +29,13 @@ each_is_start functions P h (frame ∷ frames, offset) a at = absurd (cc)
 
 module _ (font : Font) (points contours : ℕ) (functions : List (ℕ × ℕ)) where
   -- at the start the program is at its end, where nothing is refused and nothing follows
-  start_is_good : Rises functions → IsGoodFamily (glyph_setting font points contours []) functions (start_alone functions)
-  start_is_good rises =
+  start_is_good : Ascends functions → IsGoodFamily (glyph_setting font points contours []) functions (start_alone functions)
+  start_is_good ascends =
       let s = glyph_setting font points contours [] in
       record {
         short = omega arith;
         good = record {
-          in_range = each_is_start functions (λ p a. state_order.InRange a) (start_range functions rises);
+          in_range = each_is_start functions (λ p a. state_order.InRange a) (start_range functions ascends);
           start = (start_of functions, refl, state_laws.reflexive (start_of functions));
           safe = λ p a r at. each_is_start functions (λ q b. RefusesState s q b r → ⊥) (λ x. let ends : true ≡ false = x.running in cc) p a at;
           closed = λ p a q t at. each_is_start functions (λ o b. GivesState s o b q t → CoversAt state_order (start_alone functions) q t)
@@ -54,11 +54,11 @@ module _ (font : Font) (points contours : ℕ) (functions : List (ℕ × ℕ)) w
   }
 
 -- so a glyph program without instructions has its least family
-pub least_without_instructions : (font : Font) (functions : List (ℕ × ℕ)) (id : ℕ) (g : GlyphData) → Rises functions → g.program ≡ [] → HasLeastFamily (glyph_subject font functions id g)
-least_without_instructions font functions id g rises empty = record {
+pub least_without_instructions : (font : Font) (functions : List (ℕ × ℕ)) (id : ℕ) (g : GlyphData) → Ascends functions → g.program ≡ [] → HasLeastFamily (glyph_subject font functions id g)
+least_without_instructions font functions id g ascends empty = record {
   instructions = [];
   cut = record { is_cut = record { joined = sym empty; each = tt }; structured = none };
   family = start_alone functions;
-  good = start_is_good font g.points g.contours functions rises;
+  good = start_is_good font g.points g.contours functions ascends;
   least = start_is_least font g.points g.contours functions;
 }

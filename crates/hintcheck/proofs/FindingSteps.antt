@@ -104,7 +104,7 @@ stays_known d s t (Some (o, found)) is kept = known_on d s t o found is kept
 stays_known d s t None is kept = let K : Stage → Type 0 = λ x. KeepsKnown d x in subst K (sym is.1) tt
 
 good_there : (x : Subject) (is : List Instruction) (functions : List (ℕ × ℕ)) → IsKnownAtEnd x is functions → IsGoodAtEnd x is functions
-good_there x is functions known = record { ends = good_end x is functions known.ends; rises = known.rises }
+good_there x is functions known = record { ends = good_end x is functions known.ends; ascends = known.ascends }
 
 -- what is known where least families end is known where good ones do
 pub good_of_known : (d : FontData) (s : Stage) → KeepsKnown d s → KeepsGood d s

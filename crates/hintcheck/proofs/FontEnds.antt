@@ -7,7 +7,7 @@ use Rattle.tt_code.specs.declared.limits.Limits.{Limits}
 use Rattle.tt_code.specs.Settings.{Kind, FontProgram, CvtProgram, GlyphProgram, Setting as MachineSetting}
 use Rattle.tt_abs.specs.declared.setting.Setting.{Setting}
 use Rattle.tt_abs.specs.declared.state.State.{State}
-use Rattle.tt_abs.specs.Entries.{Rises}
+use Rattle.tt_abs.specs.Entries.{Ascends}
 use Rattle.tt_abs.specs.Settings.{programs_of, setting_of}
 use Rattle.tt_abs.specs.StateFlow.{FunctionsFit, Place}
 use Rattle.tt_cert.specs.Fillings.{HasGoodFilling, IsFilling}
@@ -29,19 +29,19 @@ use Rattle.tt_cert_file.specs.declared.name.Name.TheVariants as name
 use Rattle.hintcheck.specs.declared.report.Refused.{Refused as AnyRefused}
 
 -- the functions of a good family's states ascend by number
-pub functions_rise : (s : MachineSetting) (functions : List (ℕ × ℕ)) (family : Place → Option State) (p : Place) (a : State) → IsGoodFamily s functions family → family p ≡ Some a → Rises a.functions
-functions_rise s functions family p a good at = (good.good.in_range p a at).1.1.0.rises
+pub functions_rise : (s : MachineSetting) (functions : List (ℕ × ℕ)) (family : Place → Option State) (p : Place) (a : State) → IsGoodFamily s functions family → family p ≡ Some a → Ascends a.functions
+functions_rise s functions family p a good at = (good.good.in_range p a at).1.1.0.ascends
 
 -- what an accepted program knows at its end
 pub known_at_end : (x : Subject) (is : List Instruction) (family : Place → Option State) (end : State) (functions : List (ℕ × ℕ)) → IsAccepted x is family
     → family ([], size is) ≡ Some end → functions ≡ end.functions → IsKnownAtEnd x is functions
 known_at_end x is family end functions a at e =
     let kept : a.filling ([], size is) ≡ Some end = a.fills.keeps ([], size is) end at in
-    let R : List (ℕ × ℕ) → Type 0 = λ fs. Rises fs in
+    let R : List (ℕ × ℕ) → Type 0 = λ fs. Ascends fs in
     let F : List (ℕ × ℕ) → Type 0 = λ fs. FunctionsFit (x.setting is) fs in
     record {
       ends = record { cut = a.cut; family = a.filling; good = a.good; least = a.least; end = end; at_end = kept; functions_are = sym e };
-      rises = subst R (sym e) (functions_rise (x.setting is) x.functions a.filling ([], size is) end a.good kept);
+      ascends = subst R (sym e) (functions_rise (x.setting is) x.functions a.filling ([], size is) end a.good kept);
       fits = subst F (sym e) (a.within ([], size is) end kept).functions;
     }
 
@@ -79,10 +79,10 @@ good_at_end x s family n found functions copy subject (filling, fills, good) siz
     let (end, at, same) = subst S e some in
     let x_good : IsGoodFamily (x.setting s.main.now) x.functions filling = of_subject (λ t fs. IsGoodFamily t fs filling) x s.main.now (setting_of s) s.start.now subject.setting subject.functions good in
     let kept : filling ([], size s.main.now) ≡ Some end = fills.keeps ([], size s.main.now) end (ap (λ (k : ℕ). family ([], k)) (sym size_is) ∙ at) in
-    let R : List (ℕ × ℕ) → Type 0 = λ fs. Rises fs in
+    let R : List (ℕ × ℕ) → Type 0 = λ fs. Ascends fs in
     record {
       ends = record { cut = subject.cut; family = filling; good = x_good; end = end; at_end = kept; functions_are = sym (copied ∙ same) };
-      rises = subst R (sym (copied ∙ same)) (functions_rise (x.setting s.main.now) x.functions filling ([], size s.main.now) end x_good kept);
+      ascends = subst R (sym (copied ∙ same)) (functions_rise (x.setting s.main.now) x.functions filling ([], size s.main.now) end x_good kept);
     }
 
 -- a program with a good filling has a good family

@@ -7,7 +7,7 @@ use Rattle.tt_code.specs.Fonts.{Font, font_setting, cvt_setting, glyph_setting, 
 use Rattle.tt_code.specs.Settings.{Setting}
 use Rattle.tt_code.proofs.CutLemmas.{size_is}
 use Rattle.tt_abs.specs.declared.state.State.{State}
-use Rattle.tt_abs.specs.Entries.{Rises}
+use Rattle.tt_abs.specs.Entries.{Ascends}
 use Rattle.tt_abs.specs.Ranges.{AreBytes}
 use Rattle.tt_abs.specs.Soundness.{IsSafe}
 use Rattle.tt_abs.specs.StateFlow.{Place}
@@ -51,15 +51,15 @@ cut_in_range xs is h cut = record {
 -- a good family is safe
 
 family_is_safe : (s : Setting) (functions : List (ℕ × ℕ)) (family : Place → Option State) → s.limits.stack < 2 ^ 16 → AreInRange s.main → AreInRange s.font → AreInRange s.prep
-    → Rises functions → IsGoodFamily s functions family → IsSafe s functions family
-family_is_safe s functions family depth main font prep rises good =
+    → Ascends functions → IsGoodFamily s functions family → IsSafe s functions family
+family_is_safe s functions family depth main font prep ascends good =
     good_is_safe s (record { depth = depth; main = main.bytes; font = font.bytes; prep = prep.bytes }) (record { main = main.short; font = font.short; prep = prep.short })
-    functions rises family good.good
+    functions ascends family good.good
 
 -- an accepted glyph program
 
 module _ (font : Font) (depth : font.limits.stack < 2 ^ 16) (font_range : AreInRange font.font_program) (prep_range : AreInRange font.cvt_program)
-    (known : List (ℕ × ℕ)) (rises : Rises known) (starts : AllStartWith (StartsGlyphProgram font) known) where
+    (known : List (ℕ × ℕ)) (ascends : Ascends known) (starts : AllStartWith (StartsGlyphProgram font) known) where
   glyph_is_safe : (id : ℕ) (g : GlyphData) → AreFewBytes g.program → HasGoodFamily (glyph_subject font known id g) → IsSafeGlyph font g
   glyph_is_safe id g few h =
       let s : Setting = glyph_setting font g.points g.contours h.instructions in
@@ -71,7 +71,7 @@ module _ (font : Font) (depth : font.limits.stack < 2 ^ 16) (font_range : AreInR
         is_cut = h.cut.is_cut;
         structured = h.cut.structured;
         never_faults = never_faults_from s known h.family (StartsGlyphProgram font)
-            (family_is_safe s known h.family depth (cut_in_range g.program h.instructions few h.cut.is_cut) font_range prep_range rises h.good) starts;
+            (family_is_safe s known h.family depth (cut_in_range g.program h.instructions few h.cut.is_cut) font_range prep_range ascends h.good) starts;
       }
 
 -- where none of the glyph programs is refused, each has its least family
@@ -116,12 +116,12 @@ good_families_are_safe d range h =
     let f_range = cut_in_range d.fpgm f range.fpgm font.cut.is_cut in
     let p_range = cut_in_range d.prep p range.prep cvt.cut.is_cut in
     let font_safe : IsSafe (font_setting F) [] font.family = family_is_safe (font_setting F) [] font.family range.depth f_range f_range f_range tt font.good in
-    let R : List (ℕ × ℕ) → Type 0 = λ fs. Rises fs in
-    let rises : Rises h.functions = subst R font.functions_are (functions_rise (font_setting F) [] font.family ([], size f) font.end font.good font.at_end) in
+    let R : List (ℕ × ℕ) → Type 0 = λ fs. Ascends fs in
+    let ascends : Ascends h.functions = subst R font.functions_are (functions_rise (font_setting F) [] font.family ([], size f) font.end font.good font.at_end) in
     let C : List (ℕ × ℕ) → Type 0 = λ fs. AllStartWith (StartsCvtProgram F) fs in
     let cvt_start : AllStartWith (StartsCvtProgram F) h.functions = subst C font.functions_are (cvt_starts F font.family font.end font_safe font.at_end) in
-    let cvt_safe : IsSafe (cvt_setting F) h.functions cvt.family = family_is_safe (cvt_setting F) h.functions cvt.family range.depth p_range f_range p_range rises cvt.good in
-    let known_rises : Rises h.known = subst R cvt.functions_are (functions_rise (cvt_setting F) h.functions cvt.family ([], size p) cvt.end cvt.good cvt.at_end) in
+    let cvt_safe : IsSafe (cvt_setting F) h.functions cvt.family = family_is_safe (cvt_setting F) h.functions cvt.family range.depth p_range f_range p_range ascends cvt.good in
+    let known_ascends : Ascends h.known = subst R cvt.functions_are (functions_rise (cvt_setting F) h.functions cvt.family ([], size p) cvt.end cvt.good cvt.at_end) in
     let G : List (ℕ × ℕ) → Type 0 = λ fs. AllStartWith (StartsGlyphProgram F) fs in
     let glyph_start : AllStartWith (StartsGlyphProgram F) h.known = subst G cvt.functions_are (glyph_starts F h.functions cvt.family cvt.end cvt_start cvt_safe cvt.at_end) in
     record {
@@ -133,7 +133,7 @@ good_families_are_safe d range h =
       cvt_structured = cvt.cut.structured;
       font_never_faults = never_faults_from (font_setting F) [] font.family (StartsFontProgram F) font_safe (font_starts F);
       cvt_never_faults = never_faults_from (cvt_setting F) h.functions cvt.family (StartsCvtProgram F) cvt_safe cvt_start;
-      glyphs = λ id g at. glyph_is_safe F range.depth f_range p_range h.known known_rises glyph_start id g (range.glyphs id g at) (h.glyphs id g at);
+      glyphs = λ id g at. glyph_is_safe F range.depth f_range p_range h.known known_ascends glyph_start id g (range.glyphs id g at) (h.glyphs id g at);
     }
 
 none_is_refused : (d : FontData) (f p : List Instruction) (functions known : List (ℕ × ℕ)) → EndsWith (font_subject d) f functions

@@ -13,7 +13,7 @@ use Rattle.tt_code.proofs.ProgramLemmas.{no_fault}
 use Rattle.tt_abs.specs.declared.setting.Setting.{Setting as AnySetting}
 use Rattle.tt_abs.specs.declared.state.State.{State}
 use Rattle.tt_abs.specs.Contexts.{FramesFit}
-use Rattle.tt_abs.specs.Entries.{Rises}
+use Rattle.tt_abs.specs.Entries.{Ascends}
 use Rattle.tt_abs.specs.Families.{IsBelowFamily, IsGood}
 use Rattle.tt_abs.proofs.FamilyLaws.{none_where_refused}
 use Rattle.tt_abs.specs.Ranges.{IsSettingInRange}
@@ -26,7 +26,7 @@ use Rattle.tt_abs.proofs.Soundness.{good_is_safe}
 use Rattle.tt_cert.specs.Checks.{IsOutOfMemory}
 use Rattle.tt_cert.specs.Contents.{Contents, HasContext, family_of, frames_at}
 use Rattle.tt_cert.specs.Puts.{number_at}
-use Rattle.tt_cert.specs.Rising.{IsFinished}
+use Rattle.tt_cert.specs.Ascending.{IsFinished}
 use Rattle.tt_cert.specs.Fillings.{IsFilling}
 use Rattle.tt_cert.specs.GoodFamilies.{EndsWell, IsGoodFamily}
 use Rattle.tt_cert.specs.Spots.{spot_of}
@@ -106,7 +106,7 @@ not_structured x is offset cut fault g = no_fault x.bytes is g.instructions offs
 pub record HasFlow (s : Setting) (functions : List (ℕ × ℕ)) : Type 0 where
   pub range : IsSettingInRange s
   pub short : AreProgramsShort s
-  pub rises : Rises functions
+  pub ascends : Ascends functions
   pub fits : FunctionsFit s functions
 
 -- where a program has a good family, and is refused for never ending, a family lacks the end
@@ -114,7 +114,7 @@ pub lacks_end : (s : Setting) (fs : List (ℕ × ℕ)) → HasFlow s fs → (p :
     → (family : Place → Option State) → IsGood state_order (flow_of s fs) family → (other : Place → Option State) × LacksEnd s fs other
 lacks_end s fs h p r (too_long long) e family good = absurd (cc)
 lacks_end s fs h p r (refused q a r' d refuses) e family good =
-    absurd (none_where_refused state_order (flow_of s fs) (height_of s) state_laws (state_flow_laws s h.range h.short fs h.rises h.fits) q a r' d refuses family good)
+    absurd (none_where_refused state_order (flow_of s fs) (height_of s) state_laws (state_flow_laws s h.range h.short fs h.ascends h.fits) q a r' d refuses family good)
 lacks_end s fs h p r (apart q a b da db differ) e family good = absurd (cc)
 lacks_end s fs h p r (too_many q enters) e family good = absurd (cc)
 lacks_end s fs h p r (never_ends other lacks) e family good = (other, lacks)
@@ -179,7 +179,7 @@ accepted_found x is s fs updates found c es ef h least =
       good = of_subject (λ t f. IsGoodFamily t f least.filling) x is s fs es ef least.good;
       least = of_subject (λ t f. IsLeast t f least.filling) x is s fs es ef least.least;
       within = of_subject (λ t f. (p : Place) (b : State) → least.filling p ≡ Some b → FitsLimits t b) x is s fs es ef least.within;
-      safe = of_subject (λ t f. IsSafe t f least.filling) x is s fs es ef (good_is_safe s h.range h.short fs h.rises least.filling least.good.good);
+      safe = of_subject (λ t f. IsSafe t f least.filling) x is s fs es ef (good_is_safe s h.range h.short fs h.ascends least.filling least.good.good);
     }
 
 -- and the same for all that is found with it

@@ -5,7 +5,7 @@ use Rattle.tt_code.specs.Cut.{Instruction, size}
 use Rattle.tt_code.specs.Fonts.{Font}
 use Rattle.tt_abs.specs.declared.state.State.{State}
 use Rattle.tt_cert.specs.Contents.{Contents, family_of}
-use Rattle.tt_cert.specs.Rising.{IsFinished}
+use Rattle.tt_cert.specs.Ascending.{IsFinished}
 use Rattle.tt_cert_file.specs.declared.form.Form.{Form}
 use Rattle.tt_cert_file.specs.declared.form.Form.TheVariants.{Four}
 use Rattle.tt_cert_file.specs.declared.name.Name.{Name}

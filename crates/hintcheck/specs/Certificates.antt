@@ -13,7 +13,7 @@ use Rattle.tt_cert.specs.Checks.{IsBrokenFirst, IsFillingBrokenFirst, saturated_
 use Rattle.tt_cert.specs.Contents.{Contents, family_of}
 use Rattle.tt_cert.specs.Fillings.{HasGoodFilling}
 use Rattle.tt_cert.specs.GoodFamilies.{IsGoodFamily}
-use Rattle.tt_cert.specs.Rising.{IsFinished}
+use Rattle.tt_cert.specs.Ascending.{IsFinished}
 use Rattle.tt_cert.specs.Spots.{spot_of}
 use Rattle.tt_cert_file.specs.declared.form.Form.{Form}
 use Rattle.tt_cert_file.specs.declared.form.Form.TheVariants.{One, Two, Three, Four}

@@ -2,7 +2,7 @@
 use Rattle.std.specs.Prelude.{◌≡◌, true, ℕ, List, ◌++◌, Option, Some, is_some, unwrap_or, [], Result, Ok, Err, slice_get}
 use Rattle.tt_code.specs.Cut.{Instruction, size}
 use Rattle.tt_abs.specs.declared.state.State.{State}
-use Rattle.tt_abs.specs.Entries.{Rises}
+use Rattle.tt_abs.specs.Entries.{Ascends}
 use Rattle.tt_abs.specs.StateFlow.{Place}
 use Rattle.tt_cert.specs.GoodFamilies.{IsGoodFamily}
 use Rattle.tt_font.specs.Reading.{FontData, GlyphData}
@@ -33,7 +33,7 @@ pub record EndsGood (x : Subject) (instructions : List Instruction)
 pub record IsGoodAtEnd (x : Subject) (instructions : List Instruction)
     (functions : List (ℕ × ℕ)) : Type 0 where
   pub ends : EndsGood x instructions functions
-  pub rises : Rises functions
+  pub ascends : Ascends functions
 
 -- Each program of the font has a good family: the CVT program's starts with what is known where the
 -- font program ends, and a glyph program's with what is known where the CVT program ends.

@@ -1,7 +1,7 @@
 //! One program of a font, explained.
 
 ghost use Rattle.std.specs.Prelude.{◌≡◌, ℕ, ◌+◌, ◌≤◌, ◌<◌, ◌^◌, IfErr, IfOk, OnOk, false, is_some, length, true};
-ghost use Rattle.tt_abs.specs.Entries.{Rises};
+ghost use Rattle.tt_abs.specs.Entries.{Ascends};
 ghost use Rattle.tt_abs.specs.Settings.{setting_of};
 ghost use Rattle.tt_abs.specs.StateFlow.{FunctionsFit};
 ghost use Rattle.tt_code.specs.Fonts.{font_setting};
@@ -44,7 +44,7 @@ fn explain_in<O: Sink>(
     asked: Asked,
     out: &mut O,
 ) -> Result<(), CommandFault>
-    requires rises { Rises setting.now.start.now }
+    requires ascends { Ascends setting.now.start.now }
     requires fits { FunctionsFit (setting_of setting.now) setting.now.start.now }
     requires place { AsksForInstruction setting.now asked }
     ensures failures { TellsFailure result (O.failures out.old) (O.failures out.new) }
@@ -131,7 +131,7 @@ fn tell_glyph_program<O: Sink>(
     out: &mut O,
 ) -> Result<(), CommandFault>
     requires few { length glyph.now.program.now < 2 ^ 31 }
-    requires rises { Rises common.now.functions.now }
+    requires ascends { Ascends common.now.functions.now }
     requires fits { FunctionsFit (font_setting (font_in common.now)) common.now.functions.now }
     requires place { HasPlace glyph.now.program.now asked.offset }
     ensures failures { TellsFailure result (O.failures out.old) (O.failures out.new) }
@@ -218,7 +218,7 @@ fn judge_glyph_program(
     glyph: &GlyphPart<'_>,
 ) -> Result<bool, CommandFault>
     requires few { length glyph.now.program.now < 2 ^ 31 }
-    requires rises { Rises common.now.functions.now }
+    requires ascends { Ascends common.now.functions.now }
     requires fits { FunctionsFit (font_setting (font_in common.now)) common.now.functions.now }
     ensures judged { (id : ℕ) → IfOk result (IsJudged (glyph_in common.now id glyph.now)) }
     ensures faults { IfErr result (λ fault. fault ≡ CommandFault.OutOfMemory) }

@@ -1,7 +1,7 @@
 //! The verdict on a font.
 
 ghost use Rattle.std.specs.Prelude.{◌≡◌, ℕ, ◌<◌, ◌^◌, [], IfErr, IfOk, length};
-ghost use Rattle.tt_abs.specs.Entries.{Rises};
+ghost use Rattle.tt_abs.specs.Entries.{Ascends};
 ghost use Rattle.tt_abs.specs.Settings.{programs_of, setting_of};
 ghost use Rattle.tt_abs.specs.StateFlow.{FunctionsFit};
 ghost use Rattle.tt_cert.specs.Budgets.{Spends};
@@ -38,7 +38,7 @@ fn find_to_end(
 ) -> Result<(Vec<(u16, u32)>, Found), ProgramFault>
     requires subject { HasSubject setting.now }
     requires ends { ComesToEnd (setting_of setting.now).kind }
-    requires rises { Rises setting.now.start.now }
+    requires ascends { Ascends setting.now.start.now }
     requires fits { FunctionsFit (setting_of setting.now) setting.now.start.now }
     ensures known { (x : Subject) → IsSubjectOf x setting.now
         → IfOk result (λ e. IsKnownAtEnd x setting.now.main.now e.0.items) }
@@ -153,7 +153,7 @@ pub(crate) fn find_glyph_program(
     budget: &mut Budget,
 ) -> Result<Found, ProgramFault>
     requires few { length glyph.now.program.now < 2 ^ 31 }
-    requires rises { Rises common.now.functions.now }
+    requires ascends { Ascends common.now.functions.now }
     requires fits { FunctionsFit (font_setting (font_in common.now)) common.now.functions.now }
     ensures least { (id : ℕ)
         → IfOk result (λ _. HasLeastFamily (glyph_in common.now id glyph.now)) }
@@ -185,7 +185,7 @@ pub(crate) fn judge_glyph(
     budget: &mut Budget,
 ) -> Result<(), ProgramFault>
     requires few { length glyph.now.program.now < 2 ^ 31 }
-    requires rises { Rises common.now.functions.now }
+    requires ascends { Ascends common.now.functions.now }
     requires fits { FunctionsFit (font_setting (font_in common.now)) common.now.functions.now }
     ensures least { (id : ℕ)
         → IfOk result (λ _. HasLeastFamily (glyph_in common.now id glyph.now)) }
@@ -213,7 +213,7 @@ fn refused_glyphs(
     budget: &mut Budget,
 ) -> Result<Vec<Refused>, AllocError>
     requires range { IsFontInRange font.now }
-    requires rises { Rises common.now.functions.now }
+    requires ascends { Ascends common.now.functions.now }
     requires fits { FunctionsFit (font_setting (font_in common.now)) common.now.functions.now }
     ensures refused { IfOk result (λ refused. AreRefused (font_in common.now)
         common.now.functions.now 0 font.now.glyphs refused.items) }

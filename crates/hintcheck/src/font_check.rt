@@ -1,7 +1,7 @@
 //! The check of a font by its certificate: each program by the family that its section lists.
 
 ghost use Rattle.std.specs.Prelude.{◌≡◌, ℕ, ◌+◌, ◌<◌, ◌^◌, [], IfErr, IfOk, Ok, Err, OnOk, length};
-ghost use Rattle.tt_abs.specs.Entries.{Rises};
+ghost use Rattle.tt_abs.specs.Entries.{Ascends};
 ghost use Rattle.tt_abs.specs.Settings.{setting_of};
 ghost use Rattle.tt_cert.specs.Budgets.{Spends};
 ghost use Rattle.tt_cert.specs.Checks.{IsOutOfMemory, Names};
@@ -129,7 +129,7 @@ fn check_section(
     form: Form,
     budget: &mut Budget,
 ) -> Result<(), ProgramFault>
-    requires { Rises setting.now.start.now }
+    requires { Ascends setting.now.start.now }
     ensures good { OnOk result (IsFilledIn setting.now certificate.now) }
     ensures listing { OnOk result (IsListedIn form setting.now certificate.now) }
     ensures first { IfErr result (Names (IsListingBrokenFirst form (setting_of setting.now)
@@ -156,7 +156,7 @@ fn certified_functions(
 ) -> Result<Vec<(u16, u32)>, ProgramFault>
     requires subject { HasSubject setting.now }
     requires ends { ComesToEnd (setting_of setting.now).kind }
-    requires rises { Rises setting.now.start.now }
+    requires ascends { Ascends setting.now.start.now }
     ensures known { (x : Subject) → IsSubjectOf x setting.now
         → IfOk result (λ functions. IsGoodAtEnd x setting.now.main.now functions.items) }
     ensures passed { (x : Subject) → IsSubjectOf x setting.now → IfOk result
@@ -207,7 +207,7 @@ pub(crate) fn check_cvt_program<'a>(
     budget: &mut Budget,
 ) -> Result<Ended<'a>, ProgramFault>
     requires range { IsFontInRange font.now }
-    requires rises { Rises fpgm.now.functions.items }
+    requires ascends { Ascends fpgm.now.functions.items }
     ensures known { IfOk result (IsGoodEnd (cvt_after font.now fpgm.now)) }
     ensures passed { IfOk result (IsPassedEnd form (cvt_after font.now fpgm.now) certificate.now) }
     ensures refused { IfErr result
@@ -233,7 +233,7 @@ pub(crate) fn check_glyph_program(
     budget: &mut Budget,
 ) -> Result<(), ProgramFault>
     requires few { length glyph.now.program.now < 2 ^ 31 }
-    requires rises { Rises common.now.functions.now }
+    requires ascends { Ascends common.now.functions.now }
     ensures good { (id : ℕ) → OnOk result (HasGoodFamily (glyph_in common.now id glyph.now)) }
     ensures passed { (id : ℕ)
         → OnOk result (IsPassed form (glyph_in common.now id glyph.now) certificate.now) }

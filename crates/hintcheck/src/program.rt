@@ -5,7 +5,7 @@ ghost use Rattle.std.specs.Prelude.{◌≡◌, ◌⊎◌, ℕ, ◌<◌, ◌^◌,
 ghost use Rattle.tt_code.specs.Cut.{Instruction, IsCut};
 ghost use Rattle.tt_code.specs.Grammar.{IsStructured};
 ghost use Rattle.tt_code.specs.Settings.{GlyphProgram};
-ghost use Rattle.tt_abs.specs.Entries.{Rises};
+ghost use Rattle.tt_abs.specs.Entries.{Ascends};
 ghost use Rattle.tt_abs.specs.Settings.{setting_of};
 ghost use Rattle.tt_abs.specs.StateFlow.{FunctionsFit};
 ghost use Rattle.tt_cert.specs.Budgets.{Spends};
@@ -119,7 +119,7 @@ fn checked(
     found: Found,
     budget: &mut Budget,
 ) -> Result<Found, ProgramFault>
-    requires { Rises setting.now.start.now }
+    requires { Ascends setting.now.start.now }
     ensures same { IfOk result (λ accepted. accepted ≡ found) }
     // The check accepts it: this relies on no promise of the finder's.
     ensures good { OnOk result (IsFilledIn setting.now found.certificate) }
@@ -162,7 +162,7 @@ fn find(
     search: Search,
     budget: &mut Budget,
 ) -> Result<Found, ProgramFault>
-    requires rises { Rises setting.now.start.now }
+    requires ascends { Ascends setting.now.start.now }
     requires fits { FunctionsFit (setting_of setting.now) setting.now.start.now }
     ensures filling { IfOk result (λ found. HasLeastFilling (setting_of setting.now)
         setting.now.start.now found.updates (family_of found.certificate)) }
@@ -198,7 +198,7 @@ pub(crate) fn find_and_check(
     search: Search,
     budget: &mut Budget,
 ) -> Result<Found, ProgramFault>
-    requires rises { Rises setting.now.start.now }
+    requires ascends { Ascends setting.now.start.now }
     requires fits { FunctionsFit (setting_of setting.now) setting.now.start.now }
     ensures accepted { (x : Subject) → IsSubjectOf x setting.now → IfOk result
         (λ found. IsAccepted x setting.now.main.now (family_of found.certificate)) }

@@ -2,7 +2,7 @@
 //! a session holds one certificate at a time.
 
 ghost use Rattle.std.specs.Prelude.{◌≡◌, ◌≢◌, ◌+◌, ◌<◌, ◌↔◌, IfErr, IfOk, IsTrue, None, Ok, Err, Option, Some, length};
-ghost use Rattle.tt_abs.specs.Entries.{Rises};
+ghost use Rattle.tt_abs.specs.Entries.{Ascends};
 ghost use Rattle.tt_cert.specs.Budgets.{Spends};
 ghost use Rattle.tt_stream.specs.Reads.{ConsumesBeginning};
 ghost use Rattle.hintcheck.specs.Bounds.{IsNoFaultOfAFont, TellsBudgetOfCheck, TellsBudgetOfSearch};
@@ -204,7 +204,7 @@ fn check_second<'a, S: Source>(
     budget: &mut Budget,
 ) -> Result<CheckedStep<'a>, CheckFontFault>
     requires range { IsFontInRange font.now }
-    requires rises { Rises fpgm.functions.items }
+    requires ascends { Ascends fpgm.functions.items }
     ensures sound { IfOk result (IsSoundStep font.now (after_font_program fpgm.entry)) }
     ensures exact { StepsBySection font.now (after_font_program fpgm.entry)
         progress.old (S.remaining source.old) progress.new (S.remaining source.new) result }
@@ -245,7 +245,7 @@ fn check_glyph<S: Source>(
     budget: &mut Budget,
 ) -> Result<Outcome, CheckFontFault>
     requires range { IsFontInRange font.now }
-    requires rises { Rises prep.now.functions.items }
+    requires ascends { Ascends prep.now.functions.items }
     requires there { id < length font.now.glyphs }
     ensures sound { IfOk result (IsSoundGlyph font.now fpgm.now prep.now id) }
     ensures exact { GlyphBySection font.now fpgm.now prep.now id

@@ -1,7 +1,7 @@
 //! Explains a program that could be cut and is structured.
 
 ghost use Rattle.std.specs.Prelude.{◌≡◌, ◌≢◌, ◌↔◌, Err, IsTrue, Ok, OnOk};
-ghost use Rattle.tt_abs.specs.Entries.{Rises};
+ghost use Rattle.tt_abs.specs.Entries.{Ascends};
 ghost use Rattle.tt_abs.specs.Settings.{setting_of};
 ghost use Rattle.tt_abs.specs.StateFlow.{FunctionsFit};
 ghost use Rattle.hintcheck_explain.specs.Faults.{AsksForInstruction, HasLeast, HasRefusal, TellsFailure};
@@ -108,7 +108,7 @@ pub fn explain<O: Sink>(
     asked: Asked,
     out: &mut O,
 ) -> Result<Explained, ExplainFault>
-    requires rises { Rises setting.now.start.now }
+    requires ascends { Ascends setting.now.start.now }
     requires fits { FunctionsFit (setting_of setting.now) setting.now.start.now }
     ensures accepted { result ≡ Ok Explained.Accepted → HasLeast setting.now }
     ensures refused { result ≡ Ok Explained.Refused → HasRefusal setting.now }

@@ -1,6 +1,6 @@
 //! Calls on one program.
 
-ghost use Rattle.tt_abs.specs.Entries.{Rises};
+ghost use Rattle.tt_abs.specs.Entries.{Ascends};
 ghost use Rattle.tt_abs.specs.Settings.{setting_of};
 ghost use Rattle.tt_abs.specs.StateFlow.{FunctionsFit};
 
@@ -117,7 +117,7 @@ fn told_of_check(
     example: &Example<'_>,
     is_full: bool,
 ) -> Told
-    requires { Rises setting.now.start.now }
+    requires { Ascends setting.now.start.now }
 {
     let Some(section) = section_of(heap.alloc, example) else {
         return Told::Wrong;
@@ -136,7 +136,7 @@ fn told_of_check(
 }
 
 fn told_of_search(heap: &mut Heap, setting: &Setting<'_>) -> Told
-    requires rises { Rises setting.now.start.now }
+    requires ascends { Ascends setting.now.start.now }
     requires fits { FunctionsFit (setting_of setting.now) setting.now.start.now }
 {
     heap.take_room();
@@ -150,7 +150,7 @@ fn told_of_search(heap: &mut Heap, setting: &Setting<'_>) -> Told
 
 /// Returns what a call tells in a setting.
 fn told_in(heap: &mut Heap, call: ProgramCall, setting: &Setting<'_>, example: &Example<'_>) -> Told
-    requires rises { Rises setting.now.start.now }
+    requires ascends { Ascends setting.now.start.now }
     requires fits { FunctionsFit (setting_of setting.now) setting.now.start.now }
 {
     match call {

@@ -1,7 +1,7 @@
 //! What the tests share: states, builders that are filled from tables, and what is in a family.
 
 ghost use Rattle.std.specs.Prelude.{IfOk};
-ghost use Rattle.tt_abs.specs.Entries.{Rises};
+ghost use Rattle.tt_abs.specs.Entries.{Ascends};
 ghost use Rattle.tt_abs.specs.States.{state_order};
 
 use std::alloc::{AllocError, Global};
@@ -52,7 +52,7 @@ pub fn graphics_of(state: &State) -> Graphics<Cell, ZoneCell> {
 /// Returns the state at a start with these functions, with these numbers on the stack, the bottom
 /// first; eight of them at most.
 pub fn state_of(alloc: Global, functions: &[(u16, u32)], stack: &[i32]) -> Result<State, AllocError>
-    requires { Rises functions.now }
+    requires { Ascends functions.now }
     ensures { IfOk result (λ state. state_order.InRange state) }
 {
     let mut state = State::start(alloc, functions)?;
@@ -104,7 +104,7 @@ pub fn put(
     functions: &[(u16, u32)],
     row: Row<'_>,
 ) -> Result<Joined, JoinFault>
-    requires { Rises functions.now }
+    requires { Ascends functions.now }
 {
     match state_of(alloc, functions, row.2) {
         Ok(state) => join(builder, row.0, row.1, &state),
@@ -120,7 +120,7 @@ pub fn put_all(
     functions: &[(u16, u32)],
     rows: &[Row<'_>],
 ) -> bool
-    requires { Rises functions.now }
+    requires { Ascends functions.now }
 {
     for row in rows {
         if put(alloc, builder, functions, *row).is_err() {
@@ -168,7 +168,7 @@ pub fn certificate(
     functions: &[(u16, u32)],
     rows: &[Row<'_>],
 ) -> Option<Certificate>
-    requires { Rises functions.now }
+    requires { Ascends functions.now }
 {
     let mut builder = Builder::new(alloc);
     let is_filled = add_all(&mut builder, contexts)

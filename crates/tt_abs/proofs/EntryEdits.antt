@@ -7,7 +7,7 @@ use Rattle.std.specs.Ordering.{nat_cmp, ordering_index}
 use Rattle.std.specs.declared.cmp.Ordering.TheVariants.{Less, Equal, Greater}
 use Rattle.std.proofs.lemmas.Bool.{cases_order, eq-eqb, ne_eqb, lt-ltb, le-ltb}
 use Rattle.std.proofs.lemmas.Bool.Decides.{nat_tests}
-use Rattle.tt_abs.specs.Entries.{Rises, listed, with_entry, without_entry}
+use Rattle.tt_abs.specs.Entries.{Ascends, listed, with_entry, without_entry}
 use Rattle.tt_abs.specs.EntryLists.{IsAt, IsGap}
 use Rattle.tt_abs.specs.EntryLaws.{listed-here, listed-there, all-above, none-below}
 
@@ -28,7 +28,7 @@ all-at m [] i d h lt = absurd (omega arith)
 all-at m (x ∷ xs) zero d h lt = h.0
 all-at m (x ∷ xs) (suc i) d h lt = all-at m xs i d h.1 (omega arith)
 
-pub at-from_search : {V : Type 0} (n : ℕ) (xs : List (ℕ × V)) (i : ℕ) → Rises xs → i < length xs → ((d : ℕ × V) → (get_or xs i d).0 ≡ n) → IsAt n xs i
+pub at-from_search : {V : Type 0} (n : ℕ) (xs : List (ℕ × V)) (i : ℕ) → Ascends xs → i < length xs → ((d : ℕ × V) → (get_or xs i d).0 ≡ n) → IsAt n xs i
 at-from_search n [] i r lt h = absurd (omega arith)
 at-from_search n (x ∷ xs) zero r lt h = h x
 at-from_search n (x ∷ xs) (suc i) r lt h =
@@ -45,18 +45,18 @@ gap-from_search n [] (suc i) le below above = omega arith
 gap-from_search n (x ∷ xs) (suc i) le below above =
     (below 0 x (omega arith), gap-from_search n xs i (omega arith) (λ k d lt. below (suc k) d (omega arith)) (λ k d low lt. above (suc k) d (omega arith) (omega arith)))
 
-pub numbers-rise : {V : Type 0} (xs : List (ℕ × V)) → Rises xs → (i j : ℕ) (d : ℕ × V) → i ≤ j → j < length xs → (get_or xs i d).0 ≤ (get_or xs j d).0
+pub numbers-rise : {V : Type 0} (xs : List (ℕ × V)) → Ascends xs → (i j : ℕ) (d : ℕ × V) → i ≤ j → j < length xs → (get_or xs i d).0 ≤ (get_or xs j d).0
 numbers-rise [] r i j d le lt = absurd (omega arith)
 numbers-rise (x ∷ xs) r zero zero d le lt = omega arith
 numbers-rise (x ∷ xs) r zero (suc j) d le lt = let a = all-at x.0 xs j d r.0 (omega arith) in omega arith
 numbers-rise (x ∷ xs) r (suc i) zero d le lt = absurd (omega arith)
 numbers-rise (x ∷ xs) r (suc i) (suc j) d le lt = numbers-rise xs r.1 i j d (omega arith) (omega arith)
 
-index-rises : (a b n : ℕ) → a ≤ b → ordering_index (nat_cmp a n) ≤ ordering_index (nat_cmp b n)
-index-rises a b n le = grind (arith, nat_tests)
+index-ascends : (a b n : ℕ) → a ≤ b → ordering_index (nat_cmp a n) ≤ ordering_index (nat_cmp b n)
+index-ascends a b n le = grind (arith, nat_tests)
 
-pub searchable : {V : Type 0} (n : ℕ) (xs : List (ℕ × V)) → Rises xs → IsNonDecreasingBy (λ e. ordering_index (nat_cmp e.0 n)) xs
-searchable n xs r i j d le lt = index-rises (get_or xs i d).0 (get_or xs j d).0 n (numbers-rise xs r i j d le lt)
+pub searchable : {V : Type 0} (n : ℕ) (xs : List (ℕ × V)) → Ascends xs → IsNonDecreasingBy (λ e. ordering_index (nat_cmp e.0 n)) xs
+searchable n xs r i j d le lt = index-ascends (get_or xs i d).0 (get_or xs j d).0 n (numbers-rise xs r i j d le lt)
 
 pub less-than : (a n : ℕ) → nat_cmp a n ≡ Less → a < n
 less-than a n h = grind (arith, nat_tests)
@@ -67,11 +67,11 @@ equal-to a n h = grind (arith, nat_tests)
 pub greater-than : (a n : ℕ) → nat_cmp a n ≡ Greater → n < a
 greater-than a n h = grind (arith, nat_tests)
 
-pub place-from_search : {V : Type 0} (n : ℕ) (xs : List (ℕ × V)) (r : Result ℕ ℕ) → Rises xs → IsSearchInRange r (length xs) → IsBinarySearchResult (λ e. nat_cmp e.0 n) xs r
+pub place-from_search : {V : Type 0} (n : ℕ) (xs : List (ℕ × V)) (r : Result ℕ ℕ) → Ascends xs → IsSearchInRange r (length xs) → IsBinarySearchResult (λ e. nat_cmp e.0 n) xs r
     → MatchResult r (IsAt n xs) (IsGap n xs)
-place-from_search n xs (Ok i) rises range is = at-from_search n xs i rises range (λ d. equal-to (get_or xs i d).0 n (is d))
-place-from_search n xs (Err i) rises range is =
-    let point = is (searchable n xs rises) in
+place-from_search n xs (Ok i) ascends range is = at-from_search n xs i ascends range (λ d. equal-to (get_or xs i d).0 n (is d))
+place-from_search n xs (Err i) ascends range is =
+    let point = is (searchable n xs ascends) in
     gap-from_search n xs i range
     (λ k d lt. less-than (get_or xs k d).0 n (point.0 k d (omega arith) lt))
     (λ k d low lt. greater-than (get_or xs k d).0 n (point.1 k d low lt))
@@ -114,23 +114,23 @@ all-with {V} m n v (x ∷ xs) lt h =
       ]
     ]
 
-pub Rises-with : {V : Type 0} (n : ℕ) (v : V) (xs : List (ℕ × V)) → Rises xs → Rises (with_entry n v xs)
-Rises-with n v [] r = (tt, tt)
-Rises-with {V} n v (x ∷ xs) r =
-    let P : List (ℕ × V) → Type 0 = λ es. Rises es in
+pub Ascends-with : {V : Type 0} (n : ℕ) (v : V) (xs : List (ℕ × V)) → Ascends xs → Ascends (with_entry n v xs)
+Ascends-with n v [] r = (tt, tt)
+Ascends-with {V} n v (x ∷ xs) r =
+    let P : List (ℕ × V) → Type 0 = λ es. Ascends es in
     elim (cases_order x.0 n) [
       | inl same ↦ let A : ℕ → Type 0 = λ m. AllByRecursion (λ e. m < e.0) xs in
           subst P (sym (with-instead n v x xs same)) (subst A same r.0, r.1)
       | inr other ↦ elim other [
-        | inl less ↦ subst P (sym (with-behind n v x xs less)) (all-with x.0 n v xs less r.0, Rises-with n v xs r.1)
+        | inl less ↦ subst P (sym (with-behind n v x xs less)) (all-with x.0 n v xs less r.0, Ascends-with n v xs r.1)
         | inr more ↦ subst P (sym (with-first n v x xs more)) ((more, all-above n x.0 xs more r.0), r)
       ]
     ]
 
 -- after a put that may be refused
-pub Rises-put : {V A E : Type 0} (n : ℕ) (v : V) (old new : List (ℕ × V)) (r : Result A E) → Rises old → OnOk r (new ≡ with_entry n v old) → OnErr r (new ≡ old) → Rises new
-Rises-put {V} n v old new (Ok x) rises ok err = let P : List (ℕ × V) → Type 0 = λ es. Rises es in subst P (sym ok) (Rises-with n v old rises)
-Rises-put {V} n v old new (Err x) rises ok err = let P : List (ℕ × V) → Type 0 = λ es. Rises es in subst P (sym err) rises
+pub Ascends-put : {V A E : Type 0} (n : ℕ) (v : V) (old new : List (ℕ × V)) (r : Result A E) → Ascends old → OnOk r (new ≡ with_entry n v old) → OnErr r (new ≡ old) → Ascends new
+Ascends-put {V} n v old new (Ok x) ascends ok err = let P : List (ℕ × V) → Type 0 = λ es. Ascends es in subst P (sym ok) (Ascends-with n v old ascends)
+Ascends-put {V} n v old new (Err x) ascends ok err = let P : List (ℕ × V) → Type 0 = λ es. Ascends es in subst P (sym err) ascends
 
 -- An entry taken away.
 
@@ -149,7 +149,7 @@ without-gap n xs zero h = without-below n xs h
 without-gap n [] (suc i) h = absurd h
 without-gap n (x ∷ xs) (suc i) h = without-there n x xs (λ q. let a = h.0 in omega arith) ∙ ap (λ r. x ∷ r) (without-gap n xs i h.1)
 
-pub without-at : {V : Type 0} (n : ℕ) (xs : List (ℕ × V)) (i : ℕ) → Rises xs → IsAt n xs i → without_entry n xs ≡ remove xs i
+pub without-at : {V : Type 0} (n : ℕ) (xs : List (ℕ × V)) (i : ℕ) → Ascends xs → IsAt n xs i → without_entry n xs ≡ remove xs i
 without-at n [] i r h = absurd h
 without-at {V} n (x ∷ xs) zero r h =
     let A : ℕ → Type 0 = λ m. AllByRecursion (λ e. m < e.0) xs in

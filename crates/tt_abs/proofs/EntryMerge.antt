@@ -4,7 +4,7 @@ use Rattle.std.specs.Prelude.{Option}
 use Rattle.std.specs.List.{AllByRecursion}
 use Rattle.std.proofs.lemmas.Bool.{cases_eq, eq-eqb, ne_eqb, ltb-true, ltb-false}
 use Rattle.std.proofs.lemmas.List.{take_more_set, drop-set-lt}
-use Rattle.tt_abs.specs.Entries.{Rises, listed}
+use Rattle.tt_abs.specs.Entries.{Ascends, listed}
 use Rattle.tt_abs.specs.EntryLists.{holds_value, common_entries, entries_from, begins_with_entry}
 use Rattle.tt_abs.specs.EntryLaws.{listed-here, listed-there, all-above, none-below}
 
@@ -18,15 +18,15 @@ pub listed-from : {V : Type 0} (n : ℕ) (es : List (ℕ × V)) (k : ℕ) → n 
 listed-from n [] k le = refl
 listed-from n (x ∷ xs) k le = from_step n x xs k (nat_lt x.0 n) refl le (listed-from n xs k le)
 
-rises_from_step : {V : Type 0} (n : ℕ) (x : ℕ × V) (xs : List (ℕ × V)) (b : Bool) → Rises (x ∷ xs) → Rises (entries_from n xs) → Rises (if b then entries_from n xs else x ∷ xs)
-rises_from_step n x xs true r ih = ih
-rises_from_step n x xs false r ih = r
+ascends_from_step : {V : Type 0} (n : ℕ) (x : ℕ × V) (xs : List (ℕ × V)) (b : Bool) → Ascends (x ∷ xs) → Ascends (entries_from n xs) → Ascends (if b then entries_from n xs else x ∷ xs)
+ascends_from_step n x xs true r ih = ih
+ascends_from_step n x xs false r ih = r
 
-pub Rises-from : {V : Type 0} (n : ℕ) (es : List (ℕ × V)) → Rises es → Rises (entries_from n es)
-Rises-from n [] r = tt
-Rises-from n (x ∷ xs) r = rises_from_step n x xs (nat_lt x.0 n) r (Rises-from n xs r.1)
+pub Ascends-from : {V : Type 0} (n : ℕ) (es : List (ℕ × V)) → Ascends es → Ascends (entries_from n es)
+Ascends-from n [] r = tt
+Ascends-from n (x ∷ xs) r = ascends_from_step n x xs (nat_lt x.0 n) r (Ascends-from n xs r.1)
 
-begins_step : {V : Type 0} (same : V → V → Bool) (e x : ℕ × V) (xs : List (ℕ × V)) (b : Bool) → nat_lt x.0 e.0 ≡ b → Rises (x ∷ xs)
+begins_step : {V : Type 0} (same : V → V → Bool) (e x : ℕ × V) (xs : List (ℕ × V)) (b : Bool) → nat_lt x.0 e.0 ≡ b → Ascends (x ∷ xs)
     → begins_with_entry same e (entries_from e.0 xs) ≡ holds_value same (listed xs e.0) e.1
     → begins_with_entry same e (if b then entries_from e.0 xs else x ∷ xs) ≡ holds_value same (listed (x ∷ xs) e.0) e.1
 begins_step {V} same e x xs true is r ih =
@@ -42,7 +42,7 @@ begins_step {V} same e x xs false is r ih = elim (cases_eq x.0 e.0) [
 ]
 
 -- the entry is in the list where the entries from its number on begin with it
-pub begins-listed : {V : Type 0} (same : V → V → Bool) (e : ℕ × V) (es : List (ℕ × V)) → Rises es → begins_with_entry same e (entries_from e.0 es) ≡ holds_value same (listed es e.0) e.1
+pub begins-listed : {V : Type 0} (same : V → V → Bool) (e : ℕ × V) (es : List (ℕ × V)) → Ascends es → begins_with_entry same e (entries_from e.0 es) ≡ holds_value same (listed es e.0) e.1
 begins-listed same e [] r = refl
 begins-listed same e (x ∷ xs) r = begins_step same e x xs (nat_lt x.0 e.0) refl r (begins-listed same e xs r.1)
 
@@ -55,7 +55,7 @@ common-from {V} same n (x ∷ xs) b above =
     ∙ ap (λ (es : List (ℕ × V)). cond (holds_value same (listed b x.0) x.1) (x ∷ es) es) (common-from same n xs b above.1)
 
 -- one entry more
-pub common-next : {V : Type 0} (same : V → V → Bool) (x : ℕ × V) (xs b : List (ℕ × V)) → Rises (x ∷ xs) → Rises b → (r : Bool)
+pub common-next : {V : Type 0} (same : V → V → Bool) (x : ℕ × V) (xs b : List (ℕ × V)) → Ascends (x ∷ xs) → Ascends b → (r : Bool)
     → r ≡ begins_with_entry same x (entries_from x.0 b)
     → common_entries same (x ∷ xs) b ≡ cond r (x ∷ common_entries same xs (entries_from x.0 b)) (common_entries same xs (entries_from x.0 b))
 common-next {V} same x xs b ra rb r is =
@@ -67,8 +67,8 @@ common-next {V} same x xs b ra rb r is =
 -- The common entries are those before kept, and those that are still to be found from at on.
 pub record Gathered {V : Type 0} (same : V → V → Bool) (whole mine rest : List (ℕ × V)) (kept at : ℕ) : Type 0 where
   pub few : kept ≤ at
-  pub mine_rise : Rises (drop at mine)
-  pub rest_rises : Rises rest
+  pub mine_rise : Ascends (drop at mine)
+  pub rest_ascends : Ascends rest
   pub common : take kept mine ++ common_entries same (drop at mine) rest ≡ whole
 
 front : {X : Type 0} (l : List X) (j : ℕ) (x : X) → j < length l → x ≡ get_or l j x → drop j l ≡ x ∷ drop (j + 1) l
@@ -78,22 +78,22 @@ next_common : {V : Type 0} (same : V → V → Bool) (whole mine rest : List (�
     → (r : Bool) → r ≡ begins_with_entry same e (entries_from e.0 rest)
     → take kept mine ++ cond r (e ∷ common_entries same (drop (at + 1) mine) (entries_from e.0 rest)) (common_entries same (drop (at + 1) mine) (entries_from e.0 rest)) ≡ whole
 next_common {V} same whole mine rest kept at e lt is held r begins =
-    let R : List (ℕ × V) → Type 0 = λ es. Rises es in
-    let next = common-next same e (drop (at + 1) mine) rest (subst R (front mine at e lt is) held.mine_rise) held.rest_rises r begins in
+    let R : List (ℕ × V) → Type 0 = λ es. Ascends es in
+    let next = common-next same e (drop (at + 1) mine) rest (subst R (front mine at e lt is) held.mine_rise) held.rest_ascends r begins in
     ap (λ (es : List (ℕ × V)). take kept mine ++ es) (sym next ∙ ap (λ (es : List (ℕ × V)). common_entries same es rest) (sym (front mine at e lt is))) ∙ held.common
 
 kept_step : {V : Type 0} (same : V → V → Bool) (whole mine rest : List (ℕ × V)) (kept at : ℕ) (e : ℕ × V) → at < length mine → e ≡ get_or mine at e → Gathered same whole mine rest kept at
     → true ≡ begins_with_entry same e (entries_from e.0 rest) → Gathered same whole (set mine kept e) (entries_from e.0 rest) (kept + 1) (at + 1)
 kept_step {V} same whole mine rest kept at e lt is held begins =
     let few : kept ≤ at = held.few in
-    let R : List (ℕ × V) → Type 0 = λ es. Rises es in
+    let R : List (ℕ × V) → Type 0 = λ es. Ascends es in
     let from : List (ℕ × V) = entries_from e.0 rest in
     let taken : take (kept + 1) (set mine kept e) ≡ take kept mine ++ (e ∷ []) = take_more_set mine kept e (omega arith) in
     let dropped : drop (at + 1) (set mine kept e) ≡ drop (at + 1) mine = drop-set-lt (at + 1) mine kept e (omega arith) in
     record {
       few = omega arith;
       mine_rise = subst R (sym dropped) (subst R (front mine at e lt is) held.mine_rise).1;
-      rest_rises = Rises-from e.0 rest held.rest_rises;
+      rest_ascends = Ascends-from e.0 rest held.rest_ascends;
       common = ap (λ (es : List (ℕ × V)). es ++ common_entries same (drop (at + 1) (set mine kept e)) from) taken
           ∙ ap (λ (es : List (ℕ × V)). (take kept mine ++ (e ∷ [])) ++ common_entries same es from) dropped
           ∙ append_assoc (take kept mine) (e ∷ []) (common_entries same (drop (at + 1) mine) from)
@@ -118,13 +118,13 @@ pub gather-left : {V : Type 0} (same : V → V → Bool) (whole mine rest new fr
 gather-left {V} same whole mine rest new from kept at more e r lt is held from_is begins answer new_is more_is =
     let found : false ≡ begins_with_entry same e (entries_from e.0 rest) = sym answer ∙ begins ∙ ap (begins_with_entry same e) from_is in
     let few : kept ≤ at = held.few in
-    let R : List (ℕ × V) → Type 0 = λ es. Rises es in
+    let R : List (ℕ × V) → Type 0 = λ es. Ascends es in
     let A : List (ℕ × V) → Type 0 = λ es. Gathered same whole es from more (at + 1) in
     let B : List (ℕ × V) → Type 0 = λ es. Gathered same whole mine es more (at + 1) in
     let C : ℕ → Type 0 = λ n. Gathered same whole mine (entries_from e.0 rest) n (at + 1) in
     subst A (sym new_is) (subst B (sym from_is) (subst C (sym more_is) (record {
       few = omega arith;
       mine_rise = (subst R (front mine at e lt is) held.mine_rise).1;
-      rest_rises = Rises-from e.0 rest held.rest_rises;
+      rest_ascends = Ascends-from e.0 rest held.rest_ascends;
       common = next_common same whole mine rest kept at e lt is held false found;
     })))

@@ -10,7 +10,7 @@ use Rattle.tt_abs.specs.declared.state.State.{State}
 use Rattle.tt_abs.specs.Cells.{Abstract, CoversState}
 use Rattle.tt_abs.specs.Contexts.{FramesFit}
 use Rattle.tt_abs.specs.Covers.{Gives, StandsFor}
-use Rattle.tt_abs.specs.Entries.{Rises}
+use Rattle.tt_abs.specs.Entries.{Ascends}
 use Rattle.tt_abs.specs.Flows.{FlowLaws}
 use Rattle.tt_abs.specs.Ranges.{IsSettingInRange}
 use Rattle.tt_abs.specs.StateFlow.{Place, IsPlace, CallsFit, FunctionsFit, FitsLimits, RefusesState, GivesState, flow_of, height_of, AreProgramsShort}
@@ -26,9 +26,9 @@ use Rattle.tt_abs.proofs.Offsets.{NextFits, offsets_fit}
 use Rattle.tt_abs.proofs.StateCoverage.{state_covers, state_from_coverage}
 use Rattle.tt_abs.proofs.StateParts.{one_of_all, stack_to, state_in_range, one_state, next_state, next_fits}
 
-pub start_range : (functions : List (ℕ × ℕ)) → Rises functions → state_order.InRange (start_of functions)
-start_range functions rises =
-    state_in_range (start_of functions) rises tt (record {
+pub start_range : (functions : List (ℕ × ℕ)) → Ascends functions → state_order.InRange (start_of functions)
+start_range functions ascends =
+    state_in_range (start_of functions) ascends tt (record {
       stack = tt;
       registers = record { rp0 = zero_is_number; rp1 = zero_is_number; rp2 = zero_is_number; loop_number = one_is_number; storage = λ i. tt };
     })
@@ -129,10 +129,10 @@ module _ (s : Setting) (setting : IsSettingInRange s) (short : AreProgramsShort 
       go (Err r) e = absurd (free r (record { running = g.running; refused = e }))
       go (Ok os) e = let (ns, is, under) = below_at p a b os point ra rb below e in given_covered p a b q t rb g os e ns is under
 
-  pub state_flow_laws : (functions : List (ℕ × ℕ)) → Rises functions → FunctionsFit s functions → FlowLaws state_order (flow_of s functions) (height_of s)
-  state_flow_laws functions rises fits = record {
+  pub state_flow_laws : (functions : List (ℕ × ℕ)) → Ascends functions → FunctionsFit s functions → FlowLaws state_order (flow_of s functions) (height_of s)
+  state_flow_laws functions ascends fits = record {
     entry_point = record { frames = record { each = tt; once = refl }; calls = tt; offset = omega arith };
-    start_in_range = start_range functions rises;
+    start_in_range = start_range functions ascends;
     start_fits = start_within s functions fits;
     gives_point = given_point;
     gives_in_range = λ p a q t g. g.in_range;

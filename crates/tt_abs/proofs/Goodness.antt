@@ -14,7 +14,7 @@ use Rattle.tt_abs.specs.declared.state.State.{State}
 use Rattle.tt_abs.specs.declared.cells.ZoneCell.TheVariants as zone
 use Rattle.tt_abs.specs.Cells.{Abstract, CoversGraphics, CoversStack, CoversState, CoversZone, Numbers}
 use Rattle.tt_abs.specs.Covers.{Becomes, Gives, IsRefused, MOST_CONTEXTS, ManyFrames, SomeFaults, SomeRecurs, Stands, StandsFor, has_body_twice}
-use Rattle.tt_abs.specs.Entries.{Rises}
+use Rattle.tt_abs.specs.Entries.{Ascends}
 use Rattle.tt_abs.specs.Families.{CoversAt, IsGood}
 use Rattle.tt_abs.specs.Goodness.{CoversSteps, HasStateIn, IsFamilyByContext}
 use Rattle.tt_abs.specs.Ranges.{AreInRange, IsSettingInRange}
@@ -121,15 +121,15 @@ starting_starts functions = record {
   defined = λ n body h. h;
 }
 
-module _ (s : Setting) (setting : IsSettingInRange s) (short : AreProgramsShort s) (functions : List (ℕ × ℕ)) (rises : Rises functions)
+module _ (s : Setting) (setting : IsSettingInRange s) (short : AreProgramsShort s) (functions : List (ℕ × ℕ)) (ascends : Ascends functions)
     (family : Place → Option State) (contexts : IsFamilyByContext family) where
   -- From good to the machine's steps.
 
   covers_steps : IsGood state_order (flow_of s functions) family → CoversSteps s functions family
   covers_steps good = record {
-    starts = λ m h. (start_followed s setting short functions rises family good m h).covered;
-    safe = λ m r h f. followed_never_faults s setting short functions rises family good m r (record { covered = h; once = runs_once m h }) f;
-    closed = λ m n h w. (step_followed s setting short functions rises family good m n (record { covered = h; once = runs_once m h }) w).covered;
+    starts = λ m h. (start_followed s setting short functions ascends family good m h).covered;
+    safe = λ m r h f. followed_never_faults s setting short functions ascends family good m r (record { covered = h; once = runs_once m h }) f;
+    closed = λ m n h w. (step_followed s setting short functions ascends family good m n (record { covered = h; once = runs_once m h }) w).covered;
   }
     where
       runs_once : (m : Machine) → IsCoveredBy family m → has_body_twice m.frames ≡ false
@@ -152,7 +152,7 @@ module _ (s : Setting) (setting : IsSettingInRange s) (short : AreProgramsShort 
         let (u, at, _) = covers.starts (starting functions) (starting_starts functions) in (
           u,
           at,
-          state_from_coverage (start_of functions) u (start_range functions rises) (λ m h.
+          state_from_coverage (start_of functions) u (start_range functions ascends) (λ m h.
               covers_at_start (abstract_of u) m (covered_there ([], 0) u at (at_start m) refl refl (covers.starts (at_start m) (start_from functions m h)))),
         )
 

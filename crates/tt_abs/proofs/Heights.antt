@@ -10,7 +10,7 @@ use Rattle.tt_abs.specs.declared.cells.ZoneCell.TheVariants.{Zero, One, Either}
 use Rattle.tt_abs.specs.declared.state.State.{State}
 use Rattle.tt_abs.specs.CellOrders.{known_cells, known_zones}
 use Rattle.tt_abs.specs.Cells.{Cells}
-use Rattle.tt_abs.specs.Entries.{Rises, listed}
+use Rattle.tt_abs.specs.Entries.{Ascends, listed}
 use Rattle.tt_abs.specs.EntryLaws.{listed-here, listed-there, number-above}
 use Rattle.tt_abs.specs.GraphicsOrders.{graphics_order}
 use Rattle.tt_abs.specs.StateFlow.{FitsLimits, height_of}
@@ -46,23 +46,23 @@ between_tail low high e es above h n v l =
     let lt : e.0 < n = number-above e.0 n v es above l in
     let both = h n v (listed-there e es n (λ q. omega arith) ∙ l) in (omega arith, both.1)
 
-between_length : {V : Type 0} (low high : ℕ) (es : List (ℕ × V)) → low ≤ high → Rises es → AreBetween low high es → low + length es ≤ high
-between_length low high [] le rises h = omega arith
-between_length low high (e ∷ es) le rises h =
+between_length : {V : Type 0} (low high : ℕ) (es : List (ℕ × V)) → low ≤ high → Ascends es → AreBetween low high es → low + length es ≤ high
+between_length low high [] le ascends h = omega arith
+between_length low high (e ∷ es) le ascends h =
     let first = h e.0 e.1 (listed-here e es e.0 refl) in
     let a : low ≤ e.0 = first.0 in
     let b : e.0 < high = first.1 in
-    let rest : e.0 + 1 + length es ≤ high = between_length (e.0 + 1) high es (omega arith) rises.1 (between_tail low high e es rises.0 h) in omega arith
+    let rest : e.0 + 1 + length es ≤ high = between_length (e.0 + 1) high es (omega arith) ascends.1 (between_tail low high e es ascends.0 h) in omega arith
 
 -- a list in ascending order of numbers that are all below a bound has at most so many entries
-pub entries_at_most : {V : Type 0} (high : ℕ) (es : List (ℕ × V)) → Rises es → ((n : ℕ) (v : V) → listed es n ≡ Some v → n < high) → length es ≤ high
-entries_at_most high es rises h = let k : 0 + length es ≤ high = between_length 0 high es (omega arith) rises (λ n v l. (omega arith, h n v l)) in omega arith
+pub entries_at_most : {V : Type 0} (high : ℕ) (es : List (ℕ × V)) → Ascends es → ((n : ℕ) (v : V) → listed es n ≡ Some v → n < high) → length es ≤ high
+entries_at_most high es ascends h = let k : 0 + length es ≤ high = between_length 0 high es (omega arith) ascends (λ n v l. (omega arith, h n v l)) in omega arith
 
 pub state_at_most : (s : Setting) (a : State) → state_order.InRange a → FitsLimits s a → state_order.left a ≤ height_of s
 state_at_most s a range fits =
     let stack : known_count a.stack ≤ length a.stack = known_count_at_most a.stack in
     let depth : length a.stack ≤ s.limits.stack = fits.depth in
     let graphics : graphics_order.left a.graphics ≤ 7 = graphics_at_most a.graphics in
-    let functions : length a.functions ≤ s.limits.functions = entries_at_most s.limits.functions a.functions range.1.1.0.rises (λ n v l. (fits.functions n v l).0) in
-    let storage : length a.storage ≤ s.limits.storage = entries_at_most s.limits.storage a.storage range.1.1.1.rises fits.storage in
+    let functions : length a.functions ≤ s.limits.functions = entries_at_most s.limits.functions a.functions range.1.1.0.ascends (λ n v l. (fits.functions n v l).0) in
+    let storage : length a.storage ≤ s.limits.storage = entries_at_most s.limits.storage a.storage range.1.1.1.ascends fits.storage in
     omega arith

@@ -69,8 +69,8 @@ module _ (s : Setting) where
       go true e = e
       go false e = absurd (cc)
 
-  pub precedes_rises : (p q : Place) → Precedes s p q → p.1 < q.1
-  precedes_rises p q h = h.ends.forward
+  pub precedes_ascends : (p q : Place) → Precedes s p q → p.1 < q.1
+  precedes_ascends p q h = h.ends.forward
 
   pub precedes_no_start : (p : Place) (fs : List Frame) → Precedes s p (fs, 0) → ⊥
   precedes_no_start p fs h = let lt = h.ends.forward in omega arith

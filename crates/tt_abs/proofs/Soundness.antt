@@ -11,7 +11,7 @@ use Rattle.tt_code.specs.declared.reason.Reason.TheVariants as reason
 use Rattle.tt_abs.specs.declared.state.State.{State}
 use Rattle.tt_abs.specs.Cells.{Abstract, CoversGraphics, CoversStack, CoversState, Numbers}
 use Rattle.tt_abs.specs.Covers.{Becomes, Gives, Stands, StandsFor, has_body_twice}
-use Rattle.tt_abs.specs.Entries.{Rises}
+use Rattle.tt_abs.specs.Entries.{Ascends}
 use Rattle.tt_abs.specs.Families.{IsGood}
 use Rattle.tt_abs.specs.Ranges.{IsSettingInRange}
 use Rattle.tt_abs.specs.Soundness.{StartsWith, IsCoveredBy, IsSafe}
@@ -36,7 +36,7 @@ start_covers functions m h = record {
   functions = h.defined;
 }
 
-module _ (s : Setting) (setting : IsSettingInRange s) (short : AreProgramsShort s) (functions : List (ℕ × ℕ)) (rises : Rises functions)
+module _ (s : Setting) (setting : IsSettingInRange s) (short : AreProgramsShort s) (functions : List (ℕ × ℕ)) (ascends : Ascends functions)
     (family : Place → Option State) (good : IsGood state_order (flow_of s functions) family) where
   -- what holds along runs: the machine is covered, and runs no body twice
   pub record IsFollowed (m : Machine) : Type 0 where
@@ -118,7 +118,7 @@ module _ (s : Setting) (setting : IsSettingInRange s) (short : AreProgramsShort 
       let (u, at, below) = good.start in
       let place : (m.frames, m.offset) ≡ ([], 0) = λ i. (h.fresh.no_frames i, h.fresh.at_first_byte i) in
       record {
-        covered = (u, ap family place ∙ at, state_covers (start_of functions) u (start_range functions rises) below m (start_covers functions m h));
+        covered = (u, ap family place ∙ at, state_covers (start_of functions) u (start_range functions ascends) below m (start_covers functions m h));
         once = ap has_body_twice h.fresh.no_frames;
       }
 

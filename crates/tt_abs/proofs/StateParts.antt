@@ -12,16 +12,16 @@ use Rattle.tt_abs.specs.declared.cells.Cell.TheVariants.{Known, Unknown}
 use Rattle.tt_abs.specs.declared.state.State.{State}
 use Rattle.tt_abs.specs.CellOrders.{CellInRange}
 use Rattle.tt_abs.specs.Cells.{Abstract}
-use Rattle.tt_abs.specs.Entries.{Rises, listed, with_entry, known_or_not, storage_of, with_cell}
+use Rattle.tt_abs.specs.Entries.{Ascends, listed, with_entry, known_or_not, storage_of, with_cell}
 use Rattle.tt_abs.specs.Representation.EntryFacts.{listed-all, listed-with, storage-with_cell}
-use Rattle.tt_abs.specs.EntryLaws.{listed-here, listed-there, number-above, Rises-filter, entry_laws}
+use Rattle.tt_abs.specs.EntryLaws.{listed-here, listed-there, number-above, Ascends-filter, entry_laws}
 use Rattle.tt_abs.specs.EntryLists.{EntriesBelow}
 use Rattle.tt_abs.specs.Ranges.{IsInRange, AreInRange, IsStateInRange, IsSettingInRange}
 use Rattle.tt_abs.specs.StateFlow.{FunctionsFit, FitsLimits, AreProgramsShort}
 use Rattle.tt_abs.specs.Stacks.{StackInRange}
 use Rattle.tt_abs.specs.States.{abstract_of, state_order}
 use Rattle.tt_abs.specs.Transfers.{Next, outcome_on_cells}
-use Rattle.tt_abs.proofs.EntryEdits.{Rises-with}
+use Rattle.tt_abs.proofs.EntryEdits.{Ascends-with}
 use Rattle.tt_abs.proofs.ListsKept.{DefinesAt, lists_kept, are_shallow}
 use Rattle.tt_abs.proofs.RangesKept.{keeps_range}
 
@@ -57,15 +57,15 @@ stored_to es h i = go (listed es i) refl
     go None e = tt
     go (Some z) e = listed-all IsNumber es i z h e
 
-each_listed : {V : Type 0} (P : V → Type 0) (es : List (ℕ × V)) → Rises es → ((n : ℕ) (v : V) → listed es n ≡ Some v → P v) → AllByRecursion (λ e. P e.1) es
-each_listed P [] rises h = tt
-each_listed P (e ∷ es) rises h = (
+each_listed : {V : Type 0} (P : V → Type 0) (es : List (ℕ × V)) → Ascends es → ((n : ℕ) (v : V) → listed es n ≡ Some v → P v) → AllByRecursion (λ e. P e.1) es
+each_listed P [] ascends h = tt
+each_listed P (e ∷ es) ascends h = (
   h e.0 e.1 (listed-here e es e.0 refl),
-  each_listed P es rises.1 (λ n v l. let lt = number-above e.0 n v es rises.0 l in h n v (listed-there e es n (λ q. omega arith) ∙ l)),
+  each_listed P es ascends.1 (λ n v l. let lt = number-above e.0 n v es ascends.0 l in h n v (listed-there e es n (λ q. omega arith) ∙ l)),
 )
 
-stored_from : (es : List (ℕ × ℤ)) → Rises es → ((i : ℕ) → IsInRange (storage_of es i)) → AllByRecursion (λ e. IsNumber e.1) es
-stored_from es rises h = each_listed IsNumber es rises (λ n v l. let P : Option ℤ → Type 0 = λ o. IsInRange (known_or_not o) in subst P l (h n))
+stored_from : (es : List (ℕ × ℤ)) → Ascends es → ((i : ℕ) → IsInRange (storage_of es i)) → AllByRecursion (λ e. IsNumber e.1) es
+stored_from es ascends h = each_listed IsNumber es ascends (λ n v l. let P : Option ℤ → Type 0 = λ o. IsInRange (known_or_not o) in subst P l (h n))
 
 pub abstract_in_range : (a : State) → state_order.InRange a → IsStateInRange (abstract_of a)
 abstract_in_range a h = record {
@@ -83,7 +83,7 @@ no_values : {V : Type 0} (es : List (ℕ × V)) → AllByRecursion (λ e. ⊤) e
 no_values [] = tt
 no_values (e ∷ es) = (tt, no_values es)
 
-pub state_in_range : (a : State) → Rises a.functions → Rises a.storage → IsStateInRange (abstract_of a) → state_order.InRange a
+pub state_in_range : (a : State) → Ascends a.functions → Ascends a.storage → IsStateInRange (abstract_of a) → state_order.InRange a
 state_in_range a functions storage h = (
   stack_from a.stack h.stack,
   (
@@ -94,7 +94,7 @@ state_in_range a functions storage h = (
       ),
       (tt, (tt, tt)),
     )),
-    (record { rises = functions; values = no_values a.functions }, record { rises = storage; values = stored_from a.storage storage h.registers.storage }),
+    (record { ascends = functions; values = no_values a.functions }, record { ascends = storage; values = stored_from a.storage storage h.registers.storage }),
   ),
 )
 
@@ -120,26 +120,26 @@ one_state t u ht hu e =
 -- Lists in ascending order of their numbers.
 
 pub record AreListed (functions : List (ℕ × ℕ)) (area : ℕ → Cell) : Type 0 where
-  pub functions_rise : Rises functions
+  pub functions_rise : Ascends functions
   pub entries : List (ℕ × ℤ)
-  pub entries_rise : Rises entries
+  pub entries_rise : Ascends entries
   pub area_is : storage_of entries ≡ area
 
-rises-cell : (i : ℕ) (c : Cell) (es : List (ℕ × ℤ)) → Rises es → Rises (with_cell i c es)
-rises-cell i (Known z) es h = Rises-with i z es h
-rises-cell i Unknown es h = Rises-filter _ es h
+ascends-cell : (i : ℕ) (c : Cell) (es : List (ℕ × ℤ)) → Ascends es → Ascends (with_cell i c es)
+ascends-cell i (Known z) es h = Ascends-with i z es h
+ascends-cell i Unknown es h = Ascends-filter _ es h
 
 listed_stores : (functions : List (ℕ × ℕ)) (area : ℕ → Cell) (i : ℕ) (c : Cell) → AreListed functions area → AreListed functions (with_stored i c area)
 listed_stores functions area i c h = record {
   functions_rise = h.functions_rise;
   entries = with_cell i c h.entries;
-  entries_rise = rises-cell i c h.entries h.entries_rise;
+  entries_rise = ascends-cell i c h.entries h.entries_rise;
   area_is = storage-with_cell i c h.entries ∙ ap (λ (x : ℕ → Cell). with_stored i c x) h.area_is;
 }
 
 listed_defines : (functions : List (ℕ × ℕ)) (area : ℕ → Cell) (n body : ℕ) → AreListed functions area → AreListed (with_entry n body functions) area
 listed_defines functions area n body h = record {
-  functions_rise = Rises-with n body functions h.functions_rise;
+  functions_rise = Ascends-with n body functions h.functions_rise;
   entries = h.entries;
   entries_rise = h.entries_rise;
   area_is = h.area_is;
@@ -184,7 +184,7 @@ pub record IsStateOf (b : Abstract) (t : State) : Type 0 where
   pub in_range : state_order.InRange t
 
 listed_here : (a : State) → state_order.InRange a → AreListed a.functions (storage_of a.storage)
-listed_here a h = record { functions_rise = h.1.1.0.rises; entries = a.storage; entries_rise = h.1.1.1.rises; area_is = refl }
+listed_here a h = record { functions_rise = h.1.1.0.ascends; entries = a.storage; entries_rise = h.1.1.1.ascends; area_is = refl }
 
 state_from : (b : Abstract) → AreListed b.functions b.registers.storage → IsStateInRange b → (t : State) × IsStateOf b t
 state_from b l h =

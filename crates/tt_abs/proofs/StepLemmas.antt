@@ -24,7 +24,7 @@ use Rattle.tt_abs.specs.declared.moves.Moves.{Moves}
 use Rattle.tt_abs.specs.declared.moves.Moves.TheVariants as moves
 use Rattle.tt_abs.specs.Moves.{ForReason, nexts_of}
 use Rattle.tt_abs.specs.States.{abstract_of, state_order}
-use Rattle.tt_abs.specs.Entries.{Rises}
+use Rattle.tt_abs.specs.Entries.{Ascends}
 use Rattle.tt_abs.specs.Ranges.{AreNextInRange, IsStateInRange, IsSettingInRange}
 use Rattle.tt_abs.proofs.RangesKept.{keeps_range}
 use Rattle.tt_abs.proofs.StateParts.{abstract_in_range, state_in_range}
@@ -123,6 +123,6 @@ first_in_range fs (moves.One m) a h = h.0
 first_in_range fs (moves.Two m n) a h = h.0
 
 pub left_in_range : (s : Setting) (fs : List Frame) (at : ℕ) (old new : State) (moves : Moves) → IsSettingInRange s → state_order.InRange old
-    → outcome_on_cells s fs at (abstract_of old) ≡ Ok (nexts_of fs moves (abstract_of new)) → Rises new.functions → Rises new.storage → state_order.InRange new
+    → outcome_on_cells s fs at (abstract_of old) ≡ Ok (nexts_of fs moves (abstract_of new)) → Ascends new.functions → Ascends new.storage → state_order.InRange new
 left_in_range s fs at old new moves setting h e functions storage =
     state_in_range new functions storage (first_in_range fs moves (abstract_of new) (keeps_range s fs at (abstract_of old) (nexts_of fs moves (abstract_of new)) setting (abstract_in_range old h) e))

@@ -6,9 +6,9 @@ use Rattle.tt_abs.specs.declared.cells.Cell.{Cell}
 use Rattle.tt_abs.specs.declared.cells.Cell.TheVariants.{Known, Unknown}
 
 -- the numbers rise
-abbrev pub Rises : {V : Type 0} → List (ℕ × V) → Type 0
-Rises [] = Unit {0}
-Rises (e ∷ es) = AllByRecursion (λ f. e.0 < f.0) es × Rises es
+abbrev pub Ascends : {V : Type 0} → List (ℕ × V) → Type 0
+Ascends [] = Unit {0}
+Ascends (e ∷ es) = AllByRecursion (λ f. e.0 < f.0) es × Ascends es
 
 -- what is listed with a number
 abbrev pub listed : {V : Type 0} → List (ℕ × V) → ℕ → Option V

@@ -4,7 +4,7 @@ use Rattle.std.specs.List.{AllByRecursion, filter}
 use Rattle.std.proofs.Common.{refl, sym, ◌∙◌, ap, subst, arith, inl, inr}
 use Rattle.std.proofs.lemmas.Bool.{cases_eq, eqb-true, eq-eqb, ne_eqb, and_parts, and_from}
 use Rattle.tt_abs.specs.Orders.{OrderLaws, IsLeastAbove}
-use Rattle.tt_abs.specs.Entries.{Rises, listed}
+use Rattle.tt_abs.specs.Entries.{Ascends, listed}
 use Rattle.tt_abs.specs.EntryLists.{IsEquality, EntriesBelow, EntriesInRange, after_entry, missing_entries, holds_value, common_entries, entry_order}
 
 -- What is listed.
@@ -88,7 +88,7 @@ first-below {V} x y xs ys above p =
 
 -- The laws.
 
-pub entries-length : {V : Type 0} (a b : List (ℕ × V)) → Rises a → Rises b → EntriesBelow a b
+pub entries-length : {V : Type 0} (a b : List (ℕ × V)) → Ascends a → Ascends b → EntriesBelow a b
     → length b ≤ length a
 entries-length {V} [] [] ra rb p = omega arith
 entries-length {V} [] (y ∷ ys) ra rb p = let l = p y.0 y.1 (listed-here y ys y.0 refl) in cc
@@ -104,7 +104,7 @@ entries-length {V} (x ∷ xs) (y ∷ ys) ra rb p = elim (first-below x y xs ys r
       (below-without_first x xs (y ∷ ys) (lt, all-above x.0 y.0 ys lt rb.0) p) in omega arith
 ]
 
-pub entries-same : {V : Type 0} (a b : List (ℕ × V)) → Rises a → Rises b → EntriesBelow a b
+pub entries-same : {V : Type 0} (a b : List (ℕ × V)) → Ascends a → Ascends b → EntriesBelow a b
     → length b ≡ length a → a ≡ b
 entries-same {V} [] [] ra rb p e = refl
 entries-same {V} [] (y ∷ ys) ra rb p e = absurd (omega arith)
@@ -127,14 +127,14 @@ entry_laws IsInRange = record {
   reflexive = λ a n v l. l;
   transitive = λ a b c p q n v l. p n v (q n v l);
   antisymmetric = λ a b ra rb p q.
-      let down = entries-length a b ra.rises rb.rises p in
-      let up = entries-length b a rb.rises ra.rises q in
-      entries-same a b ra.rises rb.rises p (omega arith);
+      let down = entries-length a b ra.ascends rb.ascends p in
+      let up = entries-length b a rb.ascends ra.ascends q in
+      entries-same a b ra.ascends rb.ascends p (omega arith);
   one_depth = λ _ _ _. tt;
   depth_symmetric = λ _ _ _. tt;
   depth_transitive = λ _ _ _ _ _. tt;
-  left_falls = λ a b ra rb. entries-length a b ra.rises rb.rises;
-  left_strict = λ a b ra rb. entries-same a b ra.rises rb.rises;
+  left_falls = λ a b ra rb. entries-length a b ra.ascends rb.ascends;
+  left_strict = λ a b ra rb. entries-same a b ra.ascends rb.ascends;
 }
 
 -- SortedMap kept by a test.
@@ -149,16 +149,16 @@ pub all-filter : {X : Type 0} (P : X → Type 0) (p : X → Bool) (xs : List X) 
 all-filter P p [] h = tt
 all-filter P p (x ∷ xs) h = keep_step P x (filter p xs) (p x) h.0 (all-filter P p xs h.1)
 
-rises_step : {V : Type 0} (x : ℕ × V) (rest : List (ℕ × V)) (b : Bool)
-    → AllByRecursion (λ e. x.0 < e.0) rest → Rises rest → Rises (cond b (x ∷ rest) rest)
-rises_step x rest true h ih = (h, ih)
-rises_step x rest false h ih = ih
+ascends_step : {V : Type 0} (x : ℕ × V) (rest : List (ℕ × V)) (b : Bool)
+    → AllByRecursion (λ e. x.0 < e.0) rest → Ascends rest → Ascends (cond b (x ∷ rest) rest)
+ascends_step x rest true h ih = (h, ih)
+ascends_step x rest false h ih = ih
 
-pub Rises-filter : {V : Type 0} (p : ℕ × V → Bool) (xs : List (ℕ × V)) → Rises xs
-    → Rises (filter p xs)
-Rises-filter p [] r = tt
-Rises-filter p (x ∷ xs) r =
-    rises_step x (filter p xs) (p x) (all-filter _ p xs r.0) (Rises-filter p xs r.1)
+pub Ascends-filter : {V : Type 0} (p : ℕ × V → Bool) (xs : List (ℕ × V)) → Ascends xs
+    → Ascends (filter p xs)
+Ascends-filter p [] r = tt
+Ascends-filter p (x ∷ xs) r =
+    ascends_step x (filter p xs) (p x) (all-filter _ p xs r.0) (Ascends-filter p xs r.1)
 
 filter_step : {V : Type 0} (p : ℕ × V → Bool) (x : ℕ × V) (xs rest : List (ℕ × V)) (n : ℕ) (v : V)
     (b : Bool) → p x ≡ b
@@ -205,7 +205,7 @@ filter_step {V} p x xs rest n v false is above ih = elim (cases_eq x.0 n) [
     pair : x.0 ≡ n → x.1 ≡ v → x ≡ (n, v)
     pair a b i = (a i, b i)
 
-pub listed-filter : {V : Type 0} (p : ℕ × V → Bool) (a : List (ℕ × V)) → Rises a → (n : ℕ) (v : V)
+pub listed-filter : {V : Type 0} (p : ℕ × V → Bool) (a : List (ℕ × V)) → Ascends a → (n : ℕ) (v : V)
     → (listed (filter p a) n ≡ Some v) ↔ ((listed a n ≡ Some v) × (p (n, v) ≡ true))
 listed-filter p [] r n v = (λ l. cc, λ h. h.0)
 listed-filter p (x ∷ xs) r n v =
@@ -225,12 +225,12 @@ pub common_is_least : {V : Type 0} (IsInRange : V → Type 0) (same : V → V �
     → (a b : List (ℕ × V)) → EntriesInRange IsInRange a
     → IsLeastAbove (entry_order IsInRange) a b (common_entries same a b)
 common_is_least IsInRange same decides a b r = record {
-  in_range = record { rises = Rises-filter _ a r.rises; values = all-filter _ _ a r.values };
-  left = λ n v l. ((listed-filter _ a r.rises n v).0 l).0;
+  in_range = record { ascends = Ascends-filter _ a r.ascends; values = all-filter _ _ a r.values };
+  left = λ n v l. ((listed-filter _ a r.ascends n v).0 l).0;
   right = λ n v l.
-      (holds_value-is same decides (listed b n) v).0 ((listed-filter _ a r.rises n v).0 l).1;
+      (holds_value-is same decides (listed b n) v).0 ((listed-filter _ a r.ascends n v).0 l).1;
   least = λ d rd p q n v l.
-      (listed-filter _ a r.rises n v).1
+      (listed-filter _ a r.ascends n v).1
       (p n v l, (holds_value-is same decides (listed b n) v).1 (q n v l));
 }
 
@@ -238,7 +238,7 @@ common_is_least IsInRange same decides a b r = record {
 
 missing_step : {V : Type 0} (same : V → V → Bool) → IsEquality same
     → (x y : ℕ × V) (xs ys : List (ℕ × V)) (b : Bool) → (nat_eq y.0 x.0 && same y.1 x.1) ≡ b
-    → Rises (x ∷ xs) → Rises (y ∷ ys)
+    → Ascends (x ∷ xs) → Ascends (y ∷ ys)
     → EntriesBelow xs (if b then ys else y ∷ ys) ↔ EntriesBelow (x ∷ xs) (y ∷ ys)
 missing_step {V} same decides x y xs ys true is rx ry =
     let both = and_parts _ _ is in
@@ -261,17 +261,17 @@ missing_step {V} same decides x y xs ys false is rx ry = (
   ],
 )
 
-Rises-after : {V : Type 0} (same : V → V → Bool) (e : ℕ × V) (b : List (ℕ × V)) → Rises b
-    → Rises (after_entry same e b)
-Rises-after same e [] r = tt
-Rises-after same e (x ∷ xs) r = go (nat_eq x.0 e.0 && same x.1 e.1)
+Ascends-after : {V : Type 0} (same : V → V → Bool) (e : ℕ × V) (b : List (ℕ × V)) → Ascends b
+    → Ascends (after_entry same e b)
+Ascends-after same e [] r = tt
+Ascends-after same e (x ∷ xs) r = go (nat_eq x.0 e.0 && same x.1 e.1)
   where
-    go : (t : Bool) → Rises (if t then xs else x ∷ xs)
+    go : (t : Bool) → Ascends (if t then xs else x ∷ xs)
     go true = r.1
     go false = r
 
 pub missing-below : {V : Type 0} (same : V → V → Bool) → IsEquality same → (a b : List (ℕ × V))
-    → Rises a → Rises b → (missing_entries same a b ≡ []) ↔ EntriesBelow a b
+    → Ascends a → Ascends b → (missing_entries same a b ≡ []) ↔ EntriesBelow a b
 missing-below same decides [] [] ra rb = (λ _ n v l. l, λ _. refl)
 missing-below same decides [] (y ∷ ys) ra rb =
     (λ e. cc, λ p. let l = p y.0 y.1 (listed-here y ys y.0 refl) in cc)
@@ -281,6 +281,6 @@ missing-below {V} same decides (x ∷ xs) [] ra rb =
     (λ e. nothing (x ∷ xs), λ p. ih.1 (nothing xs))
 missing-below same decides (x ∷ xs) (y ∷ ys) ra rb =
     let ih = missing-below same decides xs (after_entry same x (y ∷ ys)) ra.1
-    (Rises-after same x (y ∷ ys) rb) in
+    (Ascends-after same x (y ∷ ys) rb) in
     let step = missing_step same decides x y xs ys (nat_eq y.0 x.0 && same y.1 x.1) refl ra rb in
     (λ e. step.0 (ih.0 e), λ p. ih.1 (step.1 p))

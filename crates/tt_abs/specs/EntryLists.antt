@@ -4,7 +4,7 @@ use Rattle.std.specs.Prelude.{◌≡◌, ℕ, zero, suc, ◌<◌, ⊤, Bool, fal
 use Rattle.std.specs.List.{AllByRecursion, filter}
 use Rattle.std.specs.Bool.{Decides}
 use Rattle.tt_abs.specs.Orders.{Order}
-use Rattle.tt_abs.specs.Entries.{Rises, listed}
+use Rattle.tt_abs.specs.Entries.{Ascends, listed}
 
 -- the test says whether two values are equal
 abbrev pub IsEquality : {V : Type 0} → (V → V → Bool) → Type 0
@@ -28,7 +28,7 @@ EntriesBelow {V} a b = (n : ℕ) (v : V) → listed b n ≡ Some v → listed a 
 
 -- the numbers rise, and the values are in range
 pub record EntriesInRange {V : Type 0} (IsInRange : V → Type 0) (es : List (ℕ × V)) : Type 0 where
-  pub rises : Rises es
+  pub ascends : Ascends es
   pub values : AllByRecursion (λ e. IsInRange e.1) es
 
 -- whether the first entry is this one

@@ -10,7 +10,7 @@ use Rattle.tt_abs.specs.declared.state.State.{State}
 use Rattle.tt_abs.specs.Contexts.{FramesFit}
 use Rattle.tt_abs.specs.Cells.{Abstract}
 use Rattle.tt_abs.specs.Covers.{IsRefused, MOST_CONTEXTS, StandsFor, has_body_twice}
-use Rattle.tt_abs.specs.Entries.{Rises}
+use Rattle.tt_abs.specs.Entries.{Ascends}
 use Rattle.tt_abs.specs.Families.{IsFamilyInRange, IsGood}
 use Rattle.tt_abs.specs.Ranges.{AreInRange, IsSettingInRange}
 use Rattle.tt_abs.specs.Soundness.{IsCoveredBy, IsSafe, StartsWith}
@@ -66,7 +66,7 @@ pub record CoversSteps (s : Setting) (functions : List (ℕ × ℕ))
 abbrev pub IsGoodByMachines : Type 0
 IsGoodByMachines =
     (s : Setting) (functions : List (ℕ × ℕ)) (family : Place → Option State) → IsSettingInRange s
-    → AreProgramsShort s → Rises functions
+    → AreProgramsShort s → Ascends functions
     → IsFamilyByContext family
     → IsGood state_order (flow_of s functions) family ↔ CoversSteps s functions family
 
@@ -74,5 +74,5 @@ IsGoodByMachines =
 abbrev pub GoodFamiliesAreSafe : Type 0
 GoodFamiliesAreSafe =
     (s : Setting) (functions : List (ℕ × ℕ)) (family : Place → Option State)
-    → IsSettingInRange s → AreProgramsShort s → Rises functions
+    → IsSettingInRange s → AreProgramsShort s → Ascends functions
     → IsGood state_order (flow_of s functions) family → IsSafe s functions family

@@ -7,7 +7,7 @@ use Rattle.tt_code.specs.Settings.{Setting, is_main_end}
 use Rattle.tt_code.specs.declared.machine.Frame.{Frame}
 use Rattle.tt_code.specs.declared.reason.Reason.{Reason}
 use Rattle.tt_abs.specs.declared.state.State.{State}
-use Rattle.tt_abs.specs.Entries.{Rises, listed}
+use Rattle.tt_abs.specs.Entries.{Ascends, listed}
 use Rattle.tt_abs.specs.Flows.{Flow, FlowLaws}
 use Rattle.tt_abs.specs.Contexts.{FramesFit}
 use Rattle.tt_abs.specs.Ranges.{IsSettingInRange}
@@ -90,5 +90,5 @@ pub record AreProgramsShort (s : Setting) : Type 0 where
 abbrev pub HasFlowLaws : Type 0
 HasFlowLaws =
     (s : Setting) (functions : List (ℕ × ℕ)) → IsSettingInRange s → AreProgramsShort s
-    → Rises functions → FunctionsFit s functions
+    → Ascends functions → FunctionsFit s functions
     → FlowLaws state_order (flow_of s functions) (height_of s)

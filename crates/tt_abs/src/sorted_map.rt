@@ -6,7 +6,7 @@ ghost use Rattle.std.specs.Option.{IsSome};
 ghost use Rattle.std.specs.Result.{IsOk};
 ghost use Rattle.std.specs.List.{insert};
 ghost use Rattle.tt_abs.specs.Orders.{IsLeastAbove};
-ghost use Rattle.tt_abs.specs.Entries.{Rises, listed, with_entry, without_entry};
+ghost use Rattle.tt_abs.specs.Entries.{Ascends, listed, with_entry, without_entry};
 ghost use Rattle.tt_abs.specs.EntryLists.{IsEquality, IsAt, IsGap, EntriesBelow, EntriesInRange, entry_order, after_entry, entries_from, begins_with_entry, common_entries};
 
 use crate::order::{AbsFault, Order};
@@ -76,18 +76,18 @@ pub struct SortedMap<T> {
 
 impl<T> Model for SortedMap<T> {
     ghost use Rattle.std.specs.Prelude.{List, ℕ};
-    ghost use Rattle.tt_abs.specs.Entries.{Rises as IsRising};
+    ghost use Rattle.tt_abs.specs.Entries.{Ascends as IsAscending};
 
     ghost Value = { List (ℕ × T) };
 
     ghost view = { λ e. e.entries.items };
 
-    ghost invariant = { λ e. IsRising e.entries.items };
+    ghost invariant = { λ e. IsAscending e.entries.items };
 }
 
 /// Returns where a number is, or where it would be.
 fn search<T>(entries: &[(u16, T)], number: u16) -> Result<usize, usize>
-    requires { Rises entries.now }
+    requires { Ascends entries.now }
     ensures place { MatchResult result (IsAt number entries.now) (IsGap number entries.now) }
     ensures bound { MatchResult result (λ i. i < length entries.now) (λ i. i ≤ length entries.now) }
 {
@@ -96,7 +96,7 @@ fn search<T>(entries: &[(u16, T)], number: u16) -> Result<usize, usize>
 
 /// Returns the value that is listed with a number.
 fn value_at<T: Copy>(entries: &[(u16, T)], number: u16) -> Option<T>
-    requires { Rises entries.now }
+    requires { Ascends entries.now }
     ensures { result ≡ listed entries.now number }
 {
     match search(entries, number) {
@@ -124,7 +124,7 @@ fn insert_entry<T: Drop>(
 
 /// Puts an entry at its place, instead of the one of its number.
 fn put_entry<T: Copy>(entries: &mut Vec<(u16, T)>, number: u16, value: T) -> Result<(), AllocError>
-    requires { Rises entries.old.items }
+    requires { Ascends entries.old.items }
     ensures ok { OnOk result (entries.new.items ≡ with_entry number value entries.old.items) }
     ensures err { OnErr result (entries.new.items ≡ entries.old.items) }
     ensures replaced { IsSome (listed entries.old.items number) → IsOk result }
@@ -140,7 +140,7 @@ fn put_entry<T: Copy>(entries: &mut Vec<(u16, T)>, number: u16, value: T) -> Res
 
 /// Removes the entry of a number.
 fn remove_entry<T: Copy>(entries: &mut Vec<(u16, T)>, number: u16)
-    requires { Rises entries.old.items }
+    requires { Ascends entries.old.items }
     ensures { entries.new.items ≡ without_entry number entries.old.items }
 {
     if let Ok(at) = search(entries.as_slice(), number) {
@@ -170,8 +170,8 @@ fn rest_after<'a, T: EntryValue>(entries: &'a [(u16, T)], entry: &(u16, T)) -> &
 
 /// Whether the first list has all the entries of the second, found by passing along the first.
 fn passes_all<T: EntryValue>(mine: &[(u16, T)], theirs: &[(u16, T)]) -> bool
-    requires mine_rise { Rises mine.now }
-    requires theirs_rise { Rises theirs.now }
+    requires mine_rise { Ascends mine.now }
+    requires theirs_rise { Ascends theirs.now }
     ensures { IsTrue result ↔ EntriesBelow mine.now theirs.now }
 {
     let mut missing = theirs;
@@ -184,8 +184,8 @@ fn passes_all<T: EntryValue>(mine: &[(u16, T)], theirs: &[(u16, T)]) -> bool
 /// Whether the first list has all the entries of the second. Of two lists of one length, each has
 /// all those of the other exactly if they are the same.
 fn lists_all<T: EntryValue>(mine: &[(u16, T)], theirs: &[(u16, T)]) -> bool
-    requires mine_rise { Rises mine.now }
-    requires theirs_rise { Rises theirs.now }
+    requires mine_rise { Ascends mine.now }
+    requires theirs_rise { Ascends theirs.now }
     ensures { IsTrue result ↔ EntriesBelow mine.now theirs.now }
 {
     if mine.len() == theirs.len() {
@@ -211,8 +211,8 @@ fn from_number<T>(entries: &[(u16, T)], number: u16) -> &[(u16, T)]
 
 /// Moves to the front the entries that the other list has too, and returns how many they are.
 fn gather_common<T: EntryValue>(mine: &mut [(u16, T)], theirs: &[(u16, T)]) -> usize
-    requires mine_rise { Rises mine.old }
-    requires theirs_rise { Rises theirs.now }
+    requires mine_rise { Ascends mine.old }
+    requires theirs_rise { Ascends theirs.now }
     ensures bound { result ≤ length mine.new }
     ensures common { take result mine.new ≡ common_entries T.eq mine.old theirs.now }
 {
@@ -231,8 +231,8 @@ fn gather_common<T: EntryValue>(mine: &mut [(u16, T)], theirs: &[(u16, T)]) -> u
 
 /// Keeps the entries that the other list has too.
 fn keep_common<T: EntryValue>(mine: &mut Vec<(u16, T)>, theirs: &[(u16, T)])
-    requires mine_rise { Rises mine.old.items }
-    requires theirs_rise { Rises theirs.now }
+    requires mine_rise { Ascends mine.old.items }
+    requires theirs_rise { Ascends theirs.now }
     ensures { mine.new.items ≡ common_entries T.eq mine.old.items theirs.now }
 {
     let kept = gather_common(mine.as_mut_slice(), theirs);
@@ -254,7 +254,7 @@ impl<T: Copy> SortedMap<T> {
     /// # Errors
     /// If memory runs out.
     pub fn from_slice(alloc: Global, entries: &[(u16, T)]) -> Result<SortedMap<T>, AllocError>
-        requires { Rises entries.now }
+        requires { Ascends entries.now }
         ensures { IfOk result (λ made. made ≡ entries.now) }
     {
         Ok(SortedMap {
@@ -277,7 +277,7 @@ impl<T: Copy> SortedMap<T> {
     /// # Errors
     /// If memory runs out; then the map's entries are unspecified.
     pub fn replace(&mut self, entries: &[(u16, T)]) -> Result<(), AllocError>
-        requires { Rises entries.now }
+        requires { Ascends entries.now }
         ensures { OnOk result (self.new ≡ entries.now) }
     {
         self.entries.clear();
@@ -308,7 +308,7 @@ impl<T: Copy> SortedMap<T> {
     /// Returns the entries, in ascending order of their numbers.
     pub fn as_slice(&self) -> &[(u16, T)]
         ensures value { result.now ≡ self.now }
-        ensures rises { Rises result.now }
+        ensures ascends { Ascends result.now }
     {
         self.entries.as_slice()
     }

@@ -34,7 +34,7 @@ const DEFAULT: Graphics<Cell, ZoneCell> = Graphics {
 impl State {
     ghost use Rattle.std.specs.Prelude.{◌≡◌, ◌<◌, ◌≤◌, ◌+◌, ◌∷◌, ◌↔◌, length, reverse, slice_get, IsTrue, IfOk, OnOk, OnErr, [], drop};
     ghost use Rattle.tt_code.specs.States.{pointer, reference, with_pointer, with_reference};
-    ghost use Rattle.tt_abs.specs.Entries.{Rises, storage_of, with_cell, with_entry};
+    ghost use Rattle.tt_abs.specs.Entries.{Ascends, storage_of, with_cell, with_entry};
     ghost use Rattle.tt_abs.specs.Stacks.{ShareBottom};
     ghost use Rattle.tt_abs.specs.States.{KeepsRange, start_of, state_order};
     ghost use Rattle.tt_abs.specs.Transfers.{cells_on};
@@ -46,7 +46,7 @@ impl State {
     /// # Errors
     /// If memory runs out.
     pub fn start(alloc: Global, functions: &[(u16, u32)]) -> Result<State, AllocError>
-        requires { Rises functions.now }
+        requires { Ascends functions.now }
         ensures value { IfOk result (λ state. state ≡ start_of functions.now) }
         ensures in_range { IfOk result (λ state. state_order.InRange state) }
     {
@@ -167,7 +167,7 @@ impl State {
     /// body.
     pub fn functions(&self) -> &[(u16, u32)]
         ensures value { result.now ≡ self.now.functions }
-        ensures rises { Rises result.now }
+        ensures ascends { Ascends result.now }
     {
         self.functions.as_slice()
     }
@@ -183,8 +183,8 @@ impl State {
     /// States that the lists of a state are in ascending order of their numbers, as they always
     /// are.
     pub(crate) fn order_facts(&self)
-        ensures functions { Rises self.now.functions }
-        ensures storage { Rises self.now.storage }
+        ensures functions { Ascends self.now.functions }
+        ensures storage { Ascends self.now.storage }
     {
         let _functions = self.functions.as_slice();
         let _storage = self.storage.as_slice();
@@ -289,7 +289,7 @@ impl State {
     /// # Errors
     /// If memory runs out; then the functions that are known are unspecified.
     pub fn set_functions(&mut self, functions: &[(u16, u32)]) -> Result<(), AllocError>
-        requires { Rises functions.now }
+        requires { Ascends functions.now }
         ensures value { OnOk result (self.new ≡ record self.old { functions = functions.now }) }
         ensures in_range { OnOk result (KeepsRange self.old self.new) }
     {

@@ -17,7 +17,7 @@ use Rattle.tt_cert.specs.Places.{has_point, place_cmp, states_of, PutGives, Puts
 use Rattle.tt_cert.specs.Puts.{Reweighs, place_of, weigh}
 use Rattle.tt_cert.specs.Contents.{Contents, IsFamily, family_of, frames_at, number_of, points_of}
 use Rattle.tt_cert.specs.Numbers.{number_of-is}
-use Rattle.tt_cert.specs.Rising.{AreMoved}
+use Rattle.tt_cert.specs.Ascending.{AreMoved}
 use Rattle.tt_cert.proofs.Moves.{HasSoFar, IsFoundAll, entry_found}
 use Rattle.tt_cert.proofs.Putting.{place_total}
 
@@ -33,17 +33,17 @@ behind k (d ∷ done) rest x all = behind k done rest x all.1
 
 -- where places ascend no state before is at the place
 none_before : {S : Type 0} (done rest : List ((ℕ × ℕ) × S)) (x : (ℕ × ℕ) × S) → IsStrictlySortedBy place_cmp (keys_of (done ++ x ∷ rest)) → states_of done x.0 ≡ None
-none_before [] rest x rises = refl
-none_before {S} (d ∷ done) rest x rises =
-    let below : place_cmp d.0 x.0 ≡ Less = behind d.0 done rest x (sorted_head place_cmp d.0 (keys_of (done ++ x ∷ rest)) rises) in
+none_before [] rest x ascends = refl
+none_before {S} (d ∷ done) rest x ascends =
+    let below : place_cmp d.0 x.0 ≡ Less = behind d.0 done rest x (sorted_head place_cmp d.0 (keys_of (done ++ x ∷ rest)) ascends) in
     let apart = ap is_eq (place_total.antisymm x.0 d.0 ∙ ap ordering_reverse below) in
-    lookup_tail (is_at (place_cmp x.0)) d done apart ∙ none_before done rest x (sorted_tail place_cmp d.0 (keys_of (done ++ x ∷ rest)) rises)
+    lookup_tail (is_at (place_cmp x.0)) d done apart ∙ none_before done rest x (sorted_tail place_cmp d.0 (keys_of (done ++ x ∷ rest)) ascends)
 
 -- where the state that comes next is to be there is none
 pub next_free : (old new : Contents) (numbers : List ℕ) (spare : List (ℕ × ℕ)) (place : ℕ × ℕ) (s : State) (n : ℕ) → has_point spare place ≡ false → IsFamily old → AreMoved old.contexts new.contexts numbers → IsFoundAll old
     → IsStrictlySortedBy place_cmp (keys_of old.states) → slice_get numbers place.0 ≡ Some n
     → (rest rest' : List ((ℕ × ℕ) × State)) → HasSoFar old new spare rest → rest ≡ (place, s) ∷ rest' → family_of new (place_of new n place.1) ≡ None
-next_free old new numbers spare place s n listed family moved all rises known rest rest' so_far rest_is =
+next_free old new numbers spare place s n listed family moved all ascends known rest rest' so_far rest_is =
     let (done, split, same) = so_far in
     let split_here : old.states ≡ done ++ (place, s) ∷ rest' = split ∙ ap (λ l. done ++ l) rest_is in
     let found : states_of old.states place ≡ Some s = entry_found old done rest' (place, s) split_here all in
@@ -52,7 +52,7 @@ next_free old new numbers spare place s n listed family moved all rises known re
     number_of-is old.contexts (frames_at new.contexts n) place.0 family.distinct (family.held place.0 place.1 s found) (sym frames_is) in
     let R : List ((ℕ × ℕ) × State) → Type 0 = λ l. IsStrictlySortedBy place_cmp (keys_of l) in
     same (place_of new n place.1) ∙ ap (λ k. cond (has_point spare (k, place.1)) None (states_of done (k, place.1))) number_is ∙ ap (λ b. cond b None (states_of done place)) listed
-    ∙ none_before done rest' (place, s) (subst R split_here rises)
+    ∙ none_before done rest' (place, s) (subst R split_here ascends)
 
 -- one more state is there
 pub amount_step : (old new new' : Contents) (place : List Frame × ℕ) (s : State) (changed : Bool) → family_of new place ≡ None

@@ -38,8 +38,8 @@ end_functions_hold s functions family Starts safe starts end at left l =
 -- the same for a good family
 pub defined_at_end : (family : Place → Option State) (length : ℕ) (functions : List (ℕ × ℕ)) (end : State) → family ([], length) ≡ Some end → functions ≡ end.functions
     → AreDefinedAtEnd family length functions
-defined_at_end family length functions end at listed s start setting short rises good long left leaves =
+defined_at_end family length functions end at listed s start setting short ascends good long left leaves =
     let there : family ([], size s.main) ≡ Some end = ap (λ (o : ℕ). family ([], o)) long ∙ at in
     let C : List (ℕ × ℕ) → Type 0 = λ fs. CoversFunctions fs left in
     subst C (sym listed)
-    (end_functions_hold s start family (StartsWith start) (good_is_safe s setting short start rises family good) (λ m h. h) end there left leaves)
+    (end_functions_hold s start family (StartsWith start) (good_is_safe s setting short start ascends family good) (λ m h. h) end there left leaves)

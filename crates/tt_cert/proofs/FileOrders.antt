@@ -14,11 +14,11 @@ use Rattle.tt_abs.specs.declared.state.State.{State}
 use Rattle.tt_cert.specs.Contexts.{frames_of}
 use Rattle.tt_cert.specs.Contents.{Contents, frames_at}
 use Rattle.tt_cert.specs.Built.{Key, key_cmp, key_of, IsBuilt}
-use Rattle.tt_cert.specs.Rising.{IsContextAt, IsRising}
+use Rattle.tt_cert.specs.Ascending.{IsContextAt, IsAscending}
 use Rattle.tt_cert.specs.Representation.FileOrder.{in_order, IsFileOrder}
 use Rattle.tt_cert.proofs.Adding.{at_entry, length_is, family_is, cons_same, key_same, frame_same}
 use Rattle.tt_cert.proofs.Queues.{IsQueue, under, map_back, map_at, is_number}
-use Rattle.tt_cert.proofs.Rising.{entry_at, key_total}
+use Rattle.tt_cert.proofs.Ascending.{entry_at, key_total}
 
 -- the frame of a key
 abbrev frame_of : Key → Frame
@@ -117,7 +117,7 @@ module _ (entries : List (ℕ × Frame)) (index : BTreeMap Key ℕ) (states : Li
           | inr not_higher ↦
               let place : x.0.0 ≡ y.0.0 = omega arith in
               let key : x.0 ≡ y.0 = λ t. (place t, (entry t).1.call, (entry t).1.body, (entry t).1.turn, (entry t).1.count) in
-              let rises : key_cmp x.0 y.0 ≡ Less = queue.rises a b x y (omega arith) at_x at_y in
+              let ascends : key_cmp x.0 y.0 ≡ Less = queue.ascends a b x y (omega arith) at_x at_y in
               let ties : key_cmp x.0 y.0 ≡ Equal = ap (key_cmp x.0) (sym key) ∙ tied_itself key_total x.0 in
               cc
         ]
@@ -190,20 +190,20 @@ module _ (entries : List (ℕ × Frame)) (index : BTreeMap Key ℕ) (states : Li
       let before' = mine.1 in
       key_same (x.0.0, frame_of x.0) d (distinct x.0.0 d.0 (omega arith) (omega arith) both.0) both.1
 
-  rising : IsRising (in_order v.contexts order)
-  rising = record {
+  ascending : IsAscending (in_order v.contexts order)
+  ascending = record {
     parents = λ n some lt.
         let (a, x, n_is, at) = found_of n some lt in
         let S : ℕ → Type 0 = λ m. IsContextAt (in_order v.contexts order) m (x.0.0, frame_of x.0) in
         ((x.0.0, frame_of x.0), subst S (sym n_is) (found_stands a x at));
-    rises = λ m n d e less at_d at_e.
+    ascends = λ m n d e less at_d at_e.
         let some = at_d.1 in
         let (a, x, m_is, at_x) = found_of m (omega arith) at_d.0 in
         let (b, y, n_is, at_y) = found_of n (omega arith) at_e.0 in
         let S : ℕ × Frame → ℕ → Type 0 = λ z k. IsContextAt (in_order v.contexts order) k z in
         let key_x = key_is a x d at_x (subst (S d) m_is at_d) in
         let key_y = key_is b y e at_y (subst (S e) n_is at_e) in
-        ap (λ k. key_cmp k (key_of e)) (sym key_x) ∙ ap (key_cmp x.0) (sym key_y) ∙ queue.rises a b x y (omega arith) at_x at_y;
+        ap (λ k. key_cmp k (key_of e)) (sym key_x) ∙ ap (key_cmp x.0) (sym key_y) ∙ queue.ascends a b x y (omega arith) at_x at_y;
   }
 
   pub IsFileOrder-from : length order ≤ i → IsFileOrder v.contexts order
@@ -218,7 +218,7 @@ module _ (entries : List (ℕ × Frame)) (index : BTreeMap Key ℕ) (states : Li
       ]
     ];
     all = λ n lt. all_found done (n + 1) n (omega arith) lt;
-    rising = rising;
+    ascending = ascending;
   }
 
 -- a number that was read

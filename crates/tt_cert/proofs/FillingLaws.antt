@@ -12,7 +12,7 @@ use Rattle.tt_abs.specs.Lines.{Precedes}
 use Rattle.tt_abs.specs.StateFlow.{Place, GivesState, flow_of}
 use Rattle.tt_abs.specs.States.{start_of, state_laws, state_order}
 use Rattle.tt_abs.proofs.FlowOfStates.{given_one}
-use Rattle.tt_abs.proofs.LineLaws.{precedes_rises, precedes_one, precedes_no_start}
+use Rattle.tt_abs.proofs.LineLaws.{precedes_ascends, precedes_one, precedes_no_start}
 use Rattle.tt_cert.specs.Contents.{Contents, IsFamily, family_of, number_of}
 use Rattle.tt_cert.specs.Checks.{BreaksAt, IsFilledBy, IsFirstBreakOnTheWay, IsGap, IsMet, IsSoundAt, LeavesGap, stores, refused, leaves}
 use Rattle.tt_cert.specs.Fillings.{IsFilling, HasGoodFilling}
@@ -73,7 +73,7 @@ module _ (s : Setting) (MayLeaveOut : Place → Place → Type 0) (line : (p q :
         cc
     | inr none ↦
         let add = a.added q t at none in
-        let rise = precedes_rises s add.before q (line add.before q add.just_before) in
+        let rise = precedes_ascends s add.before q (line add.before q add.just_before) in
         let here = agrees family one other Walked a b k add.before add.state (omega arith) add.there in
         b.given add.before add.state q t tt here add.gives none
   ]

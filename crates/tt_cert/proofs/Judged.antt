@@ -4,7 +4,7 @@ use Rattle.std.proofs.Common.{sym, ◌∙◌, ap, inl, inr}
 use Rattle.tt_code.specs.Settings.{Setting}
 use Rattle.tt_code.specs.declared.reason.Reason.{Reason}
 use Rattle.tt_abs.specs.declared.state.State.{State}
-use Rattle.tt_abs.specs.Entries.{Rises}
+use Rattle.tt_abs.specs.Entries.{Ascends}
 use Rattle.tt_abs.specs.Families.{CoversAt, IsGood}
 use Rattle.tt_abs.proofs.FamilyLaws.{good_from_fine}
 use Rattle.tt_abs.specs.Lines.{Precedes}
@@ -104,8 +104,8 @@ module _ (s : Setting) (functions : List (ℕ × ℕ)) (v : Contents) (family : 
     few = few_contexts;
   }
 
-  pub safe_here : IsSettingInRange s → AreProgramsShort s → Rises functions → IsFoundSound s functions Whole v → IsSafe s functions (family_of v)
-  safe_here range short rises found = good_is_safe s range short functions rises (family_of v) (good_here found.start (all_sound found.through))
+  pub safe_here : IsSettingInRange s → AreProgramsShort s → Ascends functions → IsFoundSound s functions Whole v → IsSafe s functions (family_of v)
+  safe_here range short ascends found = good_is_safe s range short functions ascends (family_of v) (good_here found.start (all_sound found.through))
 
   first_of_whole : (q : Place) (r : Reason) → IsFirstBreakOnTheWay s (MayLeaveOut Whole s) v q r → IsFirstBreak s v q r
   first_of_whole q r h = record {
@@ -141,11 +141,11 @@ module _ (s : Setting) (functions : List (ℕ × ℕ)) (v : Contents) (family : 
   pub filling_here : IsFoundSound s functions Sparse v → HasGoodFilling s functions (family_of v)
   filling_here found = (found.through.filled, filling_from_walk s (family_of v) found.through.filled found.through.filled_by, filling_good found)
 
-  pub safe_filling : IsSettingInRange s → AreProgramsShort s → Rises functions → IsFoundSound s functions Sparse v → HasSafeFilling s functions (family_of v)
-  safe_filling range short rises found = (
+  pub safe_filling : IsSettingInRange s → AreProgramsShort s → Ascends functions → IsFoundSound s functions Sparse v → HasSafeFilling s functions (family_of v)
+  safe_filling range short ascends found = (
     found.through.filled,
     filling_from_walk s (family_of v) found.through.filled found.through.filled_by,
-    good_is_safe s range short functions rises found.through.filled (filling_good found).good,
+    good_is_safe s range short functions ascends found.through.filled (filling_good found).good,
   )
 
   pub filling_memory : HasGoodFilling s functions (family_of v) → (fault : ProgramFault) → Names (IsFillingBrokenFirst s functions v) fault → IsOutOfMemory fault

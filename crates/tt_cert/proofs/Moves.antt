@@ -15,7 +15,7 @@ use Rattle.tt_cert.specs.Places.{has_point, place_cmp, states_of, PutsAt, PutGiv
 use Rattle.tt_cert.specs.Puts.{place_of}
 use Rattle.tt_cert.specs.Contents.{Contents, IsFamily, HasContext, frames_at, family_of, number_of}
 use Rattle.tt_cert.specs.Numbers.{at-number_of, number_of-is, number_of-place}
-use Rattle.tt_cert.specs.Rising.{AreMoved, SameContents, SameWithout, family_without}
+use Rattle.tt_cert.specs.Ascending.{AreMoved, SameContents, SameWithout, family_without}
 use Rattle.tt_cert.proofs.Puts.{cases_place, places_apart}
 use Rattle.tt_cert.proofs.Putting.{place_total}
 

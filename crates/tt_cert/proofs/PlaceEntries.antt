@@ -80,8 +80,8 @@ pub same_points : {X : Type 0} (es fs : List ((ℕ × ℕ) × X)) → IsStrictly
 same_points es fs rise rise' same =
     entries.same_entries place_cmp place_total place_exact es fs (rise_tested es rise) (rise_tested fs rise') (λ p. sym (found_is_find es p) ∙ same p ∙ found_is_find fs p)
 
-pub insert_rises : (es : List Point) (k : ℕ × ℕ) (n : ℕ) → IsStrictlySortedBy place_cmp (keys_of es) → IsStrictlySortedBy place_cmp (keys_of (insert_entry place_cmp es k n))
-insert_rises es k n rise =
+pub insert_ascends : (es : List Point) (k : ℕ × ℕ) (n : ℕ) → IsStrictlySortedBy place_cmp (keys_of es) → IsStrictlySortedBy place_cmp (keys_of (insert_entry place_cmp es k n))
+insert_ascends es k n rise =
     let R : List Point → Type 0 = λ l. IsStrictlySortedBy place_cmp (keys_of l) in
     subst R (sym (insert_is_put es k n)) (rise_from_test (entries.put place_cmp k n es) (entries.is_sorted-put place_cmp place_total k n es (rise_tested es rise)))
 
@@ -114,16 +114,16 @@ merged_found points (e ∷ es) p =
     insert_found (merged points es) e.0 e.1 p ∙ ap (cond (is_at (place_cmp p) e.0) (Some e.1)) (merged_found points es p)
     ∙ put_or (is_at (place_cmp p) e.0) e.1 (states_of es p) (states_of points p)
 
-pub merged_rises : (points rest : List Point) → IsStrictlySortedBy place_cmp (keys_of points) → IsStrictlySortedBy place_cmp (keys_of (merged points rest))
-merged_rises points [] rise = rise
-merged_rises points (e ∷ es) rise = insert_rises (merged points es) e.0 e.1 (merged_rises points es rise)
+pub merged_ascends : (points rest : List Point) → IsStrictlySortedBy place_cmp (keys_of points) → IsStrictlySortedBy place_cmp (keys_of (merged points rest))
+merged_ascends points [] rise = rise
+merged_ascends points (e ∷ es) rise = insert_ascends (merged points es) e.0 e.1 (merged_ascends points es rise)
 
 -- a point that is put into the second list
 pub merged_rest : (points rest : List Point) (k : ℕ × ℕ) (n : ℕ) → IsStrictlySortedBy place_cmp (keys_of points)
     → merged points (insert_entry place_cmp rest k n) ≡ insert_entry place_cmp (merged points rest) k n
 merged_rest points rest k n rise =
-    same_points (merged points (insert_entry place_cmp rest k n)) (insert_entry place_cmp (merged points rest) k n) (merged_rises points (insert_entry place_cmp rest k n) rise)
-    (insert_rises (merged points rest) k n (merged_rises points rest rise))
+    same_points (merged points (insert_entry place_cmp rest k n)) (insert_entry place_cmp (merged points rest) k n) (merged_ascends points (insert_entry place_cmp rest k n) rise)
+    (insert_ascends (merged points rest) k n (merged_ascends points rest rise))
     (λ p. merged_found points (insert_entry place_cmp rest k n) p ∙ ap (λ r. option_or r (states_of points p)) (insert_found rest k n p)
     ∙ sym (put_or (is_at (place_cmp p) k) n (states_of rest p) (states_of points p)) ∙ ap (cond (is_at (place_cmp p) k) (Some n)) (sym (merged_found points rest p))
     ∙ sym (insert_found (merged points rest) k n p))
@@ -133,8 +133,8 @@ pub merged_points : (points points' rest : List Point) (k : ℕ × ℕ) (n : ℕ
     → ((p : ℕ × ℕ) → states_of points' p ≡ cond (is_at (place_cmp p) k) (Some n) (states_of points p)) → states_of rest k ≡ None
     → merged points' rest ≡ insert_entry place_cmp (merged points rest) k n
 merged_points points points' rest k n rise rise' puts none =
-    same_points (merged points' rest) (insert_entry place_cmp (merged points rest) k n) (merged_rises points' rest rise')
-    (insert_rises (merged points rest) k n (merged_rises points rest rise))
+    same_points (merged points' rest) (insert_entry place_cmp (merged points rest) k n) (merged_ascends points' rest rise')
+    (insert_ascends (merged points rest) k n (merged_ascends points rest rise))
     (λ p. merged_found points' rest p ∙ ap (option_or (states_of rest p)) (puts p) ∙ at p (place_cmp p k) refl
     ∙ ap (cond (is_at (place_cmp p) k) (Some n)) (sym (merged_found points rest p)) ∙ sym (insert_found (merged points rest) k n p))
   where

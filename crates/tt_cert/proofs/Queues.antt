@@ -20,7 +20,7 @@ use Rattle.std.proofs.lemmas.Option.{slice_get_within, get_or_from_slice_get}
 use Rattle.tt_cert.specs.Built.{Key, key_cmp}
 use Rattle.tt_cert.specs.Representation.FileOrder.{children}
 use Rattle.tt_cert.proofs.Adding.{keys_apart, cases_key}
-use Rattle.tt_cert.proofs.Rising.{key_total}
+use Rattle.tt_cert.proofs.Ascending.{key_total}
 
 module _ {A : Type 0} where
   pub get_left : (xs ys : List A) (i : ℕ) (x : A) → slice_get xs i ≡ Some x → slice_get (xs ++ ys) i ≡ Some x
@@ -118,9 +118,9 @@ sorted_pair {X} es i j x y sorted lt at_x at_y =
     let key_y : slice_index_or (keys_of es) j x.0 ≡ y.0 = get_or_from_slice_get (keys_of es) j y.0 x.0 (map_at (λ (e : Key × X). e.0) es j y at_y) in
     ap (λ k. key_cmp k y.0) (sym key_x) ∙ ap (key_cmp (slice_index_or (keys_of es) i x.0)) (sym key_y) ∙ Less-from_sorted key_cmp (keys_of es) i j x.0 sorted lt (omega arith)
 
-pub kin_rises : (entries : List (Key × ℕ)) (p i j : ℕ) (x y : Key × ℕ) → IsStrictlySortedBy key_cmp (keys_of entries) → i < j → slice_get (kin entries p) i ≡ Some x
+pub kin_ascends : (entries : List (Key × ℕ)) (p i j : ℕ) (x y : Key × ℕ) → IsStrictlySortedBy key_cmp (keys_of entries) → i < j → slice_get (kin entries p) i ≡ Some x
     → slice_get (kin entries p) j ≡ Some y → key_cmp x.0 y.0 ≡ Less
-kin_rises entries p i j x y sorted = sorted_pair (kin entries p) i j x y (go entries sorted)
+kin_ascends entries p i j x y sorted = sorted_pair (kin entries p) i j x y (go entries sorted)
   where
     keys_kin : (es : List (Key × ℕ)) → keys_of (kin es p) ≡ filter (λ k. k.0 == p) (keys_of es)
     keys_kin [] = refl
@@ -203,7 +203,7 @@ pub record IsFound (index : BTreeMap Key ℕ) (order : List ℕ) (i a : ℕ) (x 
 pub record IsQueue (index : BTreeMap Key ℕ) (order : List ℕ) (i : ℕ) : Type 0 where
   pub found : List (Key × ℕ)
   pub is : order ≡ 0 ∷ values_of found
-  pub rises : (a b : ℕ) (x y : Key × ℕ) → a < b → slice_get found a ≡ Some x → slice_get found b ≡ Some y → key_cmp x.0 y.0 ≡ Less
+  pub ascends : (a b : ℕ) (x y : Key × ℕ) → a < b → slice_get found a ≡ Some x → slice_get found b ≡ Some y → key_cmp x.0 y.0 ≡ Less
   pub each : (a : ℕ) (x : Key × ℕ) → slice_get found a ≡ Some x → IsFound index order i a x
   pub all : (j p : ℕ) (k : Key) (n : ℕ) → j < i → slice_get order j ≡ Some p → k.0 ≡ p → get key_cmp index k ≡ Some n → (a : ℕ) × (slice_get found a ≡ Some (under j k, n))
 
@@ -211,7 +211,7 @@ pub IsQueue-first : (index : BTreeMap Key ℕ) (order : List ℕ) → order ≡ 
 IsQueue-first index order one = record {
   found = [];
   is = one;
-  rises = λ a b x y lt at_x at_y. absurd (cc);
+  ascends = λ a b x y lt at_x at_y. absurd (cc);
   each = λ a x at. absurd (cc);
   all = λ j p k n lt at is has. absurd (omega arith);
 }
@@ -249,10 +249,10 @@ module _ (index : BTreeMap Key ℕ) (order order' : List ℕ) (i p : ℕ) (queue
   is' = more ∙ ap (λ l. l ++ children index.entries p) queue.is ∙ ap (λ l. (0 ∷ values_of queue.found) ++ l) (sym (values_block (kin index.entries p)))
       ∙ ap (λ l. 0 ∷ l) (sym (values_append queue.found block))
 
-  rises' : (a b : ℕ) (x y : Key × ℕ) → a < b → slice_get (queue.found ++ block) a ≡ Some x → slice_get (queue.found ++ block) b ≡ Some y → key_cmp x.0 y.0 ≡ Less
-  rises' a b x y lt at_x at_y = elim (get_cases queue.found block a x at_x) [
+  ascends' : (a b : ℕ) (x y : Key × ℕ) → a < b → slice_get (queue.found ++ block) a ≡ Some x → slice_get (queue.found ++ block) b ≡ Some y → key_cmp x.0 y.0 ≡ Less
+  ascends' a b x y lt at_x at_y = elim (get_cases queue.found block a x at_x) [
     | inl old_x ↦ elim (get_cases queue.found block b y at_y) [
-      | inl old_y ↦ queue.rises a b x y lt old_x old_y
+      | inl old_y ↦ queue.ascends a b x y lt old_x old_y
       | inr new_y ↦
           let (j, b_is, at) = new_y in
           let (e, _, _, y_is) = new_at j y at in
@@ -268,7 +268,7 @@ module _ (index : BTreeMap Key ℕ) (order order' : List ℕ) (i p : ℕ) (queue
               let (j', b_is, at') = new_y in
               let (e, at_e, mine, x_is) = new_at j x at in
               let (e', at_e', mine', y_is) = new_at j' y at' in
-              let less = kin_rises index.entries p j j' e e' ordered (omega arith) at_e at_e' in
+              let less = kin_ascends index.entries p j j' e e' ordered (omega arith) at_e at_e' in
               ap (λ (z : Key × ℕ). key_cmp z.0 y.0) x_is ∙ ap (λ (z : Key × ℕ). key_cmp (under i e.0) z.0) y_is ∙ under_same e.0 e'.0 i (mine ∙ sym mine') less
         ]
   ]
@@ -317,7 +317,7 @@ module _ (index : BTreeMap Key ℕ) (order order' : List ℕ) (i p : ℕ) (queue
 
   -- the children of one more
   pub IsQueue-step : IsQueue index order' (i + 1)
-  IsQueue-step = record { found = queue.found ++ block; is = is'; rises = rises'; each = each'; all = all' }
+  IsQueue-step = record { found = queue.found ++ block; is = is'; ascends = ascends'; each = each'; all = all' }
 
 -- the numbers that were pushed, and those that are left
 pub children_first : (items : List ℕ) (entries rest rest' : List (Key × ℕ)) (p : ℕ) → rest' ≡ rest → rest ≡ entries_between key_cmp (Included (least p)) (Excluded (least (p + 1))) entries

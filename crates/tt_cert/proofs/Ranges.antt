@@ -16,7 +16,7 @@ one_fits = search rules
 
 -- the state at a start without functions
 pub start_in_range : state_order.InRange (start_of [])
-start_in_range = ((λ k. tt), (((zero_fits, (zero_fits, (zero_fits, one_fits))), (tt, (tt, tt))), (record { rises = tt; values = tt }, record { rises = tt; values = tt })))
+start_in_range = ((λ k. tt), (((zero_fits, (zero_fits, (zero_fits, one_fits))), (tt, (tt, tt))), (record { ascends = tt; values = tt }, record { ascends = tt; values = tt })))
 
 stack_push : (cells : List Cell) (c : Cell) → CellInRange c → StackInRange cells → StackInRange (c ∷ cells)
 stack_push cells c one rest zero = one

@@ -6,7 +6,7 @@ use Rattle.std.proofs.lemmas.List.{take_more, map-append}
 use Rattle.std.proofs.lemmas.Option.{slice_get_within, slice_get-get_or, get_or_from_slice_get}
 use Rattle.tt_code.specs.declared.machine.Frame.{Frame}
 use Rattle.tt_cert.specs.Contents.{Contents, IsFamily, AddsContext, frames_at}
-use Rattle.tt_cert.specs.Rising.{AreMoved}
+use Rattle.tt_cert.specs.Ascending.{AreMoved}
 use Rattle.tt_cert.specs.declared.fault.ContextFault.{ContextFault}
 use Rattle.tt_cert.specs.declared.fault.ContextFault.TheVariants.{TooManyContexts}
 use Rattle.tt_cert.specs.declared.fault.ContextFault.TheVariants as context
@@ -131,7 +131,7 @@ module _ (v : Contents) (order : List ℕ) (family : IsFamily v) (file : IsFileO
     parent_before some parent frame below here =
         let lt = slice_get_within order i n at in
         let long = length-in_order v.contexts order in
-        let (e, stands) = file.rising.parents i some (omega arith) in
+        let (e, stands) = file.ascending.parents i some (omega arith) in
         let before = stands.1 in
         let (q, at_q) = number_in_order v.contexts order e.0 (omega arith) in
         let both = cons_same e.1 frame (frames_at (in_order v.contexts order) e.0) (frames_at v.contexts parent) (sym stands.2 ∙ frames_in_order v.contexts order i n at ∙ here) in

@@ -14,13 +14,13 @@ use Rattle.std.proofs.lemmas.Bool.{cases_eq, cases_lt, eq-eqb, ne_eqb}
 use Rattle.std.proofs.lemmas.Cmp.{tied_itself}
 use Rattle.std.proofs.lemmas.List.{get_or-set_same, get_or-set_other, set-get_or, length-append, length-set}
 use Rattle.std.proofs.lemmas.Option.{slice_get_read, get_or_from_slice_get}
-use Rattle.tt_abs.specs.Entries.{Rises, listed}
+use Rattle.tt_abs.specs.Entries.{Ascends, listed}
 use Rattle.tt_cert.specs.Places.{place_cmp, states_of}
 use Rattle.tt_cert.specs.Representation.SlotLists.{Point, Offsets, list_points, lists_points, merged, list_of, AreBelow, AreApart, AreEmptyFrom, AreSlotLists, AddsLists}
 use Rattle.tt_cert.proofs.Puts.{places_apart}
 use Rattle.tt_cert.proofs.Putting.{place_total}
-use Rattle.tt_cert.proofs.ListEnds.{listed_below, listed_pushed, rises_pushed, below_first}
-use Rattle.tt_cert.proofs.PlaceEntries.{merged_found, merged_points, merged_rest, merged_rises, insert_found, insert_length, insert_rises, place_exact}
+use Rattle.tt_cert.proofs.ListEnds.{listed_below, listed_pushed, ascends_pushed, below_first}
+use Rattle.tt_cert.proofs.PlaceEntries.{merged_found, merged_points, merged_rest, merged_ascends, insert_found, insert_length, insert_ascends, place_exact}
 
 -- places by their parts
 
@@ -109,16 +109,16 @@ before_list : (c o : ℕ) (list : Offsets) (es : List Point) → AllByRecursion 
 before_list c o [] es above all = first_before c o es all
 before_list c o (e ∷ list) es above all = (later_offset c o e.0 above.0, before_list c o list es above.1 all)
 
-list_rises : (c : ℕ) (list : Offsets) (es : List Point) → Rises list → AllByRecursion (λ p. suc c ≤ p.0) (keys_of es) → IsStrictlySortedBy place_cmp (keys_of es)
+list_ascends : (c : ℕ) (list : Offsets) (es : List Point) → Ascends list → AllByRecursion (λ p. suc c ≤ p.0) (keys_of es) → IsStrictlySortedBy place_cmp (keys_of es)
     → IsStrictlySortedBy place_cmp (keys_of (list_points c list ++ es))
 unfolding IsStrictlySortedBy
-list_rises c [] es rises all rise = rise
-list_rises c (e ∷ list) es rises all rise = (before_list c e.0 list es rises.0 all, list_rises c list es rises.1 all rise)
+list_ascends c [] es ascends all rise = rise
+list_ascends c (e ∷ list) es ascends all rise = (before_list c e.0 list es ascends.0 all, list_ascends c list es ascends.1 all rise)
 
-rise_from : (b : ℕ) (lists : List Offsets) → ((c : ℕ) → Rises (list_of lists c)) → IsStrictlySortedBy place_cmp (keys_of (lists_points b lists))
+rise_from : (b : ℕ) (lists : List Offsets) → ((c : ℕ) → Ascends (list_of lists c)) → IsStrictlySortedBy place_cmp (keys_of (lists_points b lists))
 unfolding IsStrictlySortedBy
-rise_from b [] rises = tt
-rise_from b (list ∷ lists) rises = list_rises b list (lists_points (suc b) lists) (rises 0) (all_from (suc b) (suc b) lists (omega arith)) (rise_from (suc b) lists (λ c. rises (suc c)))
+rise_from b [] ascends = tt
+rise_from b (list ∷ lists) ascends = list_ascends b list (lists_points (suc b) lists) (ascends 0) (all_from (suc b) (suc b) lists (omega arith)) (rise_from (suc b) lists (λ c. ascends (suc c)))
 
 -- the points of the lists, and those beside them
 module _ (lists : List Offsets) (rest : List Point) (places : AreSlotLists lists rest) where
@@ -128,7 +128,7 @@ module _ (lists : List Offsets) (rest : List Point) (places : AreSlotLists lists
   pub places_apart_rest : AreApart (lists_points 0 lists) rest
   places_apart_rest = record {
     points_rise = lists_rise;
-    rest_rises = places.rest_rises;
+    rest_ascends = places.rest_ascends;
     once = λ p n at. lists_found lists p ∙ places.unlisted p.0 p.1 n at;
   }
 
@@ -186,10 +186,10 @@ adds_one old lists new adds is = record {
 
 pub places_with_lists : (old new : List Offsets) (rest : List Point) → AreSlotLists old rest → AddsLists old new → length new ≤ 4294967296 → AreSlotLists new rest
 places_with_lists old new rest places adds fits =
-    let R : Offsets → Type 0 = λ list. Rises list in
+    let R : Offsets → Type 0 = λ list. Ascends list in
     record {
       rise = λ c. subst R (sym (adds.lists c)) (places.rise c);
-      rest_rises = places.rest_rises;
+      rest_ascends = places.rest_ascends;
       unlisted = λ c o n at. ap (λ list. listed list o) (adds.lists c) ∙ places.unlisted c o n at;
       early = λ c o n at below. let B : Offsets → Type 0 = λ list. AreBelow o list in places.early c o n at (subst B (adds.lists c) below);
       fits = fits;
@@ -264,11 +264,11 @@ module _ (lists : List Offsets) (rest : List Point) (empty : (c : ℕ) → list_
   pub empty_places : length lists ≤ 4294967296 → AreSlotLists lists rest
   unfolding IsStrictlySortedBy
   empty_places fits =
-      let R : Offsets → Type 0 = λ list. Rises list in
+      let R : Offsets → Type 0 = λ list. Ascends list in
       let S : List Point → Type 0 = λ l. IsStrictlySortedBy place_cmp (keys_of l) in
       record {
         rise = λ c. subst R (sym (empty c)) tt;
-        rest_rises = subst S (sym none) tt;
+        rest_ascends = subst S (sym none) tt;
         unlisted = λ c o n at. absurd (let both : None ≡ Some n = sym (ap (λ l. states_of l (c, o)) none) ∙ at in cc);
         early = λ c o n at. absurd (let both : None ≡ Some n = sym (ap (λ l. states_of l (c, o)) none) ∙ at in cc);
         fits = fits;
@@ -293,13 +293,13 @@ module _ (lists : List Offsets) (rest : List Point) (places : AreSlotLists lists
 
     pub put_places : AreSlotLists (slice_set lists c list) rest
     put_places =
-        let R : Offsets → Type 0 = λ r. Rises r in
+        let R : Offsets → Type 0 = λ r. Ascends r in
         record {
           rise = λ c'. elim (cases_eq c' c) [
-            | inl here ↦ subst R (sym (ap (list_of (slice_set lists c list)) here ∙ list_now)) (rises_pushed o n (list_of lists c) (places.rise c) below)
+            | inl here ↦ subst R (sym (ap (list_of (slice_set lists c list)) here ∙ list_now)) (ascends_pushed o n (list_of lists c) (places.rise c) below)
             | inr apart ↦ subst R (sym (other_list c' apart)) (places.rise c')
           ];
-          rest_rises = places.rest_rises;
+          rest_ascends = places.rest_ascends;
           unlisted = λ c' q m at. elim (cases_eq c' c) [
             | inl here ↦
                 let at' : states_of rest (c, q) ≡ Some m = ap (λ x. states_of rest (x, q)) (sym here) ∙ at in
@@ -343,7 +343,7 @@ module _ (lists : List Offsets) (rest : List Point) (places : AreSlotLists lists
     pub beside_places : AreSlotLists lists (insert_entry place_cmp rest (c, o) n)
     beside_places = record {
       rise = places.rise;
-      rest_rises = insert_rises rest (c, o) n places.rest_rises;
+      rest_ascends = insert_ascends rest (c, o) n places.rest_ascends;
       unlisted = λ c' q m at. at_place (c', q) m (place_cmp (c', q) (c, o)) refl (sym (insert_found rest (c, o) n (c', q)) ∙ at);
       early = λ c' q m at. not_below (c', q) m (place_cmp (c', q) (c, o)) refl (sym (insert_found rest (c, o) n (c', q)) ∙ at);
       fits = places.fits;
@@ -407,7 +407,7 @@ module _ (lists : List Offsets) (rest : List Point) (places : AreSlotLists lists
 pub one_point_more : (lists lists' : List Offsets) (rest points : List Point) (k : ℕ × ℕ) (n count : ℕ) → AreSlotLists lists rest → AddsLists lists lists' → states_of (merged (lists_points 0 lists) rest) k ≡ None
     → points ≡ insert_entry place_cmp (merged (lists_points 0 lists') rest) k n → count ≡ length (merged (lists_points 0 lists) rest) → count + 1 ≡ length points
 one_point_more lists lists' rest points k n count places adds absent is same =
-    let rise = merged_rises (lists_points 0 lists) rest (lists_rise lists rest places) in
+    let rise = merged_ascends (lists_points 0 lists) rest (lists_rise lists rest places) in
     let long = insert_length (merged (lists_points 0 lists) rest) k n rise absent in
     let total = ap length (is ∙ ap (λ l. insert_entry place_cmp (merged l rest) k n) (adds.points 0)) in
     omega arith

@@ -51,15 +51,15 @@ module _ (points : List Point) (e : Point) (rest : List Point) (apart : AreApart
   apart_behind_other : AreApart points rest
   apart_behind_other = record {
     points_rise = apart.points_rise;
-    rest_rises = sorted_tail place_cmp e.0 (keys_of rest) apart.rest_rises;
-    once = λ p n at. apart.once p n (found_behind_first e rest p n (sorted_head place_cmp e.0 (keys_of rest) apart.rest_rises) at);
+    rest_ascends = sorted_tail place_cmp e.0 (keys_of rest) apart.rest_ascends;
+    once = λ p n at. apart.once p n (found_behind_first e rest p n (sorted_head place_cmp e.0 (keys_of rest) apart.rest_ascends) at);
   }
 
 module _ (e : Point) (points rest : List Point) (apart : AreApart (e ∷ points) rest) where
   apart_behind_first : AreApart points rest
   apart_behind_first = record {
     points_rise = sorted_tail place_cmp e.0 (keys_of points) apart.points_rise;
-    rest_rises = apart.rest_rises;
+    rest_ascends = apart.rest_ascends;
     once = λ p n at. none_behind_first e points p (apart.once p n at);
   }
 
@@ -82,7 +82,7 @@ first_before : (e : Point) (points : List Point) (other : Option Point) (rest : 
 first_before e points None rest apart behind = tt
 first_before e points (Some d) rest apart behind =
     let less : place_cmp e.0 d.0 ≡ Less = go (place_cmp d.0 e.0) refl behind in
-    (less, below_below e.0 d.0 rest less (sorted_head place_cmp d.0 (keys_of rest) apart.rest_rises))
+    (less, below_below e.0 d.0 rest less (sorted_head place_cmp d.0 (keys_of rest) apart.rest_ascends))
   where
     go : (o : Ordering) → place_cmp d.0 e.0 ≡ o → is_lt o ≡ false → place_cmp e.0 d.0 ≡ Less
     go Less h k = absurd (false≢true (sym k))
@@ -111,7 +111,7 @@ module _ (first other : Option Point) (points rest : List Point) (apart : AreApa
           → IfSome o (λ e. t ≡ e ∷ merged (with_first first points) (with_first r rest'))
       go None h k at = tt
       go (Some e) h k at =
-          sym at ∙ merged_other (with_first first points) rest e (other_before e first points h.points_rise k) (sorted_head place_cmp e.0 (keys_of rest) h.rest_rises)
+          sym at ∙ merged_other (with_first first points) rest e (other_before e first points h.points_rise k) (sorted_head place_cmp e.0 (keys_of rest) h.rest_ascends)
           ∙ ap (λ l. e ∷ merged (with_first first points) l) (sym (taken_first r rest rest' none some))
 
 -- the first point of the lists is taken

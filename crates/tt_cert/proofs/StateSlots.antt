@@ -23,7 +23,7 @@ use Rattle.tt_cert.specs.Puts.{ReweighsStates}
 use Rattle.tt_cert.specs.Representation.StateSlots.{state_in, states_in, AreSlots, AgreesBelow, AreFirstSlots}
 use Rattle.tt_cert.proofs.Puts.{cases_place, places_apart}
 use Rattle.tt_cert.proofs.Putting.{place_total, sums_written, sums_added}
-use Rattle.tt_cert.proofs.PlaceEntries.{insert_rises, insert_here, insert_elsewhere, insert_length}
+use Rattle.tt_cert.proofs.PlaceEntries.{insert_ascends, insert_here, insert_elsewhere, insert_length}
 
 abbrev Slots : Type 0
 Slots = List ((ℕ × ℕ) × ℕ)
@@ -31,7 +31,7 @@ Slots = List ((ℕ × ℕ) × ℕ)
 -- an entry's value is what its place has
 entry_at : {X : Type 0} (es : List ((ℕ × ℕ) × X)) (i : ℕ) (e : (ℕ × ℕ) × X) → IsStrictlySortedBy place_cmp (keys_of es) → slice_get es i ≡ Some e
     → states_of es e.0 ≡ Some e.1
-entry_at es i e rises at = lookup_from_place (eq_by_cmp_equiv place_total) es i e.0 e.1 (IsDistinct-from_sorted place_cmp (keys_of es) rises) at
+entry_at es i e ascends at = lookup_from_place (eq_by_cmp_equiv place_total) es i e.0 e.1 (IsDistinct-from_sorted place_cmp (keys_of es) ascends) at
 
 keys_of-states_in : (slots : List State) (es : Slots) → keys_of (states_in slots es) ≡ keys_of es
 keys_of-states_in slots [] = refl
@@ -96,10 +96,10 @@ set_states_in slots (e ∷ es) k n u once at lt = elim (cases_Bool (is_at (place
 ]
 
 index_below : (es : Slots) (i j : ℕ) (d e : (ℕ × ℕ) × ℕ) → IsStrictlySortedBy place_cmp (keys_of es) → slice_get es i ≡ Some d → slice_get es j ≡ Some e → d.0 ≡ e.0 → i < j → ⊥
-index_below es i j d e rises at_i at_j keys lt =
+index_below es i j d e ascends at_i at_j keys lt =
     let key_i : slice_get (keys_of es) i ≡ Some d.0 = slice_get-map (λ (x : (ℕ × ℕ) × ℕ). x.0) es i ∙ ap (option_map (λ (x : (ℕ × ℕ) × ℕ). x.0)) at_i in
     let key_j : slice_get (keys_of es) j ≡ Some d.0 = slice_get-map (λ (x : (ℕ × ℕ) × ℕ). x.0) es j ∙ ap (option_map (λ (x : (ℕ × ℕ) × ℕ). x.0)) at_j ∙ ap Some (sym keys) in
-    let less = Less-from_sorted place_cmp (keys_of es) i j d.0 rises lt (slice_get_within (keys_of es) j d.0 key_j) in
+    let less = Less-from_sorted place_cmp (keys_of es) i j d.0 ascends lt (slice_get_within (keys_of es) j d.0 key_j) in
     let C : ℕ × ℕ → ℕ × ℕ → Ordering = place_cmp in
     let tied : Less ≡ Equal =
     sym less ∙ ap (λ x. C x (slice_index_or (keys_of es) j d.0)) (get_or_from_slice_get (keys_of es) i d.0 d.0 key_i) ∙ ap (C d.0) (get_or_from_slice_get (keys_of es) j d.0 d.0 key_j)
@@ -108,10 +108,10 @@ index_below es i j d e rises at_i at_j keys lt =
 
 -- one place is there once
 index_of : (es : Slots) (i j : ℕ) (d e : (ℕ × ℕ) × ℕ) → IsStrictlySortedBy place_cmp (keys_of es) → slice_get es i ≡ Some d → slice_get es j ≡ Some e → d.0 ≡ e.0 → i ≡ j
-index_of es i j d e rises at_i at_j keys = elim (cases_lt i j) [
-  | inl lt ↦ absurd (index_below es i j d e rises at_i at_j keys lt)
+index_of es i j d e ascends at_i at_j keys = elim (cases_lt i j) [
+  | inl lt ↦ absurd (index_below es i j d e ascends at_i at_j keys lt)
   | inr ge ↦ elim (cases_lt j i) [
-    | inl lt ↦ absurd (index_below es j i e d rises at_j at_i (sym keys) lt)
+    | inl lt ↦ absurd (index_below es j i e d ascends at_j at_i (sym keys) lt)
     | inr le ↦ omega arith
   ]
 ]
@@ -122,7 +122,7 @@ module _ (slots : List State) (es : Slots) (places : AreFirstSlots slots es) whe
   slot_there p n at = let first = places.first p n (sym at) in let enough = places.enough in omega arith
 
   are_slots : AreSlots slots es
-  are_slots i e at = slot_there e.0 e.1 (sym (entry_at es i e places.rises at))
+  are_slots i e at = slot_there e.0 e.1 (sym (entry_at es i e places.ascends at))
 
   -- the same of copies of the lists
   pub slots_now : (slots' : List State) (es' : Slots) → slots' ≡ slots → es' ≡ es → AreSlots slots' es'
@@ -131,7 +131,7 @@ module _ (slots : List State) (es : Slots) (places : AreFirstSlots slots es) whe
   pub slots_rise : (t : List ((ℕ × ℕ) × State)) → states_in slots es ≡ t → IsStrictlySortedBy place_cmp (keys_of t)
   slots_rise t is =
       let R : List (ℕ × ℕ) → Type 0 = λ x. IsStrictlySortedBy place_cmp x in
-      subst R (sym (keys_of-states_in slots es) ∙ ap keys_of is) places.rises
+      subst R (sym (keys_of-states_in slots es) ∙ ap keys_of is) places.ascends
 
   pub slots_found : (t : List ((ℕ × ℕ) × State)) → states_in slots es ≡ t → All (λ (e : (ℕ × ℕ) × State). states_of t e.0 ≡ Some e.1) t
   slots_found t is k d lt = entry_at t k (slice_index_or t k d) (slots_rise t is) (slice_get-get_or t k d lt)
@@ -156,9 +156,9 @@ module _ (slots : List State) (es : Slots) (places : AreFirstSlots slots es) whe
 
   index_once : (i j : ℕ) (d e : (ℕ × ℕ) × ℕ) → slice_get es i ≡ Some d → slice_get es j ≡ Some e → d.1 ≡ e.1 → i ≡ j
   index_once i j d e at_i at_j same =
-      let here = entry_at es i d places.rises at_i in
-      let there = entry_at es j e places.rises at_j in
-      index_of es i j d e places.rises at_i at_j (places.once d.0 e.0 d.1 here (there ∙ ap Some (sym same)))
+      let here = entry_at es i d places.ascends at_i in
+      let there = entry_at es j e places.ascends at_j in
+      index_of es i j d e places.ascends at_i at_j (places.once d.0 e.0 d.1 here (there ∙ ap Some (sym same)))
 
 -- the state at a place with a slot that holds the same
 same_elsewhere : (slots slots' : List State) (es : Slots) (p : ℕ × ℕ) → ((n : ℕ) → states_of es p ≡ Some n → state_in slots' n ≡ state_in slots n)
@@ -218,7 +218,7 @@ AreFirstSlots-empty slots es none =
     let R : Slots → Type 0 = λ l. IsStrictlySortedBy place_cmp (keys_of l) in
     let long : length es ≡ 0 = ap length none in
     record {
-      rises = subst R (sym none) tt;
+      ascends = subst R (sym none) tt;
       first = λ p n at. absurd (let both : None ≡ Some n = sym (ap (λ l. states_of l p) none) ∙ at in cc);
       once = λ p q n at. absurd (let both : None ≡ Some n = sym (ap (λ l. states_of l p) none) ∙ at in cc);
       enough = omega arith;
@@ -229,7 +229,7 @@ AreFirstSlots-empty slots es none =
 module _ (slots slots' : List State) (es : Slots) (places : AreFirstSlots slots es) (agrees : AgreesBelow (length es) slots slots') (long : length slots ≤ length slots') where
   AreFirstSlots-kept : AreFirstSlots slots' es
   AreFirstSlots-kept = record {
-    rises = places.rises;
+    ascends = places.ascends;
     first = places.first;
     once = places.once;
     enough = let enough = places.enough in omega arith;
@@ -237,7 +237,7 @@ module _ (slots slots' : List State) (es : Slots) (places : AreFirstSlots slots 
   }
 
   pub slots_kept : (t : List ((ℕ × ℕ) × State)) → states_in slots es ≡ t → states_in slots' es ≡ t
-  slots_kept t is = same_states_in slots slots' es (λ i e at. agrees e.1 (places.first e.0 e.1 (entry_at es i e places.rises at))) ∙ is
+  slots_kept t is = same_states_in slots slots' es (λ i e at. agrees e.1 (places.first e.0 e.1 (entry_at es i e places.ascends at))) ∙ is
 
   module _ (es' : Slots) (same : es' ≡ es) where
     pub slots_same : (t : List ((ℕ × ℕ) × State)) → states_in slots es ≡ t → states_in slots' es' ≡ t
@@ -265,11 +265,11 @@ module _ (slots slots' : List State) (es es' : Slots) (places : AreFirstSlots sl
   ]
 
   longer : length es' ≡ length es + 1
-  longer = ap length puts ∙ insert_length es k n places.rises absent
+  longer = ap length puts ∙ insert_length es k n places.ascends absent
 
   pub AreFirstSlots-added : n < 4294967295 → AreFirstSlots slots' es'
   AreFirstSlots-added few = let more = longer in let R : Slots → Type 0 = λ l. IsStrictlySortedBy place_cmp (keys_of l) in record {
-    rises = subst R (sym puts) (insert_rises es k n places.rises);
+    ascends = subst R (sym puts) (insert_ascends es k n places.ascends);
     first = λ p i at. elim (new_number p i at) [ inl here ↦ (let e = here.1 in omega arith) | inr old ↦ (let lt = old.1 in omega arith) ];
     once = λ p q i at_p at_q. elim (new_number p i at_p) [
       | inl here ↦ elim (new_number q i at_q) [

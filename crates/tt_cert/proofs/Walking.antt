@@ -117,7 +117,7 @@ way_shorter n n' old (Some o) offset how ahead small = elim how [
 
 -- What is read, and what is to come.
 
-module _ (v : Contents) (rises : IsStrictlySortedBy place_cmp (keys_of v.states)) where
+module _ (v : Contents) (ascends : IsStrictlySortedBy place_cmp (keys_of v.states)) where
   -- the first that is to come comes before the others
   coming_from_first : (x : Entry) (rest : List Entry) (done : List Entry) → v.states ≡ done ++ x ∷ rest → (i : ℕ) (e : Entry) → length done ≤ i → slice_get v.states i ≡ Some e
       → ((i ≡ length done) × (e ≡ x)) ⊎ (IsLess x.0 e.0)
@@ -128,7 +128,7 @@ module _ (v : Contents) (rises : IsStrictlySortedBy place_cmp (keys_of v.states)
             let both : Some e ≡ Some x = sym at ∙ ap (slice_get v.states) same ∙ at_x in
             let one : e ≡ x = cc in
             inl (same, one)
-        | inr other ↦ inr (less_from_cmp x.0 e.0 (sorted_at v.states (length done) i x e rises (omega arith) at_x at))
+        | inr other ↦ inr (less_from_cmp x.0 e.0 (sorted_at v.states (length done) i x e ascends (omega arith) at_x at))
       ]
 
   nothing_past : (done : List Entry) → v.states ≡ done ++ [] → (i : ℕ) (e : Entry) → length done ≤ i → slice_get v.states i ≡ Some e → ⊥
@@ -350,12 +350,12 @@ module _ (s : Setting) (listing : Listing) (v : Contents) (family : IsFamily v) 
       held = walked.held;
     }
 
-  module _ (rises : IsStrictlySortedBy place_cmp (keys_of v.states)) (walk : Cursor) (others : List Entry) (way : IsOnWay s listing v walk others) where
+  module _ (ascends : IsStrictlySortedBy place_cmp (keys_of v.states)) (walk : Cursor) (others : List Entry) (way : IsOnWay s listing v walk others) where
     -- The walk goes on where a state was carried.
     module _ (o : ℕ) (there : walk.context < length v.contexts) (carried : walk.carried ≡ Some o) (after : IsComingAfter walk.next (walk.context, o)) where
       at_carried_back : (p : Place) (a : State) → way.filled p ≡ Some a → IsLess (point_key_of v p) (walk.context, o) → IsLess (point_key_of v p) way.reached
       at_carried_back p a at less = elim (some_or_none (family_of v p)) [
-        | inl (u, listed) ↦ elim (read_or_after v rises walk.next others way.reached way.read (walk.context, o) after (point_key_of v p) u listed) [
+        | inl (u, listed) ↦ elim (read_or_after v ascends walk.next others way.reached way.read (walk.context, o) after (point_key_of v p) u listed) [
           | inl less' ↦ less'
           | inr more ↦ absurd (less_self (point_key_of v p) (less_trans (point_key_of v p) (walk.context, o) (point_key_of v p) less more))
         ]
@@ -379,7 +379,7 @@ module _ (s : Setting) (listing : Listing) (v : Contents) (family : IsFamily v) 
             filled = way.filled;
             walked = walked_on way.filled way.reached (walk.context, o) way.walked at_carried_back (λ p less. less_past (point_key_of v p) (walk.context, o) way.reached less past);
             here = here;
-            read = read_carried v rises walk.next others way.reached walk.context o way.read past after;
+            read = read_carried v ascends walk.next others way.reached walk.context o way.read past after;
             nothing_after = λ p a at none' far. absurd (go p a at far (way.carried_all p a at none' (λ less. far (less_on (point_key_of v p) walk.context o (less_past (point_key_of v p) (walk.context, o) way.reached less past)))));
           }
         where
@@ -418,10 +418,10 @@ module _ (s : Setting) (listing : Listing) (v : Contents) (family : IsFamily v) 
       at_listed_back : (p : Place) (a : State) → way.filled p ≡ Some a → IsLess (point_key_of v p) (x.0, x.1) → IsLess (point_key_of v p) way.reached
       at_listed_back p a at less = elim (some_or_none (family_of v p)) [
         | inl (u, listed) ↦
-            let (i, e, at_i, key_is, how) = read_or_coming v rises (entry ∷ others) way.reached read_here (point_key_of v p) u listed in
+            let (i, e, at_i, key_is, how) = read_or_coming v ascends (entry ∷ others) way.reached read_here (point_key_of v p) u listed in
             elim how [
               | inl (less', small') ↦ less'
-              | inr le ↦ absurd (elim (coming_from_first v rises entry others read_here.done read_here.split i e le at_i) [
+              | inr le ↦ absurd (elim (coming_from_first v ascends entry others read_here.done read_here.split i e le at_i) [
                 | inl (same, one) ↦
                     let key : ◌≡◌ {A = ℕ × ℕ} (point_key_of v p) (x.0, x.1) = sym key_is ∙ ap (λ (y : Entry). y.0) one in
                     less_self (x.0, x.1) (subst (λ k. IsLess k (x.0, x.1)) key less)
@@ -488,7 +488,7 @@ module _ (s : Setting) (listing : Listing) (v : Contents) (family : IsFamily v) 
             walked = subst (λ c. IsWalkedTo s listing v way.filled (c, x.1)) (sym context)
                 (walked_on way.filled way.reached (x.0, x.1) way.walked at_listed_back (λ p less. less_past (point_key_of v p) (x.0, x.1) way.reached less not_before));
             here = ap (λ c. way.filled (place_of v c x.1)) context ∙ way.walked.filled_by.keeps (place_of v x.0 x.1) x.2.now family_here ∙ ap Some (sym made);
-            read = subst (λ (y : ℕ × List Entry). IsRead v y.1 (y.0, x.1 + 1)) (λ i. (sym context i, rest i)) (read_next v rises entry others way.reached read_here small);
+            read = subst (λ (y : ℕ × List Entry). IsRead v y.1 (y.0, x.1 + 1)) (λ i. (sym context i, rest i)) (read_next v ascends entry others way.reached read_here small);
             nothing_after = λ p a at none far b.
                 let far' : IsLess (point_key_of v p) (x.0, x.1 + 1) → ⊥ = subst (λ c. IsLess (point_key_of v p) (c, x.1 + 1) → ⊥) context far in
                 let past : IsLess (point_key_of v p) way.reached → ⊥ = λ less. far' (less_on (point_key_of v p) x.0 x.1 (less_past (point_key_of v p) (x.0, x.1) way.reached less not_before)) in
@@ -513,10 +513,10 @@ module _ (s : Setting) (listing : Listing) (v : Contents) (family : IsFamily v) 
         reached : (p : Place) (a : State) → way.filled p ≡ Some a → IsLess (point_key_of v p) way.reached
         reached p a at = elim (some_or_none (family_of v p)) [
           | inl (u, listed) ↦
-              let (i, e, at_i, key_is, how) = read_or_coming v rises (to_come walk.next others) way.reached way.read (point_key_of v p) u listed in
+              let (i, e, at_i, key_is, how) = read_or_coming v ascends (to_come walk.next others) way.reached way.read (point_key_of v p) u listed in
               elim how [
                 | inl (less, small) ↦ less
-                | inr le ↦ absurd (nothing_past v rises way.read.done (way.read.split ∙ ap (λ n. way.read.done ++ to_come n others) next) i e le at_i)
+                | inr le ↦ absurd (nothing_past v ascends way.read.done (way.read.split ∙ ap (λ n. way.read.done ++ to_come n others) next) i e le at_i)
               ]
           | inr none' ↦ elim (less_or_not (point_key_of v p) way.reached) [
             | inl less ↦ less

@@ -37,7 +37,7 @@ pub record IsBuilt (entries : List (ℕ × Frame)) (index : BTreeMap Key ℕ)
   pub family : IsFamily (record { contexts = frames_of entries; states = states })
 
 -- each entry's key is above that of the one before
-abbrev pub RisesByKey : List (ℕ × Frame) → Type 0
-RisesByKey entries =
+abbrev pub AscendsByKey : List (ℕ × Frame) → Type 0
+AscendsByKey entries =
     (i : ℕ) (d e : ℕ × Frame) → slice_get entries i ≡ Some d → slice_get entries (i + 1) ≡ Some e
     → key_cmp (key_of d) (key_of e) ≡ Less

@@ -5,7 +5,7 @@ use Rattle.tt_code.specs.Fonts.{Leaves}
 use Rattle.tt_code.specs.Settings.{Setting}
 use Rattle.tt_abs.specs.declared.state.State.{State}
 use Rattle.tt_abs.specs.Cells.{CoversFunctions}
-use Rattle.tt_abs.specs.Entries.{Rises}
+use Rattle.tt_abs.specs.Entries.{Ascends}
 use Rattle.tt_abs.specs.Families.{IsGood}
 use Rattle.tt_abs.specs.Ranges.{IsSettingInRange}
 use Rattle.tt_abs.specs.Soundness.{StartsWith}
@@ -16,7 +16,7 @@ use Rattle.tt_abs.specs.States.{state_order}
 -- has each of these functions there, with its body.
 abbrev pub AreDefinedAtEnd : (Place → Option State) → ℕ → List (ℕ × ℕ) → Type 0
 AreDefinedAtEnd family length functions =
-    (s : Setting) (start : List (ℕ × ℕ)) → IsSettingInRange s → AreProgramsShort s → Rises start
+    (s : Setting) (start : List (ℕ × ℕ)) → IsSettingInRange s → AreProgramsShort s → Ascends start
     → IsGood state_order (flow_of s start) family
     → size s.main ≡ length → (left : List (ℕ × ℕ)) → Leaves s (StartsWith start) left
     → CoversFunctions functions left

@@ -5,7 +5,7 @@ pub mod Numbers
 pub mod Built
 pub mod Puts
 pub mod Joins
-pub mod Rising
+pub mod Ascending
 pub mod GoodFamilies
 pub mod Spots
 pub mod Fillings

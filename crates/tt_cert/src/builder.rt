@@ -4,15 +4,15 @@ ghost use Rattle.std.specs.Prelude.{◌≡◌, ◌≢◌, ◌⊎◌, ℕ, ◌<�
 ghost use Rattle.std.specs.List.{All};
 ghost use Rattle.std.specs.List.Sorted.{IsStrictlySortedBy};
 ghost use Rattle.std.specs.Map.{keys_of};
-ghost use Rattle.tt_abs.specs.Entries.{Rises};
+ghost use Rattle.tt_abs.specs.Entries.{Ascends};
 ghost use Rattle.tt_abs.specs.States.{state_order};
 ghost use Rattle.tt_cert.specs.Joins.{HasOtherDepth, HasSameDepth, PutsState, TellsNewAt};
 ghost use Rattle.tt_cert.specs.Places.{place_cmp, states_of};
 ghost use Rattle.tt_cert.specs.Puts.{Reweighs, family_state, place_of};
-ghost use Rattle.tt_cert.specs.Built.{RisesByKey, key_cmp, key_of as key_of_entry};
+ghost use Rattle.tt_cert.specs.Built.{AscendsByKey, key_cmp, key_of as key_of_entry};
 ghost use Rattle.std.specs.BTreeMap.{IsOrdered, get};
 ghost use Rattle.tt_cert.specs.Representation.FileOrder.{IsFileOrder, children};
-ghost use Rattle.tt_cert.specs.Rising.{IsFinished, IsContextAt};
+ghost use Rattle.tt_cert.specs.Ascending.{IsFinished, IsContextAt};
 ghost use Rattle.tt_cert.specs.Ends.{AreDefinedAtEnd, AreKnownAtEnd};
 ghost use Rattle.tt_cert.specs.Contents.{AddsChild, HasChild, IsChild, IsFamily, family_of, frames_at, points_of, state_at};
 ghost use Rattle.tt_cert.specs.Spots.{spot_of};
@@ -80,8 +80,8 @@ fn key_of(entry: &(u32, Frame)) -> ContextKey
 }
 
 /// Whether each entry is above the one before.
-fn rises(entries: &[(u32, Frame)]) -> bool
-    ensures { IsTrue result → RisesByKey entries.now }
+fn ascends(entries: &[(u32, Frame)]) -> bool
+    ensures { IsTrue result → AscendsByKey entries.now }
 {
     for i in 1..entries.len() {
         if !key_of(&entries[i - 1]).cmp(&key_of(&entries[i])).is_lt() {
@@ -272,7 +272,7 @@ impl Builder {
     /// offset within one: each point that has a state comes once.
     pub fn states(&self) -> States<'_>
         ensures rest { result ≡ self.now.states }
-        ensures rises { IsStrictlySortedBy place_cmp (keys_of self.now.states) }
+        ensures ascends { IsStrictlySortedBy place_cmp (keys_of self.now.states) }
         ensures found { All (λ e. states_of self.now.states e.0 ≡ Some e.1) self.now.states }
         ensures family { IsFamily self.now }
     {
@@ -287,7 +287,7 @@ impl Builder {
         ensures none { result ≡ None → family_of self.now ([], length) ≡ None }
         ensures some { IfSome result (λ functions.
             AreKnownAtEnd (family_of self.now) length functions.now) }
-        ensures rises { IfSome result (λ functions. Rises functions.now) }
+        ensures ascends { IfSome result (λ functions. Ascends functions.now) }
         ensures defined { IfSome result (λ functions.
             AreDefinedAtEnd (family_of self.now) length functions.now) }
     {
@@ -339,10 +339,10 @@ impl Builder {
     }
 
     /// Whether the contexts ascend.
-    pub(crate) fn is_rising(&self) -> bool
+    pub(crate) fn is_ascending(&self) -> bool
         ensures { IsTrue result → IsFinished self.now }
     {
-        rises(self.entries.as_slice())
+        ascends(self.entries.as_slice())
     }
 
     /// Returns the allocator.

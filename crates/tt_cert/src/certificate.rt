@@ -4,12 +4,12 @@ ghost use Rattle.std.specs.Prelude.{◌≡◌, ◌⊎◌, ◌<◌, ◌≤◌, �
 ghost use Rattle.std.specs.List.{All};
 ghost use Rattle.std.specs.List.Sorted.{IsStrictlySortedBy};
 ghost use Rattle.std.specs.Map.{keys_of};
-ghost use Rattle.tt_abs.specs.Entries.{Rises};
+ghost use Rattle.tt_abs.specs.Entries.{Ascends};
 ghost use Rattle.tt_cert.specs.Places.{place_cmp, states_of};
 ghost use Rattle.tt_cert.specs.Puts.{family_state};
 ghost use Rattle.tt_cert.specs.Ends.{AreDefinedAtEnd, AreKnownAtEnd};
 ghost use Rattle.tt_cert.specs.Contents.{HasChild, IsChild, IsFamily, family_of, frames_at, points_of, state_at};
-ghost use Rattle.tt_cert.specs.Rising.{IsFinished, IsContextAt};
+ghost use Rattle.tt_cert.specs.Ascending.{IsFinished, IsContextAt};
 ghost use Rattle.tt_cert.specs.Spots.{spot_of};
 
 use crate::builder::Builder;
@@ -29,7 +29,7 @@ pub struct Certificate {
 
 impl Model for Certificate {
     ghost use Rattle.tt_cert.specs.Contents.{Contents};
-    ghost use Rattle.tt_cert.specs.Rising.{IsFinished as IsFinishedFamily};
+    ghost use Rattle.tt_cert.specs.Ascending.{IsFinished as IsFinishedFamily};
 
     ghost Value = { Contents };
 
@@ -139,7 +139,7 @@ impl Certificate {
     /// offset within one: each point that has a state comes once.
     pub fn states(&self) -> States<'_>
         ensures rest { result ≡ self.now.states }
-        ensures rises { IsStrictlySortedBy place_cmp (keys_of self.now.states) }
+        ensures ascends { IsStrictlySortedBy place_cmp (keys_of self.now.states) }
         ensures found { All (λ e. states_of self.now.states e.0 ≡ Some e.1) self.now.states }
         ensures finished { IsFinished self.now }
     {
@@ -165,7 +165,7 @@ impl Certificate {
         ensures none { result ≡ None → family_of self.now ([], length) ≡ None }
         ensures some { IfSome result (λ functions.
             AreKnownAtEnd (family_of self.now) length functions.now) }
-        ensures rises { IfSome result (λ functions. Rises functions.now) }
+        ensures ascends { IfSome result (λ functions. Ascends functions.now) }
         ensures defined { IfSome result (λ functions.
             AreDefinedAtEnd (family_of self.now) length functions.now) }
     {

@@ -3,7 +3,7 @@
 
 ghost use Rattle.std.specs.Prelude.{◌≡◌, ◌↔◌, ◌<◌, ◌^◌, [], None, IfOk, IfErr, IsFalse, IsTrue, OnOk};
 ghost use Rattle.std.specs.List.{All};
-ghost use Rattle.tt_abs.specs.Entries.{Rises};
+ghost use Rattle.tt_abs.specs.Entries.{Ascends};
 ghost use Rattle.tt_abs.specs.Families.{CoversAt};
 ghost use Rattle.tt_abs.specs.Lines.{EndsAt};
 ghost use Rattle.tt_abs.specs.Settings.{setting_of};
@@ -200,7 +200,7 @@ fn check_listed(
     certificate: &Certificate,
     budget: &mut Budget,
 ) -> Result<(), ProgramFault>
-    requires rises { Rises setting.now.start.now }
+    requires ascends { Ascends setting.now.start.now }
     ensures sound { IfOk result (λ _. IsFoundSoundFor setting.now listing certificate.now) }
     ensures first { IfErr result (NamesFirstFor setting.now listing certificate.now) }
     ensures spends { Spends budget.old budget.new }
@@ -243,7 +243,7 @@ pub fn check_full(
     setting: &Setting<'_>,
     certificate: &Certificate,
 ) -> Result<(), ProgramFault>
-    requires rises { Rises setting.now.start.now }
+    requires ascends { Ascends setting.now.start.now }
     ensures family { IfOk result (λ _. IsGoodFor setting.now certificate.now) }
     ensures safe { IfOk result (λ _. IsSafeFor setting.now certificate.now) }
     ensures exact { IsGoodFor setting.now certificate.now → IfErr result IsOutOfMemory }
@@ -263,7 +263,7 @@ pub fn check_full_within(
     certificate: &Certificate,
     budget: &mut Budget,
 ) -> Result<(), ProgramFault>
-    requires rises { Rises setting.now.start.now }
+    requires ascends { Ascends setting.now.start.now }
     ensures family { IfOk result (λ _. IsGoodFor setting.now certificate.now) }
     ensures safe { IfOk result (λ _. IsSafeFor setting.now certificate.now) }
     ensures exact { IsGoodFor setting.now certificate.now → IfErr result IsOutOfMemory }
@@ -288,7 +288,7 @@ pub fn check(
     setting: &Setting<'_>,
     certificate: &Certificate,
 ) -> Result<(), ProgramFault>
-    requires rises { Rises setting.now.start.now }
+    requires ascends { Ascends setting.now.start.now }
     ensures filling { IfOk result (λ _. HasGoodFillingFor setting.now certificate.now) }
     ensures safe { IfOk result (λ _. HasSafeFillingFor setting.now certificate.now) }
     ensures exact { HasGoodFillingFor setting.now certificate.now → IfErr result IsOutOfMemory }
@@ -308,7 +308,7 @@ pub fn check_within(
     certificate: &Certificate,
     budget: &mut Budget,
 ) -> Result<(), ProgramFault>
-    requires rises { Rises setting.now.start.now }
+    requires ascends { Ascends setting.now.start.now }
     ensures filling { IfOk result (λ _. HasGoodFillingFor setting.now certificate.now) }
     ensures safe { IfOk result (λ _. HasSafeFillingFor setting.now certificate.now) }
     ensures exact { HasGoodFillingFor setting.now certificate.now → IfErr result IsOutOfMemory }

@@ -2,7 +2,7 @@
 
 ghost use Rattle.std.specs.Prelude.{◌≡◌, ◌↔◌, ◌<◌, IfOk, IfSome, IsFalse, IsTrue, None, OnOk, length};
 ghost use Rattle.tt_code.specs.Settings.{Setting as AnySetting};
-ghost use Rattle.tt_abs.specs.Entries.{Rises};
+ghost use Rattle.tt_abs.specs.Entries.{Ascends};
 ghost use Rattle.tt_abs.specs.States.{start_of};
 ghost use Rattle.tt_cert.specs.Contents.{Contents, IsFamily};
 ghost use Rattle.tt_cert.specs.Representation.Cursors.{AreToCome, IsAtNext, IsComing, IsComingAfter, IsEntry, IsOnWay, IsShorter, IsWalk};
@@ -68,7 +68,7 @@ impl<'a> Cursor<'a> {
         functions: &[(u16, u32)],
         next: Option<(u32, u32, &'a State)>,
     ) -> Result<Cursor<'a>, AllocError>
-        requires { Rises functions.now }
+        requires { Ascends functions.now }
         ensures walk { IfOk result (λ walk. (contents : Contents) → IsFamily contents
             → IsEntry contents next.entry → IsWalk contents walk) }
         ensures next { IfOk result (λ walk. walk.next ≡ next.entry) }

@@ -4,7 +4,7 @@ ghost use Rattle.std.specs.Prelude.{◌≡◌, ℕ, ◌+◌, ◌<◌, List, [], 
 ghost use Rattle.tt_code.specs.declared.machine.Frame.{Frame};
 ghost use Rattle.tt_cert.specs.Contents.{IsFamily, family_of, points_of};
 ghost use Rattle.tt_cert.specs.Representation.FileOrder.{ArePlaces, IsFileOrder, in_order};
-ghost use Rattle.tt_cert.specs.Rising.{AreMoved, IsFinished, SameContents, SameWithout, family_without};
+ghost use Rattle.tt_cert.specs.Ascending.{AreMoved, IsFinished, SameContents, SameWithout, family_without};
 
 use crate::builder::Builder;
 use crate::certificate::Certificate;
@@ -150,7 +150,7 @@ impl Builder {
         ensures finished { IfOk result (λ certificate. IsFinished certificate) }
         ensures kept { IfErr result (λ builder. builder ≡ self) }
     {
-        if spare.is_empty() && self.is_rising() {
+        if spare.is_empty() && self.is_ascending() {
             return Ok(Certificate::of(self));
         }
         let Ok(new) = reordered(&self, spare) else {

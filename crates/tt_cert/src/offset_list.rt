@@ -1,7 +1,7 @@
 //! The points of one context that came by ascending offset.
 
 ghost use Rattle.std.specs.Prelude.{◌≡◌, ◌↔◌, ◌<◌, ◌≤◌, length, [], ◌∷◌, ◌++◌, IsTrue, MatchResult, OnOk, OnErr};
-ghost use Rattle.tt_abs.specs.Entries.{Rises, listed};
+ghost use Rattle.tt_abs.specs.Entries.{Ascends, listed};
 ghost use Rattle.tt_abs.specs.EntryLists.{IsAt, IsGap};
 ghost use Rattle.tt_cert.specs.Representation.SlotLists.{AreBelow};
 
@@ -16,18 +16,18 @@ pub(crate) struct OffsetList {
 
 impl Model for OffsetList {
     ghost use Rattle.std.specs.Prelude.{List, ℕ};
-    ghost use Rattle.tt_abs.specs.Entries.{Rises};
+    ghost use Rattle.tt_abs.specs.Entries.{Ascends};
 
     ghost Value = { List (ℕ × ℕ) };
 
     ghost view = { λ r. r.points.items };
 
-    ghost invariant = { λ r. Rises r.points.items };
+    ghost invariant = { λ r. Ascends r.points.items };
 }
 
 /// Returns where an offset is, or where it would be.
 fn search(points: &[(u32, u32)], offset: u32) -> Result<usize, usize>
-    requires { Rises points.now }
+    requires { Ascends points.now }
     ensures place { MatchResult result (IsAt offset points.now) (IsGap offset points.now) }
     ensures bound { MatchResult result (λ i. i < length points.now) (λ i. i ≤ length points.now) }
 {
@@ -36,7 +36,7 @@ fn search(points: &[(u32, u32)], offset: u32) -> Result<usize, usize>
 
 /// Returns the slot that is listed with an offset.
 fn slot_at(points: &[(u32, u32)], offset: u32) -> Option<u32>
-    requires { Rises points.now }
+    requires { Ascends points.now }
     ensures { result ≡ listed points.now offset }
 {
     match search(points, offset) {

@@ -102,7 +102,7 @@ impl StateStore {
     /// offset within one.
     pub(crate) fn iter(&self) -> States<'_>
         ensures rest { result ≡ self.now }
-        ensures rises { IsStrictlySortedBy place_cmp (keys_of self.now) }
+        ensures ascends { IsStrictlySortedBy place_cmp (keys_of self.now) }
         ensures found { All (λ e. states_of self.now e.0 ≡ Some e.1) self.now }
     {
         States {

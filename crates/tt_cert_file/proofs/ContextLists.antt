@@ -8,16 +8,16 @@ use Rattle.std.proofs.lemmas.Bool.{leb-true}
 use Rattle.std.proofs.lemmas.List.{length-take-le, take_more}
 use Rattle.std.proofs.lemmas.Option.{slice_get_within, slice_get-get_or}
 use Rattle.tt_code.specs.declared.machine.Frame.{Frame}
-use Rattle.tt_cert.specs.Built.{Key, RisesByKey, key_cmp, key_of}
+use Rattle.tt_cert.specs.Built.{Key, AscendsByKey, key_cmp, key_of}
 use Rattle.tt_cert.specs.Contents.{AddsContext, Contents, IsFamily, frames_at}
 use Rattle.tt_cert.specs.Contexts.{frames_of, grow-at, grow-push, length-grow}
-use Rattle.tt_cert.specs.Rising.{IsFinished, IsContextAt}
+use Rattle.tt_cert.specs.Ascending.{IsFinished, IsContextAt}
 use Rattle.tt_cert.proofs.Adding.{cons_apart, cons_same, key_same}
-use Rattle.tt_cert.proofs.Rising.{entry_at, key_total, rises_over}
+use Rattle.tt_cert.proofs.Ascending.{entry_at, key_total, ascends_over}
 use Rattle.tt_cert_file.specs.Rules.{AreContexts, EachAfter, HaveParents, is_above_context, last_of, may_follow}
 use Rattle.tt_cert_file.specs.Sections.{Context}
 use Rattle.tt_cert_file.proofs.Fields.{both}
-use Rattle.tt_cert_file.proofs.Rises.{last_behind}
+use Rattle.tt_cert_file.proofs.Ascends.{last_behind}
 
 pub each_push : {A : Type 0} (P : List A → A → Type 0) (before xs : List A) (y : A) → EachAfter P before xs → P (before ++ xs) y → EachAfter P before (xs ++ y ∷ [])
 each_push {A} P before [] y h p = (subst (λ (l : List A). P l y) (append-nil before) p, tt)
@@ -58,8 +58,8 @@ last_taken {A} (y ∷ ys) (suc i) x at =
     let n : suc i + 1 ≡ suc (i + 1) = omega arith in
     ap (λ (k : ℕ). last_of (take k (y ∷ ys))) n ∙ last_behind y (take (i + 1) ys) (omega arith) ∙ last_taken ys i x at
 
-pub RisesByKey-from : (contexts : List Context) → AreContexts contexts → RisesByKey contexts
-RisesByKey-from contexts h i d e at_d at_e =
+pub AscendsByKey-from : (contexts : List Context) → AreContexts contexts → AscendsByKey contexts
+AscendsByKey-from contexts h i d e at_d at_e =
     let above = (both _ _ (both _ _ (follows_at contexts (i + 1) e h at_e)).1).0 in
     less_from _ (ap (λ (o : Option Context). is_above_context o e) (sym (last_taken contexts i d at_d)) ∙ above)
 
@@ -98,7 +98,7 @@ module _ (contexts : List Context) (v : Contents) (is : v.contexts ≡ frames_of
     family,
     record {
       parents = λ n some lt. let (i, c, n_is, at, stands) = entry_of n some lt in (c, stands);
-      rises = λ m n d e less at_d at_e.
+      ascends = λ m n d e less at_d at_e.
           let some = at_d.1 in
           let lt = at_d.0 in
           let lt' = at_e.0 in
@@ -107,7 +107,7 @@ module _ (contexts : List Context) (v : Contents) (is : v.contexts ≡ frames_of
           let j_is : j ≡ i + 1 + (j - (i + 1)) = omega arith in
           let same_d = one_entry m d' d stands_m at_d in
           let same_e = one_entry n e' e stands_n at_e in
-          let below = rises_over contexts (RisesByKey-from contexts rules) i (j - (i + 1)) d' e' at_i (ap (slice_get contexts) (sym j_is) ∙ at_j) in
+          let below = ascends_over contexts (AscendsByKey-from contexts rules) i (j - (i + 1)) d' e' at_i (ap (slice_get contexts) (sym j_is) ∙ at_j) in
           ap (λ x. key_cmp x (key_of e)) (sym same_d) ∙ ap (key_cmp (key_of d')) (sym same_e) ∙ below;
     },
   )
@@ -133,7 +133,7 @@ is_new contexts v c is family rules follows (suc k) lt at =
     let parent : c.0 ≤ length contexts = leb-true _ _ (both _ _ follows).0 in
     let key : key_of d ≡ key_of c = key_same d c (family.distinct d.0 c.0 (omega arith) (omega arith) same.0) same.1 in
     let n : length contexts ≡ k + 1 + (length contexts - (k + 1)) = omega arith in
-    let below = rises_over (contexts ++ c ∷ []) (RisesByKey-from (contexts ++ c ∷ []) all) k (length contexts - (k + 1)) d c
+    let below = ascends_over (contexts ++ c ∷ []) (AscendsByKey-from (contexts ++ c ∷ []) all) k (length contexts - (k + 1)) d c
     (old contexts k d at_d) (ap (slice_get (contexts ++ c ∷ [])) (sym n) ∙ last contexts) in
     not_less (key_of c) (ap (λ x. key_cmp x (key_of c)) (sym key) ∙ below)
   where

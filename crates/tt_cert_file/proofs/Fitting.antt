@@ -17,7 +17,7 @@ use Rattle.tt_abs.specs.Cells.{Cells}
 use Rattle.tt_abs.specs.CellOrders.{CellInRange}
 use Rattle.tt_abs.specs.Contexts.{FramesFit}
 use Rattle.tt_abs.specs.Covers.{has_body_twice}
-use Rattle.tt_abs.specs.Entries.{Rises}
+use Rattle.tt_abs.specs.Entries.{Ascends}
 use Rattle.tt_abs.specs.GraphicsOrders.{graphics_order}
 use Rattle.tt_abs.specs.Stacks.{StackInRange}
 use Rattle.tt_abs.specs.States.{state_order}
@@ -30,7 +30,7 @@ use Rattle.tt_abs.proofs.StateParts.{one_of_all}
 use Rattle.tt_cert.specs.Contents.{Contents, frames_at}
 use Rattle.tt_cert.specs.Contexts.{frames_of, grow-push, length-grow}
 use Rattle.tt_cert.specs.Places.{place_cmp}
-use Rattle.tt_cert.specs.Rising.{IsFinished, IsContextAt}
+use Rattle.tt_cert.specs.Ascending.{IsFinished, IsContextAt}
 use Rattle.tt_cert_file.specs.declared.form.Form.TheVariants.{Four}
 use Rattle.tt_cert_file.specs.declared.name.Name.{Name}
 use Rattle.tt_cert_file.specs.Rules.{AreCallsInTurn, CallFits, CellFits, ContextFits, EachAfter, EntryFits, Fits, FunctionFits, GraphicsFits, HasRoom, NameFits, StateFits, StoredFits, is_above, is_above_context, is_new_body, is_turn, last_of, last_place}
@@ -39,7 +39,7 @@ use Rattle.tt_cert_file.proofs.ContextLists.{last_taken}
 use Rattle.tt_cert_file.proofs.Fields.{PairFits, some_same}
 use Rattle.tt_cert_file.proofs.Listed.{context_listed, length_listed, listed_more}
 use Rattle.tt_cert_file.proofs.Pushed.{StoredPairFits}
-use Rattle.tt_cert_file.proofs.Rises.{last_pushed}
+use Rattle.tt_cert_file.proofs.Ascends.{last_pushed}
 
 -- what holds of each value with those before it
 each_from : {A : Type 0} (P : List A → A → Type 0) (before xs : List A) → ((i : ℕ) (x : A) → slice_get xs i ≡ Some x → P (before ++ take i xs) x) → EachAfter P before xs
@@ -73,16 +73,16 @@ graphics_fit g h = record {
 -- lists of entries by ascending numbers
 
 module _ {V : Type 0} (P : List (ℕ × V) → ℕ × V → Type 0) (Q : ℕ × V → Type 0) (make : (before : List (ℕ × V)) (e : ℕ × V) → Q e → is_above (last_of before) e ≡ true → P before e) where
-  later_entries : (d : ℕ × V) (before es : List (ℕ × V)) → last_of before ≡ Some d → AllByRecursion (λ f. d.0 < f.0) es → Rises es → AllByRecursion Q es → EachAfter P before es
-  later_entries d before [] last above rises all = tt
-  later_entries d before (e ∷ es) last above rises all = (
+  later_entries : (d : ℕ × V) (before es : List (ℕ × V)) → last_of before ≡ Some d → AllByRecursion (λ f. d.0 < f.0) es → Ascends es → AllByRecursion Q es → EachAfter P before es
+  later_entries d before [] last above ascends all = tt
+  later_entries d before (e ∷ es) last above ascends all = (
     make before e all.0 (ap (λ (o : Option (ℕ × V)). is_above o e) last ∙ lt-ltb d.0 e.0 above.0),
-    later_entries e (before ++ e ∷ []) es (last_pushed before e) rises.0 rises.1 all.1,
+    later_entries e (before ++ e ∷ []) es (last_pushed before e) ascends.0 ascends.1 all.1,
   )
 
-  rising_entries : (es : List (ℕ × V)) → Rises es → AllByRecursion Q es → EachAfter P [] es
-  rising_entries [] rises all = tt
-  rising_entries (e ∷ es) rises all = (make [] e all.0 refl, later_entries e (e ∷ []) es (last_pushed [] e) rises.0 rises.1 all.1)
+  rising_entries : (es : List (ℕ × V)) → Ascends es → AllByRecursion Q es → EachAfter P [] es
+  rising_entries [] ascends all = tt
+  rising_entries (e ∷ es) ascends all = (make [] e all.0 refl, later_entries e (e ∷ []) es (last_pushed [] e) ascends.0 ascends.1 all.1)
 
 pub state_fits : (s : State) → state_order.InRange s → length s.stack < 2 ^ 16 → length s.functions < 2 ^ 16 → AllByRecursion PairFits s.functions
     → length s.storage < 2 ^ 16 → AllByRecursion StoredPairFits s.storage → StateFits Four s
@@ -91,11 +91,11 @@ state_fits s range few functions_few functions storage_few storage = record {
   graphics = graphics_fit s.graphics range.1.0;
   functions = record {
     few = functions_few;
-    each = rising_entries FunctionFits PairFits (λ before e fits above. record { number = fits.0; body = fits.1; rises = above }) s.functions range.1.1.0.rises functions;
+    each = rising_entries FunctionFits PairFits (λ before e fits above. record { number = fits.0; body = fits.1; ascends = above }) s.functions range.1.1.0.ascends functions;
   };
   storage = record {
     few = storage_few;
-    each = rising_entries StoredFits StoredPairFits (λ before e fits above. record { index = fits.0; number = fits.1; rises = above }) s.storage range.1.1.1.rises storage;
+    each = rising_entries StoredFits StoredPairFits (λ before e fits above. record { index = fits.0; number = fits.1; ascends = above }) s.storage range.1.1.1.ascends storage;
   };
 }
 
@@ -125,16 +125,16 @@ module _ (n : ℕ) (few : n ≤ 65535) where
   later_states : (d : Entry) (before es : List Entry) → last_of before ≡ Some d → AllByRecursion (λ q. place_cmp d.0 q ≡ Less) (keys_of es)
       → IsStrictlySortedBy place_cmp (keys_of es) → AllByRecursion (HasRoom n) es → EachAfter (EntryFits Four n) before es
   unfolding IsStrictlySortedBy
-  later_states d before [] last above rises all = tt
-  later_states d before (e ∷ es) last above rises all = (
+  later_states d before [] last above ascends all = tt
+  later_states d before (e ∷ es) last above ascends all = (
     entry_fits before e all.0 (ap (λ (o : Option Entry). option_map_or (λ q. is_lt (place_cmp q e.0)) (option_map (λ e. e.0) o) true) last ∙ ap is_lt above.0),
-    later_states e (before ++ e ∷ []) es (last_pushed before e) rises.0 rises.1 all.1,
+    later_states e (before ++ e ∷ []) es (last_pushed before e) ascends.0 ascends.1 all.1,
   )
 
   pub states_fit : (es : List Entry) → IsStrictlySortedBy place_cmp (keys_of es) → AllByRecursion (HasRoom n) es → EachAfter (EntryFits Four n) [] es
   unfolding IsStrictlySortedBy
-  states_fit [] rises all = tt
-  states_fit (e ∷ es) rises all = (entry_fits [] e all.0 refl, later_states e (e ∷ []) es (last_pushed [] e) rises.0 rises.1 all.1)
+  states_fit [] ascends all = tt
+  states_fit (e ∷ es) ascends all = (entry_fits [] e all.0 refl, later_states e (e ∷ []) es (last_pushed [] e) ascends.0 ascends.1 all.1)
 
 -- the contexts of a family, as its section lists them
 
@@ -198,7 +198,7 @@ module _ (v : Contents) (finished : IsFinished v) where
         let n : suc j ≡ j + 1 = omega arith in
         let last : last_of (take (suc j) (contexts_in v.contexts)) ≡ Some d =
         ap (λ (k : ℕ). last_of (take k (contexts_in v.contexts))) n ∙ last_taken (contexts_in v.contexts) j d at in
-        ap (λ (o : Option Context). is_above_context o c) last ∙ ap is_lt (finished.1.rises (j + 1) (suc j + 1) d c (omega arith) stands_d stands)
+        ap (λ (o : Option Context). is_above_context o c) last ∙ ap is_lt (finished.1.ascends (j + 1) (suc j + 1) d c (omega arith) stands_d stands)
 
     not_running : (fs : List Frame) (body : ℕ) → is_running body fs ≡ false → is_new_body fs body ≡ true
     not_running [] body h = refl
@@ -239,7 +239,7 @@ module _ (v : Contents) (finished : IsFinished v) where
 -- the section of a family
 pub section_fits : (name : Name) (v : Contents) → NameFits name → IsFinished v → AllByRecursion CallFits (contexts_in v.contexts) → AllByRecursion (HasRoom (length v.contexts)) v.states
     → IsStrictlySortedBy place_cmp (keys_of v.states) → AreCallsInTurn v.contexts → Fits Four (section_of name v)
-section_fits name v name_fits finished numbers room rises calls =
+section_fits name v name_fits finished numbers room ascends calls =
     let few = finished.0.few in
     let some = finished.0.some in
     let states = finished.0.fits in
@@ -250,5 +250,5 @@ section_fits name v name_fits finished numbers room rises calls =
       few_contexts = omega arith;
       contexts = contexts_fit v finished calls numbers;
       few_states = omega arith;
-      states = subst (λ (k : ℕ). EachAfter (EntryFits Four k) [] v.states) n (states_fit (length v.contexts) few v.states rises room);
+      states = subst (λ (k : ℕ). EachAfter (EntryFits Four k) [] v.states) n (states_fit (length v.contexts) few v.states ascends room);
     }

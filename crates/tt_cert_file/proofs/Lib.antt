@@ -8,7 +8,7 @@ pub mod Decoded
 pub mod Loops
 pub mod Blocks
 pub mod Cells
-pub mod Rises
+pub mod Ascends
 pub mod ContextLists
 pub mod Bodies
 pub mod StateLists

@@ -107,7 +107,7 @@ pub function_codec : (before : List (ℕ × ℕ)) → IsCodec (function_at befor
 unfolding function_at
 function_codec before =
     codec_of _ pair_text (λ e. PairFits e × (is_above (last_of before) e ≡ true)) (FunctionFits before)
-    (λ e h. record { number = h.0.0; body = h.0.1; rises = h.1 }) (λ e h. ((h.number, h.body), h.rises))
+    (λ e h. record { number = h.0.0; body = h.0.1; ascends = h.1 }) (λ e h. ((h.number, h.body), h.ascends))
     (ruled_codec (is_above (last_of before)) pair_at pair_text PairFits pair_codec)
 
 functions_codec : IsCodec functions_at (counted pair_text) (ListFits FunctionFits)
@@ -131,7 +131,7 @@ stored_codec : (before : List (ℕ × ℤ)) → IsCodec (stored_at before) store
 unfolding stored_at
 stored_codec before =
     codec_of _ stored_text (λ e. IsStored e × (is_above (last_of before) e ≡ true)) (StoredFits before)
-    (λ e h. record { index = h.0.index; number = h.0.number; rises = h.1 }) (λ e h. (record { index = h.index; number = h.number }, h.rises))
+    (λ e h. record { index = h.0.index; number = h.0.number; ascends = h.1 }) (λ e h. (record { index = h.index; number = h.number }, h.ascends))
     (ruled_codec (is_above (last_of before)) (made_of with_sign pair_at) stored_text IsStored signed_codec)
 
 none_codec : IsCodec (λ i. Ok ([], i)) (λ (xs : List (ℕ × ℤ)). []) (λ xs. xs ≡ [])

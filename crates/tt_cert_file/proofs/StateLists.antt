@@ -23,7 +23,7 @@ use Rattle.tt_cert.proofs.Putting.{place_total}
 use Rattle.tt_cert_file.specs.Rules.{is_next_place, last_of, last_place}
 use Rattle.tt_cert_file.specs.Sections.{Entry}
 use Rattle.tt_cert_file.proofs.Fields.{both}
-use Rattle.tt_cert_file.proofs.Rises.{last_behind}
+use Rattle.tt_cert_file.proofs.Ascends.{last_behind}
 
 less_from : (o : Ordering) → is_lt o ≡ true → o ≡ Less
 less_from Less e = refl
@@ -40,11 +40,11 @@ IsLastBelow (Some e) p = place_cmp e.0 p ≡ Less
 
 all_below : (es : List Entry) (p : ℕ × ℕ) → IsStrictlySortedBy place_cmp (keys_of es) → IsLastBelow (last_of es) p → AreBelow es p
 unfolding IsStrictlySortedBy AreBelow IsLastBelow
-all_below [] p rises last = tt
-all_below (e ∷ []) p rises last = (last, tt)
-all_below (e ∷ d ∷ es) p rises last =
-    let more = all_below (d ∷ es) p rises.1 (subst (λ (o : Option Entry). IsLastBelow o p) (last_behind e (d ∷ es) (omega arith)) last) in
-    (place_total.trans e.0 d.0 p rises.0.0 more.0, more)
+all_below [] p ascends last = tt
+all_below (e ∷ []) p ascends last = (last, tt)
+all_below (e ∷ d ∷ es) p ascends last =
+    let more = all_below (d ∷ es) p ascends.1 (subst (λ (o : Option Entry). IsLastBelow o p) (last_behind e (d ∷ es) (omega arith)) last) in
+    (place_total.trans e.0 d.0 p ascends.0.0 more.0, more)
 
 last_below : (es : List Entry) (contexts : ℕ) (p : ℕ × ℕ) → is_next_place contexts (last_place es) p ≡ true → IsLastBelow (last_of es) p
 unfolding IsLastBelow
@@ -72,10 +72,10 @@ all_pushed : (q : ℕ × ℕ) (es : List Entry) (x : Entry) → AllByRecursion (
 all_pushed q [] x h less = (less, tt)
 all_pushed q (e ∷ es) x h less = (h.0, all_pushed q es x h.1 less)
 
-pushed_rises : (es : List Entry) (x : Entry) → IsStrictlySortedBy place_cmp (keys_of es) → AreBelow es x.0 → IsStrictlySortedBy place_cmp (keys_of (es ++ x ∷ []))
+pushed_ascends : (es : List Entry) (x : Entry) → IsStrictlySortedBy place_cmp (keys_of es) → AreBelow es x.0 → IsStrictlySortedBy place_cmp (keys_of (es ++ x ∷ []))
 unfolding IsStrictlySortedBy AreBelow
-pushed_rises [] x rises below = (tt, tt)
-pushed_rises (e ∷ es) x rises below = (all_pushed e.0 es x rises.0 below.0, pushed_rises es x rises.1 below.1)
+pushed_ascends [] x ascends below = (tt, tt)
+pushed_ascends (e ∷ es) x ascends below = (all_pushed e.0 es x ascends.0 below.0, pushed_ascends es x ascends.1 below.1)
 
 -- what is found in a list with one more state
 pushed_other : (es : List Entry) (x : Entry) (p : ℕ × ℕ) → is_at (place_cmp p) x.0 ≡ false → states_of (es ++ x ∷ []) p ≡ states_of es p
@@ -139,11 +139,11 @@ pub state_added : (old new : Contents) (p : ℕ × ℕ) (t : State) (changed : B
     → IsStrictlySortedBy place_cmp (keys_of old.states) → IsStrictlySortedBy place_cmp (keys_of new.states)
     → is_next_place (length old.contexts) (last_place old.states) p ≡ true
     → PutsAt state_order (family_of old) (family_of new) (place_of old p.0 p.1) t changed → new.states ≡ old.states ++ (p, t) ∷ []
-state_added old new p t changed same family family' rises rises' follows put =
+state_added old new p t changed same family family' ascends ascends' follows put =
     let lt : p.0 < length old.contexts = ltb-true _ _ (both _ _ follows).0 in
-    let below = all_below old.states p rises (last_below old.states (length old.contexts) p follows) in
+    let below = all_below old.states p ascends (last_below old.states (length old.contexts) p follows) in
     let free = not_there old.states p below in
-    same_points new.states (old.states ++ (p, t) ∷ []) rises' (pushed_rises old.states (p, t) rises below)
+    same_points new.states (old.states ++ (p, t) ∷ []) ascends' (pushed_ascends old.states (p, t) ascends below)
     (λ q. elim (cases_place q p) [
       | inl here ↦
           ap (states_of new.states) here ∙ put_here old new p t changed same family family' lt free put ∙ sym (pushed_here old.states (p, t) below)
@@ -156,7 +156,7 @@ state_added old new p t changed same family family' rises rises' follows put =
 -- where a place follows, no state is there, and its context is one of the family's
 pub place_free : (v : Contents) (p : ℕ × ℕ) → IsFamily v → IsStrictlySortedBy place_cmp (keys_of v.states) → is_next_place (length v.contexts) (last_place v.states) p ≡ true
     → (p.0 < length v.contexts) × (family_of v (place_of v p.0 p.1) ≡ None)
-place_free v p family rises follows =
+place_free v p family ascends follows =
     let lt : p.0 < length v.contexts = ltb-true _ _ (both _ _ follows).0 in
-    let below = all_below v.states p rises (last_below v.states (length v.contexts) p follows) in
+    let below = all_below v.states p ascends (last_below v.states (length v.contexts) p follows) in
     (lt, family_at v p.0 p.1 family lt ∙ not_there v.states p below)

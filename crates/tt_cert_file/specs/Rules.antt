@@ -88,12 +88,12 @@ is_above before e = option_map_or (λ d. nat_lt d.0 e.0) before true
 pub record FunctionFits (before : List (ℕ × ℕ)) (e : ℕ × ℕ) : Type 0 where
   pub number : e.0 < 2 ^ 16
   pub body : e.1 < 2 ^ 32
-  pub rises : is_above (last_of before) e ≡ true
+  pub ascends : is_above (last_of before) e ≡ true
 
 pub record StoredFits (before : List (ℕ × ℤ)) (e : ℕ × ℤ) : Type 0 where
   pub index : e.0 < 2 ^ 16
   pub number : FitsSigned w32 e.1
-  pub rises : is_above (last_of before) e ≡ true
+  pub ascends : is_above (last_of before) e ≡ true
 
 -- a list of so few values that 16 bits count them, each after those before it
 pub record ListFits {A : Type 0} (P : List A → A → Type 0) (xs : List A) : Type 0 where

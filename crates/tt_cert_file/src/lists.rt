@@ -2,7 +2,7 @@
 
 ghost use Rattle.std.specs.Prelude.{◌≡◌, ◌-◌, ◌*◌, ◌<◌, ◌≤◌, [], false, true, length, take, IfErr, IfOk, OnErr, OnOk};
 ghost use Rattle.std.specs.Io.KnownBytes.{Keeps};
-ghost use Rattle.tt_abs.specs.Entries.{Rises};
+ghost use Rattle.tt_abs.specs.Entries.{Ascends};
 ghost use Rattle.tt_stream.specs.Reads.{ConsumesBeginning, ConsumesFewer};
 ghost use Rattle.tt_stream.specs.Streams.{CountsFailure};
 ghost use Rattle.tt_cert_file.specs.Answers.{CountsRead, IsReadFault, IsOutOfMemory};
@@ -296,7 +296,7 @@ fn take_functions(
     bytes: &[u8],
 ) -> Result<usize, DecodeFault>
     ensures takes { Takes result functions.old.items functions.new.items place bytes.now }
-    ensures rises { Rises functions.old.items → OnOk result (Rises functions.new.items) }
+    ensures ascends { Ascends functions.old.items → OnOk result (Ascends functions.new.items) }
 {
     functions.reserve(bytes.len() / FUNCTION)?;
     let mut left = bytes;
@@ -325,7 +325,7 @@ fn take_function_block<S: Source>(
     requires there { 6 * count ≤ length (S.read_ahead source.old) }
     ensures reads { ReadsBlock result (S.remaining source.old) (S.remaining source.new)
         functions.old.items functions.new.items place count }
-    ensures rises { Rises functions.old.items → OnOk result (Rises functions.new.items) }
+    ensures ascends { Ascends functions.old.items → OnOk result (Ascends functions.new.items) }
     ensures beginning { ConsumesBeginning (S.remaining source.old) (S.remaining source.new) }
     ensures stopped { StopsWhole (list_at function_at functions.old.items count) place result
         (S.remaining source.old) (S.remaining source.new) }
@@ -348,7 +348,7 @@ fn fetch_function_block<S: Source>(
     requires { count ≤ 64 }
     ensures reads { ReadsBlock result (S.remaining source.old) (S.remaining source.new)
         functions.old.items functions.new.items place count }
-    ensures rises { Rises functions.old.items → OnOk result (Rises functions.new.items) }
+    ensures ascends { Ascends functions.old.items → OnOk result (Ascends functions.new.items) }
     ensures beginning { ConsumesBeginning (S.remaining source.old) (S.remaining source.new) }
     ensures stopped { StopsWhole (list_at function_at functions.old.items count) place result
         (S.remaining source.old) (S.remaining source.new) }
@@ -381,7 +381,7 @@ fn read_function_block<S: Source>(
     requires { count ≤ 64 }
     ensures reads { ReadsBlock result (S.remaining source.old) (S.remaining source.new)
         functions.old.items functions.new.items place count }
-    ensures rises { Rises functions.old.items → OnOk result (Rises functions.new.items) }
+    ensures ascends { Ascends functions.old.items → OnOk result (Ascends functions.new.items) }
     ensures beginning { ConsumesBeginning (S.remaining source.old) (S.remaining source.new) }
     ensures stopped { StopsWhole (list_at function_at functions.old.items count) place result
         (S.remaining source.old) (S.remaining source.new) }
@@ -402,7 +402,7 @@ fn read_function_list<S: Source>(
 ) -> Result<(Vec<(u16, u32)>, u64), DecodeFault>
     ensures reads { ReadsAs (λ v. v.items) (list_at function_at [] count) place result
         (S.remaining source.old) (S.remaining source.new) }
-    ensures rises { IfOk result (λ r. Rises r.0.items) }
+    ensures ascends { IfOk result (λ r. Ascends r.0.items) }
     ensures beginning { ConsumesBeginning (S.remaining source.old) (S.remaining source.new) }
     ensures stopped { StopsWhole (list_at function_at [] count) place result
         (S.remaining source.old) (S.remaining source.new) }
@@ -595,7 +595,7 @@ fn read_storage_list<S: Source>(
 ) -> Result<(Vec<(u16, i32)>, u64), DecodeFault>
     ensures reads { ReadsAs (λ v. v.items) (list_at stored_at [] count) place result
         (S.remaining source.old) (S.remaining source.new) }
-    ensures rises { IfOk result (λ r. Rises r.0.items) }
+    ensures ascends { IfOk result (λ r. Ascends r.0.items) }
     ensures beginning { ConsumesBeginning (S.remaining source.old) (S.remaining source.new) }
     ensures stopped { StopsWhole (list_at stored_at [] count) place result
         (S.remaining source.old) (S.remaining source.new) }
@@ -623,7 +623,7 @@ pub(crate) fn read_storage<S: Source>(
 ) -> Result<(Vec<(u16, i32)>, u64), DecodeFault>
     ensures reads { ReadsAs (λ v. v.items) (storage_at form) place result
         (S.remaining source.old) (S.remaining source.new) }
-    ensures rises { IfOk result (λ r. Rises r.0.items) }
+    ensures ascends { IfOk result (λ r. Ascends r.0.items) }
     ensures beginning { ConsumesBeginning (S.remaining source.old) (S.remaining source.new) }
     ensures stopped { StopsWhole (storage_at form) place result
         (S.remaining source.old) (S.remaining source.new) }

@@ -1,7 +1,7 @@
 //! States of a section: each is made from its parts, and put into a builder.
 
 ghost use Rattle.std.specs.Prelude.{◌≡◌, [], ◌∷◌, ◌++◌, true, length, IfErr, IfOk, OnOk};
-ghost use Rattle.tt_abs.specs.Entries.{Rises};
+ghost use Rattle.tt_abs.specs.Entries.{Ascends};
 ghost use Rattle.tt_abs.specs.States.{KeepsRange, state_order};
 ghost use Rattle.tt_stream.specs.Reads.{ConsumesBeginning};
 ghost use Rattle.tt_cert_file.specs.Answers.{CountsRead, IsOutOfMemory};
@@ -39,7 +39,7 @@ fn set_graphics(state: &mut State, graphics: &Graphics<Cell, ZoneCell>)
 /// Makes storage cells known, by ascending indexes.
 fn store_cells(state: &mut State, cells: &[(u16, i32)]) -> Result<(), AllocError>
     requires empty { state.old.storage ≡ [] }
-    requires rises { Rises cells.now }
+    requires ascends { Ascends cells.now }
     ensures stored { OnOk result (state.new ≡ record state.old { storage = cells.now }) }
     ensures in_range { KeepsRange state.old state.new }
 {
@@ -51,7 +51,7 @@ fn store_cells(state: &mut State, cells: &[(u16, i32)]) -> Result<(), AllocError
 
 /// Makes exactly these functions known, unless they are known already.
 fn set_functions(state: &mut State, functions: &Functions) -> Result<(), AllocError>
-    requires rises { Rises functions.now.list.items }
+    requires ascends { Ascends functions.now.list.items }
     requires same { functions.now.is_same ≡ true
         → state.old.functions ≡ functions.now.list.items }
     ensures set { OnOk result
@@ -71,10 +71,10 @@ fn set_rest(
     functions: &Functions,
     storage: &[(u16, i32)],
 ) -> Result<(), AllocError>
-    requires rises { Rises functions.now.list.items }
+    requires ascends { Ascends functions.now.list.items }
     requires same { functions.now.is_same ≡ true
         → state.old.functions ≡ functions.now.list.items }
-    requires storage { Rises storage.now }
+    requires storage { Ascends storage.now }
     ensures set { OnOk result (state.new ≡ record {
       stack = state.old.stack;
       graphics = graphics.now;

@@ -8,7 +8,7 @@ ghost use Rattle.std.specs.List.Sorted.{IsStrictlySortedBy};
 ghost use Rattle.std.specs.Map.{keys_of};
 ghost use Rattle.tt_abs.specs.States.{state_order};
 ghost use Rattle.tt_cert.specs.Places.{place_cmp};
-ghost use Rattle.tt_cert.specs.Rising.{IsFinished};
+ghost use Rattle.tt_cert.specs.Ascending.{IsFinished};
 ghost use Rattle.tt_stream.specs.Streams.{AppendsBeginning};
 ghost use Rattle.tt_cert_file.specs.Answers.{CountsWrite};
 ghost use Rattle.tt_cert_file.specs.Representation.Clauses.{Pushes};
@@ -311,7 +311,7 @@ fn push_states(out: &mut Vec<u8>, certificate: &Certificate) -> Result<(), Alloc
         result out.old.items out.new.items }
     ensures room { OnOk result
         (AllByRecursion (HasRoom (length certificate.now.contexts)) certificate.now.states) }
-    ensures rises { OnOk result (IsStrictlySortedBy place_cmp (keys_of certificate.now.states)) }
+    ensures ascends { OnOk result (IsStrictlySortedBy place_cmp (keys_of certificate.now.states)) }
 {
     push_long(out, certificate.points())?;
     let mut states = certificate.states();

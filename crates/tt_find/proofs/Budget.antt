@@ -92,4 +92,4 @@ room_for h updates low fit = let most = mul-le-mul_right 4294967295 low in omega
 
 pub measure_falls : (h updates updates' marks popped marks' : ℕ) → updates' ≤ 4294967295 * (1 + h) → popped + 1 ≡ marks → marks' + updates ≤ popped + updates'
     → updates ≤ updates' → 2 * (4294967295 * (1 + h) - updates') + marks' < 2 * (4294967295 * (1 + h) - updates) + marks
-measure_falls h updates updates' marks popped marks' fit one more rises = omega arith
+measure_falls h updates updates' marks popped marks' fit one more ascends = omega arith

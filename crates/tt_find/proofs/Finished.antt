@@ -14,14 +14,14 @@ use Rattle.tt_abs.proofs.FamilyLaws.{derived_below, derived_is, none_where_apart
 use Rattle.tt_abs.specs.StateFlow.{FitsLimits, GivesState, Place, flow_of, height_of}
 use Rattle.tt_abs.specs.States.{state_laws, state_order}
 use Rattle.tt_abs.proofs.FunctionBodies.{derived_bodies}
-use Rattle.tt_abs.proofs.LineLaws.{precedes_one, precedes_rises}
+use Rattle.tt_abs.proofs.LineLaws.{precedes_one, precedes_ascends}
 use Rattle.tt_cert.specs.Checks.{IsOutOfMemory, point_key_of}
 use Rattle.tt_cert.specs.Contents.{HasContext, family_of, number_of}
 use Rattle.tt_cert.specs.Fillings.{IsFilling}
 use Rattle.tt_cert.specs.GoodFamilies.{EndsWell, HasEnd, HasFewContexts, IsGoodFamily, IsShortEnough}
 use Rattle.tt_cert.specs.Numbers.{at-number_of}
 use Rattle.tt_cert.specs.Places.{has_point}
-use Rattle.tt_cert.specs.Rising.{family_without}
+use Rattle.tt_cert.specs.Ascending.{family_without}
 use Rattle.tt_cert.proofs.FillingLaws.{ends_kept, ends_listed, some_or_none}
 use Rattle.tt_cert.specs.declared.fault.ProgramFault.{ProgramFault}
 use Rattle.tt_cert.specs.declared.fault.ProgramFault.TheVariants.{Refused, OutOfMemory}
@@ -174,7 +174,7 @@ module _ (s : Setting) (functions : List (ℕ × ℕ)) (laws : HasLaws s functio
       | inl (b, kept) ↦ has_number solver.builder p b whole.kept.family kept
       | inr gone ↦
           let add = filling_all.added p a at gone in
-          let rise = precedes_rises s add.before p add.just_before in
+          let rise = precedes_ascends s add.before p add.just_before in
           let H : List Frame → Type 0 = λ x. HasContext solver.builder.contexts x in
           subst H (sym add.just_before.calls) (has_context k add.before add.state (omega arith) add.there)
     ]

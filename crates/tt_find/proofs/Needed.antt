@@ -11,7 +11,7 @@ use Rattle.tt_abs.proofs.FamilyLaws.{derived_below, derived_is, none_where_refus
 use Rattle.tt_abs.specs.Lines.{Precedes}
 use Rattle.tt_abs.specs.StateFlow.{GivesState, Place, RefusesState, flow_of, height_of}
 use Rattle.tt_abs.specs.States.{start_of, state_laws, state_order}
-use Rattle.tt_abs.proofs.LineLaws.{precedes_no_start, precedes_rises}
+use Rattle.tt_abs.proofs.LineLaws.{precedes_no_start, precedes_ascends}
 use Rattle.tt_cert.specs.Checks.{BreaksAt, IsFillingBrokenFirst, IsFirstBreakOnTheWay, IsGap, stores, refused, leaves, too_long, no_start, no_end, no_way}
 use Rattle.tt_cert.specs.Contents.{Contents, family_of}
 use Rattle.tt_cert.specs.Fillings.{HasGoodFilling, IsFilling}
@@ -84,7 +84,7 @@ module _ (s : Setting) (functions : List (ℕ × ℕ)) (laws : HasLaws s functio
           subst D same (derived p b (fills.keeps p b (has p b is)))
       | inr none ↦
           let add = first.filled_by.added p a at none in
-          let rise = precedes_rises s add.before p add.just_before in
+          let rise = precedes_ascends s add.before p add.just_before in
           let before = derived_on r p' first k add.before add.state (omega arith) add.there in
           let sound = first.filled_by.sound add.before add.state add.walked add.there in
           moved add.before p add.state a before sound.safe add.gives

@@ -233,8 +233,8 @@ module _ (o : Order State) (f : Flow Place State) where
       there (Some a) None g = absurd g
       there (Some a) (Some u) g = (u, refl)
 
-      rises : (a b : ℕ) (s : State) → states_of v.states (a, b) ≡ Some s → (u : State) × (states_of v'.states (a, b) ≡ Some u)
-      rises a b s at =
+      ascends : (a b : ℕ) (s : State) → states_of v.states (a, b) ≡ Some s → (u : State) × (states_of v'.states (a, b) ≡ Some u)
+      ascends a b s at =
           let lt' = solver.family.held a b s at in
           let moved : family_of v' (place_of v a b) ≡ states_of v'.states (a, b) =
           let long' = ap length same in (λ i. family_of v' (frames_at (sym same i) a, b)) ∙ family_at v' a b family (omega arith) in
@@ -247,7 +247,7 @@ module _ (o : Order State) (f : Flow Place State) where
 
       held : (a b : ℕ) → has_point worklist' (a, b) ≡ true → (s : State) × (states_of v'.states (a, b) ≡ Some s)
       held a b m = elim (marks.back (a, b) m) [
-        | inl old ↦ let (s, at) = solver.held a b old in rises a b s at
+        | inl old ↦ let (s, at) = solver.held a b old in ascends a b s at
         | inr (new, _) ↦
             let moved : family_of v' (place_of v c off) ≡ states_of v'.states (c, off) =
             let long' = ap length same in (λ i. family_of v' (frames_at (sym same i) c, off)) ∙ family_at v' c off family (omega arith) in

@@ -9,11 +9,11 @@ use Rattle.tt_cert.specs.Places.{PutGives, PutsAt}
 use Rattle.tt_find.specs.Representation.Solvers.{IsSoundFamily}
 
 module _ {S : Type 0} (o : Order S) where
-  pub gives_rises : (old : Option S) (t : S) (slot : Option S) (c : Bool) → PutGives o old t slot c → (s : S) → old ≡ Some s → (u : S) × (slot ≡ Some u) × o.Below s u
-  gives_rises None t None c p s e = absurd p
-  gives_rises None t (Some u) c p s e = cc
-  gives_rises (Some a) t None c p s e = absurd p
-  gives_rises (Some a) t (Some u) c p s e =
+  pub gives_ascends : (old : Option S) (t : S) (slot : Option S) (c : Bool) → PutGives o old t slot c → (s : S) → old ≡ Some s → (u : S) × (slot ≡ Some u) × o.Below s u
+  gives_ascends None t None c p s e = absurd p
+  gives_ascends None t (Some u) c p s e = cc
+  gives_ascends (Some a) t None c p s e = absurd p
+  gives_ascends (Some a) t (Some u) c p s e =
       let same : a ≡ s = cc in
       let B : S → Type 0 = λ x. o.Below x u in
       (u, refl, subst B same p.0.left)
@@ -34,8 +34,8 @@ module _ {S : Type 0} (o : Order S) where
 
 module _ {P S : Type 0} (o : Order S) (laws : OrderLaws o) where
   covers_still : (old new : P → Option S) → ((p : P) (s : S) → old p ≡ Some s → CoversAt o new p s) → (p : P) (s : S) → CoversAt o old p s → CoversAt o new p s
-  covers_still old new rises p s (u, at, below) =
-      let (v, at', below') = rises p u at in
+  covers_still old new ascends p s (u, at, below) =
+      let (v, at', below') = ascends p u at in
       (v, at', laws.transitive s u v below below')
 
   -- more may wait, and more may be led to
@@ -53,11 +53,11 @@ module _ {P S : Type 0} (o : Order S) (laws : OrderLaws o) where
   }
 
   module _ (f : Flow P S) (same_or_apart : (p q : P) → (p ≡ q) ⊎ (p ≢ q)) where
-    put_rises : (old new : P → Option S) (q : P) (t : S) (c : Bool) → PutsAt o old new q t c → (p : P) (s : S) → old p ≡ Some s → CoversAt o new p s
-    put_rises old new q t c put p s at = elim (same_or_apart p q) [
+    put_ascends : (old new : P → Option S) (q : P) (t : S) (c : Bool) → PutsAt o old new q t c → (p : P) (s : S) → old p ≡ Some s → CoversAt o new p s
+    put_ascends old new q t c put p s at = elim (same_or_apart p q) [
       | inl same ↦
           let at_q : old q ≡ Some s = ap old (sym same) ∙ at in
-          let (u, is, below) = gives_rises o (old q) t (new q) c put.here s at_q in
+          let (u, is, below) = gives_ascends o (old q) t (new q) c put.here s at_q in
           (u, ap new same ∙ is, below)
       | inr apart ↦ (s, put.elsewhere p apart ∙ at, laws.reflexive s)
     ]
@@ -110,16 +110,16 @@ module _ {P S : Type 0} (o : Order S) (laws : OrderLaws o) where
         → ((p r : P) → MayLead p r → MayLead' p r) → ((p : P) → Waits p → Waits' p) → (c ≡ true → Waits' q)
         → IsSoundFamily o f new MayLead' Waits' Rest'
     sound_put old new MayLead MayLead' Waits Waits' Rest Rest' q t c sound put d fewer back leads more wait =
-        let rises = put_rises old new q t c put in
+        let ascends = put_ascends old new q t c put in
         let covers : CoversAt o new q t = gives_covers o laws (old q) t (new q) c put.here in
         record {
           derived = put_derived old new q t c put sound.derived d;
           rest_derived = λ p r s h. sound.rest_derived p r s (back p r s h);
-          start = covers_still old new rises f.entry f.start sound.start;
+          start = covers_still old new ascends f.entry f.start sound.start;
           safe = λ p s r at free. sound.safe p s r (unchanged old new Waits' q t c put wait p s at free) (λ m. free (more p m));
           closed = λ p s q' t' at free gives.
               elim (sound.closed p s q' t' (unchanged old new Waits' q t c put wait p s at free) (λ m. free (more p m)) gives) [
-                | inl (covered, may) ↦ inl (covers_still old new rises q' t' covered, leads p q' may)
+                | inl (covered, may) ↦ inl (covers_still old new ascends q' t' covered, leads p q' may)
                 | inr later ↦ elim (fewer p q' t' later) [
                   | inl still ↦ inr still
                   | inr (place, state, may) ↦

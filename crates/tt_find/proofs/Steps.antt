@@ -39,7 +39,7 @@ use Rattle.tt_find.proofs.Listed.{cases_source, listed_back, listed_before, list
 use Rattle.tt_find.proofs.Marking.{kept_here, kept_passed, kept_put, kept_state, none_kept}
 use Rattle.tt_find.proofs.Points.{family_kept, frames_stay, key_kept, same_or_apart, slot_elsewhere, slot_here, solver_grown, solver_opened, solver_popped, solver_put, waits_back, waits_here, waits_on, with_slot}
 use Rattle.tt_find.proofs.Sound.{gives_same, sound_passed, stays}
-use Rattle.tt_find.proofs.Visits.{more_elsewhere, more_here, more_rises, one_more, points_more, points_same, visits_changed, visits_passed, visits_same}
+use Rattle.tt_find.proofs.Visits.{more_elsewhere, more_here, more_ascends, one_more, points_more, points_same, visits_changed, visits_passed, visits_same}
 use Rattle.tt_find.proofs.Waits.{point_behind, point_here}
 use Rattle.tt_find.proofs.Ways.{end_gives, end_safe, ways_give, ways_safe}
 
@@ -393,14 +393,14 @@ module _ (s : Setting) (functions : List (ℕ × ℕ)) (laws : HasLaws s functio
         let was = sym (stored.put.put.elsewhere r other) ∙ none in
         let n = leading.ahead r just was in
         let e = more_elsewhere visits Q r other in
-        let m = more_rises visits Q p in
+        let m = more_ascends visits Q p in
         omega arith)
         (λ hit r just none.
         let other = gone r none in
         let was = sym (stored.put.put.elsewhere r other) ∙ none in
         let e = more_elsewhere visits Q r other in
         elim (back p hit) [
-          | inl old' ↦ let n = leading.twice old' r just was in let m = more_rises visits Q p in omega arith
+          | inl old' ↦ let n = leading.twice old' r just was in let m = more_ascends visits Q p in omega arith
           | inr now ↦
               let n = leading.ahead r just was in
               let e' = ap (one_more visits Q) now.0 in

@@ -8,7 +8,7 @@ use Rattle.tt_abs.specs.declared.state.State.{State}
 use Rattle.tt_abs.specs.Lines.{Precedes}
 use Rattle.tt_abs.specs.StateFlow.{Place}
 use Rattle.tt_abs.specs.States.{state_laws, state_order}
-use Rattle.tt_abs.proofs.LineLaws.{precedes_one, precedes_rises}
+use Rattle.tt_abs.proofs.LineLaws.{precedes_one, precedes_ascends}
 use Rattle.tt_cert.specs.Places.{PutGives, PutsAt}
 use Rattle.tt_cert.proofs.FillingLaws.{some_or_none}
 use Rattle.tt_find.specs.Found.{HasPlace}
@@ -33,18 +33,18 @@ more_elsewhere visits q p other = go (same_or_apart p q)
     go (inl same) = absurd (other same)
     go (inr apart) = refl
 
-pub more_rises : (visits : Place → ℕ) (q p : Place) → visits p ≤ one_more visits q p
-more_rises visits q p = go (same_or_apart p q)
+pub more_ascends : (visits : Place → ℕ) (q p : Place) → visits p ≤ one_more visits q p
+more_ascends visits q p = go (same_or_apart p q)
   where
     go : (x : (p ≡ q) ⊎ (p ≢ q)) → visits p ≤ (elim x as (λ _. ℕ) [ inl same ↦ visits p + 1 | inr apart ↦ visits p ])
     go (inl same) = omega arith
     go (inr apart) = omega arith
 
 -- the visits of some places together
-sum_rises : (f g : Place → ℕ) → ((p : Place) → f p ≤ g p) → (ps : List Place) → sum_by f ps ≤ sum_by g ps
-sum_rises f g le [] = omega arith
-sum_rises f g le (p ∷ ps) =
-    let ih = sum_rises f g le ps in
+sum_ascends : (f g : Place → ℕ) → ((p : Place) → f p ≤ g p) → (ps : List Place) → sum_by f ps ≤ sum_by g ps
+sum_ascends f g le [] = omega arith
+sum_ascends f g le (p ∷ ps) =
+    let ih = sum_ascends f g le ps in
     let one = le p in
     let e = sum_by-cons f p ps in
     let e' = sum_by-cons g p ps in
@@ -57,7 +57,7 @@ sum_more f g le q more (p ∷ ps) has =
     let e' = sum_by-cons g p ps in
     elim has [
       | inl same ↦
-          let rest = sum_rises f g le ps in
+          let rest = sum_ascends f g le ps in
           let a : f q ≡ f p = ap f same in
           let b : g q ≡ g p = ap g same in
           omega arith
@@ -97,7 +97,7 @@ points_more filled filled' visits points count q t are here elsewhere = elim (so
       least = let l = are.least in omega arith;
       most =
           let more = more_here visits q in
-          let sums = sum_more visits (one_more visits q) (more_rises visits q) q (omega arith) points (are.exact.all q a at) in
+          let sums = sum_more visits (one_more visits q) (more_ascends visits q) q (omega arith) points (are.exact.all q a at) in
           let m = are.most in omega arith;
     },
   )
@@ -121,7 +121,7 @@ points_more filled filled' visits points count q t are here elsewhere = elim (so
       least = let l = are.least in omega arith;
       most =
           let more = more_here visits q in
-          let sums = sum_rises visits (one_more visits q) (more_rises visits q) points in
+          let sums = sum_ascends visits (one_more visits q) (more_ascends visits q) points in
           let e = sum_by-cons (one_more visits q) q points in
           let m = are.most in omega arith;
     },
@@ -149,7 +149,7 @@ module _ (s : Setting) (h : ℕ) where
   visits_changed stored stored' filled filled' Waits Waits' visits q t are put kept here elsewhere low ranged back = record {
     seen = λ p a at. elim (same_or_apart p q) [
       | inl same ↦ let e = ap (one_more visits q) same in let m = more_here visits q in omega arith
-      | inr apart ↦ let n = are.seen p a (sym (elsewhere p apart) ∙ at) in let m = more_rises visits q p in omega arith
+      | inr apart ↦ let n = are.seen p a (sym (elsewhere p apart) ∙ at) in let m = more_ascends visits q p in omega arith
     ];
     unseen = λ p none. elim (same_or_apart p q) [
       | inl same ↦
@@ -160,7 +160,7 @@ module _ (s : Setting) (h : ℕ) where
     waits = λ p w. elim (same_or_apart p q) [
       | inl same ↦ let e = ap (one_more visits q) same in let m = more_here visits q in omega arith
       | inr apart ↦ elim (back p w) [
-        | inl old ↦ let n = are.waits p old in let m = more_rises visits q p in omega arith
+        | inl old ↦ let n = are.waits p old in let m = more_ascends visits q p in omega arith
         | inr same ↦ absurd (apart same)
       ]
     ];
@@ -176,14 +176,14 @@ module _ (s : Setting) (h : ℕ) where
     follow = λ p r just none.
         let n = are.follow p r just (sym (put.elsewhere r (apart_from r none)) ∙ none) in
         let e = more_elsewhere visits q r (apart_from r none) in
-        let m = more_rises visits q p in
+        let m = more_ascends visits q p in
         omega arith;
     ahead = λ p r just none w.
         let other = apart_from r none in
         let gone = sym (put.elsewhere r other) ∙ none in
         let e = more_elsewhere visits q r other in
         elim (back p w) [
-          | inl old ↦ let n = are.ahead p r just gone old in let m = more_rises visits q p in omega arith
+          | inl old ↦ let n = are.ahead p r just gone old in let m = more_ascends visits q p in omega arith
           | inr same ↦
               let n = are.follow p r just gone in
               let e' = ap (one_more visits q) same in
@@ -241,7 +241,7 @@ module _ (s : Setting) (h : ℕ) where
   visits_passed stored filled filled' Waits Waits' visits p q t are none here elsewhere just ahead twice back = record {
     seen = λ r a at. elim (same_or_apart r q) [
       | inl same ↦ let e = ap (one_more visits q) same in let m = more_here visits q in omega arith
-      | inr apart ↦ let n = are.seen r a (sym (elsewhere r apart) ∙ at) in let m = more_rises visits q r in omega arith
+      | inr apart ↦ let n = are.seen r a (sym (elsewhere r apart) ∙ at) in let m = more_ascends visits q r in omega arith
     ];
     unseen = λ r no'. elim (same_or_apart r q) [
       | inl same ↦ absurd (let no_such : Some t ≡ None = sym here ∙ ap filled' (sym same) ∙ no' in cc)
@@ -250,7 +250,7 @@ module _ (s : Setting) (h : ℕ) where
     waits = λ r w. elim (same_or_apart r q) [
       | inl same ↦ let e = ap (one_more visits q) same in let m = more_here visits q in omega arith
       | inr apart ↦ elim (back r w) [
-        | inl old ↦ let n = are.waits r old in let m = more_rises visits q r in omega arith
+        | inl old ↦ let n = are.waits r old in let m = more_ascends visits q r in omega arith
         | inr same ↦ absurd (apart same)
       ]
     ];
@@ -265,20 +265,20 @@ module _ (s : Setting) (h : ℕ) where
       | inr apart ↦
           let n = are.follow p' r just' gone in
           let e = more_elsewhere visits q r apart in
-          let m = more_rises visits q p' in
+          let m = more_ascends visits q p' in
           omega arith
       | inl same ↦
           let from = from_here p' r just' same in
           let e = ap (one_more visits q) same in
           let e' = ap visits from in
           let m = more_here visits q in
-          let m' = more_rises visits q p' in
+          let m' = more_ascends visits q p' in
           omega arith
     ];
     ahead = λ p' r just' gone w. elim (same_or_apart r q) [
       | inr apart ↦
           let e = more_elsewhere visits q r apart in
-          let m = more_rises visits q p' in
+          let m = more_ascends visits q p' in
           elim (back p' w) [
             | inl old ↦ let n = are.ahead p' r just' gone old in omega arith
             | inr same ↦
@@ -293,11 +293,11 @@ module _ (s : Setting) (h : ℕ) where
           let e = ap (one_more visits q) same in
           let e' = ap visits from in
           let m = more_here visits q in
-          let m' = more_rises visits q p' in
+          let m' = more_ascends visits q p' in
           elim (back p' w) [
             | inl old ↦ let W : Place → Type 0 = Waits in let n = twice (subst W from old) in omega arith
             | inr here' ↦
-                let rise = precedes_rises s p' r just' in
+                let rise = precedes_ascends s p' r just' in
                 let o = ap (λ (x : Place). x.1) here' in
                 let o' = ap (λ (x : Place). x.1) same in
                 omega arith
@@ -317,7 +317,7 @@ module _ (s : Setting) (h : ℕ) where
       | inl (b, kept) ↦ let n = are.high q b kept in omega arith
       | inr gone ↦
           let (p, just) = are.before q a at gone in
-          let rise = precedes_rises s p q just in
+          let rise = precedes_ascends s p q just in
           let ih = visits_below stored filled Waits visits are k p (omega arith) in
           let n = are.follow p q just gone in
           omega arith

@@ -2,7 +2,7 @@
 //! carried on, until none is left.
 
 ghost use Rattle.std.specs.Prelude.{◌≡◌, None, [], ◌∷◌, IfErr, IfOk, IfSome};
-ghost use Rattle.tt_abs.specs.Entries.{Rises};
+ghost use Rattle.tt_abs.specs.Entries.{Ascends};
 ghost use Rattle.tt_abs.specs.Settings.{setting_of};
 ghost use Rattle.tt_abs.specs.StateFlow.{FunctionsFit};
 ghost use Rattle.tt_cert.specs.Budgets.{Spends};
@@ -54,7 +54,7 @@ enum KeptStates {
 
 /// States that the laws of the program's flow hold, and that no count of updates is too great.
 fn law_facts(setting: &Setting<'_>)
-    requires rises { Rises setting.now.start.now }
+    requires ascends { Ascends setting.now.start.now }
     requires fits { FunctionsFit (setting_of setting.now) setting.now.start.now }
     ensures { HasLawsFor setting.now }
 {
@@ -74,7 +74,7 @@ fn run_to_fixpoint(
     setting: &Setting<'_>,
     budget: &mut Budget,
 ) -> Result<(), Stop>
-    requires rises { Rises setting.now.start.now }
+    requires ascends { Ascends setting.now.start.now }
     requires laws { HasLawsFor setting.now }
     requires empty { IsEmptySolver solver.old }
     ensures whole { IfOk result (λ _. IsWholeFor setting.now solver.new) }
@@ -105,7 +105,7 @@ fn fill_everywhere(
     setting: &Setting<'_>,
     budget: &mut Budget,
 ) -> Result<(), ProgramFault>
-    requires rises { Rises setting.now.start.now }
+    requires ascends { Ascends setting.now.start.now }
     requires laws { HasLawsFor setting.now }
     ensures whole { IfOk result (λ _. IsWholeFor setting.now solver.new) }
     ensures none { IfOk result (λ _. solver.new.worklist ≡ []) }
@@ -132,7 +132,7 @@ fn restart_to_fixpoint(
     setting: &Setting<'_>,
     budget: &mut Budget,
 ) -> Result<(), ProgramFault>
-    requires rises { Rises setting.now.start.now }
+    requires ascends { Ascends setting.now.start.now }
     requires laws { HasLawsFor setting.now }
     ensures whole { IfOk result (λ _. IsWholeFor setting.now solver.new) }
     ensures none { IfOk result (λ _. solver.new.worklist ≡ []) }
@@ -162,7 +162,7 @@ fn fill(
     kept: KeptStates,
     budget: &mut Budget,
 ) -> Result<(), ProgramFault>
-    requires rises { Rises setting.now.start.now }
+    requires ascends { Ascends setting.now.start.now }
     requires laws { HasLawsFor setting.now }
     ensures whole { IfOk result (λ _. IsWholeFor setting.now solver.new) }
     ensures none { IfOk result (λ _. solver.new.worklist ≡ []) }
@@ -197,7 +197,7 @@ fn find_fixpoint(
     kept: KeptStates,
     budget: &mut Budget,
 ) -> Result<u64, ProgramFault>
-    requires rises { Rises setting.now.start.now }
+    requires ascends { Ascends setting.now.start.now }
     requires fits { FunctionsFit (setting_of setting.now) setting.now.start.now }
     ensures laws { HasLawsFor setting.now }
     ensures found { IfOk result (IsFoundFor setting.now solver.new) }
@@ -252,7 +252,7 @@ impl Finder {
     /// # Errors
     /// As `find`.
     pub fn find(&mut self, alloc: Global, setting: &Setting<'_>) -> Result<Found, ProgramFault>
-        requires rises { Rises setting.now.start.now }
+        requires ascends { Ascends setting.now.start.now }
         requires fits { FunctionsFit (setting_of setting.now) setting.now.start.now }
         ensures filling { IfOk result (IsLeastFor setting.now) }
         ensures contexts { IfOk result (HasLeastContexts setting.now) }
@@ -274,7 +274,7 @@ impl Finder {
         setting: &Setting<'_>,
         budget: &mut Budget,
     ) -> Result<Found, ProgramFault>
-        requires rises { Rises setting.now.start.now }
+        requires ascends { Ascends setting.now.start.now }
         requires fits { FunctionsFit (setting_of setting.now) setting.now.start.now }
         ensures filling { IfOk result (IsLeastFor setting.now) }
         ensures contexts { IfOk result (HasLeastContexts setting.now) }
@@ -308,7 +308,7 @@ impl Finder {
         alloc: Global,
         setting: &Setting<'_>,
     ) -> Result<Found, ProgramFault>
-        requires rises { Rises setting.now.start.now }
+        requires ascends { Ascends setting.now.start.now }
         requires fits { FunctionsFit (setting_of setting.now) setting.now.start.now }
         ensures filling { IfOk result (IsLeastFor setting.now) }
         ensures contexts { IfOk result (HasLeastContexts setting.now) }
@@ -331,7 +331,7 @@ impl Finder {
         setting: &Setting<'_>,
         budget: &mut Budget,
     ) -> Result<Found, ProgramFault>
-        requires rises { Rises setting.now.start.now }
+        requires ascends { Ascends setting.now.start.now }
         requires fits { FunctionsFit (setting_of setting.now) setting.now.start.now }
         ensures filling { IfOk result (IsLeastFor setting.now) }
         ensures contexts { IfOk result (HasLeastContexts setting.now) }
@@ -368,7 +368,7 @@ impl Finder {
 /// depths, where they meet; for more than 65,535 contexts, at the instruction that enters one more;
 /// for a font program or a CVT program that comes nowhere to its end, at its start. `OutOfMemory`.
 pub fn find(alloc: Global, setting: &Setting<'_>) -> Result<Found, ProgramFault>
-    requires rises { Rises setting.now.start.now }
+    requires ascends { Ascends setting.now.start.now }
     requires fits { FunctionsFit (setting_of setting.now) setting.now.start.now }
     ensures filling { IfOk result (IsLeastFor setting.now) }
     ensures contexts { IfOk result (HasLeastContexts setting.now) }
@@ -387,7 +387,7 @@ pub fn find(alloc: Global, setting: &Setting<'_>) -> Result<Found, ProgramFault>
 /// # Errors
 /// If memory runs out.
 pub fn explore(alloc: Global, setting: &Setting<'_>) -> Result<Explored, AllocError>
-    requires rises { Rises setting.now.start.now }
+    requires ascends { Ascends setting.now.start.now }
     requires fits { FunctionsFit (setting_of setting.now) setting.now.start.now }
     ensures filling { IfOk result (λ explored. explored.fault ≡ None
         → IsLeastFor setting.now explored.found) }

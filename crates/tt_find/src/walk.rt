@@ -1,7 +1,7 @@
 //! What is kept from point to point.
 
 ghost use Rattle.std.specs.Prelude.{◌≡◌, ◌↔◌, ◌<◌, IfErr, IfOk, IsFalse, IsTrue, None, Some, length};
-ghost use Rattle.tt_abs.specs.Entries.{Rises};
+ghost use Rattle.tt_abs.specs.Entries.{Ascends};
 ghost use Rattle.tt_abs.specs.States.{start_of, state_order};
 ghost use Rattle.tt_cert.specs.Contents.{Contents, IsFamily, state_at};
 ghost use Rattle.tt_cert.specs.Joins.{TellsNewAt};
@@ -33,7 +33,7 @@ impl Walk {
     /// # Errors
     /// If memory runs out.
     pub(crate) fn start(alloc: Global, functions: &[(u16, u32)]) -> Result<Walk, AllocError>
-        requires { Rises functions.now }
+        requires { Ascends functions.now }
         ensures walk { IfOk result (λ walk.
             (contents : Contents) → IsFamily contents → IsWalk contents walk) }
         ensures state { IfOk result (λ walk. walk.state ≡ start_of functions.now) }

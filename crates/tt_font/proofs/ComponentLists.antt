@@ -16,7 +16,7 @@ size_is_least flags = let some = arguments_are_some (has_flag flags 0x0001) in o
 
 -- a component lies after its place and in the glyph
 pub record IsAfter (place : ℕ) (glyph : List ℕ) (c : Component) : Type 0 where
-  pub rises : place < c.after
+  pub ascends : place < c.after
   pub within : c.after ≤ length glyph
 
 by_test : (place size : ℕ) (glyph : List ℕ) (flags number : ℕ) (c : Component) (b : Bool) → 6 ≤ size → nat_le (place + size) (length glyph) ≡ b
@@ -24,7 +24,7 @@ by_test : (place size : ℕ) (glyph : List ℕ) (flags number : ℕ) (c : Compon
 by_test place size glyph flags number c true least fits e =
     let le : place + size ≤ length glyph = leb-true _ _ fits in
     let after : place + size ≡ c.after = ap (λ o. after_of o) e in
-    record { rises = omega arith; within = omega arith }
+    record { ascends = omega arith; within = omega arith }
   where
     after_of : Option Component → ℕ
     after_of None = 0
@@ -45,7 +45,7 @@ none_left place glyph le = by_case (component_at place glyph) refl
   where
     by_case : (o : Option Component) → component_at place glyph ≡ o → component_at place glyph ≡ None
     by_case None e = e
-    by_case (Some c) e = let is = is_after place glyph c e in let a = is.rises in let b = is.within in absurd (omega arith)
+    by_case (Some c) e = let is = is_after place glyph c e in let a = is.ascends in let b = is.within in absurd (omega arith)
 
 any_room : (n m place : ℕ) (glyph : List ℕ) → length glyph ≤ place + n → length glyph ≤ place + m → components_from n place glyph ≡ components_from m place glyph
 unfolding components_from
@@ -54,7 +54,7 @@ any_room zero (suc m) place glyph a b = sym (ap (listed (λ after. components_fr
 any_room (suc n) zero place glyph a b = ap (listed (λ after. components_from n after glyph)) (none_left place glyph (omega arith))
 any_room (suc n) (suc m) place glyph a b =
     same_listed (λ after. components_from n after glyph) (λ after. components_from m after glyph) (component_at place glyph)
-    (λ c e. let is = is_after place glyph c e in let rises = is.rises in any_room n m c.after glyph (omega arith) (omega arith))
+    (λ c e. let is = is_after place glyph c e in let ascends = is.ascends in any_room n m c.after glyph (omega arith) (omega arith))
 
 -- the components from a place on: the one there, and those from the place after it on
 pub components_at_is : (place : ℕ) (glyph : List ℕ) → components_at place glyph ≡ listed (λ after. components_at after glyph) (component_at place glyph)

@@ -22,12 +22,12 @@ pub total_more : (glyphs : ℕ → List ℕ) (n : ℕ) → component_total glyph
 unfolding component_total
 total_more glyphs n = let e : n + 1 ≡ suc n = omega arith in ap (component_total glyphs) e
 
-pub total_rises : (glyphs : ℕ → List ℕ) (i n : ℕ) → i ≤ n → component_total glyphs i ≤ component_total glyphs n
+pub total_ascends : (glyphs : ℕ → List ℕ) (i n : ℕ) → i ≤ n → component_total glyphs i ≤ component_total glyphs n
 unfolding component_total
-total_rises glyphs i zero le = let e : i ≡ 0 = omega arith in let same = ap (component_total glyphs) e in omega arith
-total_rises glyphs i (suc n) le = elim (cases_eq i (suc n)) [
+total_ascends glyphs i zero le = let e : i ≡ 0 = omega arith in let same = ap (component_total glyphs) e in omega arith
+total_ascends glyphs i (suc n) le = elim (cases_eq i (suc n)) [
   | inl same ↦ (let e = ap (component_total glyphs) same in omega arith)
-  | inr other ↦ (let rest = total_rises glyphs i n (omega arith) in omega arith)
+  | inr other ↦ (let rest = total_ascends glyphs i n (omega arith) in omega arith)
 ]
 
 pub outline_below : (count : ℕ) (glyphs : ℕ → List ℕ) (id : ℕ) → id < count → outlines_of count glyphs id ≡ outline_of (glyphs id)

@@ -29,9 +29,9 @@ not_zero i j e = ne_eqb j 0 (λ h. absurd (omega arith))
 -- a glyph's entry is at most the next one
 pub entries_rise : (format : ℕ) (loca glyf : List ℕ) (i j : ℕ) → j ≡ i + 1 → entry_fits format loca glyf j ≡ true → entry format loca i ≤ entry format loca j
 entries_rise format loca glyf i j e fits =
-    let rises = or_right (j == 0) _ (not_zero i j e) (and_right (nat_le (entry format loca j) (length glyf)) _ (and_right (nat_le (entry_size format * (j + 1)) (length loca)) _ fits)) in
+    let ascends = or_right (j == 0) _ (not_zero i j e) (and_right (nat_le (entry format loca j) (length glyf)) _ (and_right (nat_le (entry_size format * (j + 1)) (length loca)) _ fits)) in
     let before : j - 1 ≡ i = omega arith in
-    let le : entry format loca (j - 1) ≤ entry format loca j = leb-true _ _ rises in
+    let le : entry format loca (j - 1) ≤ entry format loca j = leb-true _ _ ascends in
     let same : entry format loca (j - 1) ≡ entry format loca i = ap (entry format loca) before in
     omega arith
 

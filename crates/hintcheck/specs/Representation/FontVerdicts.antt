@@ -3,7 +3,7 @@ use Rattle.std.specs.Prelude.{ℕ, List, ◌++◌, drop}
 use Rattle.tt_code.specs.Cut.{Instruction}
 use Rattle.tt_code.specs.Fonts.{Font}
 use Rattle.tt_code.specs.Settings.{Kind, FontProgram, CvtProgram, GlyphProgram}
-use Rattle.tt_abs.specs.Entries.{Rises}
+use Rattle.tt_abs.specs.Entries.{Ascends}
 use Rattle.tt_abs.specs.Settings.{programs_of}
 use Rattle.tt_abs.specs.StateFlow.{FunctionsFit}
 use Rattle.tt_abs.specs.declared.setting.Setting.{Setting}
@@ -29,7 +29,7 @@ ComesToEnd (GlyphProgram points contours) = ⊥
 pub record IsKnownAtEnd (x : Subject) (instructions : List Instruction)
     (functions : List (ℕ × ℕ)) : Type 0 where
   pub ends : EndsWith x instructions functions
-  pub rises : Rises functions
+  pub ascends : Ascends functions
   pub fits : FunctionsFit (x.setting instructions) functions
 
 -- the font, and a glyph's program as it is checked

@@ -1,7 +1,7 @@
 //! What is found for the programs of a font, one a call.
 
 ghost use Rattle.std.specs.Prelude.{◌+◌, ◌<◌, IfOk, Some, length};
-ghost use Rattle.tt_abs.specs.Entries.{Rises};
+ghost use Rattle.tt_abs.specs.Entries.{Ascends};
 ghost use Rattle.tt_abs.specs.StateFlow.{FunctionsFit};
 ghost use Rattle.tt_cert.specs.Budgets.{Spends};
 ghost use Rattle.tt_code.specs.Fonts.{font_setting};
@@ -116,7 +116,7 @@ fn find_glyph(
 ) -> Result<(Outcome, Option<Found>), AllocError>
     requires range { IsFontInRange font.now }
     requires search { IsForCertificate search }
-    requires rises { Rises prep.now.functions.items }
+    requires ascends { Ascends prep.now.functions.items }
     requires fits { FunctionsFit
         (font_setting (font_of font.now fpgm.now.program prep.now.program))
         prep.now.functions.items }

@@ -153,7 +153,10 @@ fn long_certificate_without_its_last_section(rt: HostRuntime) -> Result<(), Fail
         font.as_str(),
         cert.as_str(),
     ];
-    assert!(rt; answers(&rt, &find, 3, "", BUDGET), "a budget that is exceeded");
+    assert!(rt;
+        answers(&rt, &find, 3, "", BUDGET),
+        "a budget that is exceeded"
+    );
     let begun = fs::read(&rt, cert.as_str())?;
     assert_eq!(rt; begun.len(), 79_019);
     let find = [

@@ -175,6 +175,10 @@ fn one_budget_for_all_calls(rt: HostRuntime) {
             assert_eq!(rt; answer.0, want, "{most} points");
         }
         let (_, made, is_exceeded, _) = answers[4];
-        assert_eq!(rt; (made, is_exceeded), (most.min(9), most < 9), "{most} points");
+        assert_eq!(rt;
+            (made, is_exceeded),
+            (most.min(9), most < 9),
+            "{most} points"
+        );
     }
 }

@@ -83,7 +83,11 @@ fn faults_of_a_certificate_before_the_budget(rt: HostRuntime) {
         assert_eq!(rt; told, want, "{length} bytes, {most} points");
         assert_eq!(rt; budget.made(), made, "{length} bytes, {most} points");
         let is_exceeded = want == Told::Budget;
-        assert_eq!(rt; budget.is_exceeded(), is_exceeded, "{length} bytes, {most} points");
+        assert_eq!(rt;
+            budget.is_exceeded(),
+            is_exceeded,
+            "{length} bytes, {most} points"
+        );
     }
 }
 

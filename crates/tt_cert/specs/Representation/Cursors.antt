@@ -79,7 +79,7 @@ to_come (Some e) entries = ((e.0, e.1), e.2.now) ∷ entries
 pub record AreToCome (contents : Contents) (next : Option (ℕ × ℕ × Bor State)) (others : List Entry)
     : Type 0 where
   pub rest : (before : List Entry) × (contents.states ≡ before ++ to_come next others)
-  pub rises : IsStrictlySortedBy place_cmp (keys_of contents.states)
+  pub ascends : IsStrictlySortedBy place_cmp (keys_of contents.states)
   pub found : All (λ e. states_of contents.states e.0 ≡ Some e.1) contents.states
 
 -- How a state is covered at a place to which it goes, or added there: by the state that comes next,

@@ -5,7 +5,7 @@ use Rattle.std.specs.Map.{values_of}
 use Rattle.tt_code.specs.declared.machine.Frame.{Frame}
 use Rattle.tt_cert.specs.Contents.{frames_at}
 use Rattle.tt_cert.specs.Built.{Key}
-use Rattle.tt_cert.specs.Rising.{IsRising}
+use Rattle.tt_cert.specs.Ascending.{IsAscending}
 
 -- the numbers of a context's children, in the order of the index
 abbrev pub children : List (Key × ℕ) → ℕ → List ℕ
@@ -21,7 +21,7 @@ pub record IsFileOrder (contexts : List (List Frame)) (order : List ℕ) : Type 
   pub within : (i n : ℕ) → slice_get order i ≡ Some n → n < length contexts
   pub once : (i j n : ℕ) → slice_get order i ≡ Some n → slice_get order j ≡ Some n → i ≡ j
   pub all : (n : ℕ) → n < length contexts → (i : ℕ) × (slice_get order i ≡ Some n)
-  pub rising : IsRising (in_order contexts order)
+  pub ascending : IsAscending (in_order contexts order)
 
 -- the place of each context in the order
 pub record ArePlaces (contexts : List (List Frame)) (order places : List ℕ) : Type 0 where

@@ -5,7 +5,7 @@ use Rattle.std.specs.List.{AllByRecursion}
 use Rattle.std.specs.List.Sorted.{IsStrictlySortedBy}
 use Rattle.std.specs.BTreeMap.{insert_entry}
 use Rattle.std.specs.Map.{keys_of}
-use Rattle.tt_abs.specs.Entries.{Rises, listed}
+use Rattle.tt_abs.specs.Entries.{Ascends, listed}
 use Rattle.tt_cert.specs.Places.{place_cmp, states_of}
 
 -- a slot with its place, which is a context and an offset
@@ -47,14 +47,14 @@ AreBelow offset list = AllByRecursion (λ e. e.0 < offset) list
 -- both lists ascend, and no place is in both
 pub record AreApart (points rest : List Point) : Type 0 where
   pub points_rise : IsStrictlySortedBy place_cmp (keys_of points)
-  pub rest_rises : IsStrictlySortedBy place_cmp (keys_of rest)
+  pub rest_ascends : IsStrictlySortedBy place_cmp (keys_of rest)
   pub once : (p : ℕ × ℕ) (n : ℕ) → states_of rest p ≡ Some n → states_of points p ≡ None
 
 -- the offsets of each list ascend, and a point beside the lists comes after none of them: its list has
 -- a greater offset, and not its own
 pub record AreSlotLists (lists : List Offsets) (rest : List Point) : Type 0 where
-  pub rise : (c : ℕ) → Rises (list_of lists c)
-  pub rest_rises : IsStrictlySortedBy place_cmp (keys_of rest)
+  pub rise : (c : ℕ) → Ascends (list_of lists c)
+  pub rest_ascends : IsStrictlySortedBy place_cmp (keys_of rest)
   pub unlisted : (c o n : ℕ) → states_of rest (c, o) ≡ Some n → listed (list_of lists c) o ≡ None
   pub early : (c o n : ℕ) → states_of rest (c, o) ≡ Some n → AreBelow o (list_of lists c) → ⊥
   pub fits : length lists ≤ 4294967296

@@ -21,7 +21,7 @@ AreSlots slots places = (i : ℕ) (e : (ℕ × ℕ) × ℕ) → slice_get places
 
 -- the places ascend and have the first slots, one each
 pub record AreFirstSlots (slots : List State) (places : List ((ℕ × ℕ) × ℕ)) : Type 0 where
-  pub rises : IsStrictlySortedBy place_cmp (keys_of places)
+  pub ascends : IsStrictlySortedBy place_cmp (keys_of places)
   pub first : (p : ℕ × ℕ) (n : ℕ) → states_of places p ≡ Some n → n < length places
   pub once : (p q : ℕ × ℕ) (n : ℕ) → states_of places p ≡ Some n → states_of places q ≡ Some n
       → p ≡ q

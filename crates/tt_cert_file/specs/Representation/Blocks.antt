@@ -6,7 +6,7 @@ use Rattle.tt_cert_file.specs.declared.fault.DecodeFault.{DecodeFault}
 use Rattle.tt_cert_file.specs.declared.fault.DecodeFault.TheVariants as fault
 use Rattle.tt_cert_file.specs.Answers.{Fails, input_at}
 use Rattle.tt_abs.specs.declared.cells.Cell.{Cell}
-use Rattle.tt_abs.specs.Entries.{Rises}
+use Rattle.tt_abs.specs.Entries.{Ascends}
 use Rattle.tt_cert_file.specs.Readers.{Answer, Input, list_at, place_after}
 use Rattle.tt_cert_file.specs.Reading.{cell_at, function_at}
 
@@ -199,4 +199,4 @@ pub record AreSpelled (text : List ℕ) (functions : List (ℕ × ℕ)) : Type 0
 
 -- functions ascend, and where there is a text, it is theirs
 abbrev pub AreKept : List ℕ → List (ℕ × ℕ) → Type 0
-AreKept text functions = Rises functions × (0 < length text → AreSpelled text functions)
+AreKept text functions = Ascends functions × (0 < length text → AreSpelled text functions)

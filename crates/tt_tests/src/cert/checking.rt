@@ -1,7 +1,7 @@
 //! The check of families for small programs: which of them are good, and what is broken first.
 
 ghost use Rattle.std.specs.Prelude.{IfSome};
-ghost use Rattle.tt_abs.specs.Entries.{Rises};
+ghost use Rattle.tt_abs.specs.Entries.{Ascends};
 ghost use Rattle.tt_abs.specs.States.{state_order};
 
 use hintcheck_test_fixtures::families::{
@@ -66,7 +66,7 @@ fn answer_in(
     family: &Certificate,
     asked: Asked,
 ) -> Option<Answer>
-    requires { Rises setting.now.start.now }
+    requires { Ascends setting.now.start.now }
 {
     let answer = match asked {
         Asked::Whole => check_full(alloc, setting, family),
@@ -92,7 +92,7 @@ fn checked(
     start: &[(u16, u32)],
     family: &Certificate,
 ) -> Option<Answer>
-    requires { Rises start.now }
+    requires { Ascends start.now }
 {
     let [font, prep, main] = subject.programs;
     let font = cut(alloc, font)?;
@@ -118,7 +118,7 @@ fn answer_from(
     start: &[(u16, u32)],
     rows: &[Row<'_>],
 ) -> Option<Answer>
-    requires { Rises start.now }
+    requires { Ascends start.now }
 {
     let family = certificate(alloc, subject.contexts, start, rows)?;
     checked(alloc, subject, start, &family)

@@ -1,6 +1,6 @@
 //! What the tests share: what a finder and then the check tell of a program.
 
-ghost use Rattle.tt_abs.specs.Entries.{Rises};
+ghost use Rattle.tt_abs.specs.Entries.{Ascends};
 
 use crate::find::fillings::filled_points;
 use hintcheck_test_fixtures::families::leads_through;
@@ -38,7 +38,7 @@ impl Told {
 /// Returns how large a family is that was found, if the check accepts it, and else what the check
 /// says; nothing where memory ran out.
 fn checked(alloc: Global, setting: &Setting<'_>, found: &Found) -> Option<Answer>
-    requires { Rises setting.now.start.now }
+    requires { Ascends setting.now.start.now }
 {
     match check(alloc, setting, &found.certificate) {
         Ok(()) => {
@@ -58,7 +58,7 @@ fn checked(alloc: Global, setting: &Setting<'_>, found: &Found) -> Option<Answer
 
 /// Returns what is told of a program for which this was found; nothing where memory ran out.
 fn told_of(alloc: Global, setting: &Setting<'_>, found: Result<Found, ProgramFault>) -> Option<Told>
-    requires { Rises setting.now.start.now }
+    requires { Ascends setting.now.start.now }
 {
     match found {
         Ok(found) => {

@@ -11,7 +11,7 @@ use Rattle.hintcheck.proofs.font.judge_glyph.Goals as goal
 
 pub returns-then-is_empty-clause-least : goal.returns-then-is_empty-clause-least
 returns-then-is_empty-clause-least c = λ id.
-    least_without_instructions (font_in c.args.common.now) c.args.common.now.functions.now id (glyph_data c.args.glyph.now) c.requires.rises
+    least_without_instructions (font_in c.args.common.now) c.args.common.now.functions.now id (glyph_data c.args.glyph.now) c.requires.ascends
     (nil_from_length c.args.glyph.now.program.now (eqb-true _ _ (sym c.if-is_empty.ensures)))
 
 pub returns-in_err-found-clause-none_good : goal.returns-in_err-found-clause-none_good

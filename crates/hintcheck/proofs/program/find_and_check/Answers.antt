@@ -10,7 +10,7 @@ pub returns-in-BeforeWriting-clause-accepted : goal.returns-in-BeforeWriting-cla
 returns-in-BeforeWriting-clause-accepted c = λ x subject.
     let s = setting_of c.args.setting.now in
     let fs = c.args.setting.now.start.now in
-    let h : HasFlow s fs = record { range = c.range_facts.ensures.range; short = c.range_facts.ensures.short; rises = c.requires.rises; fits = c.requires.fits } in
+    let h : HasFlow s fs = record { range = c.range_facts.ensures.range; short = c.range_facts.ensures.short; ascends = c.requires.ascends; fits = c.requires.fits } in
     accepted_found x c.args.setting.now.main.now s fs c.in_ok-found.found.updates c.in_ok-found.found.certificate subject.cut subject.setting subject.functions h
     c.in_ok-found.ensures.filling
 
@@ -18,7 +18,7 @@ pub returns-in-BeforeWriting-clause-found : goal.returns-in-BeforeWriting-clause
 returns-in-BeforeWriting-clause-found c = λ certificate x subject.
     let s = setting_of c.args.setting.now in
     let fs = c.args.setting.now.start.now in
-    let h : HasFlow s fs = record { range = c.range_facts.ensures.range; short = c.range_facts.ensures.short; rises = c.requires.rises; fits = c.requires.fits } in
+    let h : HasFlow s fs = record { range = c.range_facts.ensures.range; short = c.range_facts.ensures.short; ascends = c.requires.ascends; fits = c.requires.fits } in
     let accepted = accepted_found x c.args.setting.now.main.now s fs c.in_ok-found.found.updates c.in_ok-found.found.certificate subject.cut subject.setting subject.functions h
     c.in_ok-found.ensures.filling in
     found_for x c.args.setting.now.main.now s fs c.in_ok-found.found subject.setting subject.functions accepted c.in_ok-found.ensures.filling c.in_ok-found.ensures.contexts
@@ -28,7 +28,7 @@ pub returns-in-Verdict-clause-accepted : goal.returns-in-Verdict-clause-accepted
 returns-in-Verdict-clause-accepted c = λ x subject.
     let s = setting_of c.args.setting.now in
     let fs = c.args.setting.now.start.now in
-    let h : HasFlow s fs = record { range = c.range_facts.ensures.range; short = c.range_facts.ensures.short; rises = c.requires.rises; fits = c.requires.fits } in
+    let h : HasFlow s fs = record { range = c.range_facts.ensures.range; short = c.range_facts.ensures.short; ascends = c.requires.ascends; fits = c.requires.fits } in
     let accepted = accepted_found x c.args.setting.now.main.now s fs c.in_ok-found.found.updates c.in_ok-found.found.certificate subject.cut subject.setting subject.functions h
     c.in_ok-found.ensures.filling in
     still_found c.checked.result c.in_ok-found.found (λ found. IsAccepted x c.args.setting.now.main.now (family_of found.certificate)) c.checked.ensures.same accepted
@@ -37,7 +37,7 @@ pub returns-in-Verdict-clause-found : goal.returns-in-Verdict-clause-found
 returns-in-Verdict-clause-found c = λ certificate x subject.
     let s = setting_of c.args.setting.now in
     let fs = c.args.setting.now.start.now in
-    let h : HasFlow s fs = record { range = c.range_facts.ensures.range; short = c.range_facts.ensures.short; rises = c.requires.rises; fits = c.requires.fits } in
+    let h : HasFlow s fs = record { range = c.range_facts.ensures.range; short = c.range_facts.ensures.short; ascends = c.requires.ascends; fits = c.requires.fits } in
     let accepted = accepted_found x c.args.setting.now.main.now s fs c.in_ok-found.found.updates c.in_ok-found.found.certificate subject.cut subject.setting subject.functions h
     c.in_ok-found.ensures.filling in
     let found = found_for x c.args.setting.now.main.now s fs c.in_ok-found.found subject.setting subject.functions accepted c.in_ok-found.ensures.filling c.in_ok-found.ensures.contexts
@@ -48,7 +48,7 @@ pub returns-in_err-found-clause-refused : goal.returns-in_err-found-clause-refus
 returns-in_err-found-clause-refused c = λ x subject.
     let s = setting_of c.args.setting.now in
     let fs = c.args.setting.now.start.now in
-    let h : HasFlow s fs = record { range = c.range_facts.ensures.range; short = c.range_facts.ensures.short; rises = c.requires.rises; fits = c.requires.fits } in
+    let h : HasFlow s fs = record { range = c.range_facts.ensures.range; short = c.range_facts.ensures.short; ascends = c.requires.ascends; fits = c.requires.fits } in
     passed_on c.from_residual.result c.in_err-found.field-0.0 (λ fault. IfRefused x.name fault (IsRefusal x)) c.from_residual.ensures.1
     (found_refusal x c.args.setting.now.main.now s fs c.in_err-found.field-0.0 subject.cut subject.setting subject.functions h c.in_err-found.ensures.justified c.in_err-found.ensures.none_good)
 
@@ -56,7 +56,7 @@ pub returns-in_err-found-clause-none_good : goal.returns-in_err-found-clause-non
 returns-in_err-found-clause-none_good c = λ x points contours subject k.
     let s = setting_of c.args.setting.now in
     let fs = c.args.setting.now.start.now in
-    let h : HasFlow s fs = record { range = c.range_facts.ensures.range; short = c.range_facts.ensures.short; rises = c.requires.rises; fits = c.requires.fits } in
+    let h : HasFlow s fs = record { range = c.range_facts.ensures.range; short = c.range_facts.ensures.short; ascends = c.requires.ascends; fits = c.requires.fits } in
     passed_on c.from_residual.result c.in_err-found.field-0.0 (λ fault. IfRefused x.name fault (λ _. HasGoodFamily x → ⊥)) c.from_residual.ensures.1
     (glyph_without_good x c.args.setting.now.main.now s fs points contours c.in_err-found.field-0.0 subject.cut subject.setting subject.functions k h
     c.in_err-found.ensures.justified c.in_err-found.ensures.none_good)

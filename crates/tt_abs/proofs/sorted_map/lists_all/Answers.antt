@@ -1,13 +1,13 @@
 use Rattle.std.proofs.Common.{◌≡◌, ℕ, Bool, List, length, sym, subst}
 use Rattle.std.specs.Bool.{Decides}
 use Rattle.std.proofs.lemmas.Bool.Decides.{Decides-like}
-use Rattle.tt_abs.specs.Entries.{Rises}
+use Rattle.tt_abs.specs.Entries.{Ascends}
 use Rattle.tt_abs.specs.EntryLists.{EntriesBelow}
 use Rattle.tt_abs.specs.EntryLaws.{entries-same}
 use Rattle.tt_abs.proofs.sorted_map.lists_all.Goals as goal
 
 -- of lists of one length, one is below the other exactly if they are the same
-below-same : {V : Type 0} (a b : List (ℕ × V)) (r : Bool) → Rises a → Rises b → length a ≡ length b → Decides r (a ≡ b) → Decides r (EntriesBelow a b)
+below-same : {V : Type 0} (a b : List (ℕ × V)) (r : Bool) → Ascends a → Ascends b → length a ≡ length b → Decides r (a ≡ b) → Decides r (EntriesBelow a b)
 below-same {V} a b r ra rb long h =
     Decides-like r (λ e. let P : List (ℕ × V) → Type 0 = λ c. EntriesBelow a c in subst P e (λ n v l. l)) (λ p. entries-same a b ra rb p (sym long)) h
 

@@ -61,7 +61,7 @@ check_points-requires-clause-to_come c =
     let all : c.args.certificate.now.states ≡ to_come c.check_start.new.walk.next c.take_first.new.self =
     sym c.states-states.ensures.rest ∙ taken c.take_first.result c.states-states.result c.take_first.new.self c.take_first.ensures.none c.take_first.ensures.some
     ∙ ap (λ n. to_come n c.take_first.new.self) (sym (c.check_start.ensures.next ∙ c.in_ok-walk.ensures.next)) in
-    record { rest = ([], all); rises = c.states-states.ensures.rises; found = c.states-states.ensures.found }
+    record { rest = ([], all); ascends = c.states-states.ensures.ascends; found = c.states-states.ensures.found }
 
 pub returns-clause-sound : goal.returns-clause-sound
 returns-clause-sound c =

@@ -28,7 +28,7 @@ check_point-requires-clause-told c =
     let S = setting_of c.args.setting.now in
     let v = c.args.certificate.now in
     let point = subst (IsAtNext S c.args.listing v c.go_on.new.self c.go_on.new.states) c.in-Some.is (c.in_ok-offset.ensures.point S c.args.listing c.loop-offset.invariant.way) in
-    told_at v c.requires.to_come.rises (to_come c.go_on.new.self.next c.go_on.new.states) c.go_on.new.self.context (c.in-Some.offset + 1) point.read
+    told_at v c.requires.to_come.ascends (to_come c.go_on.new.self.next c.go_on.new.states) c.go_on.new.self.context (c.in-Some.offset + 1) point.read
 
 pub check_point-requires-clause-in_range : goal.check_point-requires-clause-in_range
 check_point-requires-clause-in_range c =
@@ -43,7 +43,7 @@ check_point-requires-clause-unlisted c = λ after lt.
     let S = setting_of c.args.setting.now in
     let v = c.args.certificate.now in
     let point = subst (IsAtNext S c.args.listing v c.go_on.new.self c.go_on.new.states) c.in-Some.is (c.in_ok-offset.ensures.point S c.args.listing c.loop-offset.invariant.way) in
-    unlisted_after v c.requires.to_come.rises c.go_on.new.self.next c.go_on.new.states c.go_on.new.self.context c.in-Some.offset after point.read lt
+    unlisted_after v c.requires.to_come.ascends c.go_on.new.self.next c.go_on.new.states c.go_on.new.self.context c.in-Some.offset after point.read lt
 
 pub returns-in-Err-clause-broken : goal.returns-in-Err-clause-broken
 returns-in-Err-clause-broken c =

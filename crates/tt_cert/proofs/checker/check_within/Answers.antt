@@ -11,7 +11,7 @@ returns-clause-filling c =
 pub returns-clause-safe : goal.returns-clause-safe
 returns-clause-safe c =
     ok_map c.check_listed.result _ _
-    (λ x. safe_filling (setting_of c.args.setting.now) c.args.setting.now.start.now c.args.certificate.now c.order_facts.ensures.0 c.range_facts.ensures.range c.range_facts.ensures.short c.requires.rises)
+    (λ x. safe_filling (setting_of c.args.setting.now) c.args.setting.now.start.now c.args.certificate.now c.order_facts.ensures.0 c.range_facts.ensures.range c.range_facts.ensures.short c.requires.ascends)
     c.check_listed.ensures.sound
 
 pub returns-clause-exact : goal.returns-clause-exact

@@ -2,7 +2,7 @@ use Rattle.std.proofs.Common.{sym, subst, List, ◌∙◌}
 use Rattle.std.proofs.lemmas.Option.{slice_get-get_or}
 use Rattle.tt_code.specs.declared.machine.Frame.{Frame}
 use Rattle.tt_cert.specs.Joins.{is_change}
-use Rattle.tt_cert.specs.Rising.{AreMoved}
+use Rattle.tt_cert.specs.Ascending.{AreMoved}
 use Rattle.tt_cert.proofs.Amounts.{amount_step, next_free, none_there}
 use Rattle.tt_cert.proofs.Moves.{next_context, next_range, moved_there, none_spare, HasSoFar-spare, HasSoFar-step}
 use Rattle.tt_cert.proofs.Renumbering.{no_state_memory}
@@ -31,7 +31,7 @@ returns-in_err-join_state-clause-memory c =
     let listed = sym c.contains.ensures ∙ c.if-not-contains.true in
     let M : List (List Frame) → Type 0 = λ x. AreMoved c.args.old.now.contexts x c.args.numbers.now in
     let free = next_free c.args.old.now c.loop-context.new c.args.numbers.now c.args.spare.now.keys (c.in-Some.context, c.in-Some.offset) c.in-Some.state.now _ listed c.states-states.ensures.family
-    (subst M (sym c.loop-context.invariant.contexts) c.requires.moved) c.states-states.ensures.found c.states-states.ensures.rises
+    (subst M (sym c.loop-context.invariant.contexts) c.requires.moved) c.states-states.ensures.found c.states-states.ensures.ascends
     (slice_get-get_or c.args.numbers.now c.in-Some.context 0 within) _ _ c.loop-context.invariant.same c.in-Some.ensures.some in
     no_state_memory c.join_state.result c.from_residual.result c.in_err-join_state.field-0.0 c.in_err-join_state.was
     (λ deep. let (s, at, _) = c.join_state.ensures.depth deep in none_there _ s free at) c.from_residual.ensures.1
@@ -45,7 +45,7 @@ loop-context-preserved-in_ok-join_state c =
     let M : List (List Frame) → Type 0 = λ x. AreMoved c.args.old.now.contexts x c.args.numbers.now in
     let moved = subst M (sym c.loop-context.invariant.contexts) c.requires.moved in
     let free = next_free c.args.old.now c.loop-context.new c.args.numbers.now c.args.spare.now.keys (c.in-Some.context, c.in-Some.offset) c.in-Some.state.now _ listed c.states-states.ensures.family
-    moved c.states-states.ensures.found c.states-states.ensures.rises known _ _ c.loop-context.invariant.same c.in-Some.ensures.some in
+    moved c.states-states.ensures.found c.states-states.ensures.ascends known _ _ c.loop-context.invariant.same c.in-Some.ensures.some in
     record {
       family = c.in_ok-join_state.ensures.family;
       contexts = c.in_ok-join_state.ensures.contexts ∙ c.loop-context.invariant.contexts;

@@ -32,7 +32,7 @@ fill-preserved g c =
       fill_on _ _ _ _ xs ys _ _ _ _ _ _ _ _ c.read_more.new.buf _ _ _ c.fill.invariant.0 c.in_ok-more.ensures.fills
           (at_held (AreTaken c.in_ok-over.over xs ys) _ _ _ _ _ (omega (arith, c.fill.invariant.0.order)) c.saturating_add-at.ensures c.in_ok-over.ensures.takes)
           c.read_more.ensures.beginning c.in_ok-more.ensures.failures refl,
-      λ rises. c.in_ok-over.ensures.rises (c.fill.invariant.1 rises),
+      λ ascends. c.in_ok-over.ensures.ascends (c.fill.invariant.1 ascends),
     )
 
 pub returns-in_err-more-clause-stopped : goal.returns-in_err-more-clause-stopped

@@ -15,7 +15,7 @@ returns-in_err-at-clause-beginning g c = consumes_then _ _ _ c.blocks-2.invarian
 pub blocks-2-preserved : goal.blocks-2-preserved
 blocks-2-preserved g c = (
   blocks_on _ _ _ _ _ _ _ _ _ _ _ c.min-block.result _ _ _ c.blocks-2.invariant.0 (omega (arith, c.min-block.ensures)) refl c.in_ok-at.ensures.reads c.read_function_block.ensures.beginning c.in_ok-at.ensures.failures,
-  c.in_ok-at.ensures.rises c.blocks-2.invariant.1,
+  c.in_ok-at.ensures.ascends c.blocks-2.invariant.1,
 )
 
 pub returns-clause-reads : goal.returns-clause-reads

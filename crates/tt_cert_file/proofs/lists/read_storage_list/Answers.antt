@@ -3,8 +3,8 @@ use Rattle.tt_stream.proofs.Beginnings.{consumes_then}
 use Rattle.tt_cert_file.specs.Reading.{stored_at}
 use Rattle.tt_cert_file.proofs.Loops.{reads_all, reads_fail, reads_on, reads_stop}
 use Rattle.std.proofs.Common.{sym, subst}
-use Rattle.tt_abs.specs.Entries.{Rises}
-use Rattle.tt_cert_file.proofs.Rises.{Rises-push}
+use Rattle.tt_abs.specs.Entries.{Ascends}
+use Rattle.tt_cert_file.proofs.Ascends.{Ascends-push}
 use Rattle.tt_cert_file.proofs.SteadyUnits.{stored_steady}
 use Rattle.tt_cert_file.proofs.lists.read_storage_list.Goals as goal
 
@@ -22,7 +22,7 @@ returns-in_err-push-clause-beginning g c = consumes_then _ _ _ c.cells.invariant
 pub cells-preserved : goal.cells-preserved
 cells-preserved g c = (
   reads_on (stored_at) _ _ _ _ c.cells.cells.items _ c.args.count c.cells.counter c.cells.at c.in_ok-cell.after _ _ _ c.in_ok-cell.cell (stored_steady c.cells.cells.items) c.cells.invariant.0 c.cells-test.true (rw c.deref.ensures.value at c.in_ok-cell.ensures.reads) c.read_stored.ensures.beginning c.in_ok-cell.ensures.failures c.in_ok-push.ensures.items,
-  subst Rises (sym c.in_ok-push.ensures.items) (Rises-push _ _ c.cells.invariant.1 (rw c.deref.ensures.value at c.in_ok-cell.ensures.above)),
+  subst Ascends (sym c.in_ok-push.ensures.items) (Ascends-push _ _ c.cells.invariant.1 (rw c.deref.ensures.value at c.in_ok-cell.ensures.above)),
 )
 
 pub returns-clause-reads : goal.returns-clause-reads

@@ -1,5 +1,5 @@
 use Rattle.tt_cert_file.specs.Reading.{stored_at}
-use Rattle.tt_abs.specs.Entries.{Rises}
+use Rattle.tt_abs.specs.Entries.{Ascends}
 use Rattle.tt_cert_file.proofs.Loops.{IsReading}
 use Rattle.tt_cert_file.proofs.lists.read_storage_list.Given as goal
 
@@ -7,4 +7,4 @@ abbrev pub invariant-cells : goal.invariant-cells
 invariant-cells g l =
     IsReading (stored_at) (g.S.Source.remaining l.fn.source) (g.S.Source.remaining l.source)
     l.fn.place l.cells.items l.fn.count l.counter l.at
-    (g.S.Source.failures l.fn.source) (g.S.Source.failures l.source) × Rises l.cells.items
+    (g.S.Source.failures l.fn.source) (g.S.Source.failures l.source) × Ascends l.cells.items

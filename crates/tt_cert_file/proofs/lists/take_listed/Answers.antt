@@ -24,6 +24,6 @@ pub returns-clause-kept : goal.returns-clause-kept
 returns-clause-kept g c =
     let takes = rw (c.clear.ensures.items, c.from-width.ensures, c.ahead.ensures.value) at c.in_ok-_over.ensures.takes in
     let text_is = rw (c.clear-2.ensures.items, c.from-width.ensures, c.ahead.ensures.value) at c.in_ok-extend_from_slice.ensures.items in (
-      c.in_ok-_over.ensures.rises (rw c.clear.ensures.items tt),
+      c.in_ok-_over.ensures.ascends (rw c.clear.ensures.items tt),
       λ _. listed_text (g.S.Source.read_ahead c.args.source.now) _ _ c.args.place c.args.count c.in_ok-_over._over c.requires takes text_is,
     )

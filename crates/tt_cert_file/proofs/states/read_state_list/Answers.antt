@@ -8,7 +8,7 @@ use Rattle.tt_cert_file.specs.Reading.{entry_at}
 use Rattle.tt_cert_file.specs.Rules.{last_place}
 use Rattle.tt_cert_file.specs.Sections.{Entry}
 use Rattle.tt_cert_file.proofs.Loops.{reads_all, reads_fail, reads_none, reads_on, reads_stop}
-use Rattle.tt_cert_file.proofs.Rises.{last_pushed}
+use Rattle.tt_cert_file.proofs.Ascends.{last_pushed}
 use Rattle.tt_cert_file.proofs.SteadyUnits.{entry_same, entry_steady}
 use Rattle.tt_cert_file.proofs.states.read_state_list.Goals as goal
 

@@ -5,7 +5,7 @@ use Rattle.tt_font.specs.declared.fault.FontFault.TheVariants as faults
 use Rattle.tt_font.specs.Glyphs.{component_count, component_total, program_of}
 use Rattle.tt_font.specs.Representation.GlyphTables.{glyphs_of}
 use Rattle.tt_font.specs.Representation.GlyphParts.{bytes_of}
-use Rattle.tt_font.proofs.CountLemmas.{total_of_none, total_more, total_rises}
+use Rattle.tt_font.proofs.CountLemmas.{total_of_none, total_more, total_ascends}
 use Rattle.tt_font.proofs.ProgramLists.{no_programs, programs_more, none_truncated, none_truncated_more, first_truncated}
 use Rattle.tt_font.proofs.programs.read_programs.Goals as goal
 
@@ -20,7 +20,7 @@ pub read_glyph_program-requires-clause-room : goal.read_glyph_program-requires-c
 read_glyph_program-requires-clause-room c =
     let more = total_more (glyphs_of c.args.glyphs.now) c.loop-id.id in
     let lt = c.loop-id-test.true in
-    let rises = total_rises (glyphs_of c.args.glyphs.now) (c.loop-id.id + 1) c.args.glyphs.now.count (omega arith) in
+    let ascends = total_ascends (glyphs_of c.args.glyphs.now) (c.loop-id.id + 1) c.args.glyphs.now.count (omega arith) in
     let counted = c.loop-id.invariant.counted in
     let room = c.requires.room in
     let same = ap component_count c.glyph.ensures.bytes in

@@ -1,13 +1,13 @@
 use Rattle.std.proofs.Common.{◌≡◌, subst, sym, ap, ◌∙◌, ℕ, List}
 use Rattle.tt_abs.specs.Orders.{IsLeastAbove}
-use Rattle.tt_abs.specs.Entries.{Rises}
+use Rattle.tt_abs.specs.Entries.{Ascends}
 use Rattle.tt_abs.specs.EntryLists.{common_entries, entry_order}
-use Rattle.tt_abs.specs.EntryLaws.{common_is_least, Rises-filter}
+use Rattle.tt_abs.specs.EntryLaws.{common_is_least, Ascends-filter}
 use Rattle.tt_abs.proofs.sorted_map.SortedMap.keep.Goals as goal
 
 pub invariant_of-self : goal.invariant_of-self
 invariant_of-self g c =
-    let R = λ (es : List (ℕ × g.row.T.Denot)). Rises es in subst R (sym c.keep_common.ensures) (Rises-filter _ c.self.inside.entries.items c.self.invariant)
+    let R = λ (es : List (ℕ × g.row.T.Denot)). Ascends es in subst R (sym c.keep_common.ensures) (Ascends-filter _ c.self.inside.entries.items c.self.invariant)
 
 pub returns : goal.returns
 returns g c =

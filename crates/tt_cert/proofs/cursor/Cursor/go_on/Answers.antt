@@ -10,12 +10,12 @@ use Rattle.tt_cert.proofs.cursor.Cursor.go_on.Goals as goal
 
 pub returns-then-is_coming_after-clause-point : goal.returns-then-is_coming_after-clause-point
 returns-then-is_coming_after-clause-point c = λ s listing way.
-    at_carried s listing c.args.certificate.now c.order_facts.ensures.0 c.requires.to_come.rises c.args.self.now c.args.states.now way c.in-Some.offset c.requires.walk.there c.in-Some.is
+    at_carried s listing c.args.certificate.now c.order_facts.ensures.0 c.requires.to_come.ascends c.args.self.now c.args.states.now way c.in-Some.offset c.requires.walk.there c.in-Some.is
     (c.is_coming_after.ensures.0 c.if-is_coming_after.true)
 
 pub returns-in_default-next-clause-point : goal.returns-in_default-next-clause-point
 returns-in_default-next-clause-point c = λ s listing way.
-    walked_through s listing c.args.certificate.now c.order_facts.ensures.0 c.requires.to_come.rises c.args.self.now c.args.states.now way c.in_default-next.is
+    walked_through s listing c.args.certificate.now c.order_facts.ensures.0 c.requires.to_come.ascends c.args.self.now c.args.states.now way c.in_default-next.is
     (elim c.match-self.branch [
       | in-Some+else-is_coming_after w ↦
           let after : IsComingAfter c.args.self.now.next (c.args.self.now.context, w.in-Some.offset) = subst (λ n. IsComingAfter n (c.args.self.now.context, w.in-Some.offset)) (sym c.in_default-next.is) tt in
@@ -54,7 +54,7 @@ returns-clause-to_come c =
     ∙ ap (λ n. to_come n c.take_first-self.new.self) (sym c.in_ok-go_to.ensures.next) in
     record {
       rest = (before ++ x ∷ [], here ∙ ap (λ l. before ++ x ∷ l) rest ∙ sym (append_assoc before (x ∷ []) (to_come c.go_to.new.self.next c.take_first-self.new.self)));
-      rises = c.requires.to_come.rises;
+      ascends = c.requires.to_come.ascends;
       found = c.requires.to_come.found;
     }
 
@@ -64,7 +64,7 @@ returns-clause-point c = λ s listing way.
     let rest : c.args.states.now ≡ to_come c.go_to.new.self.next c.take_first-self.new.self =
     taken c.take_first-self.result c.args.states.now c.take_first-self.new.self c.take_first-self.ensures.none c.take_first-self.ensures.some
     ∙ ap (λ n. to_come n c.take_first-self.new.self) (sym c.in_ok-go_to.ensures.next) in
-    at_listed s listing c.args.certificate.now c.order_facts.ensures.0 c.requires.to_come.rises c.args.self.now c.args.states.now way x c.take_first-self.new.self c.in-Some-next.is
+    at_listed s listing c.args.certificate.now c.order_facts.ensures.0 c.requires.to_come.ascends c.args.self.now c.args.states.now way x c.take_first-self.new.self c.in-Some-next.is
     c.requires.to_come.found c.requires.walk.there (omega (arith, c.if-prove.false)) not_carried c.go_to.new.self c.in_ok-go_to.ensures.context (c.in_ok-go_to.ensures.made ∙ c.in_ok-take.ensures.made) rest
   where
     not_carried : (o : ℕ) → c.args.self.now.carried ≡ Some o → IsComingAfter c.args.self.now.next (c.args.self.now.context, o) → ⊥

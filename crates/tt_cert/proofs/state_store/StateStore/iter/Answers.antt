@@ -4,8 +4,8 @@ use Rattle.tt_cert.proofs.state_store.StateStore.iter.Goals as goal
 pub invariant_of-result : goal.invariant_of-result
 invariant_of-result c = slots_now _ _ c.self.invariant _ _ c.as_slice.ensures.value c.iter.ensures
 
-pub returns-clause-rises : goal.returns-clause-rises
-returns-clause-rises c = slots_rise _ _ c.self.invariant _ c.self.view_is
+pub returns-clause-ascends : goal.returns-clause-ascends
+returns-clause-ascends c = slots_rise _ _ c.self.invariant _ c.self.view_is
 
 pub returns-clause-found : goal.returns-clause-found
 returns-clause-found c = slots_found _ _ c.self.invariant _ c.self.view_is

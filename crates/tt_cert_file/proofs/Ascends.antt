@@ -3,7 +3,7 @@ use Rattle.std.proofs.Common.{◌≡◌, ℕ, suc, ◌-◌, ◌<◌, true, List,
 use Rattle.std.specs.Prelude.{slice_get}
 use Rattle.std.specs.List.{AllByRecursion}
 use Rattle.std.proofs.lemmas.Bool.{ltb-true}
-use Rattle.tt_abs.specs.Entries.{Rises}
+use Rattle.tt_abs.specs.Entries.{Ascends}
 use Rattle.tt_cert_file.specs.Rules.{is_above, last_of}
 
 all_push : {A : Type 0} (P : A → Type 0) (xs : List A) (y : A) → AllByRecursion P xs → P y → AllByRecursion P (xs ++ y ∷ [])
@@ -26,16 +26,16 @@ last_pushed {A} xs x =
     at (y ∷ ys) = at ys
 
 -- an entry above the last is above the first
-above_first : {V : Type 0} (e : ℕ × V) (es : List (ℕ × V)) (x : ℕ × V) → Rises (e ∷ es) → is_above (last_of (e ∷ es)) x ≡ true → e.0 < x.0
-above_first e [] x rises above = ltb-true _ _ above
-above_first {V} e (d ∷ es) x rises above =
-    let later = above_first d es x rises.1 (ap (λ o. is_above o x) (sym (last_behind e (d ∷ es) (omega arith))) ∙ above) in
-    let first = rises.0.0 in
+above_first : {V : Type 0} (e : ℕ × V) (es : List (ℕ × V)) (x : ℕ × V) → Ascends (e ∷ es) → is_above (last_of (e ∷ es)) x ≡ true → e.0 < x.0
+above_first e [] x ascends above = ltb-true _ _ above
+above_first {V} e (d ∷ es) x ascends above =
+    let later = above_first d es x ascends.1 (ap (λ o. is_above o x) (sym (last_behind e (d ∷ es) (omega arith))) ∙ above) in
+    let first = ascends.0.0 in
     omega arith
 
-pub Rises-push : {V : Type 0} (es : List (ℕ × V)) (x : ℕ × V) → Rises es → is_above (last_of es) x ≡ true → Rises (es ++ x ∷ [])
-Rises-push [] x rises above = (tt, tt)
-Rises-push (e ∷ []) x rises above = ((ltb-true _ _ above, tt), (tt, tt))
-Rises-push {V} (e ∷ d ∷ es) x rises above =
-    let more = Rises-push (d ∷ es) x rises.1 (ap (λ o. is_above o x) (sym (last_behind e (d ∷ es) (omega arith))) ∙ above) in
-    (all_push (λ f. e.0 < f.0) (d ∷ es) x rises.0 (above_first e (d ∷ es) x rises above), more)
+pub Ascends-push : {V : Type 0} (es : List (ℕ × V)) (x : ℕ × V) → Ascends es → is_above (last_of es) x ≡ true → Ascends (es ++ x ∷ [])
+Ascends-push [] x ascends above = (tt, tt)
+Ascends-push (e ∷ []) x ascends above = ((ltb-true _ _ above, tt), (tt, tt))
+Ascends-push {V} (e ∷ d ∷ es) x ascends above =
+    let more = Ascends-push (d ∷ es) x ascends.1 (ap (λ o. is_above o x) (sym (last_behind e (d ∷ es) (omega arith))) ∙ above) in
+    (all_push (λ f. e.0 < f.0) (d ∷ es) x ascends.0 (above_first e (d ∷ es) x ascends above), more)

@@ -13,8 +13,8 @@ use Rattle.tt_code.specs.declared.machine.Frame.{Frame}
 use Rattle.tt_abs.specs.declared.state.State.{State}
 use Rattle.tt_cert.specs.Contexts.{frames_of}
 use Rattle.tt_cert.specs.Contents.{Contents, frames_at}
-use Rattle.tt_cert.specs.Built.{Key, key_cmp, key_of, IsBuilt, RisesByKey}
-use Rattle.tt_cert.specs.Rising.{IsContextAt, IsFinished}
+use Rattle.tt_cert.specs.Built.{Key, key_cmp, key_of, IsBuilt, AscendsByKey}
+use Rattle.tt_cert.specs.Ascending.{IsContextAt, IsFinished}
 use Rattle.tt_cert.proofs.Adding.{no_frame, at_entry, length_is, family_is, cons_same, key_same}
 
 pub key_total : IsTotalOrder key_cmp
@@ -32,15 +32,15 @@ pub entry_at : (entries : List (ℕ × Frame)) (i : ℕ) → i < length entries 
 entry_at entries i lt = (slice_index_or entries i (0, no_frame), slice_get-get_or entries i (0, no_frame) lt)
 
 -- an entry's key is above that of each one before
-pub rises_over : (entries : List (ℕ × Frame)) → RisesByKey entries → (i j : ℕ) (d e : ℕ × Frame)
+pub ascends_over : (entries : List (ℕ × Frame)) → AscendsByKey entries → (i j : ℕ) (d e : ℕ × Frame)
     → slice_get entries i ≡ Some d → slice_get entries (i + 1 + j) ≡ Some e → key_cmp (key_of d) (key_of e) ≡ Less
-rises_over entries rises i zero d e at_d at_e = rises i d e at_d (let n : i + 1 ≡ i + 1 + 0 = omega arith in ap (slice_get entries) n ∙ at_e)
-rises_over entries rises i (suc j) d e at_d at_e =
+ascends_over entries ascends i zero d e at_d at_e = ascends i d e at_d (let n : i + 1 ≡ i + 1 + 0 = omega arith in ap (slice_get entries) n ∙ at_e)
+ascends_over entries ascends i (suc j) d e at_d at_e =
     let within = slice_get_within entries (i + 1 + suc j) e at_e in
     let (m, at_m) = entry_at entries (i + 1 + j) (omega arith) in
     let n : i + 1 + j + 1 ≡ i + 1 + suc j = omega arith in
-    key_total.trans (key_of d) (key_of m) (key_of e) (rises_over entries rises i j d m at_d at_m)
-    (rises (i + 1 + j) m e at_m (ap (slice_get entries) n ∙ at_e))
+    key_total.trans (key_of d) (key_of m) (key_of e) (ascends_over entries ascends i j d m at_d at_m)
+    (ascends (i + 1 + j) m e at_m (ap (slice_get entries) n ∙ at_e))
 
 module _ (entries : List (ℕ × Frame)) (index : BTreeMap Key ℕ) (states : List ((ℕ × ℕ) × State)) (v : Contents)
     (is : ◌≡◌ {A = Contents} (record { contexts = frames_of entries; states = states }) v) (built : IsBuilt entries index states) where
@@ -64,12 +64,12 @@ module _ (entries : List (ℕ × Frame)) (index : BTreeMap Key ℕ) (states : Li
       let family = family_is entries index states v is built in
       key_same d e (family.distinct d.0 e.0 (omega arith) (omega arith) both.0) both.1
 
-  pub IsFinished-from : RisesByKey entries → IsFinished v
-  IsFinished-from rises = (
+  pub IsFinished-from : AscendsByKey entries → IsFinished v
+  IsFinished-from ascends = (
     family_is entries index states v is built,
     record {
       parents = λ n some lt. let (i, e, n_is, at, stands) = entry_of n some lt in (e, stands);
-      rises = λ m n d e less at_d at_e.
+      ascends = λ m n d e less at_d at_e.
           let some = at_d.1 in
           let lt = at_d.0 in
           let lt' = at_e.0 in
@@ -78,7 +78,7 @@ module _ (entries : List (ℕ × Frame)) (index : BTreeMap Key ℕ) (states : Li
           let j_is : j ≡ i + 1 + (j - (i + 1)) = omega arith in
           let same_d = one_entry m d' d stands_m at_d in
           let same_e = one_entry n e' e stands_n at_e in
-          let below = rises_over entries rises i (j - (i + 1)) d' e' at_i (ap (slice_get entries) (sym j_is) ∙ at_j) in
+          let below = ascends_over entries ascends i (j - (i + 1)) d' e' at_i (ap (slice_get entries) (sym j_is) ∙ at_j) in
           ap (λ x. key_cmp x (key_of e)) (sym same_d) ∙ ap (key_cmp (key_of d')) (sym same_e) ∙ below;
     },
   )
@@ -89,12 +89,12 @@ less_from Equal e = cc
 less_from Greater e = cc
 
 -- one more entry above the one before
-pub rises_step : (entries : List (ℕ × Frame)) (i : ℕ) (x y : ℕ × Frame)
+pub ascends_step : (entries : List (ℕ × Frame)) (i : ℕ) (x y : ℕ × Frame)
     → ((k : ℕ) (d e : ℕ × Frame) → k + 1 < i → slice_get entries k ≡ Some d → slice_get entries (k + 1) ≡ Some e → key_cmp (key_of d) (key_of e) ≡ Less)
     → 1 ≤ i → i < length entries → (a b : Key) → a ≡ key_of (slice_index_or entries (i - 1) x) → b ≡ key_of (slice_index_or entries i y)
     → (o : Ordering) → o ≡ key_cmp a b → is_lt o ≡ true
     → (k : ℕ) (d e : ℕ × Frame) → k + 1 < i + 1 → slice_get entries k ≡ Some d → slice_get entries (k + 1) ≡ Some e → key_cmp (key_of d) (key_of e) ≡ Less
-rises_step entries i x y before some lt a b a_is b_is o o_is less k d e within at_d at_e = elim (cases_lt (k + 1) i) [
+ascends_step entries i x y before some lt a b a_is b_is o o_is less k d e within at_d at_e = elim (cases_lt (k + 1) i) [
   | inl old ↦ before k d e old at_d at_e
   | inr new ↦
       let k_is : k ≡ i - 1 = omega arith in

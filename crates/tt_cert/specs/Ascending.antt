@@ -14,9 +14,9 @@ IsContextAt contexts n e =
 
 -- each context except for the empty one has a parent that comes before, and contexts ascend by
 -- parent, call, body, turn and count
-pub record IsRising (contexts : List (List Frame)) : Type 0 where
+pub record IsAscending (contexts : List (List Frame)) : Type 0 where
   pub parents : (n : ℕ) → 0 < n → n < length contexts → (e : ℕ × Frame) × IsContextAt contexts n e
-  pub rises : (m n : ℕ) (d e : ℕ × Frame) → m < n → IsContextAt contexts m d → IsContextAt contexts n e
+  pub ascends : (m n : ℕ) (d e : ℕ × Frame) → m < n → IsContextAt contexts m d → IsContextAt contexts n e
       → key_cmp (key_of d) (key_of e) ≡ Less
 
 -- the same contexts, whatever their numbers, and the same state at each point
@@ -39,7 +39,7 @@ pub record SameWithout (old new : Contents) (points : List (ℕ × ℕ)) : Type 
 
 -- a family whose contexts are in the order of the file
 abbrev pub IsFinished : Contents → Type 0
-IsFinished contents = IsFamily contents × IsRising contents.contexts
+IsFinished contents = IsFamily contents × IsAscending contents.contexts
 
 -- each context has a new number, which leads to the same frames, and each new context is an old one
 pub record AreMoved (old new : List (List Frame)) (numbers : List ℕ) : Type 0 where
