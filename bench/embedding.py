@@ -2,11 +2,11 @@
 """Builds the library and the example of examples/embedding, and compares what they answer with the command.
 
 Usage: bench/embedding.py [FONT..]
-It needs cc, c++, pkg-config and FreeType's headers. The library is built by `make install-library` into a folder of its own; the example draws a line of
-text with an accepted font, a refused one and one that is cut short, all made here, and what it prints is compared with what is written below.
-examples/embedding/calls.c calls the library with pointers and lengths of all kinds, as C and as C++, and under valgrind where that is there. Then the
-library and the command answer each FONT, or the fonts of /usr/share/fonts, at most 100: their counts of programs and of refused ones, and the first
-refusals, must be the same. What differs is printed, and the exit status is then 1.
+It needs cc, c++, pkg-config and FreeType's headers. The library is built by `make install-library` into a folder of its own; the example draws a
+line of text with an accepted font, a refused one and one that is cut short, all made here, and what it prints is compared with what is written
+below. examples/embedding/calls.c calls the library with pointers and lengths of all kinds, as C and as C++, and under valgrind where that is there.
+Then the library and the command answer each FONT, or the fonts of /usr/share/fonts, at most 100: their counts of programs and of refused ones, and
+the first refusals, must be the same. What differs is printed, and the exit status is then 1.
 """
 
 import os

@@ -3,10 +3,10 @@
 tests and its edits.
 
 Usage: bench/gate.py [PROCESSORS]
-Nothing is taken from earlier runs (a kit whose `rt ci` keeps its work is told so). With a number, only that many of the machine's processors are used: where a proof may take several, it shares
-its work out among copies of the prover, each of which reads the libraries anew, so that more processors take more of their time together.
-What `rt ci` prints goes to gate.log in the current folder. The figures are user and system time of the prover's processes, read once a
-second while they run, in minutes; the whole is that of all processes. Nothing else should run at the same time.
+Nothing is taken from earlier runs (a kit whose `rt ci` keeps its work is told so). With a number, only that many of the machine's processors are
+used: where a proof may take several, it shares its work out among copies of the prover, each of which reads the libraries anew, so that more
+processors take more of their time together. What `rt ci` prints goes to gate.log in the current folder. The figures are user and system time of
+the prover's processes, read once a second while they run, in minutes; the whole is that of all processes. Nothing else should run at the same time.
 """
 
 import collections

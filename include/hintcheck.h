@@ -4,13 +4,15 @@
  * programs keep to the limits that its 'maxp' table declares. Where the status is HINTCHECK_ACCEPTED, no run of any of these programs
  * reaches a fault of the hint machine: no stack underflow, no stack above maxStackElements, no CVT, storage, function, zone, contour or
  * point number out of range, and no step outside the program's bytes. That is proved, for every font and every certificate
- * (crates/hintcheck_c/src/lib.rt, the clauses `accepted`), and so is what is told beside the status (the clauses `verdict` and `fault`).
+ * (crates/hintcheck_c/src/lib.rt, the clauses `accepted`), and so is the rest of the answer, except that `points` is how many were made
+ * (the clauses `verdict` and `fault`).
  *
- * Units: lengths, offsets and places are in bytes. Ownership: everything that is handed in stays the caller's, is only read (but for
- * `refusals` and `answer`, which are written), and isn't kept: there is no state between calls. Memory is taken with malloc while a
- * call runs, and given back before it returns. Threads: calls may run at once in several threads, each with its own `refusals` and
- * `answer`; not from a signal handler, and not in the forked child of a process with threads. Time: `points` bounds how many states are
- * carried on (that no more are counted is proved); docs/EMBEDDING.md says which numbers real fonts need, and what time that bounds.
+ * Units: lengths, offsets and places are in bytes. Ownership: everything that is handed in stays the caller's, is only read (except for
+ * `refusals` and `answer`, which are written), and isn't kept: there is no state between calls. What is handed in is aligned as C asks,
+ * and `refusals` and `answer` overlap neither each other nor the bytes of the font or of the certificate. Memory is taken with malloc
+ * while a call runs, and given back before it returns. Threads: calls may run at once in several threads, each with its own `refusals`
+ * and `answer`; not from a signal handler, and not in the forked child of a process with threads. Time: `points` bounds how often a state
+ * is carried on (that no more is counted is proved); docs/EMBEDDING.md says which numbers real fonts need, and what time that bounds.
  */
 #ifndef HINTCHECK_H
 #define HINTCHECK_H
@@ -65,11 +67,24 @@ typedef struct hintcheck_answer {
     uint32_t status;   /* an enum hintcheck_status */
     uint32_t fault;    /* the fault's number, as README.md lists them; 0 where there is a verdict */
     uint64_t place;    /* at fault 43, the first byte of the certificate that is wrong; otherwise 0 */
-    uint64_t points;   /* how many points were made, also where there is no verdict: states that were carried on */
+    uint64_t points;   /* how many points were made, also where there is no verdict: one each time that a state was carried on */
     uint32_t programs; /* how many programs the font has: its glyphs and 2; 0 where there is no verdict */
     uint32_t refused;  /* how many of them are refused */
     size_t listed;     /* how many of these were written to `refusals`: the first ones, as many as there was room for */
 } hintcheck_answer;
+
+/* Where the status is HINTCHECK_REFUSED, hints may stay on for some glyphs if `listed` is `refused`, so that all refusals are known, and
+ * neither the font program nor the CVT program is among them: for each glyph whose program isn't refused and that reaches no refused one
+ * through its components, at any depth. To draw a composite glyph, a renderer runs the glyph programs of its components too. */
+
+/* Compiles only where the compiler lays out the structs as the library does: the array has no length that is allowed otherwise. */
+typedef char hintcheck_layout_is_right[
+    sizeof(size_t) == 8 && sizeof(hintcheck_refusal) == 20 && offsetof(hintcheck_refusal, program) == 0 &&
+    offsetof(hintcheck_refusal, place) == 4 && offsetof(hintcheck_refusal, offset) == 8 && offsetof(hintcheck_refusal, reason) == 12 &&
+    offsetof(hintcheck_refusal, reason_class) == 16 && sizeof(hintcheck_answer) == 40 && offsetof(hintcheck_answer, status) == 0 &&
+    offsetof(hintcheck_answer, fault) == 4 && offsetof(hintcheck_answer, place) == 8 && offsetof(hintcheck_answer, points) == 16 &&
+    offsetof(hintcheck_answer, programs) == 24 && offsetof(hintcheck_answer, refused) == 28 && offsetof(hintcheck_answer, listed) == 32
+    ? 1 : -1];
 
 /* The version of the library: a byte each for its three numbers, as HINTCHECK_VERSION. */
 uint32_t hintcheck_version(void);
@@ -112,8 +127,9 @@ static inline uint32_t hintcheck_verdict(const uint8_t *font, size_t font_length
 
 /* Checks the programs of the font in `font_length` bytes at `font` by the certificate in `certificate_length` bytes at `certificate`,
  * as `hintcheck find` writes it, and returns the status. Nothing is asked of the certificate or of who made it: an acceptance means the
- * same as that of hintcheck_verdict. A certificate of another font is answered by HINTCHECK_FAULT (43) or by HINTCHECK_REFUSED (41, 42
- * among the reasons). All else is as for hintcheck_verdict. */
+ * same as that of hintcheck_verdict. A certificate that was made for another font mostly comes to HINTCHECK_FAULT (43) or to
+ * HINTCHECK_REFUSED (41, 42 among the reasons), or to HINTCHECK_BUDGET before that; where it fits this font too, to HINTCHECK_ACCEPTED,
+ * which is right: an acceptance is a theorem about the font's bytes, whatever the certificate is. All else is as for hintcheck_verdict. */
 static inline uint32_t hintcheck_check(const uint8_t *font, size_t font_length, const uint8_t *certificate, size_t certificate_length,
                                        uint64_t points, hintcheck_refusal *refusals, size_t room, hintcheck_answer *answer)
 {

@@ -170,7 +170,7 @@ nothing_found d w s all is =
     subst S (sym is) (record {
       font = refl;
       none = refl;
-      finding = record { unread = refl; unfinished = tt };
+      finding = record { unread = refl; run_out = tt };
       going = λ e. cc;
       written = ([], (λ rest more. more), appends_nothing w);
       first_ones = ([], none_yet, appends_nothing w);

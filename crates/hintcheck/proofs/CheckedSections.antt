@@ -12,7 +12,7 @@ use Rattle.tt_cert_file.specs.declared.name.Name.{Name}
 use Rattle.tt_cert_file.specs.Reading.{section_at}
 use Rattle.tt_cert_file.specs.Sections.{section_of}
 use Rattle.tt_font.specs.Reading.{GlyphData}
-use Rattle.hintcheck.specs.CertificateFaults.{CountsCheck, Decodes, IsNoFontFault, fault_of_decoding}
+use Rattle.hintcheck.specs.CertificateFaults.{CountsCheck, Decodes, IsCheckFaultOutsideFontAndBudget, fault_of_decoding}
 use Rattle.hintcheck.specs.Certificates.{Finding, HasNoSection, IsSectionOf, not_read, of_another, refused_before}
 use Rattle.hintcheck.specs.CheckedFonts.{Finds, IsTold, all_refused}
 use Rattle.hintcheck.specs.declared.font_check.CheckFontFault.{CheckFontFault}
@@ -88,7 +88,7 @@ counts_decoding (decode.OutOfMemory error) old new h = h
 counts_decoding (decode.Form place) old new h = h
 
 -- a certificate that can't be read isn't a fault of the font's
-pub decoding_is_no_font : (e : DecodeFault) → IsNoFontFault (fault_of_decoding e)
+pub decoding_is_no_font : (e : DecodeFault) → IsCheckFaultOutsideFontAndBudget (fault_of_decoding e)
 decoding_is_no_font decode.Read = tt
 decoding_is_no_font (decode.OutOfMemory error) = tt
 decoding_is_no_font (decode.Form place) = tt

@@ -13,7 +13,7 @@ use Rattle.hintcheck_explain.specs.declared.asked.ExplainFault.TheVariants as ex
 use Rattle.tt_stream.specs.declared.text.PrintFailed.TheVariants as failed
 use Rattle.hintcheck.specs.Commands.{TellsFailure, fault_of_explain}
 use Rattle.hintcheck.specs.CommandFaults.{IsFaultOfLines}
-use Rattle.hintcheck.specs.Explanations.{IsJudged, RefusesProgram, TellsProgram, cvt_accepted, cvt_refused, font_accepted, font_refused, glyph_accepted, glyph_refused}
+use Rattle.hintcheck.specs.Explanations.{IsAnswered, RefusesProgram, TellsProgram, cvt_accepted, cvt_refused, font_accepted, font_refused, glyph_accepted, glyph_refused}
 use Rattle.hintcheck.specs.FontPrograms.{cvt_subject, font_of, font_subject, glyph_subject}
 use Rattle.hintcheck.specs.ProgramVerdicts.{IsFaultOfProgram, reported_at}
 use Rattle.hintcheck.specs.Programs.{EndsWith, HasLeastFamily, IsRefusal, Subject}
@@ -40,7 +40,7 @@ pub refusal_of : (x : Subject) (fault : ProgramFault) → IsFaultOfProgram x fau
 refusal_of x (RefusedAt spot offset reason) is refuses = (reported_at x.name spot offset reason, is)
 refusal_of x (NoMemory e) is refuses = absurd refuses
 
-pub judged_refused : (x : Subject) (fault : ProgramFault) (accepted : Bool) → IsFaultOfProgram x fault → (accepted ≡ false) × RefusesProgram fault → IsJudged x accepted
+pub judged_refused : (x : Subject) (fault : ProgramFault) (accepted : Bool) → IsFaultOfProgram x fault → (accepted ≡ false) × RefusesProgram fault → IsAnswered x accepted
 judged_refused x fault accepted is refuses = rw refuses.0 (refusal_of x fault is refuses.1)
 
 -- a program whose end is known has its least family
@@ -48,11 +48,11 @@ pub least_at_end : (x : Subject) (instructions : List Instruction) (functions : 
 least_at_end x instructions functions ends = record { instructions = instructions; cut = ends.cut; family = ends.family; good = ends.good; least = ends.least }
 
 -- what the exit status of a program tells that was judged
-pub font_told : (d : FontData) (accepted : Bool) (status : ℕ) → IsJudged (font_subject d) accepted → (accepted ≡ true → status ≡ 0) → (accepted ≡ false → status ≡ 1) → TellsProgram d name.Font status
+pub font_told : (d : FontData) (accepted : Bool) (status : ℕ) → IsAnswered (font_subject d) accepted → (accepted ≡ true → status ≡ 0) → (accepted ≡ false → status ≡ 1) → TellsProgram d name.Font status
 font_told d true status judged zero one = record { accepted = λ is. font_accepted judged; refused = λ is. absurd (let bad = zero refl in cc) }
 font_told d false status judged zero one = record { accepted = λ is. absurd (let bad = one refl in cc); refused = λ is. font_refused name.Font judged.0 judged.1 }
 
-pub cvt_told : (d : FontData) (f : List Instruction) (functions : List (ℕ × ℕ)) (accepted : Bool) (status : ℕ) → EndsWith (font_subject d) f functions → IsJudged (cvt_subject d f functions) accepted
+pub cvt_told : (d : FontData) (f : List Instruction) (functions : List (ℕ × ℕ)) (accepted : Bool) (status : ℕ) → EndsWith (font_subject d) f functions → IsAnswered (cvt_subject d f functions) accepted
     → (accepted ≡ true → status ≡ 0) → (accepted ≡ false → status ≡ 1) → TellsProgram d name.Cvt status
 cvt_told d f functions true status ends judged zero one = record { accepted = λ is. cvt_accepted f functions ends judged; refused = λ is. absurd (let bad = zero refl in cc) }
 cvt_told d f functions false status ends judged zero one = record {
@@ -62,7 +62,7 @@ cvt_told d f functions false status ends judged zero one = record {
 
 pub glyph_told : (d : FontData) (f p : List Instruction) (functions known : List (ℕ × ℕ)) (id : ℕ) (g : GlyphData) (accepted : Bool) (status : ℕ)
     → EndsWith (font_subject d) f functions → EndsWith (cvt_subject d f functions) p known → slice_get d.glyphs id ≡ Some g
-    → IsJudged (glyph_subject (font_of d f p) known id g) accepted → (accepted ≡ true → status ≡ 0) → (accepted ≡ false → status ≡ 1) → TellsProgram d (name.Glyph id) status
+    → IsAnswered (glyph_subject (font_of d f p) known id g) accepted → (accepted ≡ true → status ≡ 0) → (accepted ≡ false → status ≡ 1) → TellsProgram d (name.Glyph id) status
 glyph_told d f p functions known id g true status ends cvt_ends there judged zero one = record {
   accepted = λ is. glyph_accepted f p functions known id g ends cvt_ends there judged;
   refused = λ is. absurd (let bad = zero refl in cc);

@@ -21,7 +21,7 @@ use Rattle.tt_find.specs.declared.finder.Found.{Found}
 use Rattle.hintcheck.specs.FindingSessions.{IsFoundFor, IsFoundToEnd}
 use Rattle.hintcheck.specs.Representation.FontVerdicts.{AreAllRefused, ComesToEnd, IsKnownAtEnd}
 use Rattle.hintcheck.specs.FontPrograms.{cvt_refused, cvt_subject, font_refused, font_subject}
-use Rattle.hintcheck.specs.ProgramVerdicts.{IfRefused, IsAccepted, IsListed, IsSubjectOf, reported_at}
+use Rattle.hintcheck.specs.ProgramVerdicts.{IfRefused, IsAccepted, IsAppendedRefusal, IsSubjectOf, reported_at}
 use Rattle.hintcheck.specs.CheckedFonts.{IsGoodAtEnd}
 use Rattle.hintcheck.specs.Programs.{EndsWith, HasGoodFamily, HasLeastFamily, IsCutInto, IsRefusal, Subject}
 use Rattle.hintcheck.proofs.ProgramVerdictLemmas.{is_subject, of_subject}
@@ -104,12 +104,12 @@ least_of x is family a = record { instructions = is; cut = a.cut; family = a.fil
 
 -- a refused font program and a refused CVT program end the verdict
 
-pub font_ends_verdict : (d : FontData) (fault : ProgramFault) (rs : List AnyRefused) → IfRefused name.Font fault (IsRefusal (font_subject d)) → IsListed name.Font fault [] rs → AreAllRefused d rs
+pub font_ends_verdict : (d : FontData) (fault : ProgramFault) (rs : List AnyRefused) → IfRefused name.Font fault (IsRefusal (font_subject d)) → IsAppendedRefusal name.Font fault [] rs → AreAllRefused d rs
 font_ends_verdict d (Refused spot offset r) rs is listed = let A : List AnyRefused → Type 0 = λ t. AreAllRefused d t in subst A (sym listed) (font_refused (reported_at name.Font spot offset r) is)
 font_ends_verdict d (OutOfMemory e) rs is listed = absurd listed
 
 pub cvt_ends_verdict : (d : FontData) (f : List Instruction) (functions : List (ℕ × ℕ)) (fault : ProgramFault) (rs : List AnyRefused) → EndsWith (font_subject d) f functions
-    → IfRefused name.Cvt fault (IsRefusal (cvt_subject d f functions)) → IsListed name.Cvt fault [] rs → AreAllRefused d rs
+    → IfRefused name.Cvt fault (IsRefusal (cvt_subject d f functions)) → IsAppendedRefusal name.Cvt fault [] rs → AreAllRefused d rs
 cvt_ends_verdict d f functions (Refused spot offset r) rs ends is listed =
     let A : List AnyRefused → Type 0 = λ t. AreAllRefused d t in subst A (sym listed) (cvt_refused f functions (reported_at name.Cvt spot offset r) ends is)
 cvt_ends_verdict d f functions (OutOfMemory e) rs ends is listed = absurd listed

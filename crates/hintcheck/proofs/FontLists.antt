@@ -10,7 +10,7 @@ use Rattle.tt_font.specs.declared.glyph_part.GlyphPart.{GlyphPart}
 use Rattle.hintcheck.specs.Representation.FontVerdicts.{AreRefusedBelow}
 use Rattle.hintcheck.specs.FontPrograms.{AreRefused, accepted, no_glyph_left, glyph_subject, refused}
 use Rattle.hintcheck.specs.Programs.{HasLeastFamily, IsRefusal}
-use Rattle.hintcheck.specs.ProgramVerdicts.{IfRefused, IsListed, reported_at}
+use Rattle.hintcheck.specs.ProgramVerdicts.{IfRefused, IsAppendedRefusal, reported_at}
 use Rattle.tt_cert_file.specs.declared.name.Name.TheVariants as name
 use Rattle.hintcheck.specs.declared.report.Refused.{Refused}
 use Rattle.tt_cert.specs.declared.fault.ProgramFault.{ProgramFault}
@@ -51,7 +51,7 @@ module _ (font : Font) (functions : List (ℕ × ℕ)) (gs : List GlyphData) whe
 
   -- the refused one that is listed
   pub listed_next : (id : ℕ) (g : GlyphData) (rs rs' : List Refused) (f : ProgramFault) → AreRefusedBelow font functions gs id rs → slice_get gs id ≡ Some g
-      → IfRefused (name.Glyph id) f (IsRefusal (glyph_subject font functions id g)) → IsListed (name.Glyph id) f rs rs' → AreRefusedBelow font functions gs (id + 1) rs'
+      → IfRefused (name.Glyph id) f (IsRefusal (glyph_subject font functions id g)) → IsAppendedRefusal (name.Glyph id) f rs rs' → AreRefusedBelow font functions gs (id + 1) rs'
   listed_next id g rs rs' (fault.Refused spot offset r) below at is listed =
       let B : List Refused → Type 0 = λ t. AreRefusedBelow font functions gs (id + 1) t in
       subst B (sym listed) (refused_next id g rs (reported_at (name.Glyph id) spot offset r) below at is)

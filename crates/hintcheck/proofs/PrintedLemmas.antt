@@ -25,11 +25,11 @@ prints_listing (Err e) bytes word old new listed told = tt
 -- where a verdict is asked for, its lines are the answer
 pub prints_for_verdict : (q : Request) (status : ℕ) (old new : Option (List ℕ)) → IsForVerdict q → PrintsVerdict q status old new → Prints q status old new
 prints_for_verdict (bare maxp cvt points contours program) status old new for_verdict printed = printed
-prints_for_verdict (verdict font points) status old new for_verdict printed = printed
-prints_for_verdict (scan fonts points) status old new for_verdict printed = absurd for_verdict
+prints_for_verdict (verdict font budget) status old new for_verdict printed = printed
+prints_for_verdict (scan fonts budget) status old new for_verdict printed = absurd for_verdict
 prints_for_verdict (explain font program offset) status old new for_verdict printed = absurd for_verdict
-prints_for_verdict (find font certificate points) status old new for_verdict printed = printed
-prints_for_verdict (check font certificate points) status old new for_verdict printed = printed
+prints_for_verdict (find font certificate budget) status old new for_verdict printed = printed
+prints_for_verdict (check font certificate budget) status old new for_verdict printed = printed
 prints_for_verdict (list font program) status old new for_verdict printed = absurd for_verdict
 prints_for_verdict (upgrade before after) status old new for_verdict printed = absurd for_verdict
 

@@ -75,7 +75,7 @@ states_newest : (form : Form) (n : ℕ) (before states : List Entry) → EachAft
 states_newest form n before [] h = tt
 states_newest form n before (e ∷ es) h =
     let s = h.0.state in (
-      record { place = h.0.place; state = record { stack = s.stack; graphics = s.graphics; functions = s.functions; storage = storage_newest form e.1.storage s.storage } },
+      record { point = h.0.point; state = record { stack = s.stack; graphics = s.graphics; functions = s.functions; storage = storage_newest form e.1.storage s.storage } },
       states_newest form n (before ++ e ∷ []) es h.1,
     )
 

@@ -1,4 +1,5 @@
--- Why a font isn't checked by a certificate, and what that tells of failed reads.
+-- Why a font isn't checked by a certificate, or has none written, and what that tells of failed
+-- reads and writes.
 use Rattle.std.specs.Prelude.{◌≡◌, ◌≢◌, ◌+◌, ℕ, List, [], Option, Some, None, alloc_error, Result, Ok, Err}
 use Rattle.tt_font.specs.Conditions.{Condition}
 use Rattle.tt_font.specs.declared.fault.FontFault.TheVariants.{OutOfMemory}
@@ -37,22 +38,22 @@ CountsCheck (Err fault.Budget) old new = new ≡ old
 
 -- The check of a font tests the condition on its bytes: a fault of the font's is the one that
 -- holds, unless memory ran out, and any other answer means that none does. There is no budget.
-abbrev pub TestsInCheck : {T : Type 0} → Condition → Result T CheckFontFault → Type 0
-TestsInCheck condition (Ok done) = condition ≡ None
-TestsInCheck condition (Err (fault.Font font)) =
+abbrev pub CheckTellsFontFault : {T : Type 0} → Condition → Result T CheckFontFault → Type 0
+CheckTellsFontFault condition (Ok done) = condition ≡ None
+CheckTellsFontFault condition (Err (fault.Font font)) =
     font ≢ OutOfMemory alloc_error → condition ≡ Some font
-TestsInCheck condition (Err (fault.Form place)) = condition ≡ None
-TestsInCheck condition (Err fault.Read) = condition ≡ None
-TestsInCheck condition (Err (fault.OutOfMemory error)) = condition ≡ None
-TestsInCheck condition (Err fault.Budget) = ⊥
+CheckTellsFontFault condition (Err (fault.Form place)) = condition ≡ None
+CheckTellsFontFault condition (Err fault.Read) = condition ≡ None
+CheckTellsFontFault condition (Err (fault.OutOfMemory error)) = condition ≡ None
+CheckTellsFontFault condition (Err fault.Budget) = ⊥
 
 -- the fault is neither the font's nor a budget's
-abbrev pub IsNoFontFault : CheckFontFault → Type 0
-IsNoFontFault (fault.Font font) = ⊥
-IsNoFontFault (fault.Form place) = Unit {0}
-IsNoFontFault fault.Read = Unit {0}
-IsNoFontFault (fault.OutOfMemory error) = Unit {0}
-IsNoFontFault fault.Budget = ⊥
+abbrev pub IsCheckFaultOutsideFontAndBudget : CheckFontFault → Type 0
+IsCheckFaultOutsideFontAndBudget (fault.Font font) = ⊥
+IsCheckFaultOutsideFontAndBudget (fault.Form place) = Unit {0}
+IsCheckFaultOutsideFontAndBudget fault.Read = Unit {0}
+IsCheckFaultOutsideFontAndBudget (fault.OutOfMemory error) = Unit {0}
+IsCheckFaultOutsideFontAndBudget fault.Budget = ⊥
 
 -- the fault of a certificate that can't be written
 abbrev pub fault_of_encoding : EncodeFault → FindFontFault
@@ -67,21 +68,21 @@ CountsFind (Err (find.Font font)) old new = new ≡ old
 CountsFind (Err (find.OutOfMemory error)) old new = new ≡ old
 CountsFind (Err find.Budget) old new = new ≡ old
 
--- so does the search for its certificate
-abbrev pub TestsInFind : {T : Type 0} → Condition → Result T FindFontFault → Type 0
-TestsInFind condition (Ok done) = condition ≡ None
-TestsInFind condition (Err (find.Font font)) =
+-- the search for its certificate tests the condition likewise
+abbrev pub FindTellsFontFault : {T : Type 0} → Condition → Result T FindFontFault → Type 0
+FindTellsFontFault condition (Ok done) = condition ≡ None
+FindTellsFontFault condition (Err (find.Font font)) =
     font ≢ OutOfMemory alloc_error → condition ≡ Some font
-TestsInFind condition (Err find.Write) = condition ≡ None
-TestsInFind condition (Err (find.OutOfMemory error)) = condition ≡ None
-TestsInFind condition (Err find.Budget) = ⊥
+FindTellsFontFault condition (Err find.Write) = condition ≡ None
+FindTellsFontFault condition (Err (find.OutOfMemory error)) = condition ≡ None
+FindTellsFontFault condition (Err find.Budget) = ⊥
 
 -- the fault is neither the font's nor a budget's
-abbrev pub IsNoFaultOfFont : FindFontFault → Type 0
-IsNoFaultOfFont (find.Font font) = ⊥
-IsNoFaultOfFont find.Write = Unit {0}
-IsNoFaultOfFont (find.OutOfMemory error) = Unit {0}
-IsNoFaultOfFont find.Budget = ⊥
+abbrev pub IsFindFaultOutsideFontAndBudget : FindFontFault → Type 0
+IsFindFaultOutsideFontAndBudget (find.Font font) = ⊥
+IsFindFaultOutsideFontAndBudget find.Write = Unit {0}
+IsFindFaultOutsideFontAndBudget (find.OutOfMemory error) = Unit {0}
+IsFindFaultOutsideFontAndBudget find.Budget = ⊥
 
 -- where the verdict names a refused program, nothing was written
 abbrev pub WritesNothing : Option (List ℕ) → Option (List ℕ) → Judgement → Type 0

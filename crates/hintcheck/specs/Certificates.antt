@@ -48,7 +48,7 @@ pub record Passes (form : Form) (x : Subject) (instructions : List Instruction)
   pub cut : IsCutInto x instructions
   pub good : IsGoodListing form (x.setting instructions) x.functions family
 
--- And these functions are known where it ends.
+-- The program passes so, and these functions are known where it ends.
 pub record PassesToEnd (form : Form) (x : Subject) (instructions : List Instruction)
     (family : Contents) (functions : List (ℕ × ℕ)) : Type 0 where
   pub passes : Passes form x instructions family

@@ -55,8 +55,8 @@ IsTold known = is_some known ≡ true
 abbrev pub bytes_in : Option (List ℕ) → List ℕ
 bytes_in known = unwrap_or known []
 
--- What holds of an answer, or of the place that a fault of form names; a failed read, out of memory,
--- a budget that is exceeded and the font's own faults are unspecified.
+-- What holds of an answer, or of the place that a fault of form names; a failed read, out of
+-- memory, a budget that is exceeded and the font's own faults are unspecified.
 abbrev pub Finds : {T : Type 0} → Result T CheckFontFault → (T → Type 0) → (ℕ → Type 0) → Type 0
 Finds (Ok x) Is At = Is x
 Finds (Err (fault.Form place)) Is At = At place

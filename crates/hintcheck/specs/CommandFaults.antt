@@ -33,12 +33,12 @@ IsFaultOfSource old new other = ⊥
 
 -- a budget is exceeded only where points are counted
 abbrev pub IsWithin : Option ℕ → CommandFault → Type 0
-IsWithin points reported = reported ≡ fault.Budget → points ≢ None
+IsWithin budget reported = reported ≡ fault.Budget → budget ≢ None
 
 -- The same where a number of points bounds the verdict: they may have been too few.
 abbrev pub IsFaultWithin : Option ℕ → Option (List ℕ) → Option (List ℕ) → CommandFault → Type 0
-IsFaultWithin points old new fault.Budget = points ≢ None
-IsFaultWithin points old new other = IsFaultOfSource old new other
+IsFaultWithin budget old new fault.Budget = budget ≢ None
+IsFaultWithin budget old new other = IsFaultOfSource old new other
 
 -- all bytes were read, and have no fault as those of a font
 abbrev pub ReadNoFault : Option (List ℕ) → Option (List ℕ) → Type 0
@@ -95,7 +95,7 @@ IsFaultOfReading fault.Read = Unit {0}
 IsFaultOfReading fault.OutOfMemory = Unit {0}
 IsFaultOfReading other = ⊥
 
--- why there is none on a font file, or its certificate isn't written
+-- why there is no verdict on a font file, or its certificate isn't written
 abbrev pub IsFaultOfCertifying : CommandFault → Type 0
 IsFaultOfCertifying (fault.Font numbered) = IsFaultOfSomeFont numbered.0
 IsFaultOfCertifying fault.File = Unit {0}
@@ -108,7 +108,7 @@ abbrev pub IsFaultOfFinding : List ℕ → List ℕ → CommandFault → Type 0
 IsFaultOfFinding font certificate reported =
     (reported ≡ fault.CertificateWord) ⊎ (font ≢ certificate × IsFaultOfCertifying reported)
 
--- why there is none on a font file by its certificate
+-- why there is no verdict on a font file by its certificate
 abbrev pub IsFaultOfChecking : CommandFault → Type 0
 IsFaultOfChecking (fault.Font numbered) = IsFaultOfSomeFont numbered.0
 IsFaultOfChecking (fault.Form place) = Unit {0}
@@ -169,15 +169,15 @@ IsFaultOfFileExplaining word offset reported =
 abbrev pub IsFaultOfRequest : Request → CommandFault → Type 0
 IsFaultOfRequest (bare maxp cvt points contours program) reported =
     IsFaultOfGlyph maxp (unwrap_or program []) reported
-IsFaultOfRequest (verdict font points) reported =
-    IsFaultOfFontFile reported × IsWithin points reported
-IsFaultOfRequest (scan fonts points) reported = IsFaultOfScan reported
+IsFaultOfRequest (verdict font budget) reported =
+    IsFaultOfFontFile reported × IsWithin budget reported
+IsFaultOfRequest (scan fonts budget) reported = IsFaultOfScan reported
 IsFaultOfRequest (explain font program offset) reported =
     IsFaultOfFileExplaining program offset reported
-IsFaultOfRequest (find font certificate points) reported =
-    IsFaultOfFinding font certificate reported × IsWithin points reported
-IsFaultOfRequest (check font certificate points) reported =
-    IsFaultOfChecking reported × IsWithin points reported
+IsFaultOfRequest (find font certificate budget) reported =
+    IsFaultOfFinding font certificate reported × IsWithin budget reported
+IsFaultOfRequest (check font certificate budget) reported =
+    IsFaultOfChecking reported × IsWithin budget reported
 IsFaultOfRequest (list font program) reported = IsFaultOfFileListing program reported
 IsFaultOfRequest (upgrade old new) reported = IsFaultOfUpgrading old new reported
 
@@ -185,11 +185,11 @@ IsFaultOfRequest (upgrade old new) reported = IsFaultOfUpgrading old new reporte
 -- those of `explain` name a program of some font, and an instruction of it by an offset, if any.
 abbrev pub HasNoFault : Request → Type 0
 HasNoFault (bare maxp cvt points contours program) = SpellNoFault maxp (unwrap_or program [])
-HasNoFault (verdict font points) = Unit {0}
-HasNoFault (scan fonts points) = Unit {0}
+HasNoFault (verdict font budget) = Unit {0}
+HasNoFault (scan fonts budget) = Unit {0}
 HasNoFault (explain font program offset) = (bytes : List ℕ) × HoldPlace bytes program offset
-HasNoFault (find font certificate points) = font ≢ certificate
-HasNoFault (check font certificate points) = Unit {0}
+HasNoFault (find font certificate budget) = font ≢ certificate
+HasNoFault (check font certificate budget) = Unit {0}
 HasNoFault (list font program) = Unit {0}
 HasNoFault (upgrade old new) = old ≢ new
 

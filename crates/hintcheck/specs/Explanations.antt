@@ -101,9 +101,9 @@ HasPlaceIn d called offset =
     (program : List ℕ) → program_in d called ≡ Some program → HasPlace program offset
 
 -- whether the program is accepted: it has its least family, or it is refused
-abbrev pub IsJudged : Subject → Bool → Type 0
-IsJudged x true = HasLeastFamily x
-IsJudged x false = (r : Refused) × IsRefusal x r
+abbrev pub IsAnswered : Subject → Bool → Type 0
+IsAnswered x true = HasLeastFamily x
+IsAnswered x false = (r : Refused) × IsRefusal x r
 
 -- the fault refuses a program, and isn't that memory ran out
 abbrev pub RefusesProgram : ProgramFault → Type 0

@@ -15,11 +15,12 @@ use Rattle.hintcheck.specs.declared.font_check.CheckFontFault.TheVariants as fau
 use Rattle.hintcheck.specs.declared.certificate_upgrade.UpgradeFault.{UpgradeFault}
 use Rattle.hintcheck.specs.declared.certificate_upgrade.UpgradeFault.TheVariants as upgrade
 
--- what holds of the bytes that were read, of a source that tells its bytes
+-- what holds of the bytes that were read of a source, where that tells its bytes
 abbrev pub OfRead : Option (List ℕ) → Option (List ℕ) → (List ℕ → Type 0) → Type 0
 OfRead old new Is = IsTold old → (front : List ℕ) × Consumes old new front × Is front
 
--- the same where a read failed, in the check of a font by a certificate
+-- what holds of the bytes that were read, where a read failed in the check of a font by a
+-- certificate
 abbrev pub HasRead : Option (List ℕ) → Option (List ℕ) → (List ℕ → Type 0) → CheckFontFault → Type 0
 HasRead old new Is fault.Read = OfRead old new Is
 HasRead old new Is (fault.Form place) = Unit {0}
@@ -27,7 +28,7 @@ HasRead old new Is (fault.Font font) = Unit {0}
 HasRead old new Is (fault.OutOfMemory error) = Unit {0}
 HasRead old new Is fault.Budget = Unit {0}
 
--- and in an upgrade
+-- what holds of the bytes that were read, where a read failed in an upgrade
 abbrev pub HasReadOld : Option (List ℕ) → Option (List ℕ) → (List ℕ → Type 0) → UpgradeFault
     → Type 0
 HasReadOld old new Is upgrade.Read = OfRead old new Is

@@ -33,7 +33,7 @@ pub record IsFoundFor (x : Subject) (instructions : List Instruction) (found : F
 abbrev pub IsFound : Subject → Found → Type 0
 IsFound x found = (instructions : List Instruction) × IsFoundFor x instructions found
 
--- and these functions are known where the program ends
+-- this is found for the program, and these functions are known where it ends
 pub record IsFoundToEnd (x : Subject) (instructions : List Instruction) (found : Found)
     (functions : List (ℕ × ℕ)) : Type 0 where
   pub is_found : IsFoundFor x instructions found
@@ -88,10 +88,10 @@ found_fault fault.Budget = find.Budget
 found_fault other = out_of_memory
 
 -- the only faults of a session that finds are that memory or a budget ran out
-abbrev pub IsUnfinished : Option CheckFontFault → Type 0
-IsUnfinished None = Unit {0}
-IsUnfinished (Some fault.Budget) = Unit {0}
-IsUnfinished (Some other) = other ≡ out_of_memory_here
+abbrev pub HasOnlyRunOut : Option CheckFontFault → Type 0
+HasOnlyRunOut None = Unit {0}
+HasOnlyRunOut (Some fault.Budget) = Unit {0}
+HasOnlyRunOut (Some other) = other ≡ out_of_memory_here
 
 -- the session keeps a fault that is reported so
 abbrev pub KeepsFault : Standing → FindFontFault → Type 0
@@ -101,7 +101,7 @@ KeepsFault s told =
 -- a session that was used for no other calls than those that find: no certificate was read
 pub record IsForFinding (s : Standing) : Type 0 where
   pub unread : s.read ≡ None
-  pub unfinished : IsUnfinished s.fault
+  pub run_out : HasOnlyRunOut s.fault
 
 -- The sections of the programs that are accepted one after the other, from the font program up to a
 -- stage.

@@ -21,5 +21,5 @@ pub mod UpgradeFaults
 pub mod Sessions
 pub mod FindingSessions
 pub mod FailedReads
-pub mod Bounds
+pub mod BudgetAnswers
 pub mod Representation

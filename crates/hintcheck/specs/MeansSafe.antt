@@ -46,11 +46,11 @@ pub record HoldSafeFont (bytes : List ℕ) : Type 0 where
 abbrev pub IsSafeRequest : Request → Type 0
 IsSafeRequest (bare maxp cvt points contours program) =
     SpellSafeGlyph maxp cvt points contours (unwrap_or program [])
-IsSafeRequest (verdict font points) = (bytes : List ℕ) × HoldSafeFont bytes
-IsSafeRequest (scan fonts points) = All (λ font. (bytes : List ℕ) × HoldSafeFont bytes) fonts
+IsSafeRequest (verdict font budget) = (bytes : List ℕ) × HoldSafeFont bytes
+IsSafeRequest (scan fonts budget) = All (λ font. (bytes : List ℕ) × HoldSafeFont bytes) fonts
 IsSafeRequest (explain font program offset) = (bytes : List ℕ) × HoldAcceptedProgram bytes program
-IsSafeRequest (find font certificate points) = (bytes : List ℕ) × HoldSafeFont bytes
-IsSafeRequest (check font certificate points) = (bytes : List ℕ) × HoldSafeFont bytes
+IsSafeRequest (find font certificate budget) = (bytes : List ℕ) × HoldSafeFont bytes
+IsSafeRequest (check font certificate budget) = (bytes : List ℕ) × HoldSafeFont bytes
 IsSafeRequest (list font program) = Unit {0}
 IsSafeRequest (upgrade old new) = Unit {0}
 
@@ -115,12 +115,12 @@ pub record IsCheckOn (bytes : List ℕ) (judgement : Judgement) : Type 0 where
 abbrev pub IsVerdictAsked : Request → Judgement → Type 0
 IsVerdictAsked (bare maxp cvt points contours program) judgement =
     SpellVerdict maxp cvt points contours (unwrap_or program []) judgement
-IsVerdictAsked (verdict font points) judgement = (bytes : List ℕ) × IsVerdictOn bytes judgement
-IsVerdictAsked (find font certificate points) judgement =
+IsVerdictAsked (verdict font budget) judgement = (bytes : List ℕ) × IsVerdictOn bytes judgement
+IsVerdictAsked (find font certificate budget) judgement =
     (bytes : List ℕ) × IsVerdictOn bytes judgement
-IsVerdictAsked (check font certificate points) judgement =
+IsVerdictAsked (check font certificate budget) judgement =
     (bytes : List ℕ) × IsCheckOn bytes judgement
-IsVerdictAsked (scan fonts points) judgement = ⊥
+IsVerdictAsked (scan fonts budget) judgement = ⊥
 IsVerdictAsked (explain font program offset) judgement = ⊥
 IsVerdictAsked (list font program) judgement = ⊥
 IsVerdictAsked (upgrade old new) judgement = ⊥
@@ -132,11 +132,11 @@ IsVerdictAsked (upgrade old new) judgement = ⊥
 abbrev pub IsRefusedRequest : Request → Type 0
 IsRefusedRequest (bare maxp cvt points contours program) =
     SpellRefusedGlyph maxp cvt points contours (unwrap_or program [])
-IsRefusedRequest (verdict font points) = (bytes : List ℕ) × HoldRefusedFont bytes
-IsRefusedRequest (scan fonts points) = (bytes : List ℕ) × HoldRefusedFont bytes
+IsRefusedRequest (verdict font budget) = (bytes : List ℕ) × HoldRefusedFont bytes
+IsRefusedRequest (scan fonts budget) = (bytes : List ℕ) × HoldRefusedFont bytes
 IsRefusedRequest (explain font program offset) = (bytes : List ℕ) × HoldRefusedProgram bytes program
-IsRefusedRequest (find font certificate points) = (bytes : List ℕ) × HoldRefusedFont bytes
-IsRefusedRequest (check font certificate points) = (bytes : List ℕ) × HoldFont bytes
+IsRefusedRequest (find font certificate budget) = (bytes : List ℕ) × HoldRefusedFont bytes
+IsRefusedRequest (check font certificate budget) = (bytes : List ℕ) × HoldFont bytes
 IsRefusedRequest (list font program) = (bytes : List ℕ) × HoldUnlistedProgram bytes program
 IsRefusedRequest (upgrade old new) = ⊥
 

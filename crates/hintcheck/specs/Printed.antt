@@ -38,13 +38,13 @@ PrintsUpgrade old new =
 abbrev pub Prints : Request → ℕ → Option (List ℕ) → Option (List ℕ) → Type 0
 Prints (bare maxp cvt points contours program) status old new =
     PrintsVerdict (bare maxp cvt points contours program) status old new
-Prints (verdict font points) status old new = PrintsVerdict (verdict font points) status old new
-Prints (scan fonts points) status old new = PrintsScan fonts status old new
+Prints (verdict font budget) status old new = PrintsVerdict (verdict font budget) status old new
+Prints (scan fonts budget) status old new = PrintsScan fonts status old new
 Prints (explain font program offset) status old new = Unit {0}
-Prints (find font certificate points) status old new =
-    PrintsVerdict (find font certificate points) status old new
-Prints (check font certificate points) status old new =
-    PrintsVerdict (check font certificate points) status old new
+Prints (find font certificate budget) status old new =
+    PrintsVerdict (find font certificate budget) status old new
+Prints (check font certificate budget) status old new =
+    PrintsVerdict (check font certificate budget) status old new
 Prints (list font program) status old new = PrintsListing program status old new
 Prints (upgrade before after) status old new = PrintsUpgrade old new
 

@@ -38,7 +38,7 @@ pub record HasGoodFamily (x : Subject) : Type 0 where
   pub family : Place → Option State
   pub good : IsGoodFamily (x.setting instructions) x.functions family
 
--- and each state of the family is derived
+-- a family of abstract states is good for it, and each of its states is derived
 pub record HasLeastFamily (x : Subject) : Type 0 where
   pub instructions : List Instruction
   pub cut : IsCutInto x instructions
@@ -46,7 +46,7 @@ pub record HasLeastFamily (x : Subject) : Type 0 where
   pub good : IsGoodFamily (x.setting instructions) x.functions family
   pub least : IsLeast (x.setting instructions) x.functions family
 
--- of its instructions and its least family: these functions are known where it ends
+-- it has these instructions and a least family, and these functions are known where it ends
 pub record EndsWith (x : Subject) (instructions : List Instruction)
     (functions : List (ℕ × ℕ)) : Type 0 where
   pub cut : IsCutInto x instructions
@@ -67,7 +67,7 @@ pub data IsCause (x : Subject) : Place → Reason → Type 0 where
   no_family : (instructions : List Instruction) (p : Place) (r : Reason) → IsCutInto x instructions
       → IsJustified (x.setting instructions) x.functions p r → IsCause x p r
 
--- the program in which a place is that is reached from this program
+-- the program that holds a place, seen from the program of this name
 abbrev pub program_at : Name → Spot → Name
 program_at x spot.Main = x
 program_at x spot.Font = name.Font

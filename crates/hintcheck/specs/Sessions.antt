@@ -26,7 +26,8 @@ pub data Stage : Type 0 where
   at_glyph : List Instruction → List Instruction → List (ℕ × ℕ) → ℕ → Stage
   over : Stage
 
--- What a session keeps.
+-- What a session keeps from one call to the next, as contracts see it: its font, which program is
+-- next, how far a certificate was read, and a fault.
 pub record Standing : Type 0 where
   pub font : FontData
   pub stage : Stage

@@ -2,6 +2,7 @@
 use Rattle.std.specs.Prelude.{ℕ, List}
 use Rattle.hintcheck.specs.declared.report.Refused.{Refused}
 
+-- A verdict on some programs: how many there are, and which of them are refused.
 pub record Judgement : Type 0 where
   -- how many programs there are
   pub programs : ℕ

@@ -40,8 +40,8 @@ fn empty_program(alloc: Global) -> Result<Program<'static>, AllocError>
     }
 }
 
-/// Returns the refused ones of the only program, that of the glyph `g0` in a font whose font
-/// program and CVT program are empty.
+/// Returns the only program, `g0`, if it is refused: that of the glyph of a font whose font program
+/// and CVT program are empty.
 fn refused_programs(
     alloc: Global,
     limits: Limits,

@@ -4,8 +4,8 @@ ghost use Rattle.std.specs.Prelude.{◌≡◌, [], IfErr, IfOk, OnErr, OnOk};
 ghost use Rattle.tt_cert.specs.Budgets.{Spends};
 ghost use Rattle.tt_font.specs.FileFaults.{font_fault};
 ghost use Rattle.tt_font.specs.Reading.{FontData, Reads};
-ghost use Rattle.hintcheck.specs.Bounds.{IsNoFaultInAFont, TellsBudgetOfFind, TestsInFindWithin};
-ghost use Rattle.hintcheck.specs.CertificateFaults.{CountsFind, IsNoFaultOfFont, TestsInFind, WritesNothing};
+ghost use Rattle.hintcheck.specs.BudgetAnswers.{FindTellsBudget, FindWithinTellsFontFault, IsFindFaultOutsideFont};
+ghost use Rattle.hintcheck.specs.CertificateFaults.{CountsFind, FindTellsFontFault, IsFindFaultOutsideFontAndBudget, WritesNothing};
 ghost use Rattle.hintcheck.specs.CertificateTexts.{IsPassingCertificate, WritesBeginning, WritesText};
 ghost use Rattle.hintcheck.specs.FindingSessions.{BeginsCertificate, IsCertificateBegun};
 ghost use Rattle.hintcheck.specs.Representation.FontVerdicts.{AreAllRefused};
@@ -93,7 +93,7 @@ fn write_sections<W: Sink>(
     ensures begun { OnErr result (WritesBeginning (W.contents sink.old) (W.contents sink.new)
         (AreSomeSections font.now)) }
     ensures failures { CountsFind result (W.failures sink.old) (W.failures sink.new) }
-    ensures font { IfErr result IsNoFaultOfFont }
+    ensures font { IfErr result IsFindFaultOutsideFontAndBudget }
     ensures spends { Spends budget.old budget.new }
 {
     let mut session = Session::new(font);
@@ -127,7 +127,7 @@ fn write_certificate<W: Sink>(
     ensures begun { OnErr result (WritesBeginning (W.contents sink.old) (W.contents sink.new)
         (IsCertificateBegun font.now)) }
     ensures failures { CountsFind result (W.failures sink.old) (W.failures sink.new) }
-    ensures font { IfErr result IsNoFaultOfFont }
+    ensures font { IfErr result IsFindFaultOutsideFontAndBudget }
     ensures spends { Spends budget.old budget.new }
 {
     write_header(u32::from(font.glyph_count()) + 2, sink)?;
@@ -150,7 +150,7 @@ pub(crate) fn find_programs<W: Sink>(
         (IsCertificateBegun font.now)) }
     ensures unwritten { IfOk result (WritesNothing (W.contents sink.old) (W.contents sink.new)) }
     ensures failures { CountsFind result (W.failures sink.old) (W.failures sink.new) }
-    ensures font { IfErr result IsNoFaultOfFont }
+    ensures font { IfErr result IsFindFaultOutsideFontAndBudget }
     ensures spends { Spends budget.old budget.new }
 {
     let refused = refused_programs(alloc, font, Search::BeforeWriting, budget)?;
@@ -175,9 +175,9 @@ pub(crate) fn find_programs_within<W: Sink>(
         (IsCertificateBegun font.now)) }
     ensures unwritten { IfOk result (WritesNothing (W.contents sink.old) (W.contents sink.new)) }
     ensures failures { CountsFind result (W.failures sink.old) (W.failures sink.new) }
-    ensures font { IfErr result IsNoFaultInAFont }
+    ensures font { IfErr result IsFindFaultOutsideFont }
     ensures spends { Spends budget.old budget.new }
-    ensures budget { TellsBudgetOfFind budget.new result }
+    ensures budget { FindTellsBudget budget.new result }
 {
     if budget.is_exceeded() {
         return Err(FindFontFault::Budget);
@@ -216,7 +216,7 @@ pub fn find_font<W: Sink>(
     ensures failures { CountsFind result (W.failures sink.old) (W.failures sink.new) }
     // A fault of the font is the first one of its bytes, unless memory ran out; any other answer
     // means that they have none.
-    ensures faults { TestsInFind (font_fault font.now) result }
+    ensures faults { FindTellsFontFault (font_fault font.now) result }
 {
     let read = read_font(alloc, font)?;
     find_programs(alloc, &read, sink, &mut Budget::unlimited())
@@ -244,9 +244,9 @@ pub fn find_font_within<W: Sink>(
     ensures begun { OnErr result
         (BeginsCertificate font.now (W.contents sink.old) (W.contents sink.new)) }
     ensures failures { CountsFind result (W.failures sink.old) (W.failures sink.new) }
-    ensures faults { TestsInFindWithin (font_fault font.now) result }
+    ensures faults { FindWithinTellsFontFault (font_fault font.now) result }
     ensures spends { Spends budget.old budget.new }
-    ensures budget { TellsBudgetOfFind budget.new result }
+    ensures budget { FindTellsBudget budget.new result }
 {
     let read = read_font(alloc, font)?;
     find_programs_within(alloc, &read, sink, budget)

@@ -71,17 +71,17 @@ fn verdict_on<R: Files + AllocGlobal>(rt: &R, task: &Task) -> Result<Verdict, Co
             *contours,
             word_or_empty(program),
         ),
-        Task::Verdict { font, points } => file_verdict(rt, font, *points),
+        Task::Verdict { font, budget } => file_verdict(rt, font, *budget),
         Task::Find {
             font,
             certificate,
-            points,
-        } => find_verdict(rt, font, certificate, *points),
+            budget,
+        } => find_verdict(rt, font, certificate, *budget),
         Task::Check {
             font,
             certificate,
-            points,
-        } => check_verdict(rt, font, certificate, *points),
+            budget,
+        } => check_verdict(rt, font, certificate, *budget),
         Task::Scan { .. } | Task::Explain { .. } | Task::List { .. } | Task::Upgrade { .. } => {
             unreachable!()
         }
@@ -106,7 +106,7 @@ fn do_task<R: Files + AllocGlobal, O: Sink>(
     ensures none { OnOk result (HasNoFault (asked task.now)) }
 {
     match task {
-        Task::Scan { fonts, points } => scan_fonts(rt, fonts, *points, out),
+        Task::Scan { fonts, budget } => scan_fonts(rt, fonts, *budget, out),
         Task::Explain {
             font,
             program,

@@ -9,7 +9,7 @@ ghost use Rattle.tt_cert_file.specs.declared.name.Name.TheVariants as name;
 ghost use Rattle.hintcheck_explain.specs.Faults.{AsksForInstruction};
 ghost use Rattle.hintcheck.specs.Commands.{TellsFailure};
 ghost use Rattle.hintcheck.specs.CommandFaults.{IsFaultOfExplaining, IsFaultOfLines};
-ghost use Rattle.hintcheck.specs.Explanations.{HasPlace, HasPlaceIn, HoldAcceptedProgram, HoldPlace, HoldRefusedProgram, IsJudged, RefusesProgram, TellsProgram};
+ghost use Rattle.hintcheck.specs.Explanations.{HasPlace, HasPlaceIn, HoldAcceptedProgram, HoldPlace, HoldRefusedProgram, IsAnswered, RefusesProgram, TellsProgram};
 ghost use Rattle.hintcheck.specs.FontPrograms.{IsFontInRange, font_subject};
 ghost use Rattle.hintcheck.specs.Listing.{program_in};
 ghost use Rattle.hintcheck.specs.Representation.FontVerdicts.{font_in, glyph_in};
@@ -168,7 +168,7 @@ fn refused_by(fault: ProgramFault) -> Result<bool, CommandFault>
 /// `OutOfMemory`.
 fn judge_font_program(alloc: Global, font: &Font<'_>) -> Result<bool, CommandFault>
     requires { IsFontInRange font.now }
-    ensures judged { IfOk result (IsJudged (font_subject font.now)) }
+    ensures judged { IfOk result (IsAnswered (font_subject font.now)) }
     ensures faults { IfErr result (λ fault. fault ≡ CommandFault.OutOfMemory) }
 {
     let mut finder = Finder::new(alloc);
@@ -194,7 +194,7 @@ fn judge_cvt_program(
 ) -> Result<bool, CommandFault>
     requires range { IsFontInRange font.now }
     requires ended { IsKnownEnd (font_subject font.now) fpgm.now }
-    ensures judged { IfOk result (IsJudged (cvt_after font.now fpgm.now)) }
+    ensures judged { IfOk result (IsAnswered (cvt_after font.now fpgm.now)) }
     ensures faults { IfErr result (λ fault. fault ≡ CommandFault.OutOfMemory) }
 {
     let mut budget = Budget::unlimited();
@@ -220,7 +220,7 @@ fn judge_glyph_program(
     requires few { length glyph.now.program.now < 2 ^ 31 }
     requires ascends { Ascends common.now.functions.now }
     requires fits { FunctionsFit (font_setting (font_in common.now)) common.now.functions.now }
-    ensures judged { (id : ℕ) → IfOk result (IsJudged (glyph_in common.now id glyph.now)) }
+    ensures judged { (id : ℕ) → IfOk result (IsAnswered (glyph_in common.now id glyph.now)) }
     ensures faults { IfErr result (λ fault. fault ≡ CommandFault.OutOfMemory) }
 {
     let mut budget = Budget::unlimited();

@@ -9,11 +9,11 @@ ghost use Rattle.tt_code.specs.Fonts.{cvt_setting as setting_of_cvt_program, fon
 ghost use Rattle.tt_font.specs.Conditions.{TestsWithMemory};
 ghost use Rattle.tt_font.specs.FileFaults.{font_fault};
 ghost use Rattle.tt_font.specs.Reading.{FontData, Reads};
-ghost use Rattle.hintcheck.specs.Bounds.{TellsBudget, TestsInVerdict};
+ghost use Rattle.hintcheck.specs.BudgetAnswers.{VerdictTellsBudget, VerdictTellsFontFault};
 ghost use Rattle.hintcheck.specs.FindingSessions.{IsFound, IsFoundToEnd};
 ghost use Rattle.hintcheck.specs.Representation.FontVerdicts.{AreAllRefused, ComesToEnd, HasSubject, IsKnownAtEnd, font_in, glyph_in};
 ghost use Rattle.hintcheck.specs.FontPrograms.{AreRefused, IsFontInRange, IsSafeFont, IsVerdict, font_of, font_subject};
-ghost use Rattle.hintcheck.specs.ProgramVerdicts.{IsFaultOfProgram, IsForCertificate, IsListed, IsSubjectOf, NoneIsGoodFor};
+ghost use Rattle.hintcheck.specs.ProgramVerdicts.{IsAppendedRefusal, IsFaultOfProgram, IsForCertificate, IsSubjectOf, NoneIsGoodFor};
 ghost use Rattle.hintcheck.specs.Programs.{HasLeastFamily, Subject};
 ghost use Rattle.hintcheck.specs.Representation.ProgramEnds.{IsFoundEnd, IsKnownEnd, cvt_after};
 
@@ -233,7 +233,7 @@ fn refused_glyphs(
 /// Returns the program of this name as the only refused one: the fault refuses it, and ends the
 /// verdict.
 fn refused_alone(alloc: Global, name: Name, fault: ProgramFault) -> Result<Vec<Refused>, AllocError>
-    ensures { IfOk result (λ refused. IsListed name fault [] refused.items) }
+    ensures { IfOk result (λ refused. IsAppendedRefusal name fault [] refused.items) }
 {
     let mut refused = Vec::new(alloc);
     list_refused(&mut refused, name, fault)?;
@@ -322,11 +322,12 @@ impl From<FontFault> for VerdictFault {
 }
 
 /// Returns the verdict on the programs of a font file, as `verdict` does, and makes at most as many
-/// points as the budget allows: each state that is carried on, to find a family or to check it, is
-/// one.
+/// points as the budget allows: one point is made each time that a state is carried on, to find a
+/// family or to check it.
 ///
 /// # Errors
-/// As `verdict`; `Budget` exactly where more points were to be made, also in an earlier call.
+/// As `verdict`; `Budget` exactly where more points were to be made than the budget allows, in this
+/// call or in an earlier one.
 pub fn verdict_within(
     alloc: Global,
     font: &[u8],
@@ -334,11 +335,11 @@ pub fn verdict_within(
 ) -> Result<Verdict, VerdictFault>
     ensures exact { IfOk result (λ v. (d : FontData) × Reads font.now d × IsVerdict d v
         × (v.refused ≡ [] → IsSafeFont d)) }
-    ensures faults { TestsInVerdict (font_fault font.now) result }
-    // What it costs: at most as many points as the budget has left, which is met exactly where the
-    // answer says so.
+    ensures faults { VerdictTellsFontFault (font_fault font.now) result }
+    // What it costs: at most as many points as the budget has left. A verdict or out of memory
+    // comes only where that was enough, `Budget` only where it wasn't.
     ensures spends { Spends budget.old budget.new }
-    ensures budget { TellsBudget budget.new result }
+    ensures budget { VerdictTellsBudget budget.new result }
 {
     if budget.is_exceeded() {
         return Err(VerdictFault::Budget);

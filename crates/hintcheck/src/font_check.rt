@@ -8,8 +8,8 @@ ghost use Rattle.tt_cert.specs.Checks.{IsOutOfMemory, Names};
 ghost use Rattle.tt_font.specs.FileFaults.{font_fault};
 ghost use Rattle.tt_font.specs.Reading.{FontData, Reads};
 ghost use Rattle.tt_stream.specs.Reads.{ConsumesBeginning};
-ghost use Rattle.hintcheck.specs.Bounds.{IsNoFaultOfAFont, TellsBudgetOfCheck, TestsInCheckWithin};
-ghost use Rattle.hintcheck.specs.CertificateFaults.{CountsCheck, IsNoFontFault, TestsInCheck};
+ghost use Rattle.hintcheck.specs.BudgetAnswers.{CheckTellsBudget, CheckWithinTellsFontFault, IsCheckFaultOutsideFont};
+ghost use Rattle.hintcheck.specs.CertificateFaults.{CheckTellsFontFault, CountsCheck, IsCheckFaultOutsideFontAndBudget};
 ghost use Rattle.hintcheck.specs.Certificates.{IsChecked, IsListingBrokenFirst, PassesToEnd};
 ghost use Rattle.hintcheck.specs.CheckedFonts.{AnswersFinding, Finds, HasGoodFamilies, IsGoodAtEnd, IsPassed, IsRefusedBy, IsTold, bytes_in};
 ghost use Rattle.hintcheck.specs.FailedReads.{HasRead, IsCutHeader, IsUnbroken, IsUnbrokenFor};
@@ -105,7 +105,7 @@ pub(crate) fn read_start<S: Source>(
     ensures stopped { IfErr result
         (HasRead (S.remaining source.old) (S.remaining source.new) IsCutHeader) }
     ensures failures { CountsCheck result (S.failures source.old) (S.failures source.new) }
-    ensures font { IfErr result IsNoFontFault }
+    ensures font { IfErr result IsCheckFaultOutsideFontAndBudget }
 {
     let (form, sections) = read_header(source)?;
     if sections != u32::from(font.glyph_count()) + 2 {
@@ -275,7 +275,7 @@ fn check_programs<S: Source>(
     ensures whole_units { IfErr result
         (HasRead (S.remaining source.old) (S.remaining source.new) (IsUnbroken font.now)) }
     ensures failures { CountsCheck result (S.failures source.old) (S.failures source.new) }
-    ensures font { IfErr result IsNoFontFault }
+    ensures font { IfErr result IsCheckFaultOutsideFontAndBudget }
     ensures spends { Spends budget.old budget.new }
 {
     let mut session = Session::new(font);
@@ -303,7 +303,7 @@ pub(crate) fn check_read_font<S: Source>(
     ensures whole_units { IfErr result
         (HasRead (S.remaining source.old) (S.remaining source.new) (IsUnbroken font.now)) }
     ensures failures { CountsCheck result (S.failures source.old) (S.failures source.new) }
-    ensures font { IfErr result IsNoFontFault }
+    ensures font { IfErr result IsCheckFaultOutsideFontAndBudget }
     ensures spends { Spends budget.old budget.new }
 {
     let refused = check_programs(alloc, font, source, budget)?;
@@ -327,9 +327,9 @@ pub(crate) fn check_read_font_within<S: Source>(
     ensures whole_units { IfErr result
         (HasRead (S.remaining source.old) (S.remaining source.new) (IsUnbroken font.now)) }
     ensures failures { CountsCheck result (S.failures source.old) (S.failures source.new) }
-    ensures font { IfErr result IsNoFaultOfAFont }
+    ensures font { IfErr result IsCheckFaultOutsideFont }
     ensures spends { Spends budget.old budget.new }
-    ensures budget { TellsBudgetOfCheck budget.new result }
+    ensures budget { CheckTellsBudget budget.new result }
 {
     let checked = check_read_font(alloc, font, source, budget);
     match checked {
@@ -378,17 +378,19 @@ pub fn check_font<S: Source>(
     ensures failures { CountsCheck result (S.failures source.old) (S.failures source.new) }
     // A fault of the font is the first one of its bytes, unless memory ran out; any other answer
     // means that they have none.
-    ensures faults { TestsInCheck (font_fault font.now) result }
+    ensures faults { CheckTellsFontFault (font_fault font.now) result }
 {
     let read = read_font(alloc, font)?;
     check_read_font(alloc, &read, source, &mut Budget::unlimited())
 }
 
 /// Returns the verdict on the programs of a font file by its certificate, as `check_font` does, and
-/// makes at most as many points as the budget allows: each state that is carried on is one.
+/// makes at most as many points as the budget allows: one point is made each time that a state is
+/// carried on.
 ///
 /// # Errors
-/// As `check_font`; `Budget` exactly where more points were to be made.
+/// As `check_font`; `Budget` where more points were to be made than the budget allows, in this call
+/// or in an earlier one, unless a fault of the font or of form, or a failed read, comes first.
 pub fn check_font_within<S: Source>(
     alloc: Global,
     font: &[u8],
@@ -409,11 +411,11 @@ pub fn check_font_within<S: Source>(
     ensures whole_units { IfErr result
         (HasRead (S.remaining source.old) (S.remaining source.new) (IsUnbrokenFor font.now)) }
     ensures failures { CountsCheck result (S.failures source.old) (S.failures source.new) }
-    ensures faults { TestsInCheckWithin (font_fault font.now) result }
-    // What it costs: at most as many points as the budget has left, which is met exactly where the
-    // answer says so.
+    ensures faults { CheckWithinTellsFontFault (font_fault font.now) result }
+    // What it costs: at most as many points as the budget has left. A verdict or out of memory
+    // comes only where that was enough, `Budget` only where it wasn't.
     ensures spends { Spends budget.old budget.new }
-    ensures budget { TellsBudgetOfCheck budget.new result }
+    ensures budget { CheckTellsBudget budget.new result }
 {
     let read = read_font(alloc, font)?;
     check_read_font_within(alloc, &read, source, budget)

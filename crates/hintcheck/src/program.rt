@@ -16,7 +16,7 @@ ghost use Rattle.tt_find.specs.Found.{AreLeastContexts, HasLeastFilling, IsJusti
 ghost use Rattle.hintcheck.specs.CheckedFonts.{IsRefusedBy};
 ghost use Rattle.hintcheck.specs.FindingSessions.{IsFoundFor};
 ghost use Rattle.hintcheck.specs.Programs.{IsCutInto, Subject, program_at as program_at_spot};
-ghost use Rattle.hintcheck.specs.ProgramVerdicts.{IsAccepted, IsFaultOfProgram, IsFilledIn, IsForCertificate, IsListed, IsSubjectOf, NoneIsGoodFor, reported_at};
+ghost use Rattle.hintcheck.specs.ProgramVerdicts.{IsAccepted, IsAppendedRefusal, IsFaultOfProgram, IsFilledIn, IsForCertificate, IsSubjectOf, NoneIsGoodFor, reported_at};
 
 use crate::report::{Name, Place, Refused};
 use std::alloc::{AllocError, Global};
@@ -59,7 +59,7 @@ pub(crate) fn list_refused(
     name: Name,
     fault: ProgramFault,
 ) -> Result<(), AllocError>
-    ensures { OnOk result (IsListed name fault refused.old.items refused.new.items) }
+    ensures { OnOk result (IsAppendedRefusal name fault refused.old.items refused.new.items) }
 {
     match fault {
         ProgramFault::Refused {

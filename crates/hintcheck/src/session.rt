@@ -5,8 +5,8 @@ ghost use Rattle.std.specs.Prelude.{◌≡◌, ◌≢◌, ◌+◌, ◌<◌, ◌�
 ghost use Rattle.tt_abs.specs.Entries.{Ascends};
 ghost use Rattle.tt_cert.specs.Budgets.{Spends};
 ghost use Rattle.tt_stream.specs.Reads.{ConsumesBeginning};
-ghost use Rattle.hintcheck.specs.Bounds.{IsNoFaultOfAFont, TellsBudgetOfCheck, TellsBudgetOfSearch};
-ghost use Rattle.hintcheck.specs.CertificateFaults.{CountsCheck, IsNoFontFault};
+ghost use Rattle.hintcheck.specs.BudgetAnswers.{CheckTellsBudget, FindNextTellsBudget, IsCheckFaultOutsideFont};
+ghost use Rattle.hintcheck.specs.CertificateFaults.{CountsCheck, IsCheckFaultOutsideFontAndBudget};
 ghost use Rattle.hintcheck.specs.CheckedFonts.{Finds, IsTold};
 ghost use Rattle.hintcheck.specs.FailedReads.{EndsInCall, HasRead};
 ghost use Rattle.hintcheck.specs.FindingSessions.{IsForFinding, IsFoundAnswer, KeepsFault, found_fault, out_of_memory, out_of_memory_here};
@@ -55,9 +55,9 @@ enum SessionFault {
 }
 
 impl SessionFault {
-    /// Returns the fault of a call, which isn't the font's.
+    /// Returns the fault of a call, which is neither the font's nor a budget's.
     fn of(fault: &CheckFontFault) -> Self
-        requires { IsNoFontFault fault.now }
+        requires { IsCheckFaultOutsideFontAndBudget fault.now }
         ensures { fault_of result ≡ fault.now }
     {
         match fault {
@@ -157,7 +157,7 @@ fn refused(program: Name, fault: ProgramFault) -> Result<Outcome, CheckFontFault
 }
 
 /// Returns the font program's outcome, by the next section.
-fn check_first<'a, S: Source>(
+fn check_font_stage<'a, S: Source>(
     alloc: Global,
     decoder: &mut Decoder,
     font: &Font<'a>,
@@ -174,7 +174,7 @@ fn check_first<'a, S: Source>(
     ensures stopped { IfErr result (StopsInSection font.now at_start
         progress.old (S.remaining source.old) (S.remaining source.new)) }
     ensures failures { CountsCheck result (S.failures source.old) (S.failures source.new) }
-    ensures font { IfErr result IsNoFontFault }
+    ensures font { IfErr result IsCheckFaultOutsideFontAndBudget }
     ensures spends { Spends budget.old budget.new }
 {
     let certificate = next_section(alloc, decoder, source, progress, Name::Font)?;
@@ -194,7 +194,7 @@ fn check_first<'a, S: Source>(
 }
 
 /// Returns the CVT program's outcome, by the next section.
-fn check_second<'a, S: Source>(
+fn check_cvt_stage<'a, S: Source>(
     alloc: Global,
     decoder: &mut Decoder,
     font: &Font<'a>,
@@ -213,7 +213,7 @@ fn check_second<'a, S: Source>(
     ensures stopped { IfErr result (StopsInSection font.now (after_font_program fpgm.entry)
         progress.old (S.remaining source.old) (S.remaining source.new)) }
     ensures failures { CountsCheck result (S.failures source.old) (S.failures source.new) }
-    ensures font { IfErr result IsNoFontFault }
+    ensures font { IfErr result IsCheckFaultOutsideFontAndBudget }
     ensures spends { Spends budget.old budget.new }
 {
     let certificate = next_section(alloc, decoder, source, progress, Name::Cvt)?;
@@ -255,7 +255,7 @@ fn check_glyph<S: Source>(
     ensures stopped { IfErr result (StopsInSection font.now (at_glyph_program fpgm.now prep.now id)
         progress.old (S.remaining source.old) (S.remaining source.new)) }
     ensures failures { CountsCheck result (S.failures source.old) (S.failures source.new) }
-    ensures font { IfErr result IsNoFontFault }
+    ensures font { IfErr result IsCheckFaultOutsideFontAndBudget }
     ensures spends { Spends budget.old budget.new }
 {
     let certificate = next_section(alloc, decoder, source, progress, Name::Glyph(id))?;
@@ -273,7 +273,7 @@ fn check_glyph<S: Source>(
 }
 
 /// Returns the next glyph program's outcome, or that no section follows that of the last one.
-fn check_third<'a, S: Source>(
+fn check_glyph_stage<'a, S: Source>(
     alloc: Global,
     decoder: &mut Decoder,
     font: &Font<'a>,
@@ -295,7 +295,7 @@ fn check_third<'a, S: Source>(
         (at_glyph_program fpgm.entry prep.entry id)
         progress.old (S.remaining source.old) (S.remaining source.new)) }
     ensures failures { CountsCheck result (S.failures source.old) (S.failures source.new) }
-    ensures font { IfErr result IsNoFontFault }
+    ensures font { IfErr result IsCheckFaultOutsideFontAndBudget }
     ensures spends { Spends budget.old budget.new }
 {
     if id == font.glyph_count() {
@@ -334,16 +334,16 @@ fn check_on<'a, S: Source>(
     ensures stopped { IfErr result (StopsInSection font.now (stage_of kept.entry)
         progress.old (S.remaining source.old) (S.remaining source.new)) }
     ensures failures { CountsCheck result (S.failures source.old) (S.failures source.new) }
-    ensures font { IfErr result IsNoFontFault }
+    ensures font { IfErr result IsCheckFaultOutsideFontAndBudget }
     ensures spends { Spends budget.old budget.new }
 {
     match kept {
-        Kept::Start => check_first(alloc, decoder, font, source, progress, budget),
+        Kept::Start => check_font_stage(alloc, decoder, font, source, progress, budget),
         Kept::AfterFont(fpgm) => {
-            check_second(alloc, decoder, font, fpgm, source, progress, budget)
+            check_cvt_stage(alloc, decoder, font, fpgm, source, progress, budget)
         }
         Kept::Glyphs(fpgm, prep, id) => {
-            check_third(
+            check_glyph_stage(
                 alloc, decoder, font, fpgm, prep, id, source, progress, budget,
             )
         }
@@ -371,7 +371,7 @@ fn progress_of<S: Source>(
         (HasRead (S.remaining source.old) (S.remaining source.new)
         (EndsInCall (standing_at font.now stage (read_of known)))) }
     ensures failures { CountsCheck result (S.failures source.old) (S.failures source.new) }
-    ensures font { IfErr result IsNoFontFault }
+    ensures font { IfErr result IsCheckFaultOutsideFontAndBudget }
 {
     match known {
         Some(progress) => Ok(progress),
@@ -407,7 +407,7 @@ fn check_from<'a, S: Source>(
     ensures stopped { IfErr result (HasRead (S.remaining source.old) (S.remaining source.new)
         (EndsInCall (standing_of font.now kept.old read.old))) }
     ensures failures { CountsCheck result (S.failures source.old) (S.failures source.new) }
-    ensures font { IfErr result IsNoFontFault }
+    ensures font { IfErr result IsCheckFaultOutsideFontAndBudget }
     ensures spends { Spends budget.old budget.new }
 {
     let mut progress = progress_of(font, *read, source)?;
@@ -503,7 +503,8 @@ impl<'a> Session<'a> {
             (HasRead (S.remaining source.old) (S.remaining source.new) (EndsInCall self.old)) }
         ensures failures { self.old.fault ≡ None
             → CountsCheck result (S.failures source.old) (S.failures source.new) }
-        ensures no_font_fault { self.old.fault ≡ None → IfErr result IsNoFontFault }
+        ensures no_font_fault { self.old.fault ≡ None
+            → IfErr result IsCheckFaultOutsideFontAndBudget }
     {
         self.check_next_spending(alloc, source, &mut Budget::unlimited())
     }
@@ -541,7 +542,8 @@ impl<'a> Session<'a> {
             (HasRead (S.remaining source.old) (S.remaining source.new) (EndsInCall self.old)) }
         ensures failures { self.old.fault ≡ None
             → CountsCheck result (S.failures source.old) (S.failures source.new) }
-        ensures no_font_fault { self.old.fault ≡ None → IfErr result IsNoFontFault }
+        ensures no_font_fault { self.old.fault ≡ None
+            → IfErr result IsCheckFaultOutsideFontAndBudget }
         ensures spends { Spends budget.old budget.new }
     {
         if let Some(fault) = self.fault {
@@ -566,11 +568,13 @@ impl<'a> Session<'a> {
     }
 
     /// Checks the next program as `check_next` does, and makes at most as many points as the budget
-    /// allows: each state that is carried on is one. The next call may have another budget.
+    /// allows: one point is made each time that a state is carried on. The next call may have
+    /// another budget.
     ///
     /// # Errors
-    /// As `check_next`; `Budget` exactly where more points were to be made. After a fault each call
-    /// returns it, and reads nothing.
+    /// As `check_next`; `Budget` where more points were to be made than the budget allows, in this
+    /// call or in an earlier one, unless a fault of form or a failed read comes first, or no
+    /// program is left. After a fault each call returns it, and reads nothing.
     pub fn check_next_within<S: Source>(
         &mut self,
         alloc: Global,
@@ -602,10 +606,10 @@ impl<'a> Session<'a> {
             (HasRead (S.remaining source.old) (S.remaining source.new) (EndsInCall self.old)) }
         ensures failures { self.old.fault ≡ None
             → CountsCheck result (S.failures source.old) (S.failures source.new) }
-        ensures no_font_fault { self.old.fault ≡ None → IfErr result IsNoFaultOfAFont }
+        ensures no_font_fault { self.old.fault ≡ None → IfErr result IsCheckFaultOutsideFont }
         ensures spends { Spends budget.old budget.new }
         ensures budget { self.old.fault ≡ None → self.old.stage ≢ over
-            → TellsBudgetOfCheck budget.new result }
+            → CheckTellsBudget budget.new result }
     {
         if let Some(fault) = self.fault {
             return Err(fault.reported());
@@ -663,10 +667,10 @@ impl<'a> Session<'a> {
         Ok(answer?)
     }
 
-    /// Finds the next program in a finder's memory, and checks it: returns its outcome, and where
-    /// it is accepted, what is found for it, whose memory `Finder::take_back` gives back. After the
-    /// last program, or after a refused font program or CVT program, there is none. A session on
-    /// which this is called is used for no other calls.
+    /// Finds the next program's family in a finder's memory, and checks it: returns the program's
+    /// outcome, and where it is accepted, what is found for it, whose memory `Finder::take_back`
+    /// gives back. After the last program, or after a refused font program or CVT program, there is
+    /// none. A session on which this is called is used for no other calls.
     ///
     /// # Errors
     /// `OutOfMemory`. After a fault each call returns it.
@@ -693,13 +697,13 @@ impl<'a> Session<'a> {
         self.search_next(alloc, finder, Search::Certificate, &mut Budget::unlimited())
     }
 
-    /// Finds the next program as `find_next` does, and makes at most as many points as the budget
-    /// allows: each state that is carried on, to find a family or to check it, is one. The next
-    /// call may have another budget.
+    /// Finds the next program's family as `find_next` does, and makes at most as many points as the
+    /// budget allows: one point is made each time that a state is carried on, to find a family or
+    /// to check it. The next call may have another budget.
     ///
     /// # Errors
-    /// `OutOfMemory`; `Budget` exactly where more points were to be made. After a fault each call
-    /// returns it.
+    /// `OutOfMemory`; `Budget` where more points were to be made than the budget allows, in this
+    /// call or in an earlier one, unless no program is left. After a fault each call returns it.
     pub fn find_next_within(
         &mut self,
         alloc: Global,
@@ -721,7 +725,7 @@ impl<'a> Session<'a> {
         ensures finding { IsForFinding self.new }
         ensures spends { Spends budget.old budget.new }
         ensures budget { self.old.fault ≡ None → self.old.stage ≢ over
-            → TellsBudgetOfSearch budget.new result }
+            → FindNextTellsBudget budget.new result }
     {
         if let Some(fault) = self.fault {
             return Err(fault.found());

@@ -23,8 +23,8 @@ abbrev pub status_of : List Refused → ℕ
 status_of [] = 0
 status_of (r ∷ rs) = 1
 
--- a verdict in numbers, with room for so many refusals, for which so many points were made; 32 bits
--- tell how many programs are refused
+-- a verdict in numbers, with room for this many refusals, for which this many points were made; 32
+-- bits tell how many programs are refused
 abbrev pub verdict_answer : Judgement → ℕ → ℕ → HintcheckAnswer
 verdict_answer judgement room points = record {
   status = status_of judgement.refused;
@@ -95,18 +95,20 @@ pub record AnswersCheck (bytes certificate : List ℕ) (answer : HintcheckAnswer
 abbrev pub IsFaultOfFont : List ℕ → FontFault → Type 0
 IsFaultOfFont bytes fault = fault ≢ font.OutOfMemory alloc_error → font_fault bytes ≡ Some fault
 
--- a fault of the font is the first one of the bytes; that the budget is exceeded is told by the points
+-- a fault of the font is the first one of the bytes; that the budget is exceeded is told by the
+-- points
 abbrev pub IsFaultOfVerdict : List ℕ → VerdictFault → Type 0
 IsFaultOfVerdict bytes (judging.Font fault) = IsFaultOfFont bytes fault
 IsFaultOfVerdict bytes judging.Budget = Unit {0}
 
--- The fault is the font's, or the certificate breaks the rules of its form at this place; a failed
--- read and out of memory are unspecified, and that the budget is exceeded is told by the points.
+-- The fault is the font's, or the certificate breaks the rules of its form at this place; no read
+-- of bytes in memory fails. Out of memory is unspecified, and that the budget is exceeded is told
+-- by the points.
 abbrev pub IsFaultOfCheck : List ℕ → List ℕ → CheckFontFault → Type 0
 IsFaultOfCheck bytes certificate (check.Font fault) = IsFaultOfFont bytes fault
 IsFaultOfCheck bytes certificate (check.Form place) =
     (d : FontData) × Reads bytes d × IsChecked d certificate (Err place)
-IsFaultOfCheck bytes certificate check.Read = Unit {0}
+IsFaultOfCheck bytes certificate check.Read = ⊥
 IsFaultOfCheck bytes certificate (check.OutOfMemory error) = Unit {0}
 IsFaultOfCheck bytes certificate check.Budget = Unit {0}
 

@@ -44,7 +44,7 @@ pub struct HintcheckAnswer {
     pub fault: u32,
     /// Where the certificate is at fault, in bytes; 0 at any other fault.
     pub place: u64,
-    /// How many points were made: states that were carried on.
+    /// How many points were made: one point is made each time that a state is carried on.
     pub points: u64,
     /// How many programs there are; 0 at a fault.
     pub programs: u32,
@@ -69,7 +69,7 @@ fn fault_answer(status: u32, fault: u32, place: u64, points: u64) -> HintcheckAn
     }
 }
 
-/// Returns the answer that a verdict is, for which so many points were made, and lists its first
+/// Returns the answer that a verdict is, for which this many points were made, and lists its first
 /// refusals.
 pub(crate) fn answer_verdict(
     verdict: &Verdict,
@@ -96,7 +96,7 @@ pub(crate) fn answer_verdict(
     }
 }
 
-/// Returns the answer that a fault of a font is, after so many points.
+/// Returns the answer that a fault of a font is, after this many points.
 fn fault_of_font(fault: &FontFault, points: u64) -> HintcheckAnswer
     ensures { result ≡ font_answer fault.now points }
 {
@@ -106,7 +106,7 @@ fn fault_of_font(fault: &FontFault, points: u64) -> HintcheckAnswer
     }
 }
 
-/// Returns the answer that a fault of a verdict is, after so many points.
+/// Returns the answer that a fault of a verdict is, after this many points.
 pub(crate) fn fault_of_verdict(fault: &VerdictFault, points: u64) -> HintcheckAnswer
     ensures { result ≡ judging_answer fault.now points }
 {
@@ -116,7 +116,7 @@ pub(crate) fn fault_of_verdict(fault: &VerdictFault, points: u64) -> HintcheckAn
     }
 }
 
-/// Returns the answer that a fault of a check is, after so many points.
+/// Returns the answer that a fault of a check is, after this many points.
 pub(crate) fn fault_of_check(fault: &CheckFontFault, points: u64) -> HintcheckAnswer
     ensures { result ≡ check_answer fault.now points }
 {

@@ -18,9 +18,7 @@ use answer::{answer_verdict, fault_of_check, fault_of_verdict};
 use hintcheck::{Budget, CheckFontFault, Verdict, check_font_within, verdict_within};
 pub use refusal::HintcheckRefusal;
 use std::alloc::Global;
-use std::marker::Brand;
-use std::sync::ledger::{Blank, Ledger};
-use tt_stream::{Buffered, Counted};
+use tt_stream::Bytes;
 
 /// The version, a byte each for its three numbers.
 const VERSION: u32 = 0x0000_0900;
@@ -34,8 +32,8 @@ pub extern "C" fn hintcheck_version() -> u32
 }
 
 /// Answers the verdict on the programs of the font in these bytes, and returns its status. At most
-/// so many points are made: states that are carried on. The first refusals are listed, as many as
-/// there is room for.
+/// this many points are made: one point is made each time that a state is carried on. The first
+/// refusals are listed, as many as there is room for.
 #[unsafe(no_mangle)]
 pub extern "C" fn hintcheck_verdict_of_bytes(
     alloc: Global,
@@ -72,32 +70,27 @@ pub extern "C" fn hintcheck_verdict_of_bytes(
 
 /// Returns the verdict on the programs of a font by the certificate in these bytes, and makes at
 /// most as many points as the budget allows.
-fn check_bytes<L: Ledger>(
+fn check_bytes(
     alloc: Global,
     font: &[u8],
     certificate: &[u8],
     budget: &mut Budget,
-    blank: Blank,
 ) -> Result<Verdict, CheckFontFault>
-    requires { (blank.name ≡ L.name) × (blank.parts ≡ L.parts) × (0 < blank.parts) }
     ensures safe { IfOk result (λ v. (d : FontData) × Reads font.now d
         × (v.refused ≡ [] → IsSafeFont d)) }
     ensures exact { IfOk result (λ v. (d : FontData) × Reads font.now d
         × AnswersFinding d certificate.now v) }
     ensures fault { IfErr result (IsFaultOfCheck font.now certificate.now) }
     ensures spends { Spends budget.old budget.new }
-    ensures exceeded { IfErr result (λ fault. fault ≡ CheckFontFault.Budget → IsExceeded budget.new) }
+    ensures exceeded { IfErr result
+        (λ fault. fault ≡ CheckFontFault.Budget → IsExceeded budget.new) }
 {
-    let source = Counted::<&[u8], L>::new(certificate, blank);
-    match Buffered::new(alloc, source) {
-        Ok(mut source) => check_font_within(alloc, font, &mut source, budget),
-        Err(error) => Err(CheckFontFault::OutOfMemory(error)),
-    }
+    check_font_within(alloc, font, &mut Bytes::new(certificate), budget)
 }
 
 /// Answers the verdict on the programs of the font in these bytes by the certificate in the others,
-/// and returns its status. At most so many points are made. The first refusals are listed, as many
-/// as there is room for.
+/// and returns its status. At most this many points are made. The first refusals are listed, as
+/// many as there is room for.
 #[unsafe(no_mangle)]
 pub extern "C" fn hintcheck_check_of_bytes(
     alloc: Global,
@@ -125,7 +118,7 @@ pub extern "C" fn hintcheck_check_of_bytes(
     ensures listed { answer.new.listed ≤ length refusals.old }
 {
     let mut budget = Budget::of(points);
-    *answer = match check_bytes::<Brand>(alloc, font, certificate, &mut budget, Blank::new(1)) {
+    *answer = match check_bytes(alloc, font, certificate, &mut budget) {
         Ok(verdict) => answer_verdict(&verdict, refusals, budget.made()),
         Err(fault) => fault_of_check(&fault, budget.made()),
     };

@@ -95,7 +95,8 @@ const BEGINNING: Arrival = Arrival {
     depth: 0,
 };
 
-/// Returns a way that brings a stack to a point that is so deep, or one that doesn't.
+/// Returns a way that brings a stack of this depth to a point, or where `same` is false, of
+/// another.
 fn way_with(
     subject: &Subject<'_>,
     edges: &[Edge],
@@ -114,8 +115,7 @@ fn way_with(
     None
 }
 
-/// Returns the trouble of a point, which has a stack so deep, to which some way brings one of
-/// another depth.
+/// Returns the trouble of a point with this depth, to which a way brings another.
 pub(crate) fn depths_at(
     subject: &Subject<'_>,
     edges: &[Edge],

@@ -15,7 +15,7 @@ pub(crate) fn body_of(functions: &[(u16, u32)], number: i32) -> Option<u32> {
     None
 }
 
-/// Tests a jump by the number under so many others.
+/// Tests a jump by the number under this many others.
 fn test_jump(
     setting: &Setting<'_>,
     point: &Point<'_>,

@@ -6,7 +6,7 @@ use std::fmt;
 use tt_abs::Setting;
 use tt_code::{Limits, Reason};
 
-/// So many numbers of the stack.
+/// How many numbers of the stack there are, as it is printed.
 #[derive(Clone, Copy)]
 pub(crate) struct Numbers(pub usize);
 

@@ -8,7 +8,7 @@ use tt_abs::{Point, Setting, State};
 use tt_code::kinds::{Arithmetic, Effect, Row, StackOp};
 use tt_code::{Instr, entry};
 
-/// How many cells an instruction takes and pushes.
+/// How many cells an instruction takes from the stack, and how many it pushes onto it.
 #[derive(Clone, Copy)]
 pub(crate) struct Exchange {
     pub takes: usize,
@@ -57,7 +57,7 @@ fn test_plain(setting: &Setting<'_>, state: &State, row: &Row) -> Result<(), Tro
     test_uses(setting, state, row)
 }
 
-/// Tests that so many cells are there.
+/// Tests that this many cells are there.
 fn test_depth(state: &State, takes: usize) -> Result<(), Trouble> {
     let depth = state.depth();
     if takes <= depth {

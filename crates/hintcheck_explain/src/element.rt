@@ -4,10 +4,11 @@ use std::fmt;
 use tt_abs::{Cell, State};
 use tt_code::kinds::Reference;
 
-/// Where a number is kept.
+/// Where a number is kept that a test of an instruction reads: on the stack, in the graphics state
+/// or in the storage area.
 #[derive(Clone, Copy, PartialEq, Eq)]
 pub(crate) enum Element {
-    /// On the stack, above so many others.
+    /// On the stack, above this many others.
     Stack(usize),
     /// In a reference point.
     Rp0,

@@ -54,9 +54,9 @@ impl fmt::Display for GraphicsText<'_> {
         let zp0 = zone_name(self.0.zone(Pointer::Zp0));
         let zp1 = zone_name(self.0.zone(Pointer::Zp1));
         let zp2 = zone_name(self.0.zone(Pointer::Zp2));
-        let turns = Shown(self.0.loop_cell());
+        let loop_number = Shown(self.0.loop_cell());
         write!(f, "rp0 {rp0}, rp1 {rp1}, rp2 {rp2}; ")?;
-        write!(f, "zp0 {zp0}, zp1 {zp1}, zp2 {zp2}; loop {turns}")
+        write!(f, "zp0 {zp0}, zp1 {zp1}, zp2 {zp2}; loop {loop_number}")
     }
 }
 

@@ -54,7 +54,7 @@ struct Recent {
 }
 
 /// Returns the offset of the instruction with which a list around an offset begins: four before,
-/// if there are so many.
+/// if there are that many.
 fn start_around(code: Code<'_>, offset: u32) -> u32 {
     let mut recent = Recent {
         first: 0,

@@ -19,14 +19,16 @@ struct Traced {
     element: Element,
 }
 
-/// What one way brings.
+/// What one way to a point brings of a number: from where the way comes, and what is known of it
+/// then.
 #[derive(Clone, Copy)]
 pub(crate) struct Brought {
     pub from: PointKey,
     pub cell: Cell,
 }
 
-/// Where a number comes from that isn't known.
+/// Where a number comes from that isn't known at a point: from the instruction that makes it, from
+/// ways that meet with different numbers, or from the program's start.
 #[derive(Clone, Copy)]
 pub(crate) enum Origin {
     /// The instruction at this point makes it.
@@ -52,7 +54,8 @@ struct Trace {
     mixed: Origin,
 }
 
-/// What the ways to a point bring.
+/// What the ways to a point bring of a number, as far as they were looked at: a known one, and one
+/// that isn't.
 #[derive(Clone, Copy)]
 struct Meeting {
     known: Option<Brought>,

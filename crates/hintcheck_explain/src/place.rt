@@ -18,7 +18,7 @@ impl fmt::Display for Place {
     }
 }
 
-/// Returns the program in which a place is that is reached from a program of this name.
+/// Returns the program that holds a place, seen from the program of this name.
 pub(crate) fn program_at(name: Name, spot: Spot) -> Name {
     match spot {
         Spot::Main => name,

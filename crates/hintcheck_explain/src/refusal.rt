@@ -16,7 +16,7 @@ use crate::meaning::{advice_of, class_of, class_text};
 use crate::origin::origin_of;
 use crate::origin_text::OriginText;
 use crate::place::{Place, program_at};
-use crate::route::{Route, turns_to};
+use crate::route::{Route, branches_to};
 use crate::stepping::{Outcome, outcome_at};
 use crate::subject::Subject;
 use crate::trouble::Trouble;
@@ -181,10 +181,10 @@ fn tell_route<O: Sink>(
     ensures failures { TellsFailure result (O.failures out.old) (O.failures out.new) }
     ensures other { result ≢ Err ExplainFault.NoInstruction }
 {
-    let turns = turns_to(alloc, subject, edges, point)?;
+    let branches = branches_to(alloc, subject, edges, point)?;
     let route = Route {
         subject: &*subject,
-        turns: turns.as_slice(),
+        branches: branches.as_slice(),
         point,
     };
     writeln!(out, "{route}")?;

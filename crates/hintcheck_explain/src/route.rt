@@ -7,8 +7,8 @@ use std::collections::BTreeMap;
 use std::fmt;
 use tt_cert::PointKey;
 
-/// How many turns of a way are printed.
-const SHOWN_TURNS: usize = 12;
+/// How many branches of a way are printed.
+const SHOWN_BRANCHES: usize = 12;
 
 /// Returns the index of the first way that leads from a point, or from one after it: the ways
 /// ascend by the points from which they lead.
@@ -66,86 +66,89 @@ fn reached_points(
     Ok(reached)
 }
 
-/// A step of a way.
+/// A step of a way, from one point to the next one, which is noted where it is a branch.
 #[derive(Clone, Copy)]
-pub(crate) struct Turn {
+pub(crate) struct Branch {
     from: PointKey,
     to: PointKey,
 }
 
-/// Whether a step does more than to go on to the next instruction, or might have led elsewhere.
-fn is_turn(subject: &Subject<'_>, edges: &[Edge], turn: Turn) -> bool {
-    let Some(instruction) = subject.instruction_at(turn.from) else {
+/// Whether a step does more than go on to the next instruction, or might have led elsewhere.
+fn is_branch(subject: &Subject<'_>, edges: &[Edge], branch: Branch) -> bool {
+    let Some(instruction) = subject.instruction_at(branch.from) else {
         return true;
     };
-    let next = turn.from.1.saturating_add(instruction.len());
-    if turn.from.0 != turn.to.0 || turn.to.1 != next {
+    let next = branch.from.1.saturating_add(instruction.len());
+    if branch.from.0 != branch.to.0 || branch.to.1 != next {
         return true;
     }
-    let second = first_from(edges, turn.from).saturating_add(1);
+    let second = first_from(edges, branch.from).saturating_add(1);
     match edges.get(second) {
-        Some(edge) => edge.from == turn.from,
+        Some(edge) => edge.from == branch.from,
         None => false,
     }
 }
 
-/// Returns the turns of one way from the program's start to a point.
+/// Returns the branches of one way from the program's start to a point.
 ///
 /// # Errors
 /// If memory runs out.
-pub(crate) fn turns_to(
+pub(crate) fn branches_to(
     alloc: Global,
     subject: &Subject<'_>,
     edges: &[Edge],
     point: PointKey,
-) -> Result<Vec<Turn>, AllocError> {
+) -> Result<Vec<Branch>, AllocError> {
     let reached = reached_points(alloc, edges)?;
-    let mut turns = Vec::new(alloc);
+    let mut branches = Vec::new(alloc);
     let mut to = point;
     for _ in 0..edges.len() {
         let Some(from) = reached.get(&to) else {
             break;
         };
-        let turn = Turn { from: *from, to };
-        if is_turn(subject, edges, turn) {
-            turns.push(turn)?;
+        let branch = Branch { from: *from, to };
+        if is_branch(subject, edges, branch) {
+            branches.push(branch)?;
         }
         to = *from;
     }
-    turns.reverse();
-    Ok(turns)
+    branches.reverse();
+    Ok(branches)
 }
 
-/// One way to a place, by its turns.
+/// One way to a place, by its branches.
 #[derive(Clone, Copy)]
 pub(crate) struct Route<'a, 'b> {
     pub subject: &'a Subject<'b>,
-    /// The turns, the first one first.
-    pub turns: &'a [Turn],
+    /// The branches, the first one first.
+    pub branches: &'a [Branch],
     pub point: PointKey,
 }
 
 impl fmt::Display for Route<'_, '_> {
     fn fmt<W: fmt::Write>(&self, f: &mut fmt::Formatter<W>) -> fmt::Result {
         let place = self.subject.place(self.point);
-        if self.turns.is_empty() {
+        if self.branches.is_empty() {
             return write!(
                 f,
-                "From its start the program goes on to {place} without a turn."
+                "From its start the program goes on to {place} without a branch."
             );
         }
-        write!(f, "One way from the program's start to {place} turns so:")?;
-        let before = self.turns.len().saturating_sub(SHOWN_TURNS);
+        write!(
+            f,
+            "One way from the program's start to {place} branches so:"
+        )?;
+        let before = self.branches.len().saturating_sub(SHOWN_BRANCHES);
         if before > 0 {
-            write!(f, "\n    {before} turns before")?;
+            write!(f, "\n    {before} branches before")?;
         }
-        for index in 0..SHOWN_TURNS {
-            let Some(turn) = self.turns.get(before.saturating_add(index)) else {
+        for index in 0..SHOWN_BRANCHES {
+            let Some(branch) = self.branches.get(before.saturating_add(index)) else {
                 break;
             };
-            let from = self.subject.place(turn.from);
-            let name = self.subject.name_at(turn.from);
-            let to = self.subject.place(turn.to);
+            let from = self.subject.place(branch.from);
+            let name = self.subject.name_at(branch.from);
+            let to = self.subject.place(branch.to);
             write!(f, "\n    {from} {name} leads to {to}")?;
         }
         Ok(())

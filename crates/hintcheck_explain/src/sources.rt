@@ -16,7 +16,7 @@ pub(crate) enum Source {
     Made,
 }
 
-/// Returns where the number on the stack was kept that is under so many others.
+/// Returns where the number on the stack was kept that is under this many others.
 fn under(depth: usize, taken: usize) -> Source {
     match place_under(depth, taken) {
         Some(place) => Source::Kept(Element::Stack(place)),
@@ -35,7 +35,7 @@ fn top_index(state: &State) -> usize {
     }
 }
 
-/// Returns where a number was kept that is so many from the top after a stack instruction.
+/// Returns where a number was kept that is under this many others after a stack instruction.
 fn source_of_shuffled(state: &State, operation: StackOp, taken: usize, place: usize) -> Source {
     let depth = state.depth();
     match (operation, taken) {
@@ -65,7 +65,7 @@ fn source_of_result(state: &State, operation: Arithmetic) -> Source {
     }
 }
 
-/// Whether the number under so many others is known.
+/// Whether the number under this many others is known.
 fn is_known_under(state: &State, taken: usize) -> bool {
     match place_under(state.depth(), taken) {
         Some(place) => match state.cell(place) {
@@ -76,7 +76,7 @@ fn is_known_under(state: &State, taken: usize) -> bool {
     }
 }
 
-/// Returns the number under so many others as the index of a storage cell.
+/// Returns the number under this many others as the index of a storage cell.
 fn storage_index(state: &State, taken: usize) -> Option<u16> {
     match state.cell(place_under(state.depth(), taken)?)? {
         Cell::Known(number) => u16::try_from(number).ok(),
@@ -95,7 +95,7 @@ fn source_of_pushed(state: &State, row: &Row, index: usize) -> Source {
     }
 }
 
-/// Returns where a number on the stack, above so many others, comes from.
+/// Returns where a number on the stack, above this many others, comes from.
 fn source_on_stack(state: &State, instr: &Instr<'_>, place: usize) -> Source {
     let exchange = exchange_of(state, instr);
     let left = state.depth().saturating_sub(exchange.takes);

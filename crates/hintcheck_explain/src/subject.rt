@@ -9,7 +9,8 @@ use tt_cert::{Certificate, PointKey, Spot};
 use tt_cert_file::Name;
 use tt_code::{Frame, Instr, Program};
 
-/// A program with what the search has found of it.
+/// A program that is explained: its name, what it is checked against, and the contexts and states
+/// that the search has found of it.
 #[derive(Clone, Copy)]
 pub(crate) struct Subject<'a> {
     pub name: Name,

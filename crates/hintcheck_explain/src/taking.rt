@@ -7,12 +7,12 @@ use tt_abs::setting::is_index;
 use tt_abs::{Cell, Setting, State};
 use tt_code::kinds::{Operand, Pointer, Row, Use, Within};
 
-/// Returns the place from the bottom of the cell under so many others, on a stack so deep.
+/// Returns the place from the bottom of the cell under this many others, on a stack of this depth.
 pub(crate) fn place_under(depth: usize, taken: usize) -> Option<usize> {
     depth.checked_sub(1)?.checked_sub(taken)
 }
 
-/// Returns where the cell under so many others is, and what is known of it.
+/// Returns where the cell under this many others is, and what is known of it.
 pub(crate) fn cell_under(state: &State, taken: usize) -> Result<(Element, Cell), Trouble> {
     let depth = state.depth();
     let takes = taken.saturating_add(1);
@@ -23,7 +23,7 @@ pub(crate) fn cell_under(state: &State, taken: usize) -> Result<(Element, Cell),
     Ok((element, element.known_in(state)))
 }
 
-/// Returns the number under so many others, which has to be known.
+/// Returns the number under this many others, which has to be known.
 pub(crate) fn number_under(state: &State, taken: usize, role: Role) -> Result<i32, Trouble> {
     let (element, cell) = cell_under(state, taken)?;
     match cell {
@@ -167,7 +167,7 @@ pub(crate) fn test_uses(setting: &Setting<'_>, state: &State, row: &Row) -> Resu
     Ok(())
 }
 
-/// Returns how many cells an operand takes after so many others, as far as that is known.
+/// Returns how many cells an operand takes after this many others, as far as that is known.
 fn cells_of(state: &State, taken: usize, operand: Operand) -> usize {
     match operand {
         Operand::LoopPoints(_) => match state.loop_cell() {

@@ -4,7 +4,8 @@ use crate::element::Element;
 use crate::place::Place;
 use tt_cert::PointKey;
 
-/// What an instruction takes a number for.
+/// What an instruction takes a number for: as the number of a point, the index of a storage cell, a
+/// count, and so on.
 #[derive(Clone, Copy)]
 pub(crate) enum Role {
     Point,
@@ -20,7 +21,7 @@ pub(crate) enum Role {
     Turns,
 }
 
-/// How a stack comes to a place.
+/// How a stack comes to a place: from which instruction, and how deep it is.
 #[derive(Clone, Copy)]
 pub(crate) struct Arrival {
     /// The point from where it comes.
@@ -32,15 +33,16 @@ pub(crate) struct Arrival {
     pub depth: usize,
 }
 
-/// The first test of an instruction that fails, with the numbers of the case.
+/// Why an instruction is refused: the first of its tests that fails, with the numbers of the case.
 #[derive(Clone, Copy)]
 pub(crate) enum Trouble {
-    /// So many cells are taken, at least, of a stack so deep.
+    /// At least `takes` cells are taken of a stack of this depth.
     Underflow {
         depth: usize,
         takes: usize,
     },
-    /// The stack would be so deep afterwards.
+    /// The stack would be too deep afterwards: `takes` cells are taken of one of this depth, and
+    /// `pushes` are pushed.
     Overflow {
         depth: usize,
         takes: usize,
@@ -62,7 +64,7 @@ pub(crate) enum Trouble {
         number: i32,
         bound: u32,
     },
-    /// The number has to be at least so great.
+    /// The number has to be at least `least`.
     Small {
         role: Role,
         number: i32,
@@ -87,7 +89,7 @@ pub(crate) enum Trouble {
     },
     /// The code is that of no instruction.
     Code(u8),
-    /// The program has so many bytes.
+    /// The program has this many bytes, which are too many.
     Length(u32),
     /// All that is to be said is in the reason.
     Other,

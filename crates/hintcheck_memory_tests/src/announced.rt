@@ -8,7 +8,7 @@ use std::process::Abort;
 use std::test::Fail;
 use tt_cert_file::Form;
 
-/// So many bytes are left, less than one for each of 65,534.
+/// How many bytes are left: less than one for each of 65,534.
 const LEFT: usize = 20_000;
 
 /// Sections of glyph 0 that end too early: what they announce, their parts, and where they end.

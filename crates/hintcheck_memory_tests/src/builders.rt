@@ -22,7 +22,8 @@ pub(crate) enum Change {
 /// Numbers of contexts and states at which the lists of a builder have to grow, and others.
 const SIZES: [u32; 6] = [1, 2, 3, 4, 8, 12];
 
-/// Returns a builder with so many contexts and states, which aren't in the order of a certificate.
+/// Returns a builder with this many contexts and states, which aren't in the order of a
+/// certificate.
 fn filled(alloc: Global, size: u32) -> Option<Builder> {
     let mut builder = Builder::new(alloc);
     for less in 0..size {
@@ -128,7 +129,7 @@ fn told_of_finishing(heap: &mut Heap, builder: Builder, before: &Builder) -> Tol
     }
 }
 
-/// Returns what a call tells on a builder with so many contexts and states.
+/// Returns what a call tells on a builder with this many contexts and states.
 pub(crate) fn told_of_change(heap: &mut Heap, change: Change, size: u32) -> Told {
     let (Some(builder), Some(before)) = (filled(heap.alloc, size), filled(heap.alloc, size)) else {
         return Told::Wrong;

@@ -13,17 +13,17 @@ const GREATEST_SMALL: u32 = 20;
 /// has.
 const ROOM: [usize; 12] = [100_000; 12];
 
-/// So many blocks that aren't small are taken at most.
+/// How many blocks that aren't small are taken at most.
 const LARGE_BLOCKS: usize = 100_000;
 
-/// So many small blocks are taken at most. A heap that has more can't be used up.
+/// How many small blocks are taken at most. A heap that has more can't be used up.
 const SMALL_BLOCKS: usize = 4_000;
 
-/// The C library keeps freed blocks of up to 1,032 bytes, each for the next call that wants just so
-/// many, instead of joining them. In steps of 16 there are so many sizes of them.
+/// How many sizes of freed blocks the C library keeps, in steps of 16 up to 1,032 bytes, each block
+/// for the next call that wants just as many bytes, instead of joining them.
 const KEPT_SIZES: usize = 64;
 
-/// So many freed blocks of each of these sizes it keeps. A freed block that is kept lies between
+/// How many freed blocks of each of these sizes it keeps. A freed block that is kept lies between
 /// others, which then aren't joined over it.
 const KEPT_BLOCKS: usize = 7;
 
@@ -72,7 +72,7 @@ impl Hoard {
         }
     }
 
-    /// Takes blocks of so many bytes until there are no more.
+    /// Takes blocks of this many bytes until there are no more.
     fn take_blocks(&mut self, alloc: Global, size: usize) {
         for _ in self.blocks.len()..self.most {
             if !self.take_block(alloc, size) {
@@ -124,8 +124,8 @@ impl Hoard {
         }
     }
 
-    /// Takes the room too, but for so many bytes next to each other, 8 of which the C library needs
-    /// itself.
+    /// Takes the room too, except for this many bytes next to each other, 8 of which the C library
+    /// needs itself.
     fn leave(&mut self, alloc: Global, bytes: usize) {
         let gap: Result<Vec<u8>, _> = Vec::with_capacity(alloc, bytes.saturating_add(APART));
         self.take_small(alloc);
@@ -178,7 +178,7 @@ impl Heap {
         self.hoard.is_some()
     }
 
-    /// Leaves each call from now on so many bytes, or all of the room.
+    /// Leaves each call from now on this many bytes, or all of the room.
     pub(crate) fn leave(&mut self, left: Option<usize>) {
         self.left = left;
         if let Some(refuser) = &mut self.refuser {

@@ -10,14 +10,14 @@ use crate::sections::{SectionCall, told_of_section};
 use std::io::Print;
 use std::process::Abort;
 
-/// From one trial to the next, a call is left so many bytes more, as the C library's blocks grow.
+/// How many bytes more a call is left from one trial to the next, as the C library's blocks grow.
 const STEP: usize = 16;
 
-/// So many trials are made at most. In the last one a call is left 370,000 bytes: commands have
+/// How many trials are made at most. In the last one a call is left 370,000 bytes: commands have
 /// buffers of 64 KB.
 const TRIALS: usize = 23_126;
 
-/// So many growths of a call are refused by their number at most.
+/// How many growths of a call are refused by their number at most.
 const GROWTHS: usize = 100_000;
 
 /// What a call tells.
@@ -37,7 +37,7 @@ pub(crate) enum Trial<'a> {
     Font(FontCall, Example<'a>),
     Program(ProgramCall, Example<'a>),
     Section(SectionCall, Example<'a>),
-    /// A builder with so many contexts and states is changed.
+    /// A builder with this many contexts and states is changed.
     Builder(Change, u32),
     Command(&'a HostRuntime, Order<'a>),
 }

@@ -1,4 +1,5 @@
-//! What the tests share: states, builders that are filled from tables, and what is in a family.
+//! What the tests share: states, builders into which listed states are put, and what is in a
+//! family.
 
 ghost use Rattle.std.specs.Prelude.{IfOk};
 ghost use Rattle.tt_abs.specs.Entries.{Ascends};
@@ -11,10 +12,10 @@ use tt_cert::{Builder, Certificate, ContextFault, JoinFault, Joined, States};
 use tt_code::kinds::{Pointer, Reference};
 use tt_code::{Frame, Graphics};
 
-/// A state of a table: its context, its offset and the numbers on its stack, the bottom first.
-pub type Row<'a> = (u32, u32, &'a [i32]);
+/// A listed state: its context, its offset and the numbers on its stack, the bottom first.
+pub type Listed<'a> = (u32, u32, &'a [i32]);
 
-/// A context of a table: the one that it is below, and its call.
+/// A listed context: the one that it is below, and its call.
 pub type Context = (u32, Frame);
 
 /// The first turn of a call at offset 0.
@@ -51,6 +52,9 @@ pub fn graphics_of(state: &State) -> Graphics<Cell, ZoneCell> {
 
 /// Returns the state at a start with these functions, with these numbers on the stack, the bottom
 /// first; eight of them at most.
+///
+/// # Errors
+/// If memory runs out.
 pub fn state_of(alloc: Global, functions: &[(u16, u32)], stack: &[i32]) -> Result<State, AllocError>
     requires { Ascends functions.now }
     ensures { IfOk result (λ state. state_order.InRange state) }
@@ -65,6 +69,10 @@ pub fn state_of(alloc: Global, functions: &[(u16, u32)], stack: &[i32]) -> Resul
 }
 
 /// Adds a context below one that is there.
+///
+/// # Errors
+/// The faults of `Builder::add_context`; `TooManyContexts` also where there is none that it could
+/// be below.
 pub fn add(builder: &mut Builder, parent: u32, frame: Frame) -> Result<u32, ContextFault> {
     if parent >= builder.contexts() {
         return Err(ContextFault::TooManyContexts);
@@ -72,7 +80,8 @@ pub fn add(builder: &mut Builder, parent: u32, frame: Frame) -> Result<u32, Cont
     builder.add_context(parent, frame)
 }
 
-/// Adds contexts, each below one that is there, and returns whether all of them were added.
+/// Whether all of these contexts can be added, each below one that is there. They are added up to
+/// the first one that can't be.
 pub fn add_all(builder: &mut Builder, contexts: &[Context]) -> bool {
     for (parent, frame) in contexts {
         if add(builder, *parent, *frame).is_err() {
@@ -83,6 +92,9 @@ pub fn add_all(builder: &mut Builder, contexts: &[Context]) -> bool {
 }
 
 /// Joins a state into a context that is there.
+///
+/// # Errors
+/// The faults of `Builder::join_state`; `OutOfMemory` also where the context isn't there.
 pub fn join(
     builder: &mut Builder,
     context: u32,
@@ -97,41 +109,44 @@ pub fn join(
     builder.join_state(context, offset, state)
 }
 
-/// Joins the state of a row, in which these functions are known.
+/// Joins a listed state, in which these functions are known.
+///
+/// # Errors
+/// As `join`; `OutOfMemory`.
 pub fn put(
     alloc: Global,
     builder: &mut Builder,
     functions: &[(u16, u32)],
-    row: Row<'_>,
+    listed: Listed<'_>,
 ) -> Result<Joined, JoinFault>
     requires { Ascends functions.now }
 {
-    match state_of(alloc, functions, row.2) {
-        Ok(state) => join(builder, row.0, row.1, &state),
+    match state_of(alloc, functions, listed.2) {
+        Ok(state) => join(builder, listed.0, listed.1, &state),
         Err(_) => Err(JoinFault::OutOfMemory),
     }
 }
 
-/// Joins the states of these rows, in which these functions are known, and returns whether all of
-/// them were joined.
+/// Whether all of these states, in which these functions are known, can be joined. They are joined
+/// up to the first one that can't be.
 pub fn put_all(
     alloc: Global,
     builder: &mut Builder,
     functions: &[(u16, u32)],
-    rows: &[Row<'_>],
+    states: &[Listed<'_>],
 ) -> bool
     requires { Ascends functions.now }
 {
-    for row in rows {
-        if put(alloc, builder, functions, *row).is_err() {
+    for listed in states {
+        if put(alloc, builder, functions, *listed).is_err() {
             return false;
         }
     }
     true
 }
 
-/// Joins the start state at offsets of a context, one after the other, and returns whether it was
-/// joined at all of them.
+/// Whether the start state can be joined at all of these offsets of a context. It is joined at them
+/// up to the first one at which it can't be.
 pub fn put_at(alloc: Global, builder: &mut Builder, context: u32, offsets: &[u32]) -> bool {
     for offset in offsets {
         if put(alloc, builder, &[], (context, *offset, &[])).is_err() {
@@ -141,16 +156,16 @@ pub fn put_at(alloc: Global, builder: &mut Builder, context: u32, offsets: &[u32
     true
 }
 
-/// Contexts and states in which no function is known.
+/// Contexts, and states in which no function is known.
 #[derive(Clone, Copy)]
-pub struct Filling<'a> {
+pub struct ListedFamily<'a> {
     pub contexts: &'a [Context],
-    pub rows: &'a [Row<'a>],
+    pub states: &'a [Listed<'a>],
 }
 
-/// Puts a filling into a builder, and returns whether all of it was put.
-pub fn fill(alloc: Global, builder: &mut Builder, filling: &Filling<'_>) -> bool {
-    add_all(builder, filling.contexts) && put_all(alloc, builder, &[], filling.rows)
+/// Whether all of a listed family can be put into a builder. It is put there up to what can't be.
+pub fn fill(alloc: Global, builder: &mut Builder, family: &ListedFamily<'_>) -> bool {
+    add_all(builder, family.contexts) && put_all(alloc, builder, &[], family.states)
 }
 
 /// Returns the certificate of a builder's family, if all of it was put.
@@ -166,13 +181,13 @@ pub fn certificate(
     alloc: Global,
     contexts: &[Context],
     functions: &[(u16, u32)],
-    rows: &[Row<'_>],
+    states: &[Listed<'_>],
 ) -> Option<Certificate>
     requires { Ascends functions.now }
 {
     let mut builder = Builder::new(alloc);
     let is_filled = add_all(&mut builder, contexts)
-        && put_all(alloc, &mut builder, functions, rows);
+        && put_all(alloc, &mut builder, functions, states);
     finished_if(is_filled, builder)
 }
 

@@ -16,7 +16,7 @@ use tt_stream::Counted;
 #[derive(Clone, Copy, Debug, PartialEq, Eq)]
 pub enum Told {
     Accepted,
-    /// So many programs are refused; the offset and the number of the first.
+    /// How many programs are refused, and the offset of the first one and its reason's number.
     Refused(usize, u32, u8),
     /// The font's own fault has this number.
     Font(u8),
@@ -67,6 +67,7 @@ pub fn told_of_check_fault(fault: &CheckFontFault) -> Told {
     }
 }
 
+/// Returns what the check of a font answers by what this reader gives, counted by a ledger.
 fn check_on<L: Ledger>(alloc: Global, font: &[u8], steps: Steps<'_>, blank: Blank) -> Told
     requires { (blank.name ≡ L.name) × (blank.parts ≡ L.parts) × (0 < blank.parts) }
 {
@@ -88,6 +89,8 @@ pub fn checked(alloc: Global, font: &[u8], bytes: &[u8], fails: bool) -> Told {
     checked_by(alloc, font, steps_of(bytes, fails))
 }
 
+/// Returns what the check of a font answers by what this reader gives, counted by a ledger, within
+/// a budget.
 fn check_within_on<L: Ledger>(
     alloc: Global,
     font: &[u8],
@@ -120,6 +123,8 @@ fn told_of_search(answer: &Result<Verdict, FindFontFault>) -> Told {
     }
 }
 
+/// Returns what the search for a font's certificate answers, and what this writer took, counted by
+/// a ledger.
 fn find_on<L: Ledger>(alloc: Global, font: &[u8], taker: Taker, blank: Blank) -> (Told, Vec<u8>)
     requires { (blank.name ≡ L.name) × (blank.parts ≡ L.parts) × (0 < blank.parts) }
 {
@@ -134,11 +139,13 @@ pub fn found_by(alloc: Global, font: &[u8], taker: Taker) -> (Told, Vec<u8>) {
 }
 
 /// Returns what the search for a font's certificate answers, and what is written, where there is
-/// room for so many bytes.
+/// room for this many bytes.
 pub fn found(alloc: Global, font: &[u8], room: usize) -> (Told, Vec<u8>) {
     found_by(alloc, font, Taker::new(alloc, 1, room))
 }
 
+/// Returns what the search for a font's certificate answers within a budget, and what this writer
+/// took, counted by a ledger.
 fn find_within_on<L: Ledger>(
     alloc: Global,
     font: &[u8],
@@ -164,6 +171,8 @@ pub fn found_within(
     find_within_on::<Brand>(alloc, font, taker, budget, Blank::new(1))
 }
 
+/// Returns how many sections an upgrade tells of what this reader gives, and what this writer took,
+/// each counted by a ledger.
 fn upgrade_on<L: Ledger, M: Ledger>(
     alloc: Global,
     steps: Steps<'_>,
@@ -192,7 +201,7 @@ pub fn upgraded_by(alloc: Global, steps: Steps<'_>, taker: Taker) -> (Result<u32
 }
 
 /// Returns how many sections an upgrade of these bytes tells, after which a read fails where it
-/// should, and what is written, where there is room for so many bytes.
+/// should, and what is written, where there is room for this many bytes.
 pub fn upgraded(
     alloc: Global,
     bytes: &[u8],

@@ -68,6 +68,9 @@ fn header(alloc: Global, tables: usize) -> Result<Vec<u8>, NoFile> {
 }
 
 /// Returns a font file with these tables, each beginning at a multiple of 4.
+///
+/// # Errors
+/// `OutOfMemory`; `TooLong` where a number doesn't fit its field.
 pub fn file_of(alloc: Global, tables: &[(Tag, &[u8])]) -> Result<Vec<u8>, NoFile> {
     let mut file = header(alloc, tables.len())?;
     let mut data: Vec<u8> = Vec::new(alloc);
@@ -81,7 +84,7 @@ pub fn file_of(alloc: Global, tables: &[(Tag, &[u8])]) -> Result<Vec<u8>, NoFile
     Ok(file)
 }
 
-/// Returns a `maxp` table for so many glyphs.
+/// Returns a `maxp` table for this many glyphs.
 fn maxp_for(glyphs: u16) -> [u8; 32] {
     let mut maxp = MAXP;
     let [high, low] = glyphs.to_be_bytes();
@@ -90,8 +93,11 @@ fn maxp_for(glyphs: u16) -> [u8; 32] {
     maxp
 }
 
-/// Returns a font file with 10 control values, this font program, this CVT program and so many
+/// Returns a font file with 10 control values, this font program, this CVT program and this many
 /// glyphs, whose tables are these.
+///
+/// # Errors
+/// `OutOfMemory`; `TooLong` where a number doesn't fit its field.
 pub fn file_with_glyphs<'a>(
     alloc: Global,
     fpgm: &'a [u8],
@@ -124,6 +130,9 @@ pub struct Glyphs {
 
 impl Glyphs {
     /// Returns the tables without a glyph.
+    ///
+    /// # Errors
+    /// `OutOfMemory`.
     pub fn new(alloc: Global) -> Result<Glyphs, NoFile> {
         Ok(Glyphs {
             glyf: Vec::new(alloc),
@@ -133,6 +142,9 @@ impl Glyphs {
     }
 
     /// Adds a glyph.
+    ///
+    /// # Errors
+    /// `OutOfMemory`; `TooLong` where the glyphs have too many bytes for their field.
     pub fn push(&mut self, glyph: &[u8]) -> Result<(), NoFile> {
         self.glyf.extend_from_slice(glyph)?;
         let end = u32::try_from(self.glyf.len())?;
@@ -141,7 +153,10 @@ impl Glyphs {
         Ok(())
     }
 
-    /// Returns a font with these glyphs, the functions of its font program and its CVT program.
+    /// Returns a font with these glyphs, this font program and this CVT program.
+    ///
+    /// # Errors
+    /// `OutOfMemory`; `TooLong` where a number doesn't fit its field.
     pub fn font<'a>(
         &'a self,
         alloc: Global,
@@ -152,7 +167,10 @@ impl Glyphs {
     }
 }
 
-/// Returns a font with these glyphs, the functions of its font program and its CVT program.
+/// Returns a font with these glyphs, this font program and this CVT program.
+///
+/// # Errors
+/// `OutOfMemory`; `TooLong` where a number doesn't fit its field.
 pub fn font_of(
     alloc: Global,
     fpgm: &[u8],
@@ -167,6 +185,9 @@ pub fn font_of(
 }
 
 /// Returns a glyph of 4 points with a program.
+///
+/// # Errors
+/// `OutOfMemory`; `TooLong` where the program has too many bytes for their field.
 pub fn square(alloc: Global, program: &[u8]) -> Result<Vec<u8>, NoFile> {
     let length = u16::try_from(program.len())?.to_be_bytes();
     let parts: [&[u8]; 3] = [&SQUARE, &length, program];
@@ -174,12 +195,15 @@ pub fn square(alloc: Global, program: &[u8]) -> Result<Vec<u8>, NoFile> {
 }
 
 /// Returns a composite glyph with these components and what follows them.
+///
+/// # Errors
+/// `OutOfMemory`.
 pub fn made(alloc: Global, components: &[u8]) -> Result<Vec<u8>, NoFile> {
     let parts: [&[u8]; 2] = [&MADE, components];
     Ok(parts.concat(alloc)?)
 }
 
-/// Whether this is read of a glyph, none where the font has fewer glyphs.
+/// Whether the font can be read and has this glyph at this number; or none, where none is given.
 pub fn has_glyph(alloc: Global, file: &[u8], id: u16, glyph: Option<GlyphPart<'_>>) -> bool {
     match Font::read(alloc, file) {
         Ok(font) => font.glyph(id) == glyph,
@@ -188,6 +212,9 @@ pub fn has_glyph(alloc: Global, file: &[u8], id: u16, glyph: Option<GlyphPart<'_
 }
 
 /// Returns a font of a glyph of 4 points and a composite glyph with these components.
+///
+/// # Errors
+/// `OutOfMemory`; `TooLong` where a number doesn't fit its field.
 pub fn font_with(alloc: Global, components: &[u8]) -> Result<Vec<u8>, NoFile> {
     let glyph = square(alloc, &[])?;
     let composite = made(alloc, components)?;

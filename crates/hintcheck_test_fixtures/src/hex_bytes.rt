@@ -19,6 +19,9 @@ fn push_digits(bytes: &mut Vec<u8>, digits: &str) -> Result<(), AllocError> {
 }
 
 /// Returns the bytes of parts, one after the other, each in hexadecimal digits.
+///
+/// # Errors
+/// If memory runs out.
 pub fn bytes_of(alloc: Global, parts: &[&str]) -> Result<Vec<u8>, AllocError> {
     let mut bytes = Vec::new(alloc);
     for part in parts {
@@ -28,6 +31,9 @@ pub fn bytes_of(alloc: Global, parts: &[&str]) -> Result<Vec<u8>, AllocError> {
 }
 
 /// Returns the bytes of parts of which one is another text.
+///
+/// # Errors
+/// If memory runs out.
 pub fn bytes_but(
     alloc: Global,
     parts: &[&str],

@@ -20,7 +20,7 @@ pub const AT_START: &str = "0100000000 0100000000 0100000000 010101 0100000001";
 /// What a call says, and in a section's case how many bytes it leaves.
 #[derive(Clone, Copy, Debug, PartialEq, Eq)]
 pub enum Told {
-    /// A section whose end is this place, with so many bytes left after it.
+    /// A section whose end is this place, with this many bytes left after it.
     Section { after: u64, left: usize },
     /// A header.
     Header(Form, u32),
@@ -45,6 +45,7 @@ pub fn told_by_decode_fault(fault: DecodeFault) -> Told {
     }
 }
 
+/// Returns what a call that writes says.
 fn told_by_writing(written: Result<(), EncodeFault>) -> Told {
     match written {
         Ok(()) => Told::Done,
@@ -90,7 +91,7 @@ pub fn decoded(alloc: Global, steps: Steps<'_>, start: u64, form: Form) -> (Opti
     decode_over::<Brand>(alloc, steps, start, form, Blank::new(1))
 }
 
-/// Returns what reading a section in steps of so many bytes tells.
+/// Returns what reading a section in steps of this many bytes tells.
 pub fn told_in_steps(alloc: Global, bytes: &[u8], step: usize, start: u64, form: Form) -> Told {
     let steps = Steps {
         bytes,
@@ -100,7 +101,7 @@ pub fn told_in_steps(alloc: Global, bytes: &[u8], step: usize, start: u64, form:
     decoded(alloc, steps, start, form).1
 }
 
-/// Returns what reading a section byte by byte tells, where a call fails after so many.
+/// Returns what reading a section byte by byte tells, where a call fails after this many.
 pub fn told_of_calls(alloc: Global, bytes: &[u8], calls: usize, form: Form) -> Told {
     let steps = Steps {
         bytes,
@@ -110,6 +111,7 @@ pub fn told_of_calls(alloc: Global, bytes: &[u8], calls: usize, form: Form) -> T
     decoded(alloc, steps, 0, form).1
 }
 
+/// Reads a header over a ledger, and returns what that tells.
 fn header_over<L: Ledger>(steps: Steps<'_>, blank: Blank) -> Told
     requires name { blank.name ≡ L.name }
     requires parts { blank.parts ≡ L.parts }
@@ -127,6 +129,7 @@ pub fn told_of_header(steps: Steps<'_>) -> Told {
     header_over::<Brand>(steps, Blank::new(1))
 }
 
+/// Looks for the end at a place over a ledger, and returns what that tells.
 fn end_over<L: Ledger>(steps: Steps<'_>, place: u64, blank: Blank) -> Told
     requires name { blank.name ≡ L.name }
     requires parts { blank.parts ≡ L.parts }
@@ -179,6 +182,7 @@ pub fn told_of_file(alloc: Global, bytes: &[u8]) -> Told {
     told_of_file_by(alloc, steps)
 }
 
+/// Writes a section over a ledger, and returns what that tells, and the bytes that were taken.
 fn encode_over<L: Ledger>(
     alloc: Global,
     section: &Section,
@@ -199,6 +203,7 @@ pub fn encoded(alloc: Global, section: &Section, taker: Taker) -> (Told, Vec<u8>
     encode_over::<Brand>(alloc, section, taker, Blank::new(1))
 }
 
+/// Writes a header over a ledger, and returns what that tells, and the bytes that were taken.
 fn write_header_over<L: Ledger>(sections: u32, taker: Taker, blank: Blank) -> (Told, Vec<u8>)
     requires name { blank.name ≡ L.name }
     requires parts { blank.parts ≡ L.parts }

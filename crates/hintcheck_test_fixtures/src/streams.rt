@@ -7,7 +7,7 @@ use std::io::{ErrorKind, Write};
 /// More bytes or calls than there ever are.
 pub const ALL: usize = 1_000_000;
 
-/// Gives no more than `step` bytes a call. Only the call after so many others fails: a caller that
+/// Gives no more than `step` bytes a call. Only the call after `calls` others fails: a caller that
 /// asks again gets more.
 #[derive(Drop)]
 pub struct Steps<'a> {
@@ -31,7 +31,7 @@ impl io::Read for Steps<'_> {
     }
 }
 
-/// Takes no more than `step` bytes a call. Only the call after so many others fails, or takes
+/// Takes no more than `step` bytes a call. Only the call after `calls` others fails, or takes
 /// nothing: a caller that asks again can write more.
 #[derive(Drop)]
 pub struct Taker {

@@ -171,14 +171,14 @@ MeetsSubcommand found = IsSomeAnd found IsReadable
 unfoldable pub asked : Task → Request
 asked (task.Bare maxp cvt points contours program) =
     bare (string_bytes maxp) cvt points contours (option_map (λ s. string_bytes s) program)
-asked (task.Verdict font points) = verdict (string_bytes font) points
-asked (task.Scan fonts points) = scan (map (λ s. string_bytes s) fonts.items) points
+asked (task.Verdict font budget) = verdict (string_bytes font) budget
+asked (task.Scan fonts budget) = scan (map (λ s. string_bytes s) fonts.items) budget
 asked (task.Explain font program offset) =
     explain (string_bytes font) (string_bytes program) offset
-asked (task.Find font certificate points) =
-    find (string_bytes font) (string_bytes certificate) points
-asked (task.Check font certificate points) =
-    check (string_bytes font) (string_bytes certificate) points
+asked (task.Find font certificate budget) =
+    find (string_bytes font) (string_bytes certificate) budget
+asked (task.Check font certificate budget) =
+    check (string_bytes font) (string_bytes certificate) budget
 asked (task.List font program) = list (string_bytes font) (string_bytes program)
 asked (task.Upgrade old new) = upgrade (string_bytes old) (string_bytes new)
 

@@ -31,14 +31,14 @@ pub enum Task {
         /// The name of the font file.
         font: String,
         /// How many points may be made; None where that isn't limited.
-        points: Option<u64>,
+        budget: Option<u64>,
     },
     /// Checks all programs of each of several font files.
     Scan {
         /// The names of the font files.
         fonts: Vec<String>,
         /// How many points may be made per font; None where that isn't limited.
-        points: Option<u64>,
+        budget: Option<u64>,
     },
     /// Tells how one program of a font file is checked.
     Explain {
@@ -56,7 +56,7 @@ pub enum Task {
         /// The name of the certificate's file.
         certificate: String,
         /// How many points may be made; None where that isn't limited.
-        points: Option<u64>,
+        budget: Option<u64>,
     },
     /// Checks a font file by a certificate.
     Check {
@@ -65,7 +65,7 @@ pub enum Task {
         /// The name of the certificate's file.
         certificate: String,
         /// How many points may be made; None where that isn't limited.
-        points: Option<u64>,
+        budget: Option<u64>,
     },
     /// Lists the instructions of one program of a font file.
     List {
@@ -447,7 +447,7 @@ fn verdict_task(alloc: Global, values: &ArgMatches<'_>) -> Result<Task, AllocErr
 {
     Ok(Task::Verdict {
         font: text(alloc, values, "FONT")?,
-        points: points(values),
+        budget: points(values),
     })
 }
 
@@ -461,7 +461,7 @@ fn scan_task(alloc: Global, values: &ArgMatches<'_>) -> Result<Task, AllocError>
 {
     Ok(Task::Scan {
         fonts: all_texts(alloc, values, "FONT")?,
-        points: points(values),
+        budget: points(values),
     })
 }
 
@@ -476,7 +476,7 @@ fn find_task(alloc: Global, values: &ArgMatches<'_>) -> Result<Task, AllocError>
     Ok(Task::Find {
         font: text(alloc, values, "FONT")?,
         certificate: text(alloc, values, "CERT")?,
-        points: points(values),
+        budget: points(values),
     })
 }
 
@@ -491,7 +491,7 @@ fn check_task(alloc: Global, values: &ArgMatches<'_>) -> Result<Task, AllocError
     Ok(Task::Check {
         font: text(alloc, values, "FONT")?,
         certificate: text(alloc, values, "CERT")?,
-        points: points(values),
+        budget: points(values),
     })
 }
 

@@ -39,10 +39,12 @@ known_zones Zero = 1
 known_zones One = 1
 known_zones Either = 0
 
+-- the order of cells
 abbrev pub cell_order : Order Cell
 cell_order =
     record { InRange = CellInRange; Below = CellBelow; SameDepth = λ _ _. ⊤; left = known_cells }
 
+-- the order of zone cells
 abbrev pub zone_order : Order ZoneCell
 zone_order =
     record { InRange = λ _. ⊤; Below = ZoneBelow; SameDepth = λ _ _. ⊤; left = known_zones }

@@ -29,13 +29,15 @@ CoversStack [] (n ∷ ns) = ⊥
 CoversStack (c ∷ cs) [] = ⊥
 CoversStack (c ∷ cs) (n ∷ ns) = Covers c n × CoversStack cs ns
 
--- the graphics state, of cells and of numbers
+-- the graphics state of cells
 abbrev pub Cells : Type 0
 Cells = Graphics Cell ZoneCell
 
+-- the graphics state of numbers
 abbrev pub Numbers : Type 0
 Numbers = Graphics ℤ ZoneNumber
 
+-- each part of the first covers that part of the second
 pub record CoversGraphics (a : Cells) (g : Numbers) : Type 0 where
   pub rp0 : Covers a.rp0 g.rp0
   pub rp1 : Covers a.rp1 g.rp1

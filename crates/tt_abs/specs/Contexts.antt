@@ -1,10 +1,10 @@
--- The calls that haven't returned, as programs of this profile have them.
+-- The calls that haven't returned, as they may be where a program isn't refused.
 use Rattle.std.specs.Prelude.{◌≡◌, ◌<◌, ◌≤◌, ◌^◌, List, false}
 use Rattle.std.specs.List.{AllByRecursion}
 use Rattle.tt_code.specs.declared.machine.Frame.{Frame}
 use Rattle.tt_abs.specs.Covers.{has_body_twice}
 
--- the call is in one of its turns, which the numbers of the machine can count
+-- the call is in one of its turns, and the number of turns is one of the machine
 pub record FrameFits (f : Frame) : Type 0 where
   pub begun : 1 ≤ f.turn
   pub within : f.turn ≤ f.count

@@ -1,5 +1,5 @@
 -- The smallest cell for the values of a function, the smallest abstract state for a set of machine
--- states, and what it says that an outcome on cells stands for the machine's outcomes.
+-- states, and what it means that an outcome on cells stands for the machine's outcomes.
 use Rattle.std.specs.Prelude.{◌≡◌, ◌⊎◌, ℕ, ℤ, ◌<◌, ◌≤◌, ◌||◌, List, [], ◌∷◌, Ok, Err, Some, Bool, true, false, length, slice_get}
 use Rattle.tt_code.specs.Refusals.{Tested}
 use Rattle.tt_code.specs.Settings.{ZoneNumber, Zero, One}
@@ -14,12 +14,14 @@ use Rattle.tt_abs.specs.declared.cells.ZoneCell.TheVariants as zone
 use Rattle.tt_abs.specs.Cells.{Abstract, CoversState}
 use Rattle.tt_abs.specs.Transfers.{Next, is_running}
 
--- the cell is known exactly if the function has one value
+-- the smallest cell for the values of a function on a set: it is known exactly if the function has
+-- one value there
 abbrev pub IsBestFor : {X : Type 0} → (X → Type 0) → (X → ℤ) → Cell → Type 0
 IsBestFor {X} In f (Known k) = ((x : X) → In x → f x ≡ k) × ((x : X) × In x)
 IsBestFor {X} In f Unknown =
     ((x : X) → In x → IsNumber (f x)) × ((x : X) × (y : X) × In x × In y × (f x ≡ f y → ⊥))
 
+-- the smallest zone cell for the values of a function on a set
 abbrev pub IsBestZone : {X : Type 0} → (X → Type 0) → (X → ZoneNumber) → ZoneCell → Type 0
 IsBestZone {X} In f zone.Zero = ((x : X) → In x → f x ≡ Zero) × ((x : X) × In x)
 IsBestZone {X} In f zone.One = ((x : X) → In x → f x ≡ One) × ((x : X) × In x)
@@ -42,8 +44,8 @@ pub record Becomes (a : Abstract) (frames : List Frame) (offset : ℕ)
   pub are_numbers : (i : ℕ) → IsNumber (choices i)
   pub new_is : new ≡ left_by result choices
 
--- The abstract state covers each of these machines, and is below every one that does: what it
--- covers that one covers.
+-- The abstract state covers each of these machines, and is below every other one that does: the
+-- other covers all that it covers.
 pub record IsSmallestCover (These : Machine → Type 0) (b : Abstract) : Type 0 where
   pub covers : (m : Machine) → These m → CoversState b m
   pub least : (d : Abstract) → ((m : Machine) → These m → CoversState d m) → (m : Machine)
@@ -77,7 +79,8 @@ NoneFaults a frames offset does =
     (m : Machine) → Stands a frames offset m → (o : Outcome) × (does m ≡ Ok o)
 
 -- The outcome on cells stands for the outcomes of the machines that are covered: it is refused only
--- if some of them faults, and else none does, and it gives the smallest covers of what they become.
+-- if some of them faults; otherwise none does, and it gives the smallest covers of what they
+-- become.
 abbrev pub TransfersTo : Abstract → List Frame → ℕ → (Machine → Tested Outcome)
     → Tested (List Next) → Type 0
 TransfersTo a frames offset does (Err r) = SomeFaults a frames offset does
@@ -91,9 +94,9 @@ Transfers a frames offset does (Err r) = SomeFaults a frames offset does
 Transfers a frames offset does (Ok b) =
     NoneFaults a frames offset does × IsSmallestCover (Becomes a frames offset does) b
 
--- Calls. Two calls of one body that haven't returned are a recursion, which no program of this
--- profile may meet (own).
+-- Calls. Two calls of one body that haven't returned are a recursion, which is refused (own).
 
+-- whether two of the calls are of one body
 abbrev pub has_body_twice : List Frame → Bool
 has_body_twice [] = false
 has_body_twice (f ∷ fs) = is_running f.body fs || has_body_twice fs
@@ -124,9 +127,9 @@ IsRefused a frames offset does =
     SomeFaults a frames offset does ⊎ SomeRecurs a frames offset does
     ⊎ ManyFrames a frames offset does
 
--- What is said of any instruction: the outcome on cells is refused exactly if some covered machine
--- faults or comes to run a body twice, or they come to too many lists of frames; else it gives the
--- smallest covers of what they become.
+-- What holds of any instruction: the outcome on cells is refused exactly if some covered machine
+-- faults or comes to run a body twice, or they come to too many lists of frames; otherwise it gives
+-- the smallest covers of what they become.
 pub record Gives (a : Abstract) (frames : List Frame) (offset : ℕ)
     (does : Machine → Tested Outcome) (nexts : List Next) : Type 0 where
   pub none_faults : NoneFaults a frames offset does
@@ -134,6 +137,8 @@ pub record Gives (a : Abstract) (frames : List Frame) (offset : ℕ)
   pub few : length nexts ≤ 2
   pub covers : AreSmallestCovers (Becomes a frames offset does) nexts
 
+-- the outcome on cells stands for what the machines become: it is refused for one of these causes,
+-- or gives the smallest covers
 abbrev pub StandsFor : Abstract → List Frame → ℕ → (Machine → Tested Outcome) → Tested (List Next)
     → Type 0
 StandsFor a frames offset does (Err r) = IsRefused a frames offset does

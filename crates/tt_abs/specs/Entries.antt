@@ -5,7 +5,7 @@ use Rattle.std.specs.List.{AllByRecursion, filter}
 use Rattle.tt_abs.specs.declared.cells.Cell.{Cell}
 use Rattle.tt_abs.specs.declared.cells.Cell.TheVariants.{Known, Unknown}
 
--- the numbers rise
+-- the numbers ascend
 abbrev pub Ascends : {V : Type 0} → List (ℕ × V) → Type 0
 Ascends [] = Unit {0}
 Ascends (e ∷ es) = AllByRecursion (λ f. e.0 < f.0) es × Ascends es
@@ -15,7 +15,7 @@ abbrev pub listed : {V : Type 0} → List (ℕ × V) → ℕ → Option V
 listed [] n = None
 listed (e ∷ es) n = if nat_eq e.0 n then Some e.1 else listed es n
 
--- the list with an entry put at its place, instead of one of its number
+-- the list with an entry where its number belongs, in place of the one of that number
 abbrev pub with_entry : {V : Type 0} → ℕ → V → List (ℕ × V) → List (ℕ × V)
 with_entry n v [] = (n, v) ∷ []
 with_entry n v (e ∷ es) =
@@ -27,11 +27,12 @@ with_entry n v (e ∷ es) =
 abbrev pub without_entry : {V : Type 0} → ℕ → List (ℕ × V) → List (ℕ × V)
 without_entry n es = filter (λ e. not (nat_eq e.0 n)) es
 
--- what is known of each storage cell, where the known ones are listed
+-- the number of a storage cell, if it is known
 abbrev pub known_or_not : Option ℤ → Cell
 known_or_not None = Unknown
 known_or_not (Some z) = Known z
 
+-- what is known of each storage cell, where the known ones are listed
 abbrev pub storage_of : List (ℕ × ℤ) → ℕ → Cell
 storage_of es i = known_or_not (listed es i)
 

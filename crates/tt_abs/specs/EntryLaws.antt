@@ -9,14 +9,17 @@ use Rattle.tt_abs.specs.EntryLists.{IsEquality, EntriesBelow, EntriesInRange, af
 
 -- What is listed.
 
+-- with the number of the first entry its value is listed
 pub listed-here : {V : Type 0} (e : ℕ × V) (es : List (ℕ × V)) (n : ℕ) → e.0 ≡ n
     → listed (e ∷ es) n ≡ Some e.1
 listed-here {V} e es n h = ap (λ (b : Bool). if b then Some e.1 else listed es n) (eq-eqb e.0 n h)
 
+-- with another number the first entry doesn't count
 pub listed-there : {V : Type 0} (e : ℕ × V) (es : List (ℕ × V)) (n : ℕ) → (e.0 ≡ n → ⊥)
     → listed (e ∷ es) n ≡ listed es n
 listed-there {V} e es n h = ap (λ (b : Bool). if b then Some e.1 else listed es n) (ne_eqb e.0 n h)
 
+-- numbers that are above one are above each smaller one
 pub all-above : {V : Type 0} (m n : ℕ) (es : List (ℕ × V)) → m < n
     → AllByRecursion (λ e. n < e.0) es → AllByRecursion (λ e. m < e.0) es
 all-above m n [] lt h = tt
@@ -47,7 +50,7 @@ below-without_first x xs b above p n v l =
     let lt : x.0 < n = number-above x.0 n v b above l in
     sym (listed-there x xs n (λ q. omega arith)) ∙ p n v l
 
--- or added
+-- a first entry may be added to the first list
 pub below-with_first : {V : Type 0} (x : ℕ × V) (xs b : List (ℕ × V))
     → AllByRecursion (λ e. x.0 < e.0) xs → EntriesBelow xs b → EntriesBelow (x ∷ xs) b
 below-with_first x xs b above p n v l =
@@ -61,7 +64,7 @@ below-after_first a y ys above p n v l =
     let lt : y.0 < n = number-above y.0 n v ys above l in
     p n v (listed-there y ys n (λ q. omega arith) ∙ l)
 
--- or added, where both have it
+-- one first entry may be added to both lists
 pub below-same_first : {V : Type 0} (x y : ℕ × V) (xs ys : List (ℕ × V)) → x ≡ y
     → AllByRecursion (λ e. x.0 < e.0) xs → EntriesBelow xs ys → EntriesBelow (x ∷ xs) (y ∷ ys)
 below-same_first {V} x y xs ys same above p n v l = elim (cases_eq y.0 n) [
@@ -88,6 +91,7 @@ first-below {V} x y xs ys above p =
 
 -- The laws.
 
+-- a list above another has no more entries
 pub entries-length : {V : Type 0} (a b : List (ℕ × V)) → Ascends a → Ascends b → EntriesBelow a b
     → length b ≤ length a
 entries-length {V} [] [] ra rb p = omega arith
@@ -104,6 +108,7 @@ entries-length {V} (x ∷ xs) (y ∷ ys) ra rb p = elim (first-below x y xs ys r
       (below-without_first x xs (y ∷ ys) (lt, all-above x.0 y.0 ys lt rb.0) p) in omega arith
 ]
 
+-- a list above another with as many entries is the same
 pub entries-same : {V : Type 0} (a b : List (ℕ × V)) → Ascends a → Ascends b → EntriesBelow a b
     → length b ≡ length a → a ≡ b
 entries-same {V} [] [] ra rb p e = refl
@@ -122,6 +127,7 @@ entries-same {V} (x ∷ xs) (y ∷ ys) ra rb p e = elim (first-below x y xs ys r
       absurd (omega arith)
 ]
 
+-- the laws of the order of sorted maps
 pub entry_laws : {V : Type 0} (IsInRange : V → Type 0) → OrderLaws (entry_order IsInRange)
 entry_laws IsInRange = record {
   reflexive = λ a n v l. l;
@@ -137,13 +143,14 @@ entry_laws IsInRange = record {
   left_strict = λ a b ra rb. entries-same a b ra.ascends rb.ascends;
 }
 
--- SortedMap kept by a test.
+-- Entries that pass a test.
 
 keep_step : {X : Type 0} (P : X → Type 0) (x : X) (rest : List X) (b : Bool) → P x
     → AllByRecursion P rest → AllByRecursion P (cond b (x ∷ rest) rest)
 keep_step P x rest true h ih = (h, ih)
 keep_step P x rest false h ih = ih
 
+-- what holds of all entries holds of those that pass a test
 pub all-filter : {X : Type 0} (P : X → Type 0) (p : X → Bool) (xs : List X) → AllByRecursion P xs
     → AllByRecursion P (filter p xs)
 all-filter P p [] h = tt
@@ -154,6 +161,7 @@ ascends_step : {V : Type 0} (x : ℕ × V) (rest : List (ℕ × V)) (b : Bool)
 ascends_step x rest true h ih = (h, ih)
 ascends_step x rest false h ih = ih
 
+-- the entries that pass a test ascend
 pub Ascends-filter : {V : Type 0} (p : ℕ × V → Bool) (xs : List (ℕ × V)) → Ascends xs
     → Ascends (filter p xs)
 Ascends-filter p [] r = tt
@@ -205,6 +213,7 @@ filter_step {V} p x xs rest n v false is above ih = elim (cases_eq x.0 n) [
     pair : x.0 ≡ n → x.1 ≡ v → x ≡ (n, v)
     pair a b i = (a i, b i)
 
+-- an entry is listed among those that pass a test exactly if it is listed and passes it
 pub listed-filter : {V : Type 0} (p : ℕ × V → Bool) (a : List (ℕ × V)) → Ascends a → (n : ℕ) (v : V)
     → (listed (filter p a) n ≡ Some v) ↔ ((listed a n ≡ Some v) × (p (n, v) ≡ true))
 listed-filter p [] r n v = (λ l. cc, λ h. h.0)
@@ -212,6 +221,7 @@ listed-filter p (x ∷ xs) r n v =
     filter_step p x xs (filter p xs) n v (p x) refl (all-filter _ p xs r.0)
     (listed-filter p xs r.1 n v)
 
+-- an option holds a value exactly if it is that value
 pub holds_value-is : {V : Type 0} (same : V → V → Bool) → IsEquality same → (o : Option V) (v : V)
     → (holds_value same o v ≡ true) ↔ (o ≡ Some v)
 holds_value-is {V} same decides None v = (λ h. cc, λ e. cc)
@@ -221,6 +231,7 @@ holds_value-is {V} same decides (Some w) v =
     value : Some w ≡ Some v → w ≡ v
     value e = cc
 
+-- the entries that both lists have are the least list above both
 pub common_is_least : {V : Type 0} (IsInRange : V → Type 0) (same : V → V → Bool) → IsEquality same
     → (a b : List (ℕ × V)) → EntriesInRange IsInRange a
     → IsLeastAbove (entry_order IsInRange) a b (common_entries same a b)
@@ -270,6 +281,7 @@ Ascends-after same e (x ∷ xs) r = go (nat_eq x.0 e.0 && same x.1 e.1)
     go true = r.1
     go false = r
 
+-- no entry is missing exactly if the first list is below the second
 pub missing-below : {V : Type 0} (same : V → V → Bool) → IsEquality same → (a b : List (ℕ × V))
     → Ascends a → Ascends b → (missing_entries same a b ≡ []) ↔ EntriesBelow a b
 missing-below same decides [] [] ra rb = (λ _ n v l. l, λ _. refl)

@@ -1,4 +1,4 @@
--- The order of sorted maps, as lists of entries in ascending order of their numbers: the one with
+-- The order of sorted maps, as lists of entries in ascending order of their numbers: a list with
 -- fewer entries covers more.
 use Rattle.std.specs.Prelude.{◌≡◌, ℕ, zero, suc, ◌<◌, ⊤, Bool, false, ◌&&◌, nat_eq, nat_lt, if◌then◌else◌, List, [], ◌∷◌, Option, None, Some, length}
 use Rattle.std.specs.List.{AllByRecursion, filter}
@@ -26,7 +26,7 @@ IsGap n (e ∷ es) (suc i) = (e.0 < n) × IsGap n es i
 abbrev pub EntriesBelow : {V : Type 0} → List (ℕ × V) → List (ℕ × V) → Type 0
 EntriesBelow {V} a b = (n : ℕ) (v : V) → listed b n ≡ Some v → listed a n ≡ Some v
 
--- the numbers rise, and the values are in range
+-- the numbers ascend, and the values are in range
 pub record EntriesInRange {V : Type 0} (IsInRange : V → Type 0) (es : List (ℕ × V)) : Type 0 where
   pub ascends : Ascends es
   pub values : AllByRecursion (λ e. IsInRange e.1) es

@@ -4,7 +4,7 @@ use Rattle.std.specs.Prelude.{◌≡◌, ◌⊎◌, ℕ, ◌≤◌}
 use Rattle.tt_code.specs.declared.reason.Reason.{Reason}
 use Rattle.tt_abs.specs.Orders.{Order}
 
--- The words of a flow: where a program starts and with what; where it can go; which values are
+-- The parts of a flow: where a program starts and with what; where it can go; which values are
 -- within the limits; which values are refused at a point, and why; the values that one value gives,
 -- each with its point.
 pub record Flow (P S : Type 0) : Type 1 where
@@ -15,9 +15,8 @@ pub record Flow (P S : Type 0) : Type 1 where
   pub Refuses : P → S → Reason → Type 0
   pub Gives : P → S → P → S → Type 0
 
--- What each flow proves of its words, where a value can rise at most `height` times. What is
--- refused is refused wherever more is covered; what is given is covered by what is given wherever
--- more is covered.
+-- The laws of a flow in which a value can rise at most `height` times. Where a value is refused,
+-- each value above it is; what a value gives is below what a value above it gives.
 pub record FlowLaws {P S : Type 0} (o : Order S) (f : Flow P S) (height : ℕ) : Type 0 where
   -- the start
   pub entry_point : f.IsPoint f.entry
@@ -39,7 +38,7 @@ pub record FlowLaws {P S : Type 0} (o : Order S) (f : Flow P S) (height : ℕ) :
   -- the limits
   pub fits_above : (a b : S) → o.Below a b → f.Fits a → f.Fits b
   pub fits_height : (s : S) → o.InRange s → f.Fits s → o.left s ≤ height
-  -- what more is covered by
+  -- values above others
   pub refuses_above : (p : P) (a b : S) (r : Reason) → f.IsPoint p → o.InRange a → o.InRange b
       → o.Below a b → f.Refuses p a r
       → (r' : Reason) × f.Refuses p b r'

@@ -20,8 +20,8 @@ abbrev pub AreFunctionBodies : Setting → List (ℕ × ℕ) → Type 0
 AreFunctionBodies s functions =
     (n body : ℕ) → listed functions n ≡ Some body → IsFunctionBody s body
 
--- where the program that runs is the font program all three programs are one, where it is the CVT
--- program it is `prep`
+-- where the font program runs, all three programs are that one; where the CVT program runs, it is
+-- `prep`
 abbrev pub RunsAsItsKind : Setting → Kind → Type 0
 RunsAsItsKind s FontProgram = (s.font ≡ s.main) × (s.prep ≡ s.main)
 RunsAsItsKind s CvtProgram = s.prep ≡ s.main

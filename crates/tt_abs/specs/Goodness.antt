@@ -18,9 +18,9 @@ use Rattle.tt_abs.specs.StateFlow.{AreProgramsShort, Place, flow_of}
 use Rattle.tt_abs.specs.States.{state_order}
 use Rattle.tt_abs.specs.Transfers.{outcome_on_cells}
 
--- What an abstract state becomes by computing on its cells is what the machines that it covers
--- become, at each place where no body comes twice: it is refused only where one of them faults,
--- comes to run a body twice, or they come to too many lists of frames, and else it gives the
+-- What an abstract state becomes, computed on its cells, is what the machines that it covers
+-- become, at each place where no body comes twice. It is refused only where one of them faults or
+-- comes to run a body twice, or where they come to too many lists of frames; otherwise it gives the
 -- smallest covers of what they become.
 abbrev pub OutcomeStandsForMachines : Type 0
 OutcomeStandsForMachines =
@@ -28,7 +28,7 @@ OutcomeStandsForMachines =
     → AreInRange a.stack → has_body_twice fs ≡ false
     → StandsFor a fs at (outcome s) (outcome_on_cells s fs at a)
 
--- and it is refused exactly there
+-- the outcome on cells is refused exactly where one of these causes is there
 abbrev pub IsRefusedExactly : Type 0
 IsRefusedExactly =
     (s : Setting) (fs : List Frame) (at : ℕ) (a : Abstract) → AreProgramsShort s

@@ -31,7 +31,7 @@ frames_after (f ∷ fs) NextTurn = record f { turn = f.turn + 1 } ∷ fs
 frames_after [] Return = []
 frames_after (f ∷ fs) Return = fs
 
--- and the offset
+-- the offset after a move
 abbrev pub offset_after : List Frame → Move → ℕ
 offset_after fs (To offset) = offset
 offset_after fs (Enter f) = body_offset f.body
@@ -66,7 +66,7 @@ abbrev pub point_instruction : Setting → Point → Option Instruction
 point_instruction setting point =
     instruction_of (setting_of setting) (frames_of point) point.offset
 
--- what the machine's instructions do there
+-- what the instruction there makes of the state
 abbrev pub outcome_at : Setting → Point → State → Tested (List Next)
 outcome_at setting point state =
     outcome_on_cells (setting_of setting) (frames_of point) point.offset (abstract_of state)
@@ -76,16 +76,16 @@ abbrev pub control_at : Setting → Point → State → Control → Tested (List
 control_at setting point state op =
     controlled_cells (setting_of setting) (frames_of point) point.offset (abstract_of state) op
 
--- it leads by these moves, with this state left
+-- the outcome leads by these moves, with this state left
 abbrev pub LeadsBy : Point → Tested (List Next) → Moves → State → Type 0
 LeadsBy point outcome moves new = outcome ≡ Ok (nexts_of (frames_of point) moves (abstract_of new))
 
--- what holds of a refusal's reason; nothing is said where memory ran out
+-- what holds of a refusal's reason; where memory ran out, nothing has to hold
 abbrev pub ForReason : Refusal → (Reason → Type 0) → Type 0
 ForReason (Refused r) P = P r
 ForReason (OutOfMemory e) P = Unit {0}
 
--- it is refused for this reason
+-- the outcome is refused for this reason
 abbrev pub IsRefusedFor : {A : Type 0} → Tested A → Refusal → Type 0
 IsRefusedFor outcome e = ForReason e (λ r. outcome ≡ Err r)
 
@@ -97,11 +97,12 @@ StepsTo setting point old new moves = LeadsBy point (outcome_at setting point ol
 abbrev pub IsStepRefusedFor : Setting → Point → State → Refusal → Type 0
 IsStepRefusedFor setting point old e = IsRefusedFor (outcome_at setting point old) e
 
--- the same two of a control instruction
+-- a control instruction at the point turns the old state into the new one and leads by these moves
 abbrev pub ControlsTo : Setting → Point → Control → State → State → Moves → Type 0
 ControlsTo setting point op old new moves =
     LeadsBy point (control_at setting point old op) moves new
 
+-- a control instruction at the point is refused for this reason
 abbrev pub IsControlRefusedFor : Setting → Point → Control → State → Refusal → Type 0
 IsControlRefusedFor setting point op old e = IsRefusedFor (control_at setting point old op) e
 

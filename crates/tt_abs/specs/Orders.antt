@@ -2,8 +2,9 @@
 -- a join semilattice of finite height.)
 use Rattle.std.specs.Prelude.{◌≡◌, ℕ, ◌≤◌}
 
--- The words of an order: values whose numbers are in range and whose lists rise; the second covers
--- whatever the first does; the two can be joined; how often a value can still rise.
+-- The parts of an order: whether a value's numbers are in range and its lists ascend; whether a
+-- second value covers whatever a first one does; whether the two can be joined; how often a value
+-- can still rise.
 pub record Order (S : Type 0) : Type 1 where
   pub InRange : S → Type 0
   pub Below : S → S → Type 0
@@ -17,8 +18,8 @@ pub record IsLeastAbove {S : Type 0} (o : Order S) (a b c : S) : Type 0 where
   pub right : o.Below b c
   pub least : (d : S) → o.InRange d → o.Below a d → o.Below b d → o.Below c d
 
--- What each order proves of its words. What is below another value and differs from it can rise
--- more often (left_falls and left_strict).
+-- The laws of an order. A value that is below another and differs from it can rise more often than
+-- that one (left_falls and left_strict).
 pub record OrderLaws {S : Type 0} (o : Order S) : Type 0 where
   pub reflexive : (a : S) → o.Below a a
   pub transitive : (a b c : S) → o.Below a b → o.Below b c → o.Below a c

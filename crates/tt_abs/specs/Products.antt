@@ -3,6 +3,7 @@ use Rattle.std.specs.Prelude.{◌≡◌, ◌+◌}
 use Rattle.std.proofs.Common.{sym, ◌∙◌, ap, arith}
 use Rattle.tt_abs.specs.Orders.{Order, OrderLaws, IsLeastAbove}
 
+-- a pair is below another if each of its parts is
 abbrev pub product : {A B : Type 0} → Order A → Order B → Order (A × B)
 product a b = record {
   InRange = λ s. a.InRange s.0 × b.InRange s.1;
@@ -11,6 +12,7 @@ product a b = record {
   left = λ s. a.left s.0 + b.left s.1;
 }
 
+-- the laws of the order of pairs
 pub product_laws : {A B : Type 0} (a : Order A) (b : Order B) → OrderLaws a → OrderLaws b
     → OrderLaws (product a b)
 product_laws {A} {B} a b la lb = record {
@@ -36,6 +38,7 @@ product_laws {A} {B} a b la lb = record {
     pair_same : {s t : A × B} → s.0 ≡ t.0 → s.1 ≡ t.1 → s ≡ t
     pair_same p q = λ i. (p i, q i)
 
+-- the least parts above those of two pairs make the least pair above both
 pub product_least : {A B : Type 0} (a : Order A) (b : Order B) (s t u : A × B)
     → IsLeastAbove a s.0 t.0 u.0 → IsLeastAbove b s.1 t.1 u.1 → IsLeastAbove (product a b) s t u
 product_least a b s t u p q = record {
@@ -45,7 +48,7 @@ product_least a b s t u p q = record {
   least = λ d r x y. (p.least d.0 r.0 x.0 y.0, q.least d.1 r.1 x.1 y.1);
 }
 
--- the order of the values that f gives
+-- the order of values by what f gives of them
 abbrev pub along : {S T : Type 0} → (S → T) → Order T → Order S
 along f o = record {
   InRange = λ s. o.InRange (f s);
@@ -54,6 +57,7 @@ along f o = record {
   left = λ s. o.left (f s);
 }
 
+-- the laws of that order, where f can be undone
 pub along_laws : {S T : Type 0} (f : S → T) (back : T → S) → ((s : S) → back (f s) ≡ s)
     → (o : Order T) → OrderLaws o → OrderLaws (along f o)
 along_laws {S} f back undoes o l = record {
@@ -69,6 +73,7 @@ along_laws {S} f back undoes o l = record {
       sym (undoes s) ∙ ap back (l.left_strict (f s) (f t) rs rt p e) ∙ undoes t;
 }
 
+-- a value is the least one above two if what f gives of it is the least above what f gives of them
 pub along_least : {S T : Type 0} (f : S → T) (o : Order T) (s t u : S)
     → IsLeastAbove o (f s) (f t) (f u) → IsLeastAbove (along f o) s t u
 along_least f o s t u p =

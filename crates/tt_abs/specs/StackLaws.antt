@@ -7,6 +7,7 @@ use Rattle.tt_abs.specs.CellOrders.{known_cells}
 use Rattle.tt_abs.specs.CellLaws.{CellBelow-refl, CellBelow-trans, CellBelow-antisym, known_cells-falls, known_cells-strict}
 use Rattle.tt_abs.specs.Stacks.{StackBelow, known_count, stack_order}
 
+-- a stack that is below another is so without the tops too
 pub StackBelow-tail : (x y : Cell) (xs ys : List Cell) → StackBelow (x ∷ xs) (y ∷ ys)
     → StackBelow xs ys
 StackBelow-tail x y xs ys h = record {
@@ -14,6 +15,7 @@ StackBelow-tail x y xs ys h = record {
   cells = λ k. h.cells (suc k);
 }
 
+-- two stacks that are below each other are the same
 pub StackBelow-antisym : (a b : List Cell) → StackBelow a b → StackBelow b a → a ≡ b
 StackBelow-antisym [] [] p q = refl
 StackBelow-antisym [] (y ∷ ys) p q = absurd (omega (arith, p.depth))
@@ -24,6 +26,7 @@ StackBelow-antisym (x ∷ xs) (y ∷ ys) p q =
     StackBelow-antisym xs ys (StackBelow-tail x y xs ys p) (StackBelow-tail y x ys xs q) in
     cc
 
+-- a stack above another has no more known cells
 pub known_count-falls : (a b : List Cell) → StackBelow a b → known_count b ≤ known_count a
 known_count-falls [] [] p = omega arith
 known_count-falls [] (y ∷ ys) p = absurd (omega (arith, p.depth))
@@ -35,6 +38,7 @@ known_count-falls (x ∷ xs) (y ∷ ys) p =
       known_count-falls xs ys (StackBelow-tail x y xs ys p),
     )
 
+-- a stack above another with as many known cells is the same
 pub known_count-strict : (a b : List Cell) → StackBelow a b → known_count b ≡ known_count a → a ≡ b
 known_count-strict [] [] p e = refl
 known_count-strict [] (y ∷ ys) p e = absurd (omega (arith, p.depth))
@@ -47,6 +51,7 @@ known_count-strict (x ∷ xs) (y ∷ ys) p e =
     let tail : xs ≡ ys = known_count-strict xs ys below (omega arith) in
     cc
 
+-- the laws of the order of stacks
 pub stack_laws : OrderLaws stack_order
 stack_laws = record {
   reflexive = λ a. record { depth = refl; cells = λ k. CellBelow-refl _ };

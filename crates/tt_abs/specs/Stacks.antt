@@ -10,11 +10,11 @@ abbrev pub first : {A : Type 0} → List A → Option A
 first [] = None
 first (x ∷ xs) = Some x
 
--- the cell at a place, and unknown past the end
+-- the cell at a position, and unknown past the end
 abbrev pub cell_at : List Cell → ℕ → Cell
 cell_at cells k = slice_index_or cells k Unknown
 
--- both have so many cells at the bottom, and the same ones
+-- both have `count` cells at the bottom, and the same ones
 pub record ShareBottom (a b : List Cell) (count : ℕ) : Type 0 where
   pub enough : count ≤ length a
   pub enough_there : count ≤ length b
@@ -24,7 +24,7 @@ pub record ShareBottom (a b : List Cell) (count : ℕ) : Type 0 where
 abbrev pub StackInRange : List Cell → Type 0
 StackInRange cells = (k : ℕ) → CellInRange (cell_at cells k)
 
--- one depth, and each cell below its partner
+-- both have one depth, and each cell is below the one at the same position of the other
 pub record StackBelow (a b : List Cell) : Type 0 where
   pub depth : length a ≡ length b
   pub cells : (k : ℕ) → CellBelow (cell_at a k) (cell_at b k)
@@ -42,6 +42,7 @@ abbrev pub known_count : List Cell → ℕ
 known_count [] = 0
 known_count (c ∷ cells) = known_cells c + known_count cells
 
+-- the order of stacks
 abbrev pub stack_order : Order (List Cell)
 stack_order =
     record {

@@ -23,6 +23,7 @@ Place = List Frame × ℕ
 abbrev pub CallFits : Frame → Type 0
 CallFits f = (f.body < 2 ^ 32) × (f.call + 1 < 2 ^ 31)
 
+-- so it is for each call
 abbrev pub CallsFit : List Frame → Type 0
 CallsFit fs = AllByRecursion CallFits fs
 

@@ -41,26 +41,33 @@ abbrev pub start_of : List (ℕ × ℕ) → State
 start_of functions =
     record { stack = []; graphics = default_cells; functions = functions; storage = [] }
 
--- the order
+-- The order of states: part by part.
 
+-- the parts of a state: its stack, its graphics state, its functions and its storage cells
 abbrev pub Parts : Type 0
 Parts = List Cell × (Cells × (List (ℕ × ℕ) × List (ℕ × ℤ)))
 
+-- the parts of this state
 abbrev pub parts : State → Parts
 parts s = (s.stack, (s.graphics, (s.functions, s.storage)))
 
+-- the state of these parts
 abbrev pub state_from : Parts → State
 state_from p = record { stack = p.0; graphics = p.1.0; functions = p.1.1.0; storage = p.1.1.1 }
 
+-- the order of functions with their bodies, whatever these are
 abbrev pub function_order : Order (List (ℕ × ℕ))
 function_order = entry_order (λ _. ⊤)
 
+-- the order of storage cells with their numbers, which are numbers of the machine
 abbrev pub storage_order : Order (List (ℕ × ℤ))
 storage_order = entry_order IsNumber
 
+-- the order of functions and storage cells
 abbrev pub list_order : Order (List (ℕ × ℕ) × List (ℕ × ℤ))
 list_order = product function_order storage_order
 
+-- a state is below another if each of its parts is
 abbrev pub state_order : Order State
 state_order = along parts (product stack_order (product graphics_order list_order))
 
@@ -68,6 +75,7 @@ state_order = along parts (product stack_order (product graphics_order list_orde
 abbrev pub KeepsRange : State → State → Type 0
 KeepsRange old new = state_order.InRange old → state_order.InRange new
 
+-- the laws of the order of states
 pub state_laws : OrderLaws state_order
 state_laws =
     along_laws parts state_from (λ _. refl)
@@ -76,6 +84,7 @@ state_laws =
     (product_laws graphics_order list_order graphics_laws
     (product_laws function_order storage_order (entry_laws (λ _. ⊤)) (entry_laws IsNumber))))
 
+-- the least parts above those of two states make the least state above both
 pub state_least : (s t u : State) → IsLeastAbove stack_order s.stack t.stack u.stack
     → IsLeastAbove graphics_order s.graphics t.graphics u.graphics
     → IsLeastAbove function_order s.functions t.functions u.functions

@@ -50,7 +50,8 @@ is_below_in bound zone.Zero z = is_below z (bound Zero)
 is_below_in bound zone.One z = is_below z (bound One)
 is_below_in bound zone.Either z = is_below z (bound Zero) && is_below z (bound One)
 
--- whether the number names a point in each zone that counts, whichever zones the pointers name
+-- whether the number names a point in each zone in which it is tested, whichever zones the pointers
+-- name
 abbrev pub is_point_in : Setting → Cells → Within → ℤ → Bool
 is_point_in s a (In p) z = is_below_in (zone_size s) (pointer p a) z
 is_point_in s a (Both p q) z =
@@ -70,6 +71,7 @@ tested_cell passes r cells = do
 abbrev pub known_count : Cell → Tested ℕ
 known_count c = known c >>= count_of
 
+-- what an operand takes; a number that is tested has to be known
 abbrev pub take_cell : Setting → Cells → Operand → List Cell → Tested (Taking Cell)
 take_cell s a operand.Number cells = take_one cells
 take_cell s a (operand.Point within) cells = tested_cell (is_point_in s a within) reason.Point cells
@@ -86,11 +88,13 @@ take_cell s a (operand.PointPairs within) cells =
 take_cell s a operand.CvtPairs cells =
     pairs known_count (tested_cell (λ z. is_below z s.cvt) reason.Cvt) cells
 
+-- all operands of a line, in their order
 abbrev pub take_cells : Setting → Cells → List Operand → List Cell → Tested (Taking Cell)
 take_cells s a [] cells = Ok ([], cells)
 take_cells s a (o ∷ os) cells = then_take (take_cell s a o cells) (take_cells s a os)
 
--- the reference points that are used
+-- the reference points that are used: each is known, and names a point in each zone that its
+-- pointer may name
 abbrev pub test_cell_uses : Setting → Cells → List Use → Tested (Unit {0})
 test_cell_uses s a [] = Ok tt
 test_cell_uses s a (u ∷ us) = do
@@ -100,26 +104,32 @@ test_cell_uses s a (u ∷ us) = do
 
 -- Plain lines.
 
--- what changes read from cells whose tests have passed
+-- the index that a cell holds; 0 for an unknown one, which no test lets through
 abbrev pub index_in : Cell → ℕ
 index_in (Known k) = natural k
 index_in Unknown = 0
 
+-- a zone of the machine as a zone cell
 abbrev pub zone_cell : ZoneNumber → ZoneCell
 zone_cell Zero = zone.Zero
 zone_cell One = zone.One
 
+-- the zone that a cell names, once its number is tested to be 0 or 1; either one for an unknown
+-- cell
 abbrev pub zone_in : Cell → ZoneCell
 zone_in (Known k) = zone_cell (zone_of k)
 zone_in Unknown = zone.Either
 
+-- how changes read the cells that were taken
 abbrev pub cells : Reading Cell ZoneCell
 cells = record { one = Known (pos 1); index = index_in; zone = zone_in }
 
+-- what one push of a line gives, by the cells that were taken and the storage area
 abbrev pub cell_pushed : List Cell → (ℕ → Cell) → Pushed → Cell
 cell_pushed taken area pushed.Any = Unknown
 cell_pushed taken area (pushed.Stored i) = area (index_in (taken_at (Known (pos 1)) taken i))
 
+-- what all pushes of a line give, the deepest first
 abbrev pub cells_pushed : List Cell → (ℕ → Cell) → List Pushed → List Cell
 cells_pushed taken area [] = []
 cells_pushed taken area (p ∷ ps) = cell_pushed taken area p ∷ cells_pushed taken area ps
@@ -133,6 +143,7 @@ cells_on (c ∷ cs) stack = cells_on cs (c ∷ stack)
 abbrev pub leaves_cells : Abstract → List Cell → List Cell → Abstract
 leaves_cells a stack pushed = record a { stack = cells_on pushed stack }
 
+-- a plain line: its operands are taken, its reference points tested, and then it changes and pushes
 abbrev pub plain_cells : Setting → Abstract → Lists → Tested Abstract
 plain_cells s a line = do
   t ← take_cells s a.registers.graphics line.operands a.stack
@@ -142,10 +153,12 @@ plain_cells s a line = do
 
 -- Pushes and stack instructions.
 
+-- a push instruction: the numbers of its data are known
 abbrev pub pushed_cells : Push → Abstract → List ℕ → Abstract
 pushed_cells push a rest =
     leaves_cells a a.stack (map Known (numbers_in push (data_after push rest)))
 
+-- what a stack instruction does; an index has to be known
 abbrev pub shuffled_cells : StackOp → Abstract → Tested Abstract
 shuffled_cells Dup a = do
   t ← top a.stack
@@ -178,35 +191,41 @@ shuffled_cells Roll a = do
 -- Arithmetic. A result is known exactly where it is the same for all numbers that the operands'
 -- cells cover.
 
+-- the least number of the machine, -2^31
 abbrev pub LEAST : ℤ
 LEAST = negsuc 2147483647
 
+-- the greatest number of the machine, 2^31 - 1
 abbrev pub GREATEST : ℤ
 GREATEST = pos 2147483647
 
+-- a result is known if it is a number of the machine
 abbrev pub exact_cell : ℤ → Cell
 exact_cell z = if is_number z then Known z else Unknown
 
+-- a comparison that holds is 1, another one 0
 abbrev pub truth_cell : Bool → Cell
 truth_cell true = Known (pos 1)
 truth_cell false = Known (pos 0)
 
--- the answer if the test holds, else unknown
+-- the answer if the test holds, otherwise unknown
 abbrev pub only_if : Bool → Cell → Cell
 only_if true c = c
 only_if false c = Unknown
 
+-- what is computed of one number, if it is known
 abbrev pub of_known : (ℤ → Cell) → Cell → Cell
 of_known f (Known a) = f a
 of_known f Unknown = Unknown
 
+-- what is computed of two numbers, if both are known
 abbrev pub of_both_known : (ℤ → ℤ → Cell) → Cell → Cell → Cell
 of_both_known f (Known a) (Known b) = f a b
 of_both_known f Unknown b = Unknown
 of_both_known f a Unknown = Unknown
 
--- whether the first is below the second; no number is below the least one, and the greatest one is
--- below none
+-- whether the first is less than the second; no number is less than the least one, and the greatest
+-- one is less than none
 abbrev pub lt_cells : Cell → Cell → Cell
 lt_cells (Known a) (Known b) = truth_cell (int_lt a b)
 lt_cells Unknown (Known b) = only_if (equal b LEAST) (truth_cell false)
@@ -221,31 +240,34 @@ le_cells Unknown (Known b) = only_if (equal b GREATEST) (truth_cell true)
 le_cells (Known a) Unknown = only_if (equal a LEAST) (truth_cell true)
 le_cells Unknown Unknown = Unknown
 
--- false decides AND, true decides OR
+-- whether both are true: one that is false decides
 abbrev pub and_cells : Cell → Cell → Cell
 and_cells (Known a) (Known b) = truth_cell (is_true a && is_true b)
 and_cells Unknown (Known b) = only_if (not (is_true b)) (truth_cell false)
 and_cells (Known a) Unknown = only_if (not (is_true a)) (truth_cell false)
 and_cells Unknown Unknown = Unknown
 
+-- whether one of the two is true: one that is true decides
 abbrev pub or_cells : Cell → Cell → Cell
 or_cells (Known a) (Known b) = truth_cell (is_true a || is_true b)
 or_cells Unknown (Known b) = only_if (is_true b) (truth_cell true)
 or_cells (Known a) Unknown = only_if (is_true a) (truth_cell true)
 or_cells Unknown Unknown = Unknown
 
+-- an instruction that takes one cell and pushes what it gives
 abbrev pub of_one_cell : Abstract → (Cell → Cell) → Tested Abstract
 of_one_cell a f = do
   t ← top a.stack
   Ok (leaves_cells a t.1 (f t.0 ∷ []))
 
--- of the second element and the top
+-- an instruction that takes two cells and pushes what they give, the one below the top first
 abbrev pub of_two_cells : Abstract → (Cell → Cell → Cell) → Tested Abstract
 of_two_cells a f = do
   t ← top a.stack
   u ← top t.1
   Ok (leaves_cells a u.1 (f u.0 t.0 ∷ []))
 
+-- what an arithmetic instruction does
 abbrev pub computed_cells : Arithmetic → Abstract → Tested Abstract
 computed_cells Add a = of_two_cells a (of_both_known (λ x y. exact_cell (x +ℤ y)))
 computed_cells Sub a = of_two_cells a (of_both_known (λ x y. exact_cell (x -ℤ y)))
@@ -263,17 +285,18 @@ computed_cells Not a = of_one_cell a (of_known (λ x. truth_cell (not (is_true x
 
 -- Control.
 
--- Where successors are, and what is known of all that are there.
+-- A place to which an instruction leads, and what is known of all machines that come there.
 pub record Next : Type 0 where
   -- the calls that haven't returned, the innermost first
   pub frames : List Frame
   pub offset : ℕ
   pub state : Abstract
 
+-- one way, to this place
 abbrev pub one_way : List Frame → ℕ → Abstract → List Next
 one_way fs offset a = record { frames = fs; offset = offset; state = a } ∷ []
 
--- two ways with one state, the smaller offset first; one where they lead to one place
+-- two ways with one state, the smaller offset first; one way where they lead to one place
 abbrev pub two_ways : List Frame → ℕ → ℕ → Abstract → List Next
 two_ways fs m n a =
     if nat_eq m n then one_way fs m a
@@ -288,13 +311,14 @@ jump_target s fs at by stack = do
   ok ← holds_or (is_target s fs (pos at +ℤ z)) reason.Target
   Ok (natural (pos at +ℤ z))
 
+-- a jump by a cell, with this stack left
 abbrev pub jumps_cells : Setting → List Frame → ℕ → Abstract → Cell → List Cell → Tested (List Next)
 jumps_cells s fs at a by stack = do
   target ← jump_target s fs at by stack
   Ok (one_way fs target (leaves_cells a stack []))
 
--- a jump by a condition, where the condition is what the cell is: known to hold or not, or unknown,
--- so that both ways are possible
+-- a jump by a condition, which the cell says to hold or not; where it is unknown, both ways are
+-- possible
 abbrev pub jumps_by : Setting → List Frame → ℕ → Abstract → (ℤ → Bool) → Cell → Cell → List Cell
     → Tested (List Next)
 jumps_by s fs at a holds (Known e) by stack =
@@ -304,6 +328,7 @@ jumps_by s fs at a holds Unknown by stack = do
   target ← jump_target s fs at by stack
   Ok (two_ways fs (at + 1) target (leaves_cells a stack []))
 
+-- a jump by a condition, which is on top; the distance is below it
 abbrev pub jumps_if_cells : Setting → List Frame → ℕ → Abstract → (ℤ → Bool) → Tested (List Next)
 jumps_if_cells s fs at a holds = do
   e ← top a.stack
@@ -331,7 +356,7 @@ abbrev pub is_running : ℕ → List Frame → Bool
 is_running name [] = false
 is_running name (f ∷ fs) = nat_eq f.body name || is_running name fs
 
--- into a body for so many turns: the depth is tested before recursion
+-- a call of a body for this many turns: the depth is tested before recursion
 abbrev pub enters_cells : Setting → List Frame → ℕ → Abstract → ℕ → List Cell → ℕ
     → Tested (List Next)
 enters_cells s fs at a name stack turns = do
@@ -340,7 +365,7 @@ enters_cells s fs at a name stack turns = do
   Ok (one_way (record { body = name; call = at; turn = 1; count = turns } ∷ fs) (body_offset name)
       (leaves_cells a stack []))
 
--- by the count; 0 or less calls nothing
+-- a LOOPCALL of a body by its count; 0 or less calls nothing
 abbrev pub loops_cells : Setting → List Frame → ℕ → Abstract → ℕ → List Cell → ℤ
     → Tested (List Next)
 loops_cells s fs at a name stack (pos zero) = Ok (one_way fs (at + 1) (leaves_cells a stack []))
@@ -356,6 +381,7 @@ returns_cells a (f ∷ fs) =
     (leaves_cells a a.stack []))
     else Ok (one_way fs (f.call + 1) (leaves_cells a a.stack []))
 
+-- what an instruction does that leads elsewhere, or defines a function
 abbrev pub controlled_cells : Setting → List Frame → ℕ → Abstract → Control → Tested (List Next)
 controlled_cells s fs at a If = do
   e ← top a.stack
@@ -392,11 +418,14 @@ controlled_cells s fs at a InstructionDefinition = Err reason.InstructionDefinit
 
 -- An instruction.
 
+-- an outcome that goes on after the instruction
 abbrev pub goes_on_cells : List Frame → ℕ → Tested Abstract → Tested (List Next)
 goes_on_cells fs next result = do
   a ← result
   Ok (one_way fs next a)
 
+-- what an instruction does, by what its code stands for; the bytes after its code, and the offset
+-- after it
 abbrev pub does_cells : Setting → List Frame → ℕ → Abstract → Meaning → List ℕ → ℕ
     → Tested (List Next)
 does_cells s fs at a NoEntry rest next = Err reason.Opcode
@@ -406,16 +435,18 @@ does_cells s fs at a (Stack op) rest next = goes_on_cells fs next (shuffled_cell
 does_cells s fs at a (Computes op) rest next = goes_on_cells fs next (computed_cells op a)
 does_cells s fs at a (Controls c) rest next = controlled_cells s fs at a c
 
+-- whether no stack is deeper than maxStackElements
 abbrev pub are_within : Setting → List Next → Bool
 are_within s [] = true
 are_within s (n ∷ ns) = nat_le (length n.state.stack) s.limits.stack && are_within s ns
 
--- the depth afterwards
+-- the depth afterwards, tested for every instruction
 abbrev pub within_cells : Setting → List Next → Tested (List Next)
 within_cells s ns = do
   ok ← holds_or (are_within s ns) reason.Overflow
   Ok ns
 
+-- what happens at an instruction, if there is one, and the test of the depth after it
 abbrev pub performs_cells : Setting → List Frame → ℕ → Abstract → Option Instruction
     → Tested (List Next)
 performs_cells s fs at a None = Err reason.Target

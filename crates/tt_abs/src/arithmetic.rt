@@ -8,7 +8,8 @@ ghost use Rattle.tt_abs.specs.Transfers.{and_cells, exact_cell, le_cells, lt_cel
 
 use crate::cells::Cell;
 
-/// Returns the result, where it is a number of the machine, -2^31 to 2^31 - 1.
+/// Returns the result if it is a number of the machine, from -2^31 to 2^31 - 1, and an unknown cell
+/// otherwise.
 fn exact(value: i64) -> Cell
     ensures { result ≡ exact_cell value }
 {
@@ -29,7 +30,7 @@ fn truth(holds: bool) -> Cell
     }
 }
 
-/// Returns the answer where it is decided.
+/// Returns the answer if it is decided, and an unknown cell otherwise.
 fn decided(is_decided: bool, answer: bool) -> Cell
     ensures { result ≡ only_if is_decided (truth_cell answer) }
 {
@@ -50,7 +51,7 @@ pub fn sum(first: Cell, second: Cell) -> Cell
     }
 }
 
-/// Returns the first less the second, for SUB.
+/// Returns the first minus the second, for SUB.
 pub fn difference(first: Cell, second: Cell) -> Cell
     ensures { result ≡ of_both_known (λ a b. exact_cell (a -ℤ b)) first second }
 {
@@ -70,7 +71,7 @@ pub fn absolute_value(cell: Cell) -> Cell
     }
 }
 
-/// Returns the negative, for NEG.
+/// Returns the number with the other sign, for NEG.
 pub fn negative(cell: Cell) -> Cell
     ensures { result ≡ of_known (λ a. exact_cell (neg_ℤ a)) cell }
 {
@@ -80,8 +81,8 @@ pub fn negative(cell: Cell) -> Cell
     }
 }
 
-/// Returns whether the first is below the second, for LT. No number is below -2^31, and 2^31 - 1 is
-/// below none.
+/// Returns whether the first is less than the second, for LT. No number is less than -2^31, and
+/// 2^31 - 1 is less than none.
 pub fn less(first: Cell, second: Cell) -> Cell
     ensures { result ≡ lt_cells first second }
 {
@@ -141,7 +142,7 @@ pub fn is_true(number: i32) -> bool
     number != 0
 }
 
-/// Returns whether both are true, for AND: false decides.
+/// Returns whether both are true, for AND: one that is false decides.
 pub fn both(first: Cell, second: Cell) -> Cell
     ensures { result ≡ and_cells first second }
 {
@@ -157,7 +158,7 @@ pub fn both(first: Cell, second: Cell) -> Cell
     }
 }
 
-/// Returns whether one of the two is true, for OR: true decides.
+/// Returns whether one of the two is true, for OR: one that is true decides.
 pub fn either(first: Cell, second: Cell) -> Cell
     ensures { result ≡ or_cells first second }
 {

@@ -45,8 +45,8 @@ pub fn cell_of(code: u16) -> Cell
     }
 }
 
-/// Whether each code is the same as its partner. Compares bits only, so that the loop becomes
-/// vector code.
+/// Whether each code is the same as the one at the same position of the other list. Compares bits
+/// only, so that the compiler can turn the loop into vector instructions.
 pub fn are_equal(mine: &[u16], theirs: &[u16]) -> bool
     requires { length mine.now ≡ length theirs.now }
     ensures { IsTrue result ↔ (mine.now ≡ theirs.now) }
@@ -58,14 +58,15 @@ pub fn are_equal(mine: &[u16], theirs: &[u16]) -> bool
     difference == 0
 }
 
-/// Whether the second code's cell covers whatever the first one's does.
+/// Whether the second code's cell covers whatever the first one's covers.
 fn is_below(mine: u16, theirs: u16) -> bool
     ensures { IsTrue result ↔ CellBelow (cell_of_code mine) (cell_of_code theirs) }
 {
     (mine == theirs) | (theirs == UNKNOWN)
 }
 
-/// Whether each cell is below its partner, of two equally long lists.
+/// Whether each code's cell is below that of the code at the same position of the other list, which
+/// is as long.
 pub fn are_below(mine: &[u16], theirs: &[u16]) -> bool
     requires { length mine.now ≡ length theirs.now }
     ensures { IsTrue result ↔ StackBelow (cells_of mine.now) (cells_of theirs.now) }
@@ -95,7 +96,8 @@ fn joined_code(mine: u16, theirs: u16) -> u16
     if mine == theirs { mine } else { UNKNOWN }
 }
 
-/// Makes each cell the least one above it and its partner, of two equally long lists.
+/// Makes each code's cell the least one above it and that of the code at the same position of the
+/// other list, which is as long.
 pub fn join_codes(mine: &mut [u16], theirs: &[u16])
     requires { length mine.old ≡ length theirs.now }
     ensures { AreLeastCodes mine.old theirs.now mine.new }
@@ -105,7 +107,7 @@ pub fn join_codes(mine: &mut [u16], theirs: &[u16])
     }
 }
 
-/// Appends a byte's number, for which there is room.
+/// Appends the code of a byte's number, for which there is room.
 fn append(codes: &mut Codes, byte: u8)
     requires { HasRoomFor codes.old 1 }
     ensures cells { cells_of codes.new.items ≡ cells_of codes.old.items ++ Known (pos byte) ∷ [] }
@@ -115,7 +117,7 @@ fn append(codes: &mut Codes, byte: u8)
     codes.push_reserved(u16::from(byte));
 }
 
-/// Appends bytes, for which there is room.
+/// Appends the codes of bytes' numbers, for which there is room.
 pub fn append_bytes(codes: &mut Codes, bytes: &[u8])
     requires { HasRoomFor codes.old (length bytes.now) }
     ensures cells { cells_of codes.new.items

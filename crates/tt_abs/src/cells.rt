@@ -11,7 +11,9 @@ use std::default::MadeWith;
 /// What is known of a number: the number itself, or nothing.
 #[derive(Clone, Copy, Debug, PartialEq, Eq)]
 pub enum Cell {
+    /// This number.
     Known(i32),
+    /// Any number of the machine.
     Unknown,
 }
 
@@ -22,7 +24,7 @@ pub enum ZoneCell {
     Zero,
     /// The glyph zone.
     One,
-    /// One of the two.
+    /// One of the two, it isn't known which.
     Either,
 }
 

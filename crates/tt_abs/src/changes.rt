@@ -29,7 +29,7 @@ fn zone_of(cell: Cell) -> ZoneCell
     }
 }
 
-/// Returns the element at a position among so many that are taken; 1 where there is none.
+/// Returns the element at a position among the `count` that are taken; 1 where there is none.
 fn taken(stack: &Stack, count: usize, position: u8) -> Cell
     ensures { result ≡ taken_at (Known (pos 1)) (take count stack.now) position }
 {
@@ -43,7 +43,7 @@ fn taken(stack: &Stack, count: usize, position: u8) -> Cell
     }
 }
 
-/// Returns the number of the storage cell that an index names.
+/// Returns the storage index that a cell holds.
 fn index_of(cell: Cell) -> u16
     requires { IsIndex cell }
     ensures { result ≡ index_in cell }
@@ -54,7 +54,7 @@ fn index_of(cell: Cell) -> u16
     }
 }
 
-/// Makes one change by the elements that are taken.
+/// Makes one change by the `count` elements that are taken.
 fn update(state: &mut State, count: usize, change: Update) -> Result<(), AllocError>
     requires { IndexedUpdate (take count state.old.stack) change }
     ensures { OnOk result (ChangesTo count change state.old state.new) }
@@ -84,7 +84,11 @@ fn update(state: &mut State, count: usize, change: Update) -> Result<(), AllocEr
     Ok(())
 }
 
-/// Makes the changes of a line, one after the other.
+/// Makes the changes of a line, one after the other, by the `count` elements that are taken.
+///
+/// # Errors
+/// If memory runs out, or there would be more than 65,535 known storage cells; then the state's
+/// content is unspecified.
 pub fn update_all(state: &mut State, count: usize, changes: &[Update]) -> Result<(), AllocError>
     requires { AreIndexed (take count state.old.stack) changes.now }
     ensures { OnOk result (ChangesAllTo count changes.now state.old state.new) }
@@ -109,7 +113,10 @@ fn pushed_cell(state: &State, count: usize, pushed: Pushed) -> Cell
     }
 }
 
-/// Returns what a line pushes, before its changes.
+/// Returns what a line pushes, before its changes, by the `count` elements that are taken.
+///
+/// # Errors
+/// If memory runs out.
 pub fn pushed_cells(
     alloc: Global,
     state: &State,

@@ -35,7 +35,8 @@ fn result_of_one(operation: Arithmetic, cell: Cell) -> Cell
     }
 }
 
-/// Returns the result of an instruction of two operands, the second element of the stack first.
+/// Returns the result of an instruction of two operands: of the second element of the stack and the
+/// top.
 fn result_of_two(operation: Arithmetic, second: Cell, top: Cell) -> Cell
     ensures { result ≡ two_results operation second top }
 {
@@ -77,6 +78,10 @@ fn compute_of_two(stack: &mut Stack, operation: Arithmetic) -> Result<(), Refusa
 }
 
 /// Replaces an instruction's operands, which are on top, by its result.
+///
+/// # Errors
+/// `Refused` with `Underflow` where the stack has too few cells; then it stays as it is.
+/// `OutOfMemory`; then its cells are unspecified.
 pub fn compute(stack: &mut Stack, operation: Arithmetic) -> Result<(), Refusal>
     ensures ok { OnOk result (Restacks (computed_cells operation) stack.old stack.new) }
     ensures refused { IfErr result (IsStackRefusedFor (computed_cells operation) stack.old) }

@@ -25,7 +25,7 @@ fn next_offset(point: &Point<'_>) -> u32
     point.offset + 1
 }
 
-/// Returns the ways of an IF by its cell.
+/// Returns the ways of an IF, by the cell of its condition.
 fn ways_of_if(setting: &Setting<'_>, point: &Point<'_>, cell: Cell) -> Result<Moves, Reason>
     requires { point.now.offset < 2 ^ 31 }
     ensures ok { IfOk result
@@ -76,7 +76,7 @@ fn skip_else(setting: &Setting<'_>, point: &Point<'_>, state: &mut State) -> Res
     }
 }
 
-/// Returns where a jump by a cell leads, with a stack so deep.
+/// Returns where a jump by a cell leads, where the stack has `depth` cells.
 fn jump_target(
     setting: &Setting<'_>,
     point: &Point<'_>,
@@ -112,8 +112,8 @@ fn jump(setting: &Setting<'_>, point: &Point<'_>, state: &mut State) -> Result<M
     Ok(Moves::One(Move::To(target)))
 }
 
-/// Returns the ways of JROT and JROF by the condition's cell; they jump where the condition is as
-/// asked.
+/// Returns the ways of JROT and JROF by the condition's cell, where the stack has `depth` cells.
+/// They jump where the condition is as asked.
 fn ways_of_jump(
     setting: &Setting<'_>,
     point: &Point<'_>,
@@ -164,8 +164,8 @@ fn jump_if(
     Ok(moves)
 }
 
-/// Carries out FDEF: the number that is popped names the body after it, in the font program and in
-/// the CVT program.
+/// Carries out FDEF, which only the font program and the CVT program may have: the number that is
+/// popped names the body after it.
 fn define(setting: &Setting<'_>, point: &Point<'_>, state: &mut State) -> Result<Moves, Refusal>
     requires { point.now.offset + 1 < 2 ^ 31 }
     ensures ok { IfOk result
@@ -189,7 +189,8 @@ fn define(setting: &Setting<'_>, point: &Point<'_>, state: &mut State) -> Result
     Ok(Moves::One(Move::To(after)))
 }
 
-/// Returns the body of a called function: its number is below maxFunctionDefs and it is known.
+/// Returns the body of the function that a cell names, if its number is below maxFunctionDefs and
+/// it is known.
 fn called(setting: &Setting<'_>, state: &State, cell: Cell) -> Result<u32, Reason>
     ensures ok { IfOk result (λ n. called_at setting.now state.now cell ≡ Ok n) }
     ensures refused { IfErr result (λ r. called_at setting.now state.now cell ≡ Err r) }
@@ -218,7 +219,7 @@ fn is_running(frames: &[Frame], body: u32) -> bool
     false
 }
 
-/// Enters a body for so many turns, with a stack so deep.
+/// Enters a body for `turns` turns, where the stack has `depth` cells.
 fn enter(
     setting: &Setting<'_>,
     point: &Point<'_>,
@@ -257,7 +258,8 @@ fn call(setting: &Setting<'_>, point: &Point<'_>, state: &mut State) -> Result<M
     Ok(moves)
 }
 
-/// Returns where a LOOPCALL of a body leads by its count; 0 or less calls nothing.
+/// Returns where a LOOPCALL of a body leads by its count, where the stack has `depth` cells; 0 or
+/// less calls nothing.
 fn repeat(
     setting: &Setting<'_>,
     point: &Point<'_>,
@@ -312,7 +314,11 @@ fn end_function(setting: &Setting<'_>, point: &Point<'_>, state: &State) -> Resu
     }
 }
 
-/// Carries out a control instruction.
+/// Carries out a control instruction, and returns where the program goes on.
+///
+/// # Errors
+/// `Refused` with the reason of the first test of the instruction that fails; `OutOfMemory`. Then
+/// the state's content is unspecified.
 pub fn execute_control(
     setting: &Setting<'_>,
     point: &Point<'_>,

@@ -19,7 +19,8 @@ use crate::state::State;
 use tt_code::kinds::Effect;
 use tt_code::{Instr, Reason, entry};
 
-/// Carries out an instruction by the kind of its effect; the depth afterwards is tested elsewhere.
+/// Carries out an instruction by the kind of its effect, and returns where the program goes on. The
+/// depth afterwards is tested by `execute`.
 fn dispatch(
     setting: &Setting<'_>,
     point: &Point<'_>,
@@ -89,6 +90,7 @@ pub fn step(setting: &Setting<'_>, point: &Point<'_>, state: &mut State) -> Resu
 /// Where a program goes on from an instruction, and where the instruction ends.
 #[derive(Clone, Copy)]
 pub struct Stepped {
+    /// Where the program goes on.
     pub moves: Moves,
     /// The offset just after the instruction.
     pub end: u32,

@@ -10,7 +10,7 @@ ghost use Rattle.tt_abs.specs.Stacks.{stack_order};
 ghost use Rattle.tt_abs.specs.StateFlow.{HasFlowLaws};
 ghost use Rattle.tt_abs.specs.States.{abstract_of, function_order, state_order, storage_order};
 
-/// States that one value is below another exactly if that one covers all that it covers.
+/// States that one value is below another exactly if the other covers all that the one covers.
 pub fn below_is_coverage()
     ensures of_cells { IsCoverage cell_order Covers }
     ensures of_zones { IsCoverage zone_order CoversZone }
@@ -23,23 +23,25 @@ pub fn below_is_coverage()
 {}
 
 /// States that what a transfer refuses and gives, state by state, is a monotone flow of finite
-/// height: of each font's limits and programs, and of each list of functions in ascending order of
-/// their numbers that is within the limits.
+/// height. That is so for each font's limits and programs, and for each list of functions in
+/// ascending order of their numbers that is within the limits.
 pub fn flow_laws()
     ensures { HasFlowLaws }
 {}
 
-/// States that where a family of abstract states, one at each of some places, covers a program's
-/// start and what each of its states gives, and none of them is refused, the family covers every
-/// machine that a run from the start comes to, and none of these faults.
+/// States that a good family is safe. A family of abstract states, at most one at each place, is
+/// good if it covers a program's start and what each of its states gives, and none of them is
+/// refused. Then it covers every machine that a run from the start comes to, and none of these
+/// faults.
 pub fn good_families_are_safe()
     ensures { GoodFamiliesAreSafe }
 {}
 
 /// States that what an abstract state becomes at a place, computed on its cells, is what the
-/// machines that it covers become there, for every instruction: it is refused exactly where one of
-/// them faults, comes to run a body twice, or they come to more lists of calls than a program may
-/// have; else it gives one state for each place to which they come, the smallest that covers those.
+/// machines that it covers become there, for every instruction. It is refused exactly where one of
+/// these machines faults or comes to run a body twice, or where they come to more lists of calls
+/// than a program may have. Otherwise it gives one state for each place to which they come: the
+/// smallest that covers those there.
 pub fn outcome_on_cells_is_exact()
     ensures stands { OutcomeStandsForMachines }
     ensures refused { IsRefusedExactly }

@@ -32,6 +32,6 @@ pub use order::{AbsFault, Order};
 pub use refusal::Refusal;
 pub use setting::{Kind, Point, Setting};
 pub use sorted_map::{EntryValue, SortedMap};
-pub use stack::{Stack, StackCells};
+pub use stack::Stack;
 pub use state::State;
 pub use successors::{Successors, transfer};

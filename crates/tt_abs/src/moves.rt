@@ -25,13 +25,14 @@ pub enum Move {
 /// `first` and `get`.
 #[derive(Clone, Copy, Debug, PartialEq, Eq)]
 pub enum Moves {
+    /// To one place.
     One(Move),
     /// To one of two offsets of the same body, the smaller one first.
     Two(u32, u32),
 }
 
 impl Moves {
-    /// Returns the first of them.
+    /// Returns the first way.
     pub fn first(&self) -> Move
         ensures { slice_get (ways_of self.now) 0 ≡ Some result }
     {
@@ -41,7 +42,7 @@ impl Moves {
         }
     }
 
-    /// Returns the one with this number, from 0 on, if there are so many.
+    /// Returns the way with this number, counted from 0, if there is one.
     pub fn get(&self, index: usize) -> Option<Move>
         ensures { result ≡ slice_get (ways_of self.now) index }
     {
@@ -52,7 +53,7 @@ impl Moves {
         }
     }
 
-    /// Makes the two ways to two offsets; one where they are the same.
+    /// Makes the ways to two offsets; one way where they are the same.
     pub(crate) fn two(one: u32, other: u32) -> Moves
         ensures { (fs : List AnyFrame) (a : Abstract)
             → two_ways fs one other a ≡ nexts_of fs result a }

@@ -1,4 +1,5 @@
-//! Taking operands: how many cells are taken from the top, or the first test that fails.
+//! Taking operands. `taken` is how many cells are taken from the top already; a function that takes
+//! more returns how many are taken then, or the reason of the first test that fails.
 
 ghost use Rattle.std.specs.Prelude.{◌≡◌, Err, IfErr, IfOk, Ok, OnOk};
 ghost use Rattle.tt_code.specs.Operands.{pair, take_one, times};
@@ -15,6 +16,9 @@ use tt_code::kinds::{Operand, Use, Within};
 use tt_code::{Graphics, Reason};
 
 /// Returns the number of a cell.
+///
+/// # Errors
+/// `UnknownOperand` where it isn't known.
 pub fn number(cell: Cell) -> Result<i32, Reason>
     ensures ok { IfOk result (λ z. cell ≡ Known z) }
     ensures refused { IfErr result (λ r. known cell ≡ Err r) }
@@ -37,7 +41,7 @@ fn count(cell: Cell) -> Result<u32, Reason>
     }
 }
 
-/// Returns the number under so many cells, and how many are taken with it.
+/// Returns the number under the `taken` cells, and how many cells are taken with it.
 fn next_number(stack: &Stack, taken: usize) -> Result<(i32, usize), Reason>
     ensures ok { IfOk result (IsNumberUnder stack.now taken) }
     ensures refused { IfErr result (NoNumberUnder stack.now taken) }
@@ -96,7 +100,7 @@ fn take_contour(
     }
 }
 
-/// Takes a point that is in each zone that counts.
+/// Takes a point that is in each zone in which it is tested.
 fn take_point(
     setting: &Setting<'_>,
     graphics: &Graphics<Cell, ZoneCell>,
@@ -128,7 +132,7 @@ fn take_any(stack: &Stack, taken: usize) -> Result<usize, Reason>
     }
 }
 
-/// Takes so many points.
+/// Takes `count` points.
 fn take_points(
     setting: &Setting<'_>,
     graphics: &Graphics<Cell, ZoneCell>,
@@ -192,7 +196,7 @@ fn take_cvt_pair(stack: &Stack, taken: usize, cvt: u32) -> Result<usize, Reason>
     take_any(stack, after)
 }
 
-/// Returns the count under so many cells, and how many are taken with it.
+/// Returns the count under the `taken` cells, and how many cells are taken with it.
 fn next_count(stack: &Stack, taken: usize) -> Result<(u32, usize), Reason>
     ensures ok { IfOk result (IsCountUnder stack.now taken) }
     ensures refused { IfErr result (NoCountUnder stack.now taken) }
@@ -272,6 +276,9 @@ fn take_operand(
 }
 
 /// Takes the operands of a line, from the top on, and returns how many cells they are.
+///
+/// # Errors
+/// The reason of the first test that fails.
 pub fn take_operands(
     setting: &Setting<'_>,
     graphics: &Graphics<Cell, ZoneCell>,
@@ -291,6 +298,10 @@ pub fn take_operands(
 }
 
 /// Tests the reference points that a line uses.
+///
+/// # Errors
+/// The reason of the first test that fails: `UnknownOperand` where a reference point's number isn't
+/// known, `Point` where its zone may have no point of this number.
 pub fn test_uses(
     setting: &Setting<'_>,
     graphics: &Graphics<Cell, ZoneCell>,

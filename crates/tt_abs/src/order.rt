@@ -13,10 +13,10 @@ pub enum AbsFault {
     DepthMismatch,
 }
 
-/// Values that stand for sets of machine values: one is below another if that one covers all that
-/// it covers. Neither call takes memory.
+/// Values that stand for sets of machine values: one is below another if the other covers all that
+/// the one covers. Neither call takes memory.
 pub trait Order {
-    /// The words of the order.
+    /// The order: its relations, and how often a value can still rise.
     ghost order: { OrderOf Self };
 
     /// Whether the other value covers all that this one covers.
@@ -37,6 +37,6 @@ pub trait Order {
         ensures refused { IfErr result (λ _. order.SameDepth self.old other.now → ⊥) }
         ensures kept { IfErr result (λ _. self.new ≡ self.old) };
 
-    /// What each order proves.
+    /// The laws, which each order proves.
     ghost laws: { OrderLaws order };
 }

@@ -16,6 +16,10 @@ use tt_code::kinds::Row;
 
 /// Carries out a plain line: its operands are taken and its reference points tested, and then it
 /// changes or pushes. No line does both.
+///
+/// # Errors
+/// `Refused` with the reason of the first test that fails; then the state stays as it is.
+/// `OutOfMemory`; then the state's content is unspecified.
 pub fn execute_plain(setting: &Setting<'_>, state: &mut State, line: &Row) -> Result<(), Refusal>
     requires tested { is_tested_line (line_of line.now) ≡ true }
     requires one_kind { is_of_one_kind (line_of line.now) ≡ true }

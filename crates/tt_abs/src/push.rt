@@ -11,6 +11,10 @@ use std::alloc::AllocError;
 use tt_code::kinds::Push;
 
 /// Pushes cells, the last one on top.
+///
+/// # Errors
+/// If memory runs out, or there would be more than 2^31 - 1 cells; then the stack's cells are
+/// unspecified.
 pub fn push_cells(stack: &mut Stack, cells: &[Cell]) -> Result<(), AllocError>
     ensures { OnOk result (stack.new ≡ cells_on cells.now stack.old) }
 {
@@ -21,6 +25,10 @@ pub fn push_cells(stack: &mut Stack, cells: &[Cell]) -> Result<(), AllocError>
 }
 
 /// Pushes the numbers that the data of a push instruction spell.
+///
+/// # Errors
+/// If memory runs out, or there would be more than 2^31 - 1 cells; then the stack's cells are
+/// unspecified.
 pub fn push_data(stack: &mut Stack, push: Push, bytes: &[u8]) -> Result<(), AllocError>
     ensures { OnOk result (stack.new ≡ cells_on (map Known (numbers_in push bytes.now)) stack.old) }
 {

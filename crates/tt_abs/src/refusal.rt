@@ -10,7 +10,7 @@ pub enum Refusal {
     /// A test of the instruction fails.
     #[error(transparent)]
     Refused(Reason),
-    /// Memory could not be grown, which says nothing about the program.
+    /// Memory ran out, which is no fault of the program.
     #[error(transparent)]
     OutOfMemory(AllocError),
 }

@@ -29,7 +29,7 @@ pub fn pointer(graphics: &Graphics<Cell, ZoneCell>, pointer: Pointer) -> ZoneCel
     }
 }
 
-/// Sets a reference point.
+/// Sets what is known of a reference point.
 pub fn set_reference(graphics: &mut Graphics<Cell, ZoneCell>, reference: Reference, cell: Cell)
     ensures { graphics.new ≡ with_reference reference cell graphics.old }
 {
@@ -40,7 +40,7 @@ pub fn set_reference(graphics: &mut Graphics<Cell, ZoneCell>, reference: Referen
     }
 }
 
-/// Sets a zone pointer.
+/// Sets what is known of a zone pointer.
 pub fn set_pointer(graphics: &mut Graphics<Cell, ZoneCell>, pointer: Pointer, zone: ZoneCell)
     ensures { graphics.new ≡ with_pointer pointer zone graphics.old }
 {

@@ -1,5 +1,5 @@
-//! What stays the same through a program: the font's limits, its programs, and what kind of program
-//! runs.
+//! What stays the same while a program runs: the font's limits, its programs, and what kind of
+//! program runs.
 
 ghost use Rattle.std.specs.Prelude.{◌≡◌, ◌<◌, ◌≤ℤ◌, ◌^◌, [], Some, ℤ, pos};
 ghost use Rattle.tt_code.specs.Control.{may_define as may_define_functions};
@@ -30,7 +30,8 @@ pub enum Kind {
     Font,
     /// The CVT program, `prep`.
     Cvt,
-    /// A glyph program; how many points and contours the glyph has, except for phantom points.
+    /// A glyph program; how many points, phantom points not counted, and how many contours the
+    /// glyph has.
     Glyph { points: u16, contours: u16 },
 }
 
@@ -38,9 +39,11 @@ pub enum Kind {
 /// program `prep` is `main`.
 #[derive(Clone, Copy)]
 pub struct Setting<'a> {
+    /// What the font allows its programs.
     pub limits: Limits,
     /// How many control values the font has.
     pub cvt: u32,
+    /// Which kind of program runs.
     pub kind: Kind,
     /// The program that runs.
     pub main: &'a Program<'a>,
@@ -53,12 +56,13 @@ pub struct Setting<'a> {
     pub start: &'a [(u16, u32)],
 }
 
-/// Where a program is.
+/// A program point: the open calls and an offset.
 #[derive(Clone, Copy)]
 pub struct Point<'a> {
     /// The calls that haven't returned, the outermost first.
     pub frames: &'a [Frame],
-    /// The offset in the program of the innermost frame's body.
+    /// The offset in the program that has the innermost frame's body; without frames, in the main
+    /// program.
     pub offset: u32,
 }
 
@@ -159,7 +163,7 @@ impl<'a> Setting<'a> {
     }
 
     /// Makes the setting of a glyph program of the same font, from that of the CVT program. The
-    /// glyph has so many points, except for phantom points, and so many contours. Its program
+    /// glyph has this many points, phantom points not counted, and this many contours. Its program
     /// starts with these functions, in ascending order of their numbers: those that are known where
     /// the CVT program ends.
     pub fn for_glyph_program(
@@ -204,7 +208,8 @@ impl<'a> Setting<'a> {
         }
     }
 
-    /// Returns the least number of points of the zones that may be meant.
+    /// Returns how many points the zone has; where it may be either zone, the smaller number of the
+    /// two.
     fn points_in(&self, zone: ZoneCell) -> u32
         ensures { (z : ℤ)
             → is_below z result ≡ is_below_in (zone_size (setting_of self.now)) zone z }
@@ -217,7 +222,7 @@ impl<'a> Setting<'a> {
         }
     }
 
-    /// Returns the least number of points of the zones that count.
+    /// Returns the least number of points that a zone in which a point number is tested may have.
     fn points_within(&self, graphics: &Graphics<Cell, ZoneCell>, within: Within) -> u32
         ensures { (z : ℤ)
             → is_below z result ≡ is_point_in (setting_of self.now) graphics.now within z }
@@ -235,14 +240,14 @@ impl<'a> Setting<'a> {
         }
     }
 
-    /// Whether the number is that of a point in each zone that may be meant.
+    /// Whether the number is that of a point in the zone; where it may be either zone, in both.
     pub(crate) fn is_in(&self, zone: ZoneCell, number: i32) -> bool
         ensures { result ≡ is_below_in (zone_size (setting_of self.now)) zone number }
     {
         is_index(number, self.points_in(zone))
     }
 
-    /// Whether the number is that of a point in each zone that counts.
+    /// Whether the number is that of a point in each zone in which it is tested.
     pub(crate) fn is_point(
         &self,
         graphics: &Graphics<Cell, ZoneCell>,
@@ -254,7 +259,7 @@ impl<'a> Setting<'a> {
         is_index(number, self.points_within(graphics, within))
     }
 
-    /// Whether the number is that of a contour in each zone that may be meant.
+    /// Whether the number is that of a contour in the zone; where it may be either zone, in both.
     pub(crate) fn is_contour(&self, zone: ZoneCell, number: i32) -> bool
         ensures { result ≡ is_below_in (contours_in (setting_of self.now)) zone number }
     {
@@ -293,8 +298,8 @@ impl<'a> Setting<'a> {
         }
     }
 
-    /// Whether control may jump there from the point: to an instruction of the same body, in a main
-    /// program to its end too.
+    /// Whether control may jump to an offset from the point: to an instruction of the same body or,
+    /// in the main program, to its end.
     pub(crate) fn is_target(&self, point: &Point<'_>, target: i64) -> bool
         requires { target ≤ℤ pos 4294967295 }
         ensures { result ≡ is_jump_target (setting_of self.now) (frames_of point.now) target }

@@ -15,7 +15,10 @@ use crate::stack::Stack;
 use tt_code::Reason;
 use tt_code::kinds::StackOp;
 
-/// Returns the cell under so many others.
+/// Returns the cell under `taken` others.
+///
+/// # Errors
+/// `Underflow` where there is no such cell.
 pub fn cell_under(stack: &Stack, taken: usize) -> Result<Cell, Reason>
     ensures ok { IfOk result (λ c. drop taken stack.now ≡ c ∷ drop (taken + 1) stack.now) }
     ensures refused { IfErr result (λ r. (drop taken stack.now ≡ []) × (r ≡ reason.Underflow)) }
@@ -36,7 +39,7 @@ fn duplicate(stack: &mut Stack) -> Result<(), Refusal>
     Ok(())
 }
 
-/// Carries out POP: drops the top.
+/// Carries out POP: removes the top.
 fn discard(stack: &mut Stack) -> Result<(), Refusal>
     ensures ok { OnOk result (Restacks (shuffled_cells op.Pop) stack.old stack.new) }
     ensures refused { IfErr result (IsStackRefusedFor (shuffled_cells op.Pop) stack.old) }
@@ -69,7 +72,7 @@ fn push_depth(stack: &mut Stack) -> Result<(), Refusal>
     Ok(())
 }
 
-/// Returns the place that an index from 1 names, the top being 0.
+/// Returns the position that an index from 1 names, the top being 0.
 fn place(index: i32) -> Result<usize, Reason>
     ensures ok { IfOk result (λ n. index ≡ pos (suc n)) }
     ensures refused { IfErr result (λ r. (cells : List AnyCell) → element index cells ≡ Err r) }
@@ -80,8 +83,8 @@ fn place(index: i32) -> Result<usize, Reason>
     }
 }
 
-/// Reads the index on top: returns how many cells lie above the cell that it names, except for the
-/// index itself, and that cell.
+/// Reads the index on top: returns how many cells lie above the cell that it names, the index
+/// itself not counted, and that cell.
 fn indexed(stack: &Stack) -> Result<(usize, Cell), Reason>
     ensures ok { IfOk result (IsNamedCell stack.now) }
     ensures refused { IfErr result (NamesNoCell stack.now) }
@@ -132,6 +135,11 @@ fn roll(stack: &mut Stack) -> Result<(), Refusal>
 }
 
 /// Carries out an instruction that moves the stack's cells.
+///
+/// # Errors
+/// `Refused` with `Underflow` where the stack has too few cells, with `UnknownOperand` where an
+/// index isn't known, with `Count` where it is below 1; then the stack stays as it is.
+/// `OutOfMemory`; then its cells are unspecified.
 pub fn shuffle(stack: &mut Stack, operation: StackOp) -> Result<(), Refusal>
     ensures ok { OnOk result (Restacks (shuffled_cells operation) stack.old stack.new) }
     ensures refused { IfErr result (IsStackRefusedFor (shuffled_cells operation) stack.old) }

@@ -1,5 +1,5 @@
-//! Sorted maps: entries in ascending order of their numbers, as functions with their bodies and
-//! storage cells with their numbers.
+//! Sorted maps: entries in ascending order of their numbers, such as functions with their bodies
+//! and storage cells with their numbers.
 
 ghost use Rattle.std.specs.Prelude.{◌≡◌, ◌↔◌, ℕ, ◌<◌, ◌≤◌, List, [], ◌∷◌, IsTrue, IfOk, MatchResult, OnOk, OnErr, take, length};
 ghost use Rattle.std.specs.Option.{IsSome};
@@ -13,12 +13,12 @@ use crate::order::{AbsFault, Order};
 use std::alloc::{AllocError, Global};
 use std::marker::Model;
 
-/// How many entries a map has at most.
+/// How many entries `put` lets a map have.
 const MOST_ENTRIES: usize = 65_535;
 
 /// A value of an entry: it is copied, and `==` tells equal values from others.
 pub trait EntryValue: Copy + PartialEq {
-    /// The values of the machine.
+    /// Which values are in the machine's range.
     ghost is_in_range: { Self → Type 0 };
 
     /// Whether the entries of two lists of one length are the same.
@@ -26,11 +26,12 @@ pub trait EntryValue: Copy + PartialEq {
         requires { length mine.now ≡ length theirs.now }
         ensures { IsTrue result ↔ (mine.now ≡ theirs.now) };
 
+    /// What `==` tells: whether two values are equal.
     ghost decides: { IsEquality Self.eq };
 }
 
 /// Whether functions with their bodies are the same, in two lists of one length. Compares bits
-/// only, so that no entry takes a branch.
+/// only, so that no entry costs a branch.
 fn are_equal(mine: &[(u16, u32)], theirs: &[(u16, u32)]) -> bool
     requires { length mine.now ≡ length theirs.now }
     ensures { IsTrue result ↔ (mine.now ≡ theirs.now) }
@@ -68,9 +69,10 @@ impl EntryValue for i32 {
     }
 }
 
-/// Values in ascending order of their numbers, at most one for each number.
+/// Entries in ascending order of their numbers, at most one of each number.
 #[derive(Drop)]
 pub struct SortedMap<T> {
+    /// The entries: a number and its value.
     entries: Vec<(u16, T)>,
 }
 
@@ -85,7 +87,7 @@ impl<T> Model for SortedMap<T> {
     ghost invariant = { λ e. IsAscending e.entries.items };
 }
 
-/// Returns where a number is, or where it would be.
+/// Returns the index at which a number is listed, or at which its entry would have to be put.
 fn search<T>(entries: &[(u16, T)], number: u16) -> Result<usize, usize>
     requires { Ascends entries.now }
     ensures place { MatchResult result (IsAt number entries.now) (IsGap number entries.now) }
@@ -105,7 +107,7 @@ fn value_at<T: Copy>(entries: &[(u16, T)], number: u16) -> Option<T>
     }
 }
 
-/// Puts an entry at a place, if there is room.
+/// Puts an entry at an index, if there is room.
 fn insert_entry<T: Drop>(
     entries: &mut Vec<(u16, T)>,
     at: usize,
@@ -122,7 +124,7 @@ fn insert_entry<T: Drop>(
     Ok(())
 }
 
-/// Puts an entry at its place, instead of the one of its number.
+/// Puts an entry where its number belongs, in place of the one of that number if there is one.
 fn put_entry<T: Copy>(entries: &mut Vec<(u16, T)>, number: u16, value: T) -> Result<(), AllocError>
     requires { Ascends entries.old.items }
     ensures ok { OnOk result (entries.new.items ≡ with_entry number value entries.old.items) }
@@ -168,7 +170,7 @@ fn rest_after<'a, T: EntryValue>(entries: &'a [(u16, T)], entry: &(u16, T)) -> &
     }
 }
 
-/// Whether the first list has all the entries of the second, found by passing along the first.
+/// Whether the first list has all the entries of the second, found by one pass along both.
 fn passes_all<T: EntryValue>(mine: &[(u16, T)], theirs: &[(u16, T)]) -> bool
     requires mine_rise { Ascends mine.now }
     requires theirs_rise { Ascends theirs.now }
@@ -181,8 +183,8 @@ fn passes_all<T: EntryValue>(mine: &[(u16, T)], theirs: &[(u16, T)]) -> bool
     missing.is_empty()
 }
 
-/// Whether the first list has all the entries of the second. Of two lists of one length, each has
-/// all those of the other exactly if they are the same.
+/// Whether the first list has all the entries of the second. Of two lists of one length this is so
+/// exactly if they are the same.
 fn lists_all<T: EntryValue>(mine: &[(u16, T)], theirs: &[(u16, T)]) -> bool
     requires mine_rise { Ascends mine.now }
     requires theirs_rise { Ascends theirs.now }
@@ -209,7 +211,7 @@ fn from_number<T>(entries: &[(u16, T)], number: u16) -> &[(u16, T)]
     rest
 }
 
-/// Moves to the front the entries that the other list has too, and returns how many they are.
+/// Moves to the front the entries that the other list has too, and returns how many these are.
 fn gather_common<T: EntryValue>(mine: &mut [(u16, T)], theirs: &[(u16, T)]) -> usize
     requires mine_rise { Ascends mine.old }
     requires theirs_rise { Ascends theirs.now }
@@ -272,7 +274,7 @@ impl<T: Copy> SortedMap<T> {
         SortedMap::from_slice(alloc, self.entries.as_slice())
     }
 
-    /// Becomes a list of these entries, in the memory that it has where that is enough.
+    /// Becomes a map of these entries, in the memory that it has where that is enough.
     ///
     /// # Errors
     /// If memory runs out; then the map's entries are unspecified.
@@ -320,7 +322,7 @@ impl<T: Copy> SortedMap<T> {
         value_at(self.entries.as_slice(), number)
     }
 
-    /// Puts an entry at its place, instead of the one of its number.
+    /// Puts an entry where its number belongs, in place of the one of that number if there is one.
     ///
     /// # Errors
     /// If memory runs out, or there are 65,535 other entries; then the map stays as it is. An entry

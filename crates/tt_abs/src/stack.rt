@@ -1,6 +1,6 @@
 //! The stack of cells.
 
-ghost use Rattle.std.specs.Prelude.{◌≡◌, ℕ, None, ◌↔◌, ◌<◌, ◌≢◌, ◌+◌, ◌-◌, ◌^◌, ◌++◌, [], ◌∷◌, length, drop, take, remove, reverse, slice_get, map, pos, ◌≤◌, IsTrue, IfSome, OnOk, OnErr, IfOk};
+ghost use Rattle.std.specs.Prelude.{◌≡◌, ℕ, ◌↔◌, ◌<◌, ◌≢◌, ◌+◌, ◌-◌, ◌^◌, ◌++◌, [], ◌∷◌, length, drop, take, remove, reverse, slice_get, map, pos, ◌≤◌, IsTrue, IfSome, OnOk, OnErr, IfOk};
 ghost use Rattle.smallvec.specs.SmallVec.{HasRoomFor};
 ghost use Rattle.tt_code.specs.Computing.{word_number, words};
 ghost use Rattle.tt_abs.specs.Transfers.{cells_on};
@@ -23,17 +23,18 @@ use std::marker::Model;
 /// How many cells a stack may have at most.
 const MOST_CELLS: usize = 0x7fff_ffff;
 
-/// Up to so many codes are removed one by one: `truncate` clears what it removes by a call, which
-/// isn't worth it for a few.
+/// At most this many codes are removed one by one: `truncate` clears what it removes by a call,
+/// which isn't worth it for a few.
 const FEW: usize = 8;
 
 /// A stack of cells, which contracts see top first. Up to 32 cells need no allocation, if each is
 /// unknown or has a number from -32,767 to 32,767.
 #[derive(Drop)]
 pub struct Stack {
-    /// The cells from the bottom up to the uppermost that has no code; usually none.
+    /// The lowest cells, kept as they are because one of them had no code when it was pushed;
+    /// usually none.
     wide: Vec<Cell>,
-    /// The codes of the cells above those.
+    /// The codes of the cells above the wide ones.
     codes: Codes,
 }
 
@@ -49,46 +50,8 @@ impl Model for Stack {
     ghost invariant = { λ s. length s.wide.items + length s.codes.items < 2 ^ 31 };
 }
 
-/// The cells of a stack that are still to come, from the bottom up.
-#[derive(Drop)]
-pub struct StackCells<'a> {
-    /// Those of the wide cells that are still to come.
-    wide: &'a [Cell],
-    /// The codes of the cells above those that are still to come.
-    codes: &'a [u16],
-}
-
-impl<'a> Model for StackCells<'a> {
-    ghost use Rattle.std.specs.Prelude.{List};
-    ghost use Rattle.tt_abs.specs.declared.cells.Cell.{Cell};
-    ghost use Rattle.tt_abs.specs.Representation.Codes.{kept_cells};
-
-    ghost Value = { List Cell };
-
-    ghost view = { λ s. kept_cells s.wide.now s.codes.now };
-}
-
-impl<'a> StackCells<'a> {
-    /// Takes the first of the cells that are still to come: `None` exactly where there is none, and
-    /// from then on always.
-    pub fn take_first(&mut self) -> Option<Cell>
-        ensures none { result ≡ None → self.old ≡ [] }
-        ensures done { result ≡ None → self.new ≡ [] }
-        ensures some { IfSome result (λ cell. self.old ≡ cell ∷ self.new) }
-    {
-        if let [first, rest @ ..] = self.wide {
-            self.wide = rest;
-            return Some(*first);
-        }
-        let [first, rest @ ..] = self.codes else {
-            return None;
-        };
-        self.codes = rest;
-        Some(cell_of(*first))
-    }
-}
-
-/// Makes room for the codes of so many more cells, above the wide ones.
+/// Makes room for the codes of `more` further cells, above the `wide` cells that are kept as they
+/// are.
 fn make_room(codes: &mut Codes, wide: usize, more: usize) -> Result<(), AllocError>
     requires { wide + length codes.old.items < 2 ^ 31 }
     ensures items { codes.new.items ≡ codes.old.items }
@@ -101,7 +64,7 @@ fn make_room(codes: &mut Codes, wide: usize, more: usize) -> Result<(), AllocErr
     codes.reserve(more)
 }
 
-/// Puts a cell on top that has no code: it and those below it become wide cells.
+/// Puts a cell that has no code on top: it and those below it become wide cells.
 fn push_wide(wide: &mut Vec<Cell>, codes: &mut Codes, cell: Cell) -> Result<(), AllocError>
     requires { length wide.old.items + length codes.old.items < 2 ^ 31 }
     ensures cells { OnOk result (kept_cells wide.new.items codes.new.items
@@ -116,7 +79,7 @@ fn push_wide(wide: &mut Vec<Cell>, codes: &mut Codes, cell: Cell) -> Result<(), 
     Ok(())
 }
 
-/// Removes so many codes from the end, or all of them if there are fewer.
+/// Removes `count` codes from the end, or all of them if there are fewer.
 fn shorten(codes: &mut Codes, count: usize)
     ensures { codes.new.items ≡ take (length codes.old.items - count) codes.old.items }
 {
@@ -143,7 +106,7 @@ fn number_facts(cell: Cell)
     ensures { CellInRange cell }
 {}
 
-/// Whether the cells are the same.
+/// Whether the cells of two equally long lists are the same.
 fn cells_equal(mine: &[Cell], theirs: &[Cell]) -> bool
     requires { length mine.now ≡ length theirs.now }
     ensures { IsTrue result ↔ (mine.now ≡ theirs.now) }
@@ -156,7 +119,7 @@ fn cells_equal(mine: &[Cell], theirs: &[Cell]) -> bool
     true
 }
 
-/// Whether so many codes at the beginning are those of the same cells in both lists.
+/// Whether the first `count` codes of both lists are those of the same cells.
 fn have_same_front(mine: &[u16], theirs: &[u16], count: usize) -> bool
     requires enough { count ≤ length mine.now }
     requires enough_there { count ≤ length theirs.now }
@@ -207,6 +170,9 @@ impl Stack {
 
     /// Puts cells on top, one after the other, up to the first that has no code, and returns how
     /// many they are.
+    ///
+    /// # Errors
+    /// If memory runs out, or there would be more than 2^31 - 1 cells.
     fn push_coded(&mut self, cells: &[Cell]) -> Result<usize, AllocError>
         ensures count { IfOk result (λ n. n ≤ length cells.now) }
         ensures stop { IfOk result (λ n. n < length cells.now
@@ -264,7 +230,7 @@ impl Stack {
         Ok(())
     }
 
-    /// Returns the cell at a place, from the bottom: 0 is the bottom.
+    /// Returns the cell at a position from the bottom: 0 is the bottom.
     fn at(&self, place: usize) -> Cell
         requires { place < length self.now }
         ensures { result ≡ cell_at (reverse self.now) place }
@@ -278,17 +244,7 @@ impl Stack {
         }
     }
 
-    /// Returns the cells, from the bottom up.
-    pub fn cells(&self) -> StackCells<'_>
-        ensures { result ≡ reverse self.now }
-    {
-        StackCells {
-            wide: self.wide.as_slice(),
-            codes: self.codes.as_slice(),
-        }
-    }
-
-    /// Returns the cell under so many others, if there is one: under 0 others is the top.
+    /// Returns the cell under `taken` others, if there is one: under 0 others is the top.
     pub fn under(&self, taken: usize) -> Option<Cell>
         ensures cell { result ≡ first (drop taken self.now) }
         ensures room { IfSome result (λ _. taken + 1 < 2 ^ 64) }
@@ -301,7 +257,7 @@ impl Stack {
         }
     }
 
-    /// Returns the cell above so many others, if there is one: above 0 others is the bottom.
+    /// Returns the cell above `others` cells, if there is one: above 0 cells is the bottom.
     pub fn above(&self, others: usize) -> Option<Cell>
         ensures { result ≡ slice_get (reverse self.now) others }
     {
@@ -312,7 +268,7 @@ impl Stack {
         }
     }
 
-    /// Removes so many cells from the top, or all of them if there are fewer.
+    /// Removes `count` cells from the top, or all of them if there are fewer.
     pub fn cut(&mut self, count: usize)
         ensures { self.new ≡ drop count self.old }
     {
@@ -325,7 +281,7 @@ impl Stack {
         }
     }
 
-    /// Removes one cell, by its place from the top: 0 is the top.
+    /// Removes the cell at a position from the top: 0 is the top.
     pub fn remove(&mut self, place: usize)
         requires { place < length self.old }
         ensures { self.new ≡ remove self.old place }
@@ -347,7 +303,7 @@ impl Stack {
         self.codes.clear();
     }
 
-    /// Returns where its memory comes from.
+    /// Returns the allocator from which the stack has its memory.
     pub(crate) fn allocator(&self) -> Global {
         *self.codes.allocator()
     }
@@ -391,8 +347,8 @@ impl Stack {
         self.wide.extend_from_slice(other.wide.as_slice())
     }
 
-    /// Whether the cells are kept in the same way, which is fast to find. Usually they are, if they
-    /// are the same.
+    /// Whether the same cells are wide in both stacks, and the codes are the same: this is found
+    /// fast, and usually so where the cells are the same.
     fn has_same_parts(&self, other: &Stack) -> bool
         ensures { IsTrue result → self.now ≡ other.now }
     {
@@ -402,7 +358,7 @@ impl Stack {
             && cells_equal(self.wide.as_slice(), other.wide.as_slice())
     }
 
-    /// Whether so many cells at the bottom are the same in both stacks, place by place.
+    /// Whether the lowest `count` cells are the same in both stacks, found cell by cell.
     fn has_same_lowest(&self, other: &Stack, count: usize) -> bool
         requires enough { count ≤ length self.now }
         requires enough_there { count ≤ length other.now }
@@ -417,7 +373,7 @@ impl Stack {
         true
     }
 
-    /// Whether both stacks have so many cells at the bottom, and the same ones.
+    /// Whether both stacks have `count` cells at the bottom, and the same ones.
     pub fn shares_bottom(&self, other: &Stack, count: usize) -> bool
         ensures { IsTrue result ↔ ShareBottom self.now other.now count }
     {
@@ -425,7 +381,7 @@ impl Stack {
             return false;
         }
         let wide = self.wide.len();
-        // The usual case: as many cells are wide in both, mostly none.
+        // The usual case: equally many cells are wide in both, mostly none.
         if wide == other.wide.len() && wide <= count {
             have_same_front(self.codes.as_slice(), other.codes.as_slice(), count - wide)
                 && cells_equal(self.wide.as_slice(), other.wide.as_slice())
@@ -441,7 +397,8 @@ impl Stack {
         self.len() == other.len() && self.shares_bottom(other, self.len())
     }
 
-    /// Whether each cell is below its partner, of two equally deep stacks, place by place.
+    /// Whether each cell is below the one at the same position of the other stack, which is as
+    /// deep, found cell by cell.
     fn places_below(&self, other: &Stack) -> bool
         requires { length self.now ≡ length other.now }
         ensures { IsTrue result ↔ StackBelow self.now other.now }
@@ -454,7 +411,8 @@ impl Stack {
         true
     }
 
-    /// Whether each cell is below its partner, of two equally deep stacks.
+    /// Whether each cell is below the one at the same position of the other stack, which is as
+    /// deep.
     fn partners_below(&self, other: &Stack) -> bool
         requires { length self.now ≡ length other.now }
         ensures { IsTrue result ↔ StackBelow self.now other.now }
@@ -466,7 +424,7 @@ impl Stack {
         }
     }
 
-    /// Makes the cell at a place, from the bottom, the least one above it and another one.
+    /// Makes the cell at a position from the bottom the least one above it and another one.
     fn join_at(&mut self, place: usize, other: Cell)
         requires { place < length self.old }
         ensures depth { length self.new ≡ length self.old }
@@ -484,7 +442,7 @@ impl Stack {
         }
     }
 
-    /// Becomes the least stack above both, place by place.
+    /// Becomes the least stack above both, which is made cell by cell.
     fn join_places(&mut self, other: &Stack)
         requires { length self.old ≡ length other.now }
         ensures { IsLeastAbove stack_order self.old other.now self.new }
@@ -494,7 +452,7 @@ impl Stack {
         }
     }
 
-    /// Becomes the least stack above both, cell by cell. Takes no memory.
+    /// Becomes the least stack above both. Takes no memory.
     pub fn raise(&mut self, other: &Stack)
         requires { length self.old ≡ length other.now }
         ensures { IsLeastAbove stack_order self.old other.now self.new }

@@ -4,7 +4,7 @@ use crate::cells::{Cell, ZoneCell};
 use crate::graphics::{is_same_graphics, joined_graphics};
 use crate::order::{AbsFault, Order};
 use crate::sorted_map::SortedMap;
-use crate::stack::{Stack, StackCells};
+use crate::stack::Stack;
 use std::alloc::{AllocError, Global};
 use tt_code::Graphics;
 use tt_code::kinds::{Pointer, Reference};
@@ -12,7 +12,9 @@ use tt_code::kinds::{Pointer, Reference};
 /// What is known of a machine's state, except for where it is and its calls.
 #[derive(Drop)]
 pub struct State {
+    /// What is known of the stack.
     pub(crate) stack: Stack,
+    /// What is known of the graphics state.
     pub(crate) graphics: Graphics<Cell, ZoneCell>,
     /// The functions that are known, each with its body.
     pub(crate) functions: SortedMap<u32>,
@@ -40,8 +42,8 @@ impl State {
     ghost use Rattle.tt_abs.specs.Transfers.{cells_on};
 
     /// Makes the state in which a program starts: an empty stack, the default graphics state, and
-    /// these functions, in ascending order of their numbers, each with its body. Of the storage
-    /// area nothing is known.
+    /// these functions, in ascending order of their numbers, each with its body. Nothing is known
+    /// of the storage area.
     ///
     /// # Errors
     /// If memory runs out.
@@ -105,7 +107,7 @@ impl State {
         self.functions.is_same(&other.functions)
     }
 
-    /// Whether both states' stacks have so many cells at the bottom, and the same ones. Takes no
+    /// Whether both states' stacks have `count` cells at the bottom, and the same ones. Takes no
     /// memory.
     pub fn shares_bottom(&self, other: &State, count: usize) -> bool
         ensures { IsTrue result ↔ ShareBottom self.now.stack other.now.stack count }
@@ -120,18 +122,11 @@ impl State {
         self.stack.len()
     }
 
-    /// Returns a cell of the stack, by its place from the bottom: 0 is the bottom.
+    /// Returns the cell of the stack at a position from the bottom: 0 is the bottom.
     pub fn cell(&self, place: usize) -> Option<Cell>
         ensures { result ≡ slice_get (reverse self.now.stack) place }
     {
         self.stack.above(place)
-    }
-
-    /// Returns the cells of the stack, from the bottom up.
-    pub fn stack_cells(&self) -> StackCells<'_>
-        ensures { result ≡ reverse self.now.stack }
-    {
-        self.stack.cells()
     }
 
     /// Returns what is known of a reference point.
@@ -200,7 +195,7 @@ impl State {
         }
     }
 
-    /// Puts a cell on the stack, which has fewer than 65,535 cells.
+    /// Puts a cell on the stack. The stack must have fewer than 65,535 cells.
     ///
     /// # Errors
     /// If memory runs out; then the state stays as it is.
@@ -213,10 +208,10 @@ impl State {
         self.stack.push(cell)
     }
 
-    /// Puts cells on the stack, one after the other; it has at most 65,535 cells then.
+    /// Puts cells on the stack, one after the other. It must then have at most 65,535 cells.
     ///
     /// # Errors
-    /// If memory runs out.
+    /// If memory runs out; then the state's content is unspecified.
     pub fn push_cells(&mut self, cells: &[Cell]) -> Result<(), AllocError>
         requires { length self.old.stack + length cells.now ≤ 65535 }
         ensures pushed { OnOk result
@@ -226,7 +221,7 @@ impl State {
         self.stack.push_cells(cells)
     }
 
-    /// Removes so many cells from the top of the stack, or all of them if there are fewer.
+    /// Removes `count` cells from the top of the stack, or all of them if there are fewer.
     pub fn cut_stack(&mut self, count: usize)
         ensures value { self.new ≡ record self.old { stack = drop count self.old.stack } }
         ensures in_range { KeepsRange self.old self.new }
@@ -269,7 +264,7 @@ impl State {
         self.graphics.loop_number = cell;
     }
 
-    /// Makes a function known by its number, with its body, instead of any other one of that
+    /// Makes a function known by its number, with its body, in place of any other one of that
     /// number.
     ///
     /// # Errors

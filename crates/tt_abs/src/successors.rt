@@ -15,15 +15,17 @@ use crate::state::State;
 /// Where a program goes on, and what is known of the machine's state there.
 #[derive(Drop)]
 pub struct Successors {
+    /// Where the program goes on.
     pub moves: Moves,
+    /// What is known of the machine's state there.
     pub state: State,
 }
 
 /// Computes what an abstract state becomes by the instruction that starts at the point in the body
-/// of its innermost call. It is refused exactly if some machine state that it covers faults there,
-/// or comes to run a body twice, or they come to more lists of calls than a program may have. Else
-/// there is a way to each place at which a successor of one of them is, and its state is the
-/// smallest that covers those there.
+/// of its innermost call. It is refused exactly if some machine state that it covers faults there
+/// or comes to run a body twice, or if these come to more lists of calls than a program may have.
+/// Otherwise there is a way to each place to which one of them comes by the instruction, and the
+/// new state is the smallest that covers those there.
 ///
 /// # Errors
 /// `Refused` with the reason of the first test of the instruction that fails, read on cells;

@@ -1,4 +1,4 @@
--- How many points may be made: each state that a finder or a check carries on is one. (own)
+-- How many points may be made: one each time that a finder or a check carries a state on. (own)
 use Rattle.std.specs.Prelude.{◌≡◌, ◌+◌, ◌-◌, ◌≤◌, ℕ, true, false}
 use Rattle.tt_cert.specs.declared.budget.Budget.{Budget}
 

@@ -13,12 +13,14 @@ grow lists (x ∷ rest) = grow (lists ++ (x.1 ∷ slice_index_or lists x.0 []) �
 abbrev pub frames_of : {F : Type 0} → List (ℕ × F) → List (List F)
 frames_of entries = grow ([] ∷ []) entries
 
+-- one more entry adds its list after the others
 pub grow-push : {F : Type 0} (lists : List (List F)) (entries : List (ℕ × F)) (x : ℕ × F)
     → grow lists (entries ++ x ∷ []) ≡ grow lists entries ++ (x.1 ∷ slice_index_or (grow lists entries) x.0 []) ∷ []
 grow-push lists [] x = refl
 grow-push lists (e ∷ entries) x =
     grow-push (lists ++ (e.1 ∷ slice_index_or lists e.0 []) ∷ []) entries x
 
+-- each entry adds one list
 pub length-grow : {F : Type 0} (lists : List (List F)) (entries : List (ℕ × F))
     → length (grow lists entries) ≡ length lists + length entries
 length-grow lists [] = omega arith

@@ -7,6 +7,7 @@ use Rattle.std.proofs.lemmas.Bool.Decides.{Decides-eqb, Decides-and}
 use Rattle.tt_code.specs.declared.machine.Frame.{Frame}
 use Rattle.tt_cert.specs.Contents.{same_frame, same_frames, number_of}
 
+-- `same_frame` decides whether two frames are the same
 pub same_frame-decides : (a b : Frame) → Decides (same_frame a b) (a ≡ b)
 same_frame-decides a b =
     let fields = Decides-and ((a.body == b.body) && (a.call == b.call) && (a.turn == b.turn)) (a.count == b.count)
@@ -18,6 +19,7 @@ same_frame-decides a b =
       (λ e. fields.1 (((ap (λ (x : Frame). x.body) e, ap (λ (x : Frame). x.call) e), ap (λ (x : Frame). x.turn) e), ap (λ (x : Frame). x.count) e)),
     )
 
+-- and `same_frames` whether two lists of frames are
 pub same_frames-decides : (as' bs : List Frame) → Decides (same_frames as' bs) (as' ≡ bs)
 same_frames-decides [] [] = ((λ _. refl), (λ _. refl))
 same_frames-decides [] (b ∷ bs) = ((λ t. cc), (λ e. cc))
@@ -28,6 +30,7 @@ same_frames-decides (a ∷ as') (b ∷ bs) =
       (λ e. let first : a ≡ b = cc in let rest : as' ≡ bs = cc in both.1 (first, rest)),
     )
 
+-- a number is at most how many lists there are
 pub number_of-le : (xs : List (List Frame)) (frames : List Frame) → number_of xs frames ≤ length xs
 number_of-le [] frames = omega arith
 number_of-le (x ∷ xs) frames = elim (same_frames x frames) as (λ b. cond b 0 (1 + number_of xs frames) ≤ length (x ∷ xs)) [

@@ -35,14 +35,17 @@ place_of contents context offset = (frames_at contents.contexts context, offset)
 abbrev pub family_state : Contents → ℕ → ℕ → Option State
 family_state contents context offset = family_of contents (place_of contents context offset)
 
+-- of a family, a context's frames have its number
 pub number_at : (v : Contents) (c : ℕ) → IsFamily v → c < length v.contexts
     → number_of v.contexts (frames_at v.contexts c) ≡ c
 number_at v c family lt = number_of-is v.contexts (frames_at v.contexts c) c family.distinct lt refl
 
+-- so that the family's state at its point is the one that is kept under its number and the offset
 pub family_at : (v : Contents) (c o : ℕ) → IsFamily v → c < length v.contexts
     → family_of v (place_of v c o) ≡ states_of v.states (c, o)
 family_at v c o family lt = ap (λ n. states_of v.states (n, o)) (number_at v c family lt)
 
+-- what is put under a context's number and an offset is put at that point of the family
 pub PutsAt-family : (o : Order State) (old new : Contents) (c off : ℕ) (t : State) (changed : Bool)
     → IsFamily old → new.contexts ≡ old.contexts → c < length old.contexts
     → PutsAt o (states_of old.states) (states_of new.states) (c, off) t changed
@@ -70,6 +73,7 @@ PutsAt-family o old new c off t changed family same lt put =
         let frames : p.0 ≡ frames_at old.contexts c = sym at ∙ ap (frames_at old.contexts) first in
         λ i. (frames i, second i)
 
+-- and all states together weigh more by what the family's state there adds
 pub Reweighs-family : (old new : Contents) (c off : ℕ) → IsFamily old → new.contexts ≡ old.contexts
     → c < length old.contexts
     → ReweighsStates old.states new.states (c, off) → Reweighs old new (place_of old c off)

@@ -5,8 +5,8 @@ ghost use Rattle.tt_cert.specs.Budgets.{Counts, IsExceeded, Exceeds, made_by, ne
 
 use std::alloc::AllocError;
 
-/// A bound on the points that finders and checks make: each state that is carried on at a point is
-/// one. It goes from program to program, and from call to call, as long as it is handed on.
+/// A bound on the points that finders and checks make: one is made each time that a state is
+/// carried on. It goes from program to program, and from call to call, as long as it is handed on.
 #[derive(Clone, Copy, Debug)]
 pub struct Budget {
     /// How many points may be made in all.
@@ -18,7 +18,7 @@ pub struct Budget {
 }
 
 impl Budget {
-    /// Makes a budget of so many points.
+    /// Makes a budget of this many points.
     pub fn of(points: u64) -> Budget
         ensures { result ≡ new_budget points }
     {

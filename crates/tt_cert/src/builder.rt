@@ -59,7 +59,8 @@ impl Model for Builder {
 /// The parent, call, body, turn and count of a context, by which contexts ascend.
 type ContextKey = (u32, u32, u32, u32, u32);
 
-/// Returns the number of a key. Most keys that are asked for are greater than all that are there.
+/// Returns the number that is listed with a key. Most keys that are looked up are greater than all
+/// that are there: then nothing is searched.
 fn number_of(index: &BTreeMap<ContextKey, u32>, key: ContextKey) -> Option<u32>
     ensures { result ≡ get key_cmp index.now key }
 {
@@ -92,6 +93,9 @@ fn ascends(entries: &[(u32, Frame)]) -> bool
 }
 
 /// Appends the numbers of a context's children to the others, in the order of their frames.
+///
+/// # Errors
+/// If memory runs out.
 fn push_children(
     index: &BTreeMap<ContextKey, u32>,
     parent: u32,
@@ -144,7 +148,7 @@ impl Builder {
         self.entries.len() as u32 + 1
     }
 
-    /// Returns how many states there are.
+    /// Returns how many points have a state.
     pub fn points(&self) -> u32
         ensures value { result ≡ points_of self.now }
         ensures family { IsFamily self.now }
@@ -152,8 +156,8 @@ impl Builder {
         self.states.len()
     }
 
-    /// Returns a context's parent and last frame. The empty context has none, nor has a number
-    /// under which there is no context.
+    /// Returns a context's parent and last frame: `None` for the empty context, and for a number
+    /// that no context has.
     pub fn context(&self, number: u32) -> Option<(u32, Frame)>
         ensures none { result ≡ None → (number ≡ 0) ⊎ (length self.now.contexts ≤ number) }
         ensures some { IfSome result (IsContextAt self.now.contexts number) }
@@ -179,7 +183,8 @@ impl Builder {
         }
     }
 
-    /// Returns the number of the context that has the parent's frames and one more.
+    /// Returns the number of the context that has the parent's frames and this one more: `None` if
+    /// there is none.
     pub fn number(&self, parent: u32, frame: Frame) -> Option<u32>
         ensures none { parent < length self.now.contexts → result ≡ None
             → HasChild self.now.contexts parent frame → ⊥ }
@@ -189,8 +194,8 @@ impl Builder {
         number_of(&self.index, key)
     }
 
-    /// Returns the number of the context that has the parent's frames and one more, which is added
-    /// if it isn't there.
+    /// Returns the number of the context that has the parent's frames and this one more, which is
+    /// added if it isn't there.
     ///
     /// # Errors
     /// `TooManyContexts` exactly if it isn't there and there are 65,535 contexts; `OutOfMemory`.
@@ -352,6 +357,9 @@ impl Builder {
 
     /// Returns the numbers of the contexts in the order of the file: each after its parent's, by
     /// depth, and then by the order of the parents and of the frames.
+    ///
+    /// # Errors
+    /// If memory runs out.
     pub(crate) fn file_order(&self) -> Result<Vec<u32>, AllocError>
         ensures { IfOk result (λ order. IsFileOrder self.now.contexts order.items) }
     {

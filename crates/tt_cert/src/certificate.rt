@@ -69,15 +69,15 @@ impl Certificate {
         self.builder.contexts()
     }
 
-    /// Returns how many states there are.
+    /// Returns how many points have a state.
     pub fn points(&self) -> u32
         ensures { result ≡ points_of self.now }
     {
         self.builder.points()
     }
 
-    /// Returns a context's parent and last frame. The empty context has none, nor has a number
-    /// under which there is no context.
+    /// Returns a context's parent and last frame: `None` for the empty context, and for a number
+    /// that no context has.
     pub fn context(&self, number: u32) -> Option<(u32, Frame)>
         ensures none { result ≡ None → (number ≡ 0) ⊎ (length self.now.contexts ≤ number) }
         ensures some { IfSome result (IsContextAt self.now.contexts number) }
@@ -93,7 +93,8 @@ impl Certificate {
         self.builder.spot(context)
     }
 
-    /// Returns the number of the context that has the parent's frames and one more.
+    /// Returns the number of the context that has the parent's frames and this one more: `None` if
+    /// there is none.
     pub fn number(&self, parent: u32, frame: Frame) -> Option<u32>
         ensures none { parent < length self.now.contexts → result ≡ None
             → HasChild self.now.contexts parent frame → ⊥ }

@@ -65,9 +65,8 @@ pub fn ends_well(setting: &Setting<'_>, builder: &Builder) -> bool
     }
 }
 
-/// Checks that the state with which the walk begins is covered at the program's start. The walk is
-/// told whether that is the very state that comes first, as it mostly is: then there is nothing to
-/// copy.
+/// Checks that the state with which the walk begins is covered at the program's start, and notes in
+/// the walk whether the first listed state is this one, as it mostly is: then nothing is copied.
 fn check_start(certificate: &Certificate, walk: &mut Cursor<'_>) -> Result<(), ProgramFault>
     requires walk { IsWalk certificate.now walk.old }
     requires apart { IsFalse walk.old.is_next }
@@ -228,8 +227,8 @@ fn check_listed(
     check_points(setting, listing, certificate, &mut walk, states, budget)
 }
 
-/// Checks that the family is good for the program of this setting, which is all that a certificate
-/// has to be. The first fault in the order of the walk is named: a glyph program longer than
+/// Checks that the family itself is good for the program of this setting, with no state left out.
+/// The first fault in the order of the walk is named: a glyph program longer than
 /// maxSizeOfInstructions; a start that isn't covered; a font program or a CVT program without a
 /// state at its end; then, by ascending contexts and by ascending offsets within one, a state that
 /// lists a storage index that isn't below maxStorage, that is refused at its place, or whose

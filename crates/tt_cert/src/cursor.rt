@@ -1,4 +1,5 @@
-//! The walk through the points of a certificate, including those that it leaves out.
+//! The walk is the check's way through the points of a certificate, including those whose states
+//! the certificate leaves out; the cursor is where the walk is.
 
 ghost use Rattle.std.specs.Prelude.{◌≡◌, ◌↔◌, ◌<◌, IfOk, IfSome, IsFalse, IsTrue, None, OnOk, length};
 ghost use Rattle.tt_code.specs.Settings.{Setting as AnySetting};
@@ -14,24 +15,24 @@ use std::alloc::{AllocError, Global};
 use tt_abs::State;
 use tt_code::Frame;
 
-/// Where a walk through the points is: a context and its calls, the outermost first, and the listed
-/// state that comes next.
+/// Where a walk is: a context and its calls, the outermost first, the next listed state, and the
+/// one state that the walk owns.
 #[derive(Drop)]
 pub(crate) struct Cursor<'a> {
     pub context: u32,
     pub frames: Vec<Frame>,
     pub next: Option<(u32, u32, &'a State)>,
-    /// The state in which the program starts; then the state at the point that is checked, and what
-    /// it gives, in the same memory.
+    /// The walk's state: first the one in which the program starts; then, in the same memory, the
+    /// state at the point that is checked, and what that gives.
     pub made: State,
-    /// Whether what was made is the very state that comes next: then that one needs no copy.
+    /// Whether the walk's state is the next listed one: then that one needs no copy.
     pub is_next: bool,
-    /// The offset of the context at which what was made is the state, where the certificate lists
-    /// none.
+    /// The offset of the context at which the walk's state is added, if it is: the certificate
+    /// lists no state there.
     pub carried: Option<u32>,
 }
 
-/// Whether this is the state that comes next, at this place.
+/// Whether the next listed state is this one, at this place.
 pub(crate) fn is_coming(
     next: Option<(u32, u32, &State)>,
     context: u32,
@@ -48,7 +49,7 @@ pub(crate) fn is_coming(
     }
 }
 
-/// Whether the state that comes next, if there is one, comes after this place.
+/// Whether the next listed state comes after this place, or there is none left.
 pub(crate) fn is_coming_after(next: Option<(u32, u32, &State)>, context: u32, offset: u32) -> bool
     ensures { IsTrue result ↔ IsComingAfter next.entry (context, offset) }
 {
@@ -61,8 +62,11 @@ pub(crate) fn is_coming_after(next: Option<(u32, u32, &State)>, context: u32, of
 }
 
 impl<'a> Cursor<'a> {
-    /// Makes a walk that begins in the empty context, with the state in which a program starts that
-    /// knows these functions.
+    /// Makes a walk that begins in the empty context, with the state in which a program starts
+    /// where these functions are known.
+    ///
+    /// # Errors
+    /// If memory runs out.
     pub(crate) fn start(
         alloc: Global,
         functions: &[(u16, u32)],
@@ -86,7 +90,11 @@ impl<'a> Cursor<'a> {
         })
     }
 
-    /// Takes over the state that comes next, where it isn't what was made.
+    /// Makes this listed state, which comes next, the walk's state, unless that is the same
+    /// already.
+    ///
+    /// # Errors
+    /// If memory runs out.
     fn take(&mut self, state: &State) -> Result<(), AllocError>
         requires { IsTrue self.old.is_next → self.old.made ≡ state.now }
         ensures made { OnOk result (self.new.made ≡ state.now) }
@@ -102,7 +110,10 @@ impl<'a> Cursor<'a> {
         Ok(())
     }
 
-    /// Goes to another context, if it is another.
+    /// Goes to a context, unless the walk is there already.
+    ///
+    /// # Errors
+    /// If memory runs out.
     fn go_to(&mut self, certificate: &Certificate, context: u32) -> Result<(), AllocError>
         requires walk { IsWalk certificate.now self.old }
         requires there { context < length certificate.now.contexts }
@@ -119,9 +130,13 @@ impl<'a> Cursor<'a> {
         Ok(())
     }
 
-    /// Goes on to the point that comes next, and takes its state: what was made, where that is
-    /// carried there, and otherwise the listed state that comes next, these being the others.
-    /// Returns the point's offset, `None` after the last point.
+    /// Goes on to the next point: the one at which the walk's state is added, or that of the next
+    /// listed state, whichever comes first. The walk's state is then the one at that point.
+    /// `states` are the listed states after the next one. Returns the point's offset, `None` after
+    /// the last point.
+    ///
+    /// # Errors
+    /// If memory runs out.
     pub(crate) fn go_on(
         &mut self,
         certificate: &Certificate,

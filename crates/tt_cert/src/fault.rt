@@ -1,14 +1,14 @@
-//! Why a builder refuses, and why a program is refused.
+//! Why a builder refuses a context or a state, and why a program isn't accepted.
 
 use crate::spot::Spot;
 use std::alloc::AllocError;
 use thiserror::Error;
 use tt_code::Reason;
 
-/// Why a builder refuses a context; it is as it was.
+/// Why a builder refuses a context; the builder stays as it is.
 #[derive(Clone, Copy, Debug, PartialEq, Eq, Error)]
 pub enum ContextFault {
-    /// There are 65,535 contexts, and this is none of them.
+    /// There are 65,535 contexts, and this one isn't among them.
     #[error("too many contexts")]
     TooManyContexts,
     /// A growth of memory was refused.
@@ -16,7 +16,7 @@ pub enum ContextFault {
     OutOfMemory,
 }
 
-/// Why a builder refuses a state; it is as it was.
+/// Why a builder refuses a state; the builder stays as it is.
 #[derive(Clone, Copy, Debug, PartialEq, Eq, Error)]
 pub enum JoinFault {
     /// A state of another depth is at the point.
@@ -27,20 +27,20 @@ pub enum JoinFault {
     OutOfMemory,
 }
 
-/// Why a program is refused: by the finder, since no family is good for it, or by the check, since
-/// its certificate's family isn't.
+/// Why a program isn't accepted: it is refused by the finder, since no family is good for it, or by
+/// the check, since its certificate's family isn't; or memory ran out, or the budget is exceeded.
 #[derive(Debug, Drop, Error)]
 pub enum ProgramFault {
-    /// What is broken first, and where: in which program, and at what offset there, 4,294,967,295
-    /// for one above that.
+    /// What is broken first, and where: in which program, and at which offset there. For a greater
+    /// offset than 4,294,967,295 that number is given.
     #[error("{reason}")]
     Refused {
         spot: Spot,
         offset: u32,
         reason: Reason,
     },
-    /// A growth of memory was refused, or the budget is exceeded, which then tells so. Neither tells
-    /// anything of the program.
+    /// A growth of memory was refused, or the budget is exceeded, as `Budget::is_exceeded` tells.
+    /// Neither tells anything of the program.
     #[error(transparent)]
     OutOfMemory(AllocError),
 }

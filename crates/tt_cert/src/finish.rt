@@ -103,8 +103,14 @@ fn move_states(
 }
 
 /// Returns the same family with its contexts in the order of the file, without the states at the
-/// spare points.
-fn reordered(old: &Builder, spare: &BTreeSet<PointKey>) -> Result<Builder, AllocError>
+/// spare points, in the memory of an empty builder.
+fn reordered(
+    old: &Builder,
+    spare: &BTreeSet<PointKey>,
+    empty: Builder,
+) -> Result<Builder, AllocError>
+    requires contexts { empty.contexts ≡ [] ∷ [] }
+    requires states { empty.states ≡ [] }
     ensures same { IfOk result (λ new. SameWithout old.now new spare.now.keys) }
     ensures points { IfOk result (λ new. spare.now.keys ≡ [] → points_of new ≡ points_of old.now) }
     ensures finished { IfOk result (λ new. IsFinished new) }
@@ -112,7 +118,8 @@ fn reordered(old: &Builder, spare: &BTreeSet<PointKey>) -> Result<Builder, Alloc
     old.family_facts();
     let order = old.file_order()?;
     let places = places_in(old, order.as_slice())?;
-    let mut new = Builder::new(old.allocator());
+    let mut new = empty;
+    new.family_facts();
     if let Err(_) = move_contexts(old, order.as_slice(), places.as_slice(), &mut new) {
         return Err(AllocError);
     }
@@ -134,28 +141,60 @@ impl Builder {
         ensures finished { IfOk result (λ certificate. IsFinished certificate) }
         ensures kept { IfErr result (λ builder. builder ≡ self) }
     {
-        let none = BTreeSet::new(self.allocator());
-        self.finish_without(&none)
+        let empty = Builder::new(self.allocator());
+        match self.finish_in(empty) {
+            Ok((certificate, _)) => Ok(certificate),
+            Err(builder) => Err(builder),
+        }
     }
 
-    /// Returns the certificate of this family without the states at the spare points, each a
-    /// context's number and an offset.
+    /// Returns the certificate of this family as `finish` does, where it has to be made anew in the
+    /// memory of an empty builder. Returns an empty builder with the memory that isn't needed.
     ///
     /// # Errors
-    /// If memory runs out: then the builder comes back as it was.
-    pub fn finish_without(self, spare: &BTreeSet<PointKey>) -> Result<Certificate, Builder>
-        ensures same { IfOk result (λ certificate. SameWithout self certificate spare.now.keys) }
-        ensures points { IfOk result (λ certificate. spare.now.keys ≡ []
-            → points_of certificate ≡ points_of self) }
-        ensures finished { IfOk result (λ certificate. IsFinished certificate) }
+    /// If memory runs out: then this builder comes back as it was.
+    pub fn finish_in(self, empty: Builder) -> Result<(Certificate, Builder), Builder>
+        requires contexts { empty.contexts ≡ [] ∷ [] }
+        requires states { empty.states ≡ [] }
+        ensures same { IfOk result (λ made. SameContents self made.0) }
+        ensures points { IfOk result (λ made. points_of made.0 ≡ points_of self) }
+        ensures finished { IfOk result (λ made. IsFinished made.0) }
+        ensures empty_contexts { IfOk result (λ made. made.1.contexts ≡ [] ∷ []) }
+        ensures empty_states { IfOk result (λ made. made.1.states ≡ []) }
+        ensures kept { IfErr result (λ builder. builder ≡ self) }
+    {
+        let none = BTreeSet::new(self.allocator());
+        self.finish_without(&none, empty)
+    }
+
+    /// Returns the certificate of this family as `finish_in` does, without the states at the spare
+    /// points, each a context's number and an offset.
+    ///
+    /// # Errors
+    /// If memory runs out: then this builder comes back as it was.
+    pub fn finish_without(
+        self,
+        spare: &BTreeSet<PointKey>,
+        empty: Builder,
+    ) -> Result<(Certificate, Builder), Builder>
+        requires contexts { empty.contexts ≡ [] ∷ [] }
+        requires states { empty.states ≡ [] }
+        ensures same { IfOk result (λ made. SameWithout self made.0 spare.now.keys) }
+        ensures points { IfOk result (λ made. spare.now.keys ≡ []
+            → points_of made.0 ≡ points_of self) }
+        ensures finished { IfOk result (λ made. IsFinished made.0) }
+        ensures empty_contexts { IfOk result (λ made. made.1.contexts ≡ [] ∷ []) }
+        ensures empty_states { IfOk result (λ made. made.1.states ≡ []) }
         ensures kept { IfErr result (λ builder. builder ≡ self) }
     {
         if spare.is_empty() && self.is_ascending() {
-            return Ok(Certificate::of(self));
+            return Ok((Certificate::of(self), empty));
         }
-        let Ok(new) = reordered(&self, spare) else {
+        let Ok(new) = reordered(&self, spare, empty) else {
             return Err(self);
         };
-        Ok(Certificate::of(new))
+        let mut rest = self;
+        rest.clear();
+        Ok((Certificate::of(new), rest))
     }
 }

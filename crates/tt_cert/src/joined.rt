@@ -28,7 +28,7 @@ impl Joined {
         }
     }
 
-    /// Whether the state at the point is another one than before.
+    /// Whether the state at the point is new or has changed.
     pub fn is_change(self) -> bool
         ensures { result ≡ is_change_of self }
     {

@@ -1,4 +1,4 @@
-//! Where a way leads from a context.
+//! The landing of a way: the context and the offset to which it leads from a context.
 
 ghost use Rattle.std.specs.Prelude.{◌≡◌, ◌<◌, IfErr, IfOk, None, length};
 ghost use Rattle.tt_cert.specs.Checks.{FitOffsetsBefore, HasNextTurn};
@@ -14,19 +14,20 @@ use tt_abs::Move;
 use tt_abs::setting::body_offset;
 use tt_code::{Frame, Reason};
 
-/// Where a way leads from a context.
+/// The landing of a way: the context and the offset to which it leads from a context.
 #[derive(Clone, Copy)]
 pub enum Landing {
-    /// To an offset of the context of this number.
+    /// At an offset of the context of this number.
     In { context: u32, offset: u32 },
-    /// To the start of a function's body, in the context that has one call more than the one of
+    /// At the start of a function's body, in the context that has one call more than the one of
     /// this number.
     Body { parent: u32, frame: Frame },
-    /// After a call at the greatest offset of the context of this number: no program is that long.
+    /// After a call at the greatest offset of 32 bits, in the context of this number: no program is
+    /// that long.
     Beyond { context: u32 },
 }
 
-/// Returns where a way leads from a context, for all who follow ways: the check looks up the
+/// Returns where a way leads from a context, for the check and the finder: the check looks up the
 /// context in which a body starts, and the finder adds it.
 pub fn landing_of(builder: &Builder, context: u32, way: Move) -> Landing
     requires there { context < length builder.now.contexts }
@@ -68,7 +69,7 @@ pub fn landing_of(builder: &Builder, context: u32, way: Move) -> Landing
     }
 }
 
-/// Returns the fault of a place where the certificate has no state.
+/// Returns the fault that names a place where the certificate has no state.
 fn missing(spot: Spot, offset: u32) -> ProgramFault
     ensures { result ≡ ProgramFault.Refused spot offset Reason.MissingPoint }
 {
@@ -82,8 +83,8 @@ fn missing(spot: Spot, offset: u32) -> ProgramFault
 /// Returns the number of the context, and the offset, to which a way leads from a context.
 ///
 /// # Errors
-/// `MissingPoint` where the certificate can have no state: it lacks the context, or can't have such
-/// an offset.
+/// `MissingPoint` where the certificate can't have a state: it lacks the context, or the offset has
+/// more than 32 bits.
 pub(crate) fn look_up_successor(
     certificate: &Certificate,
     context: u32,

@@ -1,4 +1,5 @@
-//! Which states a certificate lists.
+//! The listing of a certificate: whether it lists the state of every point, or leaves out those
+//! that a filling adds.
 
 ghost use Rattle.tt_abs.specs.Lines.{EndsAt};
 ghost use Rattle.tt_abs.specs.Settings.{setting_of};
@@ -6,16 +7,17 @@ ghost use Rattle.tt_cert.specs.Fillings.{IsJustAfter, place_of_point};
 
 use tt_abs::{Point, Setting};
 
-/// Which states of its family a certificate lists.
+/// Whether a certificate lists the state of every point, or leaves out those that a filling adds.
 #[derive(Clone, Copy)]
 pub(crate) enum Listing {
-    /// All of them.
+    /// It lists all states.
     Whole,
-    /// At least those that aren't given only by the state at the point just before.
+    /// It may leave out a state that is given by the state at the point just before, and by no
+    /// other.
     Sparse,
 }
 
-/// Returns the offset just after an instruction that ends there, if a filling may add a state
+/// Returns `end`, the offset at which the point's instruction ends, if a filling may add a state
 /// there: not at the main program's end.
 pub fn added_after(setting: &Setting<'_>, point: &Point<'_>, end: u32) -> Option<u32>
     requires { EndsAt (setting_of setting.now) (place_of_point point.now) end }

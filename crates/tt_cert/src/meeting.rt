@@ -17,7 +17,7 @@ use tt_code::Reason;
 /// How a state is covered at a place to which it goes, or added there.
 #[derive(Clone, Copy)]
 pub(crate) enum Coverage {
-    /// By the very state that comes next in the walk, which is the same.
+    /// By the next listed state of the walk, which is the same.
     Next,
     /// By a state of the certificate that covers it.
     Listed,
@@ -25,8 +25,7 @@ pub(crate) enum Coverage {
     Added,
 }
 
-/// Returns one answer for two: that the state is added comes before all, otherwise how the first is
-/// covered.
+/// Combines two coverages: `Added` if either is `Added`, otherwise the first.
 fn both_coverages(first: Coverage, second: Coverage) -> Coverage
     ensures { result ≡ coverage_of_both first second }
 {
@@ -57,8 +56,13 @@ pub(crate) fn fault_in(
     }
 }
 
-/// Returns how a state is covered at an offset of a context, where it may be left out or not. Where
-/// the very state comes next in the walk, or comes after the place, there is nothing to look up.
+/// Returns how a state is covered at an offset of a context, where it may be left out or not.
+/// Nothing is looked up where the next listed state is this one here, or where the state may be
+/// left out and the next listed state comes after the place.
+///
+/// # Errors
+/// `MissingPoint` where the certificate has no state there, and none may be left out; `NotCovered`
+/// where it has one that doesn't cover this one.
 pub(crate) fn check_covered(
     certificate: &Certificate,
     next: Option<(u32, u32, &State)>,
@@ -100,8 +104,11 @@ pub(crate) fn check_covered(
     }
 }
 
-/// Returns how what was made is covered at an offset of the walk's context, where `after` is the
-/// one at which it may be left out.
+/// Returns how the walk's state is covered at an offset of the walk's context. `after` is the
+/// offset at which it may be left out, if there is one.
+///
+/// # Errors
+/// As `check_covered`.
 fn check_offset(
     certificate: &Certificate,
     walk: &Cursor<'_>,
@@ -125,7 +132,12 @@ fn check_offset(
     )
 }
 
-/// Returns how what was made is covered at the place to which a move leads from the walk's context.
+/// Returns how the walk's state is covered at the place to which a move leads from the walk's
+/// context. `after` is the offset at which it may be left out, if there is one.
+///
+/// # Errors
+/// As `check_covered`, and `MissingPoint` where the certificate lacks the context to which the move
+/// leads.
 fn check_successor(
     certificate: &Certificate,
     walk: &Cursor<'_>,
@@ -153,8 +165,12 @@ fn check_successor(
     }
 }
 
-/// Returns how what was made is covered at all places to which moves lead from the walk's context.
-/// `after` is the offset at which it may be left out, if there is one.
+/// Returns how the walk's state is covered at all places to which moves lead from the walk's
+/// context. `after` is the offset at which it may be left out, if there is one.
+///
+/// # Errors
+/// `MissingPoint` or `NotCovered` for the first of these places at which it isn't covered and may
+/// not be left out.
 pub(crate) fn check_successors(
     certificate: &Certificate,
     walk: &Cursor<'_>,

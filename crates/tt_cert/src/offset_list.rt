@@ -1,4 +1,4 @@
-//! The points of one context that came by ascending offset.
+//! The points of one context that were inserted by ascending offset.
 
 ghost use Rattle.std.specs.Prelude.{◌≡◌, ◌↔◌, ◌<◌, ◌≤◌, length, [], ◌∷◌, ◌++◌, IsTrue, MatchResult, OnOk, OnErr};
 ghost use Rattle.tt_abs.specs.Entries.{Ascends, listed};
@@ -25,7 +25,7 @@ impl Model for OffsetList {
     ghost invariant = { λ r. Ascends r.points.items };
 }
 
-/// Returns where an offset is, or where it would be.
+/// Returns where an offset is, or, as the error, where it would be.
 fn search(points: &[(u32, u32)], offset: u32) -> Result<usize, usize>
     requires { Ascends points.now }
     ensures place { MatchResult result (IsAt offset points.now) (IsGap offset points.now) }

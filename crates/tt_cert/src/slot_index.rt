@@ -11,22 +11,22 @@ use std::collections::BTreeMap;
 use std::collections::btree_map::Iter;
 use std::marker::Model;
 
-/// How many lists keep their memory.
+/// How many lists keep their memory at most, when all points are removed.
 const KEPT_LISTS: usize = 64;
 
 /// What a stored state is found by: its context's number and its offset.
 pub type PointKey = (u32, u32);
 
-/// The slots of points by context and offset. Within a context the points mostly come by ascending
-/// offset: those are in a list, and the others in a tree.
+/// The slots of points by context and offset. Within a context the points are mostly inserted by
+/// ascending offset: those are in a list, and the others in a tree.
 #[derive(Drop)]
 pub(crate) struct SlotIndex {
-    /// For each context the points that came after all others of the context.
+    /// For each context the points that were inserted when it had only smaller offsets.
     lists: Vec<OffsetList>,
     /// How many lists may hold points. The lists after those are empty, and are kept only for their
     /// memory.
     used: usize,
-    /// The points that came before a greater offset of their context.
+    /// The points that were inserted when their context already had a greater offset.
     rest: BTreeMap<PointKey, u32>,
     /// How many points there are.
     count: u32,
@@ -62,7 +62,7 @@ fn add_lists(lists: &mut Vec<OffsetList>, context: u32) -> Result<(), AllocError
     Ok(())
 }
 
-/// Puts a point that isn't there after the others of its list, or beside the lists.
+/// Puts a new point at the end of its context's list, or in the tree.
 ///
 /// # Errors
 /// If memory runs out; then the points stay as they are.
@@ -91,7 +91,7 @@ fn put(
     Ok(())
 }
 
-/// Empties the first `used` lists, after which all are empty, and keeps the memory of the first
+/// Empties the first `used` lists, the others being empty, and keeps the memory of the first
 /// `KEPT_LISTS` lists.
 fn clear_lists(lists: &mut Vec<OffsetList>, used: usize)
     requires { AreEmptyFrom used lists.old.items }
@@ -105,7 +105,7 @@ fn clear_lists(lists: &mut Vec<OffsetList>, used: usize)
 }
 
 impl SlotIndex {
-    /// Makes a map without points.
+    /// Makes an index without points.
     pub(crate) fn new(alloc: Global) -> Self
         ensures { result ≡ [] }
     {
@@ -187,9 +187,9 @@ impl SlotIndex {
 /// The points of lists that are still to come.
 #[derive(Drop)]
 struct OffsetListsIter<'a> {
-    /// The context of the list.
+    /// The context whose points come next.
     context: u32,
-    /// The offsets of the list that are still to come, with their slots.
+    /// The offsets of its list that are still to come, with their slots.
     list: &'a [(u32, u32)],
     /// The lists of the next contexts.
     lists: &'a [OffsetList],
@@ -207,7 +207,7 @@ impl<'a> Model for OffsetListsIter<'a> {
 }
 
 impl<'a> OffsetListsIter<'a> {
-    /// Returns all points of the lists, the first of which is that of the first context.
+    /// Returns all points of the lists, the first of which is that of context 0.
     fn new(lists: &'a [OffsetList]) -> Self
         requires { length lists.now ≤ 4294967296 }
         ensures { result ≡ lists_points 0 lists.now }
@@ -255,7 +255,7 @@ fn next_in(rest: &mut Iter<'_, PointKey, u32>) -> Option<(PointKey, u32)>
     Some((*point, *slot))
 }
 
-/// Whether the first point beside the lists comes before the first point of the lists.
+/// Whether the first point of the tree comes before the first point of the lists.
 fn is_first(other: Option<(PointKey, u32)>, first: Option<(PointKey, u32)>) -> bool
     ensures { result ≡ comes_first other first }
 {
@@ -273,9 +273,9 @@ pub(crate) struct SlotIndexIter<'a> {
     first: Option<(PointKey, u32)>,
     /// The others of the lists.
     lists: OffsetListsIter<'a>,
-    /// The first point beside the lists.
+    /// The first point of the tree.
     other: Option<(PointKey, u32)>,
-    /// The others beside the lists.
+    /// The others of the tree.
     rest: Iter<'a, PointKey, u32>,
 }
 

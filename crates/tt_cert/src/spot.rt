@@ -3,7 +3,7 @@
 ghost use Rattle.std.specs.Prelude.{◌≡◌};
 ghost use Rattle.tt_cert.specs.Spots.{spot_of_body};
 
-/// Bodies of the CVT program are named by their offset and this.
+/// A body of the CVT program is named by its offset plus this.
 const CVT_BODIES: u32 = 1 << 31;
 
 /// In which program a place is.

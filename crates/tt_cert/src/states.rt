@@ -1,4 +1,4 @@
-//! The walk through the states of a family.
+//! The states of a family, one after the other.
 
 ghost use Rattle.std.specs.Prelude.{◌≡◌, ◌∷◌, None, [], IfSome};
 
@@ -29,7 +29,7 @@ impl<'a> Model for States<'a> {
 
 impl<'a> States<'a> {
     /// Takes the first of the states that are still to come, with its context's number and its
-    /// offset: `None` exactly where there is none, and then always from there on.
+    /// offset: `None` exactly where none is left, and from then on always.
     pub fn take_first(&mut self) -> Option<(u32, u32, &'a State)>
         ensures none { result ≡ None → self.old ≡ [] }
         ensures done { result ≡ None → self.new ≡ [] }

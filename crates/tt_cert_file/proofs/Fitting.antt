@@ -33,7 +33,7 @@ use Rattle.tt_cert.specs.Places.{place_cmp}
 use Rattle.tt_cert.specs.Ascending.{IsFinished, IsContextAt}
 use Rattle.tt_cert_file.specs.declared.form.Form.TheVariants.{Four}
 use Rattle.tt_cert_file.specs.declared.name.Name.{Name}
-use Rattle.tt_cert_file.specs.Rules.{AreCallsInTurn, CallFits, CellFits, ContextFits, EachAfter, EntryFits, Fits, FunctionFits, GraphicsFits, HasRoom, NameFits, StateFits, StoredFits, is_above, is_above_context, is_new_body, is_turn, last_of, last_place}
+use Rattle.tt_cert_file.specs.Rules.{AreCallsInTurn, CallFits, CellFits, ContextFits, EachAfter, EntryFits, Fits, FunctionFits, GraphicsFits, HasRoom, NameFits, StateFits, StoredFits, is_above, is_above_context, is_new_body, is_turn, last_of, last_point}
 use Rattle.tt_cert_file.specs.Sections.{Context, Entry, contexts_in, section_of}
 use Rattle.tt_cert_file.proofs.ContextLists.{last_taken}
 use Rattle.tt_cert_file.proofs.Fields.{PairFits, some_same}
@@ -114,11 +114,11 @@ state_written (Ok x) s functions storage fe se stack few numbers stored_few stor
 -- the states of a family, by ascending places
 
 module _ (n : ℕ) (few : n ≤ 65535) where
-  entry_fits : (before : List Entry) (e : Entry) → HasRoom n e → option_map_or (λ q. is_lt (place_cmp q e.0)) (last_place before) true ≡ true → EntryFits Four n before e
+  entry_fits : (before : List Entry) (e : Entry) → HasRoom n e → option_map_or (λ q. is_lt (place_cmp q e.0)) (last_point before) true ≡ true → EntryFits Four n before e
   entry_fits before e room after =
       let lt = room.0 in
       record {
-        place = record { context = omega arith; offset = room.1; follows = two_true (nat_lt e.0.0 n) _ (lt-ltb e.0.0 n lt) after };
+        point = record { context = omega arith; offset = room.1; follows = two_true (nat_lt e.0.0 n) _ (lt-ltb e.0.0 n lt) after };
         state = room.2;
       }
 

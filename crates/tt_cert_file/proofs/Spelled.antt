@@ -17,8 +17,8 @@ use Rattle.tt_cert_file.specs.declared.form.Form.TheVariants.{One, Two, Three, F
 use Rattle.tt_cert_file.specs.Answers.{AreBytes}
 use Rattle.tt_cert_file.specs.Forms.{form_number, form_of, most_contexts}
 use Rattle.tt_cert_file.specs.Readers.{Answer, Input, and_then, given, list_at, made_of, place_after, ◌>>=◌}
-use Rattle.tt_cert_file.specs.Reading.{Fields, Numbers, Parts, Registers, cell_at, context_at, context_count_at, context_from, contexts_at, entry_at, fields_at, form_at, function_at, functions_at, graphics_at, graphics_from, header_at, header_from, is_magic, long_at, magic_at, name_at, numbers_at, pair_at, parts_at, place_at, registers_at, section_at, section_from, stack_at, state_at, state_from, states_at, storage_at, stored_at, with_sign, word_at, zone_at}
-use Rattle.tt_cert_file.specs.Rules.{CellFits, ContextFits, EachAfter, EntryFits, Fits, FunctionFits, GraphicsFits, ListFits, NameFits, PlaceFits, StateFits, StorageFits, StoredFits, is_above, is_above_context, is_new_body, is_next_place, is_turn, last_of, last_place, may_follow}
+use Rattle.tt_cert_file.specs.Reading.{Fields, Numbers, Parts, Registers, cell_at, context_at, context_count_at, context_from, contexts_at, entry_at, fields_at, form_at, function_at, functions_at, graphics_at, graphics_from, header_at, header_from, is_magic, long_at, magic_at, name_at, numbers_at, pair_at, parts_at, point_at, registers_at, section_at, section_from, stack_at, state_at, state_from, states_at, storage_at, stored_at, with_sign, word_at, zone_at}
+use Rattle.tt_cert_file.specs.Rules.{CellFits, ContextFits, EachAfter, EntryFits, Fits, FunctionFits, GraphicsFits, ListFits, NameFits, PointFits, StateFits, StorageFits, StoredFits, is_above, is_above_context, is_new_body, is_next_point, is_turn, last_of, last_point, may_follow}
 use Rattle.tt_cert_file.specs.Sections.{Context, Entry, Section}
 use Rattle.tt_cert_file.specs.Text.{cell_text, context_text, counted, graphics_text, header_text, long, name_text, pair_text, section_text, state_text, storage_text, stored_text, word, zone_text}
 use Rattle.tt_cert_file.proofs.Codecs.{IsCodec, Takes, and_then_codec, bind_ok, codec_of, counted_codec, given_ok, here, made_of_codec, ok_is, ruled_codec}
@@ -215,20 +215,20 @@ plain_codec form = made_of_codec state_from parts_of (parts_at form) (parts_text
     (λ s h. (ap (λ (l : List Cell). record s { stack = l }) (reverse-reverse s.stack), (h.stack, (h.graphics, (h.functions, h.storage)))))
     (parts_codec form)
 
-place_codec : (contexts : ℕ) (last : Option (ℕ × ℕ)) → IsCodec (place_at contexts last) pair_text (PlaceFits contexts last)
-unfolding place_at
-place_codec contexts last =
-    codec_of _ pair_text (λ p. PairFits p × (is_next_place contexts last p ≡ true)) (PlaceFits contexts last)
+point_codec : (contexts : ℕ) (last : Option (ℕ × ℕ)) → IsCodec (point_at contexts last) pair_text (PointFits contexts last)
+unfolding point_at
+point_codec contexts last =
+    codec_of _ pair_text (λ p. PairFits p × (is_next_point contexts last p ≡ true)) (PointFits contexts last)
     (λ p h. record { context = h.0.0; offset = h.0.1; follows = h.1 }) (λ p h. ((h.context, h.offset), h.follows))
-    (ruled_codec (is_next_place contexts last) pair_at pair_text PairFits pair_codec)
+    (ruled_codec (is_next_point contexts last) pair_at pair_text PairFits pair_codec)
 
 entry_codec : (form : Form) (contexts : ℕ) (before : List Entry) → IsCodec (entry_at form contexts before) (state_text form) (EntryFits form contexts before)
 unfolding entry_at
 entry_codec form contexts before =
-    codec_of _ (state_text form) (λ e. PlaceFits contexts (last_place before) e.0 × StateFits form e.1) (EntryFits form contexts before)
-    (λ e h. record { place = h.0; state = h.1 }) (λ e h. (h.place, h.state))
-    (and_then_codec (place_at contexts (last_place before)) (λ _. state_at form) pair_text (plain_text form) (PlaceFits contexts (last_place before)) (λ _. StateFits form)
-    (place_codec contexts (last_place before)) (λ _. plain_codec form))
+    codec_of _ (state_text form) (λ e. PointFits contexts (last_point before) e.0 × StateFits form e.1) (EntryFits form contexts before)
+    (λ e h. record { point = h.0; state = h.1 }) (λ e h. (h.point, h.state))
+    (and_then_codec (point_at contexts (last_point before)) (λ _. state_at form) pair_text (plain_text form) (PointFits contexts (last_point before)) (λ _. StateFits form)
+    (point_codec contexts (last_point before)) (λ _. plain_codec form))
 
 AreStates : Form → ℕ → List Entry → Type 0
 AreStates form contexts states = (length states < 2 ^ 32) × EachAfter (EntryFits form contexts) [] states

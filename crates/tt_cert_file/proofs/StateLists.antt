@@ -20,7 +20,7 @@ use Rattle.tt_cert.specs.Puts.{family_at, place_of}
 use Rattle.tt_cert.proofs.PlaceEntries.{same_points}
 use Rattle.tt_cert.proofs.Puts.{cases_place, places_apart}
 use Rattle.tt_cert.proofs.Putting.{place_total}
-use Rattle.tt_cert_file.specs.Rules.{is_next_place, last_of, last_place}
+use Rattle.tt_cert_file.specs.Rules.{is_next_point, last_of, last_point}
 use Rattle.tt_cert_file.specs.Sections.{Entry}
 use Rattle.tt_cert_file.proofs.Fields.{both}
 use Rattle.tt_cert_file.proofs.Ascends.{last_behind}
@@ -46,7 +46,7 @@ all_below (e ∷ d ∷ es) p ascends last =
     let more = all_below (d ∷ es) p ascends.1 (subst (λ (o : Option Entry). IsLastBelow o p) (last_behind e (d ∷ es) (omega arith)) last) in
     (place_total.trans e.0 d.0 p ascends.0.0 more.0, more)
 
-last_below : (es : List Entry) (contexts : ℕ) (p : ℕ × ℕ) → is_next_place contexts (last_place es) p ≡ true → IsLastBelow (last_of es) p
+last_below : (es : List Entry) (contexts : ℕ) (p : ℕ × ℕ) → is_next_point contexts (last_point es) p ≡ true → IsLastBelow (last_of es) p
 unfolding IsLastBelow
 last_below es contexts p follows = go (last_of es) (both _ _ follows).1
   where
@@ -137,7 +137,7 @@ module _ (old new : Contents) (p : ℕ × ℕ) (t : State) (changed : Bool) (sam
 -- a state that is put at a place above all comes last
 pub state_added : (old new : Contents) (p : ℕ × ℕ) (t : State) (changed : Bool) → new.contexts ≡ old.contexts → IsFamily old → IsFamily new
     → IsStrictlySortedBy place_cmp (keys_of old.states) → IsStrictlySortedBy place_cmp (keys_of new.states)
-    → is_next_place (length old.contexts) (last_place old.states) p ≡ true
+    → is_next_point (length old.contexts) (last_point old.states) p ≡ true
     → PutsAt state_order (family_of old) (family_of new) (place_of old p.0 p.1) t changed → new.states ≡ old.states ++ (p, t) ∷ []
 state_added old new p t changed same family family' ascends ascends' follows put =
     let lt : p.0 < length old.contexts = ltb-true _ _ (both _ _ follows).0 in
@@ -154,7 +154,7 @@ state_added old new p t changed same family family' ascends ascends' follows put
     ])
 
 -- where a place follows, no state is there, and its context is one of the family's
-pub place_free : (v : Contents) (p : ℕ × ℕ) → IsFamily v → IsStrictlySortedBy place_cmp (keys_of v.states) → is_next_place (length v.contexts) (last_place v.states) p ≡ true
+pub place_free : (v : Contents) (p : ℕ × ℕ) → IsFamily v → IsStrictlySortedBy place_cmp (keys_of v.states) → is_next_point (length v.contexts) (last_point v.states) p ≡ true
     → (p.0 < length v.contexts) × (family_of v (place_of v p.0 p.1) ≡ None)
 place_free v p family ascends follows =
     let lt : p.0 < length v.contexts = ltb-true _ _ (both _ _ follows).0 in

@@ -11,8 +11,8 @@ use Rattle.tt_cert_file.specs.declared.fault.DecodeFault.{DecodeFault}
 use Rattle.tt_cert_file.specs.Answers.{StopsAtEnd}
 use Rattle.tt_cert_file.specs.Forms.{form_of, most_contexts}
 use Rattle.tt_cert_file.specs.Readers.{Answer, Input, and_then, given, list_at, made_of, unit}
-use Rattle.tt_cert_file.specs.Reading.{cell_at, context_at, context_count_at, context_from, contexts_at, counted_at, entry_after, entry_at, form_at, function_at, functions_at, graphics_at, graphics_from, is_magic, long_at, magic_at, name_at, name_of, numbers_at, pair_at, pair_from, parts_at, place_at, registers_at, stack_at, state_at, state_from, states_at, storage_at, stored_at, with_sign, word_at, zone_at, zone_of}
-use Rattle.tt_cert_file.specs.Rules.{is_above, is_next_place, last_of, last_place, may_follow}
+use Rattle.tt_cert_file.specs.Reading.{cell_at, context_at, context_count_at, context_from, contexts_at, counted_at, entry_after, entry_at, form_at, function_at, functions_at, graphics_at, graphics_from, is_magic, long_at, magic_at, name_at, name_of, numbers_at, pair_at, pair_from, parts_at, point_at, registers_at, stack_at, state_at, state_from, states_at, storage_at, stored_at, with_sign, word_at, zone_at, zone_of}
+use Rattle.tt_cert_file.specs.Rules.{is_above, is_next_point, last_of, last_point, may_follow}
 use Rattle.tt_cert_file.specs.Sections.{Context, Entry}
 use Rattle.tt_cert_file.proofs.Steady.{IsSteady, and_then_steady, done_steady, given_steady, list_steady, made_of_steady, refused_steady, ruled_steady, step, step_steady, unit_steady}
 use Rattle.tt_cert_file.proofs.Stops.{stops_in}
@@ -94,9 +94,9 @@ pub contexts_steady : (form : Form) → IsSteady (contexts_at form)
 unfolding contexts_at
 contexts_steady form = step_steady (context_count_at form) (λ _ n. list_at context_at [] n) (count_steady form) (λ _ n. list_steady context_at context_steady n [])
 
-pub place_steady : (contexts : ℕ) (last : Option (ℕ × ℕ)) → IsSteady (place_at contexts last)
-unfolding place_at
-place_steady contexts last = ruled_steady (is_next_place contexts last) pair_at pair_steady
+pub point_steady : (contexts : ℕ) (last : Option (ℕ × ℕ)) → IsSteady (point_at contexts last)
+unfolding point_at
+point_steady contexts last = ruled_steady (is_next_point contexts last) pair_at pair_steady
 
 pub stack_steady : IsSteady stack_at
 unfolding stack_at
@@ -160,7 +160,7 @@ state_steady form =
 pub entry_steady : (form : Form) (contexts : ℕ) (before : List Entry) → IsSteady (entry_at form contexts before)
 unfolding entry_at
 entry_steady form contexts before =
-    and_then_steady (place_at contexts (last_place before)) (λ _. state_at form) (place_steady contexts (last_place before)) (λ _. state_steady form)
+    and_then_steady (point_at contexts (last_point before)) (λ _. state_at form) (point_steady contexts (last_point before)) (λ _. state_steady form)
 
 pub magic_steady : IsSteady magic_at
 unfolding magic_at
@@ -171,7 +171,7 @@ unfolding form_at
 form_steady = step_steady word_at (λ p n j. given p (form_of n) j) word_steady (λ p n. given_steady p (form_of n))
 
 -- a state after its place, as one after those before it
-pub entry_same : (form : Form) (n m : ℕ) (last : Option (ℕ × ℕ)) (before : List Entry) → n ≡ m → last ≡ last_place before → entry_after form n last ≡ entry_at form m before
+pub entry_same : (form : Form) (n m : ℕ) (last : Option (ℕ × ℕ)) (before : List Entry) → n ≡ m → last ≡ last_point before → entry_after form n last ≡ entry_at form m before
 unfolding entry_at
 entry_same form n m last before e f = ap (λ (k : ℕ). entry_after form k last) e ∙ ap (entry_after form m) f
 

@@ -18,7 +18,7 @@ form_of n = if n == 1 then Some One
     else if n == 4 then Some Four
     else None
 
--- how many contexts a section may have at most, beside the main one
+-- how many contexts a section may have at most, besides the main one
 abbrev pub most_contexts : Form → ℕ
 most_contexts One = 4095
 most_contexts Two = 4095

@@ -15,7 +15,7 @@ use Rattle.tt_cert_file.specs.declared.name.Name.{Name}
 use Rattle.tt_cert_file.specs.declared.name.Name.TheVariants as name
 use Rattle.tt_cert_file.specs.Forms.{form_of, most_contexts}
 use Rattle.tt_cert_file.specs.Readers.{Answer, Input, and_then, given, list_at, made_of, ruled, unit, ◌>>=◌}
-use Rattle.tt_cert_file.specs.Rules.{is_above, is_next_place, last_of, last_place, may_follow}
+use Rattle.tt_cert_file.specs.Rules.{is_above, is_next_point, last_of, last_point, may_follow}
 use Rattle.tt_cert_file.specs.Sections.{Context, Entry, Section}
 
 -- a number of 16 bits, one of 32, and both together
@@ -99,9 +99,9 @@ contexts_at form i = do
   n ← context_count_at form i
   list_at context_at [] n.0 n.1
 
--- a state's context and offset, after the last one's
-unfoldable pub place_at : ℕ → Option (ℕ × ℕ) → Input → Answer (ℕ × ℕ)
-place_at contexts last = ruled (is_next_place contexts last) pair_at
+-- a state's point, its context and its offset, which comes after the last state's
+unfoldable pub point_at : ℕ → Option (ℕ × ℕ) → Input → Answer (ℕ × ℕ)
+point_at contexts last = ruled (is_next_point contexts last) pair_at
 
 -- the stack, from the bottom up
 unfoldable pub stack_at : Input → Answer (List Cell)
@@ -149,7 +149,7 @@ storage_at Two i = Ok ([], i)
 storage_at Three i = counted_at stored_at i
 storage_at Four i = counted_at stored_at i
 
--- a state, without its place
+-- a state, without its point
 abbrev pub Parts : Type 0
 Parts = List Cell × (Cells × (List (ℕ × ℕ) × List (ℕ × ℤ)))
 
@@ -168,13 +168,13 @@ parts_at form = and_then stack_at (λ _. and_then graphics_at
 unfoldable pub state_at : Form → Input → Answer State
 state_at form = made_of state_from (parts_at form)
 
--- a state with its place, in one of this many contexts, after the last one's; and after those
--- before it
+-- a state with its point, which is in one of this many contexts, and comes after the last state's;
+-- and the same after the states before it
 abbrev pub entry_after : Form → ℕ → Option (ℕ × ℕ) → Input → Answer Entry
-entry_after form contexts last = and_then (place_at contexts last) (λ _. state_at form)
+entry_after form contexts last = and_then (point_at contexts last) (λ _. state_at form)
 
 unfoldable pub entry_at : Form → ℕ → List Entry → Input → Answer Entry
-entry_at form contexts before = entry_after form contexts (last_place before)
+entry_at form contexts before = entry_after form contexts (last_point before)
 
 unfoldable pub states_at : Form → ℕ → Input → Answer (List Entry)
 states_at form contexts i = do

@@ -107,19 +107,19 @@ StorageFits Two cells = cells ≡ []
 StorageFits Three cells = ListFits StoredFits cells
 StorageFits Four cells = ListFits StoredFits cells
 
--- a context with an offset comes after the last one; its context is one of this many
-abbrev pub is_next_place : ℕ → Option (ℕ × ℕ) → ℕ × ℕ → Bool
-is_next_place contexts last p = nat_lt p.0 contexts
+-- a point comes after the last one; its context is one of this many
+abbrev pub is_next_point : ℕ → Option (ℕ × ℕ) → ℕ × ℕ → Bool
+is_next_point contexts last p = nat_lt p.0 contexts
     && option_map_or (λ q. is_lt (place_cmp q p)) last true
 
--- the place of the last state
-abbrev pub last_place : List Entry → Option (ℕ × ℕ)
-last_place before = option_map (λ e. e.0) (last_of before)
+-- the point of the last state
+abbrev pub last_point : List Entry → Option (ℕ × ℕ)
+last_point before = option_map (λ e. e.0) (last_of before)
 
-pub record PlaceFits (contexts : ℕ) (last : Option (ℕ × ℕ)) (p : ℕ × ℕ) : Type 0 where
+pub record PointFits (contexts : ℕ) (last : Option (ℕ × ℕ)) (p : ℕ × ℕ) : Type 0 where
   pub context : p.0 < 2 ^ 16
   pub offset : p.1 < 2 ^ 32
-  pub follows : is_next_place contexts last p ≡ true
+  pub follows : is_next_point contexts last p ≡ true
 
 pub record StateFits (form : Form) (s : State) : Type 0 where
   pub stack : ListFits (λ _ cell. CellFits cell) (reverse s.stack)
@@ -128,7 +128,7 @@ pub record StateFits (form : Form) (s : State) : Type 0 where
   pub storage : StorageFits form s.storage
 
 pub record EntryFits (form : Form) (contexts : ℕ) (before : List Entry) (e : Entry) : Type 0 where
-  pub place : PlaceFits contexts (last_place before) e.0
+  pub point : PointFits contexts (last_point before) e.0
   pub state : StateFits form e.1
 
 -- what has a text in this form

@@ -78,7 +78,10 @@ fn may_follow(before: &[(u32, Frame)], context: &(u32, Frame)) -> bool
         && is_new_body(before, context.0, context.1.body)
 }
 
-/// Reads a context after those before it, whose numbers start from 1.
+/// Reads a context that comes after these, whose numbers start from 1.
+///
+/// # Errors
+/// As `read_word`, and `Form` with the context's place if it may not come after these.
 #[tactic(auto, unfolding(crate::specs::Reading::context_at))]
 fn read_context<S: Source>(
     source: &mut S,
@@ -114,6 +117,9 @@ fn read_context<S: Source>(
 }
 
 /// Reads how many contexts a section has besides the main one.
+///
+/// # Errors
+/// As `read_word`, and `Form` with the number's place if it is too great for the form.
 fn read_count<S: Source>(source: &mut S, place: u64, form: Form) -> Result<(u16, u64), DecodeFault>
     ensures reads { ReadsBy (context_count_at form) place result
         (S.remaining source.old) (S.remaining source.new) }
@@ -132,6 +138,9 @@ fn read_count<S: Source>(source: &mut S, place: u64, form: Form) -> Result<(u16,
 }
 
 /// Reads this many contexts.
+///
+/// # Errors
+/// As `decode`.
 fn read_context_list<S: Source>(
     alloc: Global,
     source: &mut S,
@@ -158,6 +167,9 @@ fn read_context_list<S: Source>(
 }
 
 /// Reads the contexts of a section.
+///
+/// # Errors
+/// As `decode`.
 #[tactic(auto, unfolding(crate::specs::Reading::contexts_at))]
 pub(crate) fn read_contexts<S: Source>(
     alloc: Global,
@@ -178,8 +190,11 @@ pub(crate) fn read_contexts<S: Source>(
     read_context_list(alloc, source, at, count)
 }
 
-/// Makes a builder with these contexts, by their numbers, and without a state, in the memory of one
-/// that has none.
+/// Makes a builder with these contexts, by their numbers, and without a state, reusing an empty
+/// builder's memory.
+///
+/// # Errors
+/// If memory runs out.
 pub(crate) fn builder_of(spare: Builder, contexts: &[(u32, Frame)]) -> Result<Builder, AllocError>
     requires spare { IsEmptyBuilder spare }
     requires contexts { AreContexts contexts.now }

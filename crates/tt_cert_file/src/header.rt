@@ -18,6 +18,9 @@ use tt_stream::{Sink, Source, read_full, write_all};
 const MAGIC: u32 = 0x4843_5254;
 
 /// Reads what a certificate file begins with.
+///
+/// # Errors
+/// As `read_header`.
 #[tactic(auto, unfolding(crate::specs::Reading::magic_at))]
 fn read_magic<S: Source>(source: &mut S, place: u64) -> Result<(u32, u64), DecodeFault>
     ensures reads { ReadsBy magic_at place result
@@ -36,6 +39,9 @@ fn read_magic<S: Source>(source: &mut S, place: u64) -> Result<(u32, u64), Decod
 }
 
 /// Reads the number of a form.
+///
+/// # Errors
+/// As `read_header`.
 #[tactic(auto, unfolding(crate::specs::Reading::form_at))]
 fn read_form<S: Source>(source: &mut S, place: u64) -> Result<(Form, u64), DecodeFault>
     ensures reads { ReadsBy form_at place result (S.remaining source.old) (S.remaining source.new) }
@@ -53,6 +59,9 @@ fn read_form<S: Source>(source: &mut S, place: u64) -> Result<(Form, u64), Decod
 }
 
 /// Reads a header at a place, and returns it with the place after it.
+///
+/// # Errors
+/// As `read_header`.
 #[tactic(auto, unfolding(crate::specs::Reading::header_at))]
 fn read_header_at<S: Source>(source: &mut S, place: u64) -> Result<((Form, u32), u64), DecodeFault>
     ensures reads { ReadsBy header_at place result

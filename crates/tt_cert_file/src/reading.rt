@@ -21,8 +21,11 @@ use std::marker::Model;
 use tt_cert::{Builder, Certificate};
 use tt_stream::Source;
 
-/// Reads a section in the memory of a builder that has nothing, its first state after this one, and
-/// returns it with the state that was read last and the place after it.
+/// Reads a section, reusing an empty builder's memory; `before` is the state before the first.
+/// Returns it with the state that was read last and the place after it.
+///
+/// # Errors
+/// As `decode`.
 #[tactic(auto, unfolding(crate::specs::Reading::section_at))]
 fn read_section<S: Source>(
     alloc: Global,
@@ -55,7 +58,7 @@ fn read_section<S: Source>(
 pub struct Decoder {
     /// The state that was read last.
     last: Option<LastState>,
-    /// A certificate that isn't needed any more.
+    /// A certificate that isn't needed any more, for its memory.
     spare: Option<Certificate>,
 }
 
@@ -80,6 +83,9 @@ impl Decoder {
     }
 
     /// Takes the state that was read last, or makes one.
+    ///
+    /// # Errors
+    /// If memory runs out.
     fn take_last(&mut self, alloc: Global) -> Result<LastState, AllocError>
         ensures { IfOk result (λ last. IsLast last) }
     {
@@ -89,7 +95,8 @@ impl Decoder {
         }
     }
 
-    /// Takes the memory of the certificate that isn't needed any more, if there is one.
+    /// Returns an empty builder, which reuses the memory of the certificate that isn't needed any
+    /// more, if there is one.
     fn take_spare(&mut self, alloc: Global) -> Builder
         ensures { IsEmptyBuilder result }
     {
@@ -99,7 +106,7 @@ impl Decoder {
         }
     }
 
-    /// Takes back a certificate, in whose memory the next one is read.
+    /// Takes back a certificate, whose memory the next one reuses.
     pub fn take_back(&mut self, certificate: Certificate) {
         self.spare = Some(certificate);
     }

@@ -56,9 +56,8 @@ fn begins_with(bytes: &[u8], text: &[u8]) -> bool
     front == text
 }
 
-/// Returns of how many of the lowest cells, at most of so many, the texts are read ahead. Few
-/// guesses are made, each at one comparison: so the cells may be fewer than those that are read
-/// ahead.
+/// Returns how many of the lowest cells, at most `most`, have their texts next in what is read
+/// ahead. Few guesses are made, each by one comparison: so it may find fewer than there are.
 fn count_ahead(text: &StackText, ahead: &[u8], most: usize) -> usize
     requires { AreWithin text.now.cells.items text.now.ends.items }
     ensures { AreAhead text.now.cells.items text.now.ends.items ahead.now most result }
@@ -75,8 +74,8 @@ fn count_ahead(text: &StackText, ahead: &[u8], most: usize) -> usize
     0
 }
 
-/// Takes the texts that are read ahead of the lowest cells, of at most so many. These cells stay in
-/// the state, and their text is kept. Returns the place after it.
+/// Takes the texts of the lowest cells, at most `count`, where they are read ahead. These cells stay
+/// in the state, and their text is kept. Returns the place after it.
 fn take_shared<S: Source>(
     source: &mut S,
     place: u64,
@@ -113,7 +112,7 @@ fn keep_cells(text: &mut StackText, cells: &[Cell]) -> Result<(), AllocError>
     Ok(())
 }
 
-/// Reads the so many cells of a stack into a state, after another stack, whose text is there.
+/// Reads the `count` cells of a stack into a state, after another stack, whose text is there.
 fn read_stack_cells<S: Source>(
     source: &mut S,
     place: u64,

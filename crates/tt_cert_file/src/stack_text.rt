@@ -10,7 +10,10 @@ ghost use Rattle.tt_cert_file.specs.Text.{cell_text};
 use std::alloc::{AllocError, Global};
 use tt_abs::Cell;
 
-/// Appends a tag, and the number if it is known.
+/// Appends the text of a cell: a tag, and the number if it is known.
+///
+/// # Errors
+/// If memory runs out.
 pub(crate) fn push_cell(out: &mut Vec<u8>, cell: Cell) -> Result<(), AllocError>
     ensures { Pushes (cell_text cell) result out.old.items out.new.items }
 {
@@ -26,7 +29,7 @@ pub(crate) fn push_cell(out: &mut Vec<u8>, cell: Cell) -> Result<(), AllocError>
     }
 }
 
-/// The text of a stack's cells, from the bottom up, by which the lowest ones are known again.
+/// The text of a stack's cells, from the bottom up, by which the same lowest cells are recognized.
 #[derive(Drop)]
 pub(crate) struct StackText {
     /// The texts of the cells, one after the other.
@@ -54,7 +57,7 @@ impl StackText {
         self.ends.clear();
     }
 
-    /// Returns how many bytes the texts of so many of the lowest cells have.
+    /// Returns how many bytes the texts of the lowest `count` cells have.
     pub(crate) fn width(&self, count: usize) -> usize
         requires { count ≤ length self.now.ends.items }
         ensures { result ≡ end_of self.now.ends.items count }
@@ -65,7 +68,7 @@ impl StackText {
         }
     }
 
-    /// Becomes the text of so many of the lowest cells, or stays that of all if there are fewer.
+    /// Becomes the text of the lowest `count` cells, or stays that of all if there are fewer.
     pub(crate) fn cut(&mut self, count: usize)
         ensures { (cells : List AnyCell) → IsStackText self.old cells
             → IsStackText self.new (take count cells) }
@@ -78,6 +81,9 @@ impl StackText {
     }
 
     /// Appends the text of one more cell.
+    ///
+    /// # Errors
+    /// If memory runs out.
     pub(crate) fn push(&mut self, cell: Cell) -> Result<(), AllocError>
         ensures { OnOk result ((cells : List AnyCell) → IsStackText self.old cells
             → IsStackText self.new (cells ++ cell ∷ [])) }

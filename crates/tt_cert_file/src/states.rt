@@ -5,8 +5,8 @@ ghost use Rattle.tt_abs.specs.Entries.{Ascends};
 ghost use Rattle.tt_abs.specs.States.{KeepsRange, state_order};
 ghost use Rattle.tt_stream.specs.Reads.{ConsumesBeginning};
 ghost use Rattle.tt_cert_file.specs.Answers.{CountsRead, IsOutOfMemory};
-ghost use Rattle.tt_cert_file.specs.Reading.{entry_after, place_at, state_at, states_at};
-ghost use Rattle.tt_cert_file.specs.Rules.{is_next_place as is_next_place_after, last_place};
+ghost use Rattle.tt_cert_file.specs.Reading.{entry_after, point_at, state_at, states_at};
+ghost use Rattle.tt_cert_file.specs.Rules.{is_next_point as is_next_point_after, last_point};
 ghost use Rattle.tt_cert_file.specs.Representation.Clauses.{ReadsAs, ReadsBy, StopsWhole, entries_at};
 ghost use Rattle.tt_cert_file.specs.Representation.SharedCells.{IsLast};
 
@@ -36,7 +36,10 @@ fn set_graphics(state: &mut State, graphics: &Graphics<Cell, ZoneCell>)
     state.set_loop(graphics.loop_number);
 }
 
-/// Makes storage cells known, by ascending indexes.
+/// Makes storage cells known, which ascend by index.
+///
+/// # Errors
+/// If memory runs out.
 fn store_cells(state: &mut State, cells: &[(u16, i32)]) -> Result<(), AllocError>
     requires empty { state.old.storage ≡ [] }
     requires ascends { Ascends cells.now }
@@ -50,6 +53,9 @@ fn store_cells(state: &mut State, cells: &[(u16, i32)]) -> Result<(), AllocError
 }
 
 /// Makes exactly these functions known, unless they are known already.
+///
+/// # Errors
+/// If memory runs out.
 fn set_functions(state: &mut State, functions: &Functions) -> Result<(), AllocError>
     requires ascends { Ascends functions.now.list.items }
     requires same { functions.now.is_same ≡ true
@@ -64,7 +70,10 @@ fn set_functions(state: &mut State, functions: &Functions) -> Result<(), AllocEr
     state.set_functions(&functions.list)
 }
 
-/// Makes known what is read of a state besides its stack: lists by ascending numbers.
+/// Makes known what was read of a state besides its stack; the lists ascend by number.
+///
+/// # Errors
+/// If memory runs out.
 fn set_rest(
     state: &mut State,
     graphics: &Graphics<Cell, ZoneCell>,
@@ -89,8 +98,8 @@ fn set_rest(
     store_cells(state, storage)
 }
 
-/// The state that was read last, in whose memory the next one is made, and the lists of which it
-/// was made, in whose memory those of the next one are read.
+/// The state that was read last, and the lists of which it was made. The next state and its lists
+/// reuse their memory.
 #[derive(Drop)]
 pub(crate) struct LastState {
     state: State,
@@ -116,7 +125,10 @@ impl LastState {
     }
 }
 
-/// Reads a state, without its place.
+/// Reads a state, without its point.
+///
+/// # Errors
+/// As `decode`.
 #[tactic(auto, unfolding(crate::specs::Reading::state_at))]
 fn read_state<S: Source>(
     source: &mut S,
@@ -153,43 +165,49 @@ fn read_state<S: Source>(
     Ok((last, at))
 }
 
-/// Whether a state may be at this place, in one of this many contexts, after the last one's.
-fn is_next_place(contexts: u32, last: Option<(u32, u32)>, place: (u32, u32)) -> bool
-    ensures { result ≡ is_next_place_after contexts last place }
+/// Whether a state may be at this point: in one of this many contexts, and after the last state's.
+fn is_next_point(contexts: u32, last: Option<(u32, u32)>, point: (u32, u32)) -> bool
+    ensures { result ≡ is_next_point_after contexts last point }
 {
-    place.0 < contexts
+    point.0 < contexts
         && match last {
-            Some(last) => last.cmp(&place).is_lt(),
+            Some(last) => last.cmp(&point).is_lt(),
             None => true,
         }
 }
 
-/// Reads a state's context and offset, after the last one's.
-#[tactic(auto, unfolding(crate::specs::Reading::place_at))]
-fn read_place<S: Source>(
+/// Reads a state's point, which comes after the last state's: its context and its offset.
+///
+/// # Errors
+/// As `decode`, except that memory doesn't run out.
+#[tactic(auto, unfolding(crate::specs::Reading::point_at))]
+fn read_point<S: Source>(
     source: &mut S,
     place: u64,
     contexts: u32,
     last: Option<(u32, u32)>,
 ) -> Result<((u32, u32), u64), DecodeFault>
-    ensures reads { ReadsBy (place_at contexts last) place result
+    ensures reads { ReadsBy (point_at contexts last) place result
         (S.remaining source.old) (S.remaining source.new) }
-    ensures follows { IfOk result (λ r. is_next_place_after contexts last r.0 ≡ true) }
+    ensures follows { IfOk result (λ r. is_next_point_after contexts last r.0 ≡ true) }
     ensures beginning { ConsumesBeginning (S.remaining source.old) (S.remaining source.new) }
-    ensures stopped { StopsWhole (place_at contexts last) place result
+    ensures stopped { StopsWhole (point_at contexts last) place result
         (S.remaining source.old) (S.remaining source.new) }
     ensures failures { CountsRead result (S.failures source.old) (S.failures source.new) }
     ensures memory { IfErr result (λ fault. ¬ IsOutOfMemory fault) }
 {
     let ((context, offset), after) = read_pair(source, place)?;
-    let at = (u32::from(context), offset);
-    if !is_next_place(contexts, last, at) {
+    let point = (u32::from(context), offset);
+    if !is_next_point(contexts, last, point) {
         return Err(DecodeFault::Form(place));
     }
-    Ok((at, after))
+    Ok((point, after))
 }
 
-/// Reads a state with its context and offset, after the last one's.
+/// Reads a state with its point, which comes after the last state's.
+///
+/// # Errors
+/// As `decode`.
 fn read_entry<S: Source>(
     source: &mut S,
     place: u64,
@@ -201,22 +219,25 @@ fn read_entry<S: Source>(
     requires { IsLast last_state }
     ensures reads { ReadsAs (λ x. (x.0, x.1.state)) (entry_after form contexts last) place result
         (S.remaining source.old) (S.remaining source.new) }
-    ensures follows { IfOk result (λ r. is_next_place_after contexts last r.0.0 ≡ true) }
+    ensures follows { IfOk result (λ r. is_next_point_after contexts last r.0.0 ≡ true) }
     ensures kept { IfOk result (λ r. IsLast r.0.1) }
     ensures beginning { ConsumesBeginning (S.remaining source.old) (S.remaining source.new) }
     ensures stopped { StopsWhole (entry_after form contexts last) place result
         (S.remaining source.old) (S.remaining source.new) }
     ensures failures { CountsRead result (S.failures source.old) (S.failures source.new) }
 {
-    let (point, at) = read_place(source, place, contexts, last)?;
+    let (point, at) = read_point(source, place, contexts, last)?;
     let (state, at) = read_state(source, at, form, last_state)?;
     Ok(((point, state), at))
 }
 
 /// Puts a state at a point of the builder that comes after all that have states.
+///
+/// # Errors
+/// If memory runs out.
 fn add_state(builder: &mut Builder, point: (u32, u32), state: &State) -> Result<(), AllocError>
-    requires there { is_next_place_after (length builder.old.contexts)
-        (last_place builder.old.states) point ≡ true }
+    requires there { is_next_point_after (length builder.old.contexts)
+        (last_point builder.old.states) point ≡ true }
     requires in_range { state_order.InRange state.now }
     ensures added { OnOk result
         (builder.new.states ≡ builder.old.states ++ (point, state.now) ∷ []) }
@@ -236,8 +257,11 @@ fn add_state(builder: &mut Builder, point: (u32, u32), state: &State) -> Result<
     }
 }
 
-/// Reads this many states into a builder that has their contexts and no state, the first of them
-/// after this one.
+/// Reads this many states into a builder that has their contexts and no state; `before` is the
+/// state before the first.
+///
+/// # Errors
+/// As `decode`.
 fn read_state_list<S: Source>(
     builder: Builder,
     source: &mut S,
@@ -272,8 +296,11 @@ fn read_state_list<S: Source>(
     Ok(((builder, last_state), at))
 }
 
-/// Reads the states of a section into a builder that has its contexts and no state, the first of
-/// them after this one.
+/// Reads the states of a section into a builder that has its contexts and no state; `before` is the
+/// state before the first.
+///
+/// # Errors
+/// As `decode`.
 #[tactic(auto, unfolding(crate::specs::Reading::states_at))]
 pub(crate) fn read_states<S: Source>(
     builder: Builder,

@@ -14,6 +14,9 @@ use tt_code::Graphics;
 use tt_stream::{Source, read_full};
 
 /// Reads a unit of N bytes that aren't all read ahead.
+///
+/// # Errors
+/// As `read_unit`.
 #[cold]
 #[inline(never)]
 fn fetch_unit<S: Source, const N: usize>(
@@ -38,6 +41,9 @@ fn fetch_unit<S: Source, const N: usize>(
 }
 
 /// Reads a unit of N bytes at a place, and returns it with the place after it.
+///
+/// # Errors
+/// `Form` with the place of the input's end, if that comes too early; `Read` where a read failed.
 #[inline]
 fn read_unit<S: Source, const N: usize>(
     source: &mut S,
@@ -60,6 +66,9 @@ fn read_unit<S: Source, const N: usize>(
 }
 
 /// Reads a number of 16 bits.
+///
+/// # Errors
+/// As `read_unit`.
 #[tactic(auto, unfolding(crate::specs::Reading::word_at))]
 pub(crate) fn read_word<S: Source>(source: &mut S, place: u64) -> Result<(u16, u64), DecodeFault>
     ensures reads { ReadsBy word_at place result (S.remaining source.old) (S.remaining source.new) }
@@ -74,6 +83,9 @@ pub(crate) fn read_word<S: Source>(source: &mut S, place: u64) -> Result<(u16, u
 }
 
 /// Reads a number of 32 bits.
+///
+/// # Errors
+/// As `read_unit`.
 #[tactic(auto, unfolding(crate::specs::Reading::long_at))]
 pub(crate) fn read_long<S: Source>(source: &mut S, place: u64) -> Result<(u32, u64), DecodeFault>
     ensures reads { ReadsBy long_at place result (S.remaining source.old) (S.remaining source.new) }
@@ -98,6 +110,9 @@ pub(crate) fn pair_of(unit: [u8; 6]) -> (u16, u32)
 }
 
 /// Reads a number of 16 bits and one of 32.
+///
+/// # Errors
+/// As `read_unit`.
 #[tactic(auto, unfolding(crate::specs::Reading::pair_at))]
 pub(crate) fn read_pair<S: Source>(
     source: &mut S,
@@ -115,6 +130,9 @@ pub(crate) fn read_pair<S: Source>(
 }
 
 /// Reads the name of a section's program.
+///
+/// # Errors
+/// As `read_unit`, and `Form` with the unit's place if it is no name.
 #[tactic(auto, unfolding(crate::specs::Reading::name_at))]
 pub(crate) fn read_name<S: Source>(source: &mut S, place: u64) -> Result<(Name, u64), DecodeFault>
     ensures reads { ReadsBy name_at place result (S.remaining source.old) (S.remaining source.new) }
@@ -136,6 +154,9 @@ pub(crate) fn read_name<S: Source>(source: &mut S, place: u64) -> Result<(Name, 
 }
 
 /// Reads what is known of a number.
+///
+/// # Errors
+/// As `read_unit`, and `Form` with the tag's place if it is neither 0 nor 1.
 #[tactic(auto, unfolding(crate::specs::Reading::cell_at))]
 pub(crate) fn read_cell<S: Source>(source: &mut S, place: u64) -> Result<(Cell, u64), DecodeFault>
     ensures reads { ReadsBy cell_at place result (S.remaining source.old) (S.remaining source.new) }
@@ -158,6 +179,9 @@ pub(crate) fn read_cell<S: Source>(source: &mut S, place: u64) -> Result<(Cell, 
 }
 
 /// Reads what is known of a zone pointer.
+///
+/// # Errors
+/// As `read_unit`, and `Form` with the unit's place if it is above 2.
 #[tactic(auto, unfolding(crate::specs::Reading::zone_at))]
 fn read_zone<S: Source>(source: &mut S, place: u64) -> Result<(ZoneCell, u64), DecodeFault>
     ensures reads { ReadsBy zone_at place result (S.remaining source.old) (S.remaining source.new) }
@@ -178,6 +202,9 @@ fn read_zone<S: Source>(source: &mut S, place: u64) -> Result<(ZoneCell, u64), D
 }
 
 /// Reads what is known of the graphics state.
+///
+/// # Errors
+/// As `read_cell` and `read_zone`.
 #[tactic(auto, unfolding(crate::specs::Reading::graphics_at))]
 pub(crate) fn read_graphics<S: Source>(
     source: &mut S,

@@ -31,8 +31,7 @@ use tt_stream::{Sink, write_all};
 /// How many bytes of a section there is room for from the start: most sections have fewer.
 const ROOM: usize = 16_384;
 
-/// How many cells fewer are tried first, where not all of the lowest cells are the same in two
-/// states.
+/// How many cells fewer are tried next, where the lowest cells of two states aren't all the same.
 const FEWER: usize = 8;
 
 /// The texts of a state's lists, kept for the next state.
@@ -58,6 +57,7 @@ fn push_name(out: &mut Vec<u8>, name: Name) -> Result<(), AllocError>
     out.extend_from_slice(&[kind, high, low])
 }
 
+/// Appends a number of 16 bits.
 fn push_word(out: &mut Vec<u8>, number: u16) -> Result<(), AllocError>
     ensures written { Pushes (word number) result out.old.items out.new.items }
     ensures fits { number < 2 ^ 16 }
@@ -65,6 +65,7 @@ fn push_word(out: &mut Vec<u8>, number: u16) -> Result<(), AllocError>
     out.extend_from_slice(&number.to_be_bytes())
 }
 
+/// Appends a number of 32 bits.
 fn push_long(out: &mut Vec<u8>, number: u32) -> Result<(), AllocError>
     ensures written { Pushes (long number) result out.old.items out.new.items }
     ensures fits { number < 2 ^ 32 }
@@ -72,6 +73,7 @@ fn push_long(out: &mut Vec<u8>, number: u32) -> Result<(), AllocError>
     out.extend_from_slice(&number.to_be_bytes())
 }
 
+/// Appends a number of 16 bits and one of 32.
 fn push_pair(out: &mut Vec<u8>, pair: (u16, u32)) -> Result<(), AllocError>
     ensures written { Pushes (pair_text pair) result out.old.items out.new.items }
     ensures fits { OnOk result ((pair.0 < 2 ^ 16) × (pair.1 < 2 ^ 32)) }
@@ -81,6 +83,7 @@ fn push_pair(out: &mut Vec<u8>, pair: (u16, u32)) -> Result<(), AllocError>
     out.extend_from_slice(&[w1, w0, l3, l2, l1, l0])
 }
 
+/// Appends what is known of a zone pointer, as a byte.
 fn push_zone(out: &mut Vec<u8>, zone: ZoneCell) -> Result<(), AllocError>
     ensures { Pushes (zone_text zone) result out.old.items out.new.items }
 {
@@ -121,7 +124,7 @@ fn keep_shared(text: &mut StackText, before: Option<&State>, state: &State) -> u
     shared
 }
 
-/// Appends the text of a stack's cells after so many of the lowest ones, whose text is there.
+/// Appends the text of a stack's cells after the `shared` lowest ones, whose text is there.
 fn push_others(text: &mut StackText, state: &State, shared: usize) -> Result<(), AllocError>
     requires { IsStackText text.old (take shared (reverse state.now.stack)) }
     ensures { OnOk result (IsStackText text.new (reverse state.now.stack)) }
@@ -133,8 +136,8 @@ fn push_others(text: &mut StackText, state: &State, shared: usize) -> Result<(),
     Ok(())
 }
 
-/// Returns how many of the lowest cells are found to be the same in both states. All that both have
-/// are tried first, then some fewer, and each time more than twice as many fewer.
+/// Returns how many of the lowest cells are found to be the same in both states. It tries as many
+/// as both have, and then 8, 24, 56 and so on fewer.
 fn shared_depth(before: &State, state: &State) -> usize
     requires { length state.now.stack < 2 ^ 16 }
     ensures { take result (reverse before.now.stack) ≡ take result (reverse state.now.stack) }

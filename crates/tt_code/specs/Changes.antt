@@ -12,13 +12,14 @@ use Rattle.tt_code.specs.declared.kinds.Update.TheVariants as update
 use Rattle.tt_code.specs.declared.kinds.Pushed.{Pushed}
 use Rattle.tt_code.specs.declared.kinds.Pushed.TheVariants as pushed
 
--- the element taken at a position; beyond them, and in no line of the table, a default
+-- the element taken at a position; a default where there is none, which no line of the table reads
 abbrev pub taken_at : {N : Type 0} → N → List N → ℕ → N
 taken_at default [] i = default
 taken_at default (n ∷ ns) zero = n
 taken_at default (n ∷ ns) (suc i) = taken_at default ns i
 
--- What changes read in an element: they are the same for other elements than numbers.
+-- How changes read the elements that were taken, so that they are the same for numbers and for
+-- cells.
 pub record Reading (N Z : Type 0) : Type 0 where
   pub one : N
   pub index : N → ℕ

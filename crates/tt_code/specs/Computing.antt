@@ -52,7 +52,7 @@ element (pos (suc n)) [] = Err reason.Underflow
 element (pos (suc zero)) (x ∷ xs) = Ok x
 element (pos (suc (suc n))) (x ∷ xs) = element (pos (suc n)) xs
 
--- where it is, the top being 0
+-- the position of that element, the top being 0
 abbrev pub place_of : ℤ → ℕ
 place_of (pos (suc n)) = n
 place_of _ = 0

@@ -12,7 +12,7 @@ use Rattle.tt_code.specs.declared.reason.Reason.TheVariants as reason
 use Rattle.tt_code.specs.declared.kinds.Control.{Control}
 use Rattle.tt_code.specs.declared.kinds.Control.TheVariants.{If, Else, Jump, JumpIfTrue, JumpIfFalse, Call, LoopCall, FunctionDefinition, EndFunction, InstructionDefinition}
 
--- with this stack left, at this offset
+-- the machine at this offset, with this stack left
 abbrev pub goes_to : Machine → List ℤ → ℕ → Outcome
 goes_to m stack offset = leaves (at_offset m offset) stack []
 
@@ -46,7 +46,7 @@ called s m (pos n) =
     then some_or (body_named m.functions n) reason.Function
     else Err reason.Function
 
--- into a body for so many turns; a count of 0 or less calls nothing (own)
+-- a call of a body for a number of turns; for 0 or fewer nothing is called (own)
 abbrev pub enters : Machine → ℕ → List ℤ → ℤ → Outcome
 enters m name stack (pos (suc n)) =
     goes_to (record m {

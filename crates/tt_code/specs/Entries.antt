@@ -20,7 +20,7 @@ view (effect.Stack s) = Stack s
 view (effect.Arithmetic a) = Computes a
 view (effect.Control c) = Controls c
 
--- count codes from the first one on
+-- n codes, from the first one on
 abbrev pub codes_from : ℕ → ℕ → List ℕ
 codes_from first zero = []
 codes_from first (suc n) = first ∷ codes_from (first + 1) n

@@ -1,10 +1,10 @@
--- What a fault says about the bytes.
+-- What a fault means for the bytes.
 use Rattle.std.specs.Prelude.{ℕ, List}
 use Rattle.tt_code.specs.declared.fault.CodeFault.{CodeFault}
 use Rattle.tt_code.specs.declared.fault.CodeFault.TheVariants.{CannotCut, Structure, OutOfMemory}
 use Rattle.tt_code.specs.Grammar.{HasFault}
 
--- memory ran out, which says nothing about the bytes
+-- memory ran out, which is no fault of the bytes
 abbrev pub IsMemory : CodeFault → Type 0
 IsMemory (OutOfMemory error) = Unit {0}
 IsMemory (CannotCut offset) = ⊥

@@ -38,7 +38,7 @@ cvt_setting f = record {
   prep = f.cvt_program;
 }
 
--- the setting of the program of a glyph with so many points and contours
+-- the setting of a glyph's program, where the glyph has this many points and contours
 abbrev pub glyph_setting : Font → ℕ → ℕ → List Instruction → Setting
 glyph_setting f points contours program = record {
   limits = f.limits;

@@ -137,7 +137,7 @@ FindsTargets opener find =
     (is : List Instruction) (at to : ℕ) → IsStructured is → AllByRecursion IsInstruction is →
     ((find is at ≡ Some to) ↔ GoesTo opener is at to)
 
--- in structured programs a function finds a place for each instruction with this keyword
+-- in structured programs a function finds a target for each instruction with this keyword
 abbrev pub FindsEachTarget : BlockKeyword → (List Instruction → ℕ → Option ℕ) → Type 0
 FindsEachTarget opener find =
     (is : List Instruction) (at : ℕ) (i : Instruction) → IsStructured is →

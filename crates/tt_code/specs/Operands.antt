@@ -39,12 +39,12 @@ then_take first second = do
   b ← second a.1
   Ok (a.0 ++ b.0, b.1)
 
--- so many takings, one after the other
+-- this many takings, one after the other
 abbrev pub times : {N : Type 0} → ℕ → (List N → Tested (Taking N)) → List N → Tested (Taking N)
 times zero one stack = Ok ([], stack)
 times (suc n) one stack = then_take (one stack) (times n one)
 
--- as many takings as a count says, once the count is tested
+-- as many takings as a count says, once the count has passed its test
 abbrev pub counted : {N : Type 0} → Tested ℕ → (List N → Tested (Taking N)) → List N →
     Tested (Taking N)
 counted (Err r) one stack = Err r

@@ -93,12 +93,12 @@ abbrev pub program_of : Setting → List Frame → List Instruction
 program_of s [] = s.main
 program_of s (f ∷ fs) = if nat_lt f.body CVT_BODIES then s.font else s.prep
 
--- and its body there
+-- the body in which a machine with these frames is
 abbrev pub body_of : List Frame → Body
 body_of [] = body.Main
 body_of (f ∷ fs) = body.Function (body_offset f.body)
 
--- whether this is the body that was found
+-- whether the body that was found is this one: the main program, or the same function's body
 abbrev pub is_body : Body → Option Body → Bool
 is_body body.Main (Some body.Main) = true
 is_body (body.Function a) (Some (body.Function b)) = nat_eq a b

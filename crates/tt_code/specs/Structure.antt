@@ -35,9 +35,9 @@ is_keyword Endf Endf = true
 is_keyword Other Other = true
 is_keyword _ _ = false
 
--- Looking for the instruction that ends what an opening one began, while so many IFs are open
--- inside: None where this is it, otherwise how many are open after it. An IF ends at its ELSE or
--- EIF, an ELSE at its EIF, a definition at its ENDF.
+-- Looking for the instruction that ends what an opening one began, where `inside` IFs are open
+-- inside it: None where this keyword is the one, otherwise how many are open after it. An IF ends
+-- at its ELSE or EIF, an ELSE at its EIF, a definition at its ENDF.
 abbrev pub still_open : BlockKeyword → BlockKeyword → ℕ → Option ℕ
 still_open If If inside = Some (suc inside)
 still_open If Else zero = None
@@ -73,7 +73,7 @@ leads_from start opener (i ∷ is) offset =
 abbrev pub leads : BlockKeyword → List Instruction → ℕ → Option ℕ
 leads opener is offset = leads_from 0 opener is offset
 
--- where an IF goes on 0: to just after its ELSE, or without one just after its EIF
+-- where an IF goes that takes 0: to just after its ELSE, or without one just after its EIF
 abbrev pub after_if : List Instruction → ℕ → Option ℕ
 after_if = leads If
 

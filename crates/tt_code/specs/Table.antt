@@ -43,7 +43,7 @@ pub data Meaning : Type 0 where
   Computes : Arithmetic → Meaning
   Controls : Control → Meaning
 
--- count codes from the first one on that share a name
+-- `count` codes that share a name, from the first one on
 pub record Named : Type 0 where
   pub first : ℕ
   pub count : ℕ
@@ -54,7 +54,7 @@ pub record Line : Type 0 where
   pub instructions : List Named
   pub meaning : Meaning
 
--- Words to write lines with.
+-- Abbreviations for writing lines.
 
 -- one code with a name
 abbrev pub one : ℕ → List ℕ → Named
@@ -281,7 +281,7 @@ abbrev pub name_among : List Named → ℕ → Option (List ℕ)
 name_among [] code = None
 name_among (n ∷ ns) code = if is_one_of n code then Some n.name else name_among ns code
 
--- whether a code is of a line
+-- whether a code is one of a line's
 abbrev pub is_among : List Named → ℕ → Bool
 is_among [] code = false
 is_among (n ∷ ns) code = is_one_of n code || is_among ns code

@@ -5,7 +5,7 @@
 use std::alloc::AllocError;
 use thiserror::Error;
 
-/// Why bytes aren't a program, with the offset in the program where there is one.
+/// Why bytes aren't a program, with the offset of the fault where it has one.
 #[derive(Debug, Drop, Error)]
 pub enum CodeFault {
     /// The instruction that starts at this offset passes the end of the program.
@@ -15,7 +15,7 @@ pub enum CodeFault {
     /// program's end.
     #[error("wrong structure at {0}")]
     Structure(u32),
-    /// Memory could not be grown.
+    /// Memory ran out.
     #[error("out of memory")]
     OutOfMemory(#[from(alloc)] AllocError),
 }

@@ -11,6 +11,7 @@ use std::marker::Model;
 /// An instruction: its code, followed by the data of a push instruction. Contracts see its bytes.
 #[derive(Drop)]
 pub struct Instr<'a> {
+    /// All bytes of the instruction.
     bytes: &'a [u8],
 }
 
@@ -56,7 +57,7 @@ impl<'a> Instr<'a> {
     }
 
     /// Returns what a push instruction pushes, as bytes or words of two bytes; empty for every
-    /// other one.
+    /// other instruction.
     pub fn data(&self) -> &'a [u8]
         ensures { result.now ≡ data_of self.now }
     {

@@ -8,8 +8,8 @@ ghost use Rattle.tt_code.specs.Entries.{view};
 use crate::kinds::{Effect, Push};
 use crate::table::entry;
 
-/// Returns how many bytes follow the code, a count byte included; None where the count byte is
-/// missing.
+/// Returns how many bytes follow the code of an instruction, a count byte included; None where the
+/// count byte is missing.
 fn data_length_of(effect: &Effect, rest: &[u8]) -> Option<u16>
     ensures value { result ≡ data_length (view effect.now) rest.now }
     ensures small { IfSome result (λ n. n ≤ 511) }
@@ -23,7 +23,8 @@ fn data_length_of(effect: &Effect, rest: &[u8]) -> Option<u16>
     }
 }
 
-/// Returns how many bytes the instruction at the front has; None where it passes the end.
+/// Returns how many bytes the instruction has with which the bytes begin; None where it passes
+/// their end.
 pub fn front_length(bytes: &[u8]) -> Option<u16>
     ensures found { IfSome result (IsInstructionInFront bytes.now) }
     ensures none { IfNone result (NoInstructionInFront bytes.now) }
@@ -37,7 +38,7 @@ pub fn front_length(bytes: &[u8]) -> Option<u16>
     }
 }
 
-/// Finds the instruction that passes the end, and returns its offset, if there is one.
+/// Returns the offset of the instruction that passes the end of the bytes, if there is one.
 pub fn first_uncut(bytes: &[u8]) -> Option<u32>
     requires { length bytes.now < 2 ^ 31 }
     ensures cut { IfNone result (CanBeCut bytes.now) }

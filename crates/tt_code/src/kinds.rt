@@ -4,20 +4,26 @@
 /// One of the three reference points of the graphics state.
 #[derive(Clone, Copy)]
 pub enum Reference {
+    /// The reference point rp0.
     Rp0,
+    /// The reference point rp1.
     Rp1,
+    /// The reference point rp2.
     Rp2,
 }
 
 /// One of the three zone pointers of the graphics state.
 #[derive(Clone, Copy)]
 pub enum Pointer {
+    /// The zone pointer zp0.
     Zp0,
+    /// The zone pointer zp1.
     Zp1,
+    /// The zone pointer zp2.
     Zp2,
 }
 
-/// In which zones' range a point number must lie.
+/// The zones in which a point number is tested.
 #[derive(Clone, Copy)]
 pub enum Within {
     /// In the zone of the pointer.
@@ -41,9 +47,9 @@ pub enum Operand {
     Storage,
     /// A zone, 0 or 1.
     Zone,
-    /// A contour number of the zone of zp2.
+    /// The number of a contour in the zone of zp2.
     Contour,
-    /// As many point numbers as the loop number states.
+    /// As many point numbers as the loop number says.
     LoopPoints(Within),
     /// A count, and as many pairs of a point number and a number.
     PointPairs(Within),
@@ -54,16 +60,18 @@ pub enum Operand {
 /// A reference point that an instruction uses as a point of a pointer's zone.
 #[derive(Clone, Copy)]
 pub struct Use {
+    /// The reference point.
     pub reference: Reference,
+    /// The pointer whose zone has to have a point of its number.
     pub pointer: Pointer,
 }
 
 /// Where the new number of a reference point comes from.
 #[derive(Clone, Copy)]
 pub enum Source {
-    /// From the element taken at this position, the first one being 0.
+    /// The element taken at this position, the first one being 0.
     Taken(u8),
-    /// From a reference point.
+    /// A reference point.
     Same(Reference),
 }
 
@@ -119,68 +127,97 @@ pub enum Push {
     Words(u8),
 }
 
-/// An instruction that moves the stack's elements and reads none of them but an index.
+/// An instruction that moves the stack's elements and reads none of them except for an index.
 #[derive(Clone, Copy)]
 pub enum StackOp {
+    /// DUP: pushes the top again.
     Dup,
+    /// POP: removes the top.
     Pop,
+    /// CLEAR: removes all elements.
     Clear,
+    /// SWAP: exchanges the two upper elements.
     Swap,
+    /// DEPTH: pushes how many elements there are.
     Depth,
-    /// CINDEX
+    /// CINDEX: copies the element that an index names to the top.
     CopyIndexed,
-    /// MINDEX
+    /// MINDEX: moves the element that an index names to the top.
     MoveIndexed,
+    /// ROLL: moves the third element to the top.
     Roll,
 }
 
-/// An instruction whose result is computed.
+/// An instruction whose result is computed. Of two operands the first is the one below the top.
 #[derive(Clone, Copy)]
 pub enum Arithmetic {
+    /// ADD: the sum of two numbers.
     Add,
+    /// SUB: the first number minus the second.
     Sub,
+    /// ABS: the absolute value of a number.
     Abs,
+    /// NEG: a number with the other sign.
     Neg,
+    /// LT: 1 if the first number is less than the second, otherwise 0.
     Lt,
+    /// LTEQ: 1 if the first number is at most the second, otherwise 0.
     LtEq,
+    /// GT: 1 if the first number is greater than the second, otherwise 0.
     Gt,
+    /// GTEQ: 1 if the first number is at least the second, otherwise 0.
     GtEq,
+    /// EQ: 1 if two numbers are equal, otherwise 0.
     Eq,
+    /// NEQ: 1 if two numbers differ, otherwise 0.
     Neq,
+    /// AND: 1 if both numbers are true, otherwise 0.
     And,
+    /// OR: 1 if one of two numbers is true, otherwise 0.
     Or,
+    /// NOT: 1 if a number is 0, otherwise 0.
     Not,
 }
 
 /// An instruction that leads elsewhere than to the next instruction, or defines a function.
 #[derive(Clone, Copy)]
 pub enum Control {
+    /// IF: goes on to the next instruction if a number is true, otherwise to just after its ELSE or
+    /// EIF.
     If,
+    /// ELSE: goes to just after its EIF.
     Else,
-    /// JMPR
+    /// JMPR: jumps.
     Jump,
-    /// JROT
+    /// JROT: jumps if a number is true.
     JumpIfTrue,
-    /// JROF
+    /// JROF: jumps if a number is 0.
     JumpIfFalse,
+    /// CALL: calls a function once.
     Call,
+    /// LOOPCALL: calls a function as often as a count says.
     LoopCall,
-    /// FDEF
+    /// FDEF: defines a function and goes to just after its ENDF.
     FunctionDefinition,
-    /// ENDF
+    /// ENDF: ends a turn of a function.
     EndFunction,
-    /// IDEF
+    /// IDEF: defines an instruction, which isn't followed.
     InstructionDefinition,
 }
 
-/// The effect of an instruction code.
+/// What the instructions of a code do.
 #[derive(Clone, Copy)]
 pub enum Effect {
-    /// The code isn't that of an instruction.
+    /// The code has no entry in the instruction set.
     NoEntry,
+    /// It takes, tests, changes and pushes what its row says.
     Plain(Row),
+    /// It pushes its data.
     Push(Push),
+    /// It moves elements of the stack.
     Stack(StackOp),
+    /// It computes a number.
     Arithmetic(Arithmetic),
+    /// It leads elsewhere than to the next instruction, or defines something.
     Control(Control),
 }

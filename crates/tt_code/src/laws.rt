@@ -16,7 +16,7 @@ pub fn one_cut()
         IsCut bytes is → IsCut bytes js → is ≡ js }
 {}
 
-/// States that a program that cannot be cut has one fault of its cut.
+/// States that a program that cannot be cut has one offset at which its cut fails.
 pub fn one_end_of_cut()
     ensures { (bytes : List ℕ) (k m : ℕ) → CannotBeCut bytes k → CannotBeCut bytes m → k ≡ m }
 {}
@@ -33,15 +33,15 @@ pub fn structured_without_fault()
         IsCut bytes is → IsStructured is → IsFault is k → ⊥ }
 {}
 
-/// States that an instruction that opens something leads to one place.
+/// States that an instruction that opens something leads to one offset.
 pub fn one_target()
     ensures { (bytes : List ℕ) (is : List Instruction) (opener other : BlockKeyword) →
         (offset s t : ℕ) → IsCut bytes is →
         GoesTo opener is offset s → GoesTo other is offset t → s ≡ t }
 {}
 
-/// States that by the grammar each instruction of a structured program that opens something leads
-/// somewhere.
+/// States that each instruction of a structured program that opens something leads somewhere, by
+/// the grammar.
 pub fn each_target()
     ensures { (bytes : List ℕ) (is : List Instruction) (offset : ℕ) (i : Instruction) →
         (e : BlockKeyword) → IsCut bytes is → IsStructured is → IsInstructionAt is offset i →
@@ -61,7 +61,7 @@ pub fn one_body()
         IsBodyAt is offset b → IsBodyAt is offset c → b ≡ c }
 {}
 
-/// States that by the grammar each instruction of a structured program has a body.
+/// States that each instruction of a structured program has a body, by the grammar.
 pub fn each_body()
     ensures { (bytes : List ℕ) (is : List Instruction) (offset : ℕ) (i : Instruction) →
         IsCut bytes is → IsStructured is → IsInstructionAt is offset i →
@@ -74,7 +74,7 @@ pub fn next_is_there()
         IsInstructionAt is offset i → IsStartOrEnd is (offset + length i) }
 {}
 
-/// States that where control goes there is an instruction, or the program ends.
+/// States that where an opening instruction leads there is an instruction, or the program ends.
 pub fn target_is_there()
     ensures { (is : List Instruction) (opener : BlockKeyword) (offset to : ℕ) →
         GoesTo opener is offset to → IsStartOrEnd is to }
@@ -95,7 +95,7 @@ pub fn partners_are_found()
     ensures of_idef { FindsTargets BlockKeyword.Idef (leads BlockKeyword.Idef) }
 {}
 
-/// States that in a structured program it is found where each IF, ELSE, FDEF and IDEF leads.
+/// States that in a structured program a target is found for each IF, ELSE, FDEF and IDEF.
 pub fn partners_are_there()
     ensures of_if { FindsEachTarget BlockKeyword.If after_if }
     ensures of_else { FindsEachTarget BlockKeyword.Else after_else }

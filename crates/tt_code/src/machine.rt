@@ -15,15 +15,22 @@ pub struct Frame {
     pub count: u32,
 }
 
-/// The part of the graphics state that decides which points, zones and counts are in range: over
-/// numbers and zones where a machine runs, over what is known of them elsewhere.
+/// The part of the graphics state that decides which points, zones and counts are in range. `N` and
+/// `Z` are numbers and zones in a state of the machine, and what is known of these in an abstract
+/// state.
 #[derive(Clone, Copy, Debug, PartialEq, Eq)]
 pub struct Graphics<N, Z> {
+    /// The point number of the reference point rp0.
     pub rp0: N,
+    /// The point number of the reference point rp1.
     pub rp1: N,
+    /// The point number of the reference point rp2.
     pub rp2: N,
+    /// The zone of the zone pointer zp0.
     pub zp0: Z,
+    /// The zone of the zone pointer zp1.
     pub zp1: Z,
+    /// The zone of the zone pointer zp2.
     pub zp2: Z,
     /// The loop number, which SLOOP sets.
     pub loop_number: N,

@@ -8,13 +8,16 @@ use crate::block_keyword::BlockKeyword;
 use crate::machine::Body;
 use std::alloc::AllocError;
 
-/// What is open, with the offset of the instruction that opened it: an IF without an ELSE so far,
-/// an ELSE, or the definition of a function or an instruction.
+/// What is open, with the offset of the instruction that opened it.
 #[derive(Clone, Copy)]
 pub enum Open {
+    /// An IF without an ELSE so far.
     InIf(u32),
+    /// An ELSE.
     InElse(u32),
+    /// The definition of a function.
     InFunction(u32),
+    /// The definition of an instruction.
     InInstruction(u32),
 }
 
@@ -29,7 +32,11 @@ pub enum Nesting {
     Closed(u32),
 }
 
-/// Adds an instruction at an offset, in a body, to what is open, the innermost last.
+/// Applies the keyword of an instruction, which is at an offset and in a body, to what is open, the
+/// innermost last. Returns what it does there.
+///
+/// # Errors
+/// If memory runs out; then what is open is unspecified.
 pub fn apply_keyword(
     stack: &mut Vec<Open>,
     keyword: BlockKeyword,

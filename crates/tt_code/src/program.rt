@@ -30,6 +30,10 @@ fn byte_count(bytes: &[u8]) -> u32
 }
 
 /// Reads the structure of a program that can be cut.
+///
+/// # Errors
+/// `Structure` with the offset of the first instruction that isn't allowed where it is;
+/// `OutOfMemory`.
 fn read_all(alloc: Global, bytes: &[u8]) -> Result<Reading, CodeFault>
     requires small { length bytes.now < 2 ^ 31 }
     requires cut { CanBeCut bytes.now }
@@ -51,11 +55,13 @@ fn read_all(alloc: Global, bytes: &[u8]) -> Result<Reading, CodeFault>
     Ok(reading)
 }
 
-/// A program, where its instructions start, and their structure. Contracts see the list of its
-/// instructions.
+/// A program: its bytes, where its instructions start, and their structure. Contracts see the list
+/// of its instructions.
 #[derive(Drop)]
 pub struct Program<'a> {
+    /// The bytes of the program.
     bytes: &'a [u8],
+    /// A slot for each byte.
     slots: Vec<Slot>,
 }
 
@@ -122,8 +128,8 @@ impl<'a> Program<'a> {
         Some(instruction)
     }
 
-    /// Returns where the slots say that control goes after what the opening instruction at the
-    /// offset opens, if one starts there.
+    /// Returns the target that is kept for the instruction at the offset, if one with this keyword,
+    /// which opens something, starts there.
     fn look_up(&self, opener: BlockKeyword, offset: u32) -> Option<u32>
         requires { Opens opener }
         ensures found { IfSome result (GoesTo opener self.now offset) }
@@ -139,8 +145,8 @@ impl<'a> Program<'a> {
         }
     }
 
-    /// Returns where control goes after what the opening instruction at the offset opens, if one
-    /// starts there.
+    /// Returns where the instruction at the offset leads, if one with this keyword, which opens
+    /// something, starts there.
     fn goes(&self, opener: BlockKeyword, offset: u32) -> Option<u32>
         requires { Opens opener }
         ensures value { result ≡ leads opener self.now offset }
@@ -153,8 +159,9 @@ impl<'a> Program<'a> {
         self.look_up(opener, offset)
     }
 
-    /// Returns where the IF at the offset goes on 0: to just after its ELSE, or without one just
-    /// after its EIF (Apple TrueType Reference Manual, IF). None where no IF starts at the offset.
+    /// Returns where the IF at the offset goes where its number is 0: to just after its ELSE, or
+    /// without one just after its EIF (Apple TrueType Reference Manual, IF). None where no IF
+    /// starts at the offset.
     pub fn after_if(&self, offset: u32) -> Option<u32>
         ensures value { result ≡ leads BlockKeyword.If self.now offset }
         ensures found { IfSome result (GoesTo BlockKeyword.If self.now offset) }

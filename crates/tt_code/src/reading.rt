@@ -26,7 +26,10 @@ pub struct Reading {
 impl Reading {
     ghost use Rattle.tt_code.specs.Representation.Slots.{IsReading};
 
-    /// Makes the state before anything is read, with room for so many bytes.
+    /// Makes the state before anything is read, with room for the slots of `size` bytes.
+    ///
+    /// # Errors
+    /// If memory runs out.
     pub fn new(alloc: Global, size: usize) -> Result<Reading, AllocError>
         ensures start { IfOk result (IsReading []) }
         ensures room { IfOk result (λ r. size ≤ vec_capacity r.slots) }
@@ -38,7 +41,10 @@ impl Reading {
         })
     }
 
-    /// Reads the next instruction, if it is allowed here; returns whether it is.
+    /// Reads the next instruction, if it is allowed here, and returns whether it is.
+    ///
+    /// # Errors
+    /// If memory runs out; then what is kept is unspecified.
     pub fn read(&mut self, instruction: &[u8]) -> Result<bool, AllocError>
         requires whole { IsInstruction instruction.now }
         requires short { length instruction.now < 2 ^ 16 }

@@ -1,5 +1,6 @@
-//! Why a program is refused: its bytes, or a test of one of its instructions (Apple TrueType
-//! Reference Manual, "The TrueType instruction set"). The numbers and texts are this product's own.
+//! Why a program is refused: its bytes, a test of one of its instructions, a limit of the analysis,
+//! or its certificate (Apple TrueType Reference Manual, "The TrueType instruction set"). The
+//! numbers and texts are this product's own.
 
 ghost use Rattle.std.specs.Prelude.{◌≡◌};
 ghost use Rattle.tt_code.specs.Refusals.{class_of, number_of, reason_text};
@@ -11,28 +12,62 @@ use std::fmt;
 /// after the number.
 #[derive(Clone, Copy, Debug, PartialEq, Eq, Drop)]
 pub enum Reason {
+    /// An instruction passes the end of the program, so that the bytes can't be cut into
+    /// instructions.
     CannotCut = 20,
+    /// IF, ELSE, EIF, FDEF, IDEF or ENDF isn't allowed where it is, or something is still open at
+    /// the program's end.
     Structure = 21,
+    /// A glyph program has more bytes than maxSizeOfInstructions.
     ProgramTooLong = 22,
+    /// The code has no entry in the instruction set: it is no instruction, or one that isn't
+    /// followed.
     Opcode = 23,
+    /// The program comes to an IDEF, which isn't followed.
     InstructionDefinition = 24,
+    /// A call enters the body of a function that is running already.
     Recursion = 25,
+    /// The stack has fewer elements than the instruction takes, or fewer than the index of a CINDEX
+    /// or MINDEX.
     Underflow = 26,
+    /// The stack is deeper than maxStackElements after the instruction.
     Overflow = 27,
+    /// A number that the instruction uses as an index, as a count or as the distance of a jump
+    /// isn't known: it is measured, or depends on the way by which the program comes here.
     UnknownOperand = 28,
+    /// An index into the control value table is negative, or not below the number of control
+    /// values.
     Cvt = 29,
+    /// An index into the storage area is negative, or not below maxStorage: that of an instruction,
+    /// or one that a certificate lists.
     Storage = 30,
+    /// The number of a function that is called or defined is negative, or not below
+    /// maxFunctionDefs; or the function that is called isn't known to be defined.
     Function = 31,
+    /// A point number is negative, or not below the number of points of a zone in which it is
+    /// tested.
     Point = 32,
+    /// A zone is neither 0 nor 1, or it is 0 and maxZones is below 2.
     Zone = 33,
+    /// A contour number is negative, or not below the number of contours of the zone of zp2.
     Contour = 34,
+    /// No instruction of the same body starts where control goes, and it isn't the main program's
+    /// end either.
     Target = 35,
+    /// A count or the loop number is negative, or the index of a CINDEX or MINDEX is below 1.
     Count = 36,
+    /// A glyph program comes to an FDEF: it may define no functions.
     Definition = 37,
+    /// Two ways come to one point with stacks of different depths.
     DepthMismatch = 38,
+    /// The program comes to more than 65,535 lists of open calls, the empty list counted.
     TooManyContexts = 39,
+    /// No run of the font program, or of the CVT program, comes to its end.
     NeverEnds = 40,
+    /// A certificate has no state at a point that needs one: the start, the end of the font program
+    /// or of the CVT program, or a point to which one of its states leads.
     MissingPoint = 41,
+    /// A certificate has a state at a point that doesn't cover what comes there.
     NotCovered = 42,
 }
 
@@ -43,9 +78,9 @@ pub enum ReasonClass {
     PossibleFault,
     /// No fault is shown: the analysis can't tell.
     Undecided,
-    /// What the program does is left out by choice.
+    /// The program does what is left out by choice.
     LeftOut,
-    /// A certificate doesn't fit the program.
+    /// The certificate doesn't fit the program.
     Certificate,
 }
 
@@ -58,7 +93,8 @@ impl Reason {
     }
 
     /// Returns the reason's class. A function (31) that isn't known to be defined is undecided, and
-    /// one above maxFunctionDefs can't be told from it by the reason: both are undecided here.
+    /// one that isn't below maxFunctionDefs can't be told from it by the reason: both are undecided
+    /// here.
     pub fn class(self) -> ReasonClass
         ensures { result ≡ class_of self }
     {

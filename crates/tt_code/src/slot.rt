@@ -10,16 +10,19 @@ use crate::machine::Body;
 /// The kind of body that an instruction belongs to.
 #[derive(Clone, Copy)]
 pub enum BodyKind {
+    /// The main program.
     Main,
+    /// The body of a function.
     Function,
+    /// What follows an IDEF.
     Instruction,
 }
 
 /// What is kept of one byte of a program.
 #[derive(Clone, Copy)]
 pub struct Slot {
-    /// Where control goes after what the instruction that starts here opens; 0 where it opens
-    /// nothing.
+    /// Where the instruction that starts here leads, if it opens something: to just after what ends
+    /// that. Otherwise 0.
     pub target: u32,
     /// The offset of the first instruction of its body; 0 in the main program.
     pub first: u32,
@@ -78,7 +81,7 @@ impl Slot {
         })
     }
 
-    /// Returns where control goes after what the instruction opens, if it opens something.
+    /// Returns where the instruction leads, if it opens something.
     pub fn target(self) -> Option<u32>
         ensures { result ≡ target_in self }
     {
@@ -102,8 +105,7 @@ pub fn start_at(slots: &[Slot], offset: u32) -> Option<(u16, Body)>
     Some((slot.length, body))
 }
 
-/// Returns where control goes after what the instruction at the offset opens, if one starts there
-/// and opens something.
+/// Returns where the instruction at the offset leads, if one starts there and opens something.
 pub fn target_of(slots: &[Slot], offset: u32) -> Option<u32>
     ensures { result ≡ target_found (targets slots.now) offset }
 {

@@ -28,22 +28,27 @@ macro_rules! plain {
     };
 }
 
-/// Reference points as points of a pointer's zone.
+/// The reference point rp0, as a point of the zone of zp0.
 const RP0_IN_ZP0: Use = Use {
     reference: Rp0,
     pointer: Zp0,
 };
 
+/// The reference point rp1, as a point of the zone of zp0.
 const RP1_IN_ZP0: Use = Use {
     reference: Rp1,
     pointer: Zp0,
 };
 
+/// The reference point rp2, as a point of the zone of zp1.
 const RP2_IN_ZP1: Use = Use {
     reference: Rp2,
     pointer: Zp1,
 };
 
+// The effects, each by the name of its instructions in the printed instruction set.
+
+/// The effect of a code that is none of an instruction.
 const NO_ENTRY: Effect = Effect::NoEntry;
 
 const SVTCA: Effect = plain!([], [], [], []);
@@ -983,7 +988,7 @@ pub fn entry(code: u8) -> &'static Effect
     &effects()[code as usize]
 }
 
-/// Returns what the instructions of a code take, test, change and push, as `entry` does, by value.
+/// Returns by value what the instructions of a code take, test, change and push, as `entry` does.
 pub fn effect(code: u8) -> Effect
     ensures { view result ≡ effect_of code }
 {

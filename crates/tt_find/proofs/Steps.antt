@@ -22,6 +22,7 @@ use Rattle.tt_cert.specs.Numbers.{at-number_of, number_of-place}
 use Rattle.tt_cert.specs.Places.{PutGives, PutsAt, has_point, states_of}
 use Rattle.tt_cert.specs.Puts.{family_at, number_at, place_of}
 use Rattle.tt_cert.specs.Spots.{spot_of}
+use Rattle.tt_cert.specs.declared.spot.Spot.{Spot}
 use Rattle.tt_cert.proofs.Puts.{cases_place}
 use Rattle.tt_cert.specs.declared.fault.ProgramFault.{ProgramFault}
 use Rattle.tt_cert.specs.declared.fault.ProgramFault.TheVariants.{Refused, OutOfMemory}
@@ -33,7 +34,7 @@ use Rattle.tt_find.specs.declared.stop.Stop.{Stop}
 use Rattle.tt_find.specs.declared.stop.Stop.TheVariants.{Fault, Restart}
 use Rattle.tt_find.specs.declared.solver.Solver.{Solver}
 use Rattle.tt_find.specs.Found.{AreDerivedContexts, IsDerived, IsJustified, IsNeeded, NamesPlace, NamesStop, refused, apart, too_many}
-use Rattle.tt_find.specs.Representation.Solvers.{ArePoints, AreVisits, ComesFrom, HasLaws, HasRisen, IsAmong, IsApart, IsCarriedOn, IsCountable, IsLeading, IsListed, IsOnWay, IsPassed, IsPopped, IsPut, IsRefusedAt, IsSound, IsStored, IsSoundSoFar, IsWhole, IsWithinBudget, KeepsRest, MayLead, Pends, PendsFrom, SparesAt, places_from}
+use Rattle.tt_find.specs.Representation.Solvers.{ArePoints, AreVisits, ComesFrom, HasLaws, HasRisen, IsAmong, IsApart, IsCarriedOn, IsCountable, IsLeading, IsListed, IsOnWay, IsPassed, IsPopped, IsPut, IsRefusedAt, IsSound, IsStored, IsSoundSoFar, IsWhole, IsWithinBudget, KeepsRest, MayLead, Pends, PendsFrom, SparesAt, places_from, updates_of}
 use Rattle.tt_find.proofs.Budget.{budget_put, budget_same, room_for, updates_fit}
 use Rattle.tt_find.proofs.Listed.{cases_source, listed_back, listed_before, listed_grown, listed_now, listed_on, there_now}
 use Rattle.tt_find.proofs.Marking.{kept_here, kept_passed, kept_put, kept_state, none_kept}
@@ -55,6 +56,20 @@ stop_map A B everywhere everywhere' same turn Restart h = sym same ∙ h
 -- a fault that is at a place
 pub names_at : (Is : Place → Reason → Type 0) (p : Place) (r : Reason) (fault : ProgramFault) → fault ≡ Refused (spot_of p.0) p.1 r → Is p r → NamesPlace Is fault
 names_at Is p r fault e h = let N : ProgramFault → Type 0 = λ x. NamesPlace Is x in subst N (sym e) (p, refl, refl, h)
+
+-- a state that is put makes at most one update
+pub stored_updates : (old new : Solver) (context offset : ℕ) (a : State) (source : Origin) → IsStored old new context offset a source → updates_of new ≤ updates_of old + 1
+stored_updates old new context offset a source stored = go stored.put.changed stored.put.changes where
+  go : (changed : Bool) → new.changes ≡ old.changes + cond changed 1 0 → updates_of new ≤ updates_of old + 1
+  go true e = let p = stored.passes in omega arith
+  go false e = let p = stored.passes in omega arith
+
+-- a state that goes over a point makes one update
+pub passed_updates : (old new : Solver) (spot : Spot) (offset : ℕ) → IsPassed old new spot offset → updates_of new ≤ updates_of old + 1
+passed_updates old new spot offset passed =
+    let e : new.changes ≡ old.changes = ap (λ (x : Solver). x.changes) passed.same in
+    let p = passed.passes in
+    omega arith
 
 pub risen_on : (a b c : Solver) → HasRisen a b → HasRisen b c → HasRisen a c
 risen_on a b c h k =

@@ -1,20 +1,25 @@
 -- What the finder says of a subject: a setting, with the functions that are known where its program
 -- starts.
-use Rattle.std.specs.Prelude.{◌⊎◌, Option, Result, IfErr, IfOk}
+use Rattle.std.specs.Prelude.{◌⊎◌, ◌+◌, ◌-◌, ◌*◌, ◌≤◌, ℕ, Option, Result, IfErr, IfOk}
 use Rattle.tt_abs.specs.declared.setting.Setting.{Setting as Subject}
 use Rattle.tt_abs.specs.declared.state.State.{State}
 use Rattle.tt_abs.specs.Settings.{setting_of}
 use Rattle.tt_abs.specs.StateFlow.{Place}
 use Rattle.tt_cert.specs.Checks.{IsOutOfMemory}
+use Rattle.tt_cert.specs.declared.budget.Budget.{Budget}
 use Rattle.tt_cert.specs.Contents.{family_of}
 use Rattle.tt_cert.specs.declared.fault.ProgramFault.{ProgramFault}
 use Rattle.tt_find.specs.Found.{AreLeastContexts, HasLeastFilling, IsJustified, IsNeverEnding, LacksEnd, NamesPlace, NeedsAll, NoneIsGood}
 use Rattle.tt_find.specs.declared.finder.Found.{Found}
 
--- the found family can be filled up to the least good one, by so many updates
+-- the found family can be filled up to the least good one, by this many updates
 abbrev pub IsLeastFor : Subject → Found → Type 0
 IsLeastFor x found =
     HasLeastFilling (setting_of x) x.start.now found.updates (family_of found.certificate)
+
+-- for this many updates enough points were counted: a point makes two at most, and the start one
+abbrev pub AreCounted : Budget → Budget → ℕ → Type 0
+AreCounted old new updates = updates ≤ 1 + 2 * (old.left - new.left)
 
 -- each good family has states in all contexts that were found
 abbrev pub HasLeastContexts : Subject → Found → Type 0

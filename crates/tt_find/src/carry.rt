@@ -1,12 +1,12 @@
-//! How the state that is kept at a point is carried on, in place: until it comes to where states are
-//! kept, or until it goes elsewhere.
+//! How the state that is kept at a point is carried on, in place: until it comes to where states
+//! are kept, or until it goes elsewhere.
 
-ghost use Rattle.std.specs.Prelude.{◌≡◌, ◌<◌, IfErr, IfOk, IfSome, IsTrue, OnOk, length};
+ghost use Rattle.std.specs.Prelude.{◌≡◌, ◌<◌, ◌-◌, ◌*◌, IfErr, IfOk, IfSome, IsTrue, OnOk, length};
 ghost use Rattle.tt_abs.specs.States.{state_order};
 ghost use Rattle.tt_cert.specs.Budgets.{Counts, Spends};
 ghost use Rattle.tt_cert.specs.Checks.{IsOutOfMemory};
 ghost use Rattle.tt_find.specs.Representation.SolverSubjects.{EndsJustBefore, GoesOnFor, HasLawsFor, IsNextAfter, IsOnWayFor, IsPoppedFor, IsSteppedAt, IsWholeFor, LeadsAlong, LeadsOver, NamesRefusalAt, StopsFor};
-ghost use Rattle.tt_find.specs.Representation.Solvers.{HasRisen, IsStored, IsWalk, KeepsEverywhere, StopsApart, TellsSource, refused_in};
+ghost use Rattle.tt_find.specs.Representation.Solvers.{HasRisen, IsStored, IsWalk, KeepsEverywhere, MakesAtMost, StopsApart, TellsSource, refused_in};
 
 use crate::origin::Origin;
 use crate::solver::{Solver, refused_at};
@@ -48,8 +48,8 @@ fn step_state(
     }
 }
 
-/// Returns from where a state comes to an offset of a context, if it leads there: from one in which
-/// an instruction ends at `after`.
+/// Returns from where a state comes to an offset of a context: from the instruction just before it,
+/// which ends at `after` in the context `here`, or from elsewhere.
 fn origin_of(here: u32, context: u32, after: Option<u32>, next: u32) -> Origin
     ensures { TellsSource here context after next result }
 {
@@ -96,7 +96,7 @@ pub(crate) fn store(
     Ok(())
 }
 
-/// Whether the walk's state may go over an offset to which it comes from there.
+/// Whether the walk's state may pass this offset without being kept, if it comes from `source`.
 fn goes_over(solver: &Solver, walk: &Walk, source: Origin, next: u32) -> bool
     ensures { IsTrue result → source ≡ Origin.JustBefore }
 {
@@ -106,8 +106,8 @@ fn goes_over(solver: &Solver, walk: &Walk, source: Origin, next: u32) -> bool
     }
 }
 
-/// Leads the state that an instruction left to the offset just after it: over it where states
-/// aren't kept there. Then it returns that offset.
+/// Leads the state that an instruction left to the offset just after it. Returns that offset where
+/// the state passes it without being kept; elsewhere it is stored.
 fn step_over(
     solver: &mut Solver,
     walk: &mut Walk,
@@ -123,6 +123,7 @@ fn step_over(
     ensures further { IfOk result (λ onward. IfSome onward (λ at. offset < at)) }
     ensures risen { IfOk result (λ _. HasRisen solver.old solver.new) }
     ensures walk { IfOk result (λ _. IsWalk solver.new.builder walk.new) }
+    ensures few { IfOk result (λ _. MakesAtMost 1 solver.old solver.new) }
     ensures stops { IfErr result (StopsFor setting.now solver.old.marks.everywhere) }
     ensures everywhere { IfOk result (λ _. KeepsEverywhere solver.old solver.new) }
 {
@@ -172,6 +173,7 @@ fn store_successors(
     ensures further { IfOk result (λ onward. IfSome onward (λ at. offset < at)) }
     ensures risen { IfOk result (λ _. HasRisen solver.old solver.new) }
     ensures walk { IfOk result (λ _. IsWalk solver.new.builder walk.new) }
+    ensures few { IfOk result (λ _. MakesAtMost 2 solver.old solver.new) }
     ensures stops { IfErr result (StopsFor setting.now solver.old.marks.everywhere) }
     ensures everywhere { IfOk result (λ _. KeepsEverywhere solver.old solver.new) }
 {
@@ -220,6 +222,7 @@ fn step_point(
     ensures further { IfOk result (λ onward. IfSome onward (λ at. offset < at)) }
     ensures risen { IfOk result (λ _. HasRisen solver.old solver.new) }
     ensures walk { IfOk result (λ _. IsWalk solver.new.builder walk.new) }
+    ensures few { IfOk result (λ _. MakesAtMost 2 solver.old solver.new) }
     ensures stops { IfErr result (StopsFor setting.now solver.old.marks.everywhere) }
     ensures everywhere { IfOk result (λ _. KeepsEverywhere solver.old solver.new) }
     ensures counted { OnOk result (Counts budget.old budget.new) }
@@ -257,6 +260,8 @@ pub(crate) fn carry_on(
     ensures whole { IfOk result (λ _. IsWholeFor setting.now solver.new) }
     ensures risen { IfOk result (λ _. HasRisen solver.old solver.new) }
     ensures walk { IfOk result (λ _. IsWalk solver.new.builder walk.new) }
+    ensures counted { IfOk result (λ _.
+        MakesAtMost (2 * (budget.old.left - budget.new.left)) solver.old solver.new) }
     ensures stops { IfErr result (StopsFor setting.now solver.old.marks.everywhere) }
     ensures everywhere { IfOk result (λ _. KeepsEverywhere solver.old solver.new) }
     ensures spends { Spends budget.old budget.new }

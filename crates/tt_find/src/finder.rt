@@ -6,7 +6,8 @@ ghost use Rattle.tt_abs.specs.Entries.{Ascends};
 ghost use Rattle.tt_abs.specs.Settings.{setting_of};
 ghost use Rattle.tt_abs.specs.StateFlow.{FunctionsFit};
 ghost use Rattle.tt_cert.specs.Budgets.{Spends};
-ghost use Rattle.tt_find.specs.FoundSubjects.{HasLeastContexts, HasOnlyNeeded, IsJustifiedFor, IsLeastFor, TellsNoEnd, TellsNoneIsGood};
+ghost use Rattle.tt_find.specs.FoundSubjects.{AreCounted, HasLeastContexts, HasOnlyNeeded, IsJustifiedFor, IsLeastFor, TellsNoEnd, TellsNoneIsGood};
+ghost use Rattle.tt_find.specs.Representation.Solvers.{updates_of};
 ghost use Rattle.tt_find.specs.Representation.SolverSubjects.{HasLawsFor, IsFoundFor, IsWholeFor, StopsFor};
 ghost use Rattle.tt_find.specs.Finders.{IsEmptySolver};
 
@@ -26,9 +27,9 @@ use tt_code::Reason;
 /// everywhere.
 const STARTS: u32 = 8;
 
-/// A family that was found, and how many updates made its filling: the first state of a point is
-/// one, and each time that another comes there is one more. Where states aren't kept, each that
-/// comes counts as another one: so a finder that has made other families may count otherwise.
+/// A family that was found, and how many updates made its filling: a point's first state is one
+/// update, and each change of it is one more. Where states aren't kept, each that comes counts: so a
+/// finder that has found other families before may count otherwise.
 #[derive(Drop)]
 pub struct Found {
     pub certificate: Certificate,
@@ -79,6 +80,8 @@ fn run_to_fixpoint(
     requires empty { IsEmptySolver solver.old }
     ensures whole { IfOk result (λ _. IsWholeFor setting.now solver.new) }
     ensures none { IfOk result (λ _. solver.new.worklist ≡ []) }
+    ensures counted { IfOk result (λ _.
+        AreCounted budget.old budget.new (updates_of solver.new)) }
     ensures stops { IfErr result (StopsFor setting.now solver.old.marks.everywhere) }
     ensures spends { Spends budget.old budget.new }
 {
@@ -109,6 +112,8 @@ fn fill_everywhere(
     requires laws { HasLawsFor setting.now }
     ensures whole { IfOk result (λ _. IsWholeFor setting.now solver.new) }
     ensures none { IfOk result (λ _. solver.new.worklist ≡ []) }
+    ensures counted { IfOk result (λ _.
+        AreCounted budget.old budget.new (updates_of solver.new)) }
     ensures justified { IfErr result (IsJustifiedFor setting.now) }
     ensures spends { Spends budget.old budget.new }
 {
@@ -136,6 +141,8 @@ fn restart_to_fixpoint(
     requires laws { HasLawsFor setting.now }
     ensures whole { IfOk result (λ _. IsWholeFor setting.now solver.new) }
     ensures none { IfOk result (λ _. solver.new.worklist ≡ []) }
+    ensures counted { IfOk result (λ _.
+        AreCounted budget.old budget.new (updates_of solver.new)) }
     ensures justified { IfErr result (IsJustifiedFor setting.now) }
     ensures spends { Spends budget.old budget.new }
 {
@@ -166,6 +173,8 @@ fn fill(
     requires laws { HasLawsFor setting.now }
     ensures whole { IfOk result (λ _. IsWholeFor setting.now solver.new) }
     ensures none { IfOk result (λ _. solver.new.worklist ≡ []) }
+    ensures counted { IfOk result (λ _.
+        AreCounted budget.old budget.new (updates_of solver.new)) }
     ensures justified { IfErr result (IsJustifiedFor setting.now) }
     ensures spends { Spends budget.old budget.new }
 {
@@ -201,6 +210,7 @@ fn find_fixpoint(
     requires fits { FunctionsFit (setting_of setting.now) setting.now.start.now }
     ensures laws { HasLawsFor setting.now }
     ensures found { IfOk result (IsFoundFor setting.now solver.new) }
+    ensures counted { IfOk result (AreCounted budget.old budget.new) }
     ensures justified { IfErr result (IsJustifiedFor setting.now) }
     ensures spends { Spends budget.old budget.new }
 {
@@ -225,16 +235,30 @@ fn find_fixpoint(
 #[derive(Drop)]
 pub struct Finder {
     solver: Solver,
+    /// A builder in whose memory a family is put in order.
+    memory: Builder,
 }
 
 impl Finder {
-    /// Makes a finder without memory.
+    /// Makes a finder. It takes no memory.
     pub fn new(alloc: Global) -> Finder
         ensures { IsEmptySolver result.solver }
     {
         Finder {
             solver: Solver::new(alloc),
+            memory: Builder::new(alloc),
         }
+    }
+
+    /// Takes an empty builder with the memory for a family that is put in order.
+    fn take_memory(&mut self, alloc: Global) -> Builder
+        ensures contexts { result.contexts ≡ [] ∷ [] }
+        ensures states { result.states ≡ [] }
+        ensures solver { self.new.solver ≡ self.old.solver }
+    {
+        let mut memory = mem::replace(&mut self.memory, Builder::new(alloc));
+        memory.clear();
+        memory
     }
 
     /// Takes back the memory of a certificate, in place of the states that the finder has.
@@ -278,6 +302,8 @@ impl Finder {
         requires fits { FunctionsFit (setting_of setting.now) setting.now.start.now }
         ensures filling { IfOk result (IsLeastFor setting.now) }
         ensures contexts { IfOk result (HasLeastContexts setting.now) }
+        ensures counted { IfOk result
+            (λ found. AreCounted budget.old budget.new found.updates) }
         ensures justified { IfErr result (IsJustifiedFor setting.now) }
         ensures none_good { IfErr result (TellsNoneIsGood setting.now) }
         ensures never_ends { TellsNoEnd setting.now result }
@@ -289,11 +315,15 @@ impl Finder {
             Err(fault) => return Err(fault),
         };
         let builder = mem::replace(&mut self.solver.builder, Builder::new(alloc));
-        match builder.finish() {
-            Ok(certificate) => Ok(Found {
-                certificate,
-                updates,
-            }),
+        let memory = self.take_memory(alloc);
+        match builder.finish_in(memory) {
+            Ok((certificate, rest)) => {
+                self.memory = rest;
+                Ok(Found {
+                    certificate,
+                    updates,
+                })
+            }
             Err(_) => Err(ProgramFault::OutOfMemory(AllocError)),
         }
     }
@@ -336,6 +366,8 @@ impl Finder {
         ensures filling { IfOk result (IsLeastFor setting.now) }
         ensures contexts { IfOk result (HasLeastContexts setting.now) }
         ensures needed { IfOk result (HasOnlyNeeded setting.now) }
+        ensures counted { IfOk result
+            (λ found. AreCounted budget.old budget.new found.updates) }
         ensures justified { IfErr result (IsJustifiedFor setting.now) }
         ensures none_good { IfErr result (TellsNoneIsGood setting.now) }
         ensures never_ends { TellsNoEnd setting.now result }
@@ -347,11 +379,15 @@ impl Finder {
             Err(fault) => return Err(fault),
         };
         let builder = mem::replace(&mut self.solver.builder, Builder::new(alloc));
-        match builder.finish_without(&self.solver.spare) {
-            Ok(certificate) => Ok(Found {
-                certificate,
-                updates,
-            }),
+        let memory = self.take_memory(alloc);
+        match builder.finish_without(&self.solver.spare, memory) {
+            Ok((certificate, rest)) => {
+                self.memory = rest;
+                Ok(Found {
+                    certificate,
+                    updates,
+                })
+            }
             Err(_) => Err(ProgramFault::OutOfMemory(AllocError)),
         }
     }

@@ -12,18 +12,18 @@ use tt_cert::Spot;
 pub(crate) enum Mark {
     /// Nothing: no state came there.
     Free,
-    /// States went over it, and weren't kept.
+    /// States passed over it, and weren't kept.
     Passed,
     /// States that come there are kept.
     Kept,
 }
 
-/// At which offsets of the three programs states are kept: those at which ways meet. Which they are
-/// is found on the way, and is remembered for the next program, which may call the same functions.
-/// After the end of a list states are kept.
+/// At which offsets of the three programs states are kept: those at which ways meet. They are found
+/// while states are carried on, and are remembered for the next program, which may call the same
+/// functions. States are also kept at each offset after the end of a list.
 #[derive(Drop)]
 pub(crate) struct OffsetMarks {
-    /// Whether states are kept at all offsets, whatever the lists tell.
+    /// Whether states are kept at all offsets, whatever the lists say.
     pub everywhere: bool,
     main: Vec<Mark>,
     font: Vec<Mark>,
@@ -40,7 +40,11 @@ fn mark_in(marks: &[Mark], offset: u32) -> Mark
     }
 }
 
-/// Makes a list fit a program of this length, where it doesn't.
+/// Makes a list fit a program of this length: one of another length is made anew, and nothing is
+/// known of its offsets.
+///
+/// # Errors
+/// If memory runs out.
 fn fit(marks: &mut Vec<Mark>, length: u32) -> Result<(), AllocError> {
     let length = length as usize + 1;
     if marks.len() != length {
@@ -61,9 +65,9 @@ impl OffsetMarks {
         }
     }
 
-    /// Begins with a program: nothing is known of its offsets, and what was known of those of the
-    /// font program and of the CVT program stays, if those are as long as before. What was known of
-    /// other programs costs only time.
+    /// Begins a program: nothing is known of its offsets. What is known of the offsets of the font
+    /// program and of the CVT program stays, if these are as long as before. If they are others of
+    /// the same length, the old marks only cost time.
     ///
     /// # Errors
     /// If memory runs out.
@@ -89,7 +93,7 @@ impl OffsetMarks {
         }
     }
 
-    /// Marks an offset that isn't one at which states are kept.
+    /// Sets the mark of an offset at which states aren't kept.
     fn set(&mut self, spot: Spot, offset: u32, mark: Mark)
         requires { mark_of self.old spot offset ≢ Mark.Kept }
         ensures { SetsMark self.old self.new spot offset mark }
@@ -101,8 +105,8 @@ impl OffsetMarks {
         }
     }
 
-    /// Whether no state went over this offset. From now on states are kept there; those that went
-    /// over it weren't.
+    /// Whether no state has passed over this offset without being kept. From now on states are kept
+    /// there.
     pub(crate) fn keep(&mut self, spot: Spot, offset: u32) -> bool
         ensures kept { IsTrue result → SetsMark self.old self.new spot offset Mark.Kept }
         ensures was { IsTrue result → mark_of self.old spot offset ≢ Mark.Passed }
@@ -121,7 +125,7 @@ impl OffsetMarks {
         }
     }
 
-    /// Marks an offset at which states aren't kept as one over which a state goes.
+    /// Marks an offset, at which states aren't kept, as one over which a state passed.
     pub(crate) fn pass(&mut self, spot: Spot, offset: u32)
         requires { mark_of self.old spot offset ≢ Mark.Kept }
         ensures { SetsMark self.old self.new spot offset Mark.Passed }

@@ -19,7 +19,7 @@ use tt_cert::{Builder, JoinFault, Joined, PointKey, ProgramFault, Spot};
 use tt_code::Reason;
 
 /// The family so far. Its states are kept at the points where ways meet; those in between are made
-/// again on the way.
+/// again each time that a state is carried on there.
 #[derive(Drop)]
 pub(crate) struct Solver {
     /// The states that are kept.
@@ -32,11 +32,11 @@ pub(crate) struct Solver {
     pub marks: OffsetMarks,
     /// How often a kept state was new or changed.
     pub changes: u64,
-    /// How often a state went over a point.
+    /// How often a state passed over a point without being kept.
     pub passes: u64,
 }
 
-/// Returns the fault that names a point for this reason.
+/// Returns the fault that names a point and this reason.
 pub(crate) fn refused_at(
     builder: &Builder,
     context: u32,
@@ -81,11 +81,11 @@ impl Solver {
         self.passes = 0;
     }
 
-    /// Puts a state at a point, and returns what that makes of the one there. If it is another one
-    /// than before, the point waits, and one change is counted.
+    /// Puts a state at a point, and returns what that makes of the one there. If that one is new or
+    /// has changed, the point waits, and one change is counted.
     ///
     /// # Errors
-    /// `Refused` for a state of another depth, at the point; `OutOfMemory`.
+    /// `Refused`, which names the point, if a state of another depth is there; `OutOfMemory`.
     pub(crate) fn put(
         &mut self,
         context: u32,
@@ -119,7 +119,8 @@ impl Solver {
         Ok(joined)
     }
 
-    /// Notes from where a state came to a point, and whether that is new.
+    /// Notes where a state came from to a point. A new point is spare if its state came from just
+    /// before; once a state comes from elsewhere, the point no longer is.
     ///
     /// # Errors
     /// If memory runs out.
@@ -147,8 +148,8 @@ impl Solver {
         Ok(())
     }
 
-    /// Whether a state may go over a point where this context's program has this offset: not where
-    /// states are kept, and not where a point before it waits.
+    /// Whether a state may pass over this offset without being kept: states aren't kept there, and
+    /// no point before it waits.
     pub(crate) fn may_pass(&self, context: u32, spot: Spot, offset: u32) -> bool
         ensures { IsTrue result → mark_of self.now.marks spot offset ≢ Mark.Kept }
     {
@@ -158,7 +159,7 @@ impl Solver {
         }
     }
 
-    /// Counts a state that goes over an offset at which states aren't kept.
+    /// Counts a state that passes over an offset at which states aren't kept.
     ///
     /// # Errors
     /// If this can't be counted any more.

@@ -8,8 +8,8 @@ use tt_cert::ProgramFault;
 pub(crate) enum Stop {
     /// No family is found.
     Fault(ProgramFault),
-    /// A state is to be kept at an offset over which states have gone. There states are kept from
-    /// then on, and the finder starts again.
+    /// A state is to be kept at an offset over which states have passed. From then on states are
+    /// kept there, and the finder starts again.
     Restart,
 }
 

@@ -9,8 +9,8 @@ use tt_abs::Move;
 use tt_abs::setting::body_offset;
 use tt_cert::{Builder, ContextFault, Landing, PointKey, landing_of};
 
-/// Returns the context's number and the offset to which a way leads from a context. A context that
-/// isn't there is added.
+/// Returns the context's number and the offset to which a way leads from a context. The context to
+/// which it leads is added if it isn't there.
 ///
 /// # Errors
 /// As `Builder::add_context`.

@@ -1,4 +1,4 @@
-//! What is kept from point to point.
+//! The finder's walk: what it keeps from one point to the next.
 
 ghost use Rattle.std.specs.Prelude.{◌≡◌, ◌↔◌, ◌<◌, IfErr, IfOk, IsFalse, IsTrue, None, Some, length};
 ghost use Rattle.tt_abs.specs.Entries.{Ascends};
@@ -13,8 +13,8 @@ use tt_abs::State;
 use tt_cert::{Builder, Joined, PointKey, ProgramFault, Spot};
 use tt_code::Frame;
 
-/// The calls of a context, the outermost first, and a state in whose memory the state at a point is
-/// carried on.
+/// Where the finder is: a context and its calls, the outermost first, and the state that is carried
+/// on, always in the same memory.
 #[derive(Drop)]
 pub(crate) struct Walk {
     pub context: u32,
@@ -22,13 +22,13 @@ pub(crate) struct Walk {
     /// In which program the context is.
     pub spot: Spot,
     pub state: State,
-    /// A point whose state this is, as its context's number and its offset.
+    /// A point that is known to have this state, as its context's number and its offset.
     pub known: Option<PointKey>,
 }
 
 impl Walk {
-    /// Makes a walk that begins in the empty context, with the state in which a program starts with
-    /// these functions.
+    /// Makes a walk that begins in the empty context, with the state in which a program starts
+    /// where these functions are known.
     ///
     /// # Errors
     /// If memory runs out.
@@ -48,7 +48,7 @@ impl Walk {
         })
     }
 
-    /// Goes to another context, if it is another.
+    /// Goes to a context, unless the walk is there already.
     ///
     /// # Errors
     /// If memory runs out.
@@ -66,7 +66,8 @@ impl Walk {
         Ok(())
     }
 
-    /// Takes over the state at a point, where it isn't that one already. False if there is none.
+    /// Makes the walk's state the one at a point, unless it is that one already, and returns
+    /// whether there is one.
     ///
     /// # Errors
     /// If memory runs out.
@@ -95,7 +96,7 @@ impl Walk {
         Ok(true)
     }
 
-    /// Whether the state is known to be that at a point.
+    /// Whether the walk's state is known to be the one at this point.
     fn is_at(&self, context: u32, offset: u32) -> bool
         ensures { IsTrue result ↔ (self.now.known ≡ Some (context, offset)) }
     {
@@ -105,8 +106,8 @@ impl Walk {
         }
     }
 
-    /// Puts the state at a point, as `Solver::put` does. A point that is new has this state from
-    /// then on.
+    /// Puts the walk's state at a point, as `Solver::put` does. A point that is new then has this
+    /// state.
     ///
     /// # Errors
     /// As `Solver::put`.

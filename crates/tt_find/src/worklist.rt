@@ -1,4 +1,4 @@
-//! The points that are still to be carried on.
+//! The points that wait: those whose states are still to be carried on.
 
 ghost use Rattle.std.specs.Prelude.{◌≡◌, ◌∷◌, [], false, None, IfSome, OnErr, OnOk};
 ghost use Rattle.std.specs.BTreeSet.{insert_key};
@@ -10,10 +10,11 @@ use std::collections::BTreeSet;
 use std::marker::Model;
 use tt_cert::PointKey;
 
-/// The points that are still to be carried on, in their order, each as its context's number and its
-/// offset. The first is kept apart, so that a single one takes no memory.
+/// The points that wait, in their order, each as its context's number and its offset. The first is
+/// kept apart, so that a single one takes no memory.
 #[derive(Drop)]
 pub(crate) struct Worklist {
+    /// The first point, if there is one.
     next: Option<PointKey>,
     /// The others.
     rest: BTreeSet<PointKey>,
@@ -31,7 +32,7 @@ impl Model for Worklist {
 }
 
 impl Worklist {
-    /// Makes a set without points.
+    /// Makes an empty worklist.
     pub(crate) fn new(alloc: Global) -> Worklist
         ensures { result ≡ [] }
     {
@@ -70,7 +71,7 @@ impl Worklist {
         Ok(())
     }
 
-    /// Whether a point comes before this one.
+    /// Whether a point that comes before this one waits.
     pub(crate) fn has_before(&self, point: PointKey) -> bool {
         match self.next {
             Some(next) => next < point,

@@ -9,11 +9,11 @@ use Rattle.tt_font.specs.Numbers.{u16_at}
 abbrev pub has_flag : ℕ → ℕ → Bool
 has_flag flags mask = not (bit_and flags mask == 0)
 
--- ARG_1_AND_2_ARE_WORDS: the two arguments have two bytes each, else one each
+-- ARG_1_AND_2_ARE_WORDS: the two arguments have two bytes each; otherwise they have one each
 abbrev pub argument_size : ℕ → ℕ
 argument_size flags = if has_flag flags 0x0001 then 4 else 2
 
--- WE_HAVE_A_SCALE, WE_HAVE_AN_X_AND_Y_SCALE, WE_HAVE_A_TWO_BY_TWO: where several are set the first
+-- WE_HAVE_A_SCALE, WE_HAVE_AN_X_AND_Y_SCALE, WE_HAVE_A_TWO_BY_TWO: where several are set, the first
 -- of them counts
 abbrev pub scale_size : ℕ → ℕ
 scale_size flags =
@@ -33,7 +33,7 @@ has_instructions flags = has_flag flags 0x0100
 unfoldable pub component_size : ℕ → ℕ
 component_size flags = 4 + argument_size flags + scale_size flags
 
--- the component at a place, where its bytes are there
+-- the component at an offset, if all its bytes are there
 unfoldable pub component_at : ℕ → List ℕ → Option Component
 component_at place glyph =
     if nat_le (place + component_size (u16_at place glyph)) (length glyph)
@@ -49,13 +49,13 @@ abbrev pub listed : (ℕ → List Component) → Option Component → List Compo
 listed more None = []
 listed more (Some c) = c ∷ (if has_more c.flags then more c.after else [])
 
--- the components from a place on, as far as their bytes are there, at most n
+-- the components from an offset on, as far as their bytes are there, at most n
 unfoldable pub components_from : ℕ → ℕ → List ℕ → List Component
 components_from zero place glyph = []
 components_from (suc n) place glyph =
     listed (λ after. components_from n after glyph) (component_at place glyph)
 
--- the components from a place on, as far as their bytes are there: there are fewer of them than
+-- the components from an offset on, as far as their bytes are there: there are fewer of them than
 -- bytes
 unfoldable pub components_at : ℕ → List ℕ → List Component
 components_at place glyph = components_from (length glyph) place glyph

@@ -10,11 +10,11 @@ use Rattle.tt_font.specs.Tags.{tag_number}
 abbrev pub record_count : List ℕ → ℕ
 record_count bytes = u16_at 4 bytes
 
--- where the i-th record of the directory is
+-- the offset of the i-th record of the directory
 abbrev pub record_place : ℕ → ℕ
 record_place i = 12 + 16 * i
 
--- where a table is in the file
+-- where a table is in the file: its offset and its length, in bytes
 pub record Extent : Type 0 where
   pub offset : ℕ
   pub len : ℕ

@@ -1,8 +1,9 @@
--- The numbers of the faults.
+-- The numbers of the faults. (Own: the numbers are this product's.)
 use Rattle.std.specs.Prelude.{ℕ}
 use Rattle.tt_font.specs.declared.fault.FontFault.{FontFault}
 use Rattle.tt_font.specs.declared.fault.FontFault.TheVariants.{NotSfnt, DirectoryTruncated, MissingTable, TableOutside, MaxpVersion, Loca, GlyphTruncated, Composite, OutOfMemory}
 
+-- a fault's number, which is printed before its text
 abbrev pub fault_number : FontFault → ℕ
 fault_number NotSfnt = 1
 fault_number DirectoryTruncated = 2

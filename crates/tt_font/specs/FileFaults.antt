@@ -1,5 +1,5 @@
--- Why the bytes of a file aren't a font: the conditions in their order, of which the first that
--- holds is the answer.
+-- Why there is no verdict on a file: the conditions in their order, of which the first that holds
+-- is the answer.
 use Rattle.std.specs.Prelude.{ℕ, List, [], ◌∷◌}
 use Rattle.tt_font.specs.declared.tag.Tag.TheVariants.{Cvt, Fpgm, Glyf, Head, Loca, Maxp, Prep}
 use Rattle.tt_font.specs.Directory.{table}
@@ -7,7 +7,7 @@ use Rattle.tt_font.specs.Locations.{loca_format}
 use Rattle.tt_font.specs.Files.{font_glyph_count, font_glyphs, font_outlines}
 use Rattle.tt_font.specs.Conditions.{Condition, first, directory_fault, table_fault, optional_table_fault, maxp_fault, loca_fault, glyphs_fault}
 
--- the greatest length of a font program or a CVT program
+-- the greatest length of a font program or a CVT program, in bytes (own)
 abbrev pub program_most : ℕ
 program_most = 0x7FFF_FFFF
 

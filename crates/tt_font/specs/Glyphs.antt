@@ -28,21 +28,21 @@ program_at place glyph =
     then Some (slice_range glyph (place + 2) (place + 2 + u16_at place glyph))
     else None
 
--- endPtsOfContours follows the header, with two bytes for each contour, and then the program.
--- Without contours a glyph may end with its header
+-- the program of a simple glyph: endPtsOfContours follows the header, with two bytes for each
+-- contour, and then the program; without contours a glyph may end with its header
 abbrev pub simple_program : List ℕ → Option (List ℕ)
 simple_program glyph =
     if contour_count glyph == 0 && length glyph == 10 then Some []
     else program_at (10 + 2 * contour_count glyph) glyph
 
--- the program follows the last component where that one says so
+-- the program of a composite glyph: it follows the last component where that one says so
 abbrev pub composite_program : List ℕ → Option Component → Option (List ℕ)
 composite_program glyph None = None
 composite_program glyph (Some last) =
     if has_instructions last.flags then program_at last.after glyph else Some []
 
--- the program of a glyph, none where the glyph's bytes end before the program does; a glyph without
--- data has an empty one
+-- the program of a glyph, or none where the glyph's bytes end before the program does; a glyph
+-- without data has an empty one
 unfoldable pub program_of : List ℕ → Option (List ℕ)
 program_of glyph =
     if is_composite glyph then composite_program glyph (last_of (components glyph)) else
@@ -56,6 +56,6 @@ simple_points glyph =
     then u16_at (8 + 2 * contour_count glyph) glyph + 1
     else 0
 
--- its contours
+-- the contours of a glyph that isn't composite
 unfoldable pub simple_contours : List ℕ → ℕ
 simple_contours glyph = if nat_le 10 (length glyph) then contour_count glyph else 0

@@ -20,7 +20,7 @@ FindsLeast = (test : ℕ → Bool) (n : ℕ) → IsLeastBelow test n (first_belo
 
 -- ---- the components of a glyph
 
--- a component is at a place of a glyph
+-- a component is at an offset of a glyph
 pub record IsAt (bytes : List ℕ) (place : ℕ) (c : Component) : Type 0 where
   pub flags : c.flags ≡ u16_at place bytes
   pub glyph : c.glyph ≡ u16_at (place + 2) bytes

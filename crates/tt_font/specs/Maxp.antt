@@ -7,7 +7,8 @@ use Rattle.tt_font.specs.Numbers.{u16_at}
 abbrev pub glyph_count : List ℕ → ℕ
 glyph_count maxp = u16_at 4 maxp
 
--- the fields that limit a font's programs
+-- the fields that limit a font's programs: maxZones, maxTwilightPoints, maxStorage,
+-- maxFunctionDefs, maxStackElements and maxSizeOfInstructions
 abbrev pub limits_of : List ℕ → Limits
 limits_of maxp = record {
   zones = u16_at 14 maxp;

@@ -3,11 +3,11 @@ use Rattle.std.specs.Prelude.{ℕ, zero, suc, List, drop, Bool, Option, Some, No
 use Rattle.std.specs.Option.{option_or}
 use Rattle.byteorder.specs.Endian.{big_number}
 
--- the u16 at a place
+-- the u16 at an offset
 unfoldable pub u16_at : ℕ → List ℕ → ℕ
 u16_at place bytes = big_number 2 (drop place bytes)
 
--- the u32 at a place
+-- the u32 at an offset
 unfoldable pub u32_at : ℕ → List ℕ → ℕ
 u32_at place bytes = big_number 4 (drop place bytes)
 

@@ -56,8 +56,9 @@ total own outlines zero id = own (outlines id)
 total own outlines (suc k) id =
     own (outlines id) + sum_by (total own outlines k) (parts (outlines id))
 
--- a glyph is refused: a chain of at most 16 steps leads out of the font, one of 17 steps starts, or
--- there are more than 65,535 points or contours
+-- a glyph is at fault: a chain of at most 16 steps leads out of the font, one of 17 steps starts,
+-- or there are more than 65,535 points or contours. (Own: these bounds; `maxComponentDepth` isn't
+-- read.)
 unfoldable pub refused : ℕ → (ℕ → Outline) → ℕ → Bool
 refused count outlines id =
     leads_out count outlines 16 id || (starts_chain outlines 17 id

@@ -65,7 +65,7 @@ pub record ReadsComponents (bytes : List ℕ) (font : FontData) : Type 0 where
   pub at_most
       : font.component_reads ≤ 17 * component_total (font_glyphs bytes) (font_glyph_count bytes)
 
--- what a glyph's parts hold
+-- a glyph as the code has it
 abbrev pub glyph_data : GlyphPart → GlyphData
 glyph_data part = record {
   points = part.points;

@@ -9,7 +9,7 @@ use crate::numbers::u16_at;
 /// How many bytes the header of a glyph has.
 pub(crate) const HEADER: usize = 10;
 
-/// The flag of a component whose two arguments have two bytes each, else one each.
+/// The flag of a component whose two arguments have two bytes each; otherwise they have one each.
 const ARG_1_AND_2_ARE_WORDS: u16 = 0x0001;
 
 /// The flag of a component with one scale.
@@ -35,7 +35,7 @@ pub(crate) struct Component {
     pub(crate) flags: u16,
     /// The number of the component's glyph.
     pub(crate) glyph: u16,
-    /// The place just after the component.
+    /// The offset just after the component.
     pub(crate) after: usize,
 }
 
@@ -108,7 +108,7 @@ impl ComponentReader {
         self.reads
     }
 
-    /// Reads the component at a place of a glyph, where its bytes are there, and counts it. No
+    /// Reads the component at an offset of a glyph, if all its bytes are there, and counts it. No
     /// other function reads a component.
     #[tactic(auto, unfolding(crate::specs::Components::component_at))]
     pub(crate) fn read(&mut self, glyph: &[u8], place: usize) -> Option<Component>
@@ -135,8 +135,8 @@ impl ComponentReader {
         })
     }
 
-    /// Reads the components of a glyph up to the last one, and returns that one, where the bytes of
-    /// all of them are there.
+    /// Reads the components of a glyph up to the last one, and returns that one, if all their bytes
+    /// are there.
     pub(crate) fn read_last(&mut self, glyph: &[u8]) -> Option<Component>
         requires small { length glyph.now < 2 ^ 32 }
         requires room { HasRoom self.old (length (components glyph.now)) }

@@ -25,17 +25,20 @@ pub(crate) struct Directory<'a> {
 /// Where a table is in the file.
 #[derive(Clone, Copy, PartialEq, Eq)]
 pub(crate) struct Extent {
+    /// The offset in the file at which the table begins, in bytes.
     offset: u32,
+    /// The length of the table, in bytes.
     len: u32,
 }
 
-/// Finds the first of some records with a tag, and returns its number.
+/// Returns the number of the first record that has this tag, among the first `count` ones.
 fn find_record(bytes: &[u8], count: u16, tag: u32) -> Option<u16>
     requires { 12 + 16 * count ≤ length bytes.now }
     ensures first { result ≡ first_record tag bytes.now count }
     ensures below { IfSome result (λ i. i < count) }
 {
     for i in 0..count {
+        // The header of the directory has 12 bytes, and each record 16, beginning with `tableTag`.
         if u32_at(bytes, 12 + 16 * usize::from(i)) == tag {
             return Some(i);
         }
@@ -44,7 +47,7 @@ fn find_record(bytes: &[u8], count: u16, tag: u32) -> Option<u16>
 }
 
 impl<'a> Directory<'a> {
-    /// Reads the directory of a file, where it is that of a font and whole.
+    /// Reads the directory of a font file.
     ///
     /// # Errors
     ///
@@ -58,10 +61,12 @@ impl<'a> Directory<'a> {
         if bytes.len() < 12 {
             return Err(FontFault::DirectoryTruncated);
         }
+        // `sfntVersion`: 1.0, or `'true'` as Apple has it.
         let version = u32_at(bytes, 0);
         if version != 0x10000 && version != 0x7472_7565 {
             return Err(FontFault::NotSfnt);
         }
+        // `numTables`.
         let count = u16_at(bytes, 4);
         if bytes.len() < 12 + 16 * usize::from(count) {
             return Err(FontFault::DirectoryTruncated);
@@ -69,7 +74,7 @@ impl<'a> Directory<'a> {
         Ok(Directory { bytes, count })
     }
 
-    /// Returns where the first record with the tag says that its table is.
+    /// Returns where a table is in the file, as the first record with its tag says.
     #[tactic(auto, unfolding(crate::specs::Directory::extent))]
     fn extent(&self, tag: Tag) -> Option<Extent>
         ensures { option_map (λ e. record { offset = e.offset; len = e.len }) result
@@ -78,12 +83,13 @@ impl<'a> Directory<'a> {
         let i = find_record(self.bytes, self.count, tag.number())?;
         let place = 12 + 16 * usize::from(i);
         Some(Extent {
+            // `offset` and `length` of the record, after `tableTag` and `checksum`.
             offset: u32_at(self.bytes, place + 8),
             len: u32_at(self.bytes, place + 12),
         })
     }
 
-    /// Returns the bytes of a table that every font has, where they are at least `least`.
+    /// Returns the bytes of a table that every font has, with at least `least` bytes.
     ///
     /// # Errors
     ///
@@ -106,7 +112,7 @@ impl<'a> Directory<'a> {
         Ok(&self.bytes[extent.offset as usize..end])
     }
 
-    /// Returns the bytes of a table that a font may lack, where they are at most `most`; none where
+    /// Returns the bytes of a table that a font may lack, with at most `most` bytes; no bytes where
     /// it is missing.
     ///
     /// # Errors

@@ -1,5 +1,5 @@
-//! Why a font file is refused (OpenType specification, "Table directory", `maxp`, `loca` and
-//! `glyf`).
+//! Why there is no verdict on a font file (OpenType specification, "Table directory", `maxp`,
+//! `loca` and `glyf`). The numbers and texts are this product's own.
 
 ghost use Rattle.std.specs.Prelude.{◌≡◌};
 ghost use Rattle.tt_font.specs.FaultNumbers.{fault_number};
@@ -22,13 +22,13 @@ pub enum FontFault {
     TableOutside(Tag),
     /// `maxp` isn't of version 1.0.
     MaxpVersion,
-    /// An entry of `loca` is missing, points outside `glyf` or lies below the one before it; or, as
-    /// entry 0, the format of `loca` isn't known.
+    /// An entry of `loca`, by its number, is missing, lies outside `glyf`, or lies before the one
+    /// before it; or, with number 0, the format of `loca` isn't known.
     Loca(u32),
-    /// A glyph's bytes end too early.
+    /// The bytes of the glyph of this number end too early.
     GlyphTruncated(u16),
-    /// A composite glyph leads to no glyph or nests too deep, or a glyph has more than 65,535
-    /// points or contours.
+    /// The glyph of this number is composite and leads to no glyph or nests too deep, or has more
+    /// than 65,535 points or contours.
     Composite(u16),
     /// Memory ran out.
     OutOfMemory(AllocError),

@@ -22,8 +22,8 @@ use tt_code::Limits;
 ///
 /// # Errors
 ///
-/// `GlyphTruncated` with the first glyph whose bytes end too early; else `Composite` with the first
-/// glyph that is refused; or `OutOfMemory`.
+/// `GlyphTruncated` with the first glyph whose bytes end too early; otherwise `Composite` with the
+/// first glyph whose components, points or contours are at fault; or `OutOfMemory`.
 #[tactic(auto, unfolding(crate::specs::Conditions::glyphs_fault))]
 fn read_glyphs<'a>(
     alloc: Global,
@@ -47,11 +47,17 @@ fn read_glyphs<'a>(
 /// specification, "Font tables").
 #[derive(Debug, Drop)]
 pub struct Font<'a> {
+    /// What the font allows its programs.
     limits: Limits,
+    /// How many control values the font has.
     cvt_count: u32,
+    /// The font program, a slice of the file.
     fpgm: &'a [u8],
+    /// The CVT program, a slice of the file.
     prep: &'a [u8],
+    /// The glyphs, by their numbers.
     glyphs: Vec<GlyphPart<'a>>,
+    /// How often a component was read, one that was read again counted again.
     component_reads: u64,
 }
 
@@ -99,8 +105,8 @@ impl<'a> Font<'a> {
     ///    length of `glyf` or below the entry before it (the first such entry).
     /// 6. A glyph's bytes end too early (the first such glyph).
     /// 7. From a glyph a chain of at most 16 components leads to a number that isn't below the
-    ///    number of glyphs, or one of 17 starts, or it has more than 65,535 points or contours (the
-    ///    first such glyph).
+    ///    number of glyphs, or one of 17 starts, or the glyph has more than 65,535 points or
+    ///    contours (the first such glyph).
     #[tactic(auto, unfolding(crate::specs::FileFaults::font_fault))]
     pub fn read(alloc: Global, bytes: &'a [u8]) -> Result<Font<'a>, FontFault>
         ensures fault { TestsWithMemory (font_fault bytes.now) result }
@@ -164,8 +170,8 @@ impl<'a> Font<'a> {
         self.glyphs.get(usize::from(id)).copied()
     }
 
-    /// Returns how often an entry of a component list was read while the font was read: at least
-    /// once for each entry of each glyph, and at most 17 times as often.
+    /// Returns how many components were read while the font was read, one that was read again
+    /// counted again: at least one for each that a glyph lists, and at most 17 for each.
     pub fn component_reads(&self) -> u64
         ensures { result ≡ self.now.component_reads }
     {

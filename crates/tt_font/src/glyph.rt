@@ -9,10 +9,12 @@ ghost use Rattle.tt_font.specs.Glyphs.{is_composite, component_count, program_at
 use crate::component::{ComponentReader, HEADER};
 use crate::numbers::u16_at;
 
-/// numberOfContours from this value on is a negative number: the glyph is made of components.
+/// The least value of numberOfContours that is a negative number: such a glyph is made of
+/// components.
 const COMPOSITE: u16 = 0x8000;
 
-/// Returns the instructions at a place of a glyph, after their length, where their bytes are there.
+/// Returns the instructions at an offset of a glyph, which begin with their length, if all their
+/// bytes are there.
 #[tactic(auto, unfolding(crate::specs::Glyphs::program_at))]
 fn read_program(glyph: &[u8], place: usize) -> Option<&[u8]>
     requires { place < 2 ^ 33 }
@@ -29,11 +31,12 @@ fn read_program(glyph: &[u8], place: usize) -> Option<&[u8]>
     Some(&glyph[start..end])
 }
 
-/// Reads the program of a simple glyph, where its bytes are there.
+/// Reads the program of a simple glyph, if its bytes are there.
 fn read_simple_program(glyph: &[u8]) -> Option<&[u8]>
     requires { 10 ≤ length glyph.now }
     ensures { option_map (λ program. program.now) result ≡ simple_program glyph.now }
 {
+    // `numberOfContours`; `endPtsOfContours` has two bytes for each of them.
     let contours = usize::from(u16_at(glyph, 0));
     if contours == 0 && glyph.len() == HEADER {
         return Some(&[]);
@@ -41,7 +44,7 @@ fn read_simple_program(glyph: &[u8]) -> Option<&[u8]>
     read_program(glyph, HEADER + 2 * contours)
 }
 
-/// Reads the program of a composite glyph, where its bytes are there.
+/// Reads the program of a composite glyph, if its bytes are there.
 fn read_composite_program<'a>(glyph: &'a [u8], reader: &mut ComponentReader) -> Option<&'a [u8]>
     requires small { length glyph.now < 2 ^ 32 }
     requires room { HasRoom reader.old (length (components glyph.now)) }
@@ -64,8 +67,7 @@ pub(crate) fn is_composite(glyph: &[u8]) -> bool
     glyph.len() >= HEADER && u16_at(glyph, 0) >= COMPOSITE
 }
 
-/// Reads the program of a glyph, where its bytes are there. A glyph without data has an empty
-/// program.
+/// Reads the program of a glyph, if its bytes are there. A glyph without data has an empty program.
 #[tactic(auto, unfolding(crate::specs::Glyphs::program_of, crate::specs::Glyphs::component_count))]
 pub(crate) fn read_glyph_program<'a>(
     glyph: &'a [u8],
@@ -87,7 +89,7 @@ pub(crate) fn read_glyph_program<'a>(
     }
 }
 
-/// Returns how many points a glyph has that isn't composite and whose bytes are there.
+/// Returns how many points a glyph has that isn't composite and whose bytes are all there.
 #[tactic(auto, unfolding(crate::specs::Glyphs::simple_points))]
 pub(crate) fn simple_points(glyph: &[u8]) -> u32
     requires simple { is_composite glyph.now ≡ false }
@@ -102,6 +104,7 @@ pub(crate) fn simple_points(glyph: &[u8]) -> u32
     if contours == 0 {
         return 0;
     }
+    // The last entry of `endPtsOfContours` is the number of the last point.
     u32::from(u16_at(glyph, HEADER + 2 * (contours - 1))) + 1
 }
 

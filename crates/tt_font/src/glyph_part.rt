@@ -3,8 +3,8 @@
 /// A glyph of a font: how many points and contours it has, and its program.
 #[derive(Clone, Copy, Debug, PartialEq, Eq)]
 pub struct GlyphPart<'a> {
-    /// How many points the glyph has: its own, or those of all its components. Phantom points
-    /// aren't counted.
+    /// How many points the glyph has: its own, or those of all its components, phantom points not
+    /// counted.
     pub points: u16,
     /// How many contours the glyph has, counted likewise.
     pub contours: u16,

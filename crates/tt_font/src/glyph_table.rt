@@ -12,7 +12,9 @@ use crate::numbers::{u16_at, u32_at};
 pub(crate) struct GlyphTable<'a> {
     /// indexToLocFormat: 0 where the entries of `loca` are short, 1 where they are long.
     format: u16,
+    /// The table `loca`.
     loca: &'a [u8],
+    /// The table `glyf`.
     glyf: &'a [u8],
     /// How many glyphs there are.
     pub(crate) count: u16,
@@ -21,7 +23,7 @@ pub(crate) struct GlyphTable<'a> {
     ghost placed: { (i : ℕ) → i ≤ count → entry_fits format loca.now glyf.now i ≡ true },
 }
 
-/// Returns the place in `glyf` that an entry of `loca` names.
+/// Returns the offset in `glyf` that an entry of `loca` names.
 fn entry_at(format: u16, loca: &[u8], i: u32) -> u32
     requires format { format < 2 }
     requires there { entry_size format * (i + 1) ≤ length loca.now }
@@ -34,7 +36,7 @@ fn entry_at(format: u16, loca: &[u8], i: u32) -> u32
     }
 }
 
-/// Whether an entry of `loca` is there, lies in `glyf`, and not below the entry before it.
+/// Whether an entry of `loca` is there, lies in `glyf`, and doesn't lie before the entry before it.
 fn entry_is_good(format: u16, loca: &[u8], glyf: &[u8], i: u32) -> bool
     requires { format < 2 }
     ensures { result ≡ entry_fits format loca.now glyf.now i }
@@ -60,7 +62,7 @@ impl<'a> GlyphTable<'a> {
     ///
     /// # Errors
     ///
-    /// `Loca` with 0 where the format isn't known, else with the first entry that doesn't fit.
+    /// `Loca` with 0 where the format isn't known, otherwise with the first entry that doesn't fit.
     pub(crate) fn read(
         format: u16,
         loca: &'a [u8],
@@ -90,7 +92,7 @@ impl<'a> GlyphTable<'a> {
         })
     }
 
-    /// Returns where a glyph's bytes begin and end in `glyf`.
+    /// Returns the offsets in `glyf` at which a glyph's bytes begin and end.
     fn place(&self, id: u16) -> (usize, usize)
         requires { id < self.now.count }
         ensures start { result.0 ≡ entry self.now.format self.now.loca.now id }

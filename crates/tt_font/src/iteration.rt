@@ -16,11 +16,11 @@ use crate::outline_size::{OutlineSize, add_up};
 use std::alloc::Global;
 use std::mem::swap;
 
-/// How many steps a chain of components may have.
+/// How many steps a chain of components may have. (Own: `maxComponentDepth` isn't read.)
 const STEPS: u32 = 16;
 
-/// Makes the sizes before the first iteration: what each glyph's own bytes say. Lists the numbers
-/// of the composite glyphs.
+/// Makes the sizes before the first iteration, which are what each glyph's own bytes say, and
+/// appends the numbers of the composite glyphs to `composites`.
 ///
 /// # Errors
 ///
@@ -69,7 +69,7 @@ fn iterate(
     }
 }
 
-/// Returns the first glyph that its size refuses.
+/// Returns the first glyph whose size is a fault.
 fn first_refused(sizes: &[OutlineSize], count: u16) -> Option<u16>
     requires { length sizes.now ≡ count }
     ensures { result ≡ first_below (λ id. size_refuses (size_at sizes.now id)) count }
@@ -128,7 +128,7 @@ fn last_sizes(
 ///
 /// # Errors
 ///
-/// `Composite` with the first glyph that is refused, or `OutOfMemory`.
+/// `Composite` with the first glyph whose size is a fault, or `OutOfMemory`.
 pub(crate) fn outline_sizes(
     alloc: Global,
     glyphs: &GlyphTable,

@@ -3,10 +3,11 @@
 
 ghost use Rattle.tt_font.specs.Laws.{FindsLeast, ListsComponents, StartsWays, FindsWaysOut};
 
-/// States that the definitions which go step by step through a font's bytes mean what short ones
-/// say, and does nothing. The least number that passes a test is the least one. The components of a
-/// glyph are the one list that follows its header. A chain of components starts, or leads out of
-/// the font, exactly if there is such a way from component to component.
+/// States what the definitions mean that go step by step. `first_below` finds the least number
+/// below a bound that passes a test, if one does. The components of a glyph, where a last one ends
+/// them, are the only list that follows its header, and otherwise no list follows it. A chain of
+/// components starts, or leads out of the font, exactly if there is such a way from component to
+/// component.
 pub fn definitions_hold()
     ensures least { FindsLeast }
     ensures components { ListsComponents }

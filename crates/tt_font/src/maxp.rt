@@ -21,6 +21,7 @@ pub fn read_maxp(maxp: &[u8]) -> Result<Limits, FontFault>
     ensures limits { IfOk result (λ limits. limits ≡ limits_of maxp.now) }
     ensures whole { OnOk result (32 ≤ length maxp.now) }
 {
+    // `version` has 4 bytes; the table of version 1.0 has 32.
     if maxp.len() < 4 {
         return Err(FontFault::TableOutside(Tag::Maxp));
     }
@@ -30,6 +31,8 @@ pub fn read_maxp(maxp: &[u8]) -> Result<Limits, FontFault>
     if maxp.len() < 32 {
         return Err(FontFault::TableOutside(Tag::Maxp));
     }
+    // `maxZones`, `maxTwilightPoints`, `maxStorage`, `maxFunctionDefs`, `maxStackElements` and
+    // `maxSizeOfInstructions`; `maxInstructionDefs`, at offset 22, isn't read.
     Ok(Limits {
         zones: u16_at(maxp, 14),
         twilight: u16_at(maxp, 16),

@@ -5,7 +5,7 @@ ghost use Rattle.tt_font.specs.Numbers.{u16_at, u32_at};
 
 use byteorder::{BigEndian, ByteOrder};
 
-/// Returns the u16 at a place.
+/// Returns the u16 at an offset.
 #[tactic(auto, unfolding(crate::specs::Numbers::u16_at))]
 pub(crate) fn u16_at(bytes: &[u8], place: usize) -> u16
     requires { place + 2 ≤ length bytes.now }
@@ -14,7 +14,7 @@ pub(crate) fn u16_at(bytes: &[u8], place: usize) -> u16
     BigEndian::read_u16(&bytes[place..])
 }
 
-/// Returns the u32 at a place.
+/// Returns the u32 at an offset.
 #[tactic(auto, unfolding(crate::specs::Numbers::u32_at))]
 pub(crate) fn u32_at(bytes: &[u8], place: usize) -> u32
     requires { place + 4 ≤ length bytes.now }

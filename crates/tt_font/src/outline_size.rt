@@ -9,7 +9,7 @@ ghost use Rattle.tt_font.specs.Representation.OutlineSizes.{PointsAreCapped, Con
 use crate::component::{ComponentReader, HEADER};
 use crate::glyph::{is_composite, simple_contours, simple_points};
 
-/// One more than the greatest number of points, and of contours, that a glyph may have.
+/// One more than the greatest number of points, and of contours, that a glyph may have (own).
 const TOO_MANY: u32 = 65536;
 
 /// The size of a glyph's outline, as far as it is known after some iterations.
@@ -31,14 +31,15 @@ const EMPTY: OutlineSize = OutlineSize {
     contours: 0,
 };
 
-/// The size of a glyph that the font doesn't have.
+/// The size of a glyph that the font doesn't have, and of a composite one before the first
+/// iteration.
 const UNRESOLVED: OutlineSize = OutlineSize {
     unresolved: true,
     points: 0,
     contours: 0,
 };
 
-/// Returns the sum of two numbers, or one more than the greatest allowed number where that is less.
+/// Returns the sum of two numbers, but at most `TOO_MANY`.
 fn capped(a: u32, b: u32) -> u32
     requires a_most { a ≤ 65536 }
     requires b_most { b ≤ 65536 }
@@ -95,7 +96,7 @@ impl OutlineSize {
         }
     }
 
-    /// Whether the size refuses its glyph after the last iteration.
+    /// Whether the size, after the last iteration, is a fault of its glyph.
     pub(crate) fn refuses(&self) -> bool
         ensures { result ≡ size_refuses self.now }
     {
@@ -103,7 +104,7 @@ impl OutlineSize {
     }
 }
 
-/// Adds up the sizes of a glyph's components, as they were after the iteration before.
+/// Adds up the sizes of a glyph's components, as they were after the previous iteration.
 pub(crate) fn add_up(
     sizes: &[OutlineSize],
     glyph: &[u8],

@@ -16,16 +16,21 @@ use crate::numbers::u16_at;
 use crate::tag::Tag;
 use tt_code::Limits;
 
-/// The greatest length of a font program or a CVT program.
+/// The greatest length of a font program or a CVT program, in bytes (own).
 const PROGRAM_MOST: u32 = 0x7FFF_FFFF;
 
-/// What the tables of a font file hold, its glyphs not yet read.
+/// What the tables of a font file hold, where its glyphs aren't read yet.
 #[derive(Clone, Copy)]
 pub(crate) struct Tables<'a> {
+    /// What the font allows its programs.
     pub(crate) limits: Limits,
+    /// How many control values the font has.
     pub(crate) cvt_count: u32,
+    /// The font program, a slice of the file.
     pub(crate) fpgm: &'a [u8],
+    /// The CVT program, a slice of the file.
     pub(crate) prep: &'a [u8],
+    /// Where the glyphs are.
     pub(crate) glyphs: GlyphTable<'a>,
 }
 
@@ -54,15 +59,18 @@ impl<'a> Tables<'a> {
         let directory = Directory::read(bytes)?;
         let maxp = directory.required(Tag::Maxp, 0)?;
         let limits = read_maxp(maxp)?;
+        // The table `head` has 54 bytes.
         let head = directory.required(Tag::Head, 54)?;
         let loca = directory.required(Tag::Loca, 0)?;
         let glyf = directory.required(Tag::Glyf, 0)?;
         let cvt = directory.optional(Tag::Cvt, u32::MAX)?;
         let fpgm = directory.optional(Tag::Fpgm, PROGRAM_MOST)?;
         let prep = directory.optional(Tag::Prep, PROGRAM_MOST)?;
+        // `indexToLocFormat` of `head`, and `numGlyphs` of `maxp`.
         let glyphs = GlyphTable::read(u16_at(head, 50), loca, glyf, u16_at(maxp, 4))?;
         Ok(Tables {
             limits,
+            // Each control value has two bytes.
             cvt_count: (cvt.len() / 2) as u32,
             fpgm,
             prep,

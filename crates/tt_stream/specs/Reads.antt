@@ -16,7 +16,7 @@ pub record ConsumesBeginning (old new : Option (List ℕ)) : Type 0 where
   pub bytes : List ℕ
   pub consumed : Consumes old new bytes
 
--- fewer than so many of the known bytes were read
+-- fewer than `count` of the known bytes were read
 pub record ConsumesFewer (count : ℕ) (old new : Option (List ℕ)) : Type 0 where
   pub bytes : List ℕ
   pub few : length bytes < count
@@ -28,7 +28,7 @@ CountsReadFault (Ok bytes) old new = new ≡ old
 CountsReadFault (Err fault.Read) old new = new ≡ old + 1
 CountsReadFault (Err (fault.OutOfMemory error)) old new = new ≡ old
 
--- the bytes at the front of the buffer were read, as many as it takes, or all that were left
+-- the bytes at the front of the buffer were read: as many as it has room for, or all that were left
 abbrev pub Fills : Option (List ℕ) → Option (List ℕ) → ℕ → List ℕ → Type 0
 Fills old new count buf = Consumes old new (take count buf) × (count < length buf → IsAtEnd new)
 

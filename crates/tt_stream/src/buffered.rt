@@ -1,4 +1,4 @@
-//! A source of which many bytes are read at a time, and kept until they are asked for.
+//! A source from which many bytes are read at a time, and kept until they are asked for.
 
 ghost use Rattle.std.specs.Prelude.{◌≡◌, ◌≤◌, ◌<◌, [], drop, length, slice_range, vec_len, IfOk, OnOk};
 ghost use Rattle.std.specs.Io.KnownBytes.{IsAtEnd, Keeps, prepend_known};
@@ -20,7 +20,7 @@ pub struct Buffered<S> {
     source: S,
     /// The room for bytes that are read ahead.
     bytes: Vec<u8>,
-    /// Where the first byte that is ahead is.
+    /// Where the bytes that are ahead begin.
     at: usize,
     /// Where the bytes that are ahead end.
     end: usize,
@@ -58,7 +58,7 @@ impl<S: Source> Buffered<S> {
         })
     }
 
-    /// Reads ahead, where nothing is read ahead.
+    /// Reads ahead, where nothing is read ahead so far.
     ///
     /// # Errors
     /// If the read fails; then nothing is read ahead.
@@ -74,7 +74,7 @@ impl<S: Source> Buffered<S> {
         Ok(())
     }
 
-    /// Makes sure that something is read ahead, where anything is left.
+    /// Makes sure that something is read ahead, if anything is left.
     ///
     /// # Errors
     /// If a read fails.
@@ -92,7 +92,7 @@ impl<S: Source> Buffered<S> {
         Ok(())
     }
 
-    /// Drops so many bytes that were read ahead.
+    /// Drops `count` bytes that were read ahead.
     fn drop_front(&mut self, count: usize)
         requires { count ≤ length self.old.ahead }
         ensures source { self.new.source ≡ self.old.source }

@@ -7,10 +7,12 @@ ghost use Rattle.std.specs.Io.KnownBytes.{Consumes, ReadConsumes, WriteAppends, 
 ghost use Rattle.tt_stream.specs.Streams.{AppendsBeginning, AppendsBeginningOfText, AppendsText, CountsFailure, CountsPrintFailure, Tally};
 
 mod buffered;
+mod bytes;
 mod reads;
 mod text;
 
 pub use buffered::Buffered;
+pub use bytes::Bytes;
 pub use reads::{ReadFault, read_all, read_full};
 use std::fmt::Display;
 use std::io::{Read, Write};
@@ -31,14 +33,14 @@ pub struct WriteFailed;
 
 /// What bytes are read from.
 pub trait Source {
-    /// The bytes that are left, where they are known.
+    /// The bytes that are left, if they are known.
     ghost remaining: { Self → Option (List ℕ) };
 
     /// How many calls have failed.
     ghost failures: { Self → ℕ };
 
-    /// The bytes that are read ahead: of what is left, those that are given without a call that can
-    /// fail.
+    /// The bytes that are read ahead: the first of those that are left, which are given without a
+    /// call that can fail.
     ghost read_ahead: { Self → List ℕ };
 
     /// Reads some bytes into the front of `buf` and returns how many: 0 only at the end, or where
@@ -51,12 +53,12 @@ pub trait Source {
         ensures bytes { ReadConsumes (remaining self.old) (remaining self.new) result buf.new }
         ensures failures { CountsFailure result (failures self.old) (failures self.new) };
 
-    /// Returns the bytes that are read ahead, with which what is left begins.
+    /// Returns the bytes that are read ahead, with which those that are left begin.
     fn ahead(&self) -> &[u8]
         ensures value { result.now ≡ read_ahead self.now }
         ensures front { IfSome (remaining self.now) (λ bytes. StartsWith bytes result.now) };
 
-    /// Takes so many of the bytes that are read ahead.
+    /// Takes `count` of the bytes that are read ahead.
     fn skip(&mut self, count: usize)
         requires { count ≤ length (read_ahead self.old) }
         ensures bytes { Consumes (remaining self.old) (remaining self.new)
@@ -67,7 +69,7 @@ pub trait Source {
 
 /// What bytes are written to.
 pub trait Sink {
-    /// The bytes that it holds, where they are known.
+    /// The bytes that it holds, if they are known.
     ghost contents: { Self → Option (List ℕ) };
 
     /// How many calls have failed.
@@ -84,10 +86,10 @@ pub trait Sink {
         ensures bytes { WriteAppends (contents self.old) (contents self.new) result buf.now }
         ensures failures { CountsFailure result (failures self.old) (failures self.new) };
 
-    /// Writes the text with no memory. `write!` and `writeln!` call it.
+    /// Writes the text without allocating. `write!` and `writeln!` call it.
     ///
     /// # Errors
-    /// If a write fails, or the value's own `Display` gives up; then a beginning was written.
+    /// If a write fails, or the value's own `Display` fails; then a beginning was written.
     final fn write_fmt<D: Display + Drop>(&mut self, text: D) -> Result<(), PrintFailed>
     where
         Self: Sized,
@@ -101,14 +103,15 @@ pub trait Sink {
     }
 }
 
-/// A reader or a writer of std whose failed calls are counted. The counter takes no bytes.
+/// A reader or a writer of the standard library whose failed calls are counted. The counter takes
+/// no bytes.
 #[derive(Drop)]
 pub struct Counted<T, L: Ledger> {
     /// The reader or writer.
     inner: T,
-    /// The book in which failed calls are counted.
+    /// The count of failed calls, kept in a ledger, which only contracts see.
     failures: Book<L>,
-    /// What allows to write in the book.
+    /// The right to write in the ledger, which only contracts see.
     share: Share<L>,
 }
 
@@ -121,7 +124,8 @@ impl<T, L: Ledger> Model for Counted<T, L> {
 }
 
 impl<T, L: Ledger> Counted<T, L> {
-    /// Wraps the reader or writer, with no call that has failed yet, over a ledger of its own.
+    /// Wraps the reader or writer, of which no call has failed so far, and gives it a ledger of its
+    /// own.
     pub fn new(inner: T, blank: Blank) -> Self
         requires name { blank.name ≡ L.name }
         requires parts { blank.parts ≡ L.parts }

@@ -65,10 +65,11 @@ pub fn read_all<R: Source>(alloc: Global, source: &mut R) -> Result<Vec<u8>, Rea
     }
 }
 
-/// Reads until the buffer is full or the input ends, and returns how many bytes are at its front.
+/// Reads until the buffer is full or the input ends, and returns how many bytes were read to its
+/// front.
 ///
 /// # Errors
-/// If a read fails; then some beginning of what is left was read, of fewer bytes than the buffer
+/// If a read fails; then some beginning of what was left was read, of fewer bytes than the buffer
 /// has.
 #[tactic(auto, using(crate::proofs::Beginnings::consumes_beginning))]
 pub fn read_full<R: Source>(source: &mut R, buf: &mut [u8]) -> Result<usize, ReadFailed>

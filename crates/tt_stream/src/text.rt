@@ -1,4 +1,4 @@
-//! Printing to a sink without memory: a text is rendered a window at a time.
+//! Printing to a sink without allocating: a text is rendered a window at a time.
 
 ghost use Rattle.std.specs.Prelude.{◌≡◌, ◌≤◌, [], length, take, drop, IfSome, IfErr, OnOk, IfOk, OnErr};
 ghost use Rattle.tt_stream.specs.Streams.{AppendsText, AppendsBeginningOfText, CountsPrintFailure};
@@ -20,7 +20,7 @@ pub enum PrintFailed {
     /// A write failed.
     #[error("write")]
     Write,
-    /// The value's own `Display` gave up.
+    /// The value's own `Display` failed.
     #[error("format")]
     Format,
 }
@@ -55,7 +55,7 @@ impl Model for Window {
 }
 
 impl Window {
-    /// Makes the window after so many bytes of a text, with nothing in it yet.
+    /// Makes the window after the first `skip` bytes of a text, with nothing in it yet.
     fn new(skip: usize) -> Window
         ensures skip { result.skip ≡ skip }
         ensures empty { result.kept ≡ [] }
@@ -91,10 +91,10 @@ impl fmt::Write for Window {
     }
 }
 
-/// Renders what the window after the first `skip` bytes of the value's text shows.
+/// Renders the part of the value's text that the window after its first `skip` bytes shows.
 ///
 /// # Errors
-/// `Format` if the value's own `Display` gives up.
+/// `Format` if the value's own `Display` fails.
 fn render<D: Display>(value: &D, skip: usize) -> Result<Window, PrintFailed>
     ensures text { IfOk result (λ w.
         IfSome (D.output value.now) (λ text. w.kept ≡ take ROOM (drop skip text))) }
@@ -110,8 +110,8 @@ fn render<D: Display>(value: &D, skip: usize) -> Result<Window, PrintFailed>
 /// Writes the value's text.
 ///
 /// # Errors
-/// `Write` if a write fails, `Format` if the value's own `Display` gives up; then a beginning of
-/// the text was written.
+/// `Write` if a write fails, `Format` if the value's own `Display` fails; then a beginning of the
+/// text was written.
 pub fn print<W: Sink, D: Display>(sink: &mut W, value: &D) -> Result<(), PrintFailed>
     ensures written { OnOk result
         (AppendsText (D.output value.now) (W.contents sink.old) (W.contents sink.new)) }

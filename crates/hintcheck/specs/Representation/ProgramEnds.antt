@@ -30,7 +30,7 @@ at_glyph_program fpgm prep id = at_glyph fpgm.program prep.program prep.function
 abbrev pub IsKnownEnd : Subject → Ended → Type 0
 IsKnownEnd x ended = IsKnownAtEnd x ended.program ended.functions.items
 
--- and this was found for the program
+-- this is known where the program's least family ends, and this was found for it
 abbrev pub IsFoundEnd : Subject → Ended → Found → Type 0
 IsFoundEnd x ended found = IsFoundToEnd x ended.program found ended.functions.items
 
@@ -38,6 +38,6 @@ IsFoundEnd x ended found = IsFoundToEnd x ended.program found ended.functions.it
 abbrev pub IsGoodEnd : Subject → Ended → Type 0
 IsGoodEnd x ended = IsGoodAtEnd x ended.program ended.functions.items
 
--- and where this family of a certificate does
+-- this is known where this family of a certificate ends, by which the program passes
 abbrev pub IsPassedEnd : Form → Subject → Contents → Ended → Type 0
 IsPassedEnd form x family ended = PassesToEnd form x ended.program family ended.functions.items

@@ -22,13 +22,13 @@ use tt_cert::Budget;
 use tt_font::Font;
 use tt_stream::{Buffered, Counted};
 
-/// Returns the verdict on a font by the certificate that is left in the file, and makes at most so
-/// many points, where they are bounded.
+/// Returns the verdict on a font by the certificate that is left in the file, and makes at most
+/// this many points, where they are bounded.
 fn verdict_by_file<L: Ledger, F: Read + Drop>(
     alloc: Global,
     font: &Font<'_>,
     file: F,
-    points: Option<u64>,
+    budget: Option<u64>,
     blank: Blank,
 ) -> Result<Verdict, CommandFault>
     requires range { IsFontInRange font.now }
@@ -41,12 +41,12 @@ fn verdict_by_file<L: Ledger, F: Read + Drop>(
         (λ bytes. IsChecked font.now bytes (Err place)))) }
     ensures fault { IfErr result IsNoWriteFault }
     ensures faults { IfErr result
-        (λ fault. IsFaultOfChecking fault × IsWithin points fault) }
+        (λ fault. IsFaultOfChecking fault × IsWithin budget fault) }
 {
     let Ok(mut source) = Buffered::new(alloc, Counted::<F, L>::new(file, blank)) else {
         return Err(CommandFault::OutOfMemory);
     };
-    let verdict = match points {
+    let verdict = match budget {
         Some(most) => check_read_font_within(alloc, font, &mut source, &mut Budget::of(most)),
         None => check_read_font(alloc, font, &mut source, &mut Budget::unlimited()),
     };
@@ -54,13 +54,13 @@ fn verdict_by_file<L: Ledger, F: Read + Drop>(
 }
 
 /// Returns the verdict on the font file with the first name by the certificate in the file with the
-/// second, opened where the first is a font. It makes at most so many points, where they are
+/// second, opened where the first is a font. It makes at most this many points, where they are
 /// bounded.
 pub(super) fn check_verdict<R: Files + AllocGlobal>(
     rt: &R,
     font: &str,
     certificate: &str,
-    points: Option<u64>,
+    budget: Option<u64>,
 ) -> Result<Verdict, CommandFault>
     ensures safe { IfOk result
         (λ verdict. verdict.refused ≡ [] → (bytes : List ℕ) × HoldSafeFont bytes) }
@@ -68,12 +68,12 @@ pub(super) fn check_verdict<R: Files + AllocGlobal>(
     ensures given { IfOk result (λ verdict. (bytes : List ℕ) × IsCheckOn bytes verdict) }
     ensures fault { IfErr result IsNoWriteFault }
     ensures faults { IfErr result
-        (λ fault. IsFaultOfChecking fault × IsWithin points fault) }
+        (λ fault. IsFaultOfChecking fault × IsWithin budget fault) }
 {
     let bytes = file_bytes(rt, font)?;
     let font = read_font(rt.alloc(), &bytes)?;
     let Ok(file) = fs::open(rt, certificate) else {
         return Err(CommandFault::Read);
     };
-    verdict_by_file::<Brand, _>(rt.alloc(), &font, file, points, Blank::new(1))
+    verdict_by_file::<Brand, _>(rt.alloc(), &font, file, budget, Blank::new(1))
 }

@@ -1,4 +1,4 @@
-//! Why a command gives no verdict.
+//! Why a command gives no answer.
 
 ghost use Rattle.std.specs.Prelude.{◌≡◌, ◌≤◌};
 ghost use Rattle.hintcheck.specs.Commands.{IsNoWriteFault, fault_of_word, status_of};
@@ -37,7 +37,7 @@ impl fmt::Display for Numbered {
     }
 }
 
-/// Why a command gives no verdict: the line for the user, after `fault: `.
+/// Why a command gives no answer: the line for the user, after `fault: `.
 #[derive(Debug, Drop)]
 pub enum CommandFault {
     /// The words aren't those of the command line. The text is clap's, and is printed alone.
@@ -70,8 +70,8 @@ pub enum CommandFault {
     Write,
     /// A file can't be made or written.
     File,
-    /// A text gave up on being printed, which none here does: each goes to a window in memory that
-    /// takes whatever it gets.
+    /// A `Display` failed, which none here does: each writes to a buffer in memory, which takes
+    /// all.
     Text,
 }
 

@@ -2,7 +2,7 @@
 
 ghost use Rattle.std.specs.Prelude.{◌≡◌, ◌≢◌, ◌+◌, ◌<◌, IfErr, IfOk, List, Err, Ok, OnOk, None, ℕ, []};
 ghost use Rattle.std.specs.Io.KnownBytes.{Keeps};
-ghost use Rattle.hintcheck.specs.Bounds.{IsNoFaultInAFont};
+ghost use Rattle.hintcheck.specs.BudgetAnswers.{IsFindFaultOutsideFont};
 ghost use Rattle.hintcheck.specs.CertificateFaults.{WritesNothing};
 ghost use Rattle.hintcheck.specs.CertificateTexts.{IsPassingCertificate, WritesText};
 ghost use Rattle.hintcheck.specs.Commands.{IsNoWriteFault};
@@ -31,17 +31,17 @@ fn find_within_points<W: Sink>(
     alloc: Global,
     font: &Font<'_>,
     sink: &mut W,
-    points: Option<u64>,
+    budget: Option<u64>,
 ) -> Result<Verdict, FindFontFault>
     requires { IsFontInRange font.now }
     ensures exact { IfOk result (λ v. IsVerdict font.now v) }
     ensures written { IfOk result (λ v. v.refused ≡ []
         → WritesText (W.contents sink.old) (W.contents sink.new) (IsPassingCertificate font.now)) }
     ensures unwritten { IfOk result (WritesNothing (W.contents sink.old) (W.contents sink.new)) }
-    ensures font { IfErr result IsNoFaultInAFont }
-    ensures within { IfErr result (λ fault. fault ≡ FindFontFault.Budget → points ≢ None) }
+    ensures font { IfErr result IsFindFaultOutsideFont }
+    ensures within { IfErr result (λ fault. fault ≡ FindFontFault.Budget → budget ≢ None) }
 {
-    match points {
+    match budget {
         Some(most) => find_programs_within(alloc, font, sink, &mut Budget::of(most)),
         None => find_programs(alloc, font, sink, &mut Budget::unlimited()),
     }
@@ -53,7 +53,7 @@ fn verdict_to_file<L: Ledger, F: Write + Drop>(
     alloc: Global,
     font: &Font<'_>,
     file: F,
-    points: Option<u64>,
+    budget: Option<u64>,
     blank: Blank,
 ) -> Result<(Verdict, F), CommandFault>
     requires range { IsFontInRange font.now }
@@ -65,13 +65,13 @@ fn verdict_to_file<L: Ledger, F: Write + Drop>(
         (λ r. r.0.refused ≢ [] → Keeps (F.contents file) (F.contents r.1)) }
     ensures fault { IfErr result IsNoWriteFault }
     ensures faults { IfErr result
-        (λ fault. IsFaultOfCertifying fault × IsWithin points fault) }
+        (λ fault. IsFaultOfCertifying fault × IsWithin budget fault) }
 {
     let Ok(file) = BufWriter::with_capacity(alloc, ROOM, file) else {
         return Err(CommandFault::OutOfMemory);
     };
     let mut sink = Counted::<BufWriter<F>, L>::new(file, blank);
-    let verdict = find_within_points(alloc, font, &mut sink, points)?;
+    let verdict = find_within_points(alloc, font, &mut sink, budget)?;
     let file = write_rest(sink.into_inner())?;
     Ok((verdict, file))
 }
@@ -83,7 +83,7 @@ pub(super) fn find_verdict<R: Files + AllocGlobal>(
     rt: &R,
     font: &str,
     certificate: &str,
-    points: Option<u64>,
+    budget: Option<u64>,
 ) -> Result<Verdict, CommandFault>
     ensures safe { IfOk result
         (λ verdict. verdict.refused ≡ [] → (bytes : List ℕ) × HoldSafeFont bytes) }
@@ -92,7 +92,7 @@ pub(super) fn find_verdict<R: Files + AllocGlobal>(
     ensures given { IfOk result (λ verdict. (bytes : List ℕ) × IsVerdictOn bytes verdict) }
     ensures fault { IfErr result IsNoWriteFault }
     ensures faults { IfErr result
-        (λ fault. IsFaultOfFinding font.now certificate.now fault × IsWithin points fault) }
+        (λ fault. IsFaultOfFinding font.now certificate.now fault × IsWithin budget fault) }
     ensures none { OnOk result (font.now ≢ certificate.now) }
 {
     if font == certificate || is_same_file(file_numbers(rt, font), file_numbers(rt, certificate)) {
@@ -107,7 +107,7 @@ pub(super) fn find_verdict<R: Files + AllocGlobal>(
         rt.alloc(),
         &font,
         file,
-        points,
+        budget,
         Blank::new(1),
     )?;
     Ok(verdict)

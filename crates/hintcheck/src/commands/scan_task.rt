@@ -108,12 +108,12 @@ fn verdict_status(verdict: &Verdict) -> u8
     }
 }
 
-/// Prints the line of the font file with this name, for which so many points may be made, and
+/// Prints the line of the font file with this name, for which this many points may be made, and
 /// returns its exit status: that of a verdict, or of the fault.
 fn scan_font<R: Files + AllocGlobal, O: Sink>(
     rt: &R,
     name: &str,
-    points: Option<u64>,
+    budget: Option<u64>,
     out: &mut O,
 ) -> Result<u8, CommandFault>
     ensures tells { IfOk result (TellsFonts (name.now ∷ [])) }
@@ -122,7 +122,7 @@ fn scan_font<R: Files + AllocGlobal, O: Sink>(
     ensures failures { TellsFailure result (O.failures out.old) (O.failures out.new) }
     ensures faults { IfErr result IsFaultOfPrinting }
 {
-    match file_verdict(rt, name, points) {
+    match file_verdict(rt, name, budget) {
         Ok(verdict) => {
             print_line(out, name, &verdict)?;
             Ok(verdict_status(&verdict))
@@ -134,16 +134,16 @@ fn scan_font<R: Files + AllocGlobal, O: Sink>(
     }
 }
 
-/// Prints a line for each of the font files with these names, for each of which so many points may
-/// be made, and returns the greatest exit status of them: 0 where each is accepted, 1 where one is
-/// refused.
+/// Prints a line for each of the font files with these names, for each of which this many points
+/// may be made, and returns the greatest exit status of them: 0 where each is accepted, 1 where one
+/// is refused.
 ///
 /// # Errors
 /// `ScanFault` and `ScanUnfinished` where the greatest status is 2 and 3, after the last line.
 pub(super) fn scan_fonts<R: Files + AllocGlobal, O: Sink>(
     rt: &R,
     fonts: &[String],
-    points: Option<u64>,
+    budget: Option<u64>,
     out: &mut O,
 ) -> Result<u8, CommandFault>
     ensures status { IfOk result (λ status. status ≤ 1) }
@@ -161,7 +161,7 @@ pub(super) fn scan_fonts<R: Files + AllocGlobal, O: Sink>(
 {
     let mut greatest = ACCEPTED;
     for font in fonts {
-        let status = scan_font(rt, font, points, out)?;
+        let status = scan_font(rt, font, budget, out)?;
         greatest = greatest.max(status);
     }
     match greatest {

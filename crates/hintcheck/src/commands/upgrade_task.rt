@@ -79,8 +79,8 @@ fn upgrade_named<R: Files + AllocGlobal>(rt: &R, old: &str, new: &str) -> Result
     Ok(count)
 }
 
-/// Upgrades the certificate in the file with the first name to the file with the second, and
-/// returns how many sections it has.
+/// Upgrades the certificate in the file with the first name to the file with the second, prints how
+/// many sections it has, and returns the exit status.
 pub(super) fn tell_upgrade<R: Files + AllocGlobal, O: Sink>(
     rt: &R,
     old: &str,

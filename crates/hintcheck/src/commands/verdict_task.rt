@@ -38,21 +38,21 @@ pub fn verdict_of<S: Source>(alloc: Global, source: &mut S) -> Result<Verdict, C
     Ok(font::verdict(alloc, &bytes)?)
 }
 
-/// Returns the verdict as `verdict_of` does, and makes at most so many points, where they are
+/// Returns the verdict as `verdict_of` does, and makes at most this many points, where they are
 /// bounded.
 fn verdict_within_points<S: Source>(
     alloc: Global,
     source: &mut S,
-    points: Option<u64>,
+    budget: Option<u64>,
 ) -> Result<Verdict, CommandFault>
     ensures exact { IfOk result (λ v. (bytes : List ℕ)
         × ReadsToEnd (S.remaining source.old) (S.remaining source.new) bytes
         × IsVerdictOn bytes v) }
     ensures fault { IfErr result IsNoWriteFault }
     ensures faults { IfErr result
-        (IsFaultWithin points (S.remaining source.old) (S.remaining source.new)) }
+        (IsFaultWithin budget (S.remaining source.old) (S.remaining source.new)) }
 {
-    let Some(most) = points else {
+    let Some(most) = budget else {
         return verdict_of(alloc, source);
     };
     let bytes = read_all(alloc, source)?;
@@ -60,11 +60,11 @@ fn verdict_within_points<S: Source>(
 }
 
 /// Returns the verdict on all programs of a font, whose bytes are those that are left in the file,
-/// and makes at most so many points, where they are bounded.
+/// and makes at most this many points, where they are bounded.
 fn verdict_on_bytes<L: Ledger, F: Read + Drop>(
     alloc: Global,
     file: F,
-    points: Option<u64>,
+    budget: Option<u64>,
     blank: Blank,
 ) -> Result<Verdict, CommandFault>
     requires { (blank.name ≡ L.name) × (blank.parts ≡ L.parts) × (0 < blank.parts) }
@@ -76,18 +76,18 @@ fn verdict_on_bytes<L: Ledger, F: Read + Drop>(
         × HasAll (F.remaining file) bytes × IsVerdictOn bytes verdict) }
     ensures fault { IfErr result IsNoWriteFault }
     ensures faults { IfErr result
-        (λ fault. IsFaultOfFontFile fault × IsWithin points fault) }
+        (λ fault. IsFaultOfFontFile fault × IsWithin budget fault) }
 {
     let mut source = Counted::<F, L>::new(file, blank);
-    verdict_within_points(alloc, &mut source, points)
+    verdict_within_points(alloc, &mut source, budget)
 }
 
-/// Returns the verdict on all programs of the font file with this name, and makes at most so many
-/// points, where they are bounded.
+/// Returns the verdict on all programs of the font file with this name, and makes at most this
+/// many points, where they are bounded.
 pub(super) fn file_verdict<R: Files + AllocGlobal>(
     rt: &R,
     name: &str,
-    points: Option<u64>,
+    budget: Option<u64>,
 ) -> Result<Verdict, CommandFault>
     ensures safe { IfOk result
         (λ verdict. verdict.refused ≡ [] → (bytes : List ℕ) × HoldSafeFont bytes) }
@@ -96,10 +96,10 @@ pub(super) fn file_verdict<R: Files + AllocGlobal>(
     ensures given { IfOk result (λ verdict. (bytes : List ℕ) × IsVerdictOn bytes verdict) }
     ensures fault { IfErr result IsNoWriteFault }
     ensures faults { IfErr result
-        (λ fault. IsFaultOfFontFile fault × IsWithin points fault) }
+        (λ fault. IsFaultOfFontFile fault × IsWithin budget fault) }
 {
     let Ok(file) = fs::open(rt, name) else {
         return Err(CommandFault::Read);
     };
-    verdict_on_bytes::<Brand, _>(rt.alloc(), file, points, Blank::new(1))
+    verdict_on_bytes::<Brand, _>(rt.alloc(), file, budget, Blank::new(1))
 }

@@ -52,7 +52,7 @@ fn refused(program: Name, fault: ProgramFault) -> Result<Outcome, AllocError>
 }
 
 /// Returns the font program's outcome.
-fn find_first<'a>(
+fn find_font_stage<'a>(
     alloc: Global,
     finder: &mut Finder,
     font: &Font<'a>,
@@ -77,7 +77,7 @@ fn find_first<'a>(
 }
 
 /// Returns the CVT program's outcome, in a font with this font program.
-fn find_second<'a>(
+fn find_cvt_stage<'a>(
     alloc: Global,
     finder: &mut Finder,
     font: &Font<'a>,
@@ -136,7 +136,7 @@ fn find_glyph(
 }
 
 /// Returns the next glyph program's outcome, or that there is none after the last one.
-fn find_third<'a>(
+fn find_glyph_stage<'a>(
     alloc: Global,
     finder: &mut Finder,
     font: &Font<'a>,
@@ -181,10 +181,10 @@ fn find_on<'a>(
     ensures spends { Spends budget.old budget.new }
 {
     match kept {
-        Kept::Start => find_first(alloc, finder, font, search, budget),
-        Kept::AfterFont(fpgm) => find_second(alloc, finder, font, fpgm, search, budget),
+        Kept::Start => find_font_stage(alloc, finder, font, search, budget),
+        Kept::AfterFont(fpgm) => find_cvt_stage(alloc, finder, font, fpgm, search, budget),
         Kept::Glyphs(fpgm, prep, id) => {
-            find_third(alloc, finder, font, fpgm, prep, id, search, budget)
+            find_glyph_stage(alloc, finder, font, fpgm, prep, id, search, budget)
         }
         Kept::Over => Ok(FoundStep {
             answer: None,

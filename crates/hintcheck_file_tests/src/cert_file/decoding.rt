@@ -59,7 +59,7 @@ fn bytes_and_two(alloc: Global, parts: &[&str]) -> Result<Vec<u8>, AllocError> {
     Ok(bytes)
 }
 
-/// Reads a section of so many bytes at the place 100, where two bytes follow it, and returns
+/// Reads a section of this many bytes at the place 100, where two bytes follow it, and returns
 /// whether its content is read, and no byte more.
 fn is_read(
     alloc: Global,

@@ -20,7 +20,7 @@ pub(crate) fn section_of(alloc: Global, parts: &[&str], form: Form) -> Option<Se
     decoded(alloc, steps, 0, form).0
 }
 
-/// Whether a section, read in a form and written so many bytes a call, has these parts.
+/// Whether a section, read in a form and written this many bytes a call, has these parts.
 fn is_written(alloc: Global, section: &Section, step: usize, parts: &[&str]) -> bool {
     let (told, bytes) = encoded(alloc, section, Taker::new(alloc, step, ALL));
     match bytes_of(alloc, parts) {

@@ -6,7 +6,7 @@ use hintcheck_test_fixtures::streams::{ALL, Steps, Taker};
 use std::alloc::Global;
 use tt_cert_file::Form;
 
-/// Returns what reading a header byte by byte tells, where a call fails after so many.
+/// Returns what reading a header byte by byte tells, where a call fails after this many.
 fn told_of(alloc: Global, digits: &str, calls: usize) -> Told {
     match bytes_of(alloc, &[digits]) {
         Ok(bytes) => told_of_header(Steps {

@@ -121,7 +121,7 @@ fn reads_words_of_texts(rt: HostRuntime) {
     }
 }
 
-/// Whether words ask for the scan of so many fonts, or for the explanation of this place.
+/// Whether words ask for the scan of this many fonts, or for the explanation of this place.
 fn asks_further<'a>(alloc: Global, words: &'a [&'a str], fonts: usize, place: Option<u32>) -> bool {
     match read_words(alloc, words) {
         Ok(Task::Scan { fonts: names, .. }) => names.len() == fonts,
@@ -153,10 +153,10 @@ fn reads_words_of_scans_and_explanations(rt: HostRuntime) {
 /// Returns how many points a task lets be made, if it limits them.
 fn most_points(task: &Task) -> Option<u64> {
     match task {
-        Task::Verdict { points, .. } => *points,
-        Task::Scan { points, .. } => *points,
-        Task::Find { points, .. } => *points,
-        Task::Check { points, .. } => *points,
+        Task::Verdict { budget, .. } => *budget,
+        Task::Scan { budget, .. } => *budget,
+        Task::Find { budget, .. } => *budget,
+        Task::Check { budget, .. } => *budget,
         _ => None,
     }
 }

@@ -26,7 +26,7 @@ fn refuses_other_letters(rt: HostRuntime) {
     }
 }
 
-/// Returns how many bytes so many zeros spell.
+/// Returns how many bytes this many zeros spell.
 fn spelled(alloc: Global, digits: usize) -> Result<Option<usize>, Fail> {
     let word = "0".repeat(alloc, digits)?;
     Ok(word_bytes(alloc, &word).ok().map(|bytes| bytes.len()))

@@ -9,8 +9,8 @@ use hintcheck_test_fixtures::stored_certificates::{FONT, FORM_4, UNDERFLOWING};
 use std::alloc::{AllocError, Global};
 use tt_font::Font;
 
-/// What a call tells, how many points of its budget were made, whether that is met, and how many
-/// bytes are left then.
+/// What a call tells, how many points of its budget were made, whether that is exceeded, and how
+/// many bytes are left then.
 type Answer = (Told, u64, bool, usize);
 
 /// Returns what the calls of a session answer, each within a budget of its own.
@@ -33,7 +33,7 @@ fn told_each(
     Ok(answers)
 }
 
-/// Returns what five calls of a session answer, all within one budget of so many points.
+/// Returns what five calls of a session answer, all within one budget of this many points.
 fn told_together(
     alloc: Global,
     font: &Font<'_>,
@@ -149,7 +149,7 @@ fn a_refused_program_within_its_budget(rt: HostRuntime) {
     assert_eq!(rt; answers[3], (Told::Budget, 0, false, 0));
 }
 
-/// Returns what five calls tell within one budget of so many points.
+/// Returns what five calls tell within one budget of this many points.
 fn told_within(most: u64) -> [Told; 5] {
     let budget = Told::Budget;
     match most {

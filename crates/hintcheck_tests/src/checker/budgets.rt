@@ -74,8 +74,8 @@ const REFUSED: [(Programs<'static>, Told, u64, u64); 6] = [
     ),
 ];
 
-/// Whether a call that needs so many points, and tells this with them, told what it should within
-/// a budget of so many, which counted what was made.
+/// Whether a call that needs this many points, and tells this with them, told what it should within
+/// a budget of this many, which counted what was made.
 fn is_right(told: Told, budget: &Budget, most: u64, needed: u64, want: Told) -> bool {
     if most < needed {
         return told == Told::Budget && budget.made() == most && budget.is_exceeded();
@@ -83,7 +83,7 @@ fn is_right(told: Told, budget: &Budget, most: u64, needed: u64, want: Told) -> 
     told == want && budget.made() == needed && !budget.is_exceeded()
 }
 
-/// Returns the first budget within which a verdict that needs so many points isn't told as it
+/// Returns the first budget within which a verdict that needs this many points isn't told as it
 /// should.
 fn first_wrong_verdict(alloc: Global, font: &[u8], needed: u64, want: Told) -> Option<u64> {
     for most in 0..=needed.saturating_add(1) {
@@ -96,7 +96,7 @@ fn first_wrong_verdict(alloc: Global, font: &[u8], needed: u64, want: Told) -> O
     None
 }
 
-/// Returns the first budget within which a search that needs so many points isn't told as it
+/// Returns the first budget within which a search that needs this many points isn't told as it
 /// should, or doesn't write a beginning of this certificate, or all of it with enough points.
 fn first_wrong_search(
     alloc: Global,
@@ -117,7 +117,7 @@ fn first_wrong_search(
     None
 }
 
-/// Returns the first budget within which a check by these bytes that needs so many points isn't
+/// Returns the first budget within which a check by these bytes that needs this many points isn't
 /// told as it should.
 fn first_wrong_check(
     alloc: Global,

@@ -77,7 +77,7 @@ fn helps(rt: HostRuntime) {
     }
 }
 
-/// Whether a write that fails after so many bytes is told on the error output, if there is room,
+/// Whether a write that fails after this many bytes is told on the error output, if there is room,
 /// and by the status; `whole` is what is printed where no write fails.
 fn tells_failed_write<R: Files + AllocGlobal>(
     rt: &R,

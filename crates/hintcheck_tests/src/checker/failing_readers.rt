@@ -23,7 +23,7 @@ use std::test::Fail;
 use tt_font::Font;
 use tt_stream::{Counted, Source};
 
-/// Returns these bytes, one a call, of which the one after so many others fails.
+/// Returns these bytes, one a call, of which the one after this many others fails.
 fn one_by_one(bytes: &[u8], calls: usize) -> Steps<'_> {
     Steps {
         bytes,

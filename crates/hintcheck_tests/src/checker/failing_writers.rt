@@ -13,7 +13,7 @@ use std::alloc::Global;
 use std::test::Fail;
 use tt_cert_file::Form;
 
-/// Takes one byte a call; the call after so many others fails, or takes nothing.
+/// Takes one byte a call; the call after this many others fails, or takes nothing.
 fn taker(alloc: Global, calls: usize, takes_nothing: bool) -> Taker {
     Taker {
         bytes: Vec::new(alloc),

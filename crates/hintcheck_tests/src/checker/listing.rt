@@ -107,7 +107,7 @@ fn tells_other_fonts(rt: HostRuntime) {
     assert!(rt; answers(&rt, &words, 2, "", "fault: 44 read\n"));
 }
 
-/// Whether a write that fails after so many bytes is told on the error output and by the status.
+/// Whether a write that fails after this many bytes is told on the error output and by the status.
 fn tells_failed_write(rt: &HostRuntime, words: &[&str], room: usize) -> bool {
     let (status, out, err) = printed(rt, words, room, ROOM);
     status == 2 && out.len() == room && err.as_slice() == b"fault: 45 write\n".as_slice()

@@ -29,7 +29,8 @@ fn run<L: Ledger, M: Ledger, R: Files + AllocGlobal>(
     (status, out.into_inner().bytes, err.into_inner().bytes)
 }
 
-/// Returns the exit status at these words, and what writers with room for so many bytes have taken.
+/// Returns the exit status at these words, and what writers with room for this many bytes have
+/// taken.
 pub(crate) fn printed<R: Files + AllocGlobal>(
     rt: &R,
     words: &[&str],

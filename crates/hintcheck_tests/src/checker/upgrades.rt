@@ -111,7 +111,7 @@ struct Case<'a> {
     written: Option<usize>,
 }
 
-/// Returns a certificate of a form, of which so many sections are there.
+/// Returns a certificate of a form, of which this many sections are there.
 fn certificate(
     alloc: Global,
     start: &str,

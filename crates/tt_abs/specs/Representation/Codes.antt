@@ -14,7 +14,7 @@ cell_of_code n = if nat_eq n 32768 then Unknown else Known (cast_signed w16 n)
 abbrev pub HasNoCode : Cell → Type 0
 HasNoCode cell = (code : ℕ) → code < 2 ^ 16 → cell_of_code code ≢ cell
 
--- each of the new codes is that of the least cell above those of the two codes at its place
+-- each of the new codes is that of the least cell above those of the two codes at its position
 abbrev pub AreLeastCodes : List ℕ → List ℕ → List ℕ → Type 0
 AreLeastCodes mine theirs new =
     (k : ℕ) → k < length mine

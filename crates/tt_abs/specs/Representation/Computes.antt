@@ -10,12 +10,13 @@ use Rattle.tt_abs.specs.declared.cells.Cell.{Cell}
 use Rattle.tt_abs.specs.Cells.{Abstract}
 use Rattle.tt_abs.specs.Transfers.{exact_cell, truth_cell, of_known, of_both_known, of_one_cell, of_two_cells, lt_cells, le_cells, and_cells, or_cells}
 
+-- what ABS, NEG and NOT compute of a cell
 abbrev pub one_result : Arithmetic → Cell → Cell
 one_result Abs = of_known (λ x. exact_cell (absolute x))
 one_result Neg = of_known (λ x. exact_cell (neg_ℤ x))
 one_result _ = of_known (λ x. truth_cell (not (is_true x)))
 
--- of the second element and the top
+-- what the others compute of the second element and the top
 abbrev pub two_results : Arithmetic → Cell → Cell → Cell
 two_results Add = of_both_known (λ x y. exact_cell (x +ℤ y))
 two_results Sub = of_both_known (λ x y. exact_cell (x -ℤ y))

@@ -11,6 +11,7 @@ use Rattle.tt_abs.specs.Representation.EntryFacts.{listed-all, listed-named}
 
 -- Functions: the machine's are in any order.
 
+-- a list of functions is below another exactly if the other covers all that the one covers
 pub functions_below_is_coverage : (a b : List (ℕ × ℕ))
     → EntriesBelow a b
     ↔ ((functions : List (ℕ × ℕ)) → CoversFunctions a functions → CoversFunctions b functions)
@@ -52,6 +53,7 @@ below_step : (o : Option ℤ) (v : ℤ) → unwrap_or o (pos 0) ≡ v → unwrap
 below_step None v zero one = cc
 below_step (Some w) v zero one = ap Some zero
 
+-- a list of storage cells is below another exactly if the other covers all that the one covers
 pub storage_below_is_coverage : (a b : List (ℕ × ℤ)) → EntriesInRange IsNumber a
     → EntriesBelow a b
     ↔ ((area : ℕ → ℤ) → CoversStorage (storage_of a) area → CoversStorage (storage_of b) area)

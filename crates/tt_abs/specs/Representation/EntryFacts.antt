@@ -47,6 +47,7 @@ with_step n v e es k false false is_less is_same ih = elim (cases_eq e.0 k) [
       ∙ ap (λ o. if nat_eq n k then Some v else o) (sym (listed-there e es k other))
 ]
 
+-- what is listed after an entry was put
 pub listed-with : {V : Type 0} (n : ℕ) (v : V) (es : List (ℕ × V)) (k : ℕ)
     → listed (with_entry n v es) k ≡ (if nat_eq n k then Some v else listed es k)
 listed-with n v [] k = refl
@@ -79,6 +80,7 @@ one_branch : {X : Type 0} (b : Bool) (x : X) → x ≡ (if b then x else x)
 one_branch true x = refl
 one_branch false x = refl
 
+-- what is listed after an entry was removed
 pub listed-without : {V : Type 0} (n : ℕ) (es : List (ℕ × V)) (k : ℕ)
     → listed (without_entry n es) k ≡ (if nat_eq n k then None else listed es k)
 listed-without n [] k = one_branch (nat_eq n k) None
@@ -92,6 +94,7 @@ listed-named [] n = refl
 listed-named (f ∷ fs) n =
     ap (λ (o : Option ℕ). if nat_eq f.0 n then Some f.1 else o) (listed-named fs n)
 
+-- which body a function has after an entry was put
 pub named-with : (n b : ℕ) (fs : List (ℕ × ℕ)) (k : ℕ)
     → body_named (with_entry n b fs) k ≡ (if nat_eq n k then Some b else body_named fs k)
 named-with n b fs k =
@@ -105,6 +108,7 @@ cell_branch : (b : Bool) (o : Option ℤ) (p : Option ℤ)
 cell_branch true o p = refl
 cell_branch false o p = refl
 
+-- what is known of a storage cell after one became known or unknown
 pub storage-with : (i : ℕ) (c : Cell) (es : List (ℕ × ℤ)) (k : ℕ)
     → storage_of (with_cell i c es) k ≡ with_stored i c (storage_of es) k
 storage-with i (Known z) es k =
@@ -112,7 +116,7 @@ storage-with i (Known z) es k =
 storage-with i Unknown es k =
     ap known_or_not (listed-without i es k) ∙ cell_branch (nat_eq i k) None (listed es k)
 
--- as areas
+-- the same of the whole storage area
 pub storage-with_cell : (i : ℕ) (c : Cell) (es : List (ℕ × ℤ))
     → storage_of (with_cell i c es) ≡ with_stored i c (storage_of es)
 storage-with_cell i c es = λ j k. storage-with i c es k j

@@ -1,5 +1,5 @@
 -- What the code does in place, read as the outcome on cells. (Representation: no public clause
--- cites it except through these words' definitions.)
+-- cites it.)
 use Rattle.std.specs.Prelude.{◌≡◌, ℕ, ℤ, ◌+◌, List, ◌∷◌, Ok, Err, Bool, true, false, not, drop, length, pos, suc, take}
 use Rattle.tt_code.specs.Changes.{all_updated, updated}
 use Rattle.tt_code.specs.Refusals.{Tested}
@@ -36,11 +36,11 @@ Restacks does old new =
 abbrev pub RefusesStack : (Abstract → Tested Abstract) → List Cell → Reason → Type 0
 RefusesStack does old r = (a : Abstract) → does (record a { stack = old }) ≡ Err r
 
--- the same, where the answer is a reason; nothing is said where memory ran out
+-- the same, where the answer is a refusal; where memory ran out, nothing has to hold
 abbrev pub IsStackRefusedFor : (Abstract → Tested Abstract) → List Cell → Refusal → Type 0
 IsStackRefusedFor does old e = ForReason e (RefusesStack does old)
 
--- the top names this cell, over which so many lie besides the top
+-- the top names this cell; between the two are this many cells
 abbrev pub IsNamedCell : List Cell → ℕ × Cell → Type 0
 IsNamedCell stack r =
     (k : Cell) × (below : List Cell) × (stack ≡ k ∷ below) × (known k ≡ Ok (pos (suc r.0)))
@@ -74,7 +74,7 @@ line_of row = record {
 abbrev pub plain_at : Setting → State → Row → Tested Abstract
 plain_at setting state line = plain_cells (setting_of setting) (abstract_of state) (line_of line)
 
--- one state becomes another by a change, which reads so many cells of the old stack
+-- one state becomes another by a change, which reads the first `count` cells of the old stack
 abbrev pub ChangesTo : ℕ → Update → State → State → Type 0
 ChangesTo count change old new =
     abstract_of new ≡ record (abstract_of old) {
@@ -88,7 +88,7 @@ ChangesAllTo count changes old new =
       registers = all_updated cells (take count old.stack) changes (abstract_of old).registers;
     }
 
--- the cell that is pushed where so many cells of the stack are read
+-- the cell that is pushed where the first `count` cells of the stack are read
 abbrev pub pushed_from : State → ℕ → Pushed → Cell
 pushed_from state count pushed =
     cell_pushed (take count state.stack) (storage_of state.storage) pushed
@@ -105,14 +105,14 @@ abbrev pub holds_when : Bool → ℤ → Bool
 holds_when true = is_true
 holds_when false = λ e. not (is_true e)
 
--- whatever the stack, so deep, and whatever else is known: it leads by these moves, with the stack
--- left
+-- with any stack of this depth, and whatever else is known, it leads by these moves and leaves the
+-- stack
 abbrev pub Leads : (List Cell → Abstract → Tested (List Next)) → Point → ℕ → Moves → Type 0
 Leads does point depth moves =
     (stack : List Cell) (a : Abstract) → length stack ≡ depth
     → does stack a ≡ Ok (nexts_of (frames_of point) moves (record a { stack = stack }))
 
--- and here it is refused for this reason
+-- with any stack of this depth, and whatever else is known, it is refused for this reason
 abbrev pub LeadsNowhere : (List Cell → Abstract → Tested (List Next)) → ℕ → Reason → Type 0
 LeadsNowhere does depth r =
     (stack : List Cell) (a : Abstract) → length stack ≡ depth → does stack a ≡ Err r
@@ -135,13 +135,13 @@ jump_if_at setting point asked state =
     jumps_if_cells (setting_of setting) (frames_of point) point.offset (abstract_of state)
     (holds_when asked)
 
--- a jump by the cell leads to the offset, whatever the stack, so deep
+-- with any stack of this depth, a jump by the cell leads to the offset
 abbrev pub JumpsTo : Setting → Point → Cell → ℕ → ℕ → Type 0
 JumpsTo setting point by depth n =
     (stack : List Cell) → length stack ≡ depth
     → jump_target (setting_of setting) (frames_of point) point.offset by stack ≡ Ok n
 
--- and here it is refused for this reason
+-- with any stack of this depth, a jump by the cell is refused for this reason
 abbrev pub JumpsNowhere : Setting → Point → Cell → ℕ → Reason → Type 0
 JumpsNowhere setting point by depth r =
     (stack : List Cell) → length stack ≡ depth
@@ -151,7 +151,7 @@ JumpsNowhere setting point by depth r =
 abbrev pub called_at : Setting → State → Cell → Tested ℕ
 called_at setting state cell = called_cell (setting_of setting) state.functions cell
 
--- a call of the body at the point, for so many turns, with this stack left
+-- a call of the body at the point, for this many turns, with this stack left
 abbrev pub enter_at : Setting → Point → ℕ → ℕ → List Cell → Abstract → Tested (List Next)
 enter_at setting point body turns stack a =
     enters_cells (setting_of setting) (frames_of point) point.offset a body stack turns
@@ -175,7 +175,7 @@ DoesTo setting point bytes old new moves =
     (code : ℕ) (rest : List ℕ) → bytes ≡ code ∷ rest
     → LeadsBy point (done_at setting point old code rest) moves new
 
--- and here it is refused for this reason
+-- the instruction of these bytes is refused for this reason
 abbrev pub IsDoingRefusedFor : Setting → Point → List ℕ → State → Refusal → Type 0
 IsDoingRefusedFor setting point bytes old e = ForReason e
     (λ r. (code : ℕ) (rest : List ℕ) → bytes ≡ code ∷ rest

@@ -21,35 +21,35 @@ use Rattle.tt_abs.specs.Transfers.{is_below_in, is_point_in, known_count, take_c
 abbrev pub TakesTo : List Cell → ℕ → Tested (Taking Cell) → Type 0
 TakesTo stack n result = (front : List Cell) × (result ≡ Ok (front, drop n stack))
 
--- what was taken so far, and what is still to be taken
+-- the outcome is what was taken so far, and then what is still to be taken from the cells below
 abbrev pub GoesOn : Tested (Taking Cell) → List Cell → (List Cell → Tested (Taking Cell)) → Type 0
 GoesOn result below more = (front : List Cell) × (result ≡ then_take (Ok (front, below)) more)
 
--- from under the first cells the operands are taken, with which n cells are taken in all
+-- the operands are taken from under the first `taken` cells, and with them n cells are taken in all
 abbrev pub TakesFrom : List Cell → ℕ → (List Cell → Tested (Taking Cell)) → ℕ → Type 0
 TakesFrom stack taken take n = TakesTo stack n (take (drop taken stack))
 
--- from under the first cells nothing is taken, for this reason
+-- nothing is taken from under the first `taken` cells, for this reason
 abbrev pub IsTakingRefused : List Cell → ℕ → (List Cell → Tested (Taking Cell)) → Reason → Type 0
 IsTakingRefused stack taken take r = take (drop taken stack) ≡ Err r
 
--- the cell under the first ones is this number, and so many cells are taken with it
+-- the cell under the first `taken` ones is this number, and this many cells are taken with it
 abbrev pub IsNumberUnder : List Cell → ℕ → ℤ × ℕ → Type 0
 IsNumberUnder stack taken r =
     (below : List Cell) × (drop taken stack ≡ Known r.0 ∷ below) × (r.1 ≡ taken + 1)
 
--- no number is under the first cells, so that each test of it fails for this reason
+-- no number is under the first `taken` cells, so that each test of it fails for this reason
 abbrev pub NoNumberUnder : List Cell → ℕ → Reason → Type 0
 NoNumberUnder stack taken r =
     (passes : ℤ → Bool) (other : Reason) → tested_cell passes other (drop taken stack) ≡ Err r
 
--- the cell under the first ones is this count, and so many cells are taken with it
+-- the cell under the first `taken` ones is this count, and this many cells are taken with it
 abbrev pub IsCountUnder : List Cell → ℕ → ℕ × ℕ → Type 0
 IsCountUnder stack taken r =
     (c : Cell) × (below : List Cell) × (drop taken stack ≡ c ∷ below) × (known_count c ≡ Ok r.0)
     × (r.1 ≡ taken + 1)
 
--- no count is under the first cells, so that no pairs are taken by it, for this reason
+-- no count is under the first `taken` cells, so that no pairs are taken by it, for this reason
 abbrev pub NoCountUnder : List Cell → ℕ → Reason → Type 0
 NoCountUnder stack taken r =
     (one : List Cell → Tested (Taking Cell)) → pairs known_count one (drop taken stack) ≡ Err r
@@ -66,12 +66,12 @@ one_cvt cvt = one_index cvt reason.Cvt
 abbrev pub one_zone : Setting → List Cell → Tested (Taking Cell)
 one_zone setting = tested_cell (is_zone (setting_of setting)) reason.Zone
 
--- one contour of each zone that may be meant
+-- one contour of each zone that the zone cell covers
 abbrev pub one_contour : Setting → ZoneCell → List Cell → Tested (Taking Cell)
 one_contour setting zone =
     tested_cell (is_below_in (contours_in (setting_of setting)) zone) reason.Contour
 
--- one point of each zone that counts
+-- one point of each zone in which it is tested
 abbrev pub one_point : Setting → Cells → Within → List Cell → Tested (Taking Cell)
 one_point setting graphics within =
     tested_cell (is_point_in (setting_of setting) graphics within) reason.Point

@@ -1,4 +1,4 @@
--- The walk through the points of a certificate.
+-- The check's walk through the points of a certificate.
 use Rattle.std.specs.Prelude.{◌≡◌, ◌↔◌, ℕ, ◌+◌, ◌<◌, ◌≤◌, ◌^◌, ◌⊎◌, Option, Some, None, IfSome, IsTrue, List, [], ◌∷◌, ◌++◌, length, reverse, slice_get}
 use Rattle.std.specs.List.{All}
 use Rattle.std.specs.List.Sorted.{IsStrictlySortedBy}
@@ -47,22 +47,22 @@ abbrev pub IsEntry : Contents → Option (ℕ × ℕ × Bor State) → Type 0
 IsEntry contents entry =
     IfSome entry (λ (e : ℕ × ℕ × Bor State). states_of contents.states (e.0, e.1) ≡ Some e.2.now)
 
--- the state that comes next is this one, and is at this context and offset
+-- the next listed state is this one, and is at this context and offset
 abbrev pub IsComing : Option (ℕ × ℕ × Bor State) → ℕ → ℕ → State → Type 0
 IsComing None context offset state = ⊥
 IsComing (Some e) context offset state = (e.0 ≡ context) × (e.1 ≡ offset) × (e.2.now ≡ state)
 
--- the state that comes next, if there is one, comes after this context and offset
+-- the next listed state, if there is one, comes after this context and offset
 abbrev pub IsComingAfter : Option (ℕ × ℕ × Bor State) → ℕ × ℕ → Type 0
 IsComingAfter None key = Unit {0}
 IsComingAfter (Some e) key = IsLess key (e.0, e.1)
 
--- the state that comes next, if there is one, is this one
+-- the next listed state, if there is one, is this one
 abbrev pub IsNextState : Option (ℕ × ℕ × Bor State) → State → Type 0
 IsNextState entry state = IfSome entry (λ (e : ℕ × ℕ × Bor State). e.2.now ≡ state)
 
--- the walk's calls are those of its context, what comes next is a state of the family, and what was
--- made is that state where the walk says so
+-- the walk's calls are those of its context, the next listed state is one of the family, and the
+-- walk's state is that one where the walk says so
 pub record IsWalk (contents : Contents) (walk : Cursor) : Type 0 where
   pub there : walk.context < length contents.contexts
   pub frames : walk.frames.items ≡ reverse (frames_at contents.contexts walk.context)
@@ -82,7 +82,7 @@ pub record AreToCome (contents : Contents) (next : Option (ℕ × ℕ × Bor Sta
   pub ascends : IsStrictlySortedBy place_cmp (keys_of contents.states)
   pub found : All (λ e. states_of contents.states e.0 ≡ Some e.1) contents.states
 
--- How a state is covered at a place to which it goes, or added there: by the state that comes next,
+-- How a state is covered at a place to which it goes, or added there: by the next listed state,
 -- which is the same one; by one that covers it; or by none, where none needs to be.
 abbrev pub IsMetBy : (Place → Option State) → Type 0 → Option (ℕ × ℕ × Bor State) → Place → State
     → Coverage → Type 0
@@ -91,7 +91,7 @@ IsMetBy family MayBeLeftOut next q t coverage.Next =
 IsMetBy family MayBeLeftOut next q t coverage.Listed = CoversAt state_order family q t
 IsMetBy family MayBeLeftOut next q t coverage.Added = (family q ≡ None) × MayBeLeftOut
 
--- one answer for two: that a state is added comes before all, otherwise how the first is covered
+-- two coverages as one: `Added` if either is, otherwise the first
 abbrev pub coverage_of_both : Coverage → Coverage → Coverage
 coverage_of_both coverage.Added other = coverage.Added
 coverage_of_both coverage.Next coverage.Added = coverage.Added
@@ -120,7 +120,7 @@ AreMetBy family fs after next nexts t coverage.Listed = AreCovered family nexts 
 AreMetBy family fs after next nexts t coverage.Added =
     AreMet family (IsAfter fs after) nexts t × IsLeftOut family fs after nexts
 
--- where the state that comes next is after this offset, the certificate has no state there
+-- where the next listed state comes after this offset, the certificate has no state there
 abbrev pub IsUnlisted : Contents → Option (ℕ × ℕ × Bor State) → ℕ → ℕ → Type 0
 IsUnlisted contents next context offset =
     IsComingAfter next (context, offset) → states_of contents.states (context, offset) ≡ None
@@ -233,17 +233,17 @@ abbrev pub place_of_way : Contents → Cursor → Move → Place
 place_of_way contents walk way =
     (frames_after (calls_of contents walk) way, offset_after (calls_of contents walk) way)
 
--- what was made, at the places to which moves lead
+-- the walk's state, at the places to which moves lead
 abbrev pub nexts_made : Contents → Cursor → Moves → List Next
 nexts_made contents walk moves = nexts_of (calls_of contents walk) moves (abstract_of walk.made)
 
--- how what was made is covered at a place, where it may be left out if that is at the offset
+-- how the walk's state is covered at a place, where it may be left out if that is at the offset
 -- `after`
 abbrev pub IsMadeMet : Contents → Cursor → Option ℕ → Place → Coverage → Type 0
 IsMadeMet contents walk after q =
     IsMetBy (family_of contents) (IsAfter (calls_of contents walk) after q) walk.next q walk.made
 
--- the fault names the place, at which what was made isn't covered
+-- the fault names the place, at which the walk's state isn't covered
 abbrev pub NamesGapMade : Contents → Cursor → Option ℕ → Place → ProgramFault → Type 0
 NamesGapMade contents walk after q =
     NamesGap (family_of contents) (IsAfter (calls_of contents walk) after q) q walk.made
@@ -252,7 +252,7 @@ NamesGapMade contents walk after q =
 abbrev pub MayTurn : List Frame → Moves → Type 0
 MayTurn fs moves = (i : ℕ) → slice_get (ways_of moves) i ≡ Some NextTurn → HasNextTurn fs
 
--- how what was made is covered at all places to which moves lead
+-- how the walk's state is covered at all places to which moves lead
 abbrev pub AreMadeMet : Contents → Cursor → Option ℕ → Moves → Coverage → Type 0
 AreMadeMet contents walk after moves =
     AreMetBy (family_of contents) (calls_of contents walk) after walk.next
@@ -265,7 +265,8 @@ NamesFirstGapMade contents walk after moves =
     (IsFirstGap (family_of contents) (IsAfter (calls_of contents walk) after)
     (nexts_made contents walk moves) walk.made)
 
--- where a state may be left out, the certificate has none unless that comes next or before
+-- where a state may be left out, the certificate has none unless that is the next listed one or
+-- comes before it
 abbrev pub IsUnlistedAfter : Contents → Cursor → Option ℕ → Type 0
 IsUnlistedAfter contents walk after =
     (end : ℕ) → after ≡ Some end → IsUnlisted contents walk.next walk.context end
@@ -274,13 +275,13 @@ IsUnlistedAfter contents walk after =
 abbrev pub IsPastStart : Option ℕ → Type 0
 IsPastStart after = (end : ℕ) → after ≡ Some end → 0 < end
 
--- what was made is sound at the walk's point, and what comes of it is covered or carried
+-- the walk's state is sound at the walk's point, and what comes of it is covered or carried
 abbrev pub PassesPoint : Setting → Listing → Contents → Cursor → Cursor → ℕ → Type 0
 PassesPoint s listing contents old new offset =
     IsPassed s (family_of contents) (MayLeaveOut listing s (point_of contents old offset))
     (point_of contents old offset) old.made new.carried new.made
 
--- the fault names what is broken first of what was made there
+-- the fault names what is broken first of the walk's state there
 abbrev pub NamesBreak : Setting → Listing → Contents → Cursor → ℕ → ProgramFault → Type 0
 NamesBreak s listing contents walk offset =
     Names

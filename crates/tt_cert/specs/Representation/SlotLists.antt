@@ -1,4 +1,4 @@
--- Points in lists, one for each context, and the other points beside them, as one list by place.
+-- Points in lists, one for each context, and the other points in a tree, as one list by place.
 use Rattle.std.specs.Prelude.{◌≡◌, ℕ, suc, ◌≤◌, ◌<◌, Bool, true, false, Option, Some, None, List, [], ◌∷◌, ◌++◌, length, slice_index_or}
 use Rattle.std.specs.Ordering.{is_lt}
 use Rattle.std.specs.List.{AllByRecursion}
@@ -32,7 +32,7 @@ abbrev pub merged : List Point → List Point → List Point
 merged points [] = points
 merged points (e ∷ es) = insert_entry place_cmp (merged points es) e.0 e.1
 
--- the points of the lists and those beside them, by place
+-- the points of the lists and those of the tree, by place
 abbrev pub points_in : List Offsets → List Point → List Point
 points_in lists rest = merged (lists_points 0 lists) rest
 
@@ -50,8 +50,8 @@ pub record AreApart (points rest : List Point) : Type 0 where
   pub rest_ascends : IsStrictlySortedBy place_cmp (keys_of rest)
   pub once : (p : ℕ × ℕ) (n : ℕ) → states_of rest p ≡ Some n → states_of points p ≡ None
 
--- the offsets of each list ascend, and a point beside the lists comes after none of them: its list has
--- a greater offset, and not its own
+-- the offsets of each list ascend, and the list of a point in the tree has a greater offset, and
+-- not the point's own
 pub record AreSlotLists (lists : List Offsets) (rest : List Point) : Type 0 where
   pub rise : (c : ℕ) → Ascends (list_of lists c)
   pub rest_ascends : IsStrictlySortedBy place_cmp (keys_of rest)
@@ -75,7 +75,7 @@ abbrev pub with_first : Option Point → List Point → List Point
 with_first None es = []
 with_first (Some e) es = e ∷ es
 
--- whether the first point beside the lists comes before the first point of the lists
+-- whether the first point of the tree comes before the first point of the lists
 abbrev pub comes_first : Option Point → Option Point → Bool
 comes_first None first = false
 comes_first (Some other) None = true

@@ -87,7 +87,7 @@ pub record FillsRest (old new : Option (List ℕ)) (held read : ℕ)
 abbrev pub cells_at : List Cell → ℕ → Input → Answer (List Cell)
 cells_at before n i = list_at (λ _. cell_at) before n i
 
--- so many cells after those before them that there are this many in all
+-- as many cells after those before them as make this many in all
 abbrev pub cells_up_to : List Cell → ℕ → Input → Answer (List Cell)
 cells_up_to before count i = cells_at before (count - length before) i
 

@@ -6,8 +6,8 @@ use Rattle.tt_abs.specs.declared.cells.Cell.{Cell}
 use Rattle.tt_cert_file.specs.Text.{cell_text}
 use Rattle.tt_cert_file.specs.declared.stack_text.StackText.{StackText}
 
--- how many bytes the texts of so many of the lowest cells have, where the text of each cell ends at
--- its end
+-- how many bytes the texts of this many of the lowest cells have, where the text of each cell ends
+-- at its end
 abbrev pub end_of : List ℕ → ℕ → ℕ
 end_of ends zero = 0
 end_of ends (suc k) = slice_index ends k

@@ -8,7 +8,7 @@ use Rattle.tt_cert_file.specs.declared.states.LastState.{LastState}
 use Rattle.tt_cert_file.specs.Representation.Blocks.{AreKept}
 use Rattle.tt_cert_file.specs.Representation.KeptTexts.{IsStackText, end_of}
 
--- the texts of so many of the lowest cells, and at most of so many, are read ahead
+-- the texts of the lowest `count` cells, which are at most `most`, are read ahead
 pub record AreAhead (text ends ahead : List ℕ) (most count : ℕ) : Type 0 where
   pub few : count ≤ most
   pub kept : count ≤ length ends

@@ -1,5 +1,5 @@
--- What the finder keeps on the way for a subject: a setting, with the functions that are known where
--- its program starts.
+-- What the finder keeps on the way for a subject: a setting, with the functions that are known
+-- where its program starts.
 use Rattle.std.specs.Prelude.{ℕ, Bool, Option, [], ◌∷◌}
 use Rattle.tt_abs.specs.declared.instruction.Stepped.{Stepped}
 use Rattle.tt_abs.specs.declared.moves.Moves.{Moves}

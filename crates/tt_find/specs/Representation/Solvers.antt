@@ -172,6 +172,14 @@ pub record HasRisen (old new : Solver) : Type 0 where
   pub worklist : length new.worklist + old.changes ≤ length old.worklist + new.changes
   pub changes : old.changes ≤ new.changes
 
+-- how many updates were made: changes of kept states, and states that went over a point
+abbrev pub updates_of : Solver → ℕ
+updates_of solver = solver.changes + solver.passes
+
+-- at most this many updates were made more
+abbrev pub MakesAtMost : ℕ → Solver → Solver → Type 0
+MakesAtMost more old new = updates_of new ≤ updates_of old + more
+
 -- what waited still waits, and where there was a change this point does; nothing else waits
 pub record WaitsMore (old new : List (ℕ × ℕ)) (point : ℕ × ℕ) (changed : Bool) : Type 0 where
   pub more : (q : ℕ × ℕ) → has_point old q ≡ true → has_point new q ≡ true

@@ -23,14 +23,14 @@ components_in table = component_total (glyphs_of table) table.count
 abbrev pub AreWhole : GlyphTable → Type 0
 AreWhole table = (id : ℕ) → id < table.count → is_some (program_of (glyphs_of table id)) ≡ true
 
--- the condition that a glyph's bytes end too early
+-- the bytes of some glyph end too early
 abbrev pub truncated_in : GlyphTable → Condition
 truncated_in table = glyph_fault table.count (glyphs_of table)
 
--- the condition that a glyph is refused by its components, points or contours
+-- the components, points or contours of some glyph are at fault
 abbrev pub refused_in : GlyphTable → Condition
 refused_in table = composite_fault table.count (outlines_in table)
 
--- the first of the two that holds
+-- the first of these two conditions that holds
 abbrev pub fault_in : GlyphTable → Condition
 fault_in table = glyphs_fault table.count (glyphs_of table) (outlines_in table)

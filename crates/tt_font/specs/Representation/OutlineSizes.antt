@@ -10,8 +10,8 @@ use Rattle.tt_font.specs.Representation.GlyphTables.{outlines_in}
 abbrev pub has_parts : Outline → Bool
 has_parts outline = nat_lt 0 (length (parts outline))
 
--- what refuses a glyph by its chains after k iterations: a chain of at most k steps leads out, or
--- one of k + 1 steps starts
+-- whether a glyph's chains are at fault after k iterations: a chain of at most k steps leads out of
+-- the font, or one of k + 1 steps starts
 unfoldable pub is_unresolved : ℕ → (ℕ → Outline) → ℕ → ℕ → Bool
 is_unresolved count outlines zero id = has_parts (outlines id)
 is_unresolved count outlines (suc k) id =
@@ -77,7 +77,7 @@ pub record SizesAre (count : ℕ) (outlines : ℕ → Outline) (k n : ℕ) (size
 abbrev pub SizesAfter : GlyphTable → ℕ → List OutlineSize → Type 0
 SizesAfter glyphs k sizes = SizesAre glyphs.count (outlines_in glyphs) k glyphs.count sizes
 
--- the size after the last iteration refuses its glyph
+-- whether a size after the last iteration is a fault of its glyph
 abbrev pub size_refuses : OutlineSize → Bool
 size_refuses size = size.unresolved || (nat_lt 65535 size.points || nat_lt 65535 size.contours)
 

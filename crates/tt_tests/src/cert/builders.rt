@@ -1,7 +1,8 @@
 //! Builders: what they hold, and what they refuse.
 
 use hintcheck_test_fixtures::families::{
-    CALL, Context, Filling, Row, add, add_all, fill, finished_if, leads_through, put, put_all,
+    CALL, Context, Listed, ListedFamily, add, add_all, fill, finished_if, leads_through, put,
+    put_all,
 };
 use std::alloc::Global;
 use tt_abs::Cell::{Known, Unknown};
@@ -38,7 +39,7 @@ fn has_stacks(builder: &Builder, stacks: &[Seen<'_>]) -> bool {
 /// States that are put one after the other, how each is joined, and what the builder holds then.
 struct Puts<'a> {
     name: &'a str,
-    rows: &'a [(Row<'a>, Result<Joined, JoinFault>)],
+    states: &'a [(Listed<'a>, Result<Joined, JoinFault>)],
     points: u32,
     stacks: &'a [Seen<'a>],
 }
@@ -46,7 +47,7 @@ struct Puts<'a> {
 const PUTS: [Puts<'static>; 2] = [
     Puts {
         name: "states at one point",
-        rows: &[
+        states: &[
             ((0, 5, &[1, 2]), Ok(Joined::New)),
             ((0, 5, &[1, 2]), Ok(Joined::Same)),
             ((0, 5, &[1, 3]), Ok(Joined::Changed)),
@@ -56,7 +57,7 @@ const PUTS: [Puts<'static>; 2] = [
     },
     Puts {
         name: "states of other depths",
-        rows: &[
+        states: &[
             ((0, 5, &[1, 2]), Ok(Joined::New)),
             ((0, 5, &[]), Err(JoinFault::DepthMismatch)),
             ((0, 4, &[]), Ok(Joined::New)),
@@ -68,8 +69,8 @@ const PUTS: [Puts<'static>; 2] = [
 
 /// Whether the states are joined as is wanted.
 fn joins(alloc: Global, builder: &mut Builder, puts: &Puts<'_>) -> bool {
-    for (row, want) in puts.rows {
-        if put(alloc, builder, &[], *row) != *want {
+    for (listed, want) in puts.states {
+        if put(alloc, builder, &[], *listed) != *want {
             return false;
         }
     }
@@ -86,15 +87,15 @@ fn joined_states(rt: HostRuntime) {
 }
 
 /// States in the main program and in a context, whose last frame is a call at 5.
-const FIRST: Filling<'static> = Filling {
+const FIRST: ListedFamily<'static> = ListedFamily {
     contexts: &[(0, Frame { call: 5, ..CALL })],
-    rows: &[(0, 7, &[1, 2]), (1, 3, &[1, 2]), (1, 2, &[])],
+    states: &[(0, 7, &[1, 2]), (1, 3, &[1, 2]), (1, 2, &[])],
 };
 
 /// Others at the same points, whose call is at 4.
-const SECOND: Filling<'static> = Filling {
+const SECOND: ListedFamily<'static> = ListedFamily {
     contexts: &[(0, Frame { call: 4, ..CALL })],
-    rows: &[(0, 7, &[1, 9]), (1, 3, &[1, 9]), (1, 2, &[])],
+    states: &[(0, 7, &[1, 9]), (1, 3, &[1, 9]), (1, 2, &[])],
 };
 
 /// What a builder should hold.
@@ -173,9 +174,9 @@ fn has_points(builder: &Builder, points: &[(u32, u32)]) -> bool {
 }
 
 /// Points of the main program and of a context out of order, some of them twice.
-const OUT_OF_ORDER: Filling<'static> = Filling {
+const OUT_OF_ORDER: ListedFamily<'static> = ListedFamily {
     contexts: &[(0, Frame { call: 2, ..CALL })],
-    rows: &[
+    states: &[
         (1, 5, &[1, 2]),
         (1, 3, &[1, 2]),
         (1, 9, &[1, 2]),
@@ -227,9 +228,9 @@ fn points_out_of_order(rt: HostRuntime) {
 }
 
 /// Points of a context out of order.
-const BEFORE_A_CLEAR: Filling<'static> = Filling {
+const BEFORE_A_CLEAR: ListedFamily<'static> = ListedFamily {
     contexts: &[(0, Frame { call: 2, ..CALL })],
-    rows: &[
+    states: &[
         (1, 5, &[1, 2]),
         (1, 3, &[1, 2]),
         (1, 9, &[1, 2]),
@@ -238,7 +239,7 @@ const BEFORE_A_CLEAR: Filling<'static> = Filling {
 };
 
 /// Points of the same context and of the main program.
-const AFTER_A_CLEAR: [Row<'static>; 5] = [
+const AFTER_A_CLEAR: [Listed<'static>; 5] = [
     (1, 2, &[1, 2]),
     (1, 4, &[1, 2]),
     (1, 3, &[1, 2]),

@@ -1,15 +1,15 @@
 //! Certificates: their contexts and points, in order.
 
-use hintcheck_test_fixtures::families::{CALL, Context, Filling, certificate, leads_through};
+use hintcheck_test_fixtures::families::{CALL, Context, ListedFamily, certificate, leads_through};
 use std::alloc::Global;
 use tt_abs::State;
 use tt_cert::Certificate;
 use tt_code::Frame;
 
-/// A filling, and the contexts and points of its certificate.
+/// A listed family, and the contexts and points of its certificate.
 struct Finished<'a> {
     name: &'a str,
-    of: Filling<'a>,
+    of: ListedFamily<'a>,
     contexts: &'a [Option<Context>],
     points: &'a [(u32, u32)],
 }
@@ -24,9 +24,9 @@ const CALL_AT_5: Frame = Frame { call: 5, ..CALL };
 const CALL_AT_9: Frame = Frame { call: 9, ..CALL };
 
 /// Two contexts below the main program, and a third below the later one of them.
-const CALLS: Filling<'static> = Filling {
+const CALLS: ListedFamily<'static> = ListedFamily {
     contexts: &[(0, CALL_AT_9), (1, CALL_AT_3), (0, CALL_AT_2)],
-    rows: &[
+    states: &[
         (2, 8, &[1, 2]),
         (3, 6, &[1, 2]),
         (1, 4, &[1, 2]),
@@ -48,7 +48,7 @@ const FINISHED: [Finished<'static>; 2] = [
     },
     Finished {
         name: "contexts in the order of the file: by body, call, count and turn",
-        of: Filling {
+        of: ListedFamily {
             contexts: &[
                 (
                     0,
@@ -73,7 +73,7 @@ const FINISHED: [Finished<'static>; 2] = [
                     },
                 ),
             ],
-            rows: &[],
+            states: &[],
         },
         contexts: &[
             None,
@@ -122,9 +122,10 @@ fn has_points(certificate: &Certificate, points: &[(u32, u32)]) -> bool {
         && leads_through(certificate.states(), points)
 }
 
-/// Whether the certificate of a filling has its contexts and points; nothing where memory ran out.
+/// Whether the certificate of a listed family has its contexts and points; nothing where memory ran
+/// out.
 fn is_finished(alloc: Global, finished: &Finished<'_>) -> Option<bool> {
-    let certificate = certificate(alloc, finished.of.contexts, &[], finished.of.rows)?;
+    let certificate = certificate(alloc, finished.of.contexts, &[], finished.of.states)?;
     Some(has_contexts(&certificate, finished.contexts) && has_points(&certificate, finished.points))
 }
 
@@ -150,7 +151,7 @@ fn has_frames(alloc: Global, certificate: &Certificate, number: u32, want: &[Fra
 /// Whether the frames of a context, the depth of a state and the missing end are read; nothing
 /// where memory ran out.
 fn is_read(alloc: Global) -> Option<bool> {
-    let certificate = certificate(alloc, CALLS.contexts, &[], CALLS.rows)?;
+    let certificate = certificate(alloc, CALLS.contexts, &[], CALLS.states)?;
     Some(
         has_frames(alloc, &certificate, 3, &[CALL_AT_9, CALL_AT_3])
             && certificate.state(2, 1).map(State::depth) == Some(2)

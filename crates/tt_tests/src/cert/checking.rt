@@ -5,7 +5,7 @@ ghost use Rattle.tt_abs.specs.Entries.{Ascends};
 ghost use Rattle.tt_abs.specs.States.{state_order};
 
 use hintcheck_test_fixtures::families::{
-    Context, Row, add, certificate, finished_if, join, put, put_all, put_at, state_of,
+    Context, Listed, add, certificate, finished_if, join, put, put_all, put_at, state_of,
 };
 use hintcheck_test_fixtures::programs::{CALLS_WITH_A_NUMBER, GLYPH, LIMITS as WIDE, POPPING, cut};
 use std::alloc::Global;
@@ -40,8 +40,8 @@ pub(crate) struct Subject<'a> {
     pub(crate) asked: Asked,
 }
 
-/// The states of a family, and what the check tells of it. Two rows at one offset are joined.
-pub(crate) type Family<'a> = (&'a [Row<'a>], Answer);
+/// The states of a family, and what the check tells of it. Two states at one offset are joined.
+pub(crate) type Family<'a> = (&'a [Listed<'a>], Answer);
 
 /// The limits of the programs, of 9 bytes at most.
 const LIMITS: Limits = Limits {
@@ -116,19 +116,19 @@ fn answer_from(
     alloc: Global,
     subject: &Subject<'_>,
     start: &[(u16, u32)],
-    rows: &[Row<'_>],
+    states: &[Listed<'_>],
 ) -> Option<Answer>
     requires { Ascends start.now }
 {
-    let family = certificate(alloc, subject.contexts, start, rows)?;
+    let family = certificate(alloc, subject.contexts, start, states)?;
     checked(alloc, subject, start, &family)
 }
 
 /// Returns what it tells of the family with these states.
-fn answer(alloc: Global, subject: &Subject<'_>, rows: &[Row<'_>]) -> Option<Answer> {
+fn answer(alloc: Global, subject: &Subject<'_>, states: &[Listed<'_>]) -> Option<Answer> {
     match subject.function {
-        Some(body) => answer_from(alloc, subject, &[(0, body)], rows),
-        None => answer_from(alloc, subject, &[], rows),
+        Some(body) => answer_from(alloc, subject, &[(0, body)], states),
+        None => answer_from(alloc, subject, &[], states),
     }
 }
 
@@ -139,8 +139,12 @@ pub(crate) fn assert_families(
     subject: &Subject<'_>,
     families: &[Family<'_>],
 ) {
-    for (rows, want) in families {
-        assert_eq!(rt; answer(alloc, subject, rows), Some(*want), "of {rows:?}");
+    for (states, want) in families {
+        assert_eq!(rt;
+            answer(alloc, subject, states),
+            Some(*want),
+            "of {states:?}"
+        );
     }
 }
 
@@ -184,17 +188,17 @@ fn what_is_broken_first_of_two(rt: HostRuntime) {
 }
 
 /// A program, its kind, the states of a family, and where it is refused for which reason.
-type Broken<'a> = (&'a [u8], Kind, &'a [Row<'a>], u32, Reason);
+type Broken<'a> = (&'a [u8], Kind, &'a [Listed<'a>], u32, Reason);
 
 /// Returns what the check tells of the family of a broken one.
 fn answer_of_broken(alloc: Global, broken: &Broken<'_>) -> Option<Answer> {
-    let (program, kind, rows, ..) = *broken;
+    let (program, kind, states, ..) = *broken;
     let subject = Subject {
         programs: [program; 3],
         kind,
         ..EMPTY
     };
-    answer(alloc, &subject, rows)
+    answer(alloc, &subject, states)
 }
 
 const BROKEN: [Broken<'static>; 6] = [
@@ -290,7 +294,7 @@ const CALL_FAMILIES: [Family<'static>; 2] = [
 ];
 
 /// All their states but that where the function begins.
-const NO_ENTRY: [Row<'static>; 4] = [(0, 0, &[]), (0, 3, &[7, 0]), (0, 4, &[]), (1, 4, &[])];
+const NO_ENTRY: [Listed<'static>; 4] = [(0, 0, &[]), (0, 3, &[7, 0]), (0, 4, &[]), (1, 4, &[])];
 
 #[test]
 fn function_of_the_font_program(rt: HostRuntime) {
@@ -352,7 +356,7 @@ fn put_turns(alloc: Global, builder: &mut Builder, count: u32) -> bool {
 /// function 0 so often.
 fn certificate_of_turns(alloc: Global, count: u16) -> Option<Certificate> {
     let number = i32::from(count);
-    let rows: [Row<'_>; 4] = [
+    let states: [Listed<'_>; 4] = [
         (0, 0, &[]),
         (0, 3, &[number]),
         (0, 5, &[number, 0]),
@@ -360,7 +364,7 @@ fn certificate_of_turns(alloc: Global, count: u16) -> Option<Certificate> {
     ];
     let mut builder = Builder::new(alloc);
     let is_filled = put_turns(alloc, &mut builder, u32::from(count))
-        && put_all(alloc, &mut builder, &[(0, 3)], &rows);
+        && put_all(alloc, &mut builder, &[(0, 3)], &states);
     finished_if(is_filled, builder)
 }
 

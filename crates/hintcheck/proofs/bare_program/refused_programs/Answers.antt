@@ -4,7 +4,7 @@ use Rattle.tt_code.specs.Fonts.{Font}
 use Rattle.tt_font.specs.Reading.{glyph_data}
 use Rattle.hintcheck.specs.FontPrograms.{glyph_subject}
 use Rattle.hintcheck.specs.BarePrograms.{IsJudged, font_around}
-use Rattle.hintcheck.specs.ProgramVerdicts.{IsListed}
+use Rattle.hintcheck.specs.ProgramVerdicts.{IsAppendedRefusal}
 use Rattle.hintcheck.specs.Programs.{HasLeastFamily, Subject}
 use Rattle.tt_cert_file.specs.declared.name.Name.TheVariants as name
 use Rattle.hintcheck.specs.declared.report.Refused.{Refused}
@@ -27,7 +27,7 @@ returns c =
           subst J (sym none) (subst L same (w.in-Ok.ensures.least 0))
       | in-Err+in_ok-list_refused-in-Err w ↦
           let rs = c.match-judge_glyph.refused.items in
-          let I : List Refused → List Refused → Type 0 = λ old new. IsListed (name.Glyph 0) w.in-Err.fault old new in
+          let I : List Refused → List Refused → Type 0 = λ old new. IsAppendedRefusal (name.Glyph 0) w.in-Err.fault old new in
           let added = subst (I c.new-refused.result.items) (sym (ap (λ v. v.items) w.refused-is)) w.in_ok-list_refused-in-Err.ensures in
           let listed = subst (λ old. I old rs) c.new-refused.ensures.items added in
           let P : Font → Type 0 = λ f. IsJudged (X f) rs in

@@ -10,15 +10,15 @@ use Rattle.hintcheck.proofs.PrintedLemmas.{prints_for_verdict, prints_upgrade, p
 use Rattle.hintcheck.proofs.ScanFaults.{passed_no_scan, printing_no_scan, task_no_scan, verdict_no_scan}
 use Rattle.hintcheck.proofs.commands.do_task.Goals as goal
 
-for_verdict : (t : Task) → ((fonts : Vec (String Global) Global) (points : Option ℕ) → t ≡ task.Scan fonts points → ⊥) → ((font program : String Global) (offset : Option ℕ) → t ≡ task.Explain font program offset → ⊥)
+for_verdict : (t : Task) → ((fonts : Vec (String Global) Global) (budget : Option ℕ) → t ≡ task.Scan fonts budget → ⊥) → ((font program : String Global) (offset : Option ℕ) → t ≡ task.Explain font program offset → ⊥)
     → ((font program : String Global) → t ≡ task.List font program → ⊥) → ((old new : String Global) → t ≡ task.Upgrade old new → ⊥) → IsForVerdict (asked t)
 unfolding asked
 for_verdict (task.Bare maxp cvt points contours program) scan explain other another = tt
-for_verdict (task.Verdict font points) scan explain other another = tt
-for_verdict (task.Scan fonts points) scan explain other another = absurd (scan fonts points refl)
+for_verdict (task.Verdict font budget) scan explain other another = tt
+for_verdict (task.Scan fonts budget) scan explain other another = absurd (scan fonts budget refl)
 for_verdict (task.Explain font program offset) scan explain other another = absurd (explain font program offset refl)
-for_verdict (task.Find font certificate points) scan explain other another = tt
-for_verdict (task.Check font certificate points) scan explain other another = tt
+for_verdict (task.Find font certificate budget) scan explain other another = tt
+for_verdict (task.Check font certificate budget) scan explain other another = tt
 for_verdict (task.List font program) scan explain other another = absurd (other font program refl)
 for_verdict (task.Upgrade old new) scan explain other another = absurd (another old new refl)
 

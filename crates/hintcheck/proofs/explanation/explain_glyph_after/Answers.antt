@@ -3,7 +3,7 @@ use Rattle.std.proofs.Common.{◌≡◌, ◌∙◌, ℕ, List, Some, ap, subst, 
 use Rattle.std.specs.Prelude.{slice_get}
 use Rattle.tt_code.specs.Fonts.{Font}
 use Rattle.tt_font.specs.Reading.{GlyphData, glyph_data}
-use Rattle.hintcheck.specs.Explanations.{IsJudged}
+use Rattle.hintcheck.specs.Explanations.{IsAnswered}
 use Rattle.hintcheck.specs.FontPrograms.{font_of, glyph_subject}
 use Rattle.hintcheck.proofs.ExplanationLemmas.{glyph_told}
 use Rattle.hintcheck.proofs.explanation.explain_glyph_after.Goals as goal
@@ -30,8 +30,8 @@ returns-clause-tells g c =
     let glyph : GlyphData = glyph_data c.unwrap-glyph.result in
     let there = sym c.glyph.ensures ∙ ap (option_map glyph_data) c.unwrap-glyph.ensures in
     let accepted = c.in_ok-accepted.accepted in
-    let J : Font → Type 0 = λ t. IsJudged (glyph_subject t c.deref.result.now c.args.id glyph) accepted in
-    let K : List (ℕ × ℕ) → Type 0 = λ known. IsJudged (glyph_subject (font_of d f.program p.program) known c.args.id glyph) accepted in
+    let J : Font → Type 0 = λ t. IsAnswered (glyph_subject t c.deref.result.now c.args.id glyph) accepted in
+    let K : List (ℕ × ℕ) → Type 0 = λ known. IsAnswered (glyph_subject (font_of d f.program p.program) known c.args.id glyph) accepted in
     let judged = subst K c.deref.ensures.value (subst J c.cvt_setting.ensures.programs (c.in_ok-accepted.ensures.judged c.args.id)) in
     glyph_told d f.program p.program f.functions.items p.functions.items c.args.id glyph accepted c.exit_status.result c.requires.ended.ends c.requires.cvt_ended.ends there judged
     c.exit_status.ensures.accepted c.exit_status.ensures.refused

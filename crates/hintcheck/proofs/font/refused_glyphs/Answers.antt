@@ -2,7 +2,7 @@ use Rattle.std.specs.Option.{option_map}
 use Rattle.std.proofs.Common.{◌≡◌, ◌+◌, List, ℕ, sym, ◌∙◌, ap, subst, arith, length}
 use Rattle.tt_font.specs.Reading.{glyph_data}
 use Rattle.hintcheck.specs.Representation.FontVerdicts.{AreRefusedBelow, font_in}
-use Rattle.hintcheck.specs.ProgramVerdicts.{IsListed}
+use Rattle.hintcheck.specs.ProgramVerdicts.{IsAppendedRefusal}
 use Rattle.tt_cert_file.specs.declared.name.Name.TheVariants as name
 use Rattle.hintcheck.specs.declared.report.Refused.{Refused}
 use Rattle.tt_cert.proofs.Spending.{spends_on}
@@ -31,7 +31,7 @@ loop-id-preserved c =
             let same : c.match-judge_glyph.refused.items ≡ c.loop-id.refused.items = ap (λ v. v.items) w.refused-is in
             subst B (sym same) (accepted_next font known glyphs c.loop-id.id glyph c.loop-id.refused.items c.loop-id.invariant.refused at (w.in-Ok.ensures.least c.loop-id.id))
         | in-Err+in_ok-list_refused-in-Err w ↦
-            let I : List Refused → Type 0 = λ rs. IsListed (name.Glyph c.loop-id.id) w.in-Err.fault c.loop-id.refused.items rs in
+            let I : List Refused → Type 0 = λ rs. IsAppendedRefusal (name.Glyph c.loop-id.id) w.in-Err.fault c.loop-id.refused.items rs in
             listed_next font known glyphs c.loop-id.id glyph c.loop-id.refused.items c.match-judge_glyph.refused.items w.in-Err.fault c.loop-id.invariant.refused at
             (w.in-Err.ensures.refused c.loop-id.id) (subst I (sym (ap (λ v. v.items) w.refused-is)) w.in_ok-list_refused-in-Err.ensures)
       ];

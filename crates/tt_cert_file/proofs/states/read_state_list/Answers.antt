@@ -5,7 +5,7 @@ use Rattle.tt_stream.proofs.Beginnings.{consumes_then}
 use Rattle.tt_cert_file.specs.Answers.{Fails, StopsAtEnd, input_at}
 use Rattle.tt_cert_file.specs.Readers.{Answer, Input}
 use Rattle.tt_cert_file.specs.Reading.{entry_at}
-use Rattle.tt_cert_file.specs.Rules.{last_place}
+use Rattle.tt_cert_file.specs.Rules.{last_point}
 use Rattle.tt_cert_file.specs.Sections.{Entry}
 use Rattle.tt_cert_file.proofs.Loops.{reads_all, reads_fail, reads_none, reads_on, reads_stop}
 use Rattle.tt_cert_file.proofs.Ascends.{last_pushed}
@@ -17,7 +17,7 @@ states-init g c = (
   reads_none (entry_at c.args.form (length c.args.builder.contexts)) (g.S.Source.remaining c.args.source.now) c.args.place c.args.builder.states c.args.count
       (g.S.Source.failures c.args.source.now) c.requires.empty,
   refl,
-  sym (ap last_place c.requires.empty),
+  sym (ap last_point c.requires.empty),
   c.requires.before,
 )
 
@@ -43,7 +43,7 @@ states-preserved g c =
           c.states.invariant.0 c.states-test.true (λ k. let r = c.in_ok-point.ensures.reads k in (r.0, sym same ∙ r.1)) c.read_entry.ensures.beginning c.in_ok-point.ensures.failures
           c.in_ok-add_state.ensures.added,
       c.in_ok-add_state.ensures.contexts ∙ c.states.invariant.1,
-      sym (ap last_place c.in_ok-add_state.ensures.added ∙ ap (option_map (λ (e : Entry). e.0)) (last_pushed c.states.builder.states entry)),
+      sym (ap last_point c.in_ok-add_state.ensures.added ∙ ap (option_map (λ (e : Entry). e.0)) (last_pushed c.states.builder.states entry)),
       c.in_ok-point.ensures.kept,
     )
 

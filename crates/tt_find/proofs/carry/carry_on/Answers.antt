@@ -16,6 +16,7 @@ loop-next-init c =
           (way_begins s fs c.requires.laws solver c.args.context c.args.offset c.take.new.self.state c.requires.popped (c.in_ok-take.ensures.some c.if-not-branch.false));
       walk = c.in_ok-take.ensures.walk;
       risen = record { worklist = omega arith; changes = omega arith };
+      few = omega arith;
       spends = (refl, omega arith);
       everywhere = refl;
     }

@@ -7,7 +7,7 @@ use Rattle.tt_find.specs.Found.{IsJustified}
 use Rattle.tt_find.specs.Representation.Solvers.{IsApart, IsPassed}
 use Rattle.tt_find.specs.declared.origin.Origin.TheVariants.{JustBefore}
 use Rattle.tt_find.proofs.Leads.{comes_before, ranged_to, whole_put}
-use Rattle.tt_find.proofs.Steps.{apart_left, leading_passed, stop_map}
+use Rattle.tt_find.proofs.Steps.{apart_left, leading_passed, passed_updates, stop_map, stored_updates}
 use Rattle.tt_find.proofs.carry.step_over.Goals as goal
 
 pub returns-then-may_pass-clause-goes : goal.returns-then-may_pass-clause-goes
@@ -47,3 +47,10 @@ returns-clause-goes c =
     let q = place_of solver.builder context c.args.next in
     whole_put s c.args.setting.now.start.now c.requires.laws solver c.store.new.solver p context c.args.next c.args.walk.now.state JustBefore c.requires.leading c.requires.walk.there
     c.in_default-store.ensures.stored (comes_before s p q c.requires.just)
+
+pub returns-then-may_pass-clause-few : goal.returns-then-may_pass-clause-few
+returns-then-may_pass-clause-few c = passed_updates c.args.solver.now c.pass.new.self c.args.walk.now.spot c.args.next c.in_default.ensures
+
+pub returns-clause-few : goal.returns-clause-few
+returns-clause-few c =
+    stored_updates c.args.solver.now c.store.new.solver c.args.walk.now.context c.args.next c.args.walk.now.state JustBefore c.in_default-store.ensures.stored

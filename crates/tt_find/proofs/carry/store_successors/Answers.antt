@@ -1,18 +1,22 @@
-use Rattle.std.specs.Prelude.{false}
+use Rattle.std.specs.Prelude.{false, cond, slice_get, suc, ◌≤◌}
 use Rattle.std.specs.Option.{is_some}
 use Rattle.std.proofs.Common.{◌≡◌, ◌∙◌, ◌+◌, ◌++◌, ℕ, Option, Some, None, Err, ap, arith, refl, sym, subst}
 use Rattle.tt_code.specs.declared.reason.Reason.TheVariants.{TooManyContexts}
+use Rattle.tt_abs.specs.Moves.{ways_of}
 use Rattle.tt_abs.specs.Settings.{setting_of}
+use Rattle.tt_abs.specs.declared.moves.Move.{Move}
+use Rattle.tt_abs.specs.declared.moves.Moves.{Moves}
+use Rattle.tt_abs.specs.declared.moves.Moves.TheVariants.{One, Two}
 use Rattle.tt_cert.specs.Contents.{Contents, family_of, frames_at}
 use Rattle.tt_cert.specs.Puts.{place_of}
 use Rattle.tt_cert.specs.Spots.{spot_of}
 use Rattle.tt_cert.specs.declared.fault.ProgramFault.TheVariants.{Refused}
 use Rattle.tt_find.specs.Found.{IsJustified}
-use Rattle.tt_find.specs.Representation.Solvers.{HasRisen, IsApart, IsLeadingOn, IsLeadingTo, TellsSource, calls_of, here_of, place_over, places_from}
+use Rattle.tt_find.specs.Representation.Solvers.{HasRisen, IsApart, IsLeadingOn, IsLeadingTo, TellsSource, calls_of, here_of, place_over, places_from, updates_of}
 use Rattle.tt_find.specs.declared.solver.Solver.{Solver}
 use Rattle.tt_find.specs.declared.walk.Walk.{Walk}
 use Rattle.tt_find.proofs.Leads.{countable_on, held, just_over, last_over, none_over, not_entered, put, ranged_to, reached_from, too_many_on}
-use Rattle.tt_find.proofs.Steps.{apart_left, risen_on, stop_map}
+use Rattle.tt_find.proofs.Steps.{apart_left, risen_on, stop_map, stored_updates}
 use Rattle.tt_find.proofs.carry.store_successors.Goals as goal
 use Rattle.tt_find.proofs.carry.store_successors.Goals.{then-is_none+then-goes_over, else-is_none+in_default-store}
 
@@ -67,6 +71,14 @@ returns-in-Err-store-clause-stops c =
     (apart_left s fs c.requires.laws solver (here_of v walk c.args.offset) q walk.state (place_over (calls_of solver walk) c.loop-way.over ++ places_from (calls_of solver walk) c.args.ways (c.loop-way.index + 1))
     to.leading) c.in-Err-store.stop c.in-Err-store.ensures.stops
 
+-- there are two ways at most
+way_within : (ways : Moves) (index : ℕ) (way : Move) → slice_get (ways_of ways) index ≡ Some way → index + 1 ≤ 2
+way_within (One w) 0 way e = omega arith
+way_within (One w) (suc i) way e = absurd (cc)
+way_within (Two w offset) 0 way e = omega arith
+way_within (Two w offset) 1 way e = omega arith
+way_within (Two w offset) (suc (suc i)) way e = absurd (cc)
+
 none_of : (o : Option ℕ) → is_some o ≡ false → o ≡ None
 none_of None e = refl
 none_of (Some x) e = absurd (cc)
@@ -76,6 +88,8 @@ loop-way-init c = record {
   on = record { leading = c.requires.leading; just_after = c.requires.after; goes_over = λ at e. absurd (cc); walks = c.requires.walk };
   here = refl;
   risen = record { worklist = omega arith; changes = omega arith };
+  few = omega arith;
+  within = omega arith;
   everywhere = refl;
 }
 
@@ -91,6 +105,7 @@ loop-way-preserved c =
     let on = c.loop-way.invariant in
     let to = reached_from s fs c.requires.laws c.loop-way.solver walk c.args.offset c.args.after c.args.ways c.loop-way.index c.loop-way.over c.in-Some.way c.args.walk.now.context on.here
     on.on (sym c.in-Some.ensures) v number next c.in-Ok.ensures.added c.in-Ok.ensures.offset c.in-Ok.ensures.states c.in-Ok.ensures.family in
+    let within = way_within c.args.ways c.loop-way.index c.in-Some.way (sym c.in-Some.ensures) in
     elim c.if-is_none.branch [
       | then-is_none+then-goes_over w ↦
           let none : c.loop-way.over ≡ None = none_of c.loop-way.over w.if-is_none.ensures in
@@ -105,6 +120,13 @@ loop-way-preserved c =
             on = subst P all later;
             here = ap (λ (x : Walk). x.context) w.walk-is ∙ on.here;
             risen = subst R (sym w.solver-is) (record { worklist = on.risen.worklist; changes = on.risen.changes });
+            few =
+                let U : Option ℕ → Type 0 = λ o. updates_of c.loop-way.solver + cond (is_some o) 1 0 ≤ updates_of c.args.solver.now + c.loop-way.index in
+                let before : updates_of c.loop-way.solver + 0 ≤ updates_of c.args.solver.now + c.loop-way.index = subst U none on.few in
+                let after : updates_of solver + 1 ≤ updates_of c.args.solver.now + (c.loop-way.index + 1) = omega arith in
+                let F : Solver × Walk × Option ℕ → Type 0 = λ x. updates_of x.0 + cond (is_some x.2) 1 0 ≤ updates_of c.args.solver.now + (c.loop-way.index + 1) in
+                subst F all after;
+            within = within;
             everywhere = ap (λ (x : Solver). x.marks.everywhere) w.solver-is ∙ on.everywhere;
           }
       | else-is_none+in_default-store w ↦
@@ -121,6 +143,13 @@ loop-way-preserved c =
             on = subst P all later;
             here = ap (λ (x : Walk). x.context) w.walk-is ∙ w.in_default-store.ensures.context ∙ on.here;
             risen = subst R (sym w.solver-is) (risen_on c.args.solver.now solver w.store.new.solver before stored.put.risen);
+            few =
+                let more = stored_updates solver w.store.new.solver number next walk.state c.origin_of-source.result stored in
+                let so_far = on.few in
+                let after : updates_of w.store.new.solver + cond (is_some c.loop-way.over) 1 0 ≤ updates_of c.args.solver.now + (c.loop-way.index + 1) = omega arith in
+                let F : Solver × Walk × Option ℕ → Type 0 = λ x. updates_of x.0 + cond (is_some x.2) 1 0 ≤ updates_of c.args.solver.now + (c.loop-way.index + 1) in
+                subst F all after;
+            within = within;
             everywhere = ap (λ (x : Solver). x.marks.everywhere) w.solver-is ∙ stored.marks.everywhere ∙ on.everywhere;
           }
     ]

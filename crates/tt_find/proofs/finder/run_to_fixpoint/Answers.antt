@@ -4,7 +4,8 @@ use Rattle.tt_abs.specs.StateFlow.{height_of}
 use Rattle.tt_abs.specs.States.{state_laws, state_order}
 use Rattle.tt_find.proofs.Budget.{measure_falls, updates_fit}
 use Rattle.tt_find.proofs.Starting.{whole_start}
-use Rattle.tt_find.proofs.Steps.{popped_left}
+use Rattle.tt_find.proofs.Steps.{popped_left, stored_updates}
+use Rattle.tt_find.specs.declared.origin.Origin.TheVariants.{Elsewhere}
 use Rattle.tt_find.proofs.finder.run_to_fixpoint.Goals as goal
 
 pub loop-context-init : goal.loop-context-init
@@ -12,6 +13,11 @@ loop-context-init c = record {
   whole = whole_start (setting_of c.args.setting.now) c.args.setting.now.start.now c.requires.laws c.args.solver.now c.store.new.solver c.in_ok-walk.walk.state c.in_ok-walk.ensures.state
       c.requires.empty c.in_default.ensures.stored;
   walk = c.in_default.ensures.walk;
+  few =
+      let more = stored_updates c.args.solver.now c.store.new.solver 0 0 c.in_ok-walk.walk.state Elsewhere c.in_default.ensures.stored in
+      let changes = c.requires.empty.changes in
+      let passes = c.requires.empty.passes in
+      omega arith;
   spends = (refl, omega arith);
   everywhere = refl;
 }

@@ -1,14 +1,15 @@
-use Rattle.std.proofs.Common.{◌≡◌, ◌+◌, ◌*◌, ◌-◌, length}
+use Rattle.std.proofs.Common.{◌≡◌, ◌+◌, ◌*◌, ◌-◌, ◌≤◌, length}
 use Rattle.tt_abs.specs.Settings.{setting_of}
 use Rattle.tt_abs.specs.StateFlow.{height_of}
 use Rattle.tt_cert.specs.Budgets.{Spends}
-use Rattle.tt_find.specs.Representation.Solvers.{IsWalk, IsWhole}
+use Rattle.tt_find.specs.Representation.Solvers.{IsWalk, IsWhole, updates_of}
 use Rattle.tt_find.proofs.finder.run_to_fixpoint.Given as goal
 
 abbrev pub invariant-loop-context : goal.invariant-loop-context
 invariant-loop-context l = record {
   whole : IsWhole (setting_of l.setting) l.setting.start.now l.solver;
   walk : IsWalk l.solver.builder l.walk;
+  few : updates_of l.solver ≤ 1 + 2 * (l.initial.budget.left - l.budget.left);
   spends : Spends l.initial.budget l.budget;
   everywhere : l.solver.marks.everywhere ≡ l.initial.solver.marks.everywhere;
 }

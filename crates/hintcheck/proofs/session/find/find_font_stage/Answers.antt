@@ -1,5 +1,5 @@
 use Rattle.hintcheck.proofs.FindingSteps.{first_found, first_refused}
-use Rattle.hintcheck.proofs.session.find.find_first.Goals as goal
+use Rattle.hintcheck.proofs.session.find.find_font_stage.Goals as goal
 
 pub returns-in-Ok-clause-found : goal.returns-in-Ok-clause-found
 returns-in-Ok-clause-found c =

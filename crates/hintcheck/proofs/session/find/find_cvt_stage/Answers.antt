@@ -1,5 +1,5 @@
 use Rattle.hintcheck.proofs.FindingSteps.{second_found, second_refused}
-use Rattle.hintcheck.proofs.session.find.find_second.Goals as goal
+use Rattle.hintcheck.proofs.session.find.find_cvt_stage.Goals as goal
 
 pub returns-in-Ok-clause-found : goal.returns-in-Ok-clause-found
 returns-in-Ok-clause-found c =

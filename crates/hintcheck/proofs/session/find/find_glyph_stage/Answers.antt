@@ -1,6 +1,6 @@
 use Rattle.std.proofs.Common.{refl, ◌∙◌}
 use Rattle.hintcheck.specs.Sessions.{last_glyph}
-use Rattle.hintcheck.proofs.session.find.find_third.Goals as goal
+use Rattle.hintcheck.proofs.session.find.find_glyph_stage.Goals as goal
 
 pub returns-then-id-glyph_count-clause-found : goal.returns-then-id-glyph_count-clause-found
 returns-then-id-glyph_count-clause-found c =

@@ -3,7 +3,7 @@ use Rattle.std.proofs.lemmas.Result.{err_from_is_err_and}
 use Rattle.hintcheck.specs.Sessions.{last_glyph}
 use Rattle.hintcheck.proofs.SessionSteps.{fault_at_end, nothing_follows, still_told}
 use Rattle.hintcheck.proofs.FailedReads.{end_not_read}
-use Rattle.hintcheck.proofs.session.check_third.Goals as goal
+use Rattle.hintcheck.proofs.session.check_glyph_stage.Goals as goal
 
 pub returns-in_err-read_end-clause-exact : goal.returns-in_err-read_end-clause-exact
 returns-in_err-read_end-clause-exact g c = λ told.
