@@ -43,49 +43,49 @@ greatest-append : (xs ys : List Scanned) → greatest_status (xs ++ ys) ≡ max 
 greatest-append [] ys = omega arith
 greatest-append (x ∷ xs) ys = omega (arith, greatest-append xs ys)
 
-abbrev Answered : Scanned → Type 0
-Answered s = IsAnswer s.answer
+abbrev Answered : Option ℕ → Scanned → Type 0
+Answered budget s = IsAnswer budget s.answer
 
 -- no font file
-pub scans_none : (old : Option (List ℕ)) → PrintsScan [] 0 old old
-scans_none old = record { scanned = []; names_are = refl; answers = All-nil Answered; greatest = refl; written = appends_nothing old }
+pub scans_none : (budget : Option ℕ) (old : Option (List ℕ)) → PrintsScan budget [] 0 old old
+scans_none budget old = record { scanned = []; names_are = refl; answers = All-nil (Answered budget); greatest = refl; written = appends_nothing old }
 
 -- one font file
-pub scans_one : (name : List ℕ) (answer : Answer) (status : ℕ) (old new : Option (List ℕ)) → IsAnswer answer → status ≡ status_of_answer answer
-    → Appends old new (line_of (record { name = name; answer = answer })) → PrintsScan (name ∷ []) status old new
-scans_one name answer status old new is same written =
+pub scans_one : (budget : Option ℕ) (name : List ℕ) (answer : Answer) (status : ℕ) (old new : Option (List ℕ)) → IsAnswer budget answer → status ≡ status_of_answer answer
+    → Appends old new (line_of (record { name = name; answer = answer })) → PrintsScan budget (name ∷ []) status old new
+scans_one budget name answer status old new is same written =
     let s : Scanned = record { name = name; answer = answer } in
     record {
       scanned = s ∷ [];
       names_are = refl;
-      answers = All-cons Answered s [] is (All-nil Answered);
+      answers = All-cons (Answered budget) s [] is (All-nil (Answered budget));
       greatest = omega arith;
       written = subst (Appends old new) (sym (append-nil (line_of s))) written;
     }
 
 -- font files, and then others
-pub scans_both : (a b : List (List ℕ)) (s t : ℕ) (old mid new : Option (List ℕ)) → PrintsScan a s old mid → PrintsScan b t mid new → PrintsScan (a ++ b) (max s t) old new
-scans_both a b s t old mid new first second =
+pub scans_both : (budget : Option ℕ) (a b : List (List ℕ)) (s t : ℕ) (old mid new : Option (List ℕ)) → PrintsScan budget a s old mid → PrintsScan budget b t mid new → PrintsScan budget (a ++ b) (max s t) old new
+scans_both budget a b s t old mid new first second =
     record {
       scanned = first.scanned ++ second.scanned;
       names_are = map-append (λ s. s.name) first.scanned second.scanned ∙ ap (λ x. x ++ map (λ s. s.name) second.scanned) first.names_are ∙ ap (λ y. a ++ y) second.names_are;
-      answers = All-append Answered first.scanned second.scanned first.answers second.answers;
+      answers = All-append (Answered budget) first.scanned second.scanned first.answers second.answers;
       greatest = omega (arith, greatest-append first.scanned second.scanned, first.greatest, second.greatest);
       written = subst (Appends old new) (sym (flat_map-append line_of first.scanned second.scanned)) (appends_both old mid new _ _ first.written second.written);
     }
 
 -- the font files so far, and the next one
-pub scans_more : {X : Type 0} (text : X → List ℕ) (xs : List X) (i : ℕ) (x : X) (name : List ℕ) (s t m : ℕ) (old mid new : Option (List ℕ)) → i < length xs → x ≡ get_or xs i x → name ≡ text x
-    → PrintsScan (map text (take i xs)) s old mid → PrintsScan (name ∷ []) t mid new → m ≡ max s t → PrintsScan (map text (take (i + 1) xs)) m old new
-scans_more text xs i x name s t m old mid new within is called so_far one greatest =
+pub scans_more : {X : Type 0} (budget : Option ℕ) (text : X → List ℕ) (xs : List X) (i : ℕ) (x : X) (name : List ℕ) (s t m : ℕ) (old mid new : Option (List ℕ)) → i < length xs → x ≡ get_or xs i x → name ≡ text x
+    → PrintsScan budget (map text (take i xs)) s old mid → PrintsScan budget (name ∷ []) t mid new → m ≡ max s t → PrintsScan budget (map text (take (i + 1) xs)) m old new
+scans_more budget text xs i x name s t m old mid new within is called so_far one greatest =
     let more : map text (take (i + 1) xs) ≡ map text (take i xs) ++ text x ∷ [] =
     ap (map text) (take_more xs i x within) ∙ map-append text (take i xs) (get_or xs i x ∷ []) ∙ ap (λ y. map text (take i xs) ++ text y ∷ []) (sym is) in
-    rw (more, greatest, ← called) (scans_both (map text (take i xs)) (name ∷ []) s t old mid new so_far one)
+    rw (more, greatest, ← called) (scans_both budget (map text (take i xs)) (name ∷ []) s t old mid new so_far one)
 
 -- all font files
-pub scans_all : {X : Type 0} (text : X → List ℕ) (xs : List X) (i s t : ℕ) (old new : Option (List ℕ)) → length xs ≤ i → s ≡ t → PrintsScan (map text (take i xs)) s old new
-    → PrintsScan (map text xs) t old new
-scans_all text xs i s t old new within same printed = subst (λ ys. PrintsScan (map text ys) t old new) (take_all i xs within) (subst (λ n. PrintsScan (map text (take i xs)) n old new) same printed)
+pub scans_all : {X : Type 0} (budget : Option ℕ) (text : X → List ℕ) (xs : List X) (i s t : ℕ) (old new : Option (List ℕ)) → length xs ≤ i → s ≡ t → PrintsScan budget (map text (take i xs)) s old new
+    → PrintsScan budget (map text xs) t old new
+scans_all budget text xs i s t old new within same printed = subst (λ ys. PrintsScan budget (map text ys) t old new) (take_all i xs within) (subst (λ n. PrintsScan budget (map text (take i xs)) n old new) same printed)
 
 -- the line of a font of which glyph programs are refused, by its parts
 pub counts_written : (name : List ℕ) (programs possible undecided left : ℕ) (rs : List Refused) (o p q r s : Option (List ℕ)) → possible ≡ number_of_class PossibleFault rs

@@ -39,7 +39,7 @@ abbrev pub Prints : Request → ℕ → Option (List ℕ) → Option (List ℕ) 
 Prints (bare maxp cvt points contours program) status old new =
     PrintsVerdict (bare maxp cvt points contours program) status old new
 Prints (verdict font budget) status old new = PrintsVerdict (verdict font budget) status old new
-Prints (scan fonts budget) status old new = PrintsScan fonts status old new
+Prints (scan fonts budget) status old new = PrintsScan budget fonts status old new
 Prints (explain font program offset) status old new = Unit {0}
 Prints (find font certificate budget) status old new =
     PrintsVerdict (find font certificate budget) status old new

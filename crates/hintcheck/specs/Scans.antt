@@ -9,7 +9,7 @@ use Rattle.tt_code.specs.declared.reason.ReasonClass.TheVariants.{PossibleFault,
 use Rattle.tt_cert_file.specs.declared.name.Name.{Name}
 use Rattle.tt_cert_file.specs.declared.name.Name.TheVariants as name
 use Rattle.hintcheck.specs.Commands.{status_of}
-use Rattle.hintcheck.specs.CommandFaults.{IsFaultOfFontFile}
+use Rattle.hintcheck.specs.CommandFaults.{IsFaultOfFontFile, IsWithin}
 use Rattle.hintcheck.specs.FaultTexts.{command_fault_text}
 use Rattle.hintcheck.specs.MeansSafe.{IsVerdictOn}
 use Rattle.hintcheck.specs.Verdicts.{Judgement}
@@ -22,11 +22,11 @@ pub data Answer : Type 0 where
   judged : Judgement → Answer
   unread : CommandFault → Answer
 
--- The verdict is that on the font in some bytes, and the fault is one of a font file: no contract
--- of the runtime tells which bytes a file has.
-abbrev pub IsAnswer : Answer → Type 0
-IsAnswer (judged judgement) = (bytes : List ℕ) × IsVerdictOn bytes judgement
-IsAnswer (unread reported) = IsFaultOfFontFile reported
+-- The verdict is that on the font in some bytes, and the fault is one of a font file, and a budget's
+-- only where there is one: no contract of the runtime tells which bytes a file has.
+abbrev pub IsAnswer : Option ℕ → Answer → Type 0
+IsAnswer budget (judged judgement) = (bytes : List ℕ) × IsVerdictOn bytes judgement
+IsAnswer budget (unread reported) = IsFaultOfFontFile reported × IsWithin budget reported
 
 -- 0 where no program is refused, and 1 where some are
 abbrev pub status_of_refused : List Refused → ℕ
@@ -105,13 +105,13 @@ abbrev pub greatest_status : List Scanned → ℕ
 greatest_status [] = 0
 greatest_status (s ∷ others) = max (status_of_answer s.answer) (greatest_status others)
 
--- The files with these names were scanned, this is the greatest exit status of them, and their
--- lines were written in the order of the names, where the written bytes are known.
-pub record PrintsScan (names : List (List ℕ)) (status : ℕ)
+-- The files with these names were scanned, each within this budget, this is the greatest exit status
+-- of them, and their lines were written in the order of the names, where the written bytes are known.
+pub record PrintsScan (budget : Option ℕ) (names : List (List ℕ)) (status : ℕ)
     (old new : Option (List ℕ)) : Type 0 where
   pub scanned : List Scanned
   pub names_are : map (λ s. s.name) scanned ≡ names
-  pub answers : All (λ s. IsAnswer s.answer) scanned
+  pub answers : All (λ s. IsAnswer budget s.answer) scanned
   pub greatest : status ≡ greatest_status scanned
   pub written : Appends old new (flat_map line_of scanned)
 

@@ -22,6 +22,10 @@ IsExceeded budget = (budget.is_over ≡ true) × (budget.left ≡ 0)
 abbrev pub Counts : Budget → Budget → Type 0
 Counts old new = (old.left ≡ new.left + 1) × (new ≡ record old { left = new.left })
 
+-- how many points were counted from the one to the other
+abbrev pub counted_from : Budget → Budget → ℕ
+counted_from old new = old.left - new.left
+
 -- as many points were made as may be, and one more was to be made
 abbrev pub Exceeds : Budget → Budget → Type 0
 Exceeds old new = (old.left ≡ 0) × (new ≡ record old { is_over = true })

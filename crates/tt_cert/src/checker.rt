@@ -1,14 +1,14 @@
 //! The check of a certificate: whether its family is good for a program, or can be filled up to a
 //! good one.
 
-ghost use Rattle.std.specs.Prelude.{◌≡◌, ◌↔◌, ◌<◌, ◌^◌, [], None, IfOk, IfErr, IsFalse, IsTrue, OnOk};
+ghost use Rattle.std.specs.Prelude.{◌≡◌, ◌↔◌, ◌<◌, ◌≤◌, ◌^◌, [], None, IfOk, IfErr, IsFalse, IsTrue, OnOk, length};
 ghost use Rattle.std.specs.List.{All};
 ghost use Rattle.tt_abs.specs.Entries.{Ascends};
 ghost use Rattle.tt_abs.specs.Families.{CoversAt};
 ghost use Rattle.tt_abs.specs.Lines.{EndsAt};
 ghost use Rattle.tt_abs.specs.Settings.{setting_of};
 ghost use Rattle.tt_abs.specs.States.{state_order};
-ghost use Rattle.tt_cert.specs.Budgets.{Counts, Spends};
+ghost use Rattle.tt_cert.specs.Budgets.{Counts, Spends, counted_from};
 ghost use Rattle.tt_cert.specs.CheckedSubjects.{EndsWellFor, HasGoodFillingFor, HasSafeFillingFor, IsGoodFor, IsSafeFor, IsShortFor, NamesBrokenFirst, NamesFillingBrokenFirst};
 ghost use Rattle.tt_cert.specs.Representation.Cursors.{IsFoundSoundFor, NamesFirstFor, AreToCome, AreUnlisted, IsLeftOutAfter, IsWalk, IsWalkedThrough, NamesBreak, NamesFirstBreak, PassesPoint, to_come};
 ghost use Rattle.tt_cert.specs.Checks.{FitOffsetsBefore, IsOutOfMemory, NamesGap};
@@ -177,6 +177,8 @@ fn check_points<'a>(
         IsWalkedThrough (setting_of setting.now) listing certificate.now) }
     ensures broken { IfErr result
         (NamesFirstBreak (setting_of setting.now) listing certificate.now) }
+    ensures counted { IfOk result (λ _.
+        length certificate.now.states ≤ counted_from budget.old budget.new) }
     ensures spends { Spends budget.old budget.new }
 {
     certificate.order_facts();
@@ -202,6 +204,8 @@ fn check_listed(
     requires ascends { Ascends setting.now.start.now }
     ensures sound { IfOk result (λ _. IsFoundSoundFor setting.now listing certificate.now) }
     ensures first { IfErr result (NamesFirstFor setting.now listing certificate.now) }
+    ensures counted { IfOk result (λ _.
+        length certificate.now.states ≤ counted_from budget.old budget.new) }
     ensures spends { Spends budget.old budget.new }
 {
     certificate.order_facts();
@@ -267,6 +271,8 @@ pub fn check_full_within(
     ensures safe { IfOk result (λ _. IsSafeFor setting.now certificate.now) }
     ensures exact { IsGoodFor setting.now certificate.now → IfErr result IsOutOfMemory }
     ensures first { IfErr result (NamesBrokenFirst setting.now certificate.now) }
+    ensures counted { IfOk result (λ _.
+        length certificate.now.states ≤ counted_from budget.old budget.new) }
     ensures spends { Spends budget.old budget.new }
 {
     setting.range_facts();
@@ -312,6 +318,8 @@ pub fn check_within(
     ensures safe { IfOk result (λ _. HasSafeFillingFor setting.now certificate.now) }
     ensures exact { HasGoodFillingFor setting.now certificate.now → IfErr result IsOutOfMemory }
     ensures first { IfErr result (NamesFillingBrokenFirst setting.now certificate.now) }
+    ensures counted { IfOk result (λ _.
+        length certificate.now.states ≤ counted_from budget.old budget.new) }
     ensures spends { Spends budget.old budget.new }
 {
     setting.range_facts();

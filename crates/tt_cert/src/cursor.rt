@@ -2,11 +2,12 @@
 //! the certificate leaves out; the cursor is where the walk is.
 
 ghost use Rattle.std.specs.Prelude.{◌≡◌, ◌↔◌, ◌<◌, IfOk, IfSome, IsFalse, IsTrue, None, OnOk, length};
+ghost use Rattle.std.specs.Option.{is_some};
 ghost use Rattle.tt_code.specs.Settings.{Setting as AnySetting};
 ghost use Rattle.tt_abs.specs.Entries.{Ascends};
 ghost use Rattle.tt_abs.specs.States.{start_of};
 ghost use Rattle.tt_cert.specs.Contents.{Contents, IsFamily};
-ghost use Rattle.tt_cert.specs.Representation.Cursors.{AreToCome, IsAtNext, IsComing, IsComingAfter, IsEntry, IsOnWay, IsShorter, IsWalk};
+ghost use Rattle.tt_cert.specs.Representation.Cursors.{AreToCome, IsAtNext, IsComing, IsComingAfter, IsEntry, IsOnWay, IsShorter, IsWalk, TakesOne};
 ghost use Rattle.tt_cert.specs.declared.listing.Listing.{Listing as AnyListing};
 
 use crate::certificate::Certificate;
@@ -151,6 +152,8 @@ impl<'a> Cursor<'a> {
             → IsAtNext s listing certificate.now self.new states.new to) }
         ensures shorter { IfOk result (λ to.
             IfSome to (IsShorter self.old self.new states.old states.new)) }
+        ensures one { IfOk result (λ to.
+            TakesOne (is_some to) self.old self.new states.old states.new) }
     {
         certificate.order_facts();
         if let Some(offset) = self.carried {

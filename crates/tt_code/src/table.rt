@@ -48,7 +48,7 @@ const RP2_IN_ZP1: Use = Use {
 
 // The effects, each by the name of its instructions in the printed instruction set.
 
-/// The effect of a code that is none of an instruction.
+/// The effect of a code that is no instruction's.
 const NO_ENTRY: Effect = Effect::NoEntry;
 
 const SVTCA: Effect = plain!([], [], [], []);

@@ -1,10 +1,11 @@
 -- What the finder says of a subject: a setting, with the functions that are known where its program
 -- starts.
-use Rattle.std.specs.Prelude.{◌⊎◌, ◌+◌, ◌-◌, ◌*◌, ◌≤◌, ℕ, Option, Result, IfErr, IfOk}
+use Rattle.std.specs.Prelude.{◌⊎◌, ◌+◌, ◌*◌, ◌≤◌, ℕ, Option, Result, IfErr, IfOk}
 use Rattle.tt_abs.specs.declared.setting.Setting.{Setting as Subject}
 use Rattle.tt_abs.specs.declared.state.State.{State}
 use Rattle.tt_abs.specs.Settings.{setting_of}
 use Rattle.tt_abs.specs.StateFlow.{Place}
+use Rattle.tt_cert.specs.Budgets.{counted_from}
 use Rattle.tt_cert.specs.Checks.{IsOutOfMemory}
 use Rattle.tt_cert.specs.declared.budget.Budget.{Budget}
 use Rattle.tt_cert.specs.Contents.{family_of}
@@ -19,7 +20,7 @@ IsLeastFor x found =
 
 -- for this many updates enough points were counted: a point makes two at most, and the start one
 abbrev pub AreCounted : Budget → Budget → ℕ → Type 0
-AreCounted old new updates = updates ≤ 1 + 2 * (old.left - new.left)
+AreCounted old new updates = updates ≤ 1 + 2 * counted_from old new
 
 -- each good family has states in all contexts that were found
 abbrev pub HasLeastContexts : Subject → Found → Type 0

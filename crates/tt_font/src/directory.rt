@@ -61,7 +61,8 @@ impl<'a> Directory<'a> {
         if bytes.len() < 12 {
             return Err(FontFault::DirectoryTruncated);
         }
-        // `sfntVersion`: 1.0, or `'true'` as Apple has it.
+        // `sfntVersion`: 0x10000 is 1.0, and 0x7472_7565 is `'true'`, as some of Apple's fonts have
+        // it.
         let version = u32_at(bytes, 0);
         if version != 0x10000 && version != 0x7472_7565 {
             return Err(FontFault::NotSfnt);

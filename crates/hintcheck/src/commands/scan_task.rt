@@ -118,7 +118,7 @@ fn scan_font<R: Files + AllocGlobal, O: Sink>(
 ) -> Result<u8, CommandFault>
     ensures tells { IfOk result (TellsFonts (name.now ∷ [])) }
     ensures printed { IfOk result (λ status.
-        PrintsScan (name.now ∷ []) status (O.contents out.old) (O.contents out.new)) }
+        PrintsScan budget (name.now ∷ []) status (O.contents out.old) (O.contents out.new)) }
     ensures failures { TellsFailure result (O.failures out.old) (O.failures out.new) }
     ensures faults { IfErr result IsFaultOfPrinting }
 {
@@ -151,10 +151,11 @@ pub(super) fn scan_fonts<R: Files + AllocGlobal, O: Sink>(
         (λ font. (bytes : List ℕ) × HoldSafeFont bytes) (map (λ s. string_bytes s) fonts.now)) }
     ensures refused { IfOk result
         (λ status. status ≡ 1 → (bytes : List ℕ) × HoldRefusedFont bytes) }
-    ensures printed { IfOk result (λ status. PrintsScan (map (λ s. string_bytes s) fonts.now)
+    ensures printed { IfOk result (λ status.
+        PrintsScan budget (map (λ s. string_bytes s) fonts.now)
         status (O.contents out.old) (O.contents out.new)) }
     ensures scanned { IfErr result (λ fault. IsOfScan fault
-        → PrintsScan (map (λ s. string_bytes s) fonts.now) (status_of fault)
+        → PrintsScan budget (map (λ s. string_bytes s) fonts.now) (status_of fault)
         (O.contents out.old) (O.contents out.new)) }
     ensures failures { TellsFailure result (O.failures out.old) (O.failures out.new) }
     ensures faults { IfErr result (λ fault. IsFaultOfScan fault ⊎ IsFaultOfPrinting fault) }

@@ -1,5 +1,5 @@
 -- The check's walk through the points of a certificate.
-use Rattle.std.specs.Prelude.{◌≡◌, ◌↔◌, ℕ, ◌+◌, ◌<◌, ◌≤◌, ◌^◌, ◌⊎◌, Option, Some, None, IfSome, IsTrue, List, [], ◌∷◌, ◌++◌, length, reverse, slice_get}
+use Rattle.std.specs.Prelude.{◌≡◌, ◌↔◌, ℕ, ◌+◌, ◌<◌, ◌≤◌, ◌^◌, ◌⊎◌, Bool, true, false, Option, Some, None, IfSome, IsTrue, List, [], ◌∷◌, ◌++◌, length, reverse, slice_get}
 use Rattle.std.specs.List.{All}
 use Rattle.std.specs.List.Sorted.{IsStrictlySortedBy}
 use Rattle.std.specs.Map.{keys_of}
@@ -208,6 +208,12 @@ IsShorter old new others others' offset =
     (length (to_come new.next others') < length (to_come old.next others))
     ⊎ ((length (to_come new.next others') ≡ length (to_come old.next others))
     × (old.carried ≡ Some offset))
+
+-- at a point at most one listed state fewer is to come, and after the last point none is
+abbrev pub TakesOne : Bool → Cursor → Cursor → List Entry → List Entry → Type 0
+TakesOne true old new others others' =
+    length (to_come old.next others) ≤ length (to_come new.next others') + 1
+TakesOne false old new others others' = length (to_come old.next others) ≡ 0
 
 -- what a check finds: the program isn't too long, the start is covered, the end has a state where
 -- it must, and all points are walked

@@ -14,6 +14,7 @@ loop-offset-init c = record {
   walk = c.requires.walk;
   to_come = c.requires.to_come;
   spends = (refl, omega arith);
+  counted = let all = ap length c.requires.all in omega arith;
   way = nothing_walked (setting_of c.args.setting.now) c.args.listing c.args.certificate.now c.order_facts.ensures.0 c.args.walk.now c.args.states c.requires.all c.requires.carried;
 }
 
@@ -75,6 +76,14 @@ loop-offset-preserved c =
     record {
       walk = c.in_default-check_point.ensures.walk;
       to_come = subst C (sym c.check_point.ensures.next) c.in_ok-offset.ensures.to_come;
+      counted =
+          let one : length (to_come c.loop-offset.walk.next c.loop-offset.states) ≤ length (to_come c.go_on.new.self.next c.go_on.new.states) + 1 = rw c.in-Some.is at c.in_ok-offset.ensures.one in
+          let next : length (to_come c.check_point.new.walk.next c.go_on.new.states) ≡ length (to_come c.go_on.new.self.next c.go_on.new.states) =
+          ap (λ n. length (to_come n c.go_on.new.states)) c.check_point.ensures.next in
+          let before = c.loop-offset.invariant.counted in
+          let left = c.in_default-check_point.ensures.counted.0 in
+          let most = c.loop-offset.invariant.spends.1 in
+          omega arith;
       spends = spends_on c.args.budget.now c.loop-offset.budget c.check_point.new.budget c.loop-offset.invariant.spends c.check_point.ensures.spends;
       way = on_way S c.args.listing v c.order_facts.ensures.0 c.go_on.new.self c.go_on.new.states c.in-Some.offset point c.in_ok-offset.ensures.walk.there
           c.check_point.new.walk c.check_point.ensures.context c.check_point.ensures.next c.in_default-check_point.ensures.passed;
@@ -84,3 +93,9 @@ pub returns-clause-sound : goal.returns-clause-sound
 returns-clause-sound c =
     let S = setting_of c.args.setting.now in
     subst (IsAtNext S c.args.listing c.args.certificate.now c.go_on.new.self c.go_on.new.states) c.in_default.is (c.in_ok-offset.ensures.point S c.args.listing c.loop-offset.invariant.way)
+
+pub returns-clause-counted : goal.returns-clause-counted
+returns-clause-counted c =
+    let none : length (to_come c.loop-offset.walk.next c.loop-offset.states) ≡ 0 = rw c.in_default.is at c.in_ok-offset.ensures.one in
+    let before = c.loop-offset.invariant.counted in
+    omega arith

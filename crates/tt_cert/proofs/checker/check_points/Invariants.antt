@@ -1,4 +1,4 @@
-use Rattle.std.proofs.Common.{length, ◌+◌, ◌*◌}
+use Rattle.std.proofs.Common.{length, ◌+◌, ◌-◌, ◌*◌, ◌≤◌}
 use Rattle.tt_abs.specs.Settings.{setting_of}
 use Rattle.tt_cert.specs.Budgets.{Spends}
 use Rattle.tt_cert.specs.Representation.Cursors.{AreToCome, IsOnWay, IsWalk, to_come}
@@ -10,6 +10,7 @@ invariant-loop-offset l = record {
   walk : IsWalk l.certificate l.walk;
   to_come : AreToCome l.certificate l.walk.next l.states;
   spends : Spends l.initial.budget l.budget;
+  counted : length l.certificate.states ≤ length (to_come l.walk.next l.states) + (l.initial.budget.left - l.budget.left);
   way : IsOnWay (setting_of l.setting) l.listing l.certificate l.walk l.states;
 }
 

@@ -76,3 +76,15 @@ returns-clause-point c = λ s listing way.
           let no_such : true ≡ false = sym (w.is_coming_after.ensures.1 after') ∙ w.if-is_coming_after.false in cc
       | in_default w ↦ let no_such : None ≡ Some o = sym w.in_default.is ∙ is in cc
     ]
+
+pub returns-in_default-next-clause-one : goal.returns-in_default-next-clause-one
+returns-in_default-next-clause-one c = ap (λ n. length (to_come n c.args.states.now)) c.in_default-next.is
+
+pub returns-clause-one : goal.returns-clause-one
+returns-clause-one c =
+    let rest : c.args.states.now ≡ to_come c.go_to.new.self.next c.take_first-self.new.self =
+    taken c.take_first-self.result c.args.states.now c.take_first-self.new.self c.take_first-self.ensures.none c.take_first-self.ensures.some
+    ∙ ap (λ n. to_come n c.take_first-self.new.self) (sym c.in_ok-go_to.ensures.next) in
+    let here = ap (λ n. length (to_come n c.args.states.now)) c.in-Some-next.is in
+    let long = ap length rest in
+    omega arith
