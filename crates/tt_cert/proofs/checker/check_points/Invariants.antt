@@ -7,10 +7,10 @@ use Rattle.tt_cert.proofs.checker.check_points.Given as goal
 
 abbrev pub invariant-loop-offset : goal.invariant-loop-offset
 invariant-loop-offset l = record {
+  counted : length l.certificate.states ≤ length (to_come l.walk.next l.states) + (l.initial.budget.left - l.budget.left);
   walk : IsWalk l.certificate l.walk;
   to_come : AreToCome l.certificate l.walk.next l.states;
   spends : Spends l.initial.budget l.budget;
-  counted : length l.certificate.states ≤ length (to_come l.walk.next l.states) + (l.initial.budget.left - l.budget.left);
   way : IsOnWay (setting_of l.setting) l.listing l.certificate l.walk l.states;
 }
 
