@@ -20,7 +20,7 @@ use crate::session::Session;
 use std::alloc::{AllocError, Global};
 use thiserror::Error;
 use tt_cert::Budget;
-use tt_cert_file::{EncodeFault, encode, write_header};
+use tt_cert_file::{EncodeFault, Encoder, write_header};
 use tt_find::Finder;
 use tt_font::{Font, FontFault};
 use tt_stream::Sink;
@@ -98,6 +98,7 @@ fn write_sections<W: Sink>(
 {
     let mut session = Session::new(font);
     let mut finder = Finder::new(alloc);
+    let mut encoder = Encoder::new(alloc);
     while let Some((outcome, found)) = session.search_next(
         alloc,
         &mut finder,
@@ -107,7 +108,7 @@ fn write_sections<W: Sink>(
         // No program was refused when the families were found first, so none is now.
         let found = found.unwrap();
         found.certificate.order_facts();
-        encode(alloc, outcome.program, &found.certificate, sink)?;
+        encoder.encode(outcome.program, &found.certificate, sink)?;
         finder.take_back(found.certificate);
     }
     Ok(())

@@ -18,7 +18,7 @@ use crate::sections::{HEADER, Progress, SECTIONS, next_section};
 use std::alloc::{AllocError, Global};
 use thiserror::Error;
 use tt_cert_file::{
-    DecodeFault, Decoder, EncodeFault, encode, read_end, read_header, write_header,
+    DecodeFault, Decoder, EncodeFault, Encoder, read_end, read_header, write_header,
 };
 use tt_stream::{Sink, Source};
 
@@ -92,6 +92,7 @@ fn name_of(number: u32) -> Name
 fn upgrade_section<S: Source, W: Sink>(
     alloc: Global,
     decoder: &mut Decoder,
+    encoder: &mut Encoder,
     number: u32,
     source: &mut S,
     progress: &mut Progress,
@@ -118,7 +119,7 @@ fn upgrade_section<S: Source, W: Sink>(
 {
     let name = name_of(number);
     let certificate = next_section(alloc, decoder, source, progress, name)?;
-    encode(alloc, name, &certificate, sink)?;
+    encoder.encode(name, &certificate, sink)?;
     decoder.take_back(certificate);
     Ok(())
 }
@@ -150,8 +151,17 @@ fn upgrade_sections<S: Source, W: Sink>(
     ensures writes { CountsWrites result (W.failures sink.old) (W.failures sink.new) }
 {
     let mut decoder = Decoder::new();
+    let mut encoder = Encoder::new(alloc);
     for number in 0..count {
-        upgrade_section(alloc, &mut decoder, number, source, progress, sink)?;
+        upgrade_section(
+            alloc,
+            &mut decoder,
+            &mut encoder,
+            number,
+            source,
+            progress,
+            sink,
+        )?;
     }
     Ok(())
 }

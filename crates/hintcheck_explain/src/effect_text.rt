@@ -23,8 +23,8 @@ fn operand_text(operand: Operand) -> &'static str {
         Operand::Zone => "a zone",
         Operand::Contour => "a contour",
         Operand::LoopPoints(_) => "as many points as the loop number says",
-        Operand::PointPairs(_) => "a count, and so many pairs of a point and a number",
-        Operand::CvtPairs => "a count, and so many pairs of a control value's index and a number",
+        Operand::PointPairs(_) => "a count, and that many pairs of a point and a number",
+        Operand::CvtPairs => "a count, and that many pairs of a control value's index and a number",
     }
 }
 

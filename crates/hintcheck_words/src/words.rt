@@ -122,7 +122,7 @@ fn needed_number<'a>(alloc: Global, id: &'a str, help: &'a str) -> Arg<'a>
 
 /// What is printed at `--version`, after the program's name: the version, and the kit by which it
 /// is proved.
-const VERSION: &str = "0.9.0 (rattle-kit-13b logic dac8208d650f15bf)";
+const VERSION: &str = "0.9.0 (rattle-kit-13f logic dac8208d650f15bf)";
 
 /// A subcommand's name, what it does, and an example of its words.
 #[derive(Clone, Copy)]

@@ -21,4 +21,4 @@ pub use header::{read_end, read_header, write_header};
 pub use laws::no_section_begins_another;
 pub use name::Name;
 pub use reading::{Decoder, decode};
-pub use writing::encode;
+pub use writing::{Encoder, encode};

@@ -28,7 +28,7 @@ use tt_code::Frame;
 use tt_code::kinds::{Pointer, Reference};
 use tt_stream::{Sink, write_all};
 
-/// How many bytes of a section there is room for from the start: most sections have fewer.
+/// How many bytes there is room for from the first section on: most sections have fewer.
 const ROOM: usize = 16_384;
 
 /// How many cells fewer are tried next, where the lowest cells of two states aren't all the same.
@@ -331,22 +331,61 @@ fn push_states(out: &mut Vec<u8>, certificate: &Certificate) -> Result<(), Alloc
     Ok(())
 }
 
-/// Returns the bytes of a section.
-fn section_bytes(
-    alloc: Global,
-    name: Name,
-    certificate: &Certificate,
-) -> Result<Vec<u8>, AllocError>
-    ensures text { IfOk result (λ bytes.
-        bytes.items ≡ section_text Form.Four (section_of name certificate.now)) }
+/// Makes the bytes of a section, in the memory of others.
+fn push_section(out: &mut Vec<u8>, name: Name, certificate: &Certificate) -> Result<(), AllocError>
+    ensures text { OnOk result
+        (out.new.items ≡ section_text Form.Four (section_of name certificate.now)) }
     ensures fits { OnOk result (AreCallsInTurn certificate.now.contexts
         → Fits Form.Four (section_of name certificate.now)) }
 {
-    let mut out = Vec::with_capacity(alloc, ROOM)?;
-    push_name(&mut out, name)?;
-    push_contexts(&mut out, certificate)?;
-    push_states(&mut out, certificate)?;
-    Ok(out)
+    out.clear();
+    out.reserve(ROOM)?;
+    push_name(out, name)?;
+    push_contexts(out, certificate)?;
+    push_states(out, certificate)
+}
+
+/// A writer of sections, one after the other, each in the memory of those before it. What is
+/// written doesn't depend on them.
+#[derive(Drop)]
+pub struct Encoder {
+    /// The bytes of the last section.
+    bytes: Vec<u8>,
+}
+
+impl Encoder {
+    /// Makes a writer that has written nothing. It takes no memory.
+    pub fn new(alloc: Global) -> Self {
+        Encoder {
+            bytes: Vec::new(alloc),
+        }
+    }
+
+    /// Writes a section, as `encode` does.
+    ///
+    /// # Errors
+    /// As `encode`.
+    pub fn encode<W: Sink>(
+        &mut self,
+        name: Name,
+        certificate: &Certificate,
+        sink: &mut W,
+    ) -> Result<(), EncodeFault>
+        ensures written { OnOk result (Appends (W.contents sink.old) (W.contents sink.new)
+            (section_text Form.Four (section_of name certificate.now))) }
+        // The section keeps the rules by which it is read, if each context's calls are in their
+        // turns and no body runs twice in them.
+        ensures fits { OnOk result (AreCallsInTurn certificate.now.contexts
+            → Fits Form.Four (section_of name certificate.now)) }
+        ensures beginning { OnErr result
+            (AppendsBeginning (W.contents sink.old) (W.contents sink.new)
+            (section_text Form.Four (section_of name certificate.now))) }
+        ensures failures { CountsWrite result (W.failures sink.old) (W.failures sink.new) }
+    {
+        push_section(&mut self.bytes, name, certificate)?;
+        write_all(sink, &self.bytes)?;
+        Ok(())
+    }
 }
 
 /// Writes the section of a program with this name and this family, in form 4.
@@ -372,7 +411,5 @@ pub fn encode<W: Sink>(
         (section_text Form.Four (section_of name certificate.now))) }
     ensures failures { CountsWrite result (W.failures sink.old) (W.failures sink.new) }
 {
-    let bytes = section_bytes(alloc, name, certificate)?;
-    write_all(sink, &bytes)?;
-    Ok(())
+    Encoder::new(alloc).encode(name, certificate, sink)
 }

@@ -231,6 +231,16 @@ fn find_fixpoint(
     }
 }
 
+/// Takes a builder, and empties it.
+fn take_emptied(alloc: Global, builder: &mut Builder) -> Builder
+    ensures contexts { result.contexts ≡ [] ∷ [] }
+    ensures states { result.states ≡ [] }
+{
+    let mut taken = mem::replace(builder, Builder::new(alloc));
+    taken.clear();
+    taken
+}
+
 /// The memory of a finder, which one program after another uses.
 #[derive(Drop)]
 pub struct Finder {
@@ -248,17 +258,6 @@ impl Finder {
             solver: Solver::new(alloc),
             memory: Builder::new(alloc),
         }
-    }
-
-    /// Takes an empty builder with the memory for a family that is put in order.
-    fn take_memory(&mut self, alloc: Global) -> Builder
-        ensures contexts { result.contexts ≡ [] ∷ [] }
-        ensures states { result.states ≡ [] }
-        ensures solver { self.new.solver ≡ self.old.solver }
-    {
-        let mut memory = mem::replace(&mut self.memory, Builder::new(alloc));
-        memory.clear();
-        memory
     }
 
     /// Takes back the memory of a certificate, in place of the states that the finder has.
@@ -315,7 +314,7 @@ impl Finder {
             Err(fault) => return Err(fault),
         };
         let builder = mem::replace(&mut self.solver.builder, Builder::new(alloc));
-        let memory = self.take_memory(alloc);
+        let memory = take_emptied(alloc, &mut self.memory);
         match builder.finish_in(memory) {
             Ok((certificate, rest)) => {
                 self.memory = rest;
@@ -379,7 +378,7 @@ impl Finder {
             Err(fault) => return Err(fault),
         };
         let builder = mem::replace(&mut self.solver.builder, Builder::new(alloc));
-        let memory = self.take_memory(alloc);
+        let memory = take_emptied(alloc, &mut self.memory);
         match builder.finish_without(&self.solver.spare, memory) {
             Ok((certificate, rest)) => {
                 self.memory = rest;

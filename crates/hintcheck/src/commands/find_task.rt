@@ -26,7 +26,7 @@ use tt_font::Font;
 use tt_stream::{Counted, Sink};
 
 /// Returns the verdict on a font, whose certificate is written to the sink where no program is
-/// refused, and makes at most so many points, where they are bounded.
+/// refused, and makes at most this many points, where they are bounded.
 fn find_within_points<W: Sink>(
     alloc: Global,
     font: &Font<'_>,
@@ -48,7 +48,7 @@ fn find_within_points<W: Sink>(
 }
 
 /// Returns the verdict on a font, and the file, to which the font's certificate is written where no
-/// program is refused. It makes at most so many points, where they are bounded.
+/// program is refused. It makes at most this many points, where they are bounded.
 fn verdict_to_file<L: Ledger, F: Write + Drop>(
     alloc: Global,
     font: &Font<'_>,

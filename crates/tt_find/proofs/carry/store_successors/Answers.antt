@@ -1,4 +1,4 @@
-use Rattle.std.specs.Prelude.{false, cond, slice_get, suc, ◌≤◌}
+use Rattle.std.specs.Prelude.{false, cond, slice_get, suc, zero, ◌≤◌}
 use Rattle.std.specs.Option.{is_some}
 use Rattle.std.proofs.Common.{◌≡◌, ◌∙◌, ◌+◌, ◌++◌, ℕ, Option, Some, None, Err, ap, arith, refl, sym, subst}
 use Rattle.tt_code.specs.declared.reason.Reason.TheVariants.{TooManyContexts}
@@ -73,11 +73,11 @@ returns-in-Err-store-clause-stops c =
 
 -- there are two ways at most
 way_within : (ways : Moves) (index : ℕ) (way : Move) → slice_get (ways_of ways) index ≡ Some way → index + 1 ≤ 2
-way_within (One w) 0 way e = omega arith
+way_within (One w) zero way e = omega arith
 way_within (One w) (suc i) way e = absurd (cc)
-way_within (Two w offset) 0 way e = omega arith
-way_within (Two w offset) 1 way e = omega arith
-way_within (Two w offset) (suc (suc i)) way e = absurd (cc)
+way_within (Two m n) zero way e = omega arith
+way_within (Two m n) (suc zero) way e = omega arith
+way_within (Two m n) (suc (suc i)) way e = absurd (cc)
 
 none_of : (o : Option ℕ) → is_some o ≡ false → o ≡ None
 none_of None e = refl

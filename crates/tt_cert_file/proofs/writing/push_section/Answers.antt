@@ -1,5 +1,5 @@
 use Rattle.tt_cert_file.proofs.Fitting.{section_fits}
-use Rattle.tt_cert_file.proofs.writing.section_bytes.Goals as goal
+use Rattle.tt_cert_file.proofs.writing.push_section.Goals as goal
 
 pub returns-clause-fits : goal.returns-clause-fits
 returns-clause-fits c =
