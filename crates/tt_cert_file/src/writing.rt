@@ -342,7 +342,8 @@ fn push_section(out: &mut Vec<u8>, name: Name, certificate: &Certificate) -> Res
     out.reserve(ROOM)?;
     push_name(out, name)?;
     push_contexts(out, certificate)?;
-    push_states(out, certificate)
+    push_states(out, certificate)?;
+    Ok(())
 }
 
 /// A writer of sections, one after the other, each in the memory of those before it. What is
