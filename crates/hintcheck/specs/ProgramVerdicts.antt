@@ -69,7 +69,8 @@ IsListedIn form s family = IsGoodListing form (setting_of s) s.start.now family
 
 -- the fault refuses a program by this name, which is last in the list
 abbrev pub IsAppendedRefusal : Name → ProgramFault → List AnyRefused → List AnyRefused → Type 0
-IsAppendedRefusal called (Refused spot offset r) old new = new ≡ old ++ reported_at called spot offset r ∷ []
+IsAppendedRefusal called (Refused spot offset r) old new =
+    new ≡ old ++ reported_at called spot offset r ∷ []
 IsAppendedRefusal called (OutOfMemory e) old new = ⊥
 
 -- a family is searched for a certificate

@@ -22,8 +22,8 @@ pub data Answer : Type 0 where
   judged : Judgement → Answer
   unread : CommandFault → Answer
 
--- The verdict is that on the font in some bytes, and the fault is one of a font file, and a budget's
--- only where there is one: no contract of the runtime tells which bytes a file has.
+-- The verdict is that on the font in some bytes, and the fault is one of a font file, and a
+-- budget's only where there is one: no contract of the runtime tells which bytes a file has.
 abbrev pub IsAnswer : Option ℕ → Answer → Type 0
 IsAnswer budget (judged judgement) = (bytes : List ℕ) × IsVerdictOn bytes judgement
 IsAnswer budget (unread reported) = IsFaultOfFontFile reported × IsWithin budget reported
@@ -105,8 +105,9 @@ abbrev pub greatest_status : List Scanned → ℕ
 greatest_status [] = 0
 greatest_status (s ∷ others) = max (status_of_answer s.answer) (greatest_status others)
 
--- The files with these names were scanned, each within this budget, this is the greatest exit status
--- of them, and their lines were written in the order of the names, where the written bytes are known.
+-- The files with these names were scanned, each within this budget, this is the greatest exit
+-- status of them, and their lines were written in the order of the names, where the written bytes
+-- are known.
 pub record PrintsScan (budget : Option ℕ) (names : List (List ℕ)) (status : ℕ)
     (old new : Option (List ℕ)) : Type 0 where
   pub scanned : List Scanned

@@ -224,12 +224,13 @@ pub fn find_font<W: Sink>(
 }
 
 /// Returns the verdict on the programs of a font file and writes its certificate, as `find_font`
-/// does, and makes at most as many points as the budget allows: each state that is carried on is
-/// one, and those that are found once more to be written are further ones.
+/// does, and makes at most as many points as the budget allows: one point is made each time that a
+/// state is carried on, and those that are found once more to be written are further ones.
 ///
 /// # Errors
-/// As `find_font`; `Budget` exactly where more points were to be made. Then too a beginning of the
-/// certificate was written, perhaps an empty one.
+/// As `find_font`; `Budget` only where more points were to be made than the budget allows, in this
+/// call or in an earlier one. Then too a beginning of the certificate was written, perhaps an empty
+/// one. A fault of the font or a failed write may come first, and a verdict is told in any case.
 pub fn find_font_within<W: Sink>(
     alloc: Global,
     font: &[u8],

@@ -23,8 +23,8 @@ abbrev pub status_of : List Refused → ℕ
 status_of [] = 0
 status_of (r ∷ rs) = 1
 
--- a verdict in numbers, with room for this many refusals, for which this many points were made; 32
--- bits tell how many programs are refused
+-- a verdict in numbers, with room for `room` refusals, for which `points` points were made; 32 bits
+-- tell how many programs are refused
 abbrev pub verdict_answer : Judgement → ℕ → ℕ → HintcheckAnswer
 verdict_answer judgement room points = record {
   status = status_of judgement.refused;

@@ -206,7 +206,7 @@ impl Heap {
         }
     }
 
-    /// Takes the room, but for what a call is left.
+    /// Takes the room, except for what a call is left.
     pub(crate) fn take_room(&mut self) {
         if let Some(refuser) = &self.refuser {
             refuser.start();

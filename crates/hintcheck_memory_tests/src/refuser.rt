@@ -3,9 +3,9 @@
 
 use std::alloc::Global;
 
-/// How many bytes no memory has. A request for as many or more is a message to that allocator:
-/// what is added is the number of the growth that is refused, counted from then on. With nothing
-/// added, none is refused any more, and the answer is whether one was.
+/// A number of bytes that no memory has. A request for as many or more is a message to that
+/// allocator: what is added is the number of the growth that is refused, counted from then on. With
+/// nothing added, none is refused any more, and the answer is whether one was.
 const MESSAGE: usize = 0x4000_0000_0000_0000;
 
 /// Sends a message with this number added, and returns what is answered.

@@ -67,7 +67,7 @@ common-next {V} same x xs b ra rb r is =
 -- The common entries are those before kept, and those that are still to be found from at on.
 pub record Gathered {V : Type 0} (same : V → V → Bool) (whole mine rest : List (ℕ × V)) (kept at : ℕ) : Type 0 where
   pub few : kept ≤ at
-  pub mine_rise : Ascends (drop at mine)
+  pub mine_ascend : Ascends (drop at mine)
   pub rest_ascends : Ascends rest
   pub common : take kept mine ++ common_entries same (drop at mine) rest ≡ whole
 
@@ -79,7 +79,7 @@ next_common : {V : Type 0} (same : V → V → Bool) (whole mine rest : List (�
     → take kept mine ++ cond r (e ∷ common_entries same (drop (at + 1) mine) (entries_from e.0 rest)) (common_entries same (drop (at + 1) mine) (entries_from e.0 rest)) ≡ whole
 next_common {V} same whole mine rest kept at e lt is held r begins =
     let R : List (ℕ × V) → Type 0 = λ es. Ascends es in
-    let next = common-next same e (drop (at + 1) mine) rest (subst R (front mine at e lt is) held.mine_rise) held.rest_ascends r begins in
+    let next = common-next same e (drop (at + 1) mine) rest (subst R (front mine at e lt is) held.mine_ascend) held.rest_ascends r begins in
     ap (λ (es : List (ℕ × V)). take kept mine ++ es) (sym next ∙ ap (λ (es : List (ℕ × V)). common_entries same es rest) (sym (front mine at e lt is))) ∙ held.common
 
 kept_step : {V : Type 0} (same : V → V → Bool) (whole mine rest : List (ℕ × V)) (kept at : ℕ) (e : ℕ × V) → at < length mine → e ≡ get_or mine at e → Gathered same whole mine rest kept at
@@ -92,7 +92,7 @@ kept_step {V} same whole mine rest kept at e lt is held begins =
     let dropped : drop (at + 1) (set mine kept e) ≡ drop (at + 1) mine = drop-set-lt (at + 1) mine kept e (omega arith) in
     record {
       few = omega arith;
-      mine_rise = subst R (sym dropped) (subst R (front mine at e lt is) held.mine_rise).1;
+      mine_ascend = subst R (sym dropped) (subst R (front mine at e lt is) held.mine_ascend).1;
       rest_ascends = Ascends-from e.0 rest held.rest_ascends;
       common = ap (λ (es : List (ℕ × V)). es ++ common_entries same (drop (at + 1) (set mine kept e)) from) taken
           ∙ ap (λ (es : List (ℕ × V)). (take kept mine ++ (e ∷ [])) ++ common_entries same es from) dropped
@@ -124,7 +124,7 @@ gather-left {V} same whole mine rest new from kept at more e r lt is held from_i
     let C : ℕ → Type 0 = λ n. Gathered same whole mine (entries_from e.0 rest) n (at + 1) in
     subst A (sym new_is) (subst B (sym from_is) (subst C (sym more_is) (record {
       few = omega arith;
-      mine_rise = (subst R (front mine at e lt is) held.mine_rise).1;
+      mine_ascend = (subst R (front mine at e lt is) held.mine_ascend).1;
       rest_ascends = Ascends-from e.0 rest held.rest_ascends;
       common = next_common same whole mine rest kept at e lt is held false found;
     })))

@@ -163,7 +163,7 @@ impl<'a> Setting<'a> {
     }
 
     /// Makes the setting of a glyph program of the same font, from that of the CVT program. The
-    /// glyph has this many points, phantom points not counted, and this many contours. Its program
+    /// glyph has `points` points, phantom points not counted, and `contours` contours. Its program
     /// starts with these functions, in ascending order of their numbers: those that are known where
     /// the CVT program ends.
     pub fn for_glyph_program(

@@ -172,8 +172,8 @@ fn rest_after<'a, T: EntryValue>(entries: &'a [(u16, T)], entry: &(u16, T)) -> &
 
 /// Whether the first list has all the entries of the second, found by one pass along both.
 fn passes_all<T: EntryValue>(mine: &[(u16, T)], theirs: &[(u16, T)]) -> bool
-    requires mine_rise { Ascends mine.now }
-    requires theirs_rise { Ascends theirs.now }
+    requires mine_ascend { Ascends mine.now }
+    requires theirs_ascend { Ascends theirs.now }
     ensures { IsTrue result ↔ EntriesBelow mine.now theirs.now }
 {
     let mut missing = theirs;
@@ -186,8 +186,8 @@ fn passes_all<T: EntryValue>(mine: &[(u16, T)], theirs: &[(u16, T)]) -> bool
 /// Whether the first list has all the entries of the second. Of two lists of one length this is so
 /// exactly if they are the same.
 fn lists_all<T: EntryValue>(mine: &[(u16, T)], theirs: &[(u16, T)]) -> bool
-    requires mine_rise { Ascends mine.now }
-    requires theirs_rise { Ascends theirs.now }
+    requires mine_ascend { Ascends mine.now }
+    requires theirs_ascend { Ascends theirs.now }
     ensures { IsTrue result ↔ EntriesBelow mine.now theirs.now }
 {
     if mine.len() == theirs.len() {
@@ -213,8 +213,8 @@ fn from_number<T>(entries: &[(u16, T)], number: u16) -> &[(u16, T)]
 
 /// Moves to the front the entries that the other list has too, and returns how many these are.
 fn gather_common<T: EntryValue>(mine: &mut [(u16, T)], theirs: &[(u16, T)]) -> usize
-    requires mine_rise { Ascends mine.old }
-    requires theirs_rise { Ascends theirs.now }
+    requires mine_ascend { Ascends mine.old }
+    requires theirs_ascend { Ascends theirs.now }
     ensures bound { result ≤ length mine.new }
     ensures common { take result mine.new ≡ common_entries T.eq mine.old theirs.now }
 {
@@ -233,8 +233,8 @@ fn gather_common<T: EntryValue>(mine: &mut [(u16, T)], theirs: &[(u16, T)]) -> u
 
 /// Keeps the entries that the other list has too.
 fn keep_common<T: EntryValue>(mine: &mut Vec<(u16, T)>, theirs: &[(u16, T)])
-    requires mine_rise { Ascends mine.old.items }
-    requires theirs_rise { Ascends theirs.now }
+    requires mine_ascend { Ascends mine.old.items }
+    requires theirs_ascend { Ascends theirs.now }
     ensures { mine.new.items ≡ common_entries T.eq mine.old.items theirs.now }
 {
     let kept = gather_common(mine.as_mut_slice(), theirs);

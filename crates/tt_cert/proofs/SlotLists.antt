@@ -123,11 +123,11 @@ rise_from b (list ∷ lists) ascends = list_ascends b list (lists_points (suc b)
 -- the points of the lists, and those beside them
 module _ (lists : List Offsets) (rest : List Point) (places : AreSlotLists lists rest) where
   pub lists_rise : IsStrictlySortedBy place_cmp (keys_of (lists_points 0 lists))
-  lists_rise = rise_from 0 lists places.rise
+  lists_rise = rise_from 0 lists places.ascend
 
   pub places_apart_rest : AreApart (lists_points 0 lists) rest
   places_apart_rest = record {
-    points_rise = lists_rise;
+    points_ascend = lists_rise;
     rest_ascends = places.rest_ascends;
     once = λ p n at. lists_found lists p ∙ places.unlisted p.0 p.1 n at;
   }
@@ -188,7 +188,7 @@ pub places_with_lists : (old new : List Offsets) (rest : List Point) → AreSlot
 places_with_lists old new rest places adds fits =
     let R : Offsets → Type 0 = λ list. Ascends list in
     record {
-      rise = λ c. subst R (sym (adds.lists c)) (places.rise c);
+      ascend = λ c. subst R (sym (adds.lists c)) (places.ascend c);
       rest_ascends = places.rest_ascends;
       unlisted = λ c o n at. ap (λ list. listed list o) (adds.lists c) ∙ places.unlisted c o n at;
       early = λ c o n at below. let B : Offsets → Type 0 = λ list. AreBelow o list in places.early c o n at (subst B (adds.lists c) below);
@@ -267,7 +267,7 @@ module _ (lists : List Offsets) (rest : List Point) (empty : (c : ℕ) → list_
       let R : Offsets → Type 0 = λ list. Ascends list in
       let S : List Point → Type 0 = λ l. IsStrictlySortedBy place_cmp (keys_of l) in
       record {
-        rise = λ c. subst R (sym (empty c)) tt;
+        ascend = λ c. subst R (sym (empty c)) tt;
         rest_ascends = subst S (sym none) tt;
         unlisted = λ c o n at. absurd (let both : None ≡ Some n = sym (ap (λ l. states_of l (c, o)) none) ∙ at in cc);
         early = λ c o n at. absurd (let both : None ≡ Some n = sym (ap (λ l. states_of l (c, o)) none) ∙ at in cc);
@@ -295,9 +295,9 @@ module _ (lists : List Offsets) (rest : List Point) (places : AreSlotLists lists
     put_places =
         let R : Offsets → Type 0 = λ r. Ascends r in
         record {
-          rise = λ c'. elim (cases_eq c' c) [
-            | inl here ↦ subst R (sym (ap (list_of (slice_set lists c list)) here ∙ list_now)) (ascends_pushed o n (list_of lists c) (places.rise c) below)
-            | inr apart ↦ subst R (sym (other_list c' apart)) (places.rise c')
+          ascend = λ c'. elim (cases_eq c' c) [
+            | inl here ↦ subst R (sym (ap (list_of (slice_set lists c list)) here ∙ list_now)) (ascends_pushed o n (list_of lists c) (places.ascend c) below)
+            | inr apart ↦ subst R (sym (other_list c' apart)) (places.ascend c')
           ];
           rest_ascends = places.rest_ascends;
           unlisted = λ c' q m at. elim (cases_eq c' c) [
@@ -342,7 +342,7 @@ module _ (lists : List Offsets) (rest : List Point) (places : AreSlotLists lists
   module _ (behind : AreBelow o (list_of lists c) → ⊥) where
     pub beside_places : AreSlotLists lists (insert_entry place_cmp rest (c, o) n)
     beside_places = record {
-      rise = places.rise;
+      ascend = places.ascend;
       rest_ascends = insert_ascends rest (c, o) n places.rest_ascends;
       unlisted = λ c' q m at. at_place (c', q) m (place_cmp (c', q) (c, o)) refl (sym (insert_found rest (c, o) n (c', q)) ∙ at);
       early = λ c' q m at. not_below (c', q) m (place_cmp (c', q) (c, o)) refl (sym (insert_found rest (c, o) n (c', q)) ∙ at);

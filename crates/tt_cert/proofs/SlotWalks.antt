@@ -50,7 +50,7 @@ found_behind_first e es p n before at = go (place_cmp p e.0) refl
 module _ (points : List Point) (e : Point) (rest : List Point) (apart : AreApart points (e ∷ rest)) where
   apart_behind_other : AreApart points rest
   apart_behind_other = record {
-    points_rise = apart.points_rise;
+    points_ascend = apart.points_ascend;
     rest_ascends = sorted_tail place_cmp e.0 (keys_of rest) apart.rest_ascends;
     once = λ p n at. apart.once p n (found_behind_first e rest p n (sorted_head place_cmp e.0 (keys_of rest) apart.rest_ascends) at);
   }
@@ -58,7 +58,7 @@ module _ (points : List Point) (e : Point) (rest : List Point) (apart : AreApart
 module _ (e : Point) (points rest : List Point) (apart : AreApart (e ∷ points) rest) where
   apart_behind_first : AreApart points rest
   apart_behind_first = record {
-    points_rise = sorted_tail place_cmp e.0 (keys_of points) apart.points_rise;
+    points_ascend = sorted_tail place_cmp e.0 (keys_of points) apart.points_ascend;
     rest_ascends = apart.rest_ascends;
     once = λ p n at. none_behind_first e points p (apart.once p n at);
   }
@@ -111,7 +111,7 @@ module _ (first other : Option Point) (points rest : List Point) (apart : AreApa
           → IfSome o (λ e. t ≡ e ∷ merged (with_first first points) (with_first r rest'))
       go None h k at = tt
       go (Some e) h k at =
-          sym at ∙ merged_other (with_first first points) rest e (other_before e first points h.points_rise k) (sorted_head place_cmp e.0 (keys_of rest) h.rest_ascends)
+          sym at ∙ merged_other (with_first first points) rest e (other_before e first points h.points_ascend k) (sorted_head place_cmp e.0 (keys_of rest) h.rest_ascends)
           ∙ ap (λ l. e ∷ merged (with_first first points) l) (sym (taken_first r rest rest' none some))
 
 -- the first point of the lists is taken

@@ -16,7 +16,8 @@ IsContextAt contexts n e =
 -- parent, call, body, turn and count
 pub record IsAscending (contexts : List (List Frame)) : Type 0 where
   pub parents : (n : ℕ) → 0 < n → n < length contexts → (e : ℕ × Frame) × IsContextAt contexts n e
-  pub ascends : (m n : ℕ) (d e : ℕ × Frame) → m < n → IsContextAt contexts m d → IsContextAt contexts n e
+  pub ascends : (m n : ℕ) (d e : ℕ × Frame) → m < n
+      → IsContextAt contexts m d → IsContextAt contexts n e
       → key_cmp (key_of d) (key_of e) ≡ Less
 
 -- the same contexts, whatever their numbers, and the same state at each point

@@ -26,6 +26,10 @@ Counts old new = (old.left ≡ new.left + 1) × (new ≡ record old { left = new
 abbrev pub counted_from : Budget → Budget → ℕ
 counted_from old new = old.left - new.left
 
+-- at least this many points were counted from the one to the other
+abbrev pub IsPaidFor : Budget → Budget → ℕ → Type 0
+IsPaidFor old new count = count ≤ counted_from old new
+
 -- as many points were made as may be, and one more was to be made
 abbrev pub Exceeds : Budget → Budget → Type 0
 Exceeds old new = (old.left ≡ 0) × (new ≡ record old { is_over = true })

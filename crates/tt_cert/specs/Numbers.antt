@@ -19,7 +19,7 @@ same_frame-decides a b =
       (λ e. fields.1 (((ap (λ (x : Frame). x.body) e, ap (λ (x : Frame). x.call) e), ap (λ (x : Frame). x.turn) e), ap (λ (x : Frame). x.count) e)),
     )
 
--- and `same_frames` whether two lists of frames are
+-- `same_frames` decides whether two lists of frames are the same
 pub same_frames-decides : (as' bs : List Frame) → Decides (same_frames as' bs) (as' ≡ bs)
 same_frames-decides [] [] = ((λ _. refl), (λ _. refl))
 same_frames-decides [] (b ∷ bs) = ((λ t. cc), (λ e. cc))

@@ -40,7 +40,7 @@ pub number_at : (v : Contents) (c : ℕ) → IsFamily v → c < length v.context
     → number_of v.contexts (frames_at v.contexts c) ≡ c
 number_at v c family lt = number_of-is v.contexts (frames_at v.contexts c) c family.distinct lt refl
 
--- so that the family's state at its point is the one that is kept under its number and the offset
+-- the family's state at a point is the one that is kept under its context's number and its offset
 pub family_at : (v : Contents) (c o : ℕ) → IsFamily v → c < length v.contexts
     → family_of v (place_of v c o) ≡ states_of v.states (c, o)
 family_at v c o family lt = ap (λ n. states_of v.states (n, o)) (number_at v c family lt)
@@ -73,7 +73,7 @@ PutsAt-family o old new c off t changed family same lt put =
         let frames : p.0 ≡ frames_at old.contexts c = sym at ∙ ap (frames_at old.contexts) first in
         λ i. (frames i, second i)
 
--- and all states together weigh more by what the family's state there adds
+-- all states together weigh more by what the family's state at that point adds
 pub Reweighs-family : (old new : Contents) (c off : ℕ) → IsFamily old → new.contexts ≡ old.contexts
     → c < length old.contexts
     → ReweighsStates old.states new.states (c, off) → Reweighs old new (place_of old c off)

@@ -1,14 +1,14 @@
 //! The check of a certificate: whether its family is good for a program, or can be filled up to a
 //! good one.
 
-ghost use Rattle.std.specs.Prelude.{◌≡◌, ◌↔◌, ◌<◌, ◌≤◌, ◌^◌, [], None, IfOk, IfErr, IsFalse, IsTrue, OnOk, length};
+ghost use Rattle.std.specs.Prelude.{◌≡◌, ◌↔◌, ◌<◌, ◌^◌, [], None, IfOk, IfErr, IsFalse, IsTrue, OnOk, length};
 ghost use Rattle.std.specs.List.{All};
 ghost use Rattle.tt_abs.specs.Entries.{Ascends};
 ghost use Rattle.tt_abs.specs.Families.{CoversAt};
 ghost use Rattle.tt_abs.specs.Lines.{EndsAt};
 ghost use Rattle.tt_abs.specs.Settings.{setting_of};
 ghost use Rattle.tt_abs.specs.States.{state_order};
-ghost use Rattle.tt_cert.specs.Budgets.{Counts, Spends, counted_from};
+ghost use Rattle.tt_cert.specs.Budgets.{Counts, IsPaidFor, Spends};
 ghost use Rattle.tt_cert.specs.CheckedSubjects.{EndsWellFor, HasGoodFillingFor, HasSafeFillingFor, IsGoodFor, IsSafeFor, IsShortFor, NamesBrokenFirst, NamesFillingBrokenFirst};
 ghost use Rattle.tt_cert.specs.Representation.Cursors.{IsFoundSoundFor, NamesFirstFor, AreToCome, AreUnlisted, IsLeftOutAfter, IsWalk, IsWalkedThrough, NamesBreak, NamesFirstBreak, PassesPoint, to_come};
 ghost use Rattle.tt_cert.specs.Checks.{FitOffsetsBefore, IsOutOfMemory, NamesGap};
@@ -114,7 +114,7 @@ fn check_point(
     budget: &mut Budget,
 ) -> Result<(), ProgramFault>
     requires walk { IsWalk certificate.now walk.old }
-    requires told { FitOffsetsBefore certificate.now walk.old.context }
+    requires fit { FitOffsetsBefore certificate.now walk.old.context }
     requires in_range { state_order.InRange walk.old.made }
     requires unlisted { AreUnlisted certificate.now walk.old.next walk.old.context offset }
     ensures passed { IfOk result (λ _.
@@ -178,7 +178,7 @@ fn check_points<'a>(
     ensures broken { IfErr result
         (NamesFirstBreak (setting_of setting.now) listing certificate.now) }
     ensures counted { IfOk result (λ _.
-        length certificate.now.states ≤ counted_from budget.old budget.new) }
+        IsPaidFor budget.old budget.new (length certificate.now.states)) }
     ensures spends { Spends budget.old budget.new }
 {
     certificate.order_facts();
@@ -205,7 +205,7 @@ fn check_listed(
     ensures sound { IfOk result (λ _. IsFoundSoundFor setting.now listing certificate.now) }
     ensures first { IfErr result (NamesFirstFor setting.now listing certificate.now) }
     ensures counted { IfOk result (λ _.
-        length certificate.now.states ≤ counted_from budget.old budget.new) }
+        IsPaidFor budget.old budget.new (length certificate.now.states)) }
     ensures spends { Spends budget.old budget.new }
 {
     certificate.order_facts();
@@ -272,7 +272,7 @@ pub fn check_full_within(
     ensures exact { IsGoodFor setting.now certificate.now → IfErr result IsOutOfMemory }
     ensures first { IfErr result (NamesBrokenFirst setting.now certificate.now) }
     ensures counted { IfOk result (λ _.
-        length certificate.now.states ≤ counted_from budget.old budget.new) }
+        IsPaidFor budget.old budget.new (length certificate.now.states)) }
     ensures spends { Spends budget.old budget.new }
 {
     setting.range_facts();
@@ -319,7 +319,7 @@ pub fn check_within(
     ensures exact { HasGoodFillingFor setting.now certificate.now → IfErr result IsOutOfMemory }
     ensures first { IfErr result (NamesFillingBrokenFirst setting.now certificate.now) }
     ensures counted { IfOk result (λ _.
-        length certificate.now.states ≤ counted_from budget.old budget.new) }
+        IsPaidFor budget.old budget.new (length certificate.now.states)) }
     ensures spends { Spends budget.old budget.new }
 {
     setting.range_facts();

@@ -91,7 +91,7 @@ pub(crate) fn look_up_successor(
     way: Move,
 ) -> Result<PointKey, ProgramFault>
     requires there { context < length certificate.now.contexts }
-    requires told { FitOffsetsBefore certificate.now context }
+    requires fit { FitOffsetsBefore certificate.now context }
     requires turn { way ≡ Move.NextTurn → HasNextTurn (frames_at certificate.now.contexts context) }
     ensures point { IfOk result
         (IsPointOf certificate.now.contexts (place_from certificate.now.contexts context way)) }

@@ -145,7 +145,7 @@ fn check_successor(
     after: Option<u32>,
 ) -> Result<Coverage, ProgramFault>
     requires walk { IsWalk certificate.now walk.now }
-    requires told { FitOffsetsBefore certificate.now walk.now.context }
+    requires fit { FitOffsetsBefore certificate.now walk.now.context }
     requires turn { way ≡ Move.NextTurn → HasNextTurn (calls_of certificate.now walk.now) }
     requires unlisted { IsUnlistedAfter certificate.now walk.now after }
     requires forward { IsPastStart after }
@@ -178,7 +178,7 @@ pub(crate) fn check_successors(
     after: Option<u32>,
 ) -> Result<Coverage, ProgramFault>
     requires walk { IsWalk certificate.now walk.now }
-    requires told { FitOffsetsBefore certificate.now walk.now.context }
+    requires fit { FitOffsetsBefore certificate.now walk.now.context }
     requires turn { MayTurn (calls_of certificate.now walk.now) moves }
     requires unlisted { IsUnlistedAfter certificate.now walk.now after }
     requires forward { IsPastStart after }

@@ -201,7 +201,8 @@ impl<'a> Model for OffsetListsIter<'a> {
 
     ghost Value = { List ((ℕ × ℕ) × ℕ) };
 
-    ghost view = { λ r. list_points r.context r.list.now ++ lists_points (suc r.context) r.lists.now };
+    ghost view = { λ r.
+        list_points r.context r.list.now ++ lists_points (suc r.context) r.lists.now };
 
     ghost invariant = { λ r. r.context + length r.lists.now < 4294967296 };
 }

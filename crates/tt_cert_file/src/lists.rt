@@ -22,8 +22,8 @@ use tt_stream::{ReadFailed, Source, read_full};
 /// How many bytes a function has: its number, and its body.
 const FUNCTION: usize = 6;
 
-/// How many functions, or bytes of cells, are read at a time. A state may list hundreds of each, and
-/// they are most of a certificate's bytes.
+/// How many functions, or bytes of cells, are read at a time. A state may list hundreds of each,
+/// and they are most of a certificate's bytes.
 const BLOCK: usize = 64;
 
 /// Reads some more of the wanted bytes into the buffer, which already holds this many, in one call.

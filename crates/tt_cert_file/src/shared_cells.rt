@@ -74,8 +74,8 @@ fn count_ahead(text: &StackText, ahead: &[u8], most: usize) -> usize
     0
 }
 
-/// Takes the texts of the lowest cells, at most `count`, where they are read ahead. These cells stay
-/// in the state, and their text is kept. Returns the place after it.
+/// Takes the texts of the lowest cells, at most `count`, where they are read ahead. These cells
+/// stay in the state, and their text is kept. Returns the place after it.
 fn take_shared<S: Source>(
     source: &mut S,
     place: u64,

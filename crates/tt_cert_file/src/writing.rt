@@ -331,7 +331,7 @@ fn push_states(out: &mut Vec<u8>, certificate: &Certificate) -> Result<(), Alloc
     Ok(())
 }
 
-/// Makes the bytes of a section, in the memory of others.
+/// Makes the bytes of a section, in place of those that are there.
 fn push_section(out: &mut Vec<u8>, name: Name, certificate: &Certificate) -> Result<(), AllocError>
     ensures text { OnOk result
         (out.new.items ≡ section_text Form.Four (section_of name certificate.now)) }
@@ -346,8 +346,8 @@ fn push_section(out: &mut Vec<u8>, name: Name, certificate: &Certificate) -> Res
     Ok(())
 }
 
-/// A writer of sections, one after the other, each in the memory of those before it. What is
-/// written doesn't depend on them.
+/// A writer of sections, one after the other: the bytes of each are made in the memory of those
+/// before it. What is written doesn't depend on them.
 #[derive(Drop)]
 pub struct Encoder {
     /// The bytes of the last section.

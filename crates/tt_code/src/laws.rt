@@ -83,7 +83,8 @@ pub fn target_is_there()
 /// States that the instruction that is found at an offset is the one that is there.
 pub fn instructions_are_found()
     ensures { (is : List Instruction) (at : ℕ) (i : Instruction) →
-        AllByRecursion IsInstruction is → ((instruction_at is at ≡ Some i) ↔ IsInstructionAt is at i) }
+        AllByRecursion IsInstruction is
+        → ((instruction_at is at ≡ Some i) ↔ IsInstructionAt is at i) }
 {}
 
 /// States that in a structured program IF, ELSE, FDEF and IDEF lead to just after the instruction

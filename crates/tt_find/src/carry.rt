@@ -1,9 +1,9 @@
 //! How the state that is kept at a point is carried on, in place: until it comes to where states
 //! are kept, or until it goes elsewhere.
 
-ghost use Rattle.std.specs.Prelude.{◌≡◌, ◌<◌, ◌-◌, ◌*◌, IfErr, IfOk, IfSome, IsTrue, OnOk, length};
+ghost use Rattle.std.specs.Prelude.{◌≡◌, ◌<◌, ◌*◌, IfErr, IfOk, IfSome, IsTrue, OnOk, length};
 ghost use Rattle.tt_abs.specs.States.{state_order};
-ghost use Rattle.tt_cert.specs.Budgets.{Counts, Spends};
+ghost use Rattle.tt_cert.specs.Budgets.{Counts, Spends, counted_from};
 ghost use Rattle.tt_cert.specs.Checks.{IsOutOfMemory};
 ghost use Rattle.tt_find.specs.Representation.SolverSubjects.{EndsJustBefore, GoesOnFor, HasLawsFor, IsNextAfter, IsOnWayFor, IsPoppedFor, IsSteppedAt, IsWholeFor, LeadsAlong, LeadsOver, NamesRefusalAt, StopsFor};
 ghost use Rattle.tt_find.specs.Representation.Solvers.{HasRisen, IsStored, IsWalk, KeepsEverywhere, MakesAtMost, StopsApart, TellsSource, refused_in};
@@ -107,7 +107,7 @@ fn goes_over(solver: &Solver, walk: &Walk, source: Origin, next: u32) -> bool
 }
 
 /// Leads the state that an instruction left to the offset just after it. Returns that offset where
-/// the state passes it without being kept; elsewhere it is stored.
+/// the state passes it without being kept; otherwise it is stored there.
 fn step_over(
     solver: &mut Solver,
     walk: &mut Walk,
@@ -207,7 +207,7 @@ fn store_successors(
 /// # Errors
 /// `Fault` with `Refused`, if the state is refused there, or enters one context too many; or for
 /// two states of different depths, where they meet; or with `OutOfMemory`, also where the budget is
-/// met. `Restart` where a state is to be kept at an offset over which states went.
+/// exceeded. `Restart` where a state is to be kept at an offset over which states went.
 fn step_point(
     solver: &mut Solver,
     walk: &mut Walk,
@@ -261,7 +261,7 @@ pub(crate) fn carry_on(
     ensures risen { IfOk result (λ _. HasRisen solver.old solver.new) }
     ensures walk { IfOk result (λ _. IsWalk solver.new.builder walk.new) }
     ensures counted { IfOk result (λ _.
-        MakesAtMost (2 * (budget.old.left - budget.new.left)) solver.old solver.new) }
+        MakesAtMost (2 * counted_from budget.old budget.new) solver.old solver.new) }
     ensures stops { IfErr result (StopsFor setting.now solver.old.marks.everywhere) }
     ensures everywhere { IfOk result (λ _. KeepsEverywhere solver.old solver.new) }
     ensures spends { Spends budget.old budget.new }

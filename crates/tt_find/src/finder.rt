@@ -28,8 +28,8 @@ use tt_code::Reason;
 const STARTS: u32 = 8;
 
 /// A family that was found, and how many updates made its filling: a point's first state is one
-/// update, and each change of it is one more. Where states aren't kept, each that comes counts: so a
-/// finder that has found other families before may count otherwise.
+/// update, and each change of it is one more. Where states aren't kept, each that comes counts: so
+/// a finder that has found other families before may count otherwise.
 #[derive(Drop)]
 pub struct Found {
     pub certificate: Certificate,
@@ -245,7 +245,7 @@ fn take_emptied(alloc: Global, builder: &mut Builder) -> Builder
 #[derive(Drop)]
 pub struct Finder {
     solver: Solver,
-    /// A builder in whose memory a family is put in order.
+    /// A builder in whose memory a family is made anew.
     memory: Builder,
 }
 

@@ -119,8 +119,8 @@ impl Solver {
         Ok(joined)
     }
 
-    /// Notes where a state came from to a point. A new point is spare if its state came from just
-    /// before; once a state comes from elsewhere, the point no longer is.
+    /// Notes from where a state came to a point, and whether that is new. A new point is spare if
+    /// its state came from just before; once a state comes from elsewhere, the point no longer is.
     ///
     /// # Errors
     /// If memory runs out.

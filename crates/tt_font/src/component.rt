@@ -116,7 +116,7 @@ impl ComponentReader {
         requires room { HasRoom self.old 0 }
         ensures component { result ≡ component_at place glyph.now }
         ensures within { IfSome result (λ component. component.after ≤ length glyph.now) }
-        ensures ascends { IfSome result (λ component. place < component.after) }
+        ensures further { IfSome result (λ component. place < component.after) }
         ensures counted { HasRead self.old self.new (if is_some result then 1 else 0) }
     {
         if glyph.len() < place + 4 {

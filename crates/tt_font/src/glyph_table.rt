@@ -97,7 +97,7 @@ impl<'a> GlyphTable<'a> {
         requires { id < self.now.count }
         ensures start { result.0 ≡ entry self.now.format self.now.loca.now id }
         ensures end { result.1 ≡ entry self.now.format self.now.loca.now (id + 1) }
-        ensures ascends { result.0 ≤ result.1 }
+        ensures ordered { result.0 ≤ result.1 }
         ensures within { result.1 ≤ length self.now.glyf.now }
     {
         let start = entry_at(self.format, self.loca, u32::from(id));

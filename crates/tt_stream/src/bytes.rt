@@ -8,6 +8,7 @@ use std::marker::Model;
 /// Bytes in memory as a source: all that are left are read ahead, and no call fails.
 #[derive(Drop)]
 pub struct Bytes<'a> {
+    /// The bytes that are left.
     left: &'a [u8],
 }
 

@@ -68,7 +68,7 @@ fn failing_readers(rt: HostRuntime) {
     }
 }
 
-/// Returns a section of one state, whose stack has this many cells, and this many functions.
+/// Returns a section of one state, with `cells` cells on its stack and `functions` functions.
 fn long_section(alloc: Global, cells: u16, functions: u16) -> Result<Vec<u8>, AllocError> {
     let mut bytes = bytes_of(alloc, &["00 0000 0000 00000001 0000 00000000"])?;
     bytes.extend_from_slice(&cells.to_be_bytes())?;

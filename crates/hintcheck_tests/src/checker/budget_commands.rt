@@ -137,8 +137,8 @@ fn searches_within_points(rt: HostRuntime) -> Result<(), Fail> {
 }
 
 /// A thousand glyphs of 3 points each: their families are found with 3,002 points, and so again.
-/// With one less than that, all is written but for the last section: a header of 10 bytes, 44 for
-/// each empty program and 79 for each of 999 glyphs, more than is written at a time.
+/// With one less than that, all is written except for the last section: a header of 10 bytes, 44
+/// for each empty program and 79 for each of 999 glyphs, more than is written at a time.
 #[test]
 fn long_certificate_without_its_last_section(rt: HostRuntime) -> Result<(), Fail> {
     let bytes = font_of(rt.alloc(), "", "", &["B0072E"; 1000]).ok_or("a font")?;

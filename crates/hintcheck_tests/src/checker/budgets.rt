@@ -74,8 +74,8 @@ const REFUSED: [(Programs<'static>, Told, u64, u64); 6] = [
     ),
 ];
 
-/// Whether a call that needs this many points, and tells this with them, told what it should within
-/// a budget of this many, which counted what was made.
+/// Whether a call that needs `needed` points, and tells `want` with them, told what it should
+/// within a budget of `most`, which counted what was made.
 fn is_right(told: Told, budget: &Budget, most: u64, needed: u64, want: Told) -> bool {
     if most < needed {
         return told == Told::Budget && budget.made() == most && budget.is_exceeded();

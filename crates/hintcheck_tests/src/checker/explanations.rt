@@ -82,7 +82,7 @@ const LONG: &str = "181818181818181818181818181818181818181818181818181818181818
     181818181818181818181818181818181818181818181818181818";
 
 /// A font's programs, the one that is refused, its line, why, and the reason's class: each reason
-/// but for those of a certificate.
+/// except for those of a certificate.
 type Refused<'a> = (Programs<'a>, &'a str, &'a str, &'a str, &'a str);
 
 const REFUSED: [Refused<'static>; 25] = [

@@ -12,7 +12,7 @@ use std::alloc::Global;
 use tt_font::Font;
 use tt_stream::{ReadFailed, Source};
 
-/// Bytes in memory, which are read without a failure until a read should fail.
+/// Bytes in memory, none of them read ahead; no read fails.
 #[derive(Drop)]
 pub(crate) struct Bytes<'a> {
     pub(crate) left: &'a [u8],

@@ -46,14 +46,14 @@ AreBelow offset list = AllByRecursion (λ e. e.0 < offset) list
 
 -- both lists ascend, and no place is in both
 pub record AreApart (points rest : List Point) : Type 0 where
-  pub points_rise : IsStrictlySortedBy place_cmp (keys_of points)
+  pub points_ascend : IsStrictlySortedBy place_cmp (keys_of points)
   pub rest_ascends : IsStrictlySortedBy place_cmp (keys_of rest)
   pub once : (p : ℕ × ℕ) (n : ℕ) → states_of rest p ≡ Some n → states_of points p ≡ None
 
 -- the offsets of each list ascend, and the list of a point in the tree has a greater offset, and
 -- not the point's own
 pub record AreSlotLists (lists : List Offsets) (rest : List Point) : Type 0 where
-  pub rise : (c : ℕ) → Ascends (list_of lists c)
+  pub ascend : (c : ℕ) → Ascends (list_of lists c)
   pub rest_ascends : IsStrictlySortedBy place_cmp (keys_of rest)
   pub unlisted : (c o n : ℕ) → states_of rest (c, o) ≡ Some n → listed (list_of lists c) o ≡ None
   pub early : (c o n : ℕ) → states_of rest (c, o) ≡ Some n → AreBelow o (list_of lists c) → ⊥

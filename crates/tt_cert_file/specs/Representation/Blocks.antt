@@ -87,7 +87,7 @@ pub record FillsRest (old new : Option (List ℕ)) (held read : ℕ)
 abbrev pub cells_at : List Cell → ℕ → Input → Answer (List Cell)
 cells_at before n i = list_at (λ _. cell_at) before n i
 
--- as many cells after those before them as make this many in all
+-- cells after those before them, until there are this many in all
 abbrev pub cells_up_to : List Cell → ℕ → Input → Answer (List Cell)
 cells_up_to before count i = cells_at before (count - length before) i
 
@@ -160,8 +160,8 @@ ReadsCells (Ok after) old new before now place count = (length before < length n
 ReadsCells (Err e) old new before now place count = is_some old ≡ true
     → Fails e (cells_up_to before count (input_at place old))
 
--- Some cells were taken from the front of the bytes, at most as many as make this many in all; this
--- many bytes were used.
+-- Some cells were taken from the front of the bytes, so that there are at most `count` in all, and
+-- `used` bytes were used.
 pub record AreSomeCellsTaken (used : ℕ) (old new : List Cell) (place : ℕ) (bytes : List ℕ)
     (count : ℕ) : Type 0 where
   pub at : ℕ

@@ -25,7 +25,7 @@ abbrev pub StopsWhole : {X Y : Type 0} → (Input → Answer Y) → ℕ → Resu
     → Option (List ℕ) → Option (List ℕ) → Type 0
 StopsWhole read place result old new = IfErr result (StopsAtEnd place old new read)
 
--- this many states with their points, in one of this many contexts each
+-- `count` states with their points, each in one of `contexts` contexts
 abbrev pub entries_at : Form → ℕ → ℕ → Input → Answer (List Entry)
 entries_at form contexts count i = list_at (entry_at form contexts) [] count i
 

@@ -176,7 +176,7 @@ pub record HasRisen (old new : Solver) : Type 0 where
 abbrev pub updates_of : Solver → ℕ
 updates_of solver = solver.changes + solver.passes
 
--- at most this many updates were made more
+-- at most this many further updates were made
 abbrev pub MakesAtMost : ℕ → Solver → Solver → Type 0
 MakesAtMost more old new = updates_of new ≤ updates_of old + more
 

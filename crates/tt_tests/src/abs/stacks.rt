@@ -15,9 +15,9 @@ enum Change<'a> {
     PushCells(&'a [Cell]),
     PushBytes(&'a [u8]),
     PushWords(&'a [u8]),
-    /// The cell under so many others is taken out.
+    /// The cell under this many others is taken out.
     Remove(usize),
-    /// So many cells are taken from the top.
+    /// This many cells are taken from the top.
     Cut(usize),
     Clear,
 }

@@ -333,8 +333,8 @@ fn return_above_all_offsets(rt: HostRuntime) {
     assert_families(&rt, rt.alloc(), &CALLING_FROM_THE_LAST, &FROM_THE_LAST);
 }
 
-/// Adds the first 4,095 turns of a LOOPCALL at offset 5 of the body at offset 3, function 0, of so
-/// many, and puts a state at the start of each turn, and returns whether all of it was put.
+/// Adds the first 4,095 of `count` turns of a LOOPCALL at offset 5 of the body at offset 3,
+/// function 0, puts a state at the start of each turn, and returns whether all of it was put.
 fn put_turns(alloc: Global, builder: &mut Builder, count: u32) -> bool {
     for turn in 1..4_096 {
         let frame = Frame {

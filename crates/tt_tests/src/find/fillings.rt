@@ -30,7 +30,7 @@ fn just_after(setting: &Setting<'_>, point: &Point<'_>, state: &mut State) -> Op
 
 /// Returns how many states a filling adds after a listed one, up to the next point that is listed
 /// or isn't just after; nothing where memory ran out.
-fn added_after(
+fn count_added(
     alloc: Global,
     setting: &Setting<'_>,
     certificate: &Certificate,
@@ -74,7 +74,7 @@ pub(crate) fn filled_points(
         let Some((context, offset, state)) = states.take_first() else {
             return None;
         };
-        let added = added_after(alloc, setting, certificate, context, offset, state)?;
+        let added = count_added(alloc, setting, certificate, context, offset, state)?;
         points = points.checked_add(added)?;
     }
     Some(points)

@@ -89,7 +89,7 @@ fn refuses_circles(rt: HostRuntime) -> Result<(), Fail> {
     Ok(())
 }
 
-/// Returns how many points a glyph has that has one of 4 points so many times as a component.
+/// Returns how many points a glyph has that has one of 4 points as a component, `times` times.
 fn points_of(alloc: Global, times: u16) -> Result<Result<u16, FontFault>, Fail> {
     let file = font_of_many(alloc, times)?;
     match Font::read(alloc, &file) {

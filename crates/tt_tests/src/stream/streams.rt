@@ -10,7 +10,8 @@ use std::sync::ledger::{Blank, Ledger};
 use std::test::Fail;
 use std::{fmt, io};
 use tt_stream::{
-    Buffered, Counted, PrintFailed, ReadFailed, Sink, Source, WriteFailed, read_all, write_all,
+    Buffered, Bytes, Counted, PrintFailed, ReadFailed, Sink, Source, WriteFailed, read_all,
+    write_all,
 };
 
 /// A text of some letters, written one at a time.
@@ -156,8 +157,8 @@ fn reads_all_ahead(rt: HostRuntime) -> Result<(), Fail> {
     Ok(())
 }
 
-/// Returns what is ahead once a byte of the steps was read, and the next byte after so many that
-/// are ahead.
+/// Returns what is ahead once a byte of the steps was read, and the next byte after `skipped` of
+/// those that are ahead.
 fn look_ahead<L: Ledger>(
     alloc: Global,
     steps: Steps<'_>,
@@ -198,6 +199,41 @@ fn skips_what_is_ahead(rt: HostRuntime) -> Result<(), Fail> {
         assert_eq!(rt; ahead.as_slice(), b"bcd".as_slice());
         assert_eq!(rt; byte, next, "after {skipped}");
     }
+    Ok(())
+}
+
+/// Returns what a read of at most four bytes gives once this many bytes in memory are skipped, the
+/// four bytes then, and what a further read gives.
+fn read_after(bytes: &[u8], skipped: usize) -> Option<(usize, [u8; 4], usize)> {
+    let mut source = Bytes::new(bytes);
+    if source.ahead().len() < skipped {
+        return None;
+    }
+    source.skip(skipped);
+    let mut buf = [0u8; 4];
+    let first = source.read(&mut buf).ok()?;
+    let mut other = [0u8; 4];
+    let second = source.read(&mut other).ok()?;
+    Some((first, buf, second))
+}
+
+#[test]
+fn reads_bytes_in_memory(rt: HostRuntime) -> Result<(), Fail> {
+    let source = Bytes::new(b"abcdef");
+    assert_eq!(rt; source.ahead(), b"abcdef".as_slice());
+    for (skipped, first, read, second) in [
+        (0, 4, b"abcd", 2),
+        (1, 4, b"bcde", 1),
+        (2, 4, b"cdef", 0),
+        (5, 1, b"f\0\0\0", 0),
+        (6, 0, b"\0\0\0\0", 0),
+    ] {
+        let (count, buf, rest) = read_after(b"abcdef", skipped).ok_or("bytes")?;
+        assert_eq!(rt; count, first, "after {skipped}");
+        assert_eq!(rt; buf.as_slice(), read.as_slice(), "after {skipped}");
+        assert_eq!(rt; rest, second, "after {skipped}");
+    }
+    assert!(rt; read_after(b"abcdef", 7).is_none());
     Ok(())
 }
 

@@ -13,4 +13,4 @@ below-same {V} a b r ra rb long h =
 
 pub returns-then-mine-theirs : goal.returns-then-mine-theirs
 returns-then-mine-theirs g c =
-    below-same c.args.mine.now c.args.theirs.now c.are_same.result c.requires.mine_rise c.requires.theirs_rise c.if-mine-theirs.true c.are_same.ensures
+    below-same c.args.mine.now c.args.theirs.now c.are_same.result c.requires.mine_ascend c.requires.theirs_ascend c.if-mine-theirs.true c.are_same.ensures

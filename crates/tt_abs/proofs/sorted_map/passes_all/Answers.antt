@@ -13,7 +13,7 @@ missing-end same mine theirs missing i le h = ap (λ a. missing_entries same a m
 pub returns : goal.returns
 returns g c =
     let end = missing-end g.T.PartialEq.eq c.args.mine.now c.args.theirs.now c.loop-entry.missing.now c.loop-entry.entry-index (omega arith) c.loop-entry.invariant in
-    let says = missing-below g.T.PartialEq.eq g.met.T.EntryValue.decides c.args.mine.now c.args.theirs.now c.requires.mine_rise c.requires.theirs_rise in (
+    let says = missing-below g.T.PartialEq.eq g.met.T.EntryValue.decides c.args.mine.now c.args.theirs.now c.requires.mine_ascend c.requires.theirs_ascend in (
       λ h. says.0 (sym end ∙ nil_from_length _ (eqb-true _ _ (sym c.is_empty.ensures ∙ h))),
       λ p. c.is_empty.ensures ∙ eq-eqb _ _ (ap length (end ∙ says.1 p)),
     )

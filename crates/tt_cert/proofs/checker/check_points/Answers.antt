@@ -24,8 +24,8 @@ go_on-requires-clause-walk c = c.loop-offset.invariant.walk
 pub go_on-requires-clause-to_come : goal.go_on-requires-clause-to_come
 go_on-requires-clause-to_come c = c.loop-offset.invariant.to_come
 
-pub check_point-requires-clause-told : goal.check_point-requires-clause-told
-check_point-requires-clause-told c =
+pub check_point-requires-clause-fit : goal.check_point-requires-clause-fit
+check_point-requires-clause-fit c =
     let S = setting_of c.args.setting.now in
     let v = c.args.certificate.now in
     let point = subst (IsAtNext S c.args.listing v c.go_on.new.self c.go_on.new.states) c.in-Some.is (c.in_ok-offset.ensures.point S c.args.listing c.loop-offset.invariant.way) in

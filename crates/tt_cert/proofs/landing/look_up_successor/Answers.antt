@@ -17,6 +17,6 @@ returns-in-Beyond-clause-missing c =
     let (before, frames, above, last) = subst L c.builder.ensures c.in-Beyond.ensures in
     let spot : c.spot.result ≡ spot_of q.0 = c.spot.ensures ∙ ap spot_of frames in
     let offset : 4294967295 ≡ saturated_offset q.1 = omega arith in (
-      no_state_above v q c.in-Beyond.context c.args.context c.order_facts.ensures.0 c.requires.there c.requires.told before frames above,
+      no_state_above v q c.in-Beyond.context c.args.context c.order_facts.ensures.0 c.requires.there c.requires.fit before frames above,
       c.missing-in-Beyond.ensures ∙ (λ i. Refused (spot i) (offset i) MissingPoint),
     )

@@ -3,8 +3,8 @@ use Rattle.tt_font.specs.Locations.{entry}
 use Rattle.tt_font.proofs.Placed.{entries_rise}
 use Rattle.tt_font.proofs.glyph_table.GlyphTable.place.Goals as goal
 
-pub returns-clause-ascends : goal.returns-clause-ascends
-returns-clause-ascends c =
+pub returns-clause-ordered : goal.returns-clause-ordered
+returns-clause-ordered c =
     let start : c.entry_at-start.result ≡ entry c.args.self.now.format c.args.self.now.loca.now c.args.id = search rules in
     let end : c.entry_at-end.result ≡ entry c.args.self.now.format c.args.self.now.loca.now (c.args.id + 1) = search rules in
     let rise = entries_rise c.args.self.now.format c.args.self.now.loca.now c.args.self.now.glyf.now c.args.id (c.args.id + 1) refl
