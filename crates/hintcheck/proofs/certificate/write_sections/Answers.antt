@@ -5,44 +5,44 @@ use Rattle.hintcheck.proofs.CertificateWriting.{fewer_after, found_next, nothing
 use Rattle.hintcheck.proofs.SecondFindings.{none_refused_next}
 use Rattle.hintcheck.proofs.certificate.write_sections.Goals as goal
 
-pub loop-finder-init : goal.loop-finder-init
-loop-finder-init g c = (refl, nothing_found c.args.font.now (g.W.Sink.contents c.args.sink.now) c.new-session.result c.requires.accepted c.new-session.ensures, (refl, omega arith))
+pub loop-encoder-init : goal.loop-encoder-init
+loop-encoder-init g c = (refl, nothing_found c.args.font.now (g.W.Sink.contents c.args.sink.now) c.new-session.result c.requires.accepted c.new-session.ensures, (refl, omega arith))
 
-pub loop-finder-smaller : goal.loop-finder-smaller
-loop-finder-smaller g c =
+pub loop-encoder-smaller : goal.loop-encoder-smaller
+loop-encoder-smaller g c =
     let e = c.in_ok-outcome.ensures in
-    fewer_after c.loop-finder.session c.search_next.new.self c.in_ok-outcome.field-0 c.in-Some.outcome c.in-Some.found c.in-Some.is e.font e.found
+    fewer_after c.loop-encoder.session c.search_next.new.self c.in_ok-outcome.field-0 c.in-Some.outcome c.in-Some.found c.in-Some.is e.font e.found
 
-pub loop-finder-preserved : goal.loop-finder-preserved
-loop-finder-preserved g c =
+pub loop-encoder-preserved : goal.loop-encoder-preserved
+loop-encoder-preserved g c =
     let e = c.in_ok-outcome.ensures in
-    let so_far = c.loop-finder.invariant.1 in (
-      c.in_ok-encode.ensures.failures ∙ c.loop-finder.invariant.0,
-      found_next c.args.font.now (g.W.Sink.contents c.args.sink.now) (g.W.Sink.contents c.loop-finder.sink) (g.W.Sink.contents c.encode.new.sink) c.loop-finder.session c.search_next.new.self
+    let so_far = c.loop-encoder.invariant.1 in (
+      c.in_ok-encode.ensures.failures ∙ c.loop-encoder.invariant.0,
+      found_next c.args.font.now (g.W.Sink.contents c.args.sink.now) (g.W.Sink.contents c.loop-encoder.sink) (g.W.Sink.contents c.encode.new.sink) c.loop-encoder.session c.search_next.new.self
           c.in_ok-outcome.field-0 c.in-Some.outcome c.in-Some.found c.unwrap-found.result c.in-Some.is c.unwrap-found.ensures so_far e.found e.font e.no_fault e.finding
           c.order_facts.ensures c.in_ok-encode.ensures.fits c.in_ok-encode.ensures.written,
-      spends_on c.args.budget.now c.loop-finder.budget c.search_next.new.budget c.loop-finder.invariant.2 c.search_next.ensures.spends,
+      spends_on c.args.budget.now c.loop-encoder.budget c.search_next.new.budget c.loop-encoder.invariant.2 c.search_next.ensures.spends,
     )
 
 pub returns-clause-written : goal.returns-clause-written
 returns-clause-written g c =
-    sections_written c.args.font.now (g.W.Sink.contents c.args.sink.now) (g.W.Sink.contents c.loop-finder.sink) c.loop-finder.session c.search_next.new.self
-    c.in_ok-outcome.field-0 c.in_default.is c.loop-finder.invariant.1 c.in_ok-outcome.ensures.found
+    sections_written c.args.font.now (g.W.Sink.contents c.args.sink.now) (g.W.Sink.contents c.loop-encoder.sink) c.loop-encoder.session c.search_next.new.self
+    c.in_ok-outcome.field-0 c.in_default.is c.loop-encoder.invariant.1 c.in_ok-outcome.ensures.found
 
 pub returns-in_err-outcome-clause-begun : goal.returns-in_err-outcome-clause-begun
 returns-in_err-outcome-clause-begun g c =
     let p = err_from_is_err_and c.from_residual.result c.from_residual.ensures.1 in
-    rw p.1 (stopped c.args.font.now (g.W.Sink.contents c.args.sink.now) (g.W.Sink.contents c.loop-finder.sink) c.loop-finder.session c.loop-finder.invariant.1)
+    rw p.1 (stopped c.args.font.now (g.W.Sink.contents c.args.sink.now) (g.W.Sink.contents c.loop-encoder.sink) c.loop-encoder.session c.loop-encoder.invariant.1)
 
 pub returns-in_err-encode-clause-begun : goal.returns-in_err-encode-clause-begun
 returns-in_err-encode-clause-begun g c =
     let p = err_from_is_err_and c.from_residual-in_err-encode.result c.from_residual-in_err-encode.ensures.1 in
     rw p.1
-    (stopped_within c.args.font.now (g.W.Sink.contents c.args.sink.now) (g.W.Sink.contents c.loop-finder.sink) (g.W.Sink.contents c.encode.new.sink) c.loop-finder.session c.search_next.new.self
-    c.in_ok-outcome.field-0 c.in-Some.outcome c.in-Some.found c.unwrap-found.result c.in-Some.is c.unwrap-found.ensures c.loop-finder.invariant.1 c.in_ok-outcome.ensures.found
+    (stopped_within c.args.font.now (g.W.Sink.contents c.args.sink.now) (g.W.Sink.contents c.loop-encoder.sink) (g.W.Sink.contents c.encode.new.sink) c.loop-encoder.session c.search_next.new.self
+    c.in_ok-outcome.field-0 c.in-Some.outcome c.in-Some.found c.unwrap-found.result c.in-Some.is c.unwrap-found.ensures c.loop-encoder.invariant.1 c.in_ok-outcome.ensures.found
     c.in_err-encode.ensures.beginning)
 
 pub unwrap-found-requires : goal.unwrap-found-requires
 unwrap-found-requires g c =
-    (none_refused_next c.loop-finder.session.font c.loop-finder.session.stage c.search_next.new.self.stage c.in_ok-outcome.field-0 c.in-Some.outcome c.in-Some.found c.in-Some.is
-    c.in_ok-outcome.ensures.found c.loop-finder.invariant.1.least).0
+    (none_refused_next c.loop-encoder.session.font c.loop-encoder.session.stage c.search_next.new.self.stage c.in_ok-outcome.field-0 c.in-Some.outcome c.in-Some.found c.in-Some.is
+    c.in_ok-outcome.ensures.found c.loop-encoder.invariant.1.least).0
