@@ -1,19 +1,23 @@
 -- The text of a font's certificate, as it is written section by section while a session finds the programs.
 use Rattle.std.proofs.Common.{◌≡◌, true, false, ℕ, ◌+◌, ◌^◌, ◌<◌, arith, List, [], ◌++◌, length, drop, Option, Some, None, refl, sym, ◌∙◌, ap, subst, append_assoc, append-nil}
-use Rattle.std.specs.Prelude.{◌==◌}
+use Rattle.std.specs.Prelude.{◌==◌, Err}
 use Rattle.std.specs.Io.KnownBytes.{Appends}
 use Rattle.std.proofs.lemmas.Option.{slice_get_within}
 use Rattle.tt_code.specs.Cut.{Instruction}
 use Rattle.tt_cert.specs.Contents.{Contents}
 use Rattle.tt_cert.specs.Ascending.{IsFinished}
 use Rattle.tt_cert_file.specs.declared.form.Form.TheVariants.{Four}
+use Rattle.tt_cert_file.specs.declared.fault.EncodeFault.{EncodeFault}
+use Rattle.tt_cert_file.specs.declared.fault.EncodeFault.TheVariants as encode
 use Rattle.tt_cert_file.specs.declared.name.Name.{Name}
+use Rattle.tt_cert_file.specs.Answers.{CountsWrite}
 use Rattle.tt_cert_file.specs.Rules.{AreCallsInTurn, Fits}
 use Rattle.tt_cert_file.specs.Sections.{section_of}
 use Rattle.tt_cert_file.specs.Text.{header_text, section_text}
 use Rattle.tt_find.specs.declared.finder.Found.{Found}
 use Rattle.tt_font.specs.Reading.{FontData, GlyphData}
 use Rattle.tt_stream.specs.Streams.{AppendsBeginning}
+use Rattle.hintcheck.specs.CertificateFaults.{CountsFind, IsFindFaultOutsideFontAndBudget, fault_of_encoding}
 use Rattle.hintcheck.specs.CertificateTexts.{AreGlyphTexts, IsCertificate, IsEndedText, IsPassingCertificate, IsReadableListing, IsTextOf, WritesBeginning, WritesText, no_glyphs, one_more}
 use Rattle.hintcheck.specs.FindingSessions.{AreFirstSections, IsCertificateBegun, IsForFinding, IsFoundAnswer, IsFoundFor, IsFoundToEnd, IsOutcomeByFinding, cvt_found, cvt_refused, font_found, font_refused, glyph_found, glyph_refused, none_yet, one_program_more}
 use Rattle.hintcheck.specs.Representation.FontVerdicts.{AreAllRefused}
@@ -33,6 +37,16 @@ use Rattle.hintcheck.proofs.TextBeginnings.{begins_any, begins_on, begins_whole}
 pub told_empty : {X : Type 0} (xs : List X) (n : ℕ) → length xs ≡ n → xs ≡ [] → false ≡ (n == 0) → ⊥
 told_empty {X} xs n long empty told =
     absurd (let e : false ≡ true = told ∙ ap (λ (k : ℕ). k == 0) (sym long) ∙ ap (λ (l : List X). length l == 0) empty in cc)
+
+-- a section that can't be written counts as the search for a certificate counts
+pub counts_encoding : (e : EncodeFault) (a b n : ℕ) → b ≡ a → CountsWrite {T = Unit {0}} (Err e) b n → CountsFind {T = Unit {0}} (Err (fault_of_encoding e)) a n
+counts_encoding encode.Write a b n same counted = counted ∙ ap (λ k. k + 1) same
+counts_encoding (encode.OutOfMemory error) a b n same counted = counted ∙ same
+
+-- and that isn't the font's fault
+pub encoding_no_font : (e : EncodeFault) → IsFindFaultOutsideFontAndBudget (fault_of_encoding e)
+encoding_no_font encode.Write = tt
+encoding_no_font (encode.OutOfMemory error) = tt
 
 -- one text after the other
 

@@ -1,7 +1,7 @@
 use Rattle.std.proofs.Common.{refl, arith, ◌∙◌}
 use Rattle.std.proofs.lemmas.Result.{err_from_is_err_and}
 use Rattle.tt_cert.proofs.Spending.{spends_on}
-use Rattle.hintcheck.proofs.CertificateWriting.{fewer_after, found_next, nothing_found, sections_written, stopped, stopped_within}
+use Rattle.hintcheck.proofs.CertificateWriting.{counts_encoding, encoding_no_font, fewer_after, found_next, nothing_found, sections_written, stopped, stopped_within}
 use Rattle.hintcheck.proofs.SecondFindings.{none_refused_next}
 use Rattle.hintcheck.proofs.certificate.write_sections.Goals as goal
 
@@ -41,6 +41,16 @@ returns-in_err-encode-clause-begun g c =
     (stopped_within c.args.font.now (g.W.Sink.contents c.args.sink.now) (g.W.Sink.contents c.loop-encoder.sink) (g.W.Sink.contents c.encode.new.sink) c.loop-encoder.session c.search_next.new.self
     c.in_ok-outcome.field-0 c.in-Some.outcome c.in-Some.found c.unwrap-found.result c.in-Some.is c.unwrap-found.ensures c.loop-encoder.invariant.1 c.in_ok-outcome.ensures.found
     c.in_err-encode.ensures.beginning)
+
+pub returns-in_err-encode-clause-failures : goal.returns-in_err-encode-clause-failures
+returns-in_err-encode-clause-failures g c =
+    let p = err_from_is_err_and c.from_residual-in_err-encode.result c.from_residual-in_err-encode.ensures.1 in
+    rw (p.1, p.2) (counts_encoding c.in_err-encode.field-0.0 _ _ _ c.loop-encoder.invariant.0 c.in_err-encode.ensures.failures)
+
+pub returns-in_err-encode-clause-font : goal.returns-in_err-encode-clause-font
+returns-in_err-encode-clause-font g c =
+    let p = err_from_is_err_and c.from_residual-in_err-encode.result c.from_residual-in_err-encode.ensures.1 in
+    rw (p.1, p.2) (encoding_no_font c.in_err-encode.field-0.0)
 
 pub unwrap-found-requires : goal.unwrap-found-requires
 unwrap-found-requires g c =
