@@ -28,8 +28,7 @@ pub record PrintsListing (word : List ℕ) (status : ℕ) (old new : Option (Lis
   pub listed : status ≡ 0 → HoldListedProgram bytes word old new
   pub told : status ≡ 1 → HoldToldProgram bytes word old new
 
--- the line of an upgrade was written, whose certificate has a section for each program that a font
--- may have
+-- the line of an upgrade was written, with a number of sections that a font may have programs
 abbrev pub PrintsUpgrade : Option (List ℕ) → Option (List ℕ) → Type 0
 PrintsUpgrade old new =
     (count : ℕ) × IsNumberOfPrograms count × Appends old new (upgraded_line count)
@@ -55,8 +54,8 @@ pub record MeansPrinted (words : List (List ℕ)) (status : ℕ)
   pub meant : meaning words ≡ Some request
   pub printed : Prints request status old new
 
--- A fault of the words gives this status. Where it is a scan's, the lines of a scan with this
--- greatest status were written, as at the statuses 0 and 1.
+-- The words get no answer, for a fault that gives this status. Where that is a scan's, the scan's
+-- lines were written all the same, and this is the greatest status of its fonts.
 pub record TellsScanned (words : List (List ℕ)) (status : ℕ)
     (old new : Option (List ℕ)) : Type 0 where
   pub reported : CommandFault

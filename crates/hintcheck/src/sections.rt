@@ -38,7 +38,7 @@ fn is_same(one: Name, other: Name) -> bool
 /// Reads the section of the program with this name, and goes on to the next one.
 ///
 /// # Errors
-/// `Form`, also where the section is another program's; `Read` exactly where a read failed;
+/// `Form` where the bytes are no section, or another program's; `Read` exactly where a read failed;
 /// `OutOfMemory`.
 pub(crate) fn next_section<S: Source>(
     alloc: Global,

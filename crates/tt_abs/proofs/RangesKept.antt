@@ -12,7 +12,7 @@ use Rattle.tt_code.specs.Settings.{Setting, program_of, body_offset, starts_in_b
 use Rattle.tt_code.specs.States.{IsNumber, Registers, is_number, is_below, is_true, reference}
 use Rattle.tt_code.specs.Operands.{Taking, top, take_operands}
 use Rattle.tt_code.specs.Changes.{taken_at, updated, all_updated}
-use Rattle.tt_code.specs.Computing.{word_number, words, numbers_in, element, place_of, absolute, equal}
+use Rattle.tt_code.specs.Computing.{word_number, words, numbers_in, element, position_of, absolute, equal}
 use Rattle.tt_code.specs.Control.{may_define}
 use Rattle.tt_code.specs.declared.machine.Frame.{Frame}
 use Rattle.tt_code.specs.declared.reason.Reason.TheVariants as reason
@@ -224,7 +224,7 @@ shuffled_kept depth MoveIndexed a small h =
     holds_then TopInRange (IsKept depth) (top a.stack) _ (top_in_range a.stack h.stack) (λ t k.
     holds_any (IsKept depth) (known t.0) _ (λ z.
     holds_then IsInRange (IsKept depth) (element z t.1) _ (element_in_range z t.1 k.1) (λ c l.
-    left_in_range depth a (remove t.1 (place_of z)) (c ∷ []) h (removed_in_range t.1 (place_of z) k.1) (l, tt))))
+    left_in_range depth a (remove t.1 (position_of z)) (c ∷ []) h (removed_in_range t.1 (position_of z) k.1) (l, tt))))
 shuffled_kept depth Roll a small h =
     holds_then TopInRange (IsKept depth) (top a.stack) _ (top_in_range a.stack h.stack) (λ t k.
     holds_then TopInRange (IsKept depth) (top t.1) _ (top_in_range t.1 k.1) (λ u l.

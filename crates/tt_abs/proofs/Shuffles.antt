@@ -4,7 +4,7 @@ use Rattle.std.proofs.Common.{◌≡◌, ℕ, zero, suc, List, [], ◌∷◌, Ok
 use Rattle.tt_code.specs.Refusals.{Tested, ◌>>=◌}
 use Rattle.tt_code.specs.States.{Exactly, leaves}
 use Rattle.tt_code.specs.Changes.{taken_at}
-use Rattle.tt_code.specs.Computing.{element, place_of, shuffled}
+use Rattle.tt_code.specs.Computing.{element, position_of, shuffled}
 use Rattle.tt_code.specs.declared.kinds.StackOp.{StackOp}
 use Rattle.tt_code.specs.declared.kinds.StackOp.TheVariants.{Dup, Pop, Clear, Swap, Depth, CopyIndexed, MoveIndexed, Roll}
 use Rattle.tt_code.specs.declared.machine.Frame.{Frame}
@@ -22,7 +22,7 @@ use Rattle.tt_abs.proofs.Stacks.{with_cells, one_element, two_elements, three_el
 
 -- Elements by index.
 
-element_there : (k : ℤ) (cs : List Cell) (c : Cell) (ns : List ℤ) → element k cs ≡ Ok c → CoversStack cs ns → element k ns ≡ Ok (taken_at (pos 1) ns (place_of k))
+element_there : (k : ℤ) (cs : List Cell) (c : Cell) (ns : List ℤ) → element k cs ≡ Ok c → CoversStack cs ns → element k ns ≡ Ok (taken_at (pos 1) ns (position_of k))
 element_there (negsuc n) cs c ns e h = absurd (cc)
 element_there (pos zero) cs c ns e h = absurd (cc)
 element_there (pos (suc n)) [] c ns e h = absurd (cc)
@@ -30,7 +30,7 @@ element_there (pos (suc n)) (x ∷ cs) c [] e h = absurd h
 element_there (pos (suc zero)) (x ∷ cs) c (y ∷ ns) e h = refl
 element_there (pos (suc (suc n))) (x ∷ cs) c (y ∷ ns) e h = element_there (pos (suc n)) cs c ns e h.1
 
-element_is : (k : ℤ) (cs : List Cell) (c : Cell) → element k cs ≡ Ok c → taken_at (Known (pos 1)) cs (place_of k) ≡ c
+element_is : (k : ℤ) (cs : List Cell) (c : Cell) → element k cs ≡ Ok c → taken_at (Known (pos 1)) cs (position_of k) ≡ c
 element_is (negsuc n) cs c e = absurd (cc)
 element_is (pos zero) cs c e = absurd (cc)
 element_is (pos (suc n)) [] c e = absurd (cc)
@@ -105,7 +105,7 @@ module _ (a : Abstract) (frames : List Frame) (offset : ℕ) where
       picked (Ok c) f =
           let T : Cell → Type 0 = λ d. Transfers (with_cells a (Known k ∷ cs)) frames offset (shuffled CopyIndexed) (Ok (leaves_cells (with_cells a (Known k ∷ cs)) cs (d ∷ []))) in
           subst T (element_is k cs c f)
-          (moves_stand (with_cells a (Known k ∷ cs)) frames offset (shuffled CopyIndexed) (drop 1) cs (suc (place_of k) ∷ [])
+          (moves_stand (with_cells a (Known k ∷ cs)) frames offset (shuffled CopyIndexed) (drop 1) cs (suc (position_of k) ∷ [])
           (λ m st. let (n, ms, e, is, h) = one_element (Known k) cs m.stack st.covered.stack in rw (e, is, element_there k cs c ms f h) refl)
           (dropped_best (with_cells a (Known k ∷ cs)) frames offset 1))
 
@@ -117,17 +117,17 @@ module _ (a : Abstract) (frames : List Frame) (offset : ℕ) where
   mindex_stands (Known k ∷ cs) = picked (element k cs) refl
     where
       picked : (r : Tested Cell) → element k cs ≡ r
-          → Transfers (with_cells a (Known k ∷ cs)) frames offset (shuffled MoveIndexed) (r >>= (λ c. Ok (leaves_cells (with_cells a (Known k ∷ cs)) (remove cs (place_of k)) (c ∷ []))))
+          → Transfers (with_cells a (Known k ∷ cs)) frames offset (shuffled MoveIndexed) (r >>= (λ c. Ok (leaves_cells (with_cells a (Known k ∷ cs)) (remove cs (position_of k)) (c ∷ []))))
       picked (Err r) f =
           let (ns, h) = some_stack cs in
           let (q, miss) = element_missing k cs r ns f h in
           faults_with (with_cells a (Known k ∷ cs)) frames offset (shuffled MoveIndexed) (k ∷ ns) q (refl, h) (λ m e. rw (e, miss) refl)
       picked (Ok c) f =
-          let T : Cell → Type 0 = λ d. Transfers (with_cells a (Known k ∷ cs)) frames offset (shuffled MoveIndexed) (Ok (leaves_cells (with_cells a (Known k ∷ cs)) (remove cs (place_of k)) (d ∷ []))) in
+          let T : Cell → Type 0 = λ d. Transfers (with_cells a (Known k ∷ cs)) frames offset (shuffled MoveIndexed) (Ok (leaves_cells (with_cells a (Known k ∷ cs)) (remove cs (position_of k)) (d ∷ []))) in
           subst T (element_is k cs c f)
-          (moves_stand (with_cells a (Known k ∷ cs)) frames offset (shuffled MoveIndexed) (λ ns. remove (drop 1 ns) (place_of k)) (remove cs (place_of k)) (suc (place_of k) ∷ [])
+          (moves_stand (with_cells a (Known k ∷ cs)) frames offset (shuffled MoveIndexed) (λ ns. remove (drop 1 ns) (position_of k)) (remove cs (position_of k)) (suc (position_of k) ∷ [])
           (λ m st. let (n, ms, e, is, h) = one_element (Known k) cs m.stack st.covered.stack in rw (e, is, element_there k cs c ms f h) refl)
-          (best_remove (May (with_cells a (Known k ∷ cs)) frames offset) (λ x. drop 1 x.0.stack) cs (place_of k) (dropped_best (with_cells a (Known k ∷ cs)) frames offset 1)))
+          (best_remove (May (with_cells a (Known k ∷ cs)) frames offset) (λ x. drop 1 x.0.stack) cs (position_of k) (dropped_best (with_cells a (Known k ∷ cs)) frames offset 1)))
 
   roll_stands : (cs : List Cell) → Transfers (with_cells a cs) frames offset (shuffled Roll) (shuffled_cells Roll (with_cells a cs))
   roll_stands [] = faults_with (with_cells a []) frames offset (shuffled Roll) [] reason.Underflow tt (λ m e. rw e refl)

@@ -28,14 +28,14 @@ CellBelow-antisym (Known k) Unknown p q = absurd q
 CellBelow-antisym Unknown (Known l) p q = absurd p
 CellBelow-antisym Unknown Unknown p q = refl
 
--- above an unknown cell there is no known one
+-- `known_cells`, 1 for a known cell and 0 for an unknown one, doesn't grow from a cell to one above
 pub known_cells-falls : (a b : Cell) → CellBelow a b → known_cells b ≤ known_cells a
 known_cells-falls (Known k) (Known l) p = omega arith
 known_cells-falls (Known k) Unknown p = omega arith
 known_cells-falls Unknown (Known l) p = absurd p
 known_cells-falls Unknown Unknown p = omega arith
 
--- above a known cell there is no other known one
+-- and where it stays the same, the cell does
 pub known_cells-strict : (a b : Cell) → CellBelow a b → known_cells b ≡ known_cells a → a ≡ b
 known_cells-strict (Known k) (Known l) p e = ap Known p
 known_cells-strict (Known k) Unknown p e = absurd (omega arith)
@@ -89,7 +89,7 @@ ZoneBelow-antisym Either Zero p q = absurd p
 ZoneBelow-antisym Either One p q = absurd p
 ZoneBelow-antisym Either Either p q = refl
 
--- above an unknown zone cell there is no known one
+-- `known_zones`, 1 for a known zone cell and 0 otherwise, doesn't grow from one to one above
 pub known_zones-falls : (a b : ZoneCell) → ZoneBelow a b → known_zones b ≤ known_zones a
 known_zones-falls Zero Zero p = omega arith
 known_zones-falls Zero One p = absurd p
@@ -101,7 +101,7 @@ known_zones-falls Either Zero p = absurd p
 known_zones-falls Either One p = absurd p
 known_zones-falls Either Either p = omega arith
 
--- above a known zone cell there is no other known one
+-- and where it stays the same, the zone cell does
 pub known_zones-strict : (a b : ZoneCell) → ZoneBelow a b → known_zones b ≡ known_zones a → a ≡ b
 known_zones-strict Zero Zero p e = refl
 known_zones-strict Zero One p e = absurd p

@@ -27,7 +27,7 @@ CallFits f = (f.body < 2 ^ 32) × (f.call + 1 < 2 ^ 31)
 abbrev pub CallsFit : List Frame → Type 0
 CallsFit fs = AllByRecursion CallFits fs
 
--- a program can reach this place
+-- the place has the form of one that a program reaches: its calls fit, and its offset is below 2^31
 pub record IsPlace (p : Place) : Type 0 where
   pub frames : FramesFit p.0
   pub calls : CallsFit p.0
@@ -39,8 +39,8 @@ abbrev pub FunctionsFit : Setting → List (ℕ × ℕ) → Type 0
 FunctionsFit s functions =
     (n body : ℕ) → listed functions n ≡ Some body → (n < s.limits.functions) × (body < 2 ^ 32)
 
--- the state is within the font's limits: it is no deeper than maxStackElements, and each listed
--- storage cell is below maxStorage
+-- the state is within the font's limits: it is no deeper than maxStackElements, its functions fit,
+-- and each listed storage cell is below maxStorage
 pub record FitsLimits (s : Setting) (a : State) : Type 0 where
   pub depth : length a.stack ≤ s.limits.stack
   pub functions : FunctionsFit s a.functions

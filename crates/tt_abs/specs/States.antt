@@ -1,4 +1,4 @@
--- Abstract states as the program keeps them: what they mean, and their order.
+-- Abstract states as the code keeps them: what they mean, and their order.
 use Rattle.std.specs.Prelude.{ℕ, ℤ, pos, ⊤, List, []}
 use Rattle.std.proofs.Common.{refl}
 use Rattle.tt_code.specs.States.{IsNumber}
@@ -16,7 +16,7 @@ use Rattle.tt_abs.specs.EntryLists.{entry_order}
 use Rattle.tt_abs.specs.EntryLaws.{entry_laws}
 use Rattle.tt_abs.specs.Products.{product, product_laws, product_least, along, along_laws, along_least}
 
--- what is known of a machine, where the known storage cells are listed
+-- what a state says of a machine: its list of storage cells becomes a cell for each index
 abbrev pub abstract_of : State → Abstract
 abstract_of s = record {
   stack = s.stack;

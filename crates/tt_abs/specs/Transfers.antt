@@ -11,7 +11,7 @@ use Rattle.tt_code.specs.Settings.{Setting, ZoneNumber, Zero, One, zone_size, co
 use Rattle.tt_code.specs.States.{is_number, is_below, is_true, reference, pointer}
 use Rattle.tt_code.specs.Operands.{Taking, top, take_one, then_take, counted, pairs, count_of, is_zone}
 use Rattle.tt_code.specs.Changes.{Reading, natural, zone_of, taken_at, all_updated}
-use Rattle.tt_code.specs.Computing.{numbers_in, element, place_of, absolute, equal}
+use Rattle.tt_code.specs.Computing.{numbers_in, element, position_of, absolute, equal}
 use Rattle.tt_code.specs.Control.{may_define, body_named}
 use Rattle.tt_code.specs.declared.machine.Frame.{Frame}
 use Rattle.tt_code.specs.declared.reason.Reason.{Reason}
@@ -181,7 +181,7 @@ shuffled_cells MoveIndexed a = do
   t ← top a.stack
   k ← known t.0
   c ← element k t.1
-  Ok (leaves_cells a (remove t.1 (place_of k)) (c ∷ []))
+  Ok (leaves_cells a (remove t.1 (position_of k)) (c ∷ []))
 shuffled_cells Roll a = do
   t ← top a.stack
   u ← top t.1

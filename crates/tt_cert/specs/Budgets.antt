@@ -10,7 +10,7 @@ new_budget points = record { most = points; left = points; is_over = false }
 abbrev pub unlimited_budget : Budget
 unlimited_budget = new_budget 18446744073709551615
 
--- how many points were made, which are no more than may be
+-- how many points were made so far
 abbrev pub made_by : Budget → ℕ
 made_by budget = budget.most - budget.left
 

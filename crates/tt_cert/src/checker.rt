@@ -69,7 +69,7 @@ pub fn ends_well(setting: &Setting<'_>, builder: &Builder) -> bool
 /// the walk whether the first listed state is this one, as it mostly is: then nothing is copied.
 fn check_start(certificate: &Certificate, walk: &mut Cursor<'_>) -> Result<(), ProgramFault>
     requires walk { IsWalk certificate.now walk.old }
-    requires apart { IsFalse walk.old.is_next }
+    requires not_next { IsFalse walk.old.is_next }
     ensures covered { IfOk result (λ _.
         CoversAt state_order (family_of certificate.now) ([], 0) walk.old.made) }
     ensures gap { IfErr result (NamesGap (family_of certificate.now) ⊥ ([], 0) walk.old.made) }

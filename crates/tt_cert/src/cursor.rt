@@ -78,7 +78,7 @@ impl<'a> Cursor<'a> {
             → IsEntry contents next.entry → IsWalk contents walk) }
         ensures next { IfOk result (λ walk. walk.next ≡ next.entry) }
         ensures made { IfOk result (λ walk. walk.made ≡ start_of functions.now) }
-        ensures apart { IfOk result (λ walk. IsFalse walk.is_next) }
+        ensures not_next { IfOk result (λ walk. IsFalse walk.is_next) }
         ensures carried { IfOk result (λ walk. walk.carried ≡ None) }
     {
         Ok(Cursor {
@@ -99,7 +99,7 @@ impl<'a> Cursor<'a> {
     fn take(&mut self, state: &State) -> Result<(), AllocError>
         requires { IsTrue self.old.is_next → self.old.made ≡ state.now }
         ensures made { OnOk result (self.new.made ≡ state.now) }
-        ensures apart { OnOk result (IsFalse self.new.is_next) }
+        ensures not_next { OnOk result (IsFalse self.new.is_next) }
         ensures context { self.new.context ≡ self.old.context }
         ensures frames { self.new.frames ≡ self.old.frames }
         ensures next { self.new.next ≡ self.old.next }

@@ -56,9 +56,9 @@ pub(crate) fn fault_in(
     }
 }
 
-/// Returns how a state is covered at an offset of a context, where it may be left out or not.
-/// Nothing is looked up where the next listed state is this one here, or where the state may be
-/// left out and the next listed state comes after the place.
+/// Returns how a state is covered at an offset of a context; whether it may be left out there, the
+/// caller says. Nothing is looked up where the next listed state is at this place and the same, or
+/// where the state may be left out and the next listed state comes after the place.
 ///
 /// # Errors
 /// `MissingPoint` where the certificate has no state there, and none may be left out; `NotCovered`

@@ -76,7 +76,7 @@ state_text form e = pair_text e.0 ++ (counted cell_text (reverse e.1.stack)
     ++ (graphics_text e.1.graphics
     ++ (counted pair_text e.1.functions ++ storage_text form e.1.storage)))
 
--- a section: the name, the contexts, and the states after how many they are
+-- a section: the name, the contexts, how many states there are, and the states
 abbrev pub section_text : Form → Section → List ℕ
 section_text form s = name_text s.name ++ (counted context_text s.contexts
     ++ (long (length s.states) ++ flat_map (state_text form) s.states))

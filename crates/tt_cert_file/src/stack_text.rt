@@ -14,6 +14,7 @@ use tt_abs::Cell;
 ///
 /// # Errors
 /// If memory runs out.
+#[inline]
 pub(crate) fn push_cell(out: &mut Vec<u8>, cell: Cell) -> Result<(), AllocError>
     ensures { Pushes (cell_text cell) result out.old.items out.new.items }
 {
@@ -84,6 +85,7 @@ impl StackText {
     ///
     /// # Errors
     /// If memory runs out.
+    #[inline]
     pub(crate) fn push(&mut self, cell: Cell) -> Result<(), AllocError>
         ensures { OnOk result ((cells : List AnyCell) → IsStackText self.old cells
             → IsStackText self.new (cells ++ cell ∷ [])) }

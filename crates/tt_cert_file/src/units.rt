@@ -157,6 +157,7 @@ pub(crate) fn read_name<S: Source>(source: &mut S, place: u64) -> Result<(Name, 
 ///
 /// # Errors
 /// As `read_unit`, and `Form` with the tag's place if it is neither 0 nor 1.
+#[inline]
 #[tactic(auto, unfolding(crate::specs::Reading::cell_at))]
 pub(crate) fn read_cell<S: Source>(source: &mut S, place: u64) -> Result<(Cell, u64), DecodeFault>
     ensures reads { ReadsBy cell_at place result (S.remaining source.old) (S.remaining source.new) }
@@ -182,6 +183,7 @@ pub(crate) fn read_cell<S: Source>(source: &mut S, place: u64) -> Result<(Cell, 
 ///
 /// # Errors
 /// As `read_unit`, and `Form` with the unit's place if it is above 2.
+#[inline]
 #[tactic(auto, unfolding(crate::specs::Reading::zone_at))]
 fn read_zone<S: Source>(source: &mut S, place: u64) -> Result<(ZoneCell, u64), DecodeFault>
     ensures reads { ReadsBy zone_at place result (S.remaining source.old) (S.remaining source.new) }

@@ -41,8 +41,9 @@ exactly zs = map Exactly zs
 abbrev pub pushed : Push → Machine → List ℕ → Outcome
 pushed push m rest = leaves m m.stack (exactly (numbers_in push (data_after push rest)))
 
--- Stack instructions. For CINDEX and MINDEX the index counts from 1, the top once the index is
--- taken; an index below 1 is a bad count, one above the depth an underflow (own).
+-- Stack instructions. For CINDEX and MINDEX index 1 is the top of what is left once the index is
+-- taken; an index below 1 is refused as a count (36), one above the depth as an underflow (26)
+-- (own).
 
 -- the element that an index from 1 names, or why there is none
 abbrev pub element : {N : Type 0} → ℤ → List N → Tested N
@@ -53,9 +54,9 @@ element (pos (suc zero)) (x ∷ xs) = Ok x
 element (pos (suc (suc n))) (x ∷ xs) = element (pos (suc n)) xs
 
 -- the position of that element, the top being 0
-abbrev pub place_of : ℤ → ℕ
-place_of (pos (suc n)) = n
-place_of _ = 0
+abbrev pub position_of : ℤ → ℕ
+position_of (pos (suc n)) = n
+position_of _ = 0
 
 -- what a stack instruction does
 abbrev pub shuffled : StackOp → Machine → Tested Outcome
@@ -78,7 +79,7 @@ shuffled CopyIndexed m = do
 shuffled MoveIndexed m = do
   k ← top m.stack
   z ← element k.0 k.1
-  Ok (leaves m (remove k.1 (place_of k.0)) (Exactly z ∷ []))
+  Ok (leaves m (remove k.1 (position_of k.0)) (Exactly z ∷ []))
 shuffled Roll m = do
   a ← top m.stack
   b ← top a.1
@@ -92,7 +93,7 @@ shuffled Roll m = do
 abbrev pub exact : ℤ → Value
 exact z = if is_number z then Exactly z else Anything
 
--- a comparison that holds is 1, another one 0
+-- what a comparison or a logical function pushes: 1 for true, 0 for false
 abbrev pub truth : Bool → Value
 truth true = Exactly (pos 1)
 truth false = Exactly (pos 0)

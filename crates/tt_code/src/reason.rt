@@ -20,8 +20,8 @@ pub enum Reason {
     Structure = 21,
     /// A glyph program has more bytes than maxSizeOfInstructions.
     ProgramTooLong = 22,
-    /// The code has no entry in the instruction set: it is no instruction, or one that isn't
-    /// followed.
+    /// The code has no entry in the instruction set: it is no instruction, or one that the analysis
+    /// doesn't follow (0x91, 0x92, or a code that an IDEF defines).
     Opcode = 23,
     /// The program comes to an IDEF, which isn't followed.
     InstructionDefinition = 24,
@@ -33,7 +33,8 @@ pub enum Reason {
     /// The stack is deeper than maxStackElements after the instruction.
     Overflow = 27,
     /// A number that the instruction uses as an index, as a count or as the distance of a jump
-    /// isn't known: it is measured, or depends on the way by which the program comes here.
+    /// isn't known: it was measured, stored or computed, or depends on the way by which the program
+    /// comes here.
     UnknownOperand = 28,
     /// An index into the control value table is negative, or not below the number of control
     /// values.
@@ -74,11 +75,12 @@ pub enum Reason {
 /// What a reason tells the font's maker.
 #[derive(Clone, Copy, Debug, PartialEq, Eq, Drop)]
 pub enum ReasonClass {
-    /// What is known at the place doesn't rule the fault out: a run may reach it.
+    /// The bytes are no program, or too many (20 to 22); or what is known at the place doesn't rule
+    /// the fault out: a run may reach it.
     PossibleFault,
     /// No fault is shown: the analysis can't tell.
     Undecided,
-    /// The program does what is left out by choice.
+    /// The program does what the analysis doesn't follow, by choice: it may be safe.
     LeftOut,
     /// The certificate doesn't fit the program.
     Certificate,

@@ -38,7 +38,7 @@ no_visits s h family blank = record {
 no_points : (family : Place → Option State) → ((p : Place) → family p ≡ None) → ArePoints family (λ _. 0) [] 0
 no_points family blank = record {
   exact = record {
-    apart = tt;
+    distinct = tt;
     all = λ p a at. absurd (let no_such : None ≡ Some a = sym (blank p) ∙ at in cc);
     only = λ p never. absurd never;
   };

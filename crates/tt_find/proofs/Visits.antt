@@ -84,7 +84,7 @@ points_more filled filled' visits points count q t are here elsewhere = elim (so
     points,
     record {
       exact = record {
-        apart = are.exact.apart;
+        distinct = are.exact.distinct;
         all = λ p b at'. elim (same_or_apart p q) [
           | inl same ↦ let H : Place → Type 0 = λ x. HasPlace points x in subst H (sym same) (are.exact.all q a at)
           | inr apart ↦ are.exact.all p b (sym (elsewhere p apart) ∙ at')
@@ -105,7 +105,7 @@ points_more filled filled' visits points count q t are here elsewhere = elim (so
     q ∷ points,
     record {
       exact = record {
-        apart = ((λ has. let (b, at) = are.exact.only q has in let no_such : None ≡ Some b = sym none ∙ at in cc), are.exact.apart);
+        distinct = ((λ has. let (b, at) = are.exact.only q has in let no_such : None ≡ Some b = sym none ∙ at in cc), are.exact.distinct);
         all = λ p b at'. elim (same_or_apart p q) [
           | inl same ↦ inl same
           | inr apart ↦ inr (are.exact.all p b (sym (elsewhere p apart) ∙ at'))
@@ -132,7 +132,7 @@ pub points_same : (filled filled' : Place → Option State) (visits : Place → 
     → ((p : Place) → filled' p ≡ filled p) → ArePoints filled' visits points count
 points_same filled filled' visits points count are same = record {
   exact = record {
-    apart = are.exact.apart;
+    distinct = are.exact.distinct;
     all = λ p b at. are.exact.all p b (sym (same p) ∙ at);
     only = λ p has. let (b, at) = are.exact.only p has in (b, same p ∙ at);
   };

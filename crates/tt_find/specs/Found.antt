@@ -34,8 +34,8 @@ pub record IsLeast (s : Setting) (functions : List (ℕ × ℕ)) (family : Place
   pub below : (other : Place → Option State) → IsGood state_order (flow_of s functions) other
       → IsBelowFamily state_order family other
 
--- Each context has a derived state, and a state in every good family; its calls are in their turns,
--- and no body runs twice.
+-- Each context has a derived state, and a state in every good family; each of its calls is in one
+-- of its turns, and no body is in two of them.
 pub record AreLeastContexts (s : Setting) (functions : List (ℕ × ℕ)) (contexts : List (List Frame))
     : Type 0 where
   pub derived : (frames : List Frame) → HasContext contexts frames
@@ -57,13 +57,13 @@ HasPlace [] p = ⊥
 HasPlace (q ∷ qs) p = (p ≡ q) ⊎ HasPlace qs p
 
 -- no two of these places are the same
-abbrev pub AreApart : List Place → Type 0
-AreApart [] = Unit {0}
-AreApart (q ∷ qs) = (HasPlace qs q → ⊥) × AreApart qs
+abbrev pub AreDistinct : List Place → Type 0
+AreDistinct [] = Unit {0}
+AreDistinct (q ∷ qs) = (HasPlace qs q → ⊥) × AreDistinct qs
 
 -- the places at which the family has states, each once
 pub record ArePointsOf (family : Place → Option State) (points : List Place) : Type 0 where
-  pub apart : AreApart points
+  pub distinct : AreDistinct points
   pub all : (p : Place) (a : State) → family p ≡ Some a → HasPlace points p
   pub only : (p : Place) → HasPlace points p → (a : State) × (family p ≡ Some a)
 
@@ -92,8 +92,8 @@ pub record IsLedElsewhere (s : Setting) (functions : List (ℕ × ℕ)) (q : Pla
   pub gives : GivesState s from state q given
   pub elsewhere : Precedes s from q → ⊥
 
--- a filling has no state there that the family lacks: it is the start, or a place to which another
--- one leads than the one just before
+-- no good filling adds a state there: it is the start, or a derived state leads there from a place
+-- that isn't just before it
 abbrev pub IsNeeded : Setting → List (ℕ × ℕ) → Place → Type 0
 IsNeeded s functions q = (q ≡ ([], 0)) ⊎ IsLedElsewhere s functions q
 
@@ -118,14 +118,16 @@ NeedsAll s functions family =
     (q : Place) (other : Contents) → IsWithout family (family_of other) q
     → LacksPoint s functions other q
 
--- no family of a program that isn't too long is good, whatever it has at the end
+-- no family with states in at most 65,535 contexts is good, of a program that isn't too long,
+-- whatever it has at the end
 abbrev pub NoneIsGood : Setting → List (ℕ × ℕ) → Type 0
 NoneIsGood s functions =
     (family : Place → Option State) → IsShortEnough s s.kind
     → IsGood state_order (flow_of s functions) family → HasFewContexts family → ⊥
 
--- The family is good except for a state at the end, which is required of a font program and of a
--- CVT program; and each of its states is derived, so that it has the joins of all derived states.
+-- The family is good and has states in at most 65,535 contexts, but none at the end, which a font
+-- program and a CVT program need. Each of its states is derived, so that it has the joins of all
+-- derived states.
 pub record LacksEnd (s : Setting) (functions : List (ℕ × ℕ)) (family : Place → Option State)
     : Type 0 where
   pub derived : (p : Place) (a : State) → family p ≡ Some a → IsDerived s functions p a
@@ -174,7 +176,8 @@ NamesPlace Is (Refused spot offset reason) =
     (p : Place) × (spot ≡ spot_of p.0) × (offset ≡ p.1) × Is p reason
 NamesPlace Is (OutOfMemory e) = Unit {0}
 
--- a state came where states had passed; where states are kept everywhere this can't be
+-- The stop is a fault that names such a place; or the finder starts again, since a state was to be
+-- kept where states had passed, which can't be where they are kept everywhere.
 abbrev pub NamesStop : (Place → Reason → Type 0) → Bool → Stop → Type 0
 NamesStop Is everywhere (Fault fault) = NamesPlace Is fault
 NamesStop Is everywhere Restart = everywhere ≡ false

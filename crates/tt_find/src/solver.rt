@@ -119,8 +119,8 @@ impl Solver {
         Ok(joined)
     }
 
-    /// Notes from where a state came to a point, and whether that is new. A new point is spare if
-    /// its state came from just before; once a state comes from elsewhere, the point no longer is.
+    /// Notes whether a point is spare, once a state came to it. A new point is spare if its state
+    /// came from just before; once a state comes from elsewhere, the point no longer is.
     ///
     /// # Errors
     /// If memory runs out.
@@ -159,7 +159,8 @@ impl Solver {
         }
     }
 
-    /// Counts a state that passes over an offset at which states aren't kept.
+    /// Counts a state that passes over an offset at which states aren't kept, and marks the offset
+    /// as passed.
     ///
     /// # Errors
     /// If this can't be counted any more.

@@ -1,4 +1,4 @@
--- What the definitions that go step by step mean, each in one statement about positions or ways.
+-- What the recursive definitions mean, each in one statement about positions or chains.
 use Rattle.std.specs.Prelude.{◌≡◌, ℕ, ◌+◌, ◌<◌, ◌≤◌, ◌⊎◌, ◌↔◌, List, [], ◌∷◌, length, Bool, true, false, Option, MatchOption}
 use Rattle.tt_font.specs.declared.component.Component.{Component}
 use Rattle.tt_font.specs.Numbers.{u16_at, first_below}

@@ -9,8 +9,8 @@ ghost use Rattle.tt_font.specs.Glyphs.{is_composite, component_count, program_at
 use crate::component::{ComponentReader, HEADER};
 use crate::numbers::u16_at;
 
-/// The least value of numberOfContours that is a negative number: such a glyph is made of
-/// components.
+/// From this value on, numberOfContours (an int16, read here as a u16) is negative: a glyph with a
+/// negative one is made of components.
 const COMPOSITE: u16 = 0x8000;
 
 /// Returns the instructions at an offset of a glyph, which begin with their length, if all their
@@ -89,7 +89,7 @@ pub(crate) fn read_glyph_program<'a>(
     }
 }
 
-/// Returns how many points a glyph has that isn't composite and whose bytes are all there.
+/// Returns how many points a simple glyph has, whose bytes are all there.
 #[tactic(auto, unfolding(crate::specs::Glyphs::simple_points))]
 pub(crate) fn simple_points(glyph: &[u8]) -> u32
     requires simple { is_composite glyph.now ≡ false }
@@ -108,7 +108,7 @@ pub(crate) fn simple_points(glyph: &[u8]) -> u32
     u32::from(u16_at(glyph, HEADER + 2 * (contours - 1))) + 1
 }
 
-/// Returns how many contours a glyph has that isn't composite.
+/// Returns how many contours a simple glyph has.
 #[tactic(auto, unfolding(crate::specs::Glyphs::simple_contours))]
 pub(crate) fn simple_contours(glyph: &[u8]) -> u32
     ensures contours { result ≡ simple_contours glyph.now }

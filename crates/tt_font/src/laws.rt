@@ -3,11 +3,11 @@
 
 ghost use Rattle.tt_font.specs.Laws.{FindsLeast, ListsComponents, StartsWays, FindsWaysOut};
 
-/// States what the definitions mean that go step by step. `first_below` finds the least number
-/// below a bound that passes a test, if one does. The components of a glyph, where a last one ends
-/// them, are the only list that follows its header, and otherwise no list follows it. A chain of
-/// components starts, or leads out of the font, exactly if there is such a way from component to
-/// component.
+/// States what the recursive definitions mean. `first_below` finds the least number below a bound
+/// that passes a test, if one does. Where a glyph's components come to a last one, they are the
+/// only such list that follows the header; otherwise there is none. `starts_chain` says whether a
+/// chain of so many components starts from a glyph, and `leads_out` whether one of at most so many
+/// ends at a number that is no glyph of the font.
 pub fn definitions_hold()
     ensures least { FindsLeast }
     ensures components { ListsComponents }

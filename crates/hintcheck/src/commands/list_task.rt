@@ -12,7 +12,7 @@ use crate::instruction_list::list_program;
 use std::rt::Files;
 use tt_stream::Sink;
 
-/// Lists the program of the font file with this name whose name the word is, and returns the exit
+/// Lists the program that the word names, of the font file with this name, and returns the exit
 /// status: 0 listed, 1 refused.
 ///
 /// # Errors

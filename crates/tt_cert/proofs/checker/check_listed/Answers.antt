@@ -35,8 +35,8 @@ returns-then-not-is_short-clause-first c =
     let f : c.is_short.result ≡ false = search rules in
     (([], c.args.setting.now.limits.program_size), refl, omega arith, too_long (λ h. not_both c.is_short.result f (c.is_short.ensures.1 h)))
 
-pub check_start-requires-clause-apart : goal.check_start-requires-clause-apart
-check_start-requires-clause-apart c = c.in_ok-walk.ensures.apart
+pub check_start-requires-clause-not_next : goal.check_start-requires-clause-not_next
+check_start-requires-clause-not_next c = c.in_ok-walk.ensures.not_next
 
 pub returns-in-Err-clause-first : goal.returns-in-Err-clause-first
 returns-in-Err-clause-first c =

@@ -33,7 +33,7 @@ go_to-requires-clause-walk c =
       frames = ap (λ fs. fs.items) c.in_ok-take.ensures.frames ∙ c.requires.walk.frames ∙ ap (λ k. reverse (frames_at v.contexts k)) (sym c.in_ok-take.ensures.context);
       next = read_behind v before x c.args.states.now c.take_first-self.new.self c.take_first-self.result (split ∙ ap (λ n. before ++ to_come n c.args.states.now) c.in-Some-next.is)
           (taken c.take_first-self.result c.args.states.now c.take_first-self.new.self c.take_first-self.ensures.none c.take_first-self.ensures.some) c.requires.to_come.found;
-      made = λ t. let no_such : true ≡ false = sym t ∙ c.in_ok-take.ensures.apart in absurd (cc);
+      made = λ t. let no_such : true ≡ false = sym t ∙ c.in_ok-take.ensures.not_next in absurd (cc);
     }
 
 pub go_to-requires-clause-there : goal.go_to-requires-clause-there
