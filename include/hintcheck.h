@@ -65,7 +65,7 @@ typedef struct hintcheck_refusal {
 /* What a call answers. */
 typedef struct hintcheck_answer {
     uint32_t status;   /* an enum hintcheck_status */
-    uint32_t fault;    /* the fault's number, as README.md lists them; 0 where there is a verdict */
+    uint32_t fault;    /* the fault's number, as README.md lists them; 0 where there is a verdict, and at HINTCHECK_USAGE */
     uint64_t place;    /* at fault 43, the first byte of the certificate that is wrong; otherwise 0 */
     uint64_t points;   /* how many points were made, also where there is no verdict: one each time that a state was carried on */
     uint32_t programs; /* how many programs the font has: its glyphs and 2; 0 where there is no verdict */
