@@ -14,7 +14,7 @@ abbrev pub IsMemory : FontFault → Type 0
 IsMemory (OutOfMemory e) = Unit {0}
 IsMemory _ = ⊥
 
--- a font without a font program and a CVT program
+-- a font without a font program or a CVT program
 abbrev pub font_around : Limits → ℕ → Font
 font_around limits cvt = record { limits = limits; cvt = cvt; font_program = []; cvt_program = [] }
 
@@ -32,8 +32,8 @@ bare_font maxp cvt glyph = font_of (one_glyph_font maxp cvt glyph) [] []
 abbrev pub bare_subject : List ℕ → ℕ → GlyphData → Subject
 bare_subject maxp cvt glyph = glyph_subject (bare_font maxp cvt glyph) [] 0 glyph
 
--- These are the refused ones of the only program: none, and it has its least family; or itself, and
--- it has no good one.
+-- These are the refused programs where this is the only one: none, and it has its least family; or
+-- this one, and it has no good family.
 abbrev pub IsJudged : Subject → List Refused → Type 0
 IsJudged x [] = HasLeastFamily x
 IsJudged x (r ∷ []) = IsRefusal x r × (HasGoodFamily x → ⊥)

@@ -68,7 +68,7 @@ CountsFind (Err (find.Font font)) old new = new ≡ old
 CountsFind (Err (find.OutOfMemory error)) old new = new ≡ old
 CountsFind (Err find.Budget) old new = new ≡ old
 
--- the search for its certificate tests the condition likewise
+-- the search for a font's certificate tests the condition on its bytes likewise
 abbrev pub FindTellsFontFault : {T : Type 0} → Condition → Result T FindFontFault → Type 0
 FindTellsFontFault condition (Ok done) = condition ≡ None
 FindTellsFontFault condition (Err (find.Font font)) =

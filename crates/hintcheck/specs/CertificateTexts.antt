@@ -88,16 +88,16 @@ IsLeastCertificate form d bytes = IsCertificate IsLeastListing form d bytes
 abbrev pub IsPassingCertificate : FontData → List ℕ → Type 0
 IsPassingCertificate d bytes = IsLeastCertificate Four d bytes × IsChecked d bytes (Ok [])
 
--- such a family, whose section keeps the rules by which it is read (Representation: no public
--- clause cites it.)
+-- The family is as `IsLeastListing` says, and its section keeps the rules by which it is read.
+-- (Representation: no public clause cites it.)
 abbrev pub IsReadableListing : Subject → List Instruction → Contents → Type 0
 IsReadableListing x instructions family =
     IsLeastListing x instructions family × Fits Four (section_of x.name family)
 
--- such a text is appended
+-- a text of which this holds is appended
 abbrev pub WritesText : Option (List ℕ) → Option (List ℕ) → (List ℕ → Type 0) → Type 0
 WritesText old new Is = (text : List ℕ) × Is text × Appends old new text
 
--- a beginning of such a text is appended
+-- a beginning of a text of which this holds is appended
 abbrev pub WritesBeginning : Option (List ℕ) → Option (List ℕ) → (List ℕ → Type 0) → Type 0
 WritesBeginning old new Is = (text : List ℕ) × Is text × AppendsBeginning old new text

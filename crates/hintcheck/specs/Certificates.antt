@@ -27,8 +27,8 @@ use Rattle.hintcheck.specs.declared.report.Refused.{Refused}
 use Rattle.hintcheck.specs.FontPrograms.{cvt_subject, font_of, font_subject, glyph_subject}
 use Rattle.hintcheck.specs.Programs.{IsCutInto, Subject, program_at}
 
--- A family is good, as a certificate of this form lists it: the first form lists each state, the
--- others leave out those that a filling adds.
+-- A family is good, as a certificate of this form lists it: form 1 lists each state, the others may
+-- leave out those that a filling adds.
 abbrev pub IsGoodListing : Form → Setting → List (ℕ × ℕ) → Contents → Type 0
 IsGoodListing One s functions family = IsGoodFamily s functions (family_of family)
 IsGoodListing Two s functions family = HasGoodFilling s functions (family_of family)
@@ -58,7 +58,7 @@ pub record PassesToEnd (form : Form) (x : Subject) (instructions : List Instruct
 
 -- Why a program that is checked by a family is refused, where, and the offset that is reported of
 -- it: it can't be cut; its structure is at fault; the family isn't good, and an offset of more than
--- 32 bits is reported as the greatest number of them.
+-- 32 bits is reported as the greatest number of 32 bits.
 pub data IsBreak (form : Form) (x : Subject) (family : Contents) : Place → ℕ → Reason → Type 0 where
   no_cut : (offset : ℕ) → CannotBeCut x.bytes offset
       → IsBreak form x family ([], offset) offset reason.CannotCut
@@ -85,7 +85,7 @@ pub record IsSectionOf (form : Form) (i : Input) (called : Name) (family : Conte
   pub is_read : section_at form i ≡ Ok (section_of called family, after)
 
 -- There is no section of this program, and the place of what is wrong: no section can be read; or
--- it is another program's.
+-- the one that is read is another program's.
 pub data HasNoSection (form : Form) (i : Input) (called : Name) : ℕ → Type 0 where
   not_read : (place : ℕ) → section_at form i ≡ Err place → HasNoSection form i called place
   of_another : (s : Section) (after : Input) → section_at form i ≡ Ok (s, after) → s.name ≢ called

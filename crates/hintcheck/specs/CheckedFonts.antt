@@ -29,7 +29,7 @@ pub record EndsGood (x : Subject) (instructions : List Instruction)
   pub at_end : family ([], size instructions) ≡ Some end
   pub functions_are : end.functions ≡ functions
 
--- These functions are listed by ascending numbers.
+-- The same, where these functions are also listed by ascending numbers.
 pub record IsGoodAtEnd (x : Subject) (instructions : List Instruction)
     (functions : List (ℕ × ℕ)) : Type 0 where
   pub ends : EndsGood x instructions functions

@@ -1,5 +1,4 @@
--- Which fault a command reports, and when: each tells that of its input, and out of memory is
--- unspecified.
+-- Which fault a command reports, and what that tells of its input; out of memory is unspecified.
 use Rattle.std.specs.Prelude.{◌≡◌, ◌≢◌, ◌⊎◌, ℕ, List, Option, Some, None, alloc_error, true, unwrap_or, []}
 use Rattle.tt_font.specs.Conditions.{maxp_fault}
 use Rattle.tt_font.specs.FileFaults.{font_fault}
@@ -14,11 +13,11 @@ use Rattle.hintcheck.specs.Listing.{HoldNoSuchProgram}
 use Rattle.hintcheck.specs.declared.commands.faults.CommandFault.{CommandFault}
 use Rattle.hintcheck.specs.declared.commands.faults.CommandFault.TheVariants as fault
 
--- the bytes' first fault as those of a font
+-- the fault is the first one of these bytes as those of a font; out of memory is unspecified
 abbrev pub IsFaultOfFont : List ℕ → FontFault → Type 0
 IsFaultOfFont bytes f = f ≢ OutOfMemory alloc_error → font_fault bytes ≡ Some f
 
--- some bytes' first fault
+-- the fault is the first one of some bytes as those of a font
 abbrev pub IsFaultOfSomeFont : FontFault → Type 0
 IsFaultOfSomeFont f = (bytes : List ℕ) × IsFaultOfFont bytes f
 
@@ -31,11 +30,12 @@ IsFaultOfSource old new (fault.Font numbered) =
     (bytes : List ℕ) × ReadsToEnd old new bytes × IsFaultOfFont bytes numbered.0
 IsFaultOfSource old new other = ⊥
 
--- a budget is exceeded only where points are counted
+-- that a budget is exceeded is reported only where there is one
 abbrev pub IsWithin : Option ℕ → CommandFault → Type 0
 IsWithin budget reported = reported ≡ fault.Budget → budget ≢ None
 
--- The same where a number of points bounds the verdict: they may have been too few.
+-- Why there is no verdict on the bytes of a source, where there may be a budget: as
+-- `IsFaultOfSource` says; or there is a budget, and it is exceeded.
 abbrev pub IsFaultWithin : Option ℕ → Option (List ℕ) → Option (List ℕ) → CommandFault → Type 0
 IsFaultWithin budget old new fault.Budget = budget ≢ None
 IsFaultWithin budget old new other = IsFaultOfSource old new other
@@ -80,8 +80,7 @@ IsFaultOfFontFile fault.OutOfMemory = Unit {0}
 IsFaultOfFontFile fault.Budget = Unit {0}
 IsFaultOfFontFile other = ⊥
 
--- Why a scan has a fault: one of the font files has it, as its line tells. It is the one of the
--- greatest status.
+-- Why a scan has a fault: one of the font files has a fault that gives the same exit status.
 abbrev pub IsFaultOfScan : CommandFault → Type 0
 IsFaultOfScan fault.ScanFault =
     (reported : CommandFault) × IsFaultOfFontFile reported × (status_of reported ≡ 2)

@@ -1,4 +1,5 @@
--- What a command tells of the count of failed writes to its output, and its exit status at a fault.
+-- The faults of a command: their exit statuses, how they are made of the faults of what it calls,
+-- and what an answer tells of failed reads and writes.
 use Rattle.std.specs.Prelude.{◌≡◌, ◌+◌, ℕ, List, Option, IfSome, Result, Ok, Err}
 use Rattle.std.specs.Io.KnownBytes.{Consumes, IsAtEnd}
 use Rattle.hintcheck.specs.declared.commands.faults.CommandFault.{CommandFault}

@@ -15,7 +15,7 @@ use Rattle.hintcheck.specs.declared.font_check.CheckFontFault.TheVariants as fau
 use Rattle.hintcheck.specs.declared.certificate_upgrade.UpgradeFault.{UpgradeFault}
 use Rattle.hintcheck.specs.declared.certificate_upgrade.UpgradeFault.TheVariants as upgrade
 
--- what holds of the bytes that were read of a source, where that tells its bytes
+-- what holds of the bytes that were read from a source, where that tells its bytes
 abbrev pub OfRead : Option (List ℕ) → Option (List ℕ) → (List ℕ → Type 0) → Type 0
 OfRead old new Is = IsTold old → (front : List ℕ) × Consumes old new front × Is front
 
@@ -40,12 +40,12 @@ HasReadOld old new Is (upgrade.OutOfMemory error) = Unit {0}
 abbrev pub end_of : Input → ℕ
 end_of i = place_after i.place (length i.bytes)
 
--- the bytes end too early for a header: at their end, and nowhere before, they have none
+-- the bytes end too early for a header: what is wrong with them is at their end
 abbrev pub IsCutHeader : List ℕ → Type 0
 IsCutHeader front = header_at (input_at 0 (Some front)) ≡ Err (place_after 0 (length front))
 
--- The input ends too early for the program that is next: at its end, and nowhere before, it has no
--- section; or all sections were read.
+-- The input ends too early for the section of the next program: what is wrong with it is at its
+-- end; or all sections were read, and nothing follows.
 pub data EndsInSection (d : FontData) (form : Form) (stage : Stage) (i : Input) : Type 0 where
   in_section : IsFaultAt d form i stage (end_of i) → EndsInSection d form stage i
   after_all : IsLast d stage → i.bytes ≡ [] → EndsInSection d form stage i
@@ -57,7 +57,7 @@ pub data EndsInCall (s : Standing) (front : List ℕ) : Type 0 where
   in_sections : (form : Form) (from : Input) → ReadsOn s (Some front) form from
       → EndsInSection s.font form s.stage from → EndsInCall s front
 
--- it names no place before the end of this many bytes
+-- the answer names no place, or the one at the end of this many bytes
 abbrev pub IsAtEndOnly : {T : Type 0} → ℕ → Result T ℕ → Type 0
 IsAtEndOnly n (Ok x) = Unit {0}
 IsAtEndOnly n (Err place) = place ≡ place_after 0 n

@@ -22,7 +22,8 @@ use Rattle.hintcheck.specs.declared.report.Refused.{Refused}
 use Rattle.hintcheck.specs.declared.session.Outcome.{Outcome}
 
 -- What is found for a program with these instructions: its least family, which lists no state that
--- could be left out, with the contexts that it comes to, and as many updates as `find` counts.
+-- could be left out, with the contexts that it comes to, and a count of updates within the bounds
+-- that `find` promises.
 pub record IsFoundFor (x : Subject) (instructions : List Instruction) (found : Found) : Type 0 where
   pub listing : IsLeastListing x instructions found.certificate
   pub filling : HasLeastFilling (x.setting instructions) x.functions found.updates
@@ -42,9 +43,9 @@ pub record IsFoundToEnd (x : Subject) (instructions : List Instruction) (found :
   pub functions_are : end.functions ≡ functions
 
 -- The outcome of the next program, with what is found for it, and which one is next afterwards. The
--- functions that are known at the end of an accepted font program or CVT program are kept by all
--- calls after it, up to those at the end of the CVT program. A refused font program or CVT program
--- is the last one.
+-- functions that are known at the end of an accepted font program are kept for the CVT program, and
+-- those that are known at the end of an accepted CVT program for the glyph programs. A refused font
+-- program or CVT program is the last one.
 pub data IsOutcomeByFinding (d : FontData) : Stage → Outcome → Option Found → Stage → Type 0 where
   font_found : (f : List Instruction) (functions : List (ℕ × ℕ)) (found : Found)
       → IsFoundToEnd (font_subject d) f found functions
@@ -75,14 +76,15 @@ abbrev pub IsFoundAnswer : FontData → Stage → Option (Outcome × Option Foun
 IsFoundAnswer d stage (Some (o, found)) stage' = IsOutcomeByFinding d stage o found stage'
 IsFoundAnswer d stage None stage' = IsLast d stage × (stage' ≡ over)
 
--- memory ran out, as a session that finds reports it, and as it keeps it
+-- out of memory: the fault that a call that finds reports, and the one that the session keeps
 abbrev pub out_of_memory : FindFontFault
 out_of_memory = find.OutOfMemory alloc_error
 
 abbrev pub out_of_memory_here : CheckFontFault
 out_of_memory_here = fault.OutOfMemory alloc_error
 
--- a fault that a session keeps, as one that finds reports it
+-- the fault that a session keeps, as a call that finds reports it: that a budget is exceeded, or
+-- otherwise that memory ran out
 abbrev pub found_fault : CheckFontFault → FindFontFault
 found_fault fault.Budget = find.Budget
 found_fault other = out_of_memory

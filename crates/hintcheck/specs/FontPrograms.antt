@@ -16,8 +16,8 @@ use Rattle.hintcheck.specs.declared.report.Refused.{Refused}
 abbrev pub font_of : FontData → List Instruction → List Instruction → Font
 font_of d f p = record { limits = d.limits; cvt = d.cvt_count; font_program = f; cvt_program = p }
 
--- a font with only one glyph and without a font program and a CVT program, by the fields of a
--- `maxp` table and the number of control values
+-- a font with only one glyph and without a font program or a CVT program, by the fields of a `maxp`
+-- table and the number of control values
 abbrev pub one_glyph_font : List ℕ → ℕ → GlyphData → FontData
 one_glyph_font maxp cvt glyph =
     record { limits = limits_of maxp; cvt_count = cvt; fpgm = []; prep = []; glyphs = glyph ∷ []; component_reads = 0 }
@@ -27,8 +27,8 @@ pub record AreFewBytes (xs : List ℕ) : Type 0 where
   pub bytes : AreBytes xs
   pub few : length xs < 2 ^ 31
 
--- Each program of the font has fewer than 2^31 bytes, and the greatest depth is a number of 16
--- bits, as `read_font` gives it.
+-- Each program of the font has fewer than 2^31 bytes, and maxStackElements is a number of 16 bits:
+-- so it is with each font that `read_font` gives.
 pub record IsFontInRange (d : FontData) : Type 0 where
   pub depth : d.limits.stack < 2 ^ 16
   pub fpgm : AreFewBytes d.fpgm
@@ -46,7 +46,8 @@ pub record IsSafeGlyph (font : Font) (glyph : GlyphData) : Type 0 where
   pub never_faults : NeverFaults (glyph_setting font glyph.points glyph.contours instructions)
       (StartsGlyphProgram font)
 
--- The same for the font program, the CVT program and each glyph program of a font.
+-- The same for each glyph program of a font and, except for the length, for its font program and
+-- its CVT program.
 pub record IsSafeFont (d : FontData) : Type 0 where
   pub font_program : List Instruction
   pub font_cut : IsCut d.fpgm font_program

@@ -38,11 +38,11 @@ pub record HoldSafeFont (bytes : List ℕ) : Type 0 where
   pub reads : Reads bytes font
   pub safe : IsSafeFont font
 
--- What is asked for is safe: the glyph program of `bare`, no digits being no bytes. For `verdict`,
--- `find` and `check`, some bytes hold a safe font: no contract of the runtime tells which bytes a
--- file has, so that these can't be named here. For `scan` this holds for each of the names. For
--- `explain`, some bytes hold a font whose program of this name is accepted. A listing and an
--- upgrade tell nothing of safety.
+-- What is asked for is safe: the glyph program of `bare`, which has no bytes where its word is left
+-- out. For `verdict`, `find` and `check`, some bytes hold a safe font: no contract of the runtime
+-- tells which bytes a file has, so that these can't be named here. For `scan` this holds for each
+-- of the names. For `explain`, some bytes hold a font whose program of this name is accepted. A
+-- listing and an upgrade tell nothing of safety.
 abbrev pub IsSafeRequest : Request → Type 0
 IsSafeRequest (bare maxp cvt points contours program) =
     SpellSafeGlyph maxp cvt points contours (unwrap_or program [])
@@ -101,17 +101,17 @@ pub record SpellVerdict (maxp : List ℕ) (cvt points contours : ℕ) (program :
   pub exact : judgement.refused ≡ [] ↔ HasGoodFamily (bare_subject table cvt glyph)
   pub refused : All (IsRefusal (bare_subject table cvt glyph)) judgement.refused
 
--- The verdict is one on the programs of the font that is in the bytes; where it names none, the
--- font is safe. No contract of the runtime tells which ones a check by a certificate refuses, since
--- it doesn't tell the bytes of that.
+-- The verdict counts the programs of the font that is in the bytes; where it names no refused one,
+-- the font is safe. Which ones a check by a certificate refuses isn't said: no contract of the
+-- runtime tells the certificate's bytes.
 pub record IsCheckOn (bytes : List ℕ) (judgement : Judgement) : Type 0 where
   pub font : FontData
   pub reads : Reads bytes font
   pub programs : judgement.programs ≡ length font.glyphs + 2
   pub safe : judgement.refused ≡ [] → IsSafeFont font
 
--- The verdict is the one that is asked for: on the glyph program of `bare`; and for the others on a
--- font that some bytes hold.
+-- The verdict is the one that is asked for: on the glyph program of `bare`; and for `verdict`,
+-- `find` and `check` on a font that some bytes hold. The others ask for no verdict of this kind.
 abbrev pub IsVerdictAsked : Request → Judgement → Type 0
 IsVerdictAsked (bare maxp cvt points contours program) judgement =
     SpellVerdict maxp cvt points contours (unwrap_or program []) judgement
@@ -125,10 +125,11 @@ IsVerdictAsked (explain font program offset) judgement = ⊥
 IsVerdictAsked (list font program) judgement = ⊥
 IsVerdictAsked (upgrade old new) judgement = ⊥
 
--- What is asked for is refused, as it is safe above; for `check` this tells no more than that some
--- bytes hold a font. For `scan`, one of the font files is refused. For `explain`, some bytes hold a
--- font whose program of this name is refused, or one before it. For `list`, some bytes hold a font
--- whose program of this name can't be cut or isn't structured. An upgrade is never refused.
+-- What is asked for is refused: the glyph program of `bare`. For `verdict`, `find` and `scan`, some
+-- bytes hold a font whose verdict names refused programs; for `check` this tells no more than that
+-- some bytes hold a font. For `explain`, some bytes hold a font whose program of this name is
+-- refused, or one before it. For `list`, some bytes hold a font whose program of this name can't be
+-- cut or isn't structured. An upgrade is never refused.
 abbrev pub IsRefusedRequest : Request → Type 0
 IsRefusedRequest (bare maxp cvt points contours program) =
     SpellRefusedGlyph maxp cvt points contours (unwrap_or program [])
@@ -146,8 +147,8 @@ pub record MeansRefused (words : List (List ℕ)) : Type 0 where
   pub meant : meaning words ≡ Some request
   pub refused : IsRefusedRequest request
 
--- What the statuses of font files tell together, the greatest of which is this one: each of them is
--- safe; or one is refused, and none has a fault; or one has a fault of this status.
+-- What the greatest of the exit statuses of font files tells: where it is 0, each of the files is
+-- safe; where it is 1, one is refused; where it is more, one has a fault of this status.
 pub record TellsFonts (fonts : List (List ℕ)) (status : ℕ) : Type 0 where
   pub few : status ≤ 3
   pub safe : status ≡ 0 → All (λ font. (bytes : List ℕ) × HoldSafeFont bytes) fonts
@@ -155,9 +156,9 @@ pub record TellsFonts (fonts : List (List ℕ)) (status : ℕ) : Type 0 where
   pub fault : 2 ≤ status
       → (reported : CommandFault) × IsFaultOfFontFile reported × (status_of reported ≡ status)
 
--- What an exit status tells of the words of a command line: they ask for something safe where it is
--- 0 and they are taken, and for something refused where it is 1; where it is more, they have a
--- fault, which gives it, and otherwise, where they are taken, none.
+-- What an exit status tells of the words of a command line. Where it is 0 and they are taken, they
+-- ask for something safe; where it is 1, for something refused. Where it is more, a fault of theirs
+-- gives it; where it is 0 or 1 and they are taken, they have no fault.
 pub record IsStatusOf (words : List (List ℕ)) (status : ℕ) : Type 0 where
   pub few : status ≤ 3
   pub safe : status ≡ 0 → is_taken words ≡ true → MeansSafe words

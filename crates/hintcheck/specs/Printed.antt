@@ -28,7 +28,7 @@ pub record PrintsListing (word : List ℕ) (status : ℕ) (old new : Option (Lis
   pub listed : status ≡ 0 → HoldListedProgram bytes word old new
   pub told : status ≡ 1 → HoldToldProgram bytes word old new
 
--- the line of an upgrade was written, with a number of sections that a font may have programs
+-- the line of an upgrade was written, with as many sections as a font may have programs
 abbrev pub PrintsUpgrade : Option (List ℕ) → Option (List ℕ) → Type 0
 PrintsUpgrade old new =
     (count : ℕ) × IsNumberOfPrograms count × Appends old new (upgraded_line count)

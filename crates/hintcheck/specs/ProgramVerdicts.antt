@@ -45,8 +45,8 @@ abbrev pub reported_at : Name → Spot → ℕ → Reason → AnyRefused
 reported_at called spot offset r =
     record { program = called; place = record { program = program_at called spot; offset = offset }; reason = r }
 
--- the same of what is reported of a program by this name, where the fault refuses it; out of memory
--- is unspecified
+-- what holds of what is reported of a program by this name, where the fault refuses it; out of
+-- memory is unspecified
 abbrev pub IfRefused : Name → ProgramFault → (AnyRefused → Type 0) → Type 0
 IfRefused called (Refused spot offset r) Is = Is (reported_at called spot offset r)
 IfRefused called (OutOfMemory e) Is = Unit {0}
@@ -67,13 +67,13 @@ IsFilledIn s family = HasGoodFilling (setting_of s) s.start.now (family_of famil
 abbrev pub IsListedIn : Form → Setting → Contents → Type 0
 IsListedIn form s family = IsGoodListing form (setting_of s) s.start.now family
 
--- the fault refuses a program by this name, which is last in the list
+-- the fault refuses a program by this name, and what is reported of it is appended to the list
 abbrev pub IsAppendedRefusal : Name → ProgramFault → List AnyRefused → List AnyRefused → Type 0
 IsAppendedRefusal called (Refused spot offset r) old new =
     new ≡ old ++ reported_at called spot offset r ∷ []
 IsAppendedRefusal called (OutOfMemory e) old new = ⊥
 
--- a family is searched for a certificate
+-- the search is for the family that a certificate lists
 abbrev pub IsForCertificate : Search → Type 0
 IsForCertificate search.Verdict = ⊥
 IsForCertificate search.Certificate = Unit {0}

@@ -38,7 +38,7 @@ pub record HasGoodFamily (x : Subject) : Type 0 where
   pub family : Place → Option State
   pub good : IsGoodFamily (x.setting instructions) x.functions family
 
--- a family of abstract states is good for it, and each of its states is derived
+-- a family of abstract states is good for it, and is the least one that is
 pub record HasLeastFamily (x : Subject) : Type 0 where
   pub instructions : List Instruction
   pub cut : IsCutInto x instructions

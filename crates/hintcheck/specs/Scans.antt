@@ -22,8 +22,8 @@ pub data Answer : Type 0 where
   judged : Judgement → Answer
   unread : CommandFault → Answer
 
--- The verdict is that on the font in some bytes, and the fault is one of a font file, and a
--- budget's only where there is one: no contract of the runtime tells which bytes a file has.
+-- The verdict is that on the font in some bytes, since no contract of the runtime tells which bytes
+-- a file has; or the fault is one of a font file, and a budget's only where there is a budget.
 abbrev pub IsAnswer : Option ℕ → Answer → Type 0
 IsAnswer budget (judged judgement) = (bytes : List ℕ) × IsVerdictOn bytes judgement
 IsAnswer budget (unread reported) = IsFaultOfFontFile reported × IsWithin budget reported

@@ -19,7 +19,8 @@ use Rattle.hintcheck.specs.declared.session.Outcome.{Outcome}
 
 -- Which program of the font is next: the font program; the CVT program, after a font program with
 -- these instructions, where these functions are known at its end; the glyph program of this number,
--- after both programs, where these functions are known at the end of the CVT program; or none.
+-- if the font has one, after a font program and a CVT program with these instructions, where these
+-- functions are known at the end of the CVT program; or none.
 pub data Stage : Type 0 where
   at_start : Stage
   after_font : List Instruction → List (ℕ × ℕ) → Stage
@@ -44,8 +45,8 @@ standing_at d stage read = record { font = d; stage = stage; read = read; fault 
 abbrev pub new_standing : FontData → Standing
 new_standing d = standing_at d at_start None
 
--- a session that was used for no other calls than those that check by a certificate: the first one
--- reads the header
+-- a session that was used for no other calls than those that check by a certificate: the first of
+-- them reads the header, so that without a header and without a fault the session is at the start
 abbrev pub IsForChecking : Standing → Type 0
 IsForChecking s = s.fault ≡ None → s.read ≡ None → s.stage ≡ at_start
 
@@ -58,9 +59,9 @@ abbrev pub refused_as : Name → Refused → Outcome
 refused_as called r = record { program = called; refused = Some r }
 
 -- The outcome of the next program by its section, and which one is next afterwards. The functions
--- that are known at the end of an accepted font program or CVT program are kept by all calls after
--- it, up to those at the end of the CVT program. A refused font program or CVT program is the last
--- one.
+-- that are known at the end of an accepted font program are kept for the CVT program, and those
+-- that are known at the end of an accepted CVT program for the glyph programs. A refused font
+-- program or CVT program is the last one.
 pub data IsOutcomeBySection (d : FontData) (form : Form) (i after : Input) : Stage → Outcome → Stage
     → Type 0 where
   font_passes : (family : Contents) (f : List Instruction) (functions : List (ℕ × ℕ))
@@ -143,8 +144,8 @@ pub data IsHeaderFault (d : FontData) (bytes : Option (List ℕ)) : ℕ → Type
       → header_at (input_at 0 bytes) ≡ Ok ((form, sections), i)
       → sections ≢ length d.glyphs + 2 → IsHeaderFault d bytes 6
 
--- The place of a fault of form that a call of a session returns: in the header, where that comes
--- first, or at the next section.
+-- The place of a fault of form that a call of a session returns: in the header, where no call has
+-- read that yet; or at the next section, or after the last one.
 pub data IsNextFault (s : Standing) (bytes : Option (List ℕ)) : ℕ → Type 0 where
   in_header : (place : ℕ) → s.read ≡ None → IsHeaderFault s.font bytes place
       → IsNextFault s bytes place
@@ -173,13 +174,13 @@ pub data IsSoundOutcome (d : FontData) : Stage → Outcome → Stage → Type 0 
       → IsSoundOutcome d (at_glyph f p known id) (refused_as (name.Glyph id) r)
       (at_glyph f p known (id + 1))
 
--- No program is next, or none after the last glyph's.
+-- No program is left: the session is over, or past all glyph programs.
 pub data IsLast (d : FontData) : Stage → Type 0 where
   none_is_left : IsLast d over
   last_glyph : (f p : List Instruction) (known : List (ℕ × ℕ)) (id : ℕ) → id ≡ length d.glyphs
       → IsLast d (at_glyph f p known id)
 
--- the same for an answer, which is none where no program is left
+-- the answer is a sound outcome; or it is none, and no program is left
 abbrev pub IsSoundAnswer : FontData → Stage → Option Outcome → Stage → Type 0
 IsSoundAnswer d stage (Some o) stage' = IsSoundOutcome d stage o stage'
 IsSoundAnswer d stage None stage' = IsLast d stage × (stage' ≡ over)

@@ -18,7 +18,7 @@ use tt_code::{CodeFault, Limits, Program};
 use tt_find::Finder;
 use tt_font::{FontFault, GlyphPart, read_maxp};
 
-/// Returns the error of a fault that isn't the program's.
+/// Returns the error of a fault that is out of memory.
 fn memory_error(fault: CodeFault) -> AllocError
     requires { IsMemoryAlone fault }
 {
@@ -77,7 +77,7 @@ fn refused_programs(
 
 /// Returns the verdict on one glyph program, `g0`, of at most 65,535 bytes, in a font whose font
 /// program and CVT program are empty: against the limits of a `maxp` table, a number of control
-/// values, and a glyph's numbers of points, without the four phantom points, and contours.
+/// values, and how many points (without the four phantom points) and contours the glyph has.
 ///
 /// # Errors
 /// The faults of `read_maxp`; `OutOfMemory`.

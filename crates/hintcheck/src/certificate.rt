@@ -28,7 +28,7 @@ use tt_stream::Sink;
 /// Why a font's certificate isn't found or written.
 #[derive(Debug, Drop, Error)]
 pub enum FindFontFault {
-    /// The font's own fault.
+    /// The font's own fault, or that memory ran out while the font was read.
     #[error(transparent)]
     Font(FontFault),
     /// The certificate can't be written.
@@ -105,7 +105,7 @@ fn write_sections<W: Sink>(
         Search::Writing,
         budget,
     )? {
-        // No program was refused when the families were found first, so none is now.
+        // No program was refused when the families were first found, so none is now.
         let found = found.unwrap();
         found.certificate.order_facts();
         encoder.encode(outcome.program, &found.certificate, sink)?;
@@ -161,7 +161,8 @@ pub(crate) fn find_programs<W: Sink>(
     Ok(Verdict::new(u32::from(font.glyph_count()) + 2, refused))
 }
 
-/// Returns the verdict as `find_programs` does, and tells a budget that is exceeded.
+/// Returns the verdict as `find_programs` does, but answers `Budget` instead of `OutOfMemory` where
+/// the budget is exceeded.
 pub(crate) fn find_programs_within<W: Sink>(
     alloc: Global,
     font: &Font<'_>,
@@ -225,12 +226,13 @@ pub fn find_font<W: Sink>(
 
 /// Returns the verdict on the programs of a font file and writes its certificate, as `find_font`
 /// does, and makes at most as many points as the budget allows: one point is made each time that a
-/// state is carried on, and those that are found once more to be written are further ones.
+/// state is carried on, also where the families are found once more to be written.
 ///
 /// # Errors
 /// As `find_font`; `Budget` only where more points were to be made than the budget allows, in this
 /// call or in an earlier one. Then too a beginning of the certificate was written, perhaps an empty
-/// one. A fault of the font or a failed write may come first, and a verdict is told in any case.
+/// one. A fault of the font or a failed write may come first. A verdict that is returned is right,
+/// whether or not the budget is exceeded.
 pub fn find_font_within<W: Sink>(
     alloc: Global,
     font: &[u8],

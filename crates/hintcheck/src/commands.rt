@@ -1,4 +1,4 @@
-//! Does what the words of a command line ask for: gives a verdict or a fault in lines for the user,
+//! Does what the words of a command line ask for: gives an answer or a fault in lines for the user,
 //! and the exit status.
 
 ghost use Rattle.std.specs.Prelude.{◌≡◌, ◌≢◌, ◌+◌, ◌≤◌, ◌<◌, ◌⊎◌, IfErr, IfOk, List, Err, Ok, OnOk, [], map, true};
@@ -119,18 +119,18 @@ fn do_task<R: Files + AllocGlobal, O: Sink>(
 }
 
 /// Does what the words of a command line ask for and prints the answer to `out`, and returns the
-/// exit status: 0 accepted, listed or upgraded, 1 refused. It is `command` except that reporting
-/// the fault is left to the caller.
+/// exit status: 0 accepted, listed, upgraded or help, 1 refused. It is `command` except that
+/// reporting the fault is left to the caller.
 ///
 /// # Errors
 /// `Write` exactly where a write to `out` failed; `Usage` for words that the command line doesn't
 /// take; `MaxpWord` and `ProgramWord` for a word that spells no bytes; `ProgramWord` also for one
-/// that names no program of the font; `OffsetWord` for an offset at which none of its instructions
-/// begins; `ScanFault` and `ScanUnfinished` where a font of a scan has a fault, which its line
-/// tells; `Budget` where more points were to be made than `--points` allows; `CertificateWord`
-/// where a font's file is to be its certificate's; `NewWord` where an old certificate's file is to
-/// be the new one's; `Font` for the first fault of the font or of `bare`'s `maxp`; `Form`, `Read`,
-/// `File` and `OutOfMemory`.
+/// that names no program of the font; `OffsetWord` for an offset at which none of the program's
+/// instructions begins; `ScanFault` and `ScanUnfinished` where a font of a scan has a fault, which
+/// its line tells; `Budget` where more points were to be made than `--points` allows;
+/// `CertificateWord` where a font's file is to be its certificate's; `NewWord` where an old
+/// certificate's file is to be the new one's; `Font` for the first fault of the font or of `bare`'s
+/// `maxp`, which may be that memory ran out; `Form`, `Read`, `File` and `OutOfMemory`.
 pub fn try_command<R: Files + AllocGlobal, O: Sink>(
     rt: &R,
     words: &[&str],
@@ -147,7 +147,8 @@ pub fn try_command<R: Files + AllocGlobal, O: Sink>(
     ensures printed { IfOk result (λ status. is_taken (map (λ w. w.now) words.entry.now) ≡ true
         → MeansPrinted (map (λ w. w.now) words.entry.now) status
         (O.contents out.old) (O.contents out.new)) }
-    // Where a font file of a scan has a fault, the lines of all of them are printed before it.
+    // Where a font file of a scan has a fault, the lines of all its files are printed before the
+    // fault is returned.
     ensures scanned { IfErr result (λ fault. IsOfScan fault
         → MeansPrinted (map (λ w. w.now) words.entry.now) (status_of fault)
         (O.contents out.old) (O.contents out.new)) }
@@ -172,10 +173,10 @@ pub fn try_command<R: Files + AllocGlobal, O: Sink>(
 }
 
 /// Does what the words of a command line ask for, prints the answer to `out` or a fault to `err`,
-/// and returns the exit status: 0 accepted, listed or upgraded, 1 refused, 2 words, input or output
-/// that can't be read or written, 3 out of memory or budget; for a scan the greatest one of its
-/// fonts, whose faults are printed to `out`. The first word is the program's own name.
-/// Printing takes no memory.
+/// and returns the exit status: 0 accepted, listed, upgraded or help, 1 refused, 2 words, input or
+/// output that can't be read or written, 3 out of memory or budget; for a scan the greatest one of
+/// its fonts, whose faults are printed to `out`. The first word is the program's own name. Printing
+/// takes no memory.
 pub fn command<R: Files + AllocGlobal, O: Sink, E: Sink>(
     rt: &R,
     words: &[&str],
@@ -195,7 +196,7 @@ pub fn command<R: Files + AllocGlobal, O: Sink, E: Sink>(
     // Where the status is 2 or 3, a fault of the words gives it; otherwise they have none where the
     // command line takes them.
     ensures told { 2 ≤ result → TellsFault (map (λ w. w.now) words.entry.now) result }
-    // If that is the fault of a font file of a scan, the lines of all of them are printed.
+    // If that is the fault of a font file of a scan, the lines of all its files are printed.
     ensures scanned { 2 ≤ result → TellsScanned (map (λ w. w.now) words.entry.now) result
         (O.contents out.old) (O.contents out.new) }
     ensures none { result ≤ 1 → is_taken (map (λ w. w.now) words.entry.now) ≡ true
@@ -211,8 +212,8 @@ pub fn command<R: Files + AllocGlobal, O: Sink, E: Sink>(
     }
 }
 
-/// Prints the fault, and returns its exit status. A fault that can't be printed either is reported
-/// only by the status; those of a scan's fonts are printed already.
+/// Prints the fault, and returns its exit status. A fault that can't be printed is reported only by
+/// the status; those of a scan's fonts are printed already.
 fn tell<E: Sink>(err: &mut E, fault: &CommandFault) -> u8
     ensures status { result ≡ status_of fault.now }
     ensures untold { E.failures err.old ≤ E.failures err.new }

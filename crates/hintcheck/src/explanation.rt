@@ -54,7 +54,7 @@ fn explain_in<O: Sink>(
     Ok(())
 }
 
-/// Explains why these bytes aren't a program, as the fault tells.
+/// Explains why these bytes can't be cut or aren't structured, as the fault tells.
 fn explain_uncut<O: Sink>(
     asked: Asked,
     bytes: &[u8],
@@ -148,7 +148,7 @@ fn tell_glyph_program<O: Sink>(
     }
 }
 
-/// Returns that the program isn't accepted, which the fault refuses.
+/// Returns that a program isn't accepted, since the fault refuses it.
 ///
 /// # Errors
 /// `OutOfMemory` where the fault is out of memory, which refuses nothing.
@@ -461,9 +461,9 @@ fn explain_named<O: Sink>(
     }
 }
 
-/// Explains the program of the font in these bytes whose name the word is, and returns the exit
-/// status: 0 accepted; 1 where it is refused, or isn't checked since the font program or the CVT
-/// program is. With an offset it tells what is known there.
+/// Explains one program of the font in these bytes, the one that the word names, and returns the
+/// exit status: 0 accepted; 1 where it is refused, or isn't checked since the font program or the
+/// CVT program is refused. With an offset the explanation tells what is known there.
 ///
 /// # Errors
 /// The faults of `Font::read`; `ProgramWord` where the word is the name of none of the font's

@@ -240,8 +240,8 @@ fn refused_alone(alloc: Global, name: Name, fault: ProgramFault) -> Result<Vec<R
     Ok(refused)
 }
 
-/// Judges the programs of a font, one after the other, each in the memory of those before:
-/// returns the refused ones, in their order.
+/// Judges the programs of a font, one after the other, each in the memory of those before: returns
+/// the refused ones, in their order.
 pub(crate) fn refused_programs(
     alloc: Global,
     font: &Font<'_>,
@@ -270,7 +270,8 @@ pub(crate) fn refused_programs(
     refused_glyphs(alloc, &mut finder, font, &common, search, budget)
 }
 
-/// Reads a font, whose programs and numbers are in their ranges.
+/// Reads a font. Each of its programs has fewer than 2^31 bytes, and the greatest depth of its
+/// stack is a number of 16 bits, as `Session::new` requires.
 ///
 /// # Errors
 /// The faults of `Font::read`.

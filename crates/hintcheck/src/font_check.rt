@@ -37,7 +37,7 @@ use tt_stream::Source;
 /// Why a font isn't checked by its certificate.
 #[derive(Debug, Drop, Error)]
 pub enum CheckFontFault {
-    /// The font's own fault.
+    /// The font's own fault, or that memory ran out while the font was read.
     #[error(transparent)]
     Font(FontFault),
     /// The bytes are no certificate for the font: the place of the first byte of what is wrong, or
@@ -117,11 +117,12 @@ pub(crate) fn read_start<S: Source>(
     })
 }
 
-/// Checks a program by its section of this form: a family that lists each state is checked as a
-/// whole.
+/// Checks a program by its section of this form. In form 1 a family lists each state, and has to be
+/// good as it is listed; in a later form it may leave states out, and has to have a good filling.
 ///
 /// # Errors
-/// `Refused` where the family has no good filling, or isn't good as a whole; `OutOfMemory`.
+/// `Refused` where the family isn't good in form 1, or has no good filling in a later one;
+/// `OutOfMemory`.
 fn check_section(
     alloc: Global,
     setting: &Setting<'_>,
@@ -145,8 +146,8 @@ fn check_section(
     }
 }
 
-/// Returns the functions that are known where the font program or the CVT program of this setting
-/// ends, by its certificate.
+/// Checks the font program or the CVT program of this setting by its certificate, and returns the
+/// functions that are known where the program ends.
 fn certified_functions(
     alloc: Global,
     setting: &Setting<'_>,
@@ -258,8 +259,8 @@ fn list_outcome(refused: &mut Vec<Refused>, outcome: Outcome) -> Result<(), Allo
     Ok(())
 }
 
-/// Checks the programs of a font, one after the other, by the sections that the source still has:
-/// returns the refused ones, in their order.
+/// Checks the programs of a font, one after the other, by the certificate that is left in the
+/// source: returns the refused ones, in their order.
 fn check_programs<S: Source>(
     alloc: Global,
     font: &Font<'_>,
@@ -310,7 +311,8 @@ pub(crate) fn check_read_font<S: Source>(
     Ok(Verdict::new(u32::from(font.glyph_count()) + 2, refused))
 }
 
-/// Returns the verdict as `check_read_font` does, and tells a budget that is exceeded.
+/// Returns the verdict as `check_read_font` does, but answers `Budget` where the budget is
+/// exceeded, unless a fault of form or a failed read comes first.
 pub(crate) fn check_read_font_within<S: Source>(
     alloc: Global,
     font: &Font<'_>,
@@ -341,8 +343,8 @@ pub(crate) fn check_read_font_within<S: Source>(
 }
 
 /// Returns the verdict on the programs of a font file by its certificate, which is all that is left
-/// in the source: each program is checked by the family that its section lists, and where the
-/// certificate came from isn't trusted. The CVT program starts with the functions that are known
+/// in the source: each program is checked by the family that its section lists, and the certificate
+/// isn't trusted, wherever it comes from. The CVT program starts with the functions that are known
 /// where the font program ends, and a glyph program with those that are known where the CVT program
 /// ends. A refused font program or CVT program ends the check; a refused glyph program doesn't.
 ///

@@ -27,7 +27,7 @@ const LISTED: u8 = 0;
 /// The exit status where the program can't be cut or isn't structured.
 const UNLISTED: u8 = 1;
 
-/// Whether the text has no sign in front, and no zero there except as its only digit.
+/// Whether the text has no plus sign in front, and no zero there except as its only digit.
 fn is_plain(text: &[u8]) -> bool
     ensures { IsTrue result ↔ IsPlain text.now }
 {
@@ -38,8 +38,8 @@ fn is_plain(text: &[u8]) -> bool
     }
 }
 
-/// Returns the number that the text is in decimal digits, with no sign and no needless zero in
-/// front.
+/// Returns the number of 16 bits that the text spells in decimal digits, with no sign and no
+/// needless zero in front, if it spells one.
 fn read_number(text: &str) -> Option<u16>
     ensures read { IfSome result (λ number. text.now ≡ decimal number) }
     ensures each { (number : ℕ) → number < 2 ^ 16 → text.now ≡ decimal number
@@ -51,7 +51,7 @@ fn read_number(text: &str) -> Option<u16>
     text.parse::<u16>().ok()
 }
 
-/// Returns the program's name that the word is, as names are printed.
+/// Returns the program's name that the word spells, as names are printed, if it spells one.
 fn read_name(word: &str) -> Option<Name>
     ensures read { IfSome result (λ name. word.now ≡ text_of name) }
     ensures each { (name : Name) → IsOf16Bits name → word.now ≡ text_of name → result ≡ Some name }
@@ -165,7 +165,7 @@ fn print_program<O: Sink>(out: &mut O, program: &Program<'_>) -> Result<(), Prin
     print_last_line(out, program)
 }
 
-/// Returns the program of this name, refused at this offset of its own.
+/// Returns the program of this name as refused at this offset of its own bytes.
 fn refused_at(program: Name, offset: u32, reason: Reason) -> Refused
     ensures { result ≡ refused_in program offset reason }
 {
@@ -203,7 +203,7 @@ fn list_named<O: Sink>(alloc: Global, named: Named<'_>, out: &mut O) -> Result<u
     }
 }
 
-/// Lists the program of the font in these bytes whose name the word is, and returns the exit
+/// Lists one program of the font in these bytes, the one that the word names, and returns the exit
 /// status: 0 listed, 1 where the program can't be cut or isn't structured, which one line reports.
 /// Printing takes no memory.
 ///

@@ -1,5 +1,5 @@
-//! The verdict on one program: it is cut, a family of abstract states is found for it, and the
-//! check of that family decides.
+//! The verdict on one program: it is cut, a family of abstract states is found for it, and that
+//! family is checked, except where a font's certificate is to be written.
 
 ghost use Rattle.std.specs.Prelude.{◌≡◌, ◌⊎◌, ℕ, ◌<◌, ◌^◌, List, IfErr, IfOk, OnOk, length};
 ghost use Rattle.tt_code.specs.Cut.{Instruction, IsCut};
@@ -25,7 +25,7 @@ use tt_cert::{Budget, ProgramFault, Spot, check_within};
 use tt_code::{CodeFault, Program, Reason};
 use tt_find::{Finder, Found};
 
-/// Returns the program in which a place is that is reached from a program of this name.
+/// Returns which program holds a place of this spot, seen from the program of this name.
 fn program_at(name: Name, spot: Spot) -> Name
     ensures { result ≡ program_at_spot name spot }
 {
@@ -36,7 +36,8 @@ fn program_at(name: Name, spot: Spot) -> Name
     }
 }
 
-/// Returns what is reported of the program of this name that is refused at an offset.
+/// Returns what is reported of the program of this name that is refused at this offset in this
+/// spot.
 pub(crate) fn reported(name: Name, spot: Spot, offset: u32, reason: Reason) -> Refused
     ensures { result ≡ reported_at name spot offset reason }
 {
@@ -74,7 +75,7 @@ pub(crate) fn list_refused(
     }
 }
 
-/// Returns the fault of a program that is refused at this offset of its own.
+/// Returns the fault of a program that is refused at this offset of its own bytes.
 fn refused_at(offset: u32, reason: Reason) -> ProgramFault
     ensures { result ≡ ProgramFault.Refused Spot.Main offset reason }
 {
@@ -110,8 +111,8 @@ pub(crate) fn cut<'a>(alloc: Global, bytes: &'a [u8]) -> Result<Program<'a>, Pro
     }
 }
 
-/// Returns what is found for a program, if the check accepts it; where it doesn't, the finder has
-/// its memory.
+/// Returns what is found for a program, if the check accepts its family. Otherwise the finder takes
+/// back the memory of what was found.
 fn checked(
     alloc: Global,
     finder: &mut Finder,
@@ -140,21 +141,21 @@ fn checked(
 pub(crate) enum Search {
     /// Only for the verdict, by a family that is checked.
     Verdict,
-    /// For its certificate, which lists no state that could be left out, and is checked.
+    /// For the program's certificate, which lists no state that could be left out, and is checked.
     Certificate,
-    /// For whether a certificate of the font can be written. Nothing is checked: that the family
+    /// To see whether a certificate of the font can be written. Nothing is checked: that the family
     /// has a good filling is the finder's promise.
     BeforeWriting,
-    /// For its certificate, as it is written. Nothing is checked: that the family has a good
-    /// filling is the finder's promise.
+    /// For the program's certificate, which lists no state that could be left out, and is written.
+    /// Nothing is checked: that the family has a good filling is the finder's promise.
     Writing,
 }
 
-/// Finds the family of abstract states of the program of this setting, with no state that could be
-/// left out where it is for a certificate.
+/// Finds the family of abstract states of the program of this setting: one that is for a
+/// certificate has no state that could be left out.
 ///
 /// # Errors
-/// As `Finder::find`.
+/// As `Finder::find_within`.
 fn find(
     alloc: Global,
     finder: &mut Finder,
@@ -186,8 +187,8 @@ fn find(
 }
 
 /// Finds the family of abstract states of the program of this setting, and checks it where that is
-/// asked. A family that is found passes the check. What is found has the finder's
-/// memory, which `Finder::take_back` gives back; where the program is refused, the finder keeps it.
+/// asked. A family that is found passes the check. What is found has the finder's memory, which
+/// `Finder::take_back` gives back; where the program is refused, the finder keeps it.
 ///
 /// # Errors
 /// `Refused` where no family is found; `OutOfMemory`.

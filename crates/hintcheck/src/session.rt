@@ -1,5 +1,5 @@
-//! The programs of a font, one a call, each checked by its section of a certificate or found anew:
-//! a session holds one certificate at a time.
+//! The programs of a font, one a call: each is checked by its section of a certificate, or its
+//! family is found anew. A session holds one certificate at a time.
 
 ghost use Rattle.std.specs.Prelude.{◌≡◌, ◌≢◌, ◌+◌, ◌<◌, ◌↔◌, IfErr, IfOk, IsTrue, None, Ok, Err, Option, Some, length};
 ghost use Rattle.tt_abs.specs.Entries.{Ascends};
@@ -69,7 +69,7 @@ impl SessionFault {
         }
     }
 
-    /// Returns the fault as each call returns it.
+    /// Returns the fault as each call that checks returns it.
     fn reported(self) -> CheckFontFault
         ensures { result ≡ fault_of self }
     {
@@ -272,7 +272,8 @@ fn check_glyph<S: Source>(
     }
 }
 
-/// Returns the next glyph program's outcome, or that no section follows that of the last one.
+/// Returns the next glyph program's outcome, or, after the last one's section, that nothing
+/// follows.
 fn check_glyph_stage<'a, S: Source>(
     alloc: Global,
     decoder: &mut Decoder,
@@ -354,8 +355,8 @@ fn check_on<'a, S: Source>(
     }
 }
 
-/// Returns how far the certificate was read: this far, or its header, which is read if it wasn't
-/// yet.
+/// Returns how far the certificate was read: this far, or through its header, which is read if it
+/// wasn't yet.
 fn progress_of<S: Source>(
     font: &Font<'_>,
     known: Option<Progress>,
@@ -379,8 +380,8 @@ fn progress_of<S: Source>(
     }
 }
 
-/// Returns what a call of a session that keeps this, and has read this far, comes to; and what it
-/// keeps then.
+/// Returns what a call of a session that keeps this, and has read this far, comes to; and puts in
+/// their places what the session keeps then, and how far it has read.
 fn check_from<'a, S: Source>(
     alloc: Global,
     decoder: &mut Decoder,
@@ -420,8 +421,8 @@ fn check_from<'a, S: Source>(
 }
 
 /// The programs of a font, one after the other: the font program, the CVT program, and each glyph
-/// program. It keeps which program is next and what the next ones start with, and of a certificate
-/// only the memory.
+/// program. A session keeps which program is next, what the next ones start with, and a fault; and
+/// of a certificate only its form, how far it was read, and memory for the next section.
 #[derive(Drop)]
 pub struct Session<'a> {
     font: &'a Font<'a>,
@@ -464,11 +465,11 @@ impl<'a> Session<'a> {
         }
     }
 
-    /// Reads the section of the next program, and checks the program by it: returns its outcome.
-    /// The first call reads the certificate's header first. After the last section, or after a
-    /// refused font program or CVT program, there is none; the first time after the last section
-    /// the call reads on to see the certificate's end, and otherwise nothing is read then. A
-    /// session on which this is called is used for no other calls.
+    /// Reads the section of the next program, and checks the program by it: returns the program's
+    /// outcome. The first call reads the certificate's header first. After the last section, or
+    /// after a refused font program or CVT program, there is no outcome: the first call after the
+    /// last section reads on to see that the certificate ends there, and any other such call reads
+    /// nothing. A session on which this is called may be used only for calls that check.
     ///
     /// # Errors
     /// `Form` where the bytes are no certificate for the font; `Read` exactly where a read failed;
@@ -482,7 +483,7 @@ impl<'a> Session<'a> {
         // The outcome is the next program's, and an accepted one has a good family.
         ensures sound { IfOk result
             (λ answer. IsSoundAnswer self.old.font self.old.stage answer self.new.stage) }
-        // It comes from the program's section, where the source tells its bytes, which is read from
+        // Where the source tells its bytes, it comes from the program's section, which is read from
         // where the call before ended.
         ensures exact { self.old.fault ≡ None → IsTold (S.remaining source.old) → Finds result
             (λ answer. IsTold (S.remaining source.new)
@@ -498,7 +499,7 @@ impl<'a> Session<'a> {
         ensures font { self.new.font ≡ self.old.font }
         ensures checking { IsForChecking self.new }
         ensures beginning { ConsumesBeginning (S.remaining source.old) (S.remaining source.new) }
-        // Where a read failed, the call read no unit whole that breaks a rule.
+        // Where a read failed, no unit that the call read whole breaks a rule.
         ensures whole_units { self.old.fault ≡ None → IfErr result
             (HasRead (S.remaining source.old) (S.remaining source.new) (EndsInCall self.old)) }
         ensures failures { self.old.fault ≡ None
@@ -521,7 +522,7 @@ impl<'a> Session<'a> {
         // The outcome is the next program's, and an accepted one has a good family.
         ensures sound { IfOk result
             (λ answer. IsSoundAnswer self.old.font self.old.stage answer self.new.stage) }
-        // It comes from the program's section, where the source tells its bytes, which is read from
+        // Where the source tells its bytes, it comes from the program's section, which is read from
         // where the call before ended.
         ensures exact { self.old.fault ≡ None → IsTold (S.remaining source.old) → Finds result
             (λ answer. IsTold (S.remaining source.new)
@@ -537,7 +538,7 @@ impl<'a> Session<'a> {
         ensures font { self.new.font ≡ self.old.font }
         ensures checking { IsForChecking self.new }
         ensures beginning { ConsumesBeginning (S.remaining source.old) (S.remaining source.new) }
-        // Where a read failed, the call read no unit whole that breaks a rule.
+        // Where a read failed, no unit that the call read whole breaks a rule.
         ensures whole_units { self.old.fault ≡ None → IfErr result
             (HasRead (S.remaining source.old) (S.remaining source.new) (EndsInCall self.old)) }
         ensures failures { self.old.fault ≡ None
@@ -585,7 +586,7 @@ impl<'a> Session<'a> {
         // The outcome is the next program's, and an accepted one has a good family.
         ensures sound { IfOk result
             (λ answer. IsSoundAnswer self.old.font self.old.stage answer self.new.stage) }
-        // It comes from the program's section, where the source tells its bytes, which is read from
+        // Where the source tells its bytes, it comes from the program's section, which is read from
         // where the call before ended.
         ensures exact { self.old.fault ≡ None → IsTold (S.remaining source.old) → Finds result
             (λ answer. IsTold (S.remaining source.new)
@@ -601,7 +602,7 @@ impl<'a> Session<'a> {
         ensures font { self.new.font ≡ self.old.font }
         ensures checking { IsForChecking self.new }
         ensures beginning { ConsumesBeginning (S.remaining source.old) (S.remaining source.new) }
-        // Where a read failed, the call read no unit whole that breaks a rule.
+        // Where a read failed, no unit that the call read whole breaks a rule.
         ensures whole_units { self.old.fault ≡ None → IfErr result
             (HasRead (S.remaining source.old) (S.remaining source.new) (EndsInCall self.old)) }
         ensures failures { self.old.fault ≡ None
@@ -627,11 +628,11 @@ impl<'a> Session<'a> {
         }
     }
 
-    /// Searches the family of the next program for what is asked: returns its outcome, and what is
-    /// found for it where it is accepted.
+    /// Finds the next program's family, and checks it where the search asks for that: returns the
+    /// program's outcome, and what is found for it where it is accepted.
     ///
     /// # Errors
-    /// `OutOfMemory`.
+    /// `OutOfMemory`, also where the budget is exceeded. After a fault each call returns it.
     pub(crate) fn search_next(
         &mut self,
         alloc: Global,
@@ -670,7 +671,7 @@ impl<'a> Session<'a> {
     /// Finds the next program's family in a finder's memory, and checks it: returns the program's
     /// outcome, and where it is accepted, what is found for it, whose memory `Finder::take_back`
     /// gives back. After the last program, or after a refused font program or CVT program, there is
-    /// none. A session on which this is called is used for no other calls.
+    /// no outcome. A session on which this is called may be used only for calls that find.
     ///
     /// # Errors
     /// `OutOfMemory`. After a fault each call returns it.

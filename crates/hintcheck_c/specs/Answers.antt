@@ -101,9 +101,9 @@ abbrev pub IsFaultOfVerdict : List ℕ → VerdictFault → Type 0
 IsFaultOfVerdict bytes (judging.Font fault) = IsFaultOfFont bytes fault
 IsFaultOfVerdict bytes judging.Budget = Unit {0}
 
--- The fault is the font's, or the certificate breaks the rules of its form at this place; no read
--- of bytes in memory fails. Out of memory is unspecified, and that the budget is exceeded is told
--- by the points.
+-- The fault is the font's; or the certificate's bytes are no certificate for the font, at this
+-- place; no read of bytes in memory fails. Out of memory is unspecified, and that the budget is
+-- exceeded is told by the points.
 abbrev pub IsFaultOfCheck : List ℕ → List ℕ → CheckFontFault → Type 0
 IsFaultOfCheck bytes certificate (check.Font fault) = IsFaultOfFont bytes fault
 IsFaultOfCheck bytes certificate (check.Form place) =

@@ -14,7 +14,7 @@ program_number name.Font = 65536
 program_number name.Cvt = 65537
 program_number (name.Glyph id) = id
 
--- the number of what a reason tells
+-- the number of a class of reasons
 abbrev pub class_number : ReasonClass → ℕ
 class_number class.PossibleFault = 0
 class_number class.Undecided = 1

@@ -12,13 +12,13 @@ const ACCEPTED: u32 = 0;
 /// The status where a program is refused.
 const REFUSED: u32 = 1;
 
-/// The status where there is no answer: no font that can be read, or no certificate for it.
+/// The status where there is no verdict: no font that can be read, or no certificate for it.
 const FAULT: u32 = 2;
 
-/// The status where there is no answer since memory ran out.
+/// The status where there is no verdict since memory ran out.
 const OUT_OF_MEMORY: u32 = 3;
 
-/// The status where there is no answer since more points were to be made than may be.
+/// The status where there is no verdict since more points were to be made than may be.
 const BUDGET: u32 = 4;
 
 /// The number of the fault that memory ran out.
@@ -42,7 +42,7 @@ pub struct HintcheckAnswer {
     /// The number of the fault: 1 to 8 of the font, 43 of the certificate, 9 out of memory, 46 a
     /// budget that is exceeded; 0 where there is a verdict.
     pub fault: u32,
-    /// Where the certificate is at fault, in bytes; 0 at any other fault.
+    /// Where the certificate is at fault, in bytes; 0 where it isn't.
     pub place: u64,
     /// How many points were made: one point is made each time that a state is carried on.
     pub points: u64,
@@ -54,7 +54,7 @@ pub struct HintcheckAnswer {
     pub listed: usize,
 }
 
-/// Returns the answer that a fault is.
+/// Returns a fault as an answer.
 fn fault_answer(status: u32, fault: u32, place: u64, points: u64) -> HintcheckAnswer
     ensures { result ≡ answer_of_fault status fault place points }
 {
@@ -69,7 +69,7 @@ fn fault_answer(status: u32, fault: u32, place: u64, points: u64) -> HintcheckAn
     }
 }
 
-/// Returns the answer that a verdict is, for which this many points were made, and lists its first
+/// Returns a verdict, for which this many points were made, as an answer, and lists its first
 /// refusals.
 pub(crate) fn answer_verdict(
     verdict: &Verdict,
@@ -96,7 +96,7 @@ pub(crate) fn answer_verdict(
     }
 }
 
-/// Returns the answer that a fault of a font is, after this many points.
+/// Returns a fault of a font as an answer, after this many points.
 fn fault_of_font(fault: &FontFault, points: u64) -> HintcheckAnswer
     ensures { result ≡ font_answer fault.now points }
 {
@@ -106,7 +106,7 @@ fn fault_of_font(fault: &FontFault, points: u64) -> HintcheckAnswer
     }
 }
 
-/// Returns the answer that a fault of a verdict is, after this many points.
+/// Returns a fault of a verdict as an answer, after this many points.
 pub(crate) fn fault_of_verdict(fault: &VerdictFault, points: u64) -> HintcheckAnswer
     ensures { result ≡ judging_answer fault.now points }
 {
@@ -116,7 +116,7 @@ pub(crate) fn fault_of_verdict(fault: &VerdictFault, points: u64) -> HintcheckAn
     }
 }
 
-/// Returns the answer that a fault of a check is, after this many points.
+/// Returns a fault of a check as an answer, after this many points.
 pub(crate) fn fault_of_check(fault: &CheckFontFault, points: u64) -> HintcheckAnswer
     ensures { result ≡ check_answer fault.now points }
 {

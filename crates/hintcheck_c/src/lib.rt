@@ -31,9 +31,9 @@ pub extern "C" fn hintcheck_version() -> u32
     VERSION
 }
 
-/// Answers the verdict on the programs of the font in these bytes, and returns its status. At most
-/// this many points are made: one point is made each time that a state is carried on. The first
-/// refusals are listed, as many as there is room for.
+/// Answers with the verdict on the programs of the font in these bytes, or with why there is none,
+/// and returns the answer's status. At most this many points are made: one point is made each time
+/// that a state is carried on. The first refusals are listed, as many as there is room for.
 #[unsafe(no_mangle)]
 pub extern "C" fn hintcheck_verdict_of_bytes(
     alloc: Global,
@@ -88,9 +88,9 @@ fn check_bytes(
     check_font_within(alloc, font, &mut Bytes::new(certificate), budget)
 }
 
-/// Answers the verdict on the programs of the font in these bytes by the certificate in the others,
-/// and returns its status. At most this many points are made. The first refusals are listed, as
-/// many as there is room for.
+/// Answers with the verdict on the programs of the font in these bytes by the certificate in the
+/// others, or with why there is none, and returns the answer's status. At most this many points are
+/// made. The first refusals are listed, as many as there is room for.
 #[unsafe(no_mangle)]
 pub extern "C" fn hintcheck_check_of_bytes(
     alloc: Global,

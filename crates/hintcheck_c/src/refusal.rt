@@ -19,7 +19,8 @@ const CVT_PROGRAM: u32 = 65_537;
 pub struct HintcheckRefusal {
     /// The program that is refused.
     pub program: u32,
-    /// The program in which the place is: for a function's instruction the one that defines it.
+    /// The program in which the place is: for a function's instruction the one that defines the
+    /// function.
     pub place: u32,
     /// The offset of the place in that program, in bytes.
     pub offset: u32,

@@ -1,4 +1,5 @@
--- What explaining tells of failed writes, and of what the search found.
+-- What explaining tells of failed writes, of what the search found, and of the offset that is asked
+-- for.
 use Rattle.std.specs.Prelude.{◌≡◌, ◌≢◌, ℕ, IfSome, None, Result, Ok, Err}
 use Rattle.tt_abs.specs.declared.setting.Setting.{Setting as Subject}
 use Rattle.tt_code.specs.Cut.{instruction_at}
@@ -22,7 +23,7 @@ TellsFailure (Err other) old new = new ≡ old
 abbrev pub HasLeast : Subject → Type 0
 HasLeast x = (found : Found) × IsLeastFor x found
 
--- a place and a reason are right
+-- a place, by spot and offset, at which it is right to refuse the program, and the reason
 pub record HasRefusal (x : Subject) : Type 0 where
   pub spot : Spot
   pub offset : ℕ

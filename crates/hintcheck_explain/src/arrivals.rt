@@ -77,7 +77,7 @@ pub(crate) fn edges_of(alloc: Global, subject: &Subject<'_>) -> Result<Vec<Edge>
     Ok(edges)
 }
 
-/// Returns a way as it arrives.
+/// Returns a way as an arrival at the point to which it leads.
 fn arrival_of(subject: &Subject<'_>, edge: &Edge) -> Arrival {
     Arrival {
         point: edge.from,
@@ -87,7 +87,7 @@ fn arrival_of(subject: &Subject<'_>, edge: &Edge) -> Arrival {
     }
 }
 
-/// The program's start, as a way that comes there.
+/// The program's start, as an arrival at the program's first point.
 const BEGINNING: Arrival = Arrival {
     point: START,
     from: None,
@@ -95,8 +95,8 @@ const BEGINNING: Arrival = Arrival {
     depth: 0,
 };
 
-/// Returns a way that brings a stack of this depth to a point, or where `same` is false, of
-/// another.
+/// Returns an arrival that brings a stack of this depth to a point, or, where `same` is false, one
+/// that brings a stack of another depth.
 fn way_with(
     subject: &Subject<'_>,
     edges: &[Edge],
@@ -115,7 +115,8 @@ fn way_with(
     None
 }
 
-/// Returns the trouble of a point with this depth, to which a way brings another.
+/// Returns the trouble at a point to which one way brings a stack of this depth, and another way a
+/// stack of another depth, if there are two such ways.
 pub(crate) fn depths_at(
     subject: &Subject<'_>,
     edges: &[Edge],

@@ -13,7 +13,7 @@ pub struct Asked {
     pub offset: Option<u32>,
 }
 
-/// What the program is that was explained.
+/// Whether the program that was explained is accepted or refused.
 #[derive(Clone, Copy, Debug, PartialEq, Eq)]
 pub enum Explained {
     Accepted,

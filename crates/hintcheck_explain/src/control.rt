@@ -50,7 +50,7 @@ fn test_conditional(
     }
 }
 
-/// Tests the number of a called function, and returns the function's body.
+/// Tests the number of a called function, and returns it with the function's body.
 fn test_called(setting: &Setting<'_>, state: &State) -> Result<(i32, u32), Trouble> {
     let number = number_under(state, 0, Role::Function)?;
     test_index(Role::Function, number, u32::from(setting.limits.functions))?;
@@ -98,7 +98,7 @@ fn test_definition(setting: &Setting<'_>, state: &State) -> Result<(), Trouble> 
     }
 }
 
-/// Tests what a control instruction takes.
+/// Tests a control instruction: what it takes, and where it leads.
 pub(crate) fn test_control(
     setting: &Setting<'_>,
     point: &Point<'_>,

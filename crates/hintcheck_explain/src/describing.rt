@@ -20,7 +20,7 @@ impl fmt::Display for Numbers {
     }
 }
 
-/// Returns what a number is taken for.
+/// Returns what a number is used as, in words.
 fn role_text(role: Role) -> &'static str {
     match role {
         Role::Point => "the number of a point",
@@ -96,7 +96,7 @@ pub(crate) struct Why {
     pub bounds: Bounds,
 }
 
-/// Why the stack has too many or too few numbers.
+/// Why the depth of the stack is wrong: too small, too great, or not the same on two ways.
 #[derive(Clone, Copy)]
 struct DepthText {
     name: &'static str,
@@ -168,7 +168,7 @@ impl fmt::Display for IndexText {
     }
 }
 
-/// Why a number of zones isn't enough.
+/// Why a number names no zone that the font has.
 #[derive(Clone, Copy)]
 struct ZoneText {
     name: &'static str,
@@ -251,7 +251,7 @@ impl fmt::Display for NumberText {
     }
 }
 
-/// Why an instruction can't go where it leads.
+/// Why an instruction can't go where it leads, or why its code isn't followed.
 #[derive(Clone, Copy)]
 struct WayText {
     name: &'static str,
@@ -335,7 +335,7 @@ impl Why {
         }
     }
 
-    /// Returns the part that tells where the program leads.
+    /// Returns the part that tells of where the instruction leads, or of its code.
     fn way(&self) -> WayText {
         WayText {
             name: self.name,

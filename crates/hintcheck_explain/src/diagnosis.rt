@@ -111,7 +111,8 @@ fn test_before(
     }
 }
 
-/// Returns the first test of an instruction that fails.
+/// Returns which test of a refused instruction fails first: that of the depth afterwards, where all
+/// others pass.
 pub(crate) fn trouble_at(
     setting: &Setting<'_>,
     point: &Point<'_>,

@@ -87,7 +87,7 @@ struct EffectText {
 }
 
 impl EffectText {
-    /// Makes the text of an instruction, at a place where this is known.
+    /// Makes the text of an instruction at a place with this state.
     fn of(state: &State, instr: &Instr<'_>) -> EffectText {
         EffectText {
             code: instr.code(),

@@ -96,8 +96,9 @@ fn explain_refused<O: Sink>(
     }
 }
 
-/// Explains a program that could be cut and is structured: why it is refused, or how much it takes;
-/// or what is known at the place that is asked for.
+/// Explains a program that could be cut and is structured: how much it takes, or why it is refused.
+/// Where an offset is asked for, it tells what is known there, and of a refusal only its place and
+/// its reason.
 ///
 /// # Errors
 /// `NoInstruction` where no instruction of the program begins at the offset that is asked for;

@@ -15,7 +15,7 @@ pub(crate) fn count_of_data(push: Push, data: &[u8]) -> usize {
     }
 }
 
-/// Returns the number of this index that the data of a push instruction spell.
+/// Returns the number at this index among those that the data of a push instruction spell.
 fn number_of_data(push: Push, data: &[u8], index: usize) -> Option<i32> {
     match push {
         Push::CountedBytes | Push::Bytes(_) => Some(i32::from(*data.get(index)?)),
@@ -28,7 +28,7 @@ fn number_of_data(push: Push, data: &[u8], index: usize) -> Option<i32> {
     }
 }
 
-/// Returns the name of an instruction's code.
+/// Returns the name of the instruction with this code: `?` where the instruction set has none.
 pub(crate) fn name_of(code: u8) -> &'static str {
     match name(code) {
         Some(name) => name,
@@ -84,7 +84,7 @@ impl fmt::Display for InstructionText<'_> {
     }
 }
 
-/// Returns the bytes after the first one, which counts them.
+/// Returns the bytes after the first one, which is a count.
 fn after_count(bytes: &[u8]) -> &[u8] {
     match bytes {
         [_, data @ ..] => data,

@@ -90,7 +90,7 @@ pub(crate) struct Knowledge<'a> {
 }
 
 impl<'a> Knowledge<'a> {
-    /// Makes what a state tells, with the limits of its font.
+    /// Makes the knowledge of a state, with the limits of its font.
     pub(crate) fn of(setting: &Setting<'_>, state: &'a State) -> Knowledge<'a> {
         Knowledge {
             limits: setting.limits,

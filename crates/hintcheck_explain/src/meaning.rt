@@ -3,8 +3,8 @@
 use crate::trouble::{Role, Trouble};
 use tt_code::{Reason, ReasonClass};
 
-/// Returns the class of a reason. Of a function that isn't known the numbers of the case tell
-/// whether its number is below maxFunctionDefs.
+/// Returns the class of a reason. For `Function` the case tells whether the function's number is
+/// out of range, which is a possible fault, or the function isn't known to be defined.
 pub(crate) fn class_of(reason: Reason, trouble: Trouble) -> ReasonClass {
     match (reason, trouble) {
         (

@@ -19,8 +19,8 @@ struct Traced {
     element: Element,
 }
 
-/// What one way to a point brings of a number: from where the way comes, and what is known of it
-/// then.
+/// What one way to a point brings of a number: from where the way comes, and what is known of the
+/// number after the instruction there.
 #[derive(Clone, Copy)]
 pub(crate) struct Brought {
     pub from: PointKey,
@@ -33,7 +33,8 @@ pub(crate) struct Brought {
 pub(crate) enum Origin {
     /// The instruction at this point makes it.
     Made(PointKey),
-    /// Ways that meet at this point bring different numbers.
+    /// Of the ways that meet at this point one brings a known number, and another a different one
+    /// or one that isn't known.
     Joined {
         at: PointKey,
         first: Brought,
@@ -45,7 +46,7 @@ pub(crate) enum Origin {
     Lost,
 }
 
-/// What was found on the way back.
+/// What has been found so far of where a number comes from.
 #[derive(Drop)]
 struct Trace {
     /// The numbers that are to be looked at, and those that were.
@@ -62,7 +63,7 @@ struct Meeting {
     unknown: Option<Brought>,
 }
 
-/// Notes a number, if it wasn't noted before.
+/// Notes a number, if it wasn't noted before, and if fewer than `MOST_LOOKS` were.
 fn note(numbers: &mut Vec<Traced>, number: Traced) -> Result<(), AllocError> {
     if numbers.len() < MOST_LOOKS && !numbers.as_slice().contains(&number) {
         numbers.push(number)?;
@@ -96,7 +97,7 @@ fn brought_from(
     }
 }
 
-/// Adds what one way brings to what the ways to a point bring. Returns where the number comes from,
+/// Adds to a meeting what one more way brings of the number. Returns where the number comes from,
 /// if that is clear.
 fn add_way(
     trace: &mut Trace,

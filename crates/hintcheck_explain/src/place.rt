@@ -5,7 +5,7 @@ use tt_cert::Spot;
 use tt_cert_file::Name;
 use tt_code::Reason;
 
-/// An offset in a program: for a function's instruction in the one in which its body is.
+/// An offset in a program. A function's instruction is in the program that has the function's body.
 #[derive(Clone, Copy)]
 pub(crate) struct Place {
     pub program: Name,
@@ -18,7 +18,7 @@ impl fmt::Display for Place {
     }
 }
 
-/// Returns the program that holds a place, seen from the program of this name.
+/// Returns the name of a spot's program, where the main program has this name.
 pub(crate) fn program_at(name: Name, spot: Spot) -> Name {
     match spot {
         Spot::Main => name,

@@ -1,4 +1,4 @@
-//! How many points, contours and zones there are for an instruction to name.
+//! How many points and contours there are for an instruction to name.
 
 use tt_abs::{Kind, Setting, State, ZoneCell};
 use tt_code::kinds::{Pointer, Within};
@@ -14,7 +14,8 @@ pub(crate) fn glyph_points(setting: &Setting<'_>) -> u32 {
     }
 }
 
-/// Returns how many points each of the zones has that may be meant.
+/// Returns how many points the zone has; where it may be either zone, the smaller number of the
+/// two.
 fn points_in(setting: &Setting<'_>, zone: ZoneCell) -> u32 {
     let twilight = u32::from(setting.limits.twilight);
     let glyph = glyph_points(setting);
@@ -30,7 +31,8 @@ pub(crate) fn points_of(setting: &Setting<'_>, state: &State, pointer: Pointer) 
     points_in(setting, state.zone(pointer))
 }
 
-/// Returns how many points each of the zones has that count.
+/// Returns how many points there are in the smallest of the zones in which a point number is
+/// tested.
 pub(crate) fn points_within(setting: &Setting<'_>, state: &State, within: Within) -> u32 {
     match within {
         Within::In(first) => points_of(setting, state, first),
@@ -45,7 +47,8 @@ pub(crate) fn points_within(setting: &Setting<'_>, state: &State, within: Within
     }
 }
 
-/// Returns how many contours each of the zones has that may be meant.
+/// Returns how many contours the zone has; where it may be either zone, the smaller number of the
+/// two.
 pub(crate) fn contours_in(setting: &Setting<'_>, zone: ZoneCell) -> u32 {
     let contours = match setting.kind {
         Kind::Font | Kind::Cvt => 0,

@@ -41,7 +41,8 @@ fn tell_context<O: Sink>(
     Ok(())
 }
 
-/// Returns the next context, from this one on, that comes to a place, with its state.
+/// Returns the first context, from this one on, in which the program comes to a place, with the
+/// state there.
 fn next_context<'a>(subject: &Subject<'a>, place: Place, from: u32) -> Option<(u32, &'a State)> {
     for context in from..subject.certificate.contexts() {
         if program_at(subject.name, subject.spot(context)) == place.program {
@@ -53,11 +54,11 @@ fn next_context<'a>(subject: &Subject<'a>, place: Place, from: u32) -> Option<(u
     None
 }
 
-/// Prints what is known at a place in each of the first contexts that come to it, or that none
-/// does.
+/// Prints what is known at a place in each of the first contexts in which the program comes to it,
+/// and whether there are more of these; or that there is none.
 ///
 /// # Errors
-/// `Write` exactly where a write failed; `OutOfMemory`.
+/// `Write` where the text wasn't printed; `OutOfMemory`.
 pub(crate) fn tell_contexts<O: Sink>(
     alloc: Global,
     subject: &Subject<'_>,

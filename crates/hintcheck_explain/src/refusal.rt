@@ -26,7 +26,7 @@ use tt_cert::{PointKey, Spot};
 use tt_code::{Frame, Reason};
 use tt_stream::{PrintFailed, Sink};
 
-/// Where a program is refused, and what is known there.
+/// Where a program is refused, what is known there, and which test fails.
 #[derive(Drop)]
 struct Case<'a> {
     point: PointKey,
@@ -35,7 +35,7 @@ struct Case<'a> {
     trouble: Trouble,
 }
 
-/// Returns which test fails at a point for a reason, if one does.
+/// Returns which test fails at a point with this reason, if one does.
 fn trouble_of(
     subject: &Subject<'_>,
     edges: &[Edge],
@@ -100,7 +100,7 @@ fn case_of<'a>(
     Ok(None)
 }
 
-/// Prints why, the class of the reason, and what to do.
+/// Prints why a program is refused, the class of the reason, and what to do.
 fn tell_reason<O: Sink>(
     subject: &Subject<'_>,
     name: &'static str,
@@ -125,7 +125,7 @@ fn tell_reason<O: Sink>(
     writeln!(out, "What to do: {advice}")
 }
 
-/// Prints where the number comes from that isn't known, where that is why.
+/// Prints where a number comes from, if the program is refused because that number isn't known.
 fn tell_origin<O: Sink>(
     alloc: Global,
     subject: &Subject<'_>,
@@ -170,7 +170,7 @@ fn tell_knowledge<O: Sink>(
     writeln!(out, "{ways}")
 }
 
-/// Prints one way to a point.
+/// Prints one route to a point.
 fn tell_route<O: Sink>(
     alloc: Global,
     subject: &Subject<'_>,
@@ -191,7 +191,7 @@ fn tell_route<O: Sink>(
     Ok(())
 }
 
-/// Prints one way to the place of a case, or to each of the two places from where stacks of
+/// Prints one route to the place of a case, or to each of the two places from where stacks of
 /// different depths come.
 fn tell_routes<O: Sink>(
     alloc: Global,
@@ -210,7 +210,8 @@ fn tell_routes<O: Sink>(
     tell_route(alloc, subject, edges, case.point, out)
 }
 
-/// Prints why a program is refused, with what is known there where the search has a state there.
+/// Prints why a program is refused; and, where the search has a state at the place of the refusal,
+/// what is known there and how the program comes there.
 fn tell_case<O: Sink>(
     alloc: Global,
     subject: &Subject<'_>,

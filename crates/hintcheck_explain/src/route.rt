@@ -1,4 +1,4 @@
-//! One way from a program's start to a point.
+//! One route from a program's start to a point: ways that follow one another.
 
 use crate::arrivals::{Edge, START};
 use crate::subject::Subject;
@@ -7,7 +7,7 @@ use std::collections::BTreeMap;
 use std::fmt;
 use tt_cert::PointKey;
 
-/// How many branches of a way are printed.
+/// How many branches of a route are printed.
 const SHOWN_BRANCHES: usize = 12;
 
 /// Returns the index of the first way that leads from a point, or from one after it: the ways
@@ -28,7 +28,7 @@ fn first_from(edges: &[Edge], point: PointKey) -> usize {
     low
 }
 
-/// Notes each point to which a way leads from this one, with this one, if it is new.
+/// Notes each new point to which a way leads from this one, with this one as the point before it.
 fn reach(
     reached: &mut BTreeMap<PointKey, PointKey>,
     queue: &mut Vec<PointKey>,
@@ -48,7 +48,7 @@ fn reach(
     Ok(())
 }
 
-/// Returns the points that can be reached, each with the one just before it on a shortest way.
+/// Returns the points that can be reached, each with the one before it on a shortest route.
 fn reached_points(
     alloc: Global,
     edges: &[Edge],
@@ -66,7 +66,7 @@ fn reached_points(
     Ok(reached)
 }
 
-/// A step of a way, from one point to the next one, which is noted where it is a branch.
+/// A step of a route, from one point to the next one: `is_branch` tells whether it is a branch.
 #[derive(Clone, Copy)]
 pub(crate) struct Branch {
     from: PointKey,
@@ -89,7 +89,7 @@ fn is_branch(subject: &Subject<'_>, edges: &[Edge], branch: Branch) -> bool {
     }
 }
 
-/// Returns the branches of one way from the program's start to a point.
+/// Returns the branches of one route from the program's start to a point.
 ///
 /// # Errors
 /// If memory runs out.
@@ -116,7 +116,7 @@ pub(crate) fn branches_to(
     Ok(branches)
 }
 
-/// One way to a place, by its branches.
+/// One route to a point, by its branches.
 #[derive(Clone, Copy)]
 pub(crate) struct Route<'a, 'b> {
     pub subject: &'a Subject<'b>,

@@ -7,7 +7,7 @@ use tt_abs::{Cell, State};
 use tt_code::kinds::{Arithmetic, Effect, Pushed, Row, Source as Register, StackOp, Update};
 use tt_code::{Instr, entry};
 
-/// Where a number comes from.
+/// Where a number was kept before an instruction, or that the instruction makes it.
 #[derive(Clone, Copy)]
 pub(crate) enum Source {
     /// It was kept here before, or is computed from what was kept here.
@@ -16,7 +16,7 @@ pub(crate) enum Source {
     Made,
 }
 
-/// Returns where the number on the stack was kept that is under this many others.
+/// Returns where the number under this many others is kept, on a stack of this depth.
 fn under(depth: usize, taken: usize) -> Source {
     match place_under(depth, taken) {
         Some(place) => Source::Kept(Element::Stack(place)),
@@ -24,7 +24,8 @@ fn under(depth: usize, taken: usize) -> Source {
     }
 }
 
-/// Returns the index that CINDEX and MINDEX take from the top.
+/// Returns the index that CINDEX and MINDEX take from the top, or 0 where it isn't known or is
+/// negative.
 fn top_index(state: &State) -> usize {
     match place_under(state.depth(), 0) {
         Some(place) => match state.cell(place) {
@@ -52,7 +53,8 @@ fn source_of_shuffled(state: &State, operation: StackOp, taken: usize, place: us
     }
 }
 
-/// Returns the operand that isn't known, of an instruction of one or of two.
+/// Returns where an operand of an arithmetic instruction was kept that isn't known: the top of the
+/// stack, or the other operand, where there are two and the top is known.
 fn source_of_result(state: &State, operation: Arithmetic) -> Source {
     let depth = state.depth();
     if is_of_one(operation) {
@@ -115,7 +117,7 @@ fn source_on_stack(state: &State, instr: &Instr<'_>, place: usize) -> Source {
     }
 }
 
-/// Returns where the number comes from that a change makes of an element, if it changes that one.
+/// Returns where an element's number comes from after a change, if the change sets that element.
 fn source_by_update(state: &State, update: Update, element: Element) -> Option<Source> {
     let depth = state.depth();
     match update {

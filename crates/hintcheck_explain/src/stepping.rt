@@ -15,7 +15,7 @@ pub(crate) enum Outcome {
     Refused(Reason),
 }
 
-/// Returns what comes of the instruction at a point, by a copy of the state there.
+/// Returns what comes of the instruction at a point, carried out on a copy of the state there.
 ///
 /// # Errors
 /// If memory runs out.

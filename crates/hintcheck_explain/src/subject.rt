@@ -41,7 +41,8 @@ impl<'a> Subject<'a> {
         self.code(self.spot(point.0)).at(point.1)
     }
 
-    /// Returns the name of the instruction at a point.
+    /// Returns the name of the instruction at a point; words for the program's end where there is
+    /// none.
     pub(crate) fn name_at(&self, point: PointKey) -> &'static str {
         match self.instruction_at(point) {
             Some(instruction) => name_of(instruction.code()),
@@ -49,7 +50,7 @@ impl<'a> Subject<'a> {
         }
     }
 
-    /// Returns the program that runs at a spot.
+    /// Returns the program of a spot.
     pub(crate) fn code(&self, spot: Spot) -> &'a Program<'a> {
         match spot {
             Spot::Main => self.setting.main,
@@ -70,7 +71,8 @@ impl<'a> Subject<'a> {
         }
     }
 
-    /// Returns the point to which a way leads from a context, if the search knows its context.
+    /// Returns the point to which a way leads from a context, if the search knows that point's
+    /// context.
     pub(crate) fn landing(&self, context: u32, way: Move) -> Option<PointKey> {
         match way {
             Move::To(offset) => Some((context, offset)),
@@ -87,7 +89,8 @@ impl<'a> Subject<'a> {
         }
     }
 
-    /// Returns the first point of a function's body, called from a context.
+    /// Returns the first point of a function's body in the context that has the parent's frames and
+    /// this one more, if the search knows that context.
     fn start_of(&self, parent: u32, frame: Frame) -> Option<PointKey> {
         let context = self.certificate.number(parent, frame)?;
         Some((context, body_offset(frame.body)))

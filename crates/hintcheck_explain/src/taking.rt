@@ -7,7 +7,8 @@ use tt_abs::setting::is_index;
 use tt_abs::{Cell, Setting, State};
 use tt_code::kinds::{Operand, Pointer, Row, Use, Within};
 
-/// Returns the place from the bottom of the cell under this many others, on a stack of this depth.
+/// Returns the place, counted from the bottom, of the cell under this many others, on a stack of
+/// this depth.
 pub(crate) fn place_under(depth: usize, taken: usize) -> Option<usize> {
     depth.checked_sub(1)?.checked_sub(taken)
 }

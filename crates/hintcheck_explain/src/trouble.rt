@@ -4,7 +4,7 @@ use crate::element::Element;
 use crate::place::Place;
 use tt_cert::PointKey;
 
-/// What an instruction takes a number for: as the number of a point, the index of a storage cell, a
+/// What an instruction uses a number as: the number of a point, the index of a storage cell, a
 /// count, and so on.
 #[derive(Clone, Copy)]
 pub(crate) enum Role {
@@ -26,7 +26,7 @@ pub(crate) enum Role {
 pub(crate) struct Arrival {
     /// The point from where it comes.
     pub point: PointKey,
-    /// From where it comes: none for the program's start.
+    /// The place of this point, as it is printed: `None` for the program's start.
     pub from: Option<Place>,
     /// The name of the instruction there.
     pub name: &'static str,
@@ -36,13 +36,13 @@ pub(crate) struct Arrival {
 /// Why an instruction is refused: the first of its tests that fails, with the numbers of the case.
 #[derive(Clone, Copy)]
 pub(crate) enum Trouble {
-    /// At least `takes` cells are taken of a stack of this depth.
+    /// The instruction needs at least `takes` cells, and the stack has only `depth`.
     Underflow {
         depth: usize,
         takes: usize,
     },
-    /// The stack would be too deep afterwards: `takes` cells are taken of one of this depth, and
-    /// `pushes` are pushed.
+    /// The stack would be too deep afterwards: of its `depth` cells `takes` are taken, and `pushes`
+    /// are pushed.
     Overflow {
         depth: usize,
         takes: usize,
@@ -78,7 +78,7 @@ pub(crate) enum Trouble {
     Undefined {
         number: i32,
     },
-    /// The jump leads to no instruction of the same body.
+    /// The jump leads neither to an instruction of the same body nor to the main program's end.
     Target {
         by: i32,
         target: i64,
@@ -87,7 +87,7 @@ pub(crate) enum Trouble {
     Running {
         number: i32,
     },
-    /// The code is that of no instruction.
+    /// The code has no entry in the instruction set.
     Code(u8),
     /// The program has this many bytes, which are too many.
     Length(u32),

@@ -15,7 +15,7 @@ use tt_stream::{PrintFailed, Sink};
 /// Why the bytes aren't a program.
 #[derive(Clone, Copy)]
 struct UnreadText<'a> {
-    /// The bytes from the place on.
+    /// The program's bytes from the place of the refusal on.
     rest: &'a [u8],
     reason: Reason,
 }
@@ -44,7 +44,7 @@ impl fmt::Display for UnreadText<'_> {
     }
 }
 
-/// Returns what the instruction of this name lacks where it is in a wrong place.
+/// Returns why the instruction of this name isn't allowed where it is.
 fn misplaced(name: &str) -> &'static str {
     match name {
         "ELSE" => "no IF without an ELSE is open.",
@@ -59,7 +59,7 @@ fn misplaced(name: &str) -> &'static str {
 /// its own bytes.
 ///
 /// # Errors
-/// `Write` where the text wasn't printed.
+/// `Write` exactly where a write failed.
 pub fn explain_unread<O: Sink>(
     asked: Asked,
     bytes: &[u8],

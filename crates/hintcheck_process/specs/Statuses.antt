@@ -6,6 +6,7 @@ use Rattle.hintcheck.specs.MeansSafe.{IsStatusOf}
 abbrev pub IsStatusOfSomeWords : ℕ → Type 0
 IsStatusOfSomeWords status = (words : List (List ℕ)) × IsStatusOf words status
 
--- the words can't be read, or this is what the command returns for them
+-- the status is 2 or 3, as where the program's own words can't be read; or one that the command
+-- returns for some words
 abbrev pub IsStatus : ℕ → Type 0
 IsStatus status = (status ≡ 2) ⊎ (status ≡ 3) ⊎ IsStatusOfSomeWords status

@@ -1,4 +1,4 @@
--- The command line, in clap's words:
+-- The command line, in the terms of clap's definitions:
 --     hintcheck bare MAXP CVT POINTS CONTOURS [PROGRAM]
 --     hintcheck verdict [--points POINTS] FONT
 --     hintcheck scan [--points POINTS] FONT..
@@ -37,7 +37,7 @@ number_option id name = record (new_rule id) {
   parser = Some (parser.Unsigned 0 18446744073709551615);
 }
 
--- an argument that must be given, and takes each word from there on
+-- an argument that must be given, and takes one word or more
 abbrev pub needed_list : Text → Rule
 needed_list id = record (needed id) {
   range = Some (record { start_inclusive = 1; end_inclusive = usize_max });
@@ -90,7 +90,7 @@ list = of_texts (codes "list") (codes "FONT" ∷ codes "PROGRAM" ∷ [])
 abbrev pub upgrade : App
 upgrade = of_texts (codes "upgrade") (codes "OLD" ∷ codes "NEW" ∷ [])
 
--- the program, which has a version, and is always given a subcommand otherwise
+-- the program, which can be asked for its version, and otherwise must be given a subcommand
 abbrev pub program : App
 program = record (new_app (codes "hintcheck")) {
   top = record (new_app (codes "hintcheck")).top {

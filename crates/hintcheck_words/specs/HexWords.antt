@@ -9,6 +9,6 @@ pub record IsHexWord (word : List ℕ) : Type 0 where
   pub digits : AllPass is_hex_digit word
   pub short : length word ≤ 131070
 
--- two digits spell a byte, the high half first
+-- the word spells these bytes: two digits spell a byte, the high half first
 abbrev pub Spells : List ℕ → List ℕ → Type 0
 Spells word bytes = decode_of word ≡ Ok bytes

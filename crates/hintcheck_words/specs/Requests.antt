@@ -52,7 +52,7 @@ abbrev pub optional_number_in : List Row → Text → Option ℕ
 optional_number_in rows id =
     option_map (λ t. digits_value 10 (without_leading_plus t)) (one_of id rows)
 
--- an argument got the text of a number up to this one, which may have a minus before a zero
+-- an argument got the text of a number up to this one, without the minus that may be before a zero
 pub record HasNumber (most : ℕ) (rows : List Row) (id : Text) : Type 0 where
   pub text : Text
   pub found : one_of id rows ≡ Some (without_minus text)
@@ -163,11 +163,11 @@ pub record IsReadable (found : Text × List Row) : Type 0 where
   pub of_find : found.0 ≡ codes "find" → HasPoints found.1
   pub of_check : found.0 ≡ codes "check" → HasPoints found.1
 
--- there is a subcommand, and it asks for something
+-- there is a subcommand, it asks for something, and its numbers can be read
 abbrev pub MeetsSubcommand : Option (Text × List Row) → Type 0
 MeetsSubcommand found = IsSomeAnd found IsReadable
 
--- a task apart from where its texts lie in memory
+-- what a task asks for, wherever its texts lie in memory
 unfoldable pub asked : Task → Request
 asked (task.Bare maxp cvt points contours program) =
     bare (string_bytes maxp) cvt points contours (option_map (λ s. string_bytes s) program)
@@ -191,8 +191,8 @@ IsOutOfMemory (fault.OutOfMemory error) = Unit {0}
 abbrev pub IsMemoryIfTaken : List Text → TaskFault → Type 0
 IsMemoryIfTaken words e = is_taken words ≡ true → IsOutOfMemory e
 
--- Of the kinds of faults that clap may report: a task comes only where there is none, words that
--- mean none are reported by one of them, and out of memory is unspecified.
+-- Of the kinds of faults that clap may report: a task comes only where there are none, a fault of
+-- the words is of one of them, and out of memory is unspecified.
 abbrev pub TellsFault : {T : Type 0} → Kinds → Result T TaskFault → Type 0
 TellsFault kinds (Ok task) = kinds ≡ []
 TellsFault kinds (Err (fault.Words error)) = IsAmong (kind_of error) kinds

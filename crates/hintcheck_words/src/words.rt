@@ -86,7 +86,8 @@ pub enum Task {
 /// Why words ask for nothing.
 #[derive(Debug, Drop, Error)]
 pub enum TaskFault {
-    /// The words aren't those of the command line, or ask for help: clap's text for the user.
+    /// The words aren't those of the command line, or ask for help or for the version: clap's text
+    /// for the user.
     #[error(transparent)]
     Words(clap::Error),
     /// Memory ran out.
@@ -525,7 +526,8 @@ fn task_of(alloc: Global, name: &str, values: &ArgMatches<'_>) -> Result<Task, A
 /// Returns what the words give the arguments, and the subcommand that they name.
 ///
 /// # Errors
-/// `Words` where the command line doesn't take the words, or they ask for help; `OutOfMemory`.
+/// `Words` where the command line doesn't take the words, or they ask for help or for the version;
+/// `OutOfMemory`.
 fn matches_of<'a>(alloc: Global, words: &'a [&'a str]) -> Result<ArgMatches<'a>, TaskFault>
     ensures met { IfOk result (λ m. subcommand_rows_of m ≡ met (texts_of words.entry.now)) }
     ensures meets { IfOk result (λ m. MeetsSubcommand (subcommand_rows_of m)) }
@@ -545,7 +547,8 @@ fn matches_of<'a>(alloc: Global, words: &'a [&'a str]) -> Result<ArgMatches<'a>,
 /// Returns what the words ask for. The first word is the program's own name.
 ///
 /// # Errors
-/// `Words` where the command line doesn't take the words, or they ask for help; `OutOfMemory`.
+/// `Words` where the command line doesn't take the words, or they ask for help or for the version;
+/// `OutOfMemory`.
 pub fn read_words<'a>(alloc: Global, words: &'a [&'a str]) -> Result<Task, TaskFault>
     // The task is the request that the words mean.
     ensures asked { IfOk result (λ t. meaning (texts_of words.entry.now) ≡ Some (asked t)) }

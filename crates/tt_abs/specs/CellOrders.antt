@@ -7,12 +7,12 @@ use Rattle.tt_abs.specs.declared.cells.ZoneCell.{ZoneCell}
 use Rattle.tt_abs.specs.declared.cells.ZoneCell.TheVariants.{Zero, One, Either}
 use Rattle.tt_abs.specs.Orders.{Order}
 
--- a known number is one of the machine
+-- a known number is a number of the machine
 abbrev pub CellInRange : Cell → Type 0
 CellInRange (Known k) = IsNumber k
 CellInRange Unknown = ⊤
 
--- the second covers each number that the first covers
+-- of two cells in range, the second covers each number that the first covers
 abbrev pub CellBelow : Cell → Cell → Type 0
 CellBelow (Known m) (Known n) = m ≡ n
 CellBelow (Known m) Unknown = ⊤

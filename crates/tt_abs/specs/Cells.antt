@@ -1,4 +1,4 @@
--- What is known of a machine state, and which numbers, zones and machine states that covers.
+-- What is known of a machine state, and the numbers, zones and machine states that it covers.
 use Rattle.std.specs.Prelude.{◌≡◌, ℕ, ℤ, List, [], ◌∷◌, Some}
 use Rattle.tt_code.specs.Settings.{ZoneNumber, Zero, One}
 use Rattle.tt_code.specs.States.{Machine, IsNumber, Registers}
@@ -22,7 +22,7 @@ CoversZone zone.One Zero = ⊥
 CoversZone zone.One One = Unit {0}
 CoversZone zone.Either z = Unit {0}
 
--- both have one depth, and each cell covers its number
+-- both have the same depth, and each cell covers its number
 abbrev pub CoversStack : List Cell → List ℤ → Type 0
 CoversStack [] [] = Unit {0}
 CoversStack [] (n ∷ ns) = ⊥

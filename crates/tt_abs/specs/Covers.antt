@@ -127,9 +127,9 @@ IsRefused a frames offset does =
     SomeFaults a frames offset does ⊎ SomeRecurs a frames offset does
     ⊎ ManyFrames a frames offset does
 
--- What holds of any instruction: the outcome on cells is refused exactly if some covered machine
--- faults or comes to run a body twice, or they come to too many lists of frames; otherwise it gives
--- the smallest covers of what they become.
+-- What holds where the outcome on cells isn't refused: no covered machine faults or comes to run a
+-- body twice, and the next places are at most two, with the smallest covers of what the machines
+-- become.
 pub record Gives (a : Abstract) (frames : List Frame) (offset : ℕ)
     (does : Machine → Tested Outcome) (nexts : List Next) : Type 0 where
   pub none_faults : NoneFaults a frames offset does

@@ -1,5 +1,5 @@
--- Sorted maps as lists of entries by number: the functions that are known with their bodies, the
--- storage cells that are known with their numbers.
+-- Sorted maps as lists of entries by number: the known functions with their bodies, and the known
+-- storage cells with their numbers.
 use Rattle.std.specs.Prelude.{ℕ, ℤ, ◌<◌, List, [], ◌∷◌, Option, None, Some, not, nat_eq, nat_lt, if◌then◌else◌}
 use Rattle.std.specs.List.{AllByRecursion, filter}
 use Rattle.tt_abs.specs.declared.cells.Cell.{Cell}
@@ -15,7 +15,8 @@ abbrev pub listed : {V : Type 0} → List (ℕ × V) → ℕ → Option V
 listed [] n = None
 listed (e ∷ es) n = if nat_eq e.0 n then Some e.1 else listed es n
 
--- the list with an entry where its number belongs, in place of the one of that number
+-- the list with an entry where its number belongs, in place of the one of that number if there is
+-- one
 abbrev pub with_entry : {V : Type 0} → ℕ → V → List (ℕ × V) → List (ℕ × V)
 with_entry n v [] = (n, v) ∷ []
 with_entry n v (e ∷ es) =
@@ -27,7 +28,7 @@ with_entry n v (e ∷ es) =
 abbrev pub without_entry : {V : Type 0} → ℕ → List (ℕ × V) → List (ℕ × V)
 without_entry n es = filter (λ e. not (nat_eq e.0 n)) es
 
--- the number of a storage cell, if it is known
+-- the known cell of a number, if there is one; otherwise unknown
 abbrev pub known_or_not : Option ℤ → Cell
 known_or_not None = Unknown
 known_or_not (Some z) = Known z

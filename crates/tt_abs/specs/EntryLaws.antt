@@ -9,7 +9,7 @@ use Rattle.tt_abs.specs.EntryLists.{IsEquality, EntriesBelow, EntriesInRange, af
 
 -- What is listed.
 
--- with the number of the first entry its value is listed
+-- what is listed with the number of the first entry is the value of that entry
 pub listed-here : {V : Type 0} (e : ℕ × V) (es : List (ℕ × V)) (n : ℕ) → e.0 ≡ n
     → listed (e ∷ es) n ≡ Some e.1
 listed-here {V} e es n h = ap (λ (b : Bool). if b then Some e.1 else listed es n) (eq-eqb e.0 n h)
@@ -32,7 +32,7 @@ none-below n [] h = refl
 none-below n (e ∷ es) h =
     listed-there e es n (λ q. let a = h.0 in omega arith) ∙ none-below n es h.1
 
--- what is listed is above what all are above
+-- where the numbers of all entries are above m, so is each number that is listed
 pub number-above : {V : Type 0} (m n : ℕ) (v : V) (es : List (ℕ × V))
     → AllByRecursion (λ e. m < e.0) es → listed es n ≡ Some v → m < n
 number-above m n v [] h l = cc
@@ -41,9 +41,9 @@ number-above m n v (e ∷ es) h l = elim (cases_eq e.0 n) [
   | inr other ↦ number-above m n v es h.1 (sym (listed-there e es n other) ∙ l)
 ]
 
--- One list below another, apart from first entries.
+-- One list below another, with and without first entries.
 
--- a first entry that isn't in the second list may be removed
+-- the first list's first entry may be removed, if its number is below all those of the second list
 pub below-without_first : {V : Type 0} (x : ℕ × V) (xs b : List (ℕ × V))
     → AllByRecursion (λ e. x.0 < e.0) b → EntriesBelow (x ∷ xs) b → EntriesBelow xs b
 below-without_first x xs b above p n v l =
@@ -64,7 +64,7 @@ below-after_first a y ys above p n v l =
     let lt : y.0 < n = number-above y.0 n v ys above l in
     p n v (listed-there y ys n (λ q. omega arith) ∙ l)
 
--- one first entry may be added to both lists
+-- the same first entry may be added to both lists
 pub below-same_first : {V : Type 0} (x y : ℕ × V) (xs ys : List (ℕ × V)) → x ≡ y
     → AllByRecursion (λ e. x.0 < e.0) xs → EntriesBelow xs ys → EntriesBelow (x ∷ xs) (y ∷ ys)
 below-same_first {V} x y xs ys same above p n v l = elim (cases_eq y.0 n) [
@@ -221,7 +221,7 @@ listed-filter p (x ∷ xs) r n v =
     filter_step p x xs (filter p xs) n v (p x) refl (all-filter _ p xs r.0)
     (listed-filter p xs r.1 n v)
 
--- an option holds a value exactly if it is that value
+-- an option holds a value exactly if it is `Some` with that value
 pub holds_value-is : {V : Type 0} (same : V → V → Bool) → IsEquality same → (o : Option V) (v : V)
     → (holds_value same o v ≡ true) ↔ (o ≡ Some v)
 holds_value-is {V} same decides None v = (λ h. cc, λ e. cc)

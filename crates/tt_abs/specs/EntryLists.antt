@@ -1,5 +1,5 @@
--- The order of sorted maps, as lists of entries in ascending order of their numbers: a list with
--- fewer entries covers more.
+-- The order of sorted maps, as lists of entries in ascending order of their numbers: a list covers
+-- more than another if it has only some of that one's entries.
 use Rattle.std.specs.Prelude.{◌≡◌, ℕ, zero, suc, ◌<◌, ⊤, Bool, false, ◌&&◌, nat_eq, nat_lt, if◌then◌else◌, List, [], ◌∷◌, Option, None, Some, length}
 use Rattle.std.specs.List.{AllByRecursion, filter}
 use Rattle.std.specs.Bool.{Decides}

@@ -18,7 +18,8 @@ IsBelowFamily {P} {S} o family other = (p : P) (s : S) → family p ≡ Some s �
 abbrev pub IsFamilyInRange : {P S : Type 0} → Order S → (P → Option S) → Type 0
 IsFamilyInRange {P} {S} o family = (p : P) (s : S) → family p ≡ Some s → o.InRange s
 
--- the family covers the start, none of its values is refused, and it covers what each of them gives
+-- the family's values are in range, it covers the start, none of its values is refused, and it
+-- covers what each of them gives
 pub record IsGood {P S : Type 0} (o : Order S) (f : Flow P S) (family : P → Option S) : Type 0 where
   pub in_range : IsFamilyInRange o family
   pub start : CoversAt o family f.entry f.start
@@ -32,7 +33,7 @@ IsFine {P} {S} o f family p = (s : S) → family p ≡ Some s
     → ((r : Reason) → f.Refuses p s r → ⊥)
     × ((q : P) (t : S) → f.Gives p s q t → CoversAt o family q t)
 
--- The derived values: the start, what a derived value gives that isn't refused, and the least
+-- The derived values: the start, what is given by a derived value that isn't refused, and the least
 -- values above two that are derived at one point.
 pub data Derived {P S : Type 0} (o : Order S) (f : Flow P S) : P → S → Type 0 where
   started : Derived o f f.entry f.start

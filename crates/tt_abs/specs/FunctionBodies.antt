@@ -27,7 +27,7 @@ RunsAsItsKind s FontProgram = (s.font ≡ s.main) × (s.prep ≡ s.main)
 RunsAsItsKind s CvtProgram = s.prep ≡ s.main
 RunsAsItsKind s (GlyphProgram points contours) = Unit {0}
 
--- the programs are those of one font, whose font program is structured
+-- the programs are those of one font, whose font program consists of instructions and is structured
 pub record AreProgramsOfFont (s : Setting) : Type 0 where
   pub main : RunsAsItsKind s s.kind
   pub each : AllByRecursion IsInstruction s.font

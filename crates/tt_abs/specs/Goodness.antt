@@ -19,16 +19,16 @@ use Rattle.tt_abs.specs.States.{state_order}
 use Rattle.tt_abs.specs.Transfers.{outcome_on_cells}
 
 -- What an abstract state becomes, computed on its cells, is what the machines that it covers
--- become, at each place where no body comes twice. It is refused only where one of them faults or
--- comes to run a body twice, or where they come to too many lists of frames; otherwise it gives the
--- smallest covers of what they become.
+-- become, at each place whose calls run no body twice (the programs are short, and the stack is in
+-- range). It is refused only where one of them faults or comes to run a body twice, or where they
+-- come to too many lists of frames; otherwise it gives the smallest covers of what they become.
 abbrev pub OutcomeStandsForMachines : Type 0
 OutcomeStandsForMachines =
     (s : Setting) (fs : List Frame) (at : ℕ) (a : Abstract) → AreProgramsShort s
     → AreInRange a.stack → has_body_twice fs ≡ false
     → StandsFor a fs at (outcome s) (outcome_on_cells s fs at a)
 
--- the outcome on cells is refused exactly where one of these causes is there
+-- in the same cases, the outcome on cells is refused exactly where there is one of these causes
 abbrev pub IsRefusedExactly : Type 0
 IsRefusedExactly =
     (s : Setting) (fs : List Frame) (at : ℕ) (a : Abstract) → AreProgramsShort s
@@ -46,8 +46,8 @@ pub record AreContextsOf (family : Place → Option State)
       → slice_get contexts j ≡ Some fs → i ≡ j
   pub each : (i : ℕ) (fs : List Frame) → slice_get contexts i ≡ Some fs → HasStateIn family fs
 
--- The states are in range; each is in a context whose calls are in their turns and of which no body
--- comes twice; there are at most 65,535 of these contexts.
+-- The states are in range; each is in a context whose calls are in their turns and run no body
+-- twice; there are at most 65,535 of these contexts.
 pub record IsFamilyByContext (family : Place → Option State) : Type 0 where
   pub in_range : IsFamilyInRange state_order family
   pub calls : (p : Place) (a : State) → family p ≡ Some a → FramesFit p.0
@@ -62,7 +62,7 @@ pub record CoversSteps (s : Setting) (functions : List (ℕ × ℕ))
   pub safe : (m : Machine) (r : Reason) → IsCoveredBy family m → Faults s m r → ⊥
   pub closed : (m n : Machine) → IsCoveredBy family m → Steps s m n → IsCoveredBy family n
 
--- a family is good exactly if it covers the machine's steps
+-- a family by context (`IsFamilyByContext`) is good exactly if it covers the machine's steps
 abbrev pub IsGoodByMachines : Type 0
 IsGoodByMachines =
     (s : Setting) (functions : List (ℕ × ℕ)) (family : Place → Option State) → IsSettingInRange s

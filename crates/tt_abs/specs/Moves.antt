@@ -107,8 +107,8 @@ abbrev pub IsControlRefusedFor : Setting → Point → Control → State → Ref
 IsControlRefusedFor setting point op old e = IsRefusedFor (control_at setting point old op) e
 
 -- of the machines that the old state covers, none faults at the point or comes to run a body twice;
--- the moves are at most two, and at each place to which they lead, and nowhere else, those machines
--- come: the new state is the smallest that covers them there
+-- the moves are at most two, and lead exactly to the places to which those machines come: at each,
+-- the new state is the smallest that covers the machines there
 abbrev pub GivesByMachines : Setting → Point → State → State → Moves → Type 0
 GivesByMachines setting point old new moves =
     Gives (abstract_of old) (frames_of point) point.offset (outcome (setting_of setting))

@@ -48,7 +48,7 @@ product_least a b s t u p q = record {
   least = λ d r x y. (p.least d.0 r.0 x.0 y.0, q.least d.1 r.1 x.1 y.1);
 }
 
--- the order of values by what f gives of them
+-- the order of values by their images under f
 abbrev pub along : {S T : Type 0} → (S → T) → Order T → Order S
 along f o = record {
   InRange = λ s. o.InRange (f s);
@@ -73,7 +73,7 @@ along_laws {S} f back undoes o l = record {
       sym (undoes s) ∙ ap back (l.left_strict (f s) (f t) rs rt p e) ∙ undoes t;
 }
 
--- a value is the least one above two if what f gives of it is the least above what f gives of them
+-- a value is the least one above two others if its image under f is the least one above theirs
 pub along_least : {S T : Type 0} (f : S → T) (o : Order T) (s t u : S)
     → IsLeastAbove o (f s) (f t) (f u) → IsLeastAbove (along f o) s t u
 along_least f o s t u p =

@@ -20,7 +20,7 @@ abbrev pub AreInRange : List Cell → Type 0
 AreInRange [] = Unit {0}
 AreInRange (c ∷ cs) = IsInRange c × AreInRange cs
 
--- each cell besides the stack is in range
+-- each cell outside of the stack is in range
 pub record AreRegistersInRange (r : Registers Cell ZoneCell) : Type 0 where
   pub rp0 : IsInRange r.graphics.rp0
   pub rp1 : IsInRange r.graphics.rp1
@@ -41,7 +41,7 @@ AreNextInRange nexts = AllByRecursion (λ n. IsStateInRange n.state) nexts
 abbrev pub AreBytes : List ℕ → Type 0
 AreBytes bytes = AllByRecursion (λ b. b < 256) bytes
 
--- each program is of bytes, and the greatest depth is a number of 16 bits
+-- each program consists of bytes, and maxStackElements is a number of 16 bits
 pub record IsSettingInRange (s : Setting) : Type 0 where
   pub depth : s.limits.stack < 2 ^ 16
   pub main : AllByRecursion AreBytes s.main

@@ -9,7 +9,8 @@ use Rattle.tt_abs.specs.Cells.{CoversFunctions, CoversState}
 use Rattle.tt_abs.specs.StateFlow.{Place}
 use Rattle.tt_abs.specs.States.{abstract_of}
 
--- a program starts there, and each of these functions is defined, with its body
+-- the machine is one with which a program starts, and each of these functions is defined in it,
+-- with its body
 pub record StartsWith (functions : List (ℕ × ℕ)) (m : Machine) : Type 0 where
   pub fresh : IsFresh m
   pub defined : CoversFunctions functions m.functions

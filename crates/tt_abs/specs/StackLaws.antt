@@ -7,7 +7,7 @@ use Rattle.tt_abs.specs.CellOrders.{known_cells}
 use Rattle.tt_abs.specs.CellLaws.{CellBelow-refl, CellBelow-trans, CellBelow-antisym, known_cells-falls, known_cells-strict}
 use Rattle.tt_abs.specs.Stacks.{StackBelow, known_count, stack_order}
 
--- a stack that is below another is so without the tops too
+-- if one stack is below another, it is so without their tops too
 pub StackBelow-tail : (x y : Cell) (xs ys : List Cell) → StackBelow (x ∷ xs) (y ∷ ys)
     → StackBelow xs ys
 StackBelow-tail x y xs ys h = record {

@@ -20,16 +20,16 @@ pub record ShareBottom (a b : List Cell) (count : ℕ) : Type 0 where
   pub enough_there : count ≤ length b
   pub same : take count (reverse a) ≡ take count (reverse b)
 
--- each number of the stack is one of the machine
+-- each known number of the stack is a number of the machine
 abbrev pub StackInRange : List Cell → Type 0
 StackInRange cells = (k : ℕ) → CellInRange (cell_at cells k)
 
--- both have one depth, and each cell is below the one at the same position of the other
+-- both have the same depth, and each cell is below the one at the same position of the other
 pub record StackBelow (a b : List Cell) : Type 0 where
   pub depth : length a ≡ length b
   pub cells : (k : ℕ) → CellBelow (cell_at a k) (cell_at b k)
 
--- both have one depth
+-- both have the same depth
 abbrev pub SameLength : List Cell → List Cell → Type 0
 SameLength a b = length a ≡ length b
 

@@ -15,7 +15,7 @@ use Rattle.tt_abs.specs.States.{abstract_of, start_of, state_order}
 use Rattle.tt_abs.specs.Transfers.{Next, outcome_on_cells}
 
 -- a place of a program: the calls that haven't returned, the innermost first, and an offset in the
--- innermost one's body
+-- program that has the innermost one's body, or, without calls, in the main program
 abbrev pub Place : Type 0
 Place = List Frame × ℕ
 
@@ -51,7 +51,8 @@ pub record RefusesState (s : Setting) (p : Place) (a : State) (r : Reason) : Typ
   pub running : is_main_end s p.0 p.1 ≡ false
   pub refused : outcome_on_cells s p.0 p.1 (abstract_of a) ≡ Err r
 
--- one of the successors is this one, at this place; at the main program's end there is none
+-- one of the successors is this state, which is in range, at this place; at the main program's end
+-- there is none
 pub record GivesState (s : Setting) (p : Place) (a : State) (q : Place) (t : State) : Type 0 where
   pub running : is_main_end s p.0 p.1 ≡ false
   pub nexts : List Next
@@ -86,8 +87,8 @@ pub record AreProgramsShort (s : Setting) : Type 0 where
   pub font : size s.font < 2 ^ 31
   pub prep : size s.prep < 2 ^ 31
 
--- the laws of the flow, of each setting and each list of functions in ascending order of their
--- numbers that are within the font's limits
+-- the laws of the flow, of each setting in range whose programs are short, and of each list of
+-- functions that are within the font's limits, in ascending order of their numbers
 abbrev pub HasFlowLaws : Type 0
 HasFlowLaws =
     (s : Setting) (functions : List (ℕ × ℕ)) → IsSettingInRange s → AreProgramsShort s

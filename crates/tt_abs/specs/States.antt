@@ -71,7 +71,7 @@ list_order = product function_order storage_order
 abbrev pub state_order : Order State
 state_order = along parts (product stack_order (product graphics_order list_order))
 
--- a change keeps the state's numbers in range
+-- a change keeps the state in range
 abbrev pub KeepsRange : State → State → Type 0
 KeepsRange old new = state_order.InRange old → state_order.InRange new
 

@@ -139,7 +139,7 @@ abbrev pub cells_on : List Cell → List Cell → List Cell
 cells_on [] stack = stack
 cells_on (c ∷ cs) stack = cells_on cs (c ∷ stack)
 
--- with this stack left, and these pushed on it
+-- the state with this stack left, and these cells pushed on it
 abbrev pub leaves_cells : Abstract → List Cell → List Cell → Abstract
 leaves_cells a stack pushed = record a { stack = cells_on pushed stack }
 
@@ -317,8 +317,8 @@ jumps_cells s fs at a by stack = do
   target ← jump_target s fs at by stack
   Ok (one_way fs target (leaves_cells a stack []))
 
--- a jump by a condition, which the cell says to hold or not; where it is unknown, both ways are
--- possible
+-- a jump by the second cell, if a condition holds for the number of the first; where that is
+-- unknown, both ways are possible
 abbrev pub jumps_by : Setting → List Frame → ℕ → Abstract → (ℤ → Bool) → Cell → Cell → List Cell
     → Tested (List Next)
 jumps_by s fs at a holds (Known e) by stack =
@@ -328,7 +328,7 @@ jumps_by s fs at a holds Unknown by stack = do
   target ← jump_target s fs at by stack
   Ok (two_ways fs (at + 1) target (leaves_cells a stack []))
 
--- a jump by a condition, which is on top; the distance is below it
+-- a jump by a condition, which is on top; the jump's offset is below it
 abbrev pub jumps_if_cells : Setting → List Frame → ℕ → Abstract → (ℤ → Bool) → Tested (List Next)
 jumps_if_cells s fs at a holds = do
   e ← top a.stack
@@ -424,8 +424,8 @@ goes_on_cells fs next result = do
   a ← result
   Ok (one_way fs next a)
 
--- what an instruction does, by what its code stands for; the bytes after its code, and the offset
--- after it
+-- what an instruction does, by what its code stands for, the bytes after its code, and the offset
+-- after the instruction
 abbrev pub does_cells : Setting → List Frame → ℕ → Abstract → Meaning → List ℕ → ℕ
     → Tested (List Next)
 does_cells s fs at a NoEntry rest next = Err reason.Opcode

@@ -1,5 +1,5 @@
-//! What is known of a result, where something is known of the operands: the result itself exactly
-//! where it is the same for all numbers that the operands may be.
+//! What is known of a result, by what is known of the operands: the result itself exactly where it
+//! is the same for all numbers that the operands may be.
 
 ghost use Rattle.std.specs.Prelude.{◌≡◌, Bool, ℤ, ◌+ℤ◌, ◌-ℤ◌, neg_ℤ, not};
 ghost use Rattle.tt_code.specs.Computing.{absolute, equal};

@@ -17,11 +17,11 @@ pub const INLINE_CELLS: usize = 32;
 /// The codes of cells, the bottom first.
 pub type Codes = SmallVec<u16, INLINE_CELLS>;
 
-/// The code of an unknown cell. Each other code is the two's complement of its cell's number.
+/// The code of an unknown cell. Each other code is its cell's number in two's complement.
 pub const UNKNOWN: u16 = 0x8000;
 
-/// Returns the code of the cell, if it has one: an unknown cell, or a number from -32,767 to
-/// 32,767.
+/// Returns the code of the cell, if it has one. A known cell has none if its number isn't from
+/// -32,767 to 32,767.
 pub fn code_of(cell: Cell) -> Option<u16>
     ensures { MatchOption result (HasNoCode cell) (λ code. cell_of_code code ≡ cell) }
 {
@@ -78,7 +78,7 @@ pub fn are_below(mine: &[u16], theirs: &[u16]) -> bool
     all
 }
 
-/// Returns a code of the least cell above both, of which one is given by its code.
+/// Returns the code of the least cell above two cells, the first of which is given by its code.
 pub fn joined(mine: u16, theirs: Cell) -> u16
     ensures { IsLeastCell (cell_of_code mine) theirs (cell_of_code result) }
 {
@@ -89,15 +89,15 @@ pub fn joined(mine: u16, theirs: Cell) -> u16
     }
 }
 
-/// Returns a code of the least cell above both.
+/// Returns the code of the least cell above the cells of two codes.
 fn joined_code(mine: u16, theirs: u16) -> u16
     ensures { IsLeastCell (cell_of_code mine) (cell_of_code theirs) (cell_of_code result) }
 {
     if mine == theirs { mine } else { UNKNOWN }
 }
 
-/// Makes each code's cell the least one above it and that of the code at the same position of the
-/// other list, which is as long.
+/// Makes each code that of the least cell above two: its own cell, and that of the code at the same
+/// position of the other list, which is as long.
 pub fn join_codes(mine: &mut [u16], theirs: &[u16])
     requires { length mine.old ≡ length theirs.now }
     ensures { AreLeastCodes mine.old theirs.now mine.new }

@@ -24,7 +24,7 @@ pub enum ZoneCell {
     Zero,
     /// The glyph zone.
     One,
-    /// One of the two, it isn't known which.
+    /// One of the two; it isn't known which.
     Either,
 }
 

@@ -18,7 +18,8 @@ use tt_code::kinds::{Pushed, Source, Update};
 /// What a line pushes: at most two cells.
 pub type PushedCells = SmallVec<Cell, 2>;
 
-/// Returns the zone that a cell names.
+/// Returns the zone that a cell names, once its number is tested to be 0 or 1; either zone for an
+/// unknown cell.
 fn zone_of(cell: Cell) -> ZoneCell
     ensures { result ≡ zone_in cell }
 {
@@ -113,7 +114,8 @@ fn pushed_cell(state: &State, count: usize, pushed: Pushed) -> Cell
     }
 }
 
-/// Returns what a line pushes, before its changes, by the `count` elements that are taken.
+/// Returns the cells that a line pushes, the deepest first, by the `count` elements that are taken
+/// and the storage area.
 ///
 /// # Errors
 /// If memory runs out.

@@ -76,7 +76,8 @@ fn skip_else(setting: &Setting<'_>, point: &Point<'_>, state: &mut State) -> Res
     }
 }
 
-/// Returns where a jump by a cell leads, where the stack has `depth` cells.
+/// Returns the offset to which a jump leads, by the cell of its distance, where the stack has
+/// `depth` cells.
 fn jump_target(
     setting: &Setting<'_>,
     point: &Point<'_>,
@@ -164,8 +165,8 @@ fn jump_if(
     Ok(moves)
 }
 
-/// Carries out FDEF, which only the font program and the CVT program may have: the number that is
-/// popped names the body after it.
+/// Carries out FDEF, to which only the font program and the CVT program may come: it defines the
+/// function whose number it pops, with the body just after it.
 fn define(setting: &Setting<'_>, point: &Point<'_>, state: &mut State) -> Result<Moves, Refusal>
     requires { point.now.offset + 1 < 2 ^ 31 }
     ensures ok { IfOk result
@@ -189,8 +190,8 @@ fn define(setting: &Setting<'_>, point: &Point<'_>, state: &mut State) -> Result
     Ok(Moves::One(Move::To(after)))
 }
 
-/// Returns the body of the function that a cell names, if its number is below maxFunctionDefs and
-/// it is known.
+/// Returns the body of the function whose number a cell holds, if that number is below
+/// maxFunctionDefs and the function is known.
 fn called(setting: &Setting<'_>, state: &State, cell: Cell) -> Result<u32, Reason>
     ensures ok { IfOk result (λ n. called_at setting.now state.now cell ≡ Ok n) }
     ensures refused { IfErr result (λ r. called_at setting.now state.now cell ≡ Err r) }
@@ -219,7 +220,7 @@ fn is_running(frames: &[Frame], body: u32) -> bool
     false
 }
 
-/// Enters a body for `turns` turns, where the stack has `depth` cells.
+/// Returns the way into a body, for `turns` turns, where the stack has `depth` cells.
 fn enter(
     setting: &Setting<'_>,
     point: &Point<'_>,

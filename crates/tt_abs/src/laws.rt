@@ -38,17 +38,20 @@ pub fn good_families_are_safe()
 {}
 
 /// States that what an abstract state becomes at a place, computed on its cells, is what the
-/// machines that it covers become there, for every instruction. It is refused exactly where one of
-/// these machines faults or comes to run a body twice, or where they come to more lists of calls
-/// than a program may have. Otherwise it gives one state for each place to which they come: the
-/// smallest that covers those there.
+/// machines that it covers become there, for every instruction, where no two open calls of the
+/// place are of one body. The state is refused exactly where one of these machines faults or comes
+/// to have two open calls of one body, or where they come to more lists of calls than a program may
+/// have. Otherwise it gives one state for each place to which they come: the smallest that covers
+/// those there.
 pub fn outcome_on_cells_is_exact()
     ensures stands { OutcomeStandsForMachines }
     ensures refused { IsRefusedExactly }
 {}
 
 /// States that a family of abstract states is good exactly if it covers every machine that starts,
-/// no machine that it covers faults, and it covers each successor of one that it covers.
+/// no machine that it covers faults, and it covers each successor of one that it covers. That is so
+/// of each family with states in at most 65,535 contexts, where each call is in one of its turns
+/// and no context has two calls of one body.
 pub fn good_families_cover_steps()
     ensures { IsGoodByMachines }
 {}

@@ -27,7 +27,7 @@ pub enum Move {
 pub enum Moves {
     /// To one place.
     One(Move),
-    /// To one of two offsets of the same body, the smaller one first.
+    /// To one of two offsets, the smaller one first; each is one to which `Move::To` may lead.
     Two(u32, u32),
 }
 

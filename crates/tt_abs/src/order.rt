@@ -14,7 +14,7 @@ pub enum AbsFault {
 }
 
 /// Values that stand for sets of machine values: one is below another if the other covers all that
-/// the one covers. Neither call takes memory.
+/// the one covers. Neither `below` nor `join` takes memory.
 pub trait Order {
     /// The order: its relations, and how often a value can still rise.
     ghost order: { OrderOf Self };

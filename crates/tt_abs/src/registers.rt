@@ -1,4 +1,4 @@
-//! Reading and setting reference points and zone pointers of which something is known.
+//! Reading and setting what is known of reference points and zone pointers.
 
 ghost use Rattle.std.specs.Prelude.{◌≡◌};
 ghost use Rattle.tt_code.specs.States.{pointer as pointer_of, reference as reference_of, with_pointer, with_reference};

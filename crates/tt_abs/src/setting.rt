@@ -17,7 +17,8 @@ use crate::registers::pointer;
 use tt_code::kinds::Within;
 use tt_code::{Body, Frame, Graphics, Limits, Program};
 
-/// How many phantom points a glyph has besides its own (OpenType specification, "Phantom points").
+/// How many phantom points a glyph has, besides its own points (OpenType specification, "Phantom
+/// points").
 const PHANTOM_POINTS: u32 = 4;
 
 /// What is added to the offset of a body of the CVT program to make its name.
@@ -139,9 +140,9 @@ impl<'a> Setting<'a> {
         }
     }
 
-    /// Makes the setting of the CVT program of the same font, from that of the font program. It
-    /// starts with these functions, in ascending order of their numbers: those that are known where
-    /// the font program ends.
+    /// Makes the setting of the CVT program of the same font, from that of the font program. The
+    /// CVT program starts with these functions, in ascending order of their numbers: those that are
+    /// known where the font program ends.
     pub fn for_cvt_program(
         &self,
         program: &'a Program<'a>,
@@ -222,7 +223,8 @@ impl<'a> Setting<'a> {
         }
     }
 
-    /// Returns the least number of points that a zone in which a point number is tested may have.
+    /// Returns how many points there are in the smallest of the zones in which a point number is
+    /// tested; where a pointer may name either zone, both are among these.
     fn points_within(&self, graphics: &Graphics<Cell, ZoneCell>, within: Within) -> u32
         ensures { (z : ℤ)
             → is_below z result ≡ is_point_in (setting_of self.now) graphics.now within z }
@@ -270,8 +272,8 @@ impl<'a> Setting<'a> {
         }
     }
 
-    /// States that the programs consist of bytes and are shorter than 2^31 bytes, and that depths
-    /// have 16 bits, as they always do.
+    /// States that the programs consist of bytes and are shorter than 2^31 bytes, and that
+    /// maxStackElements has 16 bits, as is always so.
     pub fn range_facts(&self)
         ensures range { IsSettingInRange (setting_of self.now) }
         ensures short { AreProgramsShort (setting_of self.now) }
@@ -298,7 +300,7 @@ impl<'a> Setting<'a> {
         }
     }
 
-    /// Whether control may jump to an offset from the point: to an instruction of the same body or,
+    /// Whether control may jump from the point to an offset: to an instruction of the same body or,
     /// in the main program, to its end.
     pub(crate) fn is_target(&self, point: &Point<'_>, target: i64) -> bool
         requires { target ≤ℤ pos 4294967295 }
@@ -320,7 +322,7 @@ impl<'a> Setting<'a> {
         }
     }
 
-    /// Whether the offset is the main program's end, and the point the main program's.
+    /// Whether the point has no calls, and the offset is the main program's end.
     pub fn is_end(&self, point: &Point<'_>, offset: u32) -> bool
         ensures { result ≡ is_main_end (setting_of self.now) (frames_of point.now) offset }
     {

@@ -274,7 +274,7 @@ impl<T: Copy> SortedMap<T> {
         SortedMap::from_slice(alloc, self.entries.as_slice())
     }
 
-    /// Becomes a map of these entries, in the memory that it has where that is enough.
+    /// Becomes a map of these entries, in the memory that it has, where that is enough.
     ///
     /// # Errors
     /// If memory runs out; then the map's entries are unspecified.
@@ -290,7 +290,7 @@ impl<T: Copy> SortedMap<T> {
         self.entries.extend_from_slice(entries)
     }
 
-    /// Becomes a map with the same entries, in the memory that it has where that is enough.
+    /// Becomes a map with the other's entries, in the memory that it has, where that is enough.
     ///
     /// # Errors
     /// If memory runs out; then the map's entries are unspecified.

@@ -23,7 +23,7 @@ use std::marker::Model;
 /// How many cells a stack may have at most.
 const MOST_CELLS: usize = 0x7fff_ffff;
 
-/// At most this many codes are removed one by one: `truncate` clears what it removes by a call,
+/// Up to this many codes are removed one by one: `truncate` makes a call to clear what it removes,
 /// which isn't worth it for a few.
 const FEW: usize = 8;
 
@@ -31,8 +31,8 @@ const FEW: usize = 8;
 /// unknown or has a number from -32,767 to 32,767.
 #[derive(Drop)]
 pub struct Stack {
-    /// The lowest cells, kept as they are because one of them had no code when it was pushed;
-    /// usually none.
+    /// The lowest cells, kept as they are because a cell that had no code was pushed as one of
+    /// them; usually there are none.
     wide: Vec<Cell>,
     /// The codes of the cells above the wide ones.
     codes: Codes,
@@ -168,8 +168,8 @@ impl Stack {
         }
     }
 
-    /// Puts cells on top, one after the other, up to the first that has no code, and returns how
-    /// many they are.
+    /// Puts cells on top, one after the other, stopping before the first that has no code, and
+    /// returns how many it has put there.
     ///
     /// # Errors
     /// If memory runs out, or there would be more than 2^31 - 1 cells.
@@ -187,7 +187,8 @@ impl Stack {
     /// Puts cells on top, one after the other.
     ///
     /// # Errors
-    /// If memory runs out, or there would be more than 2^31 - 1 cells.
+    /// If memory runs out, or there would be more than 2^31 - 1 cells; then the stack's cells are
+    /// unspecified.
     pub fn push_cells(&mut self, cells: &[Cell]) -> Result<(), AllocError>
         ensures pushed { OnOk result (self.new ≡ cells_on cells.now self.old) }
         ensures in_range { OnOk result (StackInRange self.old → StackInRange self.new) }
@@ -205,7 +206,8 @@ impl Stack {
     /// Puts bytes on top, one after the other.
     ///
     /// # Errors
-    /// If memory runs out, or there would be more than 2^31 - 1 cells.
+    /// If memory runs out, or there would be more than 2^31 - 1 cells; then the stack's cells are
+    /// unspecified.
     pub fn push_bytes(&mut self, bytes: &[u8]) -> Result<(), AllocError>
         ensures { OnOk result (self.new ≡ cells_on (map Known (map pos bytes.now)) self.old) }
     {
@@ -217,7 +219,8 @@ impl Stack {
     /// Puts words of two bytes on top, one after the other.
     ///
     /// # Errors
-    /// If memory runs out, or there would be more than 2^31 - 1 cells.
+    /// If memory runs out, or there would be more than 2^31 - 1 cells; then the stack's cells are
+    /// unspecified.
     pub fn push_words(&mut self, bytes: &[u8]) -> Result<(), AllocError>
         ensures { OnOk result (self.new ≡ cells_on (map Known (words bytes.now)) self.old) }
     {
@@ -330,7 +333,7 @@ impl Stack {
         Ok(Stack { wide, codes })
     }
 
-    /// Becomes a stack of the same cells, in the memory that it has where that is enough.
+    /// Becomes a stack of the other's cells, in the memory that it has, where that is enough.
     ///
     /// # Errors
     /// If memory runs out; then the stack's cells are unspecified.
@@ -347,8 +350,8 @@ impl Stack {
         self.wide.extend_from_slice(other.wide.as_slice())
     }
 
-    /// Whether the same cells are wide in both stacks, and the codes are the same: this is found
-    /// fast, and usually so where the cells are the same.
+    /// Whether the same cells are wide in both stacks, and the codes are the same. This is found
+    /// fast, and is usually true where the cells are the same.
     fn has_same_parts(&self, other: &Stack) -> bool
         ensures { IsTrue result → self.now ≡ other.now }
     {
@@ -424,7 +427,8 @@ impl Stack {
         }
     }
 
-    /// Makes the cell at a position from the bottom the least one above it and another one.
+    /// Replaces the cell at a position from the bottom by its join with another cell: the least
+    /// cell above both.
     fn join_at(&mut self, place: usize, other: Cell)
         requires { place < length self.old }
         ensures depth { length self.new ≡ length self.old }

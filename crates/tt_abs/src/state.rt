@@ -76,7 +76,7 @@ impl State {
         })
     }
 
-    /// Becomes the same as another state, in the memory that it has where that is enough.
+    /// Becomes the same as another state, in the memory that it has, where that is enough.
     ///
     /// # Errors
     /// If memory runs out; then the state's content is unspecified.
@@ -279,7 +279,7 @@ impl State {
     }
 
     /// Makes exactly these functions known, in ascending order of their numbers, each with its
-    /// body, in the memory that it has where that is enough.
+    /// body, in the memory that the state has for functions, where that is enough.
     ///
     /// # Errors
     /// If memory runs out; then the functions that are known are unspecified.

@@ -21,11 +21,11 @@ pub struct Successors {
     pub state: State,
 }
 
-/// Computes what an abstract state becomes by the instruction that starts at the point in the body
-/// of its innermost call. It is refused exactly if some machine state that it covers faults there
-/// or comes to run a body twice, or if these come to more lists of calls than a program may have.
-/// Otherwise there is a way to each place to which one of them comes by the instruction, and the
-/// new state is the smallest that covers those there.
+/// Computes what an abstract state becomes by the instruction that starts at the point, in the
+/// point's body. The state is refused exactly if one of the machine states that it covers faults
+/// there or comes to have two open calls of one body, or if these come to more lists of calls than
+/// a program may have. Otherwise there is a way to each place to which one of them comes by the
+/// instruction, and the new state is the smallest that covers those there.
 ///
 /// # Errors
 /// `Refused` with the reason of the first test of the instruction that fails, read on cells;

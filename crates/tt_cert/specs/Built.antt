@@ -1,4 +1,4 @@
--- What a builder keeps of its fields.
+-- What always holds of a builder's fields.
 use Rattle.std.specs.Prelude.{◌≡◌, ℕ, ◌+◌, ◌≤◌, Some, List, slice_get}
 use Rattle.std.specs.declared.cmp.Ordering.{Ordering}
 use Rattle.std.specs.declared.cmp.Ordering.TheVariants.{Less}
@@ -26,7 +26,8 @@ key_cmp x y =
 abbrev pub key_of : ℕ × Frame → Key
 key_of e = (e.0, e.1.call, e.1.body, e.1.turn, e.1.count)
 
--- each parent comes before; the index has each entry's number and no more
+-- each parent comes before; the index has each entry's number and no more; the contexts and the
+-- states are a family
 pub record IsBuilt (entries : List (ℕ × Frame)) (index : BTreeMap Key ℕ)
     (states : List ((ℕ × ℕ) × State)) : Type 0 where
   pub parents : (i : ℕ) (e : ℕ × Frame) → slice_get entries i ≡ Some e → e.0 ≤ i

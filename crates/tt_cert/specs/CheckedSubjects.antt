@@ -9,7 +9,7 @@ use Rattle.tt_cert.specs.Fillings.{HasGoodFilling, HasSafeFilling}
 use Rattle.tt_cert.specs.GoodFamilies.{EndsWell, IsGoodFamily, IsShortEnough}
 use Rattle.tt_cert.specs.declared.fault.ProgramFault.{ProgramFault}
 
--- a glyph program is within maxSizeOfInstructions
+-- the program, if it is a glyph program, has at most maxSizeOfInstructions bytes
 abbrev pub IsShortFor : Subject → Type 0
 IsShortFor x = IsShortEnough (setting_of x) (setting_of x).kind
 

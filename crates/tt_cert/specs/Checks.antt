@@ -1,4 +1,4 @@
--- What a check asks of a family besides goodness, and what it names where the family isn't good.
+-- What a check asks of each state of a family, and what it names where the family isn't good.
 use Rattle.std.specs.Prelude.{◌≡◌, ◌⊎◌, ℕ, ◌<◌, ◌^◌, min, false, Ok, Option, Some, None, List, [], ◌∷◌, slice_get}
 use Rattle.tt_code.specs.Cut.{size}
 use Rattle.tt_code.specs.Settings.{Setting, is_main_end}
@@ -34,15 +34,15 @@ Nowhere q = ⊥
 abbrev pub IsMet : (Place → Option State) → Type 0 → Place → State → Type 0
 IsMet family MayBeLeftOut q t = CoversAt state_order family q t ⊎ ((family q ≡ None) × MayBeLeftOut)
 
--- the family has no state at the place, where none may be left out; or one that doesn't cover this
--- one
+-- why the family doesn't cover the state at the place: it has none there, where none may be left
+-- out; or it has one that doesn't cover this one
 abbrev pub IsGap : (Place → Option State) → Type 0 → Place → State → Reason → Type 0
 IsGap family MayBeLeftOut q t MissingPoint = (family q ≡ None) × (MayBeLeftOut → ⊥)
 IsGap family MayBeLeftOut q t NotCovered =
     (u : State) × (family q ≡ Some u) × (state_order.Below t u → ⊥)
 IsGap family MayBeLeftOut q t _ = ⊥
 
--- the fault names the place and the reason; out of memory is unspecified
+-- the fault names the place and such a reason, or it is out of memory, which names none
 abbrev pub NamesAt : Place → (Reason → Type 0) → ProgramFault → Type 0
 NamesAt p Is (Refused spot offset reason) =
     (spot ≡ spot_of p.0) × (offset ≡ saturated_offset p.1) × Is reason
@@ -52,7 +52,7 @@ NamesAt p Is (OutOfMemory e) = Unit {0}
 abbrev pub NamesGap : (Place → Option State) → Type 0 → Place → State → ProgramFault → Type 0
 NamesGap family MayBeLeftOut q t = NamesAt q (IsGap family MayBeLeftOut q t)
 
--- the fault names such a place, and the reason
+-- the fault names such a place and reason, or it is out of memory, which names none
 abbrev pub Names : (Place → Reason → Type 0) → ProgramFault → Type 0
 Names Is (Refused spot offset reason) =
     (p : Place) × (spot ≡ spot_of p.0) × (offset ≡ saturated_offset p.1) × Is p reason
@@ -119,7 +119,7 @@ pub data BreaksAt (s : Setting) (family : Place → Option State) (MayBeLeftOut 
   leaves : (q : Place) (r : Reason) → IsStoredWithin s a → LeavesGap s family MayBeLeftOut p a q r
       → BreaksAt s family MayBeLeftOut p a q r
 
--- the innermost call has one more turn
+-- the innermost call, if there is one, has one more turn
 abbrev pub HasNextTurn : List Frame → Type 0
 HasNextTurn frames = (f : Frame) (fs : List Frame) → frames ≡ f ∷ fs → f.turn < f.count
 
@@ -207,7 +207,7 @@ abbrev pub IsFillingBrokenFirst : Setting → List (ℕ × ℕ) → Contents →
 IsFillingBrokenFirst s functions contents =
     IsBrokenBy s functions contents (IsFirstBreakOnTheWay s (Precedes s) contents)
 
--- a growth of memory was refused
+-- the fault is out of memory: a growth of memory was refused, or the budget is exceeded
 abbrev pub IsOutOfMemory : ProgramFault → Type 0
 IsOutOfMemory (Refused spot offset reason) = ⊥
 IsOutOfMemory (OutOfMemory e) = Unit {0}

@@ -25,7 +25,8 @@ same_frames [] (b ∷ bs) = false
 same_frames (a ∷ as') [] = false
 same_frames (a ∷ as') (b ∷ bs) = same_frame a b && same_frames as' bs
 
--- the number of the first context with these frames, or how many there are
+-- the number of the first context with these frames, or how many contexts there are if none has
+-- them
 abbrev pub number_of : List (List Frame) → List Frame → ℕ
 number_of [] frames = 0
 number_of (x ∷ xs) frames = cond (same_frames x frames) 0 (1 + number_of xs frames)
@@ -63,8 +64,8 @@ points_of contents = length contents.states
 abbrev pub total : (State → ℕ) → Contents → ℕ
 total weight contents = sum_by weight (values_of contents.states)
 
--- the empty context is the first; no two have the same frames; each state's context is there and
--- its numbers are in range; sizes are kept
+-- the empty context is the first; no two have the same frames; each state's context is there, and
+-- each state is in range; there are at most 65,535 contexts and 4,294,967,295 states
 pub record IsFamily (contents : Contents) : Type 0 where
   pub main : slice_index_or contents.contexts 0 [] ≡ []
   pub some : 0 < length contents.contexts

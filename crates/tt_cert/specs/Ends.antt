@@ -21,7 +21,8 @@ AreDefinedAtEnd family length functions =
     → size s.main ≡ length → (left : List (ℕ × ℕ)) → Leaves s (StartsWith start) left
     → CoversFunctions functions left
 
--- the family has a state at the end of a program of this length, which knows these functions
+-- the family has a state at the end of a program of this length, and these are the functions that
+-- the state knows
 abbrev pub AreKnownAtEnd : (Place → Option State) → ℕ → List (ℕ × ℕ) → Type 0
 AreKnownAtEnd family length functions =
     (end : State) × (family ([], length) ≡ Some end) × (functions ≡ end.functions)

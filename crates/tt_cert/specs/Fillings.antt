@@ -44,11 +44,11 @@ HasOneGoodFilling =
     → IsFilling s family one → IsGoodFamily s functions one
     → IsFilling s family other → IsGoodFamily s functions other → (p : Place) → one p ≡ other p
 
--- the place is at this offset, if it is one, with these calls
+-- an offset is given, and the place is at it, with these calls
 abbrev pub IsAfter : List Frame → Option ℕ → Place → Type 0
 IsAfter fs after q = (q.0 ≡ fs) × (after ≡ Some q.1)
 
--- where an instruction ends, if only this one leads there as to the place just after it
+-- the offset of the place just after this one, or none if there is no such place
 abbrev pub IsJustAfter : Setting → Place → Option ℕ → Type 0
 IsJustAfter s p after = (q : Place) → IsAfter p.0 after q ↔ Precedes s p q
 

@@ -1,5 +1,5 @@
--- What a checked family is: good, its stored indexes in range, with its end, and of a program that
--- isn't too long.
+-- What a checked family is: good, with storage indexes below maxStorage, with a state at the
+-- program's end where one must be, with few contexts, and of a program that isn't too long.
 use Rattle.std.specs.Prelude.{◌≡◌, ℕ, ℤ, ◌<◌, ◌≤◌, Option, Some, List, [], length}
 use Rattle.tt_code.specs.Cut.{size}
 use Rattle.tt_code.specs.declared.machine.Frame.{Frame}
@@ -15,7 +15,7 @@ use Rattle.tt_cert.specs.Contents.{HasContext}
 abbrev pub IsStoredWithin : Setting → State → Type 0
 IsStoredWithin s a = (i : ℕ) (z : ℤ) → listed a.storage i ≡ Some z → i < s.limits.storage
 
--- the storage indexes of each state of the family are
+-- each storage index that a state of the family lists is below maxStorage
 abbrev pub AreStoredWithin : Setting → (Place → Option State) → Type 0
 AreStoredWithin s family = (p : Place) (a : State) → family p ≡ Some a → IsStoredWithin s a
 
@@ -23,7 +23,7 @@ AreStoredWithin s family = (p : Place) (a : State) → family p ≡ Some a → I
 abbrev pub HasEnd : Setting → (Place → Option State) → Type 0
 HasEnd s family = (end : State) × (family ([], size s.main) ≡ Some end)
 
--- what is asked of the end: the font program and the CVT program come to theirs
+-- what is asked of the end: for a font program or a CVT program the family has a state there
 abbrev pub EndsWell : Setting → Kind → (Place → Option State) → Type 0
 EndsWell s FontProgram family = HasEnd s family
 EndsWell s CvtProgram family = HasEnd s family

@@ -14,7 +14,7 @@ is_change New = true
 is_change Changed = true
 is_change Same = false
 
--- it is new exactly where there was none
+-- the answer is `New` exactly where there was no state
 abbrev pub TellsNew : Joined → Option State → Type 0
 TellsNew joined old = (joined ≡ New) ↔ (old ≡ None)
 

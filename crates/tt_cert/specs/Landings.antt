@@ -19,12 +19,12 @@ abbrev pub place_from : List (List Frame) → ℕ → Move → Place
 place_from contexts context way =
     (frames_after (frames_at contexts context) way, offset_after (frames_at contexts context) way)
 
--- the innermost call's next turn is a number of 32 bits, if its count is one
+-- if the innermost call's count is a number of 32 bits, so is the number of its next turn
 abbrev pub IsTurnCountable : List Frame → Type 0
 IsTurnCountable frames =
     (f : Frame) (fs : List Frame) → frames ≡ f ∷ fs → f.count < 2 ^ 32 → f.turn + 1 < 2 ^ 32
 
--- the innermost call is at the greatest offset of 32 bits
+-- there is a call, and the innermost one is at the greatest offset of 32 bits or above it
 abbrev pub IsCalledLast : List Frame → Type 0
 IsCalledLast frames = (f : Frame) × (fs : List Frame) × (frames ≡ f ∷ fs) × (2 ^ 32 ≤ f.call + 1)
 

@@ -1,4 +1,4 @@
--- The number of a context, as its place.
+-- The number of a context: its index in the list of contexts.
 use Rattle.std.specs.Prelude.{◌≡◌, ◌==◌, ◌&&◌, ℕ, ◌+◌, ◌≤◌, ◌<◌, true, false, cond, List, [], ◌∷◌, ◌++◌, length, slice_index_or, zero, suc}
 use Rattle.std.specs.Bool.{Decides}
 use Rattle.std.proofs.Common.{refl, sym, ◌∙◌, ap, arith, inl, inr}
@@ -38,7 +38,7 @@ number_of-le (x ∷ xs) frames = elim (same_frames x frames) as (λ b. cond b 0 
   | false ↦ let ih = number_of-le xs frames in omega arith
 ]
 
--- the frames at the number
+-- if some context has these frames, the one of their number does
 pub at-number_of : (xs : List (List Frame)) (frames : List Frame) → number_of xs frames < length xs
     → slice_index_or xs (number_of xs frames) [] ≡ frames
 at-number_of [] frames lt = absurd (omega arith)

@@ -1,4 +1,4 @@
--- What putting a state does to the contents, as a family sees it, and to sums over all states.
+-- What putting a state does to the contents, read as a family, and to sums over all states.
 use Rattle.std.specs.Prelude.{◌≡◌, ℕ, ◌+◌, ◌<◌, Bool, Option, Some, None, List, length}
 use Rattle.std.proofs.Common.{refl, sym, ◌∙◌, ap, subst, arith}
 use Rattle.std.specs.List.{sum_by}
@@ -10,12 +10,13 @@ use Rattle.tt_abs.specs.declared.state.State.{State}
 use Rattle.tt_cert.specs.Contents.{Contents, IsFamily, family_of, frames_at, number_of, total}
 use Rattle.tt_cert.specs.Numbers.{at-number_of, number_of-is}
 
--- the weight of a state, if there is one
+-- the weight of a state, and 0 where there is none
 abbrev pub weigh : (State → ℕ) → Option State → ℕ
 weigh w None = 0
 weigh w (Some s) = w s
 
--- whatever states weigh, all together weigh more by what the state at the place adds
+-- whatever states weigh, the sum of all weights changes by as much as the weight of the state at
+-- the place does
 abbrev pub ReweighsStates : List ((ℕ × ℕ) × State) → List ((ℕ × ℕ) × State) → ℕ × ℕ → Type 0
 ReweighsStates old new place =
     (w : State → ℕ) → sum_by w (values_of new) + weigh w (states_of old place)
@@ -35,7 +36,7 @@ place_of contents context offset = (frames_at contents.contexts context, offset)
 abbrev pub family_state : Contents → ℕ → ℕ → Option State
 family_state contents context offset = family_of contents (place_of contents context offset)
 
--- of a family, a context's frames have its number
+-- in a family, the number of a context's frames is the context's own
 pub number_at : (v : Contents) (c : ℕ) → IsFamily v → c < length v.contexts
     → number_of v.contexts (frames_at v.contexts c) ≡ c
 number_at v c family lt = number_of-is v.contexts (frames_at v.contexts c) c family.distinct lt refl
@@ -73,7 +74,7 @@ PutsAt-family o old new c off t changed family same lt put =
         let frames : p.0 ≡ frames_at old.contexts c = sym at ∙ ap (frames_at old.contexts) first in
         λ i. (frames i, second i)
 
--- all states together weigh more by what the family's state at that point adds
+-- the sum of all weights changes by as much as the weight of the family's state at that point does
 pub Reweighs-family : (old new : Contents) (c off : ℕ) → IsFamily old → new.contexts ≡ old.contexts
     → c < length old.contexts
     → ReweighsStates old.states new.states (c, off) → Reweighs old new (place_of old c off)

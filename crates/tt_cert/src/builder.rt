@@ -92,7 +92,7 @@ fn ascends(entries: &[(u32, Frame)]) -> bool
     true
 }
 
-/// Appends the numbers of a context's children to the others, in the order of their frames.
+/// Appends the numbers of a context's children to `order`, in the order of the children's frames.
 ///
 /// # Errors
 /// If memory runs out.
@@ -285,7 +285,7 @@ impl Builder {
     }
 
     /// Returns the functions that are known at the end of a program of this length, where no call
-    /// is open: by ascending numbers, each with its body. None if the end has no state. Where the
+    /// is open: by ascending numbers, each with its body. `None` if the end has no state. Where the
     /// family is good for the program, each run of it that reaches its end has these functions
     /// there, with these bodies.
     pub fn end_functions(&self, length: u32) -> Option<&[(u16, u32)]>
@@ -302,8 +302,8 @@ impl Builder {
         }
     }
 
-    /// Puts a state at a point, by a join where there is one and by a copy otherwise, and returns
-    /// what that makes of the state there.
+    /// Puts a state at a point, by a join where the point has a state already and by a copy
+    /// otherwise, and returns what that makes of the state there.
     ///
     /// # Errors
     /// `DepthMismatch` exactly if a state of another depth is there; `OutOfMemory`. Then the
@@ -332,7 +332,7 @@ impl Builder {
     }
 
     /// Removes all states and all contexts except for the empty one, and keeps their memory, except
-    /// for that of the maps by key.
+    /// for that of the maps by key and of the lists of offsets after the first ones.
     pub fn clear(&mut self)
         ensures contexts { self.new.contexts ≡ [] ∷ [] }
         ensures states { self.new.states ≡ [] }

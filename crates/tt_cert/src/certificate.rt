@@ -54,7 +54,8 @@ impl Certificate {
         &self.builder
     }
 
-    /// States that the contexts are in order, as they always are.
+    /// States that the contexts and the states are a family, and that the contexts are in order, as
+    /// they always are.
     pub fn order_facts(&self)
         ensures { IsFinished self.now }
     {
@@ -159,7 +160,7 @@ impl Certificate {
     }
 
     /// Returns the functions that are known at the end of a program of this length, where no call
-    /// is open: by ascending numbers, each with its body. None if the end has no state. Where the
+    /// is open: by ascending numbers, each with its body. `None` if the end has no state. Where the
     /// family is good for the program, each run of it that reaches its end has these functions
     /// there, with these bodies.
     pub fn end_functions(&self, length: u32) -> Option<&[(u16, u32)]>

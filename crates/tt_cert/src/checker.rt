@@ -36,7 +36,7 @@ fn are_stored_within(stored: &[(u16, i32)], limit: u16) -> bool
     stored.iter().all(|cell| cell.0 < limit)
 }
 
-/// Whether a glyph program is within maxSizeOfInstructions.
+/// Whether the program, if it is a glyph program, has at most maxSizeOfInstructions bytes.
 pub fn is_short(setting: &Setting<'_>) -> bool
     ensures { IsTrue result ↔ IsShortFor setting.now }
 {
@@ -159,8 +159,7 @@ fn check_point(
 }
 
 /// Checks that all points are sound, including those that are left out, by ascending contexts, and
-/// by ascending offsets within one. The walk comes to the first of the listed ones, and these are
-/// the others.
+/// by ascending offsets within one. `states` are the listed states after the walk's next one.
 fn check_points<'a>(
     setting: &Setting<'_>,
     listing: Listing,
@@ -237,7 +236,8 @@ fn check_listed(
 /// state at its end; then, by ascending contexts and by ascending offsets within one, a state that
 /// lists a storage index that isn't below maxStorage, that is refused at its place, or whose
 /// successor isn't covered, the smaller offset first. The contexts may hold any frames: after a
-/// call at offset 4,294,967,295 there is no state, and the place there is named with that offset.
+/// call at offset 4,294,967,295 there is no state, and the place after it is named with that
+/// offset.
 ///
 /// # Errors
 /// `Refused` with what is broken first; `OutOfMemory`.
@@ -281,10 +281,10 @@ pub fn check_full_within(
 }
 
 /// Checks that the family, filled up with the states that it leaves out, is good for the program of
-/// this setting, which is all that a certificate has to be. A state may be left out where only the
-/// state at the point just before leads, except for the main program's end: there it is what that
-/// one gives. The order is that of `check_full`, and what is added is checked as if it were listed,
-/// but kept only until what it gives is known.
+/// this setting, which is all that a certificate has to be. The state at a point, other than the
+/// main program's end, may be left out where only the state at the point just before leads there:
+/// it is then what that one gives. The order is that of `check_full`, and what is added is checked
+/// as if it were listed, but kept only until what it gives is known.
 ///
 /// # Errors
 /// `Refused` with what is broken first; `OutOfMemory`.

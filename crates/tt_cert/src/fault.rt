@@ -31,8 +31,8 @@ pub enum JoinFault {
 /// the check, since its certificate's family isn't; or memory ran out, or the budget is exceeded.
 #[derive(Debug, Drop, Error)]
 pub enum ProgramFault {
-    /// What is broken first, and where: in which program, and at which offset there. For a greater
-    /// offset than 4,294,967,295 that number is given.
+    /// What is broken first, and where: in which program, and at which offset there. An offset
+    /// above 4,294,967,295 is given as that number.
     #[error("{reason}")]
     Refused {
         spot: Spot,

@@ -149,8 +149,8 @@ impl Builder {
     }
 
     /// Returns the certificate of this family as `finish` does; where the family has to be made
-    /// anew, that is in the memory of an empty builder. Returns an empty builder with the memory
-    /// that isn't needed.
+    /// anew, it is made in the memory of an empty builder. Also returns an empty builder with the
+    /// memory that isn't needed.
     ///
     /// # Errors
     /// If memory runs out: then this builder comes back as it was.

@@ -1,4 +1,5 @@
-//! Families of abstract states by context and offset: their builder, and the finished certificate.
+//! Families of abstract states by context and offset: their builder, the finished certificate, and
+//! the check of it.
 #![tactic(auto)]
 
 pub mod budget;

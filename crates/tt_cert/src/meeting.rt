@@ -56,8 +56,8 @@ pub(crate) fn fault_in(
     }
 }
 
-/// Returns how a state is covered at an offset of a context; whether it may be left out there, the
-/// caller says. Nothing is looked up where the next listed state is at this place and the same, or
+/// Returns how a state is covered at an offset of a context; the caller says whether it may be left
+/// out there. Nothing is looked up where the next listed state is at this place and is the same, or
 /// where the state may be left out and the next listed state comes after the place.
 ///
 /// # Errors
@@ -136,8 +136,8 @@ fn check_offset(
 /// context. `after` is the offset at which it may be left out, if there is one.
 ///
 /// # Errors
-/// As `check_covered`, and `MissingPoint` where the certificate lacks the context to which the move
-/// leads.
+/// As `check_covered`, and `MissingPoint` where the certificate can't have a state at the place to
+/// which the move leads.
 fn check_successor(
     certificate: &Certificate,
     walk: &Cursor<'_>,

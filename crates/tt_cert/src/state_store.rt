@@ -111,8 +111,8 @@ impl StateStore {
         }
     }
 
-    /// Puts a state at a point, by a join where there is one, and returns what that makes of the
-    /// state there.
+    /// Puts a state at a point, by a join where the point has a state already, and returns what
+    /// that makes of the state there.
     ///
     /// # Errors
     /// `DepthMismatch` exactly if a state of another depth is there; `OutOfMemory`. Then the states

@@ -17,7 +17,8 @@ use Rattle.tt_cert_file.specs.Text.{section_text}
 abbrev pub input_at : ℕ → Option (List ℕ) → Input
 input_at place known = record { place = place; bytes = unwrap_or known [] }
 
--- the fault is what reading refuses; a failed read and out of memory are unspecified
+-- a fault of form names the place that reading refuses; a failed read and out of memory are
+-- unspecified
 abbrev pub Fails : {Y : Type 0} → DecodeFault → Result Y ℕ → Type 0
 Fails (fault.Form place) read = read ≡ Err place
 Fails fault.Read read = Unit {0}
@@ -52,7 +53,7 @@ pub record IsCutShort {Y : Type 0} (place : ℕ) (old new : Option (List ℕ))
   pub consumed : Consumes old new front
   pub refused : read (input_at place (Some front)) ≡ Err (place_after place (length front))
 
--- Where the source tells its bytes, no unit that was read whole breaks a rule before a read failed.
+-- Where a read failed, and the source tells its bytes, no unit that was read whole breaks a rule.
 abbrev pub StopsAtEnd : {Y : Type 0} → ℕ → Option (List ℕ) → Option (List ℕ)
     → (Input → Answer Y) → DecodeFault → Type 0
 StopsAtEnd place old new read fault.Read = is_some old ≡ true → IsCutShort place old new read
@@ -80,7 +81,7 @@ IsMore left = IfSome left (λ bytes. 0 < length bytes)
 abbrev pub AreBytes : List ℕ → Type 0
 AreBytes bytes = (i : ℕ) → get_or bytes i 0 < 256
 
--- a section was read: its text begins the input, and was taken and no more
+-- a section that fits was read: its text begins the input, and exactly that text was taken
 pub record ReadsSection (form : Form) (input : List ℕ) (start : ℕ) (section : Section)
     (new : Option (List ℕ)) (after : ℕ) : Type 0 where
   pub rest : List ℕ

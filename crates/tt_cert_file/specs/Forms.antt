@@ -10,7 +10,7 @@ form_number Two = 2
 form_number Three = 3
 form_number Four = 4
 
--- the form with a number
+-- the form with this number, if there is one
 abbrev pub form_of : ℕ → Option Form
 form_of n = if n == 1 then Some One
     else if n == 2 then Some Two

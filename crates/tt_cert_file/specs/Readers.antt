@@ -25,7 +25,7 @@ abbrev pub unit : ℕ → Input → Answer (List ℕ)
 unit n i = if nat_lt (length i.bytes) n then Err (place_after i.place (length i.bytes))
     else Ok (take n i.bytes, record { place = place_after i.place n; bytes = drop n i.bytes })
 
--- the value that a unit at this place stands for, if it stands for one
+-- the value that a unit at this place stands for; if it stands for none, the place is refused
 abbrev pub given : {A : Type 0} → ℕ → Option A → Input → Answer A
 given place None rest = Err place
 given place (Some x) rest = Ok (x, rest)
@@ -44,13 +44,13 @@ made_of make read i = do
   x ← read i
   Ok (make x.0, x.1)
 
--- a value that keeps a rule
+-- a value that keeps a rule; one that breaks it is refused at its first byte
 abbrev pub ruled : {A : Type 0} → (A → Bool) → (Input → Answer A) → Input → Answer A
 ruled rule read i = do
   x ← read i
   if rule x.0 then Ok x else Err i.place
 
--- this many values, each by those before it
+-- the values before, and this many more, each of which is read given those before it
 unfoldable pub list_at : {A : Type 0} → (List A → Input → Answer A) → List A → ℕ → Input
     → Answer (List A)
 list_at one before zero i = Ok (before, i)

@@ -1,6 +1,7 @@
--- Reading a section, unit by unit: the units are a name, a number of contexts, a context, a number
--- of states, a state's context with its offset, a depth, a cell's tag, a cell's number, a zone, a
--- number of functions, a function, a number of storage cells, and a storage cell.
+-- Reading a section or a header, unit by unit. The units of a section are a name, a number of
+-- contexts, a context, a number of states, a state's context with its offset, a depth, a cell's
+-- tag, a cell's number, a zone, a number of functions, a function, a number of storage cells, and a
+-- storage cell; those of a header are the magic, the form, and the number of sections.
 use Rattle.std.specs.Prelude.{◌==◌, ℕ, ℤ, ◌+◌, ◌&&◌, nat_le, Bool, List, [], length, reverse, take, drop, slice_index, Option, Some, None, Ok, Err, if◌then◌else◌}
 use Rattle.std.specs.Int.{w16, w32, from_be_bytes, cast_signed}
 use Rattle.tt_abs.specs.Cells.{Cells}
@@ -90,7 +91,7 @@ numbers_at = and_then word_at (λ _. and_then long_at (λ _. and_then long_at
 unfoldable pub context_at : List Context → Input → Answer Context
 context_at before = ruled (may_follow before) (made_of context_from numbers_at)
 
--- the contexts of a section, after how many they are
+-- how many contexts a section has, and then each of them
 abbrev pub context_count_at : Form → Input → Answer ℕ
 context_count_at form = ruled (λ n. nat_le n (most_contexts form)) word_at
 
@@ -99,7 +100,8 @@ contexts_at form i = do
   n ← context_count_at form i
   list_at context_at [] n.0 n.1
 
--- a state's point, its context and its offset, which comes after the last state's
+-- a state's point: its context, which is one of this many, and its offset; the point comes after
+-- the last state's
 unfoldable pub point_at : ℕ → Option (ℕ × ℕ) → Input → Answer (ℕ × ℕ)
 point_at contexts last = ruled (is_next_point contexts last) pair_at
 
@@ -129,7 +131,7 @@ registers_at = and_then cell_at (λ _. and_then cell_at (λ _. and_then cell_at
 unfoldable pub graphics_at : Input → Answer Cells
 graphics_at = made_of graphics_from registers_at
 
--- a function after those before it, and a storage cell
+-- a function, and a storage cell, each after those before it
 unfoldable pub function_at : List (ℕ × ℕ) → Input → Answer (ℕ × ℕ)
 function_at before = ruled (is_above (last_of before)) pair_at
 
@@ -168,8 +170,8 @@ parts_at form = and_then stack_at (λ _. and_then graphics_at
 unfoldable pub state_at : Form → Input → Answer State
 state_at form = made_of state_from (parts_at form)
 
--- a state with its point, which is in one of this many contexts, and comes after the last state's;
--- and the same after the states before it
+-- a state with its point, which is in one of this many contexts, and comes after the last state's
+-- point; and the same where the states before it are given in place of that point
 abbrev pub entry_after : Form → ℕ → Option (ℕ × ℕ) → Input → Answer Entry
 entry_after form contexts last = and_then (point_at contexts last) (λ _. state_at form)
 

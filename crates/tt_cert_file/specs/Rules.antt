@@ -26,7 +26,7 @@ use Rattle.tt_cert_file.specs.Text.{counted, pair_text}
 abbrev pub last_of : {A : Type 0} → List A → Option A
 last_of xs = slice_get xs (length xs - 1)
 
--- each value may come after those before it
+-- each value of the list may come after those before it, as `P` says; `before` precedes the list
 abbrev pub EachAfter : {A : Type 0} → (List A → A → Type 0) → List A → List A → Type 0
 EachAfter P before [] = Unit {0}
 EachAfter P before (x ∷ xs) = P before x × EachAfter P (before ++ x ∷ []) xs
@@ -37,11 +37,11 @@ NameFits name.Font = Unit {0}
 NameFits name.Cvt = Unit {0}
 NameFits (name.Glyph id) = id < 2 ^ 16
 
--- the turns of a call are from 1 to its count, and there are fewer than 2^31
+-- the call's turn is from 1 to its count, which is less than 2^31
 abbrev pub is_turn : Frame → Bool
 is_turn f = nat_le 1 f.turn && (nat_le f.turn f.count && nat_lt f.count (2 ^ 31))
 
--- a context comes after another by parent, call, body, turn and count
+-- a context comes after the one before, if there is one, by parent, call, body, turn and count
 abbrev pub is_above_context : Option Context → Context → Bool
 is_above_context before c = option_map_or (λ d. is_lt (key_cmp (key_of d) (key_of c))) before true
 
@@ -50,12 +50,13 @@ abbrev pub is_new_body : List Frame → ℕ → Bool
 is_new_body frames body = not (list_any (λ f. f.body == body) frames)
 
 -- A context may come after those before it: its parent is one of them, or the main one; it is above
--- the last; its turn is one; and its body runs in no call of its parent.
+-- the last of them; its last call is in one of its turns; and the body of that call runs in no call
+-- of its parent.
 abbrev pub may_follow : List Context → Context → Bool
 may_follow before c = nat_le c.0 (length before) && (is_above_context (last_of before) c
     && (is_turn c.1 && is_new_body (frames_at (frames_of before) c.0) c.1.body))
 
--- its numbers fit, and it may come next
+-- a context's numbers fit their fields, and it may come after those before it
 pub record ContextFits (before : List Context) (c : Context) : Type 0 where
   pub parent : c.0 < 2 ^ 16
   pub call : c.1.call < 2 ^ 32
@@ -95,12 +96,12 @@ pub record StoredFits (before : List (ℕ × ℤ)) (e : ℕ × ℤ) : Type 0 whe
   pub number : FitsSigned w32 e.1
   pub ascends : is_above (last_of before) e ≡ true
 
--- a list of so few values that 16 bits count them, each after those before it
+-- a list of so few values that 16 bits count them, each of which may come after those before it
 pub record ListFits {A : Type 0} (P : List A → A → Type 0) (xs : List A) : Type 0 where
   pub few : length xs < 2 ^ 16
   pub each : EachAfter P [] xs
 
--- the first two forms list no storage cell
+-- the storage cells fit the form: the first two forms list none
 abbrev pub StorageFits : Form → List (ℕ × ℤ) → Type 0
 StorageFits One cells = cells ≡ []
 StorageFits Two cells = cells ≡ []
@@ -131,7 +132,7 @@ pub record EntryFits (form : Form) (contexts : ℕ) (before : List Entry) (e : E
   pub point : PointFits contexts (last_point before) e.0
   pub state : StateFits form e.1
 
--- what has a text in this form
+-- a section keeps the rules of this form, and its numbers fit their fields
 pub record Fits (form : Form) (s : Section) : Type 0 where
   pub name : NameFits s.name
   pub few_contexts : length s.contexts ≤ most_contexts form
@@ -139,22 +140,23 @@ pub record Fits (form : Form) (s : Section) : Type 0 where
   pub few_states : length s.states < 2 ^ 32
   pub states : EachAfter (EntryFits form (length s.contexts + 1)) [] s.states
 
--- the calls of each context of a family are in their turns, and no body runs twice in them
+-- in each context of a family each call is in one of its turns, and no body runs twice
 abbrev pub AreCallsInTurn : List (List Frame) → Type 0
 AreCallsInTurn contexts = (number : ℕ) → number < length contexts
     → FramesFit (frames_at contexts number)
 
--- the numbers of the last call have their bits (Representation: no public clause cites it.)
+-- the last call's offset and body have 32 bits (Representation: no public clause cites it.)
 abbrev pub CallFits : Context → Type 0
 CallFits c = (c.1.call < 2 ^ 32) × (c.1.body < 2 ^ 32)
 
--- the text of functions after their number, which fit (Representation: no public clause cites it.)
+-- the text says how many functions there are, and then each of them, and their numbers fit their
+-- fields (Representation: no public clause cites it.)
 pub record IsTextOf (text : List ℕ) (functions : List (ℕ × ℕ)) : Type 0 where
   pub text_is : text ≡ counted pair_text functions
   pub few : length functions < 2 ^ 16
   pub numbers : AllByRecursion (λ e. (e.0 < 2 ^ 16) × (e.1 < 2 ^ 32)) functions
 
--- a state in one of this many contexts, at an offset of 32 bits, whose lists fit
+-- a state that fits form 4, in one of this many contexts, at an offset of 32 bits
 -- (Representation: no public clause cites it.)
 abbrev pub HasRoom : ℕ → Entry → Type 0
 HasRoom contexts e = (e.0.0 < contexts) × (e.0.1 < 2 ^ 32) × StateFits Four e.1

@@ -6,8 +6,8 @@ use Rattle.tt_abs.specs.declared.state.State.{State}
 use Rattle.tt_cert.specs.Contents.{Contents, number_of}
 use Rattle.tt_cert_file.specs.declared.name.Name.{Name}
 
--- a context other than the main one: the number of its parent, the list of calls without the last
--- one, and the last call
+-- A context other than the main one: the number of its parent, and its last call, the innermost.
+-- The parent has its other calls.
 abbrev pub Context : Type 0
 Context = ℕ × Frame
 
@@ -25,7 +25,8 @@ pub record Section : Type 0 where
 abbrev pub no_frame : Frame
 no_frame = record { body = 0; call = 0; turn = 0; count = 0 }
 
--- a context by its calls, the innermost first, among the contexts of a family
+-- the context with these calls, the innermost first, and with its parent's number among the
+-- contexts of a family
 abbrev pub context_of : List (List Frame) → List Frame → Context
 context_of contexts [] = (0, no_frame)
 context_of contexts (f ∷ fs) = (number_of contexts fs, f)

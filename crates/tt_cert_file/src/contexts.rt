@@ -25,7 +25,7 @@ use tt_stream::Source;
 /// How many turns a call has at most.
 const MOST_TURNS: u32 = 0x7fff_ffff;
 
-/// Whether the turn is one of the call's.
+/// Whether the call's turn is from 1 to its count, and the count at most 2^31 - 1.
 fn is_turn(frame: &Frame) -> bool
     ensures { result ≡ is_turn_of frame.now }
 {

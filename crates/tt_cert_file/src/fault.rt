@@ -4,11 +4,11 @@ use std::alloc::{AllocError, AllocFailed};
 use thiserror::Error;
 use tt_stream::{ReadFailed, WriteFailed};
 
-/// Why a header or a section wasn't read.
+/// Why a header or a section wasn't read, or a file doesn't end where it should.
 #[derive(Debug, Drop, Error)]
 pub enum DecodeFault {
-    /// The bytes aren't a header or a section: the place of the first byte of what breaks a rule,
-    /// or of the input's end where that comes too early.
+    /// The bytes aren't a header or a section, or follow the last section: the place of the first
+    /// byte of what breaks a rule, or of the input's end where that comes too early.
     #[error("certificate form at byte {0}")]
     Form(u64),
     /// A read failed.

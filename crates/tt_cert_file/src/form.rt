@@ -18,7 +18,7 @@ pub enum Form {
 }
 
 impl Form {
-    /// Returns the form with this number.
+    /// Returns the form with this number, if there is one.
     pub(crate) fn with_number(number: u16) -> Option<Form>
         ensures { result ≡ form_of number }
     {

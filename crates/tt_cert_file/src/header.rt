@@ -99,7 +99,8 @@ pub fn read_header<S: Source>(source: &mut S) -> Result<(Form, u32), DecodeFault
     Ok(header)
 }
 
-/// Checks that nothing follows at a place: the end of a certificate file.
+/// Checks that nothing is left to read, as at the end of a certificate file; `place` is the place
+/// of this end.
 ///
 /// # Errors
 /// `Form` with the place of the first byte that follows; `Read` exactly where a read failed, and

@@ -1,4 +1,4 @@
-//! Lists of a section, each read after the number of its values.
+//! Lists of a section's states: cells of stacks, functions and storage cells.
 
 ghost use Rattle.std.specs.Prelude.{◌≡◌, ◌-◌, ◌*◌, ◌<◌, ◌≤◌, [], false, true, length, take, IfErr, IfOk, OnErr, OnOk};
 ghost use Rattle.std.specs.Io.KnownBytes.{Keeps};
@@ -26,7 +26,8 @@ const FUNCTION: usize = 6;
 /// and they are most of a certificate's bytes.
 const BLOCK: usize = 64;
 
-/// Reads some more of the wanted bytes into the buffer, which already holds this many, in one call.
+/// Reads some more of the wanted bytes into the buffer in one call, after the `held` bytes that it
+/// already holds, and returns how many were read.
 fn read_more<S: Source>(
     source: &mut S,
     buf: &mut [u8],
@@ -44,8 +45,8 @@ fn read_more<S: Source>(
     source.read(&mut buf[held..wanted])
 }
 
-/// Reads until the buffer is full, of which this many bytes are already held, and returns how many
-/// were read.
+/// Reads until the buffer, which already holds `held` bytes, is full, or the input ends, and
+/// returns how many bytes were read.
 fn read_rest<S: Source>(source: &mut S, buf: &mut [u8], held: usize) -> Result<usize, ReadFailed>
     requires { held ≤ length buf.old }
     ensures rest { IfOk result (λ n. FillsRest (S.remaining source.old) (S.remaining source.new)
@@ -123,8 +124,8 @@ fn take_some_cells(
     Ok(bytes.len() - left.len())
 }
 
-/// Takes cells that are read ahead, of this many in all, after those before them, and returns the
-/// place after them.
+/// Takes cells that are read ahead, after those before them, as far as they are whole, and until
+/// there are `count` in all. Returns the place after them.
 fn take_ahead_cells<S: Source>(
     source: &mut S,
     place: u64,
@@ -143,8 +144,8 @@ fn take_ahead_cells<S: Source>(
     Ok(place.saturating_add(used as u64))
 }
 
-/// Reads the rest of a known cell, these bytes of whose number were read, and returns the place
-/// after it.
+/// Reads the rest of a known cell, of which the tag and the first bytes of the number, `begun`,
+/// were read already, and returns the place after it.
 fn read_rest_of_cell<S: Source>(
     source: &mut S,
     place: u64,
@@ -191,10 +192,10 @@ fn read_one_cell<S: Source>(
     Ok(after)
 }
 
-/// Reads some cells at once, of this many in all, after those before them, and returns the place
-/// after them. Each cell has at least one byte: so as many bytes are read as cells are left, and
-/// then those of the last one that are missing. The source isn't called again once a tag is read
-/// that breaks a rule.
+/// Reads some cells at once, after those before them, so that there are at most `count` in all, and
+/// returns the place after them. Each cell has at least one byte: so as many bytes are read as
+/// cells are missing, at most `BLOCK`, and then the rest of the last cell. The source isn't called
+/// again once a tag is read that breaks a rule.
 fn fetch_cell_block<S: Source>(
     source: &mut S,
     place: u64,
@@ -230,9 +231,9 @@ fn fetch_cell_block<S: Source>(
     read_rest_of_cell(source, after, &bytes[taken + 1..filled], cells)
 }
 
-/// Reads some cells, of this many in all, after those before them, and returns the place after
-/// them: where bytes are read ahead, one and those that are read ahead after it, and otherwise some
-/// at once.
+/// Reads some cells, after those before them, so that there are at most `count` in all, and returns
+/// the place after them: where bytes are read ahead, one cell and those that are read ahead after
+/// it, and otherwise some at once.
 fn read_cell_block<S: Source>(
     source: &mut S,
     place: u64,
@@ -426,7 +427,7 @@ fn read_function_list<S: Source>(
 pub(crate) struct Functions {
     pub(crate) list: Vec<(u16, u32)>,
     pub(crate) text: Vec<u8>,
-    /// Whether they were found to be the same as those before them.
+    /// Whether they were found to be the same as those of the state before.
     pub(crate) is_same: bool,
 }
 
@@ -444,7 +445,7 @@ impl Functions {
     }
 }
 
-/// Whether this text, of this many bytes, is what is read ahead next.
+/// Whether this text has `width` bytes, at least one, and is what is read ahead next.
 fn is_ahead<S: Source>(source: &S, text: &[u8], width: usize) -> bool
     ensures some { result ≡ true → 0 < width }
     ensures long { result ≡ true → length text.now ≡ width }
@@ -496,8 +497,8 @@ fn take_listed<S: Source>(
     Ok((functions, place.saturating_add(width as u64)))
 }
 
-/// Reads this many functions, which are mostly the same as the others, and otherwise in their
-/// memory.
+/// Reads this many functions. Mostly they are the same as the others, which are then returned;
+/// otherwise they are read in the memory of the others.
 fn read_listed<S: Source>(
     source: &mut S,
     place: u64,
@@ -538,8 +539,8 @@ fn read_listed<S: Source>(
     Ok((functions, after))
 }
 
-/// Reads the functions that are known, with their bodies, which are mostly the same as the others,
-/// and otherwise in their memory.
+/// Reads the functions that are known, with their bodies. Mostly they are the same as the others,
+/// which are then returned; otherwise they are read in the memory of the others.
 #[tactic(auto, unfolding(crate::specs::Reading::functions_at))]
 pub(crate) fn read_functions<S: Source>(
     source: &mut S,

@@ -52,8 +52,9 @@ fn read_section<S: Source>(
     Ok(((name, Certificate::of(builder), last), at))
 }
 
-/// A reader of sections, one after the other: each is read in the memory of those before it, and is
-/// compared to the last one, which it mostly resembles. What is read doesn't depend on them.
+/// A reader of sections, one after the other: each is read in the memory of those before it, and
+/// each state is compared to the state before, which it mostly resembles. What is read doesn't
+/// depend on them.
 #[derive(Drop)]
 pub struct Decoder {
     /// The state that was read last.

@@ -1,5 +1,5 @@
 //! Stacks, each read after another one. Mostly the lowest cells are those of the one before: they
-//! are known by their text, and stay in the state.
+//! are recognized by their text, and stay in the state.
 
 ghost use Rattle.std.specs.Prelude.{◌≡◌, ◌≤◌, ◌++◌, List, [], true, length, reverse, Ok, IfOk, OnOk};
 ghost use Rattle.std.specs.Io.{StartsWith};
@@ -20,16 +20,16 @@ use std::alloc::{AllocError, Global};
 use tt_abs::{Cell, State};
 use tt_stream::Source;
 
-/// How many cells fewer the second guess has. Each further guess has twice as many fewer than the
-/// one before.
+/// How many cells fewer the second guess has than the first. From each guess to the next the
+/// difference doubles.
 const FEWER: usize = 8;
 
 /// The stack that was read last.
 #[derive(Drop)]
 pub(crate) struct LastStack {
     pub(crate) text: StackText,
-    /// The cells that were read, in whose memory the next ones are read: those that aren't the ones
-    /// of the stack before.
+    /// The cells that were read because they aren't those of the stack before. The next ones are
+    /// read in their memory.
     read: Vec<Cell>,
 }
 
@@ -112,7 +112,8 @@ fn keep_cells(text: &mut StackText, cells: &[Cell]) -> Result<(), AllocError>
     Ok(())
 }
 
-/// Reads the `count` cells of a stack into a state, after another stack, whose text is there.
+/// Reads the `count` cells of a stack into a state, in place of the stack that the state has, whose
+/// text is kept.
 fn read_stack_cells<S: Source>(
     source: &mut S,
     place: u64,
@@ -139,8 +140,8 @@ fn read_stack_cells<S: Source>(
     Ok((LastStack { text, read }, after))
 }
 
-/// Reads a stack's cells into a state, from the bottom up, after another stack, whose text is
-/// there.
+/// Reads a stack's cells into a state, from the bottom up, in place of the stack that the state
+/// has, whose text is kept.
 #[tactic(auto, unfolding(crate::specs::Reading::stack_at))]
 pub(crate) fn read_stack<S: Source>(
     source: &mut S,

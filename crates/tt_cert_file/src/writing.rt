@@ -37,7 +37,7 @@ const FEWER: usize = 8;
 /// The texts of a state's lists, kept for the next state.
 #[derive(Drop)]
 struct KeptTexts {
-    /// The functions after their number.
+    /// How many functions there are, and then each of them.
     functions: Vec<u8>,
     /// The cells of the stack.
     stack: StackText,
@@ -96,8 +96,8 @@ fn push_zone(out: &mut Vec<u8>, zone: ZoneCell) -> Result<(), AllocError>
     Ok(())
 }
 
-/// Appends how many values a list has. A list of 65,536 or more has no section: that it doesn't fit
-/// is reported as out of memory.
+/// Appends how many values a list has. The format has no room for 65,536 or more, which is reported
+/// as out of memory.
 fn push_count(out: &mut Vec<u8>, count: usize) -> Result<(), AllocError>
     ensures written { Pushes (word count) result out.old.items out.new.items }
     ensures few { OnOk result (count < 2 ^ 16) }
@@ -109,7 +109,7 @@ fn push_count(out: &mut Vec<u8>, count: usize) -> Result<(), AllocError>
 }
 
 /// Keeps the text of the lowest cells that are found to be the same in the state before and in this
-/// one, and returns how many they are.
+/// one, and returns how many there are.
 fn keep_shared(text: &mut StackText, before: Option<&State>, state: &State) -> usize
     requires text { IfSome before (λ s. IsStackText text.old (reverse s.now.stack)) }
     requires few { length state.now.stack < 2 ^ 16 }
@@ -153,8 +153,8 @@ fn shared_depth(before: &State, state: &State) -> usize
     0
 }
 
-/// Appends the stack's cells after their number, from the bottom up. Only the text of those is made
-/// anew that aren't found to be as in the state before.
+/// Appends how many cells the stack has, and then each of them, from the bottom up. Text is made
+/// anew only for those that aren't found to be as in the state before.
 fn push_stack(
     out: &mut Vec<u8>,
     before: Option<&State>,
@@ -186,7 +186,7 @@ fn push_graphics(out: &mut Vec<u8>, state: &State) -> Result<(), AllocError>
     push_cell(out, state.loop_cell())
 }
 
-/// Appends the functions after their number.
+/// Appends how many functions there are, and then each of them.
 fn push_functions(out: &mut Vec<u8>, functions: &[(u16, u32)]) -> Result<(), AllocError>
     ensures written { Pushes (counted pair_text functions.now) result out.old.items out.new.items }
     ensures few { OnOk result (length functions.now < 2 ^ 16) }
@@ -210,7 +210,7 @@ fn push_stored(out: &mut Vec<u8>, stored: (u16, i32)) -> Result<(), AllocError>
     out.extend_from_slice(&stored.1.to_be_bytes())
 }
 
-/// Appends the storage cells after their number.
+/// Appends how many storage cells there are, and then each of them.
 fn push_storage(out: &mut Vec<u8>, cells: &[(u16, i32)]) -> Result<(), AllocError>
     ensures written { Pushes (counted stored_text cells.now) result out.old.items out.new.items }
     ensures few { OnOk result (length cells.now < 2 ^ 16) }
@@ -234,8 +234,9 @@ fn has_same(before: Option<&State>, state: &State) -> bool
     }
 }
 
-/// Appends the functions of a state after their number: by their text where the state before has
-/// the same ones, as most have, and otherwise by one that is made anew.
+/// Appends how many functions are known in a state, and then each of them: by the text that was
+/// kept where the state before has the same ones, as most have, and otherwise by one that is made
+/// anew.
 fn push_known(
     out: &mut Vec<u8>,
     before: Option<&State>,
@@ -255,7 +256,8 @@ fn push_known(
     out.extend_from_slice(text.as_slice())
 }
 
-/// Appends a state with its context and offset, after another one, whose lists' texts are there.
+/// Appends a state with its context and offset. `texts` are those of the lists of the state before,
+/// if there is one, and then those of this state's lists.
 fn push_state(
     out: &mut Vec<u8>,
     point: (u16, u32),
@@ -291,7 +293,7 @@ fn push_context(out: &mut Vec<u8>, parent: u16, frame: &Frame) -> Result<(), All
     push_long(out, frame.count)
 }
 
-/// Appends the contexts except for the main one, after their number.
+/// Appends how many contexts there are except for the main one, and then each of them.
 fn push_contexts(out: &mut Vec<u8>, certificate: &Certificate) -> Result<(), AllocError>
     ensures written { Pushes (counted context_text (contexts_in certificate.now.contexts))
         result out.old.items out.new.items }
@@ -307,7 +309,7 @@ fn push_contexts(out: &mut Vec<u8>, certificate: &Certificate) -> Result<(), All
     Ok(())
 }
 
-/// Appends the states after their number.
+/// Appends how many states there are, and then each of them.
 fn push_states(out: &mut Vec<u8>, certificate: &Certificate) -> Result<(), AllocError>
     ensures written { Pushes (long (length certificate.now.states)
         ++ flat_map (state_text Form.Four) certificate.now.states)
@@ -374,8 +376,8 @@ impl Encoder {
     ) -> Result<(), EncodeFault>
         ensures written { OnOk result (Appends (W.contents sink.old) (W.contents sink.new)
             (section_text Form.Four (section_of name certificate.now))) }
-        // The section keeps the rules by which it is read, if each context's calls are in their
-        // turns and no body runs twice in them.
+        // The section keeps the rules by which it is read, if in each context each call is in one
+        // of its turns and no body runs twice.
         ensures fits { OnOk result (AreCallsInTurn certificate.now.contexts
             → Fits Form.Four (section_of name certificate.now)) }
         ensures beginning { OnErr result
@@ -403,8 +405,8 @@ pub fn encode<W: Sink>(
 ) -> Result<(), EncodeFault>
     ensures written { OnOk result (Appends (W.contents sink.old) (W.contents sink.new)
         (section_text Form.Four (section_of name certificate.now))) }
-    // The section keeps the rules by which it is read, if each context's calls are in their turns
-    // and no body runs twice in them.
+    // The section keeps the rules by which it is read, if in each context each call is in one of
+    // its turns and no body runs twice.
     ensures fits { OnOk result (AreCallsInTurn certificate.now.contexts
         → Fits Form.Four (section_of name certificate.now)) }
     ensures beginning { OnErr result

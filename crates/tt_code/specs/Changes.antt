@@ -18,8 +18,8 @@ taken_at default [] i = default
 taken_at default (n ∷ ns) zero = n
 taken_at default (n ∷ ns) (suc i) = taken_at default ns i
 
--- How changes read the elements that were taken, so that they are the same for numbers and for
--- cells.
+-- How changes read the elements that were taken. With this, the changes have one definition for
+-- numbers and for cells.
 pub record Reading (N Z : Type 0) : Type 0 where
   pub one : N
   pub index : N → ℕ

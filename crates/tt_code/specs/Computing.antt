@@ -45,7 +45,7 @@ pushed push m rest = leaves m m.stack (exactly (numbers_in push (data_after push
 -- taken; an index below 1 is refused as a count (36), one above the depth as an underflow (26)
 -- (own).
 
--- the element that an index from 1 names, or why there is none
+-- the element that an index names, counted from 1, or why there is none
 abbrev pub element : {N : Type 0} → ℤ → List N → Tested N
 element (negsuc n) stack = Err reason.Count
 element (pos zero) stack = Err reason.Count
@@ -107,13 +107,13 @@ absolute (negsuc n) = pos (suc n)
 abbrev pub equal : ℤ → ℤ → Bool
 equal a b = int_le a b && int_le b a
 
--- an instruction that takes one number and pushes what it gives
+-- an instruction that takes one number and pushes what `f` makes of it
 abbrev pub of_one : Machine → (ℤ → Value) → Tested Outcome
 of_one m f = do
   a ← top m.stack
   Ok (leaves m a.1 (f a.0 ∷ []))
 
--- an instruction that takes two numbers and pushes what they give
+-- an instruction that takes two numbers and pushes what `f` makes of them
 abbrev pub of_two : Machine → (ℤ → ℤ → Value) → Tested Outcome
 of_two m f = do
   b ← top m.stack

@@ -16,15 +16,15 @@ use Rattle.tt_code.specs.declared.kinds.Control.TheVariants.{If, Else, Jump, Jum
 abbrev pub goes_to : Machine → List ℤ → ℕ → Outcome
 goes_to m stack offset = leaves (at_offset m offset) stack []
 
--- A jump counts from its own position, without a limit of 32 bits. The depth is tested before the
--- target (own).
+-- A jump counts from its own offset, and where it leads isn't limited to 32 bits. The depth is
+-- tested before the target (own).
 abbrev pub jumps : Setting → Machine → ℤ → List ℤ → Tested Outcome
 jumps s m by stack = do
   deep ← holds_or (nat_le (length stack) s.limits.stack) reason.Overflow
   ok ← holds_or (is_target s m.frames (pos m.offset +ℤ by)) reason.Target
   Ok (goes_to m stack (natural (pos m.offset +ℤ by)))
 
--- Where the condition doesn't hold, the offset of the jump isn't read (own).
+-- Where the condition doesn't hold, the jump's distance is taken but isn't looked at (own).
 abbrev pub jumps_if : Setting → Machine → (ℤ → Bool) → Tested Outcome
 jumps_if s m holds = do
   e ← top m.stack
@@ -38,7 +38,8 @@ abbrev pub body_named : List (ℕ × ℕ) → ℕ → Option ℕ
 body_named [] n = None
 body_named (f ∷ fs) n = if nat_eq f.0 n then Some f.1 else body_named fs n
 
--- the body that a called number names: it is below maxFunctionDefs and defined
+-- the body of the function that is called by a number: the number has to be below maxFunctionDefs,
+-- and the function defined
 abbrev pub called : Setting → Machine → ℤ → Tested ℕ
 called s m (negsuc n) = Err reason.Function
 called s m (pos n) =
@@ -64,7 +65,8 @@ returns m (f ∷ fs) =
     (body_offset f.body))
     else Ok (goes_to (record m { frames = fs }) m.stack (f.call + 1))
 
--- Functions are defined in the font program and in the CVT program (own: not in glyph programs).
+-- Whether a program of this kind may define functions: the font program and the CVT program may
+-- (own: a glyph program may not).
 abbrev pub may_define : Kind → Bool
 may_define FontProgram = true
 may_define CvtProgram = true

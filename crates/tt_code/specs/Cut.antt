@@ -35,7 +35,7 @@ IsInstruction (code ∷ rest) = data_length (effect_of code) rest ≡ Some (leng
 abbrev pub IsInstructionInFront : List ℕ → ℕ → Type 0
 IsInstructionInFront bytes n = (0 < n) × (n ≤ length bytes) × IsInstruction (take n bytes)
 
--- no instruction begins the bytes
+-- the bytes don't begin with an instruction
 abbrev pub NoInstructionInFront : List ℕ → Type 0
 NoInstructionInFront bytes = (i rest : List ℕ) → IsInstruction i → i ++ rest ≡ bytes → ⊥
 
@@ -84,9 +84,9 @@ pub record BeginsWith (bytes : List ℕ) (is : List Instruction) (rest : List �
   pub joined : concat is ++ rest ≡ bytes
   pub each : AllByRecursion IsInstruction is
 
--- The program cannot be cut, and this is the offset of the instruction that passes the end: some
--- instructions of that size begin the program, and no longer ones do. (Own: the whole program is
--- then refused, at this offset.)
+-- The program cannot be cut, and this is the offset of the instruction that passes the end: the
+-- size of the longest list of instructions with which the program begins. (Own: the whole program
+-- is then refused, at this offset.)
 pub record CannotBeCut (bytes : List ℕ) (offset : ℕ) : Type 0 where
   pub uncut : (is : List Instruction) → IsCut bytes is → ⊥
   pub reached : (is : List Instruction) × (rest : List ℕ) × BeginsWith bytes is rest ×

@@ -1,12 +1,12 @@
--- How the code keeps the table: an array with an effect and one with a name for each code.
--- (Representation: what they say of the table.)
+-- How the crate keeps the table: an array with an effect and one with a name for each instruction
+-- code. The functions here say what the entries of these arrays stand for.
 use Rattle.std.specs.Prelude.{ℕ, zero, suc, ◌+◌, List, [], ◌∷◌, Option, None, Some}
 use denote.Ref.{Bor}
 use Rattle.tt_code.specs.Table.{Meaning, NoEntry, Plain, Pushes, Stack, Computes, Controls}
 use Rattle.tt_code.specs.declared.kinds.Effect.{Effect}
 use Rattle.tt_code.specs.declared.kinds.Effect.TheVariants as effect
 
--- an effect, whose lists are slices
+-- what an effect stands for; the lists of its row are slices
 abbrev pub view : Effect → Meaning
 view effect.NoEntry = NoEntry
 view (effect.Plain row) = Plain (record {

@@ -1,4 +1,4 @@
--- What a fault means for the bytes.
+-- What a fault of `Program::cut` says about the bytes.
 use Rattle.std.specs.Prelude.{ℕ, List}
 use Rattle.tt_code.specs.declared.fault.CodeFault.{CodeFault}
 use Rattle.tt_code.specs.declared.fault.CodeFault.TheVariants.{CannotCut, Structure, OutOfMemory}

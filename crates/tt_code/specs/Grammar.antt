@@ -18,9 +18,9 @@ IsDefinition Fdef = Unit {0}
 IsDefinition Idef = Unit {0}
 IsDefinition _ = ⊥
 
--- The grammar of nesting. A list is a sequence of items: any other instruction; IF, a list and EIF;
--- IF, a list, ELSE, a list and EIF; and, outside all definitions, FDEF or IDEF, a list inside it,
--- and ENDF.
+-- The grammar of nesting. A list is a sequence of items: an instruction of keyword `Other`; IF, a
+-- list and EIF; IF, a list, ELSE, a list and EIF; and, outside all definitions, FDEF or IDEF, a
+-- list inside the definition, and ENDF. `inside` says whether the list is inside a definition.
 pub data IsList : (inside : Bool) → List Instruction → Type 0 where
   none : {inside : Bool} → IsList inside []
   plain : {inside : Bool} {i : Instruction} {rest : List Instruction} →
@@ -95,9 +95,9 @@ NoKeywordAt opener is at = (i : Instruction) → IsInstructionAt is at i → key
 abbrev pub IsStartOrEnd : List Instruction → ℕ → Type 0
 IsStartOrEnd is at = ((i : Instruction) × IsInstructionAt is at i) ⊎ (at ≡ size is)
 
--- Partners. An opening instruction is followed by a list, and then by what ends it: an IF by its
--- ELSE or its EIF, an ELSE by its EIF, an FDEF or IDEF by its ENDF. Control goes to just after that
--- one, and what a definition defines is what is between.
+-- Partners. An opening instruction is followed by a list, and then by the one that ends it: an IF
+-- by its ELSE or its EIF, an ELSE by its EIF, an FDEF or IDEF by its ENDF. The opening instruction
+-- leads to just after that one (an IF where it takes 0).
 
 -- which keyword ends what a keyword begins
 abbrev pub Ends : BlockKeyword → BlockKeyword → Type 0
@@ -109,8 +109,8 @@ Ends Eif w = ⊥
 Ends Endf w = ⊥
 Ends Other w = ⊥
 
--- what follows an FDEF or IDEF is inside a definition; a list that is inside one is a list outside
--- too
+-- Whether what follows an opening keyword is inside a definition. For IF and ELSE, `false` will do
+-- everywhere: a list inside a definition is a list outside too.
 abbrev pub begins_definition : BlockKeyword → Bool
 begins_definition Fdef = true
 begins_definition Idef = true
@@ -144,8 +144,9 @@ FindsEachTarget opener find =
     AllByRecursion IsInstruction is → IsInstructionAt is at i → keyword i ≡ opener →
     (to : ℕ) × (find is at ≡ Some to)
 
--- Bodies. What follows an FDEF up to and including its ENDF is the body of a function; after an
--- IDEF it is of none. All else is the main program's.
+-- Bodies. What follows an FDEF, up to and including its ENDF, is the body of a function. What
+-- follows an IDEF, up to and including its ENDF, is a body that no function has. All else is the
+-- main program's.
 
 -- the offset is in the definition that begins at another
 abbrev pub InDefinition : BlockKeyword → List Instruction → ℕ → ℕ → Type 0

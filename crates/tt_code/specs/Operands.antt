@@ -14,8 +14,8 @@ use Rattle.tt_code.specs.declared.kinds.Operand.{Operand}
 use Rattle.tt_code.specs.declared.kinds.Operand.TheVariants as operand
 use Rattle.tt_code.specs.declared.kinds.Use.{Use}
 
--- The elements that are taken, the first taken first, and the stack below them. (These forms read
--- no element.)
+-- The elements that are taken, the first taken first, and the stack below them. (The definitions up
+-- to `pairs` look at no element themselves, so that they serve numbers and cells.)
 
 -- what was taken, and the stack that is left
 abbrev pub Taking : Type 0 → Type 0
@@ -31,7 +31,7 @@ abbrev pub take_one : {N : Type 0} → List N → Tested (Taking N)
 take_one [] = Err reason.Underflow
 take_one (n ∷ ns) = Ok (n ∷ [], ns)
 
--- what one call takes, and then another
+-- what one taking takes, and then what another takes from the stack that is left
 abbrev pub then_take : {N : Type 0} → Tested (Taking N) → (List N → Tested (Taking N)) →
     Tested (Taking N)
 then_take first second = do
@@ -78,15 +78,15 @@ count_of (negsuc n) = Err reason.Count
 abbrev pub is_zone : Setting → ℤ → Bool
 is_zone s z = is_some (zone_named s z)
 
--- whether the number names a point in each zone that counts
+-- whether the number is that of a point in each zone in which it is tested
 abbrev pub is_point : Setting → Graphics ℤ ZoneNumber → Within → ℤ → Bool
 is_point s g (In p) z = is_below z (zone_size s (pointer p g))
 is_point s g (Both p q) z =
     is_below z (zone_size s (pointer p g)) && is_below z (zone_size s (pointer q g))
 is_point s g (GlyphAnd p) z = is_below z (zone_size s One) && is_below z (zone_size s (pointer p g))
 
--- An operand. Where the loop number says how many, it is tested before the first one; 0 takes none
--- (own).
+-- An operand. Where the loop number says how many points are taken, it is tested before the first
+-- of them; at 0 none is taken (own).
 abbrev pub take_operand : Setting → Graphics ℤ ZoneNumber → Operand → List ℤ → Tested (Taking ℤ)
 take_operand s g operand.Number stack = take_one stack
 take_operand s g (operand.Point within) stack = tested (is_point s g within) reason.Point stack

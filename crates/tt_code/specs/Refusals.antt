@@ -1,5 +1,5 @@
--- Why a program is refused, by numbers, and outcomes that may be refused. (Own: the numbers are
--- this product's.)
+-- Why a program is refused, with the number, the class and the text of each reason; and tests,
+-- which give a value or a reason. (Own: the numbers, classes and texts.)
 use Rattle.std.specs.Prelude.{ℕ, Bool, true, false, codes, List, Option, None, Some, Result, Ok, Err}
 use Rattle.tt_code.specs.declared.reason.Reason.{Reason}
 use Rattle.tt_code.specs.declared.reason.Reason.TheVariants as reason
@@ -32,8 +32,9 @@ number_of reason.NeverEnds = 40
 number_of reason.MissingPoint = 41
 number_of reason.NotCovered = 42
 
--- What a reason tells: that the fault isn't ruled out by what is known, that the analysis can't
--- tell, that the program does what is left out by choice, or that the certificate doesn't fit it.
+-- What a reason tells: that the bytes are no program or too many, or that what is known doesn't
+-- rule the fault out; that the analysis can't tell; that the program does what is left out by
+-- choice; or that the certificate doesn't fit the program.
 abbrev pub class_of : Reason → ReasonClass
 class_of reason.CannotCut = PossibleFault
 class_of reason.Structure = PossibleFault

@@ -18,8 +18,8 @@ goes_on next outcome = do
   o ← outcome
   Ok (record o { after = at_offset o.after next })
 
--- what an instruction does, by what its code stands for; the bytes after its code, and the offset
--- after it
+-- what an instruction does, by what its code stands for, the bytes after its code, and the offset
+-- after the instruction
 abbrev pub does : Setting → Machine → Meaning → List ℕ → ℕ → Tested Outcome
 does s m NoEntry rest next = Err reason.Opcode
 does s m (Plain line) rest next = goes_on next (plain s m line)
@@ -56,7 +56,7 @@ outcome s m = performs s m (fetched s m)
 abbrev pub is_at_end : Setting → Machine → Bool
 is_at_end s m = is_main_end s m.frames m.offset
 
--- the machine faults, and this is the first test that fails
+-- the machine faults, and this is the reason of the first test that fails
 pub record Faults (s : Setting) (m : Machine) (r : Reason) : Type 0 where
   pub running : is_at_end s m ≡ false
   pub fails : outcome s m ≡ Err r
@@ -95,8 +95,8 @@ pub data Runs (s : Setting) : Machine → Machine → Type 0 where
   step : (a b c : Machine) → Steps s a b → Runs s b c → Runs s a c
 
 -- Where programs start: at their first byte, with no frames, the empty stack and the default
--- graphics state. (Own: the storage area holds any numbers, so that nothing is kept from one
--- program to the next.)
+-- graphics state. Which functions are defined then is left open here. (Own: the storage area holds
+-- any numbers, so that nothing in it is known from an earlier program.)
 pub record IsFresh (m : Machine) : Type 0 where
   pub no_frames : m.frames ≡ []
   pub at_first_byte : m.offset ≡ 0

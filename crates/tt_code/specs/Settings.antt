@@ -16,8 +16,8 @@ pub data Kind : Type 0 where
   CvtProgram : Kind
   GlyphProgram : (points contours : ℕ) → Kind
 
--- The programs are given cut. For the font program all three are one, for the CVT program `prep` is
--- `main`.
+-- The programs are given as their cuts. For the font program all three are one, for the CVT program
+-- `prep` is `main`.
 pub record Setting : Type 0 where
   pub limits : Limits
   -- how many control values the font has
@@ -113,8 +113,8 @@ abbrev pub is_main_end : Setting → List Frame → ℕ → Bool
 is_main_end s [] offset = nat_eq offset (size s.main)
 is_main_end s (f ∷ fs) offset = false
 
--- Whether control may go there by a jump: to an instruction of the same body, in a main program to
--- its end too (own).
+-- Whether control may go there by a jump: to an instruction of the same body, in the main program
+-- to its end too (own).
 abbrev pub is_target : Setting → List Frame → ℤ → Bool
 is_target s fs (negsuc n) = false
 is_target s fs (pos n) = starts_in_body s fs n || is_main_end s fs n

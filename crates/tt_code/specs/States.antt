@@ -15,23 +15,23 @@ use Rattle.tt_code.specs.declared.kinds.Pointer.TheVariants.{Zp0, Zp1, Zp2}
 abbrev pub IsNumber : ℤ → Type 0
 IsNumber z = FitsSigned w32 z
 
--- whether it is a number of the machine
+-- whether a whole number is a number of the machine
 abbrev pub is_number : ℤ → Bool
 is_number (pos n) = nat_lt n (2 ^ 31)
 is_number (negsuc n) = nat_lt n (2 ^ 31)
 
--- indices and point numbers are unsigned: a negative number isn't an index
+-- whether a number is 0 or more and below a bound, as an index or a point number has to be
 abbrev pub is_below : ℤ → ℕ → Bool
 is_below (pos n) bound = nat_lt n bound
 is_below (negsuc n) bound = false
 
--- every number but 0 is true
+-- whether a number is true: every number but 0 is
 abbrev pub is_true : ℤ → Bool
 is_true (pos zero) = false
 is_true (pos (suc n)) = true
 is_true (negsuc n) = true
 
--- what is kept besides the stack: the graphics state, and the storage area by index
+-- what plain lines change besides the stack: the graphics state, and the storage area by index
 pub record Registers (N Z : Type 0) : Type 0 where
   pub graphics : Graphics N Z
   -- The area has no end here; a program reaches only the cells below maxStorage.
@@ -41,7 +41,7 @@ pub record Registers (N Z : Type 0) : Type 0 where
 pub record Machine : Type 0 where
   -- the calls that haven't returned, the innermost first
   pub frames : List Frame
-  -- where it is, in the program of its innermost frame
+  -- where it is: in the program of its innermost frame, without frames in the main program
   pub offset : ℕ
   -- the top first
   pub stack : List ℤ
@@ -49,7 +49,8 @@ pub record Machine : Type 0 where
   -- functions as number and body, the newest definition of a number first
   pub functions : List (ℕ × ℕ)
 
--- Reading and setting a reference point or a zone pointer, of whatever numbers and zones are.
+-- Reading and setting a reference point or a zone pointer, whatever the numbers and zones are: the
+-- machine's, or what is known of them.
 
 -- a reference point's number
 abbrev pub reference : {N Z : Type 0} → Reference → Graphics N Z → N
@@ -103,6 +104,6 @@ pub record Outcome : Type 0 where
   pub after : Machine
   pub pushes : List Value
 
--- with this stack left, and these pushed on it
+-- the outcome that leaves this stack, and these values to be pushed on it
 abbrev pub leaves : Machine → List ℤ → List Value → Outcome
 leaves m stack pushes = record { after = record m { stack = stack }; pushes = pushes }

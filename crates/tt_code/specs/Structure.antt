@@ -35,9 +35,10 @@ is_keyword Endf Endf = true
 is_keyword Other Other = true
 is_keyword _ _ = false
 
--- Looking for the instruction that ends what an opening one began, where `inside` IFs are open
--- inside it: None where this keyword is the one, otherwise how many are open after it. An IF ends
--- at its ELSE or EIF, an ELSE at its EIF, a definition at its ENDF.
+-- Looking for the end of what an opening instruction began, by that instruction's keyword and the
+-- keyword of a later one: None if the later one is the end, otherwise how many IFs are open inside
+-- after it, where `inside` of them were open before it. (Inside a definition IFs aren't counted.)
+-- An IF ends at its ELSE or EIF, an ELSE at its EIF, a definition at its ENDF.
 abbrev pub still_open : BlockKeyword → BlockKeyword → ℕ → Option ℕ
 still_open If If inside = Some (suc inside)
 still_open If Else zero = None
@@ -85,15 +86,16 @@ after_else = leads Else
 abbrev pub after_fdef : List Instruction → ℕ → Option ℕ
 after_fdef = leads Fdef
 
--- the body of what follows an instruction of a body, where the instruction ends at an offset
+-- the body of what follows an instruction, by the instruction's body, its keyword and the offset at
+-- which it ends
 abbrev pub following_body : Body → BlockKeyword → ℕ → Body
 following_body here Fdef next = body.Function next
 following_body here Idef next = body.Instruction next
 following_body here Endf next = body.Main
 following_body here _ next = here
 
--- the body of the instruction at an offset, in instructions from another offset on that begin in a
--- body
+-- the body of the instruction at an offset, in the instructions from `start` on, the first of which
+-- is in the body `here`
 abbrev pub body_from : Body → ℕ → List Instruction → ℕ → Option Body
 body_from here start [] offset = None
 body_from here start (i ∷ is) offset =

@@ -1,9 +1,9 @@
 -- The instruction set, line by line as it is printed: the codes and names of a line, what its
 -- instructions take from the stack (top first), which reference points they use and in which
 -- pointer's zone, what they change, and what they push. (Apple TrueType Reference Manual, "The
--- TrueType instruction set"; OpenType specification, "The TrueType Instruction Set".) Own: which
--- zones a point is tested in where the manual names none (`Both`, `GlyphAnd`); DIV, MUL, MAX and
--- MIN push a number of which nothing is known; 0x91, 0x92 and IDEF's codes have no entry.
+-- TrueType instruction set"; OpenType specification, "The TrueType Instruction Set".) Own: the
+-- zones in which a point of `Both` or `GlyphAnd` is tested; DIV, MUL, MAX and MIN push a number of
+-- which nothing is known; 0x91, 0x92 and the codes that an IDEF defines have no entry.
 use Rattle.std.specs.Prelude.{codes, ℕ, ◌+◌, List, [], ◌∷◌, Bool, false, Option, None, Some, ◌&&◌, ◌||◌, nat_le, nat_lt, if◌then◌else◌}
 use Rattle.tt_code.specs.declared.kinds.Reference.{Reference}
 use Rattle.tt_code.specs.declared.kinds.Reference.TheVariants.{Rp0, Rp1, Rp2}
@@ -81,7 +81,7 @@ abbrev pub plain : List Operand → List Use → List Update → List Pushed →
 plain operands uses updates pushes =
     Plain (record { operands = operands; uses = uses; updates = updates; pushes = pushes })
 
--- a line that does nothing here
+-- a line that takes and pushes nothing, and changes nothing that `States` keeps
 abbrev pub nothing : Meaning
 nothing = plain [] [] [] []
 
@@ -89,7 +89,7 @@ nothing = plain [] [] [] []
 abbrev pub takes : List Operand → Meaning
 takes operands = plain operands [] [] []
 
--- a line that takes operands and pushes any number
+-- a line that takes operands and pushes one number of which nothing is known
 abbrev pub measures : List Operand → Meaning
 measures operands = plain operands [] [] (Any ∷ [])
 
@@ -272,7 +272,7 @@ table =
 
 -- What a code stands for, and its name.
 
--- whether a code is among codes with a name
+-- whether a code is one of these codes that share a name
 abbrev pub is_one_of : Named → ℕ → Bool
 is_one_of n code = nat_le n.first code && nat_lt code (n.first + n.count)
 

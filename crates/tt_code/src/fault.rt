@@ -5,7 +5,7 @@
 use std::alloc::AllocError;
 use thiserror::Error;
 
-/// Why bytes aren't a program, with the offset of the fault where it has one.
+/// Why bytes aren't a program, with the offset of the fault; or that memory ran out.
 #[derive(Debug, Drop, Error)]
 pub enum CodeFault {
     /// The instruction that starts at this offset passes the end of the program.

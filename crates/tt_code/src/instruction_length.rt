@@ -23,7 +23,8 @@ fn data_length_of(effect: &Effect, rest: &[u8]) -> Option<u16>
     }
 }
 
-/// Returns the length of the instruction at the front of the bytes; None where it passes their end.
+/// Returns the length of the instruction at the front of the bytes; None where it passes their end,
+/// or where there are no bytes.
 pub fn front_length(bytes: &[u8]) -> Option<u16>
     ensures found { IfSome result (IsInstructionInFront bytes.now) }
     ensures none { IfNone result (NoInstructionInFront bytes.now) }

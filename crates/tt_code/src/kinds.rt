@@ -62,7 +62,7 @@ pub enum Operand {
 pub struct Use {
     /// The reference point.
     pub reference: Reference,
-    /// The pointer whose zone has to have a point of its number.
+    /// The pointer whose zone has to have a point with the reference point's number.
     pub pointer: Pointer,
 }
 
@@ -71,7 +71,7 @@ pub struct Use {
 pub enum Source {
     /// The element taken at this position, the first one being 0.
     Taken(u8),
-    /// A reference point.
+    /// The number of this reference point.
     Same(Reference),
 }
 
@@ -127,7 +127,8 @@ pub enum Push {
     Words(u8),
 }
 
-/// An instruction that moves the stack's elements and reads none of them except for an index.
+/// An instruction that copies, moves, removes or counts the stack's elements, and reads none of
+/// them except for an index.
 #[derive(Clone, Copy)]
 pub enum StackOp {
     /// DUP: pushes the top again.
@@ -148,7 +149,8 @@ pub enum StackOp {
     Roll,
 }
 
-/// An instruction whose result is computed. Of two operands the first is the one below the top.
+/// An instruction whose result is computed. Of two operands the first is the one below the top. A
+/// number is true if it isn't 0.
 #[derive(Clone, Copy)]
 pub enum Arithmetic {
     /// ADD: the sum of two numbers.
@@ -173,13 +175,14 @@ pub enum Arithmetic {
     Neq,
     /// AND: 1 if both numbers are true, otherwise 0.
     And,
-    /// OR: 1 if one of two numbers is true, otherwise 0.
+    /// OR: 1 if at least one of two numbers is true, otherwise 0.
     Or,
     /// NOT: 1 if a number is 0, otherwise 0.
     Not,
 }
 
-/// An instruction that leads elsewhere than to the next instruction, or defines a function.
+/// An instruction that leads elsewhere than to the next instruction, or defines a function or an
+/// instruction.
 #[derive(Clone, Copy)]
 pub enum Control {
     /// IF: goes on to the next instruction if a number is true, otherwise to just after its ELSE or
@@ -214,7 +217,7 @@ pub enum Effect {
     Plain(Row),
     /// It pushes its data.
     Push(Push),
-    /// It moves elements of the stack.
+    /// It copies, moves, removes or counts elements of the stack.
     Stack(StackOp),
     /// It computes a number.
     Arithmetic(Arithmetic),

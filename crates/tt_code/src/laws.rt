@@ -33,7 +33,7 @@ pub fn structured_without_fault()
         IsCut bytes is → IsStructured is → IsFault is k → ⊥ }
 {}
 
-/// States that an instruction that opens something leads to one offset.
+/// States that an instruction that opens something leads to at most one offset.
 pub fn one_target()
     ensures { (bytes : List ℕ) (is : List Instruction) (opener other : BlockKeyword) →
         (offset s t : ℕ) → IsCut bytes is →
@@ -48,13 +48,13 @@ pub fn each_target()
         Ends (keyword i) e → (to : ℕ) × GoesTo (keyword i) is offset to }
 {}
 
-/// States that there is one instruction at an offset.
+/// States that at most one instruction starts at an offset.
 pub fn one_instruction()
     ensures { (bytes : List ℕ) (is : List Instruction) (offset : ℕ) (i j : Instruction) →
         IsCut bytes is → IsInstructionAt is offset i → IsInstructionAt is offset j → i ≡ j }
 {}
 
-/// States that an instruction of a structured program has one body.
+/// States that an instruction of a structured program has at most one body.
 pub fn one_body()
     ensures { (bytes : List ℕ) (is : List Instruction) (offset : ℕ) (i : Instruction) →
         (b c : Body) → IsCut bytes is → IsStructured is → IsInstructionAt is offset i →
@@ -80,15 +80,15 @@ pub fn target_is_there()
         GoesTo opener is offset to → IsStartOrEnd is to }
 {}
 
-/// States that the instruction that is found at an offset is the one that is there.
+/// States that at each offset the instruction that starts there is found, and no other.
 pub fn instructions_are_found()
     ensures { (is : List Instruction) (at : ℕ) (i : Instruction) →
         AllByRecursion IsInstruction is
         → ((instruction_at is at ≡ Some i) ↔ IsInstructionAt is at i) }
 {}
 
-/// States that in a structured program IF, ELSE, FDEF and IDEF lead to just after the instruction
-/// that ends what they begin.
+/// States that in a structured program `after_if`, `after_else`, `after_fdef` and, for IDEF,
+/// `leads` find where an instruction leads by the grammar, and nothing else.
 pub fn partners_are_found()
     ensures of_if { FindsTargets BlockKeyword.If after_if }
     ensures of_else { FindsTargets BlockKeyword.Else after_else }
@@ -104,8 +104,8 @@ pub fn partners_are_there()
     ensures of_idef { FindsEachTarget BlockKeyword.Idef (leads BlockKeyword.Idef) }
 {}
 
-/// States that a body is found for each instruction, and that in a structured program it is the one
-/// to which the instruction belongs.
+/// States that a body is found for each instruction and nowhere else, and that in a structured
+/// program it is the one to which the instruction belongs.
 pub fn bodies_are_found()
     ensures found { (is : List Instruction) (at : ℕ) (i : Instruction) (b : Body) →
         IsStructured is → AllByRecursion IsInstruction is → IsInstructionAt is at i →

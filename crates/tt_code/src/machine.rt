@@ -1,5 +1,5 @@
-//! What the hint machine keeps besides its stack (Apple TrueType Reference Manual, "Graphics
-//! state").
+//! What the hint machine keeps of a call and of the graphics state, and the body that an
+//! instruction belongs to (Apple TrueType Reference Manual, "Graphics state").
 
 /// A call that hasn't returned.
 #[derive(Clone, Copy, Debug, PartialEq, Eq)]
@@ -39,7 +39,7 @@ pub struct Graphics<N, Z> {
 /// Which part of a program an instruction belongs to.
 #[derive(Clone, Copy, Debug, PartialEq, Eq)]
 pub enum Body {
-    /// Outside all definitions, FDEF and IDEF themselves included.
+    /// Outside all definitions: an FDEF or IDEF itself is still outside.
     Main,
     /// After an FDEF, up to and including its ENDF; the offset of the body's first instruction
     /// names it.

@@ -33,7 +33,8 @@ pub enum Nesting {
 }
 
 /// Applies the keyword of an instruction, which is at an offset and in a body, to what is open, the
-/// innermost last. Returns what it does there.
+/// innermost last. Returns what the instruction does there; where it isn't allowed, what is open
+/// afterwards is unspecified.
 ///
 /// # Errors
 /// If memory runs out; then what is open is unspecified.

@@ -159,9 +159,9 @@ impl<'a> Program<'a> {
         self.look_up(opener, offset)
     }
 
-    /// Returns where the IF at the offset goes where its number is 0: to just after its ELSE, or
-    /// without one just after its EIF (Apple TrueType Reference Manual, IF). None where no IF
-    /// starts at the offset.
+    /// Returns where the IF at the offset goes if it takes 0: to just after its ELSE, or without
+    /// one just after its EIF (Apple TrueType Reference Manual, IF). None where no IF starts at the
+    /// offset.
     pub fn after_if(&self, offset: u32) -> Option<u32>
         ensures value { result ≡ leads BlockKeyword.If self.now offset }
         ensures found { IfSome result (GoesTo BlockKeyword.If self.now offset) }

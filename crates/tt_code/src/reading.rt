@@ -41,7 +41,8 @@ impl Reading {
         })
     }
 
-    /// Reads the next instruction, if it is allowed here, and returns whether it is.
+    /// Reads the next instruction, if it is allowed here, and returns whether it is. If it isn't,
+    /// what is kept afterwards is unspecified.
     ///
     /// # Errors
     /// If memory runs out; then what is kept is unspecified.

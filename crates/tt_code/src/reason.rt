@@ -32,9 +32,9 @@ pub enum Reason {
     Underflow = 26,
     /// The stack is deeper than maxStackElements after the instruction.
     Overflow = 27,
-    /// A number that the instruction uses as an index, as a count or as the distance of a jump
-    /// isn't known: it was measured, stored or computed, or depends on the way by which the program
-    /// comes here.
+    /// A number that the instruction looks at isn't known: an index, the number of a point, a zone,
+    /// a contour or a function, a count, or the distance of a jump. It was measured, stored or
+    /// computed, or depends on the way by which the program comes here.
     UnknownOperand = 28,
     /// An index into the control value table is negative, or not below the number of control
     /// values.

@@ -16,7 +16,8 @@ use crate::kinds::Update::{LoopIsOne, SetLoop, SetPointer, SetReference, Store};
 use crate::kinds::Within::{Both, GlyphAnd, In};
 use crate::kinds::{Arithmetic, Control, Effect, Push, Row, StackOp, Use};
 
-/// The effect that takes these operands, uses these reference points, changes and pushes this.
+/// The effect that takes these operands, uses these reference points, makes these changes and
+/// pushes these numbers.
 macro_rules! plain {
     ([$($operand:expr),*], [$($used:expr),*], [$($update:expr),*], [$($pushed:expr),*]) => {
         Effect::Plain(Row {
@@ -988,7 +989,8 @@ pub fn entry(code: u8) -> &'static Effect
     &effects()[code as usize]
 }
 
-/// Returns by value what the instructions of a code take, test, change and push, as `entry` does.
+/// Returns a copy of the effect that `entry` returns: what the instructions of a code take, test,
+/// change and push.
 pub fn effect(code: u8) -> Effect
     ensures { view result ≡ effect_of code }
 {

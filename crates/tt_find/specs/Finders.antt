@@ -1,4 +1,4 @@
--- What a finder keeps between two programs: its memory, and nothing that it has found.
+-- What a finder's solver is before it is filled: it may have memory and marks, but no states.
 use Rattle.std.specs.Prelude.{◌≡◌, [], ◌∷◌}
 use Rattle.tt_cert.specs.Contents.{IsFamily}
 use Rattle.tt_find.specs.declared.solver.Solver.{Solver}

@@ -44,8 +44,8 @@ pub record AreLeastContexts (s : Setting) (functions : List (ℕ × ℕ)) (conte
       → (frames : List Frame) → HasContext contexts frames → HasStateIn other frames
   pub calls : (frames : List Frame) → HasContext contexts frames → FramesFit frames
 
--- Where the start lists functions with bodies in the font program or the CVT program, so does each
--- state of the family.
+-- Where the programs are those of one font, and the start lists functions with bodies in the font
+-- program or the CVT program, so does each state of the family.
 abbrev pub KeepsBodies : Setting → List (ℕ × ℕ) → (Place → Option State) → Type 0
 KeepsBodies s functions family =
     AreProgramsOfFont s → AreFunctionBodies s functions → (p : Place) (a : State)
@@ -67,9 +67,9 @@ pub record ArePointsOf (family : Place → Option State) (points : List Place) :
   pub all : (p : Place) (a : State) → family p ≡ Some a → HasPlace points p
   pub only : (p : Place) → HasPlace points p → (a : State) × (family p ≡ Some a)
 
--- What is found: the family's filling is good, each of its states is derived, so that it is below
--- each good family, and is within the limits; at least one update was made for each of its points,
--- and at most one more for each rise of its state.
+-- What is found: the family has a filling that is good and the least, whose states are within the
+-- limits and keep the bodies of functions; at least one update was made for each of its points, and
+-- at most one more for each time that a state there can rise.
 pub record HasLeastFilling (s : Setting) (functions : List (ℕ × ℕ)) (updates : ℕ)
     (family : Place → Option State) : Type 0 where
   pub filling : Place → Option State
@@ -83,7 +83,7 @@ pub record HasLeastFilling (s : Setting) (functions : List (ℕ × ℕ)) (update
   pub at_least : length points ≤ updates
   pub at_most : updates ≤ length points * (1 + height_of s)
 
--- a derived state leads there from a place other than the one just before
+-- a derived state leads to the place from one that isn't just before it
 pub record IsLedElsewhere (s : Setting) (functions : List (ℕ × ℕ)) (q : Place) : Type 0 where
   pub from : Place
   pub state : State
@@ -92,8 +92,8 @@ pub record IsLedElsewhere (s : Setting) (functions : List (ℕ × ℕ)) (q : Pla
   pub gives : GivesState s from state q given
   pub elsewhere : Precedes s from q → ⊥
 
--- no good filling adds a state there: it is the start, or a derived state leads there from a place
--- that isn't just before it
+-- the place is the start, or a derived state leads to it from a place that isn't just before it; so
+-- no good filling adds a state there
 abbrev pub IsNeeded : Setting → List (ℕ × ℕ) → Place → Type 0
 IsNeeded s functions q = (q ≡ ([], 0)) ⊎ IsLedElsewhere s functions q
 
@@ -118,8 +118,8 @@ NeedsAll s functions family =
     (q : Place) (other : Contents) → IsWithout family (family_of other) q
     → LacksPoint s functions other q
 
--- no family with states in at most 65,535 contexts is good, of a program that isn't too long,
--- whatever it has at the end
+-- if the program isn't too long, no family with states in at most 65,535 contexts is good, whatever
+-- it has at the end
 abbrev pub NoneIsGood : Setting → List (ℕ × ℕ) → Type 0
 NoneIsGood s functions =
     (family : Place → Option State) → IsShortEnough s s.kind
@@ -143,8 +143,8 @@ pub record AreDerivedContexts (s : Setting) (functions : List (ℕ × ℕ))
   pub derived : (i : ℕ) → i < length contexts
       → (offset : ℕ) × (a : State) × IsDerived s functions (frames_at contexts i, offset) a
 
--- more than 65,535 contexts have derived states, and a derived state at the place gives one in one
--- of them
+-- more than 65,535 contexts have derived states, and a derived state at the place gives a state in
+-- one of these contexts
 pub record EntersTooMany (s : Setting) (functions : List (ℕ × ℕ)) (p : Place) : Type 0 where
   pub contexts : List (List Frame)
   pub derived : AreDerivedContexts s functions contexts
@@ -182,7 +182,7 @@ abbrev pub NamesStop : (Place → Reason → Type 0) → Bool → Stop → Type 
 NamesStop Is everywhere (Fault fault) = NamesPlace Is fault
 NamesStop Is everywhere Restart = everywhere ≡ false
 
--- the end isn't reached
+-- the fault is that the end isn't reached
 abbrev pub IsNeverEnding : ProgramFault → Type 0
 IsNeverEnding (Refused spot offset reason) = reason ≡ NeverEnds
 IsNeverEnding (OutOfMemory e) = ⊥

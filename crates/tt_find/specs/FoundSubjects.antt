@@ -13,7 +13,7 @@ use Rattle.tt_cert.specs.declared.fault.ProgramFault.{ProgramFault}
 use Rattle.tt_find.specs.Found.{AreLeastContexts, HasLeastFilling, IsJustified, IsNeverEnding, LacksEnd, NamesPlace, NeedsAll, NoneIsGood}
 use Rattle.tt_find.specs.declared.finder.Found.{Found}
 
--- the found family can be filled up to the least good one, by this many updates
+-- the found family has the least good one as a filling; its count of updates is within the bounds
 abbrev pub IsLeastFor : Subject → Found → Type 0
 IsLeastFor x found =
     HasLeastFilling (setting_of x) x.start.now found.updates (family_of found.certificate)
@@ -22,7 +22,7 @@ IsLeastFor x found =
 abbrev pub AreCounted : Budget → Budget → ℕ → Type 0
 AreCounted old new updates = updates ≤ 1 + 2 * counted_from old new
 
--- each good family has states in all contexts that were found
+-- each context that was found has a derived state, and a state in every good family
 abbrev pub HasLeastContexts : Subject → Found → Type 0
 HasLeastContexts x found = AreLeastContexts (setting_of x) x.start.now found.certificate.contexts
 
@@ -34,7 +34,7 @@ HasOnlyNeeded x found = NeedsAll (setting_of x) x.start.now (family_of found.cer
 abbrev pub IsJustifiedFor : Subject → ProgramFault → Type 0
 IsJustifiedFor x = NamesPlace (IsJustified (setting_of x) x.start.now)
 
--- no family is good, unless memory ran out, or the end alone isn't reached
+-- no family is good (`NoneIsGood`), unless memory ran out, or the end alone isn't reached
 abbrev pub TellsNoneIsGood : Subject → ProgramFault → Type 0
 TellsNoneIsGood x fault =
     IsOutOfMemory fault ⊎ IsNeverEnding fault ⊎ NoneIsGood (setting_of x) x.start.now

@@ -20,6 +20,9 @@ use tt_code::Reason;
 
 /// Returns where the state at an offset of the walk's context leads; the walk then holds what it
 /// leads there. None at the main program's end.
+///
+/// # Errors
+/// `Refused`, if the state is refused there; `OutOfMemory`.
 fn step_state(
     builder: &Builder,
     walk: &mut Walk,
@@ -106,8 +109,11 @@ fn goes_over(solver: &Solver, walk: &Walk, source: Origin, next: u32) -> bool
     }
 }
 
-/// Leads the state that an instruction left to the offset just after it. Returns that offset where
-/// the state passes it without being kept; otherwise it is stored there.
+/// Leads the walk's state on to the offset just after the instruction that left it. Returns that
+/// offset where the state passes it without being kept; otherwise the state is stored there.
+///
+/// # Errors
+/// As `store`; `Fault` with `OutOfMemory` too where a pass can't be counted any more.
 fn step_over(
     solver: &mut Solver,
     walk: &mut Walk,
@@ -155,8 +161,12 @@ fn not_entered(builder: &Builder, context: u32, offset: u32, fault: ContextFault
     }
 }
 
-/// Leads the state that an instruction left to each place where its ways lead, one after the other,
-/// except for the one over which it goes last. Returns that one's offset.
+/// Leads the walk's state on to each place to which the ways of an instruction lead, one after the
+/// other, and last to the one that it may pass without being kept. Returns that one's offset where
+/// the state passes it.
+///
+/// # Errors
+/// As `step_over`; `Fault` with `Refused` too for one context too many, at the instruction.
 fn store_successors(
     solver: &mut Solver,
     walk: &mut Walk,

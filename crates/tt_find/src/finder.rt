@@ -29,7 +29,7 @@ const STARTS: u32 = 8;
 
 /// A family that was found, and how many updates made its filling: a point's first state is one
 /// update, and each change of it is one more. Where states aren't kept, each that comes counts: so
-/// a finder that has found other families before may count otherwise.
+/// a finder that has found other families before may come to another count.
 #[derive(Drop)]
 pub struct Found {
     pub certificate: Certificate,
@@ -53,7 +53,8 @@ enum KeptStates {
     Everywhere,
 }
 
-/// States that the laws of the program's flow hold, and that no count of updates is too great.
+/// States that the laws of the program's flow hold, that its height is so small that 64 bits count
+/// all changes of kept states, and that the programs are short enough.
 fn law_facts(setting: &Setting<'_>)
     requires ascends { Ascends setting.now.start.now }
     requires fits { FunctionsFit (setting_of setting.now) setting.now.start.now }
@@ -101,7 +102,7 @@ fn run_to_fixpoint(
 /// Fills a solver anew, with states kept everywhere.
 ///
 /// # Errors
-/// As `find` refuses what comes on the way.
+/// As `Finder::find_within`, but not for a program that is too long or never ends.
 fn fill_everywhere(
     alloc: Global,
     solver: &mut Solver,
@@ -127,10 +128,10 @@ fn fill_everywhere(
 }
 
 /// Fills a solver anew, with states kept at the points where ways were found to meet, until no two
-/// ways meet elsewhere.
+/// ways meet elsewhere; after `STARTS` such starts, with states kept everywhere.
 ///
 /// # Errors
-/// As `find` refuses what comes on the way.
+/// As `Finder::find_within`, but not for a program that is too long or never ends.
 fn restart_to_fixpoint(
     alloc: Global,
     solver: &mut Solver,
@@ -161,7 +162,7 @@ fn restart_to_fixpoint(
 /// Fills a solver anew, with states kept everywhere or where ways meet.
 ///
 /// # Errors
-/// As `find` refuses what comes on the way.
+/// As `Finder::find_within`, but not for a program that is too long or never ends.
 fn fill(
     alloc: Global,
     solver: &mut Solver,
@@ -198,7 +199,7 @@ fn refused_in_main(offset: u32, reason: Reason) -> ProgramFault
 /// Fills a solver with the least good family, and returns how many updates that took.
 ///
 /// # Errors
-/// As `find`.
+/// As `Finder::find_within`.
 fn find_fixpoint(
     alloc: Global,
     solver: &mut Solver,
@@ -241,7 +242,7 @@ fn take_emptied(alloc: Global, builder: &mut Builder) -> Builder
     taken
 }
 
-/// The memory of a finder, which one program after another uses.
+/// A finder, whose memory one program after another uses.
 #[derive(Drop)]
 pub struct Finder {
     solver: Solver,
@@ -401,7 +402,7 @@ impl Finder {
 /// `Refused`, for a glyph program longer than maxSizeOfInstructions, at that offset; for a state
 /// that an instruction refuses, with its reason, at that instruction; for two states of different
 /// depths, where they meet; for more than 65,535 contexts, at the instruction that enters one more;
-/// for a font program or a CVT program that comes nowhere to its end, at its start. `OutOfMemory`.
+/// for a font program or a CVT program that never comes to its end, at its start. `OutOfMemory`.
 pub fn find(alloc: Global, setting: &Setting<'_>) -> Result<Found, ProgramFault>
     requires ascends { Ascends setting.now.start.now }
     requires fits { FunctionsFit (setting_of setting.now) setting.now.start.now }
@@ -417,7 +418,8 @@ pub fn find(alloc: Global, setting: &Setting<'_>) -> Result<Found, ProgramFault>
 }
 
 /// Finds the least family as `find` does, with a state at each point that the search comes to, and
-/// keeps what it has found where a fault ends the search: the fault's point has its state then.
+/// keeps what it has found where a fault ends the search: the fault's point has its state then,
+/// unless the program is too long.
 ///
 /// # Errors
 /// If memory runs out.

@@ -106,8 +106,8 @@ impl Walk {
         }
     }
 
-    /// Puts the walk's state at a point, as `Solver::put` does. A point that is new then has this
-    /// state.
+    /// Puts the walk's state at a point, as `Solver::put` does. If there was no state, the point is
+    /// then known to have this one, unless another point is.
     ///
     /// # Errors
     /// As `Solver::put`.

@@ -13,8 +13,8 @@ has_flag flags mask = not (bit_and flags mask == 0)
 abbrev pub argument_size : ℕ → ℕ
 argument_size flags = if has_flag flags 0x0001 then 4 else 2
 
--- WE_HAVE_A_SCALE, WE_HAVE_AN_X_AND_Y_SCALE, WE_HAVE_A_TWO_BY_TWO: where several are set, the first
--- of them counts
+-- how many bytes the scale has, by WE_HAVE_A_SCALE, WE_HAVE_AN_X_AND_Y_SCALE and
+-- WE_HAVE_A_TWO_BY_TWO: where several are set, the first of them counts
 abbrev pub scale_size : ℕ → ℕ
 scale_size flags =
     if has_flag flags 0x0008 then 2 else
@@ -29,7 +29,7 @@ has_more flags = has_flag flags 0x0020
 abbrev pub has_instructions : ℕ → Bool
 has_instructions flags = has_flag flags 0x0100
 
--- a component has its flags, its glyph, its arguments and its scale
+-- how many bytes a component has: its flags, its glyph, its arguments and its scale
 unfoldable pub component_size : ℕ → ℕ
 component_size flags = 4 + argument_size flags + scale_size flags
 
@@ -44,7 +44,7 @@ component_at place glyph =
     })
     else None
 
--- a component, and those that follow where it says that another one does
+-- a component, and after it those that `more` lists, if it says that another one follows
 abbrev pub listed : (ℕ → List Component) → Option Component → List Component
 listed more None = []
 listed more (Some c) = c ∷ (if has_more c.flags then more c.after else [])
@@ -55,8 +55,8 @@ components_from zero place glyph = []
 components_from (suc n) place glyph =
     listed (λ after. components_from n after glyph) (component_at place glyph)
 
--- the components from an offset on, as far as their bytes are there: there are fewer of them than
--- bytes
+-- the components from an offset on, as far as their bytes are there: there are never more of them
+-- than bytes
 unfoldable pub components_at : ℕ → List ℕ → List Component
 components_at place glyph = components_from (length glyph) place glyph
 

@@ -52,8 +52,8 @@ ends_before n bytes = unless (nat_le n (length bytes)) faults.DirectoryTruncated
 abbrev pub no_sfnt : List ℕ → Condition
 no_sfnt bytes = unless (u32_at 0 bytes == 0x10000 || u32_at 0 bytes == 0x74727565) faults.NotSfnt
 
--- the faults of the directory: its header of 12 bytes is cut short, its version is another one, or
--- its records are cut short
+-- the faults of the directory: its header of 12 bytes is cut short, its version isn't that of
+-- TrueType outlines, or its records are cut short
 unfoldable pub directory_fault : List ℕ → Condition
 directory_fault bytes =
     first (

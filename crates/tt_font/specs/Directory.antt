@@ -26,7 +26,7 @@ extent_of bytes i = record {
   len = u32_at (record_place i + 12) bytes;
 }
 
--- the first record with a number as its tag
+-- the index of the first record, among the first `count`, whose tag is this number
 abbrev pub first_record : ℕ → List ℕ → ℕ → Option ℕ
 first_record tag bytes count = first_below (λ i. u32_at (record_place i) bytes == tag) count
 

@@ -4,7 +4,7 @@ use Rattle.tt_font.specs.declared.component.Component.{Component}
 use Rattle.tt_font.specs.Numbers.{u16_at}
 use Rattle.tt_font.specs.Components.{components, last_of, has_instructions}
 
--- numberOfContours, which begins the header
+-- numberOfContours, which begins the header: an int16, read here as a u16
 abbrev pub contour_count : List ℕ → ℕ
 contour_count glyph = u16_at 0 glyph
 
@@ -21,7 +21,8 @@ unfoldable pub component_total : (ℕ → List ℕ) → ℕ → ℕ
 component_total glyphs zero = 0
 component_total glyphs (suc n) = component_total glyphs n + component_count (glyphs n)
 
--- a length, and as many bytes of instructions
+-- the program at an offset, where its length comes first; none where the glyph's bytes end before
+-- the program does
 unfoldable pub program_at : ℕ → List ℕ → Option (List ℕ)
 program_at place glyph =
     if nat_le (place + 2 + u16_at place glyph) (length glyph)
@@ -35,7 +36,8 @@ simple_program glyph =
     if contour_count glyph == 0 && length glyph == 10 then Some []
     else program_at (10 + 2 * contour_count glyph) glyph
 
--- the program of a composite glyph: it follows the last component where that one says so
+-- the program of a composite glyph: it follows the last component where that one says so, and is
+-- empty where that one doesn't; none where there is no last component
 abbrev pub composite_program : List ℕ → Option Component → Option (List ℕ)
 composite_program glyph None = None
 composite_program glyph (Some last) =

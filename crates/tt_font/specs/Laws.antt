@@ -8,7 +8,7 @@ use Rattle.tt_font.specs.Chains.{part_of, end_of}
 
 -- ---- the least number that passes a test
 
--- the least number below n that passes a test, or that none does
+-- the option is the least number below n that passes a test, or none where no number below n does
 abbrev pub IsLeastBelow : (ℕ → Bool) → ℕ → Option ℕ → Type 0
 IsLeastBelow test n least =
     MatchOption least ((i : ℕ) → i < n → test i ≡ false)
@@ -27,7 +27,8 @@ pub record IsAt (bytes : List ℕ) (place : ℕ) (c : Component) : Type 0 where
   pub after : c.after ≡ place + component_size (u16_at place bytes)
   pub within : c.after ≤ length bytes
 
--- components follow one after the other: each but the last says that another one follows
+-- components follow one after the other from an offset on: each but the last says that another one
+-- follows, and the last that none does
 abbrev pub IsComponentList : List ℕ → ℕ → List Component → Type 0
 IsComponentList bytes place [] = ⊥
 IsComponentList bytes place (c ∷ cs) = IsAt bytes place c

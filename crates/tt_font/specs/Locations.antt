@@ -14,7 +14,8 @@ entry_size format = if format == 0 then 2 else 4
 abbrev pub entry : ℕ → List ℕ → ℕ → ℕ
 entry format loca i = if format == 0 then 2 * u16_at (2 * i) loca else u32_at (4 * i) loca
 
--- entry i is there, lies in `glyf`, and doesn't lie before the entry before it
+-- whether entry i is there, and its offset is at most the length of `glyf` and at least the offset
+-- of the entry before it
 abbrev pub entry_fits : ℕ → List ℕ → List ℕ → ℕ → Bool
 entry_fits format loca glyf i = nat_le (entry_size format * (i + 1)) (length loca)
     && (nat_le (entry format loca i) (length glyf)

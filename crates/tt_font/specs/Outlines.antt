@@ -10,7 +10,7 @@ pub data Outline : Type 0 where
   simple : ℕ → ℕ → Outline
   composite : List ℕ → Outline
 
--- the outline that the bytes of a glyph tell
+-- the outline of a glyph, from its bytes
 unfoldable pub outline_of : List ℕ → Outline
 outline_of glyph =
     if is_composite glyph then composite (glyphs_named (components glyph))
@@ -49,8 +49,8 @@ unfoldable pub starts_chain : (ℕ → Outline) → ℕ → ℕ → Bool
 starts_chain outlines zero id = true
 starts_chain outlines (suc k) id = list_any (starts_chain outlines k) (parts (outlines id))
 
--- the own points, or contours, of the glyphs to which the chains of at most k steps from a glyph
--- lead, summed
+-- the sum, over all chains of at most k steps from a glyph, of the own points, or contours, of the
+-- glyph to which the chain leads
 unfoldable pub total : (Outline → ℕ) → (ℕ → Outline) → ℕ → ℕ → ℕ
 total own outlines zero id = own (outlines id)
 total own outlines (suc k) id =

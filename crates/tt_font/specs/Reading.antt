@@ -35,7 +35,7 @@ abbrev pub glyph_at : List GlyphData → ℕ → GlyphData
 glyph_at glyphs id = slice_index_or glyphs id no_glyph
 
 -- a glyph's program is in its bytes, and its points and contours are the sums over all chains of
--- components
+-- components, each at most 65,535
 pub record ReadsGlyph (glyph : List ℕ) (outlines : ℕ → Outline) (id : ℕ) (found : GlyphData)
     : Type 0 where
   pub program : program_of glyph ≡ Some found.program
@@ -44,13 +44,13 @@ pub record ReadsGlyph (glyph : List ℕ) (outlines : ℕ → Outline) (id : ℕ)
   pub points_most : found.points ≤ 65535
   pub contours_most : found.contours ≤ 65535
 
--- each glyph of a font is so
+-- this many glyphs were found, and each of them is as `ReadsGlyph` says
 pub record ReadsGlyphs (count : ℕ) (glyphs : ℕ → List ℕ) (outlines : ℕ → Outline)
     (found : List GlyphData) : Type 0 where
   pub len : length found ≡ count
   pub each : (id : ℕ) → id < count → ReadsGlyph (glyphs id) outlines id (glyph_at found id)
 
--- each field of a font is in the bytes at its place
+-- each field of a font, except for `component_reads`, is in the bytes at its place
 pub record Reads (bytes : List ℕ) (font : FontData) : Type 0 where
   pub limits : font.limits ≡ font_limits bytes
   pub cvt_count : font.cvt_count ≡ font_cvt_count bytes
@@ -59,13 +59,13 @@ pub record Reads (bytes : List ℕ) (font : FontData) : Type 0 where
   pub glyphs
       : ReadsGlyphs (font_glyph_count bytes) (font_glyphs bytes) (font_outlines bytes) font.glyphs
 
--- each component of each glyph was read, and none more than 17 times
+-- at least as many components were read as all glyphs list, and at most 17 times as many
 pub record ReadsComponents (bytes : List ℕ) (font : FontData) : Type 0 where
   pub at_least : component_total (font_glyphs bytes) (font_glyph_count bytes) ≤ font.component_reads
   pub at_most
       : font.component_reads ≤ 17 * component_total (font_glyphs bytes) (font_glyph_count bytes)
 
--- a glyph as the code has it
+-- the data of a glyph that the code has as a `GlyphPart`
 abbrev pub glyph_data : GlyphPart → GlyphData
 glyph_data part = record {
   points = part.points;

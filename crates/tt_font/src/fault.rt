@@ -22,13 +22,14 @@ pub enum FontFault {
     TableOutside(Tag),
     /// `maxp` isn't of version 1.0.
     MaxpVersion,
-    /// An entry of `loca`, by its number, is missing, lies outside `glyf`, or lies before the one
-    /// before it; or, with number 0, the format of `loca` isn't known.
+    /// An entry of `loca`, by its number, is missing, or its offset is above the length of `glyf`
+    /// or below the offset of the entry before it; or, with number 0, the format of `loca` isn't
+    /// known.
     Loca(u32),
     /// The bytes of the glyph of this number end too early.
     GlyphTruncated(u16),
-    /// The glyph of this number is composite and leads to no glyph or nests too deep, or has more
-    /// than 65,535 points or contours.
+    /// A chain of components from the glyph of this number leads to a number that is no glyph's, or
+    /// has more than 16 steps; or the glyph has more than 65,535 points or contours.
     Composite(u16),
     /// Memory ran out.
     OutOfMemory(AllocError),

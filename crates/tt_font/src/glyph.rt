@@ -36,7 +36,7 @@ fn read_simple_program(glyph: &[u8]) -> Option<&[u8]>
     requires { 10 ≤ length glyph.now }
     ensures { option_map (λ program. program.now) result ≡ simple_program glyph.now }
 {
-    // `numberOfContours`; `endPtsOfContours` has two bytes for each of them.
+    // `numberOfContours`; `endPtsOfContours` has two bytes for each contour.
     let contours = usize::from(u16_at(glyph, 0));
     if contours == 0 && glyph.len() == HEADER {
         return Some(&[]);

@@ -36,7 +36,8 @@ fn entry_at(format: u16, loca: &[u8], i: u32) -> u32
     }
 }
 
-/// Whether an entry of `loca` is there, lies in `glyf`, and doesn't lie before the entry before it.
+/// Whether an entry of `loca` is there, and its offset is at most the length of `glyf` and at least
+/// the offset of the entry before it.
 fn entry_is_good(format: u16, loca: &[u8], glyf: &[u8], i: u32) -> bool
     requires { format < 2 }
     ensures { result ≡ entry_fits format loca.now glyf.now i }

@@ -15,8 +15,8 @@ const TOO_MANY: u32 = 65536;
 /// The size of a glyph's outline, as far as it is known after some iterations.
 #[derive(Clone, Copy, Debug, PartialEq, Eq)]
 pub(crate) struct OutlineSize {
-    /// Whether a chain of its components leads to no glyph, or has more steps than there were
-    /// iterations.
+    /// Whether a chain of its components leads to a number that is no glyph's, or has more steps
+    /// than there were iterations.
     pub(crate) unresolved: bool,
     /// How many points it has, where 65,536 stands for every greater number.
     pub(crate) points: u32,

@@ -19,7 +19,7 @@ use tt_code::Limits;
 /// The greatest length of a font program or a CVT program, in bytes (own).
 const PROGRAM_MOST: u32 = 0x7FFF_FFFF;
 
-/// What the tables of a font file hold, where its glyphs aren't read yet.
+/// What the tables of a font file hold, before its glyphs are read.
 #[derive(Clone, Copy)]
 pub(crate) struct Tables<'a> {
     /// What the font allows its programs.
@@ -40,7 +40,7 @@ impl<'a> Tables<'a> {
     /// # Errors
     ///
     /// The first fault in this order: of the directory, of the table `maxp`, of the other tables as
-    /// they are read here, of the entries of `loca`.
+    /// they are read here, of the format of `loca`, of its entries.
     #[tactic(auto, unfolding(crate::specs::FileFaults::tables_fault))]
     pub(crate) fn read(bytes: &'a [u8]) -> Result<Tables<'a>, FontFault>
         ensures fault { Tests (tables_fault bytes.now) result }

@@ -37,7 +37,8 @@ pub record ReadAhead (S : Type 0) : Type 0 where
   pub source : S
   pub ahead : List ℕ
 
--- one call of the source gave these bytes, none only at its end
+-- one call of the source gave these bytes: none only at its end, or where the call failed, which is
+-- counted
 pub record Refills (r : Result (Unit {0}) ReadFailed) (old new : Option (List ℕ))
     (failures failures_now : ℕ) (ahead : List ℕ) : Type 0 where
   pub bytes : Consumes old new ahead

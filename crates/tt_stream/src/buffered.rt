@@ -1,4 +1,5 @@
-//! A source from which many bytes are read at a time, and kept until they are asked for.
+//! A source that reads many bytes at a time from another one, and keeps them until they are asked
+//! for.
 
 ghost use Rattle.std.specs.Prelude.{◌≡◌, ◌≤◌, ◌<◌, [], drop, length, slice_range, vec_len, IfOk, OnOk};
 ghost use Rattle.std.specs.Io.KnownBytes.{IsAtEnd, Keeps, prepend_known};
@@ -12,8 +13,8 @@ use std::marker::Model;
 /// How many bytes are read ahead at a time.
 const ROOM: usize = 65_536;
 
-/// A source from which many bytes are read at a time, and kept until they are asked for. It is
-/// called only where bytes are asked for and none are kept, and then once.
+/// A source that reads many bytes at a time from another one, and keeps them until they are asked
+/// for. That one is called only where bytes are asked for and none are kept, and then once.
 #[derive(Drop)]
 pub struct Buffered<S> {
     /// The source below.
@@ -38,10 +39,10 @@ impl<S> Model for Buffered<S> {
 }
 
 impl<S: Source> Buffered<S> {
-    /// Makes the source with nothing read ahead.
+    /// Makes a source that reads from `source`, with nothing read ahead.
     ///
     /// # Errors
-    /// If memory runs out; then the source is dropped.
+    /// If memory runs out; then `source` is dropped.
     pub fn new(alloc: Global, source: S) -> Result<Buffered<S>, AllocError>
     where
         S: Drop,
@@ -92,7 +93,7 @@ impl<S: Source> Buffered<S> {
         Ok(())
     }
 
-    /// Drops `count` bytes that were read ahead.
+    /// Drops the first `count` bytes that were read ahead.
     fn drop_front(&mut self, count: usize)
         requires { count ≤ length self.old.ahead }
         ensures source { self.new.source ≡ self.old.source }

@@ -58,7 +58,7 @@ pub trait Source {
         ensures value { result.now ≡ read_ahead self.now }
         ensures front { IfSome (remaining self.now) (λ bytes. StartsWith bytes result.now) };
 
-    /// Takes `count` of the bytes that are read ahead.
+    /// Takes the first `count` of the bytes that are read ahead.
     fn skip(&mut self, count: usize)
         requires { count ≤ length (read_ahead self.old) }
         ensures bytes { Consumes (remaining self.old) (remaining self.new)
@@ -89,7 +89,8 @@ pub trait Sink {
     /// Writes the text without allocating. `write!` and `writeln!` call it.
     ///
     /// # Errors
-    /// If a write fails, or the value's own `Display` fails; then a beginning was written.
+    /// If a write fails, or the text can't be rendered (`PrintFailed`); then a beginning of the
+    /// text was written.
     final fn write_fmt<D: Display + Drop>(&mut self, text: D) -> Result<(), PrintFailed>
     where
         Self: Sized,
@@ -104,7 +105,7 @@ pub trait Sink {
 }
 
 /// A reader or a writer of the standard library whose failed calls are counted. The counter takes
-/// no bytes.
+/// no memory.
 #[derive(Drop)]
 pub struct Counted<T, L: Ledger> {
     /// The reader or writer.
@@ -124,8 +125,8 @@ impl<T, L: Ledger> Model for Counted<T, L> {
 }
 
 impl<T, L: Ledger> Counted<T, L> {
-    /// Wraps the reader or writer, of which no call has failed so far, and gives it a ledger of its
-    /// own.
+    /// Wraps the reader or writer, and opens `blank` as the ledger of its failed calls, which
+    /// starts at 0.
     pub fn new(inner: T, blank: Blank) -> Self
         requires name { blank.name ≡ L.name }
         requires parts { blank.parts ≡ L.parts }

@@ -65,12 +65,12 @@ pub fn read_all<R: Source>(alloc: Global, source: &mut R) -> Result<Vec<u8>, Rea
     }
 }
 
-/// Reads until the buffer is full or the input ends, and returns how many bytes were read to its
+/// Reads until the buffer is full or the input ends, and returns how many bytes were read into its
 /// front.
 ///
 /// # Errors
-/// If a read fails; then some beginning of what was left was read, of fewer bytes than the buffer
-/// has.
+/// If a read fails; then some beginning of what was left was read: fewer bytes than the buffer has
+/// room for.
 #[tactic(auto, using(crate::proofs::Beginnings::consumes_beginning))]
 pub fn read_full<R: Source>(source: &mut R, buf: &mut [u8]) -> Result<usize, ReadFailed>
     ensures bound { ReadsAtMost result buf.new }

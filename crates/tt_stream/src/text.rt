@@ -20,7 +20,7 @@ pub enum PrintFailed {
     /// A write failed.
     #[error("write")]
     Write,
-    /// The value's own `Display` failed.
+    /// The value's own `Display` failed, or its text was too long to count.
     #[error("format")]
     Format,
 }
@@ -35,7 +35,7 @@ impl From<WriteFailed> for PrintFailed {
     }
 }
 
-/// The part of a text after its first `skip` bytes, as far as there is room.
+/// The part of a text after the bytes that are skipped, as far as there is room.
 #[derive(Drop)]
 struct Window {
     /// The room for the part.
@@ -110,8 +110,8 @@ fn render<D: Display>(value: &D, skip: usize) -> Result<Window, PrintFailed>
 /// Writes the value's text.
 ///
 /// # Errors
-/// `Write` if a write fails, `Format` if the value's own `Display` fails; then a beginning of the
-/// text was written.
+/// `Write` if a write fails, `Format` if the value's own `Display` fails or its text has 2^64 - 256
+/// bytes or more; then a beginning of the text was written.
 pub fn print<W: Sink, D: Display>(sink: &mut W, value: &D) -> Result<(), PrintFailed>
     ensures written { OnOk result
         (AppendsText (D.output value.now) (W.contents sink.old) (W.contents sink.new)) }

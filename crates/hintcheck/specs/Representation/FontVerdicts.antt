@@ -19,7 +19,7 @@ use Rattle.hintcheck.specs.declared.report.Refused.{Refused}
 abbrev pub HasSubject : Setting → Type 0
 HasSubject s = (x : Subject) × IsSubjectOf x s
 
--- a font program or a CVT program, which come to their ends
+-- the kind is that of a font program or a CVT program, which have to come to their ends
 abbrev pub ComesToEnd : Kind → Type 0
 ComesToEnd FontProgram = Unit {0}
 ComesToEnd CvtProgram = Unit {0}

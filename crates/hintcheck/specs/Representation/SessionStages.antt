@@ -62,7 +62,7 @@ fault_in None = None
 fault_in (Some m) = Some (fault_of m)
 
 -- What is kept of accepted programs is what is known where their good families end, and the next
--- glyph's number is at most that of all glyphs.
+-- glyph's number is at most the count of glyphs.
 abbrev pub KeepsGood : FontData → Stage → Type 0
 KeepsGood d at_start = Unit {0}
 KeepsGood d (after_font f functions) = IsGoodAtEnd (font_subject d) f functions
@@ -90,14 +90,14 @@ abbrev pub HasHeader : FontData → Form → Option (List ℕ) → Option (List 
 HasHeader d form old new =
     (place : ℕ) × (header_at (input_at 0 old) ≡ Ok ((form, length d.glyphs + 2), input_at place new))
 
--- what is reported of a program of this name that the fault refuses; out of memory is unspecified
+-- the answer is the outcome of a program of this name that the fault refuses; or that memory ran
+-- out, where it did
 abbrev pub TellsRefusal : Name → ProgramFault → Result Outcome CheckFontFault → Type 0
 TellsRefusal called (program.Refused spot offset r) answer =
     answer ≡ Ok (refused_as called (reported_at called spot offset r))
 TellsRefusal called (program.OutOfMemory e) answer = answer ≡ Err (fault.OutOfMemory e)
 
--- what is reported of a program of this name that the fault refuses; that memory ran out, where it
--- did
+-- the same of an answer whose only error is that memory ran out
 abbrev pub TellsOutcome : Name → ProgramFault → Result Outcome AllocError → Type 0
 TellsOutcome called (program.Refused spot offset r) answer =
     answer ≡ Ok (refused_as called (reported_at called spot offset r))
@@ -174,7 +174,7 @@ GlyphBySection d fpgm prep id from old to new result = IsTold old → Finds resu
     (at_glyph_program fpgm prep (id + 1)))
     (IsFaultInSection d (at_glyph_program fpgm prep id) from old)
 
--- A failed read: what was read is at fault nowhere but at its end.
+-- Where the fault is a failed read, what was read is at fault nowhere but at its end, if at all.
 abbrev pub StopsInSection : FontData → Stage → Progress → Option (List ℕ) → Option (List ℕ)
     → CheckFontFault → Type 0
 StopsInSection d stage from old new fault =

@@ -12,8 +12,8 @@ use crate::report::Verdict;
 use hintcheck_words::word_bytes;
 use std::alloc::Global;
 
-/// Returns the verdict on one glyph program, whose `maxp` table and bytes are words of hexadecimal
-/// digits.
+/// Returns the verdict on one glyph program against the limits of a `maxp` table: both are words of
+/// hexadecimal digits.
 pub(super) fn bare_verdict(
     alloc: Global,
     maxp: &str,

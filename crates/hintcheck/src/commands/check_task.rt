@@ -54,8 +54,8 @@ fn verdict_by_file<L: Ledger, F: Read + Drop>(
 }
 
 /// Returns the verdict on the font file with the first name by the certificate in the file with the
-/// second, opened where the first is a font. It makes at most this many points, where they are
-/// bounded.
+/// second, which is opened once the first was read as a font. At most this many points are made,
+/// where they are bounded.
 pub(super) fn check_verdict<R: Files + AllocGlobal>(
     rt: &R,
     font: &str,

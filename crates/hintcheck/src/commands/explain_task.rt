@@ -11,8 +11,8 @@ use crate::explanation::explain_program;
 use std::rt::Files;
 use tt_stream::Sink;
 
-/// Explains the program of the font file with this name whose name the word is, and returns the
-/// exit status: 0 accepted, 1 refused.
+/// Explains one program of the font file with this name, the one that the word names, and returns
+/// the exit status: 0 accepted; 1 refused, or not checked since one before it is refused.
 ///
 /// # Errors
 /// `Read` where the file can't be opened or read; the faults of `explain_program`.

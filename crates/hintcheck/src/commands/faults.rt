@@ -42,9 +42,9 @@ impl fmt::Display for Numbered {
 pub enum CommandFault {
     /// The words aren't those of the command line. The text is clap's, and is printed alone.
     Usage(TaskFault),
-    /// The word spells no bytes.
+    /// The word of the `maxp` table spells no bytes.
     MaxpWord,
-    /// The word spells no bytes, or names no program of the font.
+    /// The word of the program spells no bytes, or names no program of the font.
     ProgramWord,
     /// No instruction of the program begins at the offset.
     OffsetWord,
@@ -52,9 +52,11 @@ pub enum CommandFault {
     CertificateWord,
     /// The old certificate's file is to be the new one's.
     NewWord,
-    /// The first fault of the font's bytes.
+    /// The first fault of the font's bytes, or of the `maxp` table of `bare`; or that memory ran
+    /// out.
     Font(Numbered),
-    /// The bytes are no certificate for the font, or for any font, at this place.
+    /// The bytes are no certificate for the font, or, in an upgrade, for any font: the place of
+    /// what is wrong.
     Form(u64),
     /// Memory ran out.
     OutOfMemory,
@@ -70,8 +72,8 @@ pub enum CommandFault {
     Write,
     /// A file can't be made or written.
     File,
-    /// A `Display` failed, which none here does: each writes to a buffer in memory, which takes
-    /// all.
+    /// A `Display` failed, which none here does: each writes to a buffer in memory, where no write
+    /// fails.
     Text,
 }
 
@@ -213,7 +215,7 @@ impl From<UpgradeFault> for CommandFault {
 }
 
 impl CommandFault {
-    /// Returns the fault of a word of hexadecimal digits, which is `bad` where it spells no bytes.
+    /// Returns the fault of a word of hexadecimal digits: `bad` where the word spells no bytes.
     pub(crate) fn of_word(fault: WordFault, bad: CommandFault) -> CommandFault
         requires { IsNoWriteFault bad }
         ensures fault { result ≡ fault_of_word fault bad }

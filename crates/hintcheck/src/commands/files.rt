@@ -18,7 +18,7 @@ use std::sync::ledger::{Blank, Ledger};
 use tt_stream::{Counted, read_all};
 
 /// How many bytes of a certificate are written at a time: those of many sections, since most are
-/// short. Sections of their own length take the system half as long again.
+/// short. With a write for each section the system takes half as long again.
 pub(super) const ROOM: usize = 65_536;
 
 /// Returns the bytes that are left in the file.
@@ -86,7 +86,8 @@ pub(super) fn file_numbers<R: Files>(rt: &R, name: &str) -> Option<FileNumbers>
     (numbers.file != 0).then_some(numbers)
 }
 
-/// Whether these are the numbers of one file. Where they aren't given, that isn't known.
+/// Whether these are the numbers of one file: not where they aren't given, since it isn't known
+/// then.
 pub(super) fn is_same_file(one: Option<FileNumbers>, other: Option<FileNumbers>) -> bool
     ensures { IsTrue result ↔ (one ≢ None × one ≡ other) }
 {

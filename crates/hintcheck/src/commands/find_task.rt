@@ -48,7 +48,7 @@ fn find_within_points<W: Sink>(
 }
 
 /// Returns the verdict on a font, and the file, to which the font's certificate is written where no
-/// program is refused. It makes at most this many points, where they are bounded.
+/// program is refused. At most this many points are made, where they are bounded.
 fn verdict_to_file<L: Ledger, F: Write + Drop>(
     alloc: Global,
     font: &Font<'_>,
@@ -76,9 +76,10 @@ fn verdict_to_file<L: Ledger, F: Write + Drop>(
     Ok((verdict, file))
 }
 
-/// Returns the verdict on the font file with the first name, whose certificate is written to the
-/// file with the second, which is made or emptied where the first is a font, and is a file of its
-/// own as far as that can be known.
+/// Returns the verdict on the font file with the first name, and writes its certificate to the file
+/// with the second where no program is refused. That file is made or emptied once the first was
+/// read as a font. It is a fault if both are one file, as far as that can be known. At most this
+/// many points are made, where they are bounded.
 pub(super) fn find_verdict<R: Files + AllocGlobal>(
     rt: &R,
     font: &str,

@@ -42,7 +42,7 @@ fn text_of_class(reason: Reason) -> &'static str
     }
 }
 
-/// Prints how many programs do what is left out, where some do.
+/// Prints how many programs are refused for what the analysis leaves out by choice, if some are.
 fn print_left_out<O: Sink>(out: &mut O, count: usize) -> Result<(), PrintFailed>
     ensures written { OnOk result
         (Appends (O.contents out.old) (O.contents out.new) (left_out_text count)) }
@@ -54,8 +54,8 @@ fn print_left_out<O: Sink>(out: &mut O, count: usize) -> Result<(), PrintFailed>
     write!(out, ", {count} left out")
 }
 
-/// Prints the line of a font of which glyph programs are refused, with how many there are of each
-/// class.
+/// Prints the line of a font of which glyph programs are refused, with how many of them are refused
+/// as a possible fault, as undecided, and as left out by choice.
 fn print_counts<O: Sink>(
     out: &mut O,
     name: &str,
@@ -139,7 +139,8 @@ fn scan_font<R: Files + AllocGlobal, O: Sink>(
 /// is refused.
 ///
 /// # Errors
-/// `ScanFault` and `ScanUnfinished` where the greatest status is 2 and 3, after the last line.
+/// `Write` exactly where a write to `out` failed; after the last line, `ScanFault` where the
+/// greatest status is 2, and `ScanUnfinished` where it is 3.
 pub(super) fn scan_fonts<R: Files + AllocGlobal, O: Sink>(
     rt: &R,
     fonts: &[String],

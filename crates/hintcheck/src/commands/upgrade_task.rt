@@ -53,7 +53,8 @@ fn upgrade_file<L: Ledger, M: Ledger, F: Read + Drop, G: Write + Drop>(
 }
 
 /// Upgrades the certificate in the file with the first name to the file with the second, which is
-/// made or emptied once the first is open, and is a file of its own as far as that can be known.
+/// made or emptied once the first is open, and returns how many sections the certificate has. It is
+/// a fault if both are one file, as far as that can be known.
 fn upgrade_named<R: Files + AllocGlobal>(rt: &R, old: &str, new: &str) -> Result<u32, CommandFault>
     ensures number { IfOk result IsNumberOfPrograms }
     ensures fault { IfErr result IsNoWriteFault }

@@ -193,7 +193,8 @@ fn find_on<'a>(
     }
 }
 
-/// Returns what a call of a session that keeps this comes to, and what it keeps then.
+/// Returns what a call of a session that keeps this comes to, and puts in its place what the
+/// session keeps then.
 pub(super) fn find_from<'a>(
     alloc: Global,
     finder: &mut Finder,

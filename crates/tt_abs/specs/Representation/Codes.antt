@@ -6,7 +6,8 @@ use Rattle.tt_abs.specs.declared.cells.Cell.{Cell}
 use Rattle.tt_abs.specs.declared.cells.Cell.TheVariants.{Known, Unknown}
 use Rattle.tt_abs.specs.Stacks.{IsLeastCell}
 
--- the cell of a code: unknown for the lowest number of 16 bits, and each other number for itself
+-- the cell of a code, a number of 16 bits in two's complement: unknown for the lowest one, -32,768,
+-- and each other number for itself
 abbrev pub cell_of_code : ℕ → Cell
 cell_of_code n = if nat_eq n 32768 then Unknown else Known (cast_signed w16 n)
 

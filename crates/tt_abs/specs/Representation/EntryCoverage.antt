@@ -53,7 +53,8 @@ below_step : (o : Option ℤ) (v : ℤ) → unwrap_or o (pos 0) ≡ v → unwrap
 below_step None v zero one = cc
 below_step (Some w) v zero one = ap Some zero
 
--- a list of storage cells is below another exactly if the other covers all that the one covers
+-- a list of storage cells in range is below another exactly if the other covers all that the one
+-- covers
 pub storage_below_is_coverage : (a b : List (ℕ × ℤ)) → EntriesInRange IsNumber a
     → EntriesBelow a b
     ↔ ((area : ℕ → ℤ) → CoversStorage (storage_of a) area → CoversStorage (storage_of b) area)

@@ -1,4 +1,4 @@
--- What a sorted map has after an entry was put or removed: the functions by their names, and the
+-- What a sorted map has after an entry was put or removed: the functions by their numbers, and the
 -- storage area cell by cell.
 use Rattle.std.specs.Prelude.{◌≡◌, ℕ, ℤ, Bool, true, false, cond, not, nat_eq, nat_lt, if◌then◌else◌, List, [], ◌∷◌, Option, None, Some}
 use Rattle.std.specs.List.{AllByRecursion}
@@ -88,7 +88,7 @@ listed-without n (e ∷ es) k = without_step n e es k (nat_eq e.0 n) refl (liste
 
 -- Functions and their bodies.
 
--- both lookups are the same
+-- looking a function up by `listed` and by `body_named` is the same
 pub listed-named : (fs : List (ℕ × ℕ)) (n : ℕ) → listed fs n ≡ body_named fs n
 listed-named [] n = refl
 listed-named (f ∷ fs) n =

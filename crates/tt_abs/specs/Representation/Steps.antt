@@ -52,7 +52,7 @@ NamesNoCell stack r =
     RefusesStack (shuffled_cells CopyIndexed) stack r
     × RefusesStack (shuffled_cells MoveIndexed) stack r
 
--- ABS, NEG and NOT take one operand, the others two
+-- whether the instruction takes one operand: ABS, NEG and NOT do, the others take two
 abbrev pub takes_one : Arithmetic → Bool
 takes_one Abs = true
 takes_one Neg = true
@@ -61,7 +61,7 @@ takes_one _ = false
 
 -- Plain lines.
 
--- a line of the table as the code has it, in slices
+-- the line of the table that the code has in slices
 abbrev pub line_of : Row → Lists
 line_of row = record {
   operands = row.operands.now;
@@ -88,19 +88,19 @@ ChangesAllTo count changes old new =
       registers = all_updated cells (take count old.stack) changes (abstract_of old).registers;
     }
 
--- the cell that is pushed where the first `count` cells of the stack are read
+-- what one push of a line gives, by the first `count` cells of the stack and the storage area
 abbrev pub pushed_from : State → ℕ → Pushed → Cell
 pushed_from state count pushed =
     cell_pushed (take count state.stack) (storage_of state.storage) pushed
 
--- the cells that are pushed there
+-- what all pushes of a line give, by the same, the deepest first
 abbrev pub all_pushed_from : State → ℕ → List Pushed → List Cell
 all_pushed_from state count pushes =
     cells_pushed (take count state.stack) (storage_of state.storage) pushes
 
 -- Control.
 
--- JROT jumps where the condition holds, JROF where it doesn't
+-- whether the condition's number is as asked: JROT asks for a true one, JROF for a false one
 abbrev pub holds_when : Bool → ℤ → Bool
 holds_when true = is_true
 holds_when false = λ e. not (is_true e)
@@ -122,7 +122,8 @@ abbrev pub if_at : Setting → Point → Cell → List Cell → Abstract → Tes
 if_at setting point cell stack a =
     if_ways (setting_of setting) (frames_of point) point.offset a cell stack
 
--- a jump at the point, where the condition's cell is as asked, with this stack left
+-- a jump at the point if the condition is as asked, by the cells of both operands, with this stack
+-- left
 abbrev pub jump_at :
     Setting → Point → Bool → Cell → Cell → List Cell → Abstract → Tested (List Next)
 jump_at setting point asked condition by stack a =

@@ -1,6 +1,6 @@
--- The lines of the table that store or read storage cells do so at an index that was tested, and
--- none both changes and pushes. (Representation: how the code reads an index as one of 16 bits, and
--- in which order it works.)
+-- The lines of the table that set or read storage cells do so at an index that was tested, and none
+-- both changes and pushes. (Representation: how the code reads an index as one of 16 bits, and in
+-- which order it works.)
 use Rattle.std.specs.Prelude.{◌≡◌, ℕ, zero, suc, ◌<◌, ◌^◌, List, [], ◌∷◌, pos, Bool, true, false, ◌&&◌}
 use Rattle.tt_code.specs.Table.{Lists}
 use Rattle.tt_code.specs.Changes.{taken_at}
@@ -25,7 +25,7 @@ abbrev pub is_storage : Operand → Bool
 is_storage operand.Storage = true
 is_storage _ = false
 
--- whether the element taken at the position is a storage index
+-- whether the element taken at the position is a storage index, after operands of one element each
 abbrev pub is_storage_at : List Operand → ℕ → Bool
 is_storage_at [] i = false
 is_storage_at (o ∷ os) zero = is_storage o
@@ -58,7 +58,7 @@ changes_or_pushes (u ∷ us) (p ∷ ps) = false
 abbrev pub is_of_one_kind : Lists → Bool
 is_of_one_kind line = changes_or_pushes line.updates line.pushes
 
--- the cell holds a storage index
+-- the cell holds an index: a known number from 0 to 65,535
 abbrev pub IsIndex : Cell → Type 0
 IsIndex c = (n : ℕ) × (c ≡ Known (pos n)) × (n < 2 ^ 16)
 

@@ -32,8 +32,8 @@ use Rattle.tt_cert.specs.declared.meeting.Coverage.{Coverage}
 use Rattle.tt_cert.specs.declared.meeting.Coverage.TheVariants as coverage
 use Rattle.tt_cert.specs.declared.cursor.Cursor.{Cursor}
 
--- from which place to which a state may be left out: from none, or from each to the one just after
--- it
+-- what the first place gives at the second may be left out there: never where all states are
+-- listed, otherwise where the second place is just after the first
 abbrev pub MayLeaveOut : Listing → Setting → Place → Place → Type 0
 MayLeaveOut Whole s p = Nowhere
 MayLeaveOut Sparse s p = Precedes s p
@@ -69,7 +69,7 @@ pub record IsWalk (contents : Contents) (walk : Cursor) : Type 0 where
   pub next : IsEntry contents walk.next
   pub made : IsTrue walk.is_next → IsNextState walk.next walk.made
 
--- what is still to come where one entry was read ahead
+-- what is still to come: the entry that was read ahead, and these; nothing where none was read
 abbrev pub to_come : Option (ℕ × ℕ × Bor State) → List Entry → List Entry
 to_come None entries = []
 to_come (Some e) entries = ((e.0, e.1), e.2.now) ∷ entries
@@ -103,7 +103,7 @@ coverage_of_both coverage.Listed other = coverage.Listed
 abbrev pub IsLeftOutAfter : Listing → Setting → Place → Option ℕ → Type 0
 IsLeftOutAfter listing s p after = (q : Place) → IsAfter p.0 after q ↔ MayLeaveOut listing s p q
 
--- the place is among those that come next, and the family has no state there
+-- the place at the offset `after` is among those that come next, and the family has no state there
 pub record IsLeftOut (family : Place → Option State) (fs : List Frame) (after : Option ℕ)
     (nexts : List Next) : Type 0 where
   pub index : ℕ
@@ -178,7 +178,8 @@ pub record IsOnWay (s : Setting) (listing : Listing) (contents : Contents) (walk
       → (IsLess (point_key_of contents p) reached → ⊥)
       → (o : ℕ) × (walk.carried ≡ Some o) × (p ≡ place_of contents walk.context o)
 
--- At a point: all before it are walked, and if anything were added after it, it would be refused.
+-- At a point: all before it are walked; and if anything were added after it, every state would be
+-- refused at this point.
 pub record IsAtPoint (s : Setting) (listing : Listing) (contents : Contents) (walk : Cursor)
     (others : List Entry) (offset : ℕ) : Type 0 where
   pub filled : Place → Option State
@@ -201,15 +202,15 @@ IsAtNext s listing contents walk others None = IsWalkedThrough s listing content
 IsAtNext s listing contents walk others (Some offset) =
     IsAtPoint s listing contents walk others offset
 
--- one listed state fewer is to come; or as many, and the walk goes to the point that it carried a
--- state to
+-- fewer listed states are to come; or as many, and the walk goes to the point to which it carried a
+-- state
 abbrev pub IsShorter : Cursor → Cursor → List Entry → List Entry → ℕ → Type 0
 IsShorter old new others others' offset =
     (length (to_come new.next others') < length (to_come old.next others))
     ⊎ ((length (to_come new.next others') ≡ length (to_come old.next others))
     × (old.carried ≡ Some offset))
 
--- at a point at most one listed state fewer is to come, and after the last point none is
+-- at a point at most one listed state fewer is to come, and after the last point none was to come
 abbrev pub TakesOne : Bool → Cursor → Cursor → List Entry → List Entry → Type 0
 TakesOne true old new others others' =
     length (to_come old.next others) ≤ length (to_come new.next others') + 1
@@ -271,13 +272,13 @@ NamesFirstGapMade contents walk after moves =
     (IsFirstGap (family_of contents) (IsAfter (calls_of contents walk) after)
     (nexts_made contents walk moves) walk.made)
 
--- where a state may be left out, the certificate has none unless that is the next listed one or
--- comes before it
+-- where the next listed state comes after the offset at which a state may be left out, the
+-- certificate has no state at that offset
 abbrev pub IsUnlistedAfter : Contents → Cursor → Option ℕ → Type 0
 IsUnlistedAfter contents walk after =
     (end : ℕ) → after ≡ Some end → IsUnlisted contents walk.next walk.context end
 
--- and that isn't at a body's start
+-- the offset at which a state may be left out, if there is one, isn't 0
 abbrev pub IsPastStart : Option ℕ → Type 0
 IsPastStart after = (end : ℕ) → after ≡ Some end → 0 < end
 

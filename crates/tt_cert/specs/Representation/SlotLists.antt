@@ -12,7 +12,7 @@ use Rattle.tt_cert.specs.Places.{place_cmp, states_of}
 abbrev pub Point : Type 0
 Point = (ℕ × ℕ) × ℕ
 
--- the offsets of a list with their slots, by ascending offset
+-- the offsets of a list, each with its slot
 abbrev pub Offsets : Type 0
 Offsets = List (ℕ × ℕ)
 
@@ -50,8 +50,8 @@ pub record AreApart (points rest : List Point) : Type 0 where
   pub rest_ascends : IsStrictlySortedBy place_cmp (keys_of rest)
   pub once : (p : ℕ × ℕ) (n : ℕ) → states_of rest p ≡ Some n → states_of points p ≡ None
 
--- the offsets of each list ascend, and the list of a point in the tree has a greater offset, and
--- not the point's own
+-- the offsets of each list ascend, and so do the points in the tree; the list of such a point's
+-- context has a greater offset, and not the point's own; there are at most 2^32 lists
 pub record AreSlotLists (lists : List Offsets) (rest : List Point) : Type 0 where
   pub ascend : (c : ℕ) → Ascends (list_of lists c)
   pub rest_ascends : IsStrictlySortedBy place_cmp (keys_of rest)
@@ -70,7 +70,7 @@ pub record AddsLists (old new : List Offsets) : Type 0 where
   pub lists : (c : ℕ) → list_of new c ≡ list_of old c
   pub longer : length old ≤ length new
 
--- the first point, if it was taken out, and those after it
+-- the first point and those after it; none where there is no first point
 abbrev pub with_first : Option Point → List Point → List Point
 with_first None es = []
 with_first (Some e) es = e ∷ es

@@ -28,6 +28,6 @@ pub record AreFirstSlots (slots : List State) (places : List ((ℕ × ℕ) × �
   pub enough : length places ≤ length slots
   pub fits : length places ≤ 4294967295
 
--- the first slots hold the same
+-- the slots below this number hold the same states
 abbrev pub AgreesBelow : ℕ → List State → List State → Type 0
 AgreesBelow number old new = (n : ℕ) → n < number → state_in new n ≡ state_in old n

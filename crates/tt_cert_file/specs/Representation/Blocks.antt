@@ -1,5 +1,4 @@
--- Functions and cells that are read many at a time. Only the representation of reading: nothing
--- above needs it.
+-- Functions and cells that are read many at a time. Only private contracts of reading need it.
 use Rattle.std.specs.Prelude.{◌≡◌, ℕ, ◌+◌, ◌-◌, ◌*◌, ◌^◌, ◌<◌, ◌≤◌, true, List, [], ◌∷◌, ◌++◌, length, take, drop, Option, is_some, unwrap_or, Result, Ok, Err}
 use Rattle.std.specs.Io.KnownBytes.{Consumes, IsAtEnd}
 use Rattle.tt_cert_file.specs.declared.fault.DecodeFault.{DecodeFault}
@@ -14,8 +13,8 @@ use Rattle.tt_cert_file.specs.Reading.{cell_at, function_at}
 abbrev pub input_of : ℕ → List ℕ → List ℕ → Input
 input_of place bytes rest = record { place = place; bytes = bytes ++ rest }
 
--- This many functions were taken from the front of the bytes, after the old ones, and these are
--- left: the rest of a list is read from there on.
+-- Functions were taken from the front of the bytes and put after the old ones, and the bytes `left`
+-- weren't taken: the rest of a list is read from there on.
 pub record IsTaking (old now : List (ℕ × ℕ)) (place at : ℕ) (bytes left : List ℕ) : Type 0 where
   pub taken : ℕ
   pub long : length bytes ≡ 6 * taken + length left
@@ -49,8 +48,8 @@ Takes (Err (fault.Form broken)) old new place bytes = BreaksAt old place bytes b
 Takes (Err fault.Read) old new place bytes = ⊥
 Takes (Err (fault.OutOfMemory error)) old new place bytes = Unit {0}
 
--- This many more of the wanted bytes were read into the buffer, after those that it holds; none at
--- the input's end.
+-- This many more of the wanted bytes were read into the buffer, after those that it holds; none
+-- only at the input's end.
 pub record FillsOn (old new : Option (List ℕ)) (held wanted more : ℕ)
     (before buf : List ℕ) : Type 0 where
   pub long : length buf ≡ length before
@@ -74,7 +73,7 @@ ReadsBlock (Ok after) old new before now place count = is_some old ≡ true → 
 ReadsBlock (Err e) old new before now place count = is_some old ≡ true → (n : ℕ)
     → Fails e (list_at function_at before (count + n) (input_at place old))
 
--- the buffer was read full after what it held, or to the input's end
+-- bytes were read into the buffer after those that it held, until it was full or the input ended
 pub record FillsRest (old new : Option (List ℕ)) (held read : ℕ)
     (before buf : List ℕ) : Type 0 where
   pub long : length buf ≡ length before
@@ -91,8 +90,8 @@ cells_at before n i = list_at (λ _. cell_at) before n i
 abbrev pub cells_up_to : List Cell → ℕ → Input → Answer (List Cell)
 cells_up_to before count i = cells_at before (count - length before) i
 
--- This many cells were taken from the front of the bytes, each of at least one byte, after the old
--- ones, and these bytes are left: the rest of a list is read from there on.
+-- Cells of at least one byte each were taken from the front of the bytes and put after the old
+-- ones, and the bytes `left` weren't taken: the rest of a list is read from there on.
 pub record IsTakingCells (old now : List Cell) (place at : ℕ) (bytes left : List ℕ) : Type 0 where
   pub taken : ℕ
   pub grown : length now ≡ length old + taken
@@ -102,7 +101,7 @@ pub record IsTakingCells (old now : List Cell) (place at : ℕ) (bytes left : Li
   pub reads : (n : ℕ) (rest : List ℕ) → cells_at old (taken + n) (input_of place bytes rest)
       ≡ cells_at now n (input_of at left rest)
 
--- the bytes are the tag of a known cell and a part of its number
+-- the bytes are the tag of a known cell and fewer than the four bytes of its number
 pub record IsBegun (left : List ℕ) : Type 0 where
   pub number : List ℕ
   pub left_is : left ≡ 1 ∷ number
@@ -134,7 +133,8 @@ input_begun place number known = record {
   bytes = 1 ∷ (number ++ unwrap_or known []);
 }
 
--- One more cell was read, which was begun; the rest of the list is read from there on.
+-- One more cell was read, whose tag and first bytes were read before; the rest of the list is read
+-- from there on.
 abbrev pub ReadsRest : Result ℕ DecodeFault → Option (List ℕ) → Option (List ℕ) → List ℕ
     → List Cell → List Cell → ℕ → Type 0
 ReadsRest (Ok after) old new number before now place = (length now ≡ length before + 1)
@@ -151,8 +151,8 @@ ReadsFurther after old new before now place = is_some old ≡ true → (is_some 
     × ((n : ℕ) → cells_at before ((length now - length before) + n) (input_at place old)
     ≡ cells_at now n (input_at after new))
 
--- Some cells of this many in all were read after those before them; the rest of the list is read
--- from there on.
+-- Cells, at least one, were read after those before them, so that there are at most `count` in all;
+-- the rest of the list is read from there on.
 abbrev pub ReadsCells : Result ℕ DecodeFault → Option (List ℕ) → Option (List ℕ)
     → List Cell → List Cell → ℕ → ℕ → Type 0
 ReadsCells (Ok after) old new before now place count = (length before < length now)
@@ -160,8 +160,8 @@ ReadsCells (Ok after) old new before now place count = (length before < length n
 ReadsCells (Err e) old new before now place count = is_some old ≡ true
     → Fails e (cells_up_to before count (input_at place old))
 
--- Some cells were taken from the front of the bytes, so that there are at most `count` in all, and
--- `used` bytes were used.
+-- Cells, perhaps none, were taken from the front of the bytes, so that there are at most `count` in
+-- all, and `used` bytes were used.
 pub record AreSomeCellsTaken (used : ℕ) (old new : List Cell) (place : ℕ) (bytes : List ℕ)
     (count : ℕ) : Type 0 where
   pub at : ℕ
@@ -180,8 +180,8 @@ TakesSomeCells (Err (fault.Form broken)) old new place bytes count =
 TakesSomeCells (Err fault.Read) old new place bytes count = ⊥
 TakesSomeCells (Err (fault.OutOfMemory error)) old new place bytes count = Unit {0}
 
--- More cells of this many in all were read after those before them, perhaps none; the rest of the
--- list is read from there on.
+-- Cells, perhaps none, were read after those before them, so that there are at most `count` in all;
+-- the rest of the list is read from there on.
 abbrev pub ReadsMoreCells : Result ℕ DecodeFault → Option (List ℕ) → Option (List ℕ)
     → List Cell → List Cell → ℕ → ℕ → Type 0
 ReadsMoreCells (Ok after) old new before now place count = (length before ≤ length now)

@@ -9,18 +9,19 @@ use Rattle.tt_cert_file.specs.Readers.{Answer, Input, list_at}
 use Rattle.tt_cert_file.specs.Reading.{entry_at}
 use Rattle.tt_cert_file.specs.Sections.{Entry}
 
--- the answer, seen by a view, is what reading at the place gives, except for failed reads and out
--- of memory
+-- where the source tells its bytes, the answer, seen by a view, is what reading at the place gives,
+-- except for failed reads and out of memory
 abbrev pub ReadsAs : {X Y : Type 0} → (X → Y) → (Input → Answer Y) → ℕ
     → Result (X × ℕ) DecodeFault → Option (List ℕ) → Option (List ℕ) → Type 0
 ReadsAs view read place result old new = Gives view old new result (read (input_at place old))
 
--- the answer is what reading at the place gives, except for failed reads and out of memory
+-- where the source tells its bytes, the answer is what reading at the place gives, except for
+-- failed reads and out of memory
 abbrev pub ReadsBy : {Y : Type 0} → (Input → Answer Y) → ℕ → Result (Y × ℕ) DecodeFault
     → Option (List ℕ) → Option (List ℕ) → Type 0
 ReadsBy read place result old new = ReadsAs (λ y. y) read place result old new
 
--- where a read failed, no unit that was read whole breaks a rule
+-- where a read failed, and the source tells its bytes, no unit that was read whole breaks a rule
 abbrev pub StopsWhole : {X Y : Type 0} → (Input → Answer Y) → ℕ → Result X DecodeFault
     → Option (List ℕ) → Option (List ℕ) → Type 0
 StopsWhole read place result old new = IfErr result (StopsAtEnd place old new read)

@@ -1,18 +1,19 @@
--- The text of a stack that is kept for the next one. Only the representation of reading and of
--- writing: nothing above needs it.
+-- The text of a stack that is kept for the next one. Only private contracts of reading and of
+-- writing need it.
 use Rattle.std.specs.Prelude.{◌≡◌, ℕ, zero, suc, ◌≤◌, List, length, slice_index, take}
 use Rattle.std.specs.List.{flat_map}
 use Rattle.tt_abs.specs.declared.cells.Cell.{Cell}
 use Rattle.tt_cert_file.specs.Text.{cell_text}
 use Rattle.tt_cert_file.specs.declared.stack_text.StackText.{StackText}
 
--- how many bytes the texts of this many of the lowest cells have, where the text of each cell ends
--- at its end
+-- how many bytes the texts of this many of the lowest cells have, where `ends` lists at which byte
+-- the text of each cell ends
 abbrev pub end_of : List ℕ → ℕ → ℕ
 end_of ends zero = 0
 end_of ends (suc k) = slice_index ends k
 
--- the text is the texts of the cells, one after the other, and each cell's text ends at its end
+-- the text is the texts of the cells, one after the other, and `ends` lists at which byte each of
+-- them ends
 pub record AreCellsKept (text ends : List ℕ) (cells : List Cell) : Type 0 where
   pub text_is : text ≡ flat_map cell_text cells
   pub long : length ends ≡ length cells

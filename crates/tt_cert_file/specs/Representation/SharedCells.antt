@@ -1,5 +1,5 @@
--- Stacks of which each has the lowest cells of the one before. Only the representation of reading:
--- nothing above needs it.
+-- Stacks of which each mostly has the lowest cells of the one before. Only private contracts of
+-- reading need it.
 use Rattle.std.specs.Prelude.{◌≡◌, ℕ, ◌≤◌, List, length, reverse, take}
 use Rattle.tt_abs.specs.declared.state.State.{State}
 use Rattle.tt_abs.specs.States.{state_order}
@@ -20,7 +20,7 @@ pub record IsStackKept (text : StackText) (state : State) : Type 0 where
   pub cells : IsStackText text (reverse state.stack)
   pub in_range : state_order.InRange state
 
--- the state is in range, its stack and its functions are those that are kept
+-- the state is in range, and its stack and its functions are those that are kept beside it
 pub record IsLast (last : LastState) : Type 0 where
   pub stack : IsStackKept last.stack.text last.state
   pub functions : AreKept last.functions.text.items last.functions.list.items

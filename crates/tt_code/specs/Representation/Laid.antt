@@ -20,7 +20,7 @@ pub record IsLaid (lengths bytes : List ℕ) : Type 0 where
   pub each_length : laid (pieces lengths bytes) ≡ lengths
   pub small : length bytes < 2 ^ 31
 
--- an instruction is no longer than a count byte can say
+-- the bytes are one instruction, of fewer than 2^16 bytes (a count byte allows 512 at most)
 pub record IsHeld (bytes : List ℕ) : Type 0 where
   pub is_instruction : IsInstruction bytes
   pub short : length bytes < 2 ^ 16

@@ -1,5 +1,5 @@
--- The one pass from the left that the code makes: what is open after an instruction, and the body.
--- (Representation: no public clause cites it.)
+-- The one pass that the code makes through a program, from its first instruction on: what is open
+-- after an instruction, and the body of the next one. (Representation: no public clause cites it.)
 use Rattle.std.specs.Prelude.{◌≡◌, ℕ, ◌+◌, List, [], ◌∷◌, ◌++◌, length, Bool, true, false, Option, Some, None, if◌then◌else◌}
 use Rattle.tt_code.specs.declared.block_keyword.BlockKeyword.{BlockKeyword}
 use Rattle.tt_code.specs.declared.block_keyword.BlockKeyword.TheVariants.{If, Else, Eif, Fdef, Idef, Endf, Other}
@@ -13,7 +13,7 @@ use Rattle.tt_code.specs.Cut.{Instruction, size}
 use Rattle.tt_code.specs.Grammar.{IsList}
 use Rattle.tt_code.specs.Structure.{keyword}
 
--- whether what follows an opening is inside a definition
+-- whether what follows an opening is inside a definition, by whether the opening itself is
 abbrev pub inside_of : Open → Bool → Bool
 inside_of (InIf k) b = b
 inside_of (InElse k) b = b
@@ -25,7 +25,7 @@ abbrev pub within : List Open → Bool
 within [] = false
 within (o ∷ s) = inside_of o (within s)
 
--- what is open after a keyword at offset k, the innermost first, or nothing where the keyword isn't
+-- what is open after a keyword at offset k, the innermost first; None where the keyword isn't
 -- allowed there
 abbrev pub step : BlockKeyword → ℕ → List Open → Option (List Open)
 step Other k s = Some s
@@ -86,7 +86,8 @@ body_after b Idef k = body.Instruction (k + 1)
 body_after b Endf k = body.Main
 body_after b _ k = b
 
--- the instructions from the one that opened o, at this offset, to the last one that o names
+-- the instructions of an opening, from the first one at this offset to the one whose offset o
+-- keeps: an IF, an FDEF or an IDEF alone, or an IF, a list and an ELSE
 abbrev pub Head : Open → Bool → ℕ → List Instruction → Type 0
 Head (InIf k) inside at head = (i : Instruction) × (keyword i ≡ If) × (k ≡ at) × (head ≡ i ∷ [])
 Head (InElse k) inside at head =
@@ -98,7 +99,7 @@ Head (InFunction k) inside at head =
 Head (InInstruction k) inside at head =
     (d : Instruction) × (keyword d ≡ Idef) × (inside ≡ false) × (k ≡ at) × (head ≡ d ∷ [])
 
--- p is lists with an opening between each two
+-- p is lists, with the instructions of an opening between each two
 abbrev pub Opened : List Open → List Instruction → Type 0
 Opened [] p = IsList false p
 Opened (o ∷ s) p =

@@ -76,9 +76,9 @@ abbrev pub IsOpenAt : ℕ → List Open → Type 0
 IsOpenAt k [] = ⊥
 IsOpenAt k (o ∷ s) = (place o ≡ k) ⊎ IsOpenAt k s
 
--- The bodies and targets by offset of instructions that leave these open: each instruction has its
--- body, and none is kept elsewhere; each target is where control goes; each opening instruction has
--- a target or is still open.
+-- The bodies and the targets that are kept by offset for instructions that leave these open: each
+-- instruction has its body, and none is kept elsewhere; each target is where an opening instruction
+-- leads; each opening instruction has a target or is still open.
 pub record IsTable (p : List Instruction) (s : List Open) (in_body : List (Option Body))
     (goes : List (Option ℕ)) : Type 0 where
   pub bodies_long : length in_body ≡ size p
@@ -93,7 +93,7 @@ pub record IsTable (p : List Instruction) (s : List Open) (in_body : List (Optio
       p ≡ a ++ (i ∷ b) → Opens (keyword i) →
       ((t : ℕ) × (target_found goes (size a) ≡ Some t)) ⊎ IsOpenAt (size a) s
 
--- what is kept of the instructions that were read, what is open with the innermost first
+-- what is kept of the instructions that were read; of what is open the innermost is first
 pub record IsRead
     (p : List Instruction) (stack : List Open) (b : Body) (slots : List Slot) : Type 0 where
   pub each : AllByRecursion IsInstruction p

@@ -28,7 +28,7 @@ StopsFor x everywhere = NamesStop (IsJustified (setting_of x) x.start.now) every
 abbrev pub IsWholeFor : Subject → Solver → Type 0
 IsWholeFor x solver = IsWhole (setting_of x) x.start.now solver
 
--- nor does any wait, and this many updates were made
+-- no point is being carried on and none waits, and this many updates were made
 abbrev pub IsFoundFor : Subject → Solver → ℕ → Type 0
 IsFoundFor x solver updates = IsFound (setting_of x) x.start.now solver updates
 
@@ -45,7 +45,7 @@ IsOnWayFor x solver walk offset =
 abbrev pub GoesOnFor : Subject → Solver → Walk → Option ℕ → Type 0
 GoesOnFor x solver walk onward = GoesOn (setting_of x) x.start.now solver walk onward
 
--- the walk's state was carried on at an offset, as the new one
+-- the old walk's state was carried on at an offset, and the new walk has the state that was left
 abbrev pub IsSteppedAt : Subject → Contents → Walk → Walk → ℕ → Option Stepped → Type 0
 IsSteppedAt x contents old new offset step =
     IsCarried (setting_of x) (here_of contents old offset) old.state step new.state
@@ -60,8 +60,8 @@ abbrev pub IsNextAfter : Subject → Contents → Walk → ℕ → ℕ → Type 
 IsNextAfter x contents walk offset next =
     Precedes (setting_of x) (here_of contents walk offset) (here_of contents walk next)
 
--- where the instruction at an offset of the walk's context ends, if only this one leads there as to
--- the place just after it
+-- the offset of the place just after the one at an offset of the walk's context; none where no
+-- place is just after that one
 abbrev pub EndsJustBefore : Subject → Contents → Walk → ℕ → Option ℕ → Type 0
 EndsJustBefore x contents walk offset after =
     IsJustAfter (setting_of x) (here_of contents walk offset) after

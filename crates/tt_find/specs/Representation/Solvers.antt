@@ -38,10 +38,10 @@ use Rattle.tt_find.specs.declared.solver.Solver.{Solver}
 use Rattle.tt_find.specs.declared.stop.Stop.{Stop}
 use Rattle.tt_find.specs.declared.walk.Walk.{Walk}
 
--- Each value is derived, as is each that is still to be put; the start is covered; what doesn't
--- wait isn't refused, and what it gives is covered, at a point to which the point may lead, or
--- still to be put. Waits: the points that are still to be carried on; Rest: what is still to be
--- put, from where and at which point.
+-- Each value is derived, as is each that is still to be put; the start is covered; the value at a
+-- point that doesn't wait isn't refused, and what it gives is covered, at a point to which that one
+-- may lead, or is still to be put. Waits: the points that are still to be carried on; Rest: what is
+-- still to be put, from where and at which point.
 pub record IsSoundFamily {P S : Type 0} (o : Order S) (f : Flow P S) (family : P → Option S)
     (MayLead : P → P → Type 0) (Waits : P → Type 0) (Rest : P → P → S → Type 0) : Type 0 where
   pub derived : (p : P) (s : S) → family p ≡ Some s → Derived o f p s
@@ -51,7 +51,7 @@ pub record IsSoundFamily {P S : Type 0} (o : Order S) (f : Flow P S) (family : P
   pub closed : (p : P) (s : S) (q : P) (t : S) → family p ≡ Some s → (Waits p → ⊥) → f.Gives p s q t
       → (CoversAt o family q t × MayLead p q) ⊎ Rest p q t
 
--- whether a set of contexts and offsets has the place's
+-- the place, as its context's number and its offset, is one of these points
 abbrev pub IsAmong : Contents → List (ℕ × ℕ) → Place → Type 0
 IsAmong contents points p = has_point points (point_key_of contents p) ≡ true
 
@@ -84,7 +84,7 @@ pub record IsListed (contents : Contents) (spare : List (ℕ × ℕ)) (q : Place
 abbrev pub MayLead : Setting → Contents → List (ℕ × ℕ) → Place → Place → Type 0
 MayLead s contents spare p q = Precedes s p q ⊎ IsListed contents spare q
 
--- no filling can do without any of the listed states
+-- each listed state is needed: no good filling adds it
 abbrev pub AreNeeded : Setting → List (ℕ × ℕ) → Contents → List (ℕ × ℕ) → Type 0
 AreNeeded s functions contents spare =
     (q : Place) → IsListed contents spare q → IsNeeded s functions q
@@ -95,9 +95,9 @@ pub record IsWithinBudget (o : Order State) (height : ℕ) (contents : Contents)
   pub spent : updates + total o.left contents ≤ points_of contents * (1 + height)
   pub counted : points_of contents ≤ updates
 
--- How often a state came to each place, or rose there: at a kept one at most as often as its state
--- can rise, and at one that was passed at most as often as at the one just before, less often where
--- that waits.
+-- How often a state came to each place, or rose there: at a kept one at most 1 + height times, less
+-- the rises that are left to its state; at one that was passed at most as often as at the one just
+-- before, less often where that waits.
 pub record AreVisits (s : Setting) (height : ℕ) (stored filled : Place → Option State)
     (Waits : Place → Type 0) (visits : Place → ℕ) : Type 0 where
   pub seen : (p : Place) (a : State) → filled p ≡ Some a → 1 ≤ visits p
@@ -110,21 +110,23 @@ pub record AreVisits (s : Setting) (height : ℕ) (stored filled : Place → Opt
   pub follow : (p q : Place) → Precedes s p q → stored q ≡ None → visits q ≤ visits p
   pub ahead : (p q : Place) → Precedes s p q → stored q ≡ None → Waits p → visits q + 1 ≤ visits p
 
--- the points of the filled family, and the count of all visits
+-- the points of the filled family, and a count that is at least their number and at most that of
+-- all visits
 pub record ArePoints (filled : Place → Option State) (visits : Place → ℕ) (points : List Place)
     (count : ℕ) : Type 0 where
   pub exact : ArePointsOf filled points
   pub least : length points ≤ count
   pub most : count ≤ sum_by visits points
 
--- the laws of the flow, and that no count of updates and no program is too great
+-- the laws of the flow hold; its height is so small that 64 bits count all changes of kept states;
+-- each program has fewer than 2^31 bytes
 pub record HasLaws (s : Setting) (functions : List (ℕ × ℕ)) : Type 0 where
   pub flow : FlowLaws state_order (flow_of s functions) (height_of s)
   pub height : height_of s < 4294967295
   pub short : AreProgramsShort s
 
 -- The finder's solver, for a program that starts with these functions. The filled family has the
--- kept states, and those that were passed.
+-- kept states, and those that went over an offset.
 pub record IsSound (s : Setting) (functions : List (ℕ × ℕ)) (solver : Solver)
     (Here : Place → Type 0) (Rest : Place → Place → State → Type 0) : Type 0 where
   pub filled : Place → Option State
@@ -167,7 +169,7 @@ GoesOn s functions solver walk None = IsWhole s functions solver
 GoesOn s functions solver walk (Some offset) =
     IsOnWay s functions solver (place_of solver.builder walk.context offset) walk.state
 
--- for each point that waits from then on there was a change
+-- the number of points that wait has grown at most as much as the number of changes
 pub record HasRisen (old new : Solver) : Type 0 where
   pub worklist : length new.worklist + old.changes ≤ length old.worklist + new.changes
   pub changes : old.changes ≤ new.changes
@@ -200,7 +202,7 @@ pub record IsPut (old new : Solver) (context offset : ℕ) (state : State) : Typ
   pub changes : new.changes ≡ old.changes + cond changed 1 0
   pub risen : HasRisen old new
 
--- the other fields are as before
+-- the solver's spare points, marks and passes are as before
 pub record KeepsRest (old new : Solver) : Type 0 where
   pub spare : new.spare ≡ old.spare
   pub marks : new.marks ≡ old.marks
@@ -215,7 +217,7 @@ pub record SparesAt (old new : List (ℕ × ℕ)) (point : ℕ × ℕ) (was : Op
   pub spared : source ≡ JustBefore → was ≡ None → has_point new point ≡ true
   pub same : source ≡ JustBefore → (was ≡ None → ⊥) → has_point new point ≡ has_point old point
 
--- the state was put at the point, where states are kept from then on, and none has passed
+-- the state was put at the point, over which none had passed; states are kept there from then on
 pub record IsStored (old new : Solver) (context offset : ℕ) (state : State) (source : Origin)
     : Type 0 where
   pub put : IsPut old new context offset state
@@ -275,7 +277,7 @@ pub record IsRefusedAt (s : Setting) (at : Place) (state : State) (p : Place) (r
 abbrev pub place_of_way : List Frame → Move → Place
 place_of_way fs way = (frames_after fs way, offset_after fs way)
 
--- the places to which the ways lead from this number on
+-- the places to which the ways from this number on lead
 abbrev pub places_from : List Frame → Moves → ℕ → List Place
 places_from fs ways index = map (place_of_way fs) (drop index (ways_of ways))
 
@@ -309,7 +311,9 @@ abbrev pub IsCarried : Setting → Place → State → Option Stepped → State 
 IsCarried s p state None t = is_main_end s p.0 p.1 ≡ true
 IsCarried s p state (Some step) t = IsCarriedOn s p state step.moves step.end t
 
--- a derived state at the place leads to these places, with this state left; all else is settled
+-- A derived state at the place leads to these places, with this state left; all else is settled.
+-- Where no state is kept just after the place, the visits there are at least one fewer than at the
+-- place, or at least two fewer if the place waits.
 pub record IsLeading (s : Setting) (functions : List (ℕ × ℕ)) (solver : Solver) (p : Place)
     (qs : List Place) (t : State) : Type 0 where
   pub state : State
@@ -331,7 +335,8 @@ pub record IsPopped (s : Setting) (functions : List (ℕ × ℕ)) (solver : Solv
   pub kept : states_of solver.builder.states (context, offset) ≡ Some state
   pub apart : has_point solver.worklist (context, offset) ≡ false
 
--- the state comes from just before exactly where it stays in the context and comes to that offset
+-- the state comes from just before exactly if it stays in the context and comes to the offset just
+-- after the instruction that left it
 abbrev pub TellsSource : ℕ → ℕ → Option ℕ → ℕ → Origin → Type 0
 TellsSource here context after next source =
     (source ≡ JustBefore) ↔ ((context ≡ here) × (after ≡ Some next))
@@ -362,8 +367,8 @@ abbrev pub IsLeadingAt : Setting → List (ℕ × ℕ) → Solver → Walk → �
 IsLeadingAt s functions solver walk offset qs =
     IsLeading s functions solver (here_of solver.builder walk offset) qs walk.state
 
--- The state is still to be led to where the ways lead from this number on, and over the last of its
--- places.
+-- The state is still to be led to where the ways from this number on lead, and over the offset just
+-- after the instruction, if there is one over which it goes last.
 pub record IsLeadingOn (s : Setting) (functions : List (ℕ × ℕ)) (solver : Solver) (walk : Walk)
     (offset : ℕ) (after : Option ℕ) (ways : Moves) (index : ℕ) (over : Option ℕ) : Type 0 where
   pub leading : IsLeadingAt s functions solver walk offset

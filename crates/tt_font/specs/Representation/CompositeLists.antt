@@ -7,8 +7,8 @@ use Rattle.tt_font.specs.Glyphs.{is_composite, component_count, component_total}
 use Rattle.tt_font.specs.Representation.GlyphTables.{glyphs_of}
 use Rattle.tt_font.specs.Representation.OutlineSizes.{size_at}
 
--- the numbers of the composite glyphs among the first n, each once: they list as many components as
--- all of these do
+-- the numbers of the composite glyphs among the first n: together these list as many components as
+-- the first n glyphs do, so that none that has components is there twice
 pub record AreComposites (glyphs : ℕ → List ℕ) (n : ℕ) (numbers : List ℕ) : Type 0 where
   pub inside : (id : ℕ) → Contains numbers id → id < n
   pub composite : (id : ℕ) → Contains numbers id → is_composite (glyphs id) ≡ true
@@ -19,7 +19,8 @@ pub record AreComposites (glyphs : ℕ → List ℕ) (n : ℕ) (numbers : List �
 abbrev pub AreAllComposites : GlyphTable → List ℕ → Type 0
 AreAllComposites glyphs numbers = AreComposites (glyphs_of glyphs) glyphs.count numbers
 
--- of the first n glyphs, those that aren't composite have the same sizes in both lists
+-- the second list has n sizes, and of the first n glyphs those that aren't composite have the same
+-- sizes in both
 pub record AgreeOnSimple (glyphs : ℕ → List ℕ) (n : ℕ) (sizes other : List OutlineSize)
     : Type 0 where
   pub len : length other ≡ n
