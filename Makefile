@@ -7,6 +7,7 @@ datadir = $(DESTDIR)$(PREFIX)/share
 includedir = $(DESTDIR)$(PREFIX)/include
 libdir = $(DESTDIR)$(PREFIX)/lib
 library = crates/hintcheck_c/out/libhintcheck_c.a
+archive = crates/hintcheck_c/out/libhintcheck.a
 
 .PHONY: all check library install install-library uninstall
 
@@ -19,23 +20,26 @@ check:
 library:
 	cd crates/hintcheck_c && rt lib >&2
 
-# The archive gets the toolchain's part of the C library too, so that one library is enough to link.
+# The archive gets the toolchain's part of the C library too, so that one library is enough to link. It is made here and then installed, since `ar -M`
+# takes no spaces in names.
 install-library: library
-	install -d $(includedir) $(libdir)/pkgconfig
-	printf 'create %s\naddlib %s\naddlib %s\nsave\nend\n' $(libdir)/libhintcheck.a $(library) $(dir $(shell rt doc))c/liblibc_c.a | ar -M
-	install -m 644 include/hintcheck.h $(includedir)/hintcheck.h
-	sed 's|@PREFIX@|$(PREFIX)|' include/hintcheck.pc.in >$(libdir)/pkgconfig/hintcheck.pc
+	printf 'create %s\naddlib %s\naddlib %s\nsave\nend\n' $(archive) $(library) $(dir $(shell rt doc))c/liblibc_c.a | ar -M
+	install -d "$(includedir)" "$(libdir)/pkgconfig"
+	install -m 644 $(archive) "$(libdir)/libhintcheck.a"
+	install -m 644 include/hintcheck.h "$(includedir)/hintcheck.h"
+	sed 's|@PREFIX@|$(PREFIX)|' include/hintcheck.pc.in >"$(libdir)/pkgconfig/hintcheck.pc"
+	chmod 644 "$(libdir)/pkgconfig/hintcheck.pc"
 
 install: all
-	install -d $(bindir) $(datadir)/man/man1 $(datadir)/bash-completion/completions \
-		$(datadir)/zsh/site-functions $(datadir)/fish/vendor_completions.d
-	install -m 755 crates/hintcheck_cli/out/hintcheck_cli $(bindir)/hintcheck
-	install -m 644 docs/hintcheck.1 $(datadir)/man/man1/hintcheck.1
-	install -m 644 completions/hintcheck.bash $(datadir)/bash-completion/completions/hintcheck
-	install -m 644 completions/_hintcheck $(datadir)/zsh/site-functions/_hintcheck
-	install -m 644 completions/hintcheck.fish $(datadir)/fish/vendor_completions.d/hintcheck.fish
+	install -d "$(bindir)" "$(datadir)/man/man1" "$(datadir)/bash-completion/completions" \
+		"$(datadir)/zsh/site-functions" "$(datadir)/fish/vendor_completions.d"
+	install -m 755 crates/hintcheck_cli/out/hintcheck_cli "$(bindir)/hintcheck"
+	install -m 644 docs/hintcheck.1 "$(datadir)/man/man1/hintcheck.1"
+	install -m 644 completions/hintcheck.bash "$(datadir)/bash-completion/completions/hintcheck"
+	install -m 644 completions/_hintcheck "$(datadir)/zsh/site-functions/_hintcheck"
+	install -m 644 completions/hintcheck.fish "$(datadir)/fish/vendor_completions.d/hintcheck.fish"
 
 uninstall:
-	rm -f $(bindir)/hintcheck $(datadir)/man/man1/hintcheck.1 $(datadir)/bash-completion/completions/hintcheck \
-		$(datadir)/zsh/site-functions/_hintcheck $(datadir)/fish/vendor_completions.d/hintcheck.fish \
-		$(includedir)/hintcheck.h $(libdir)/libhintcheck.a $(libdir)/pkgconfig/hintcheck.pc
+	rm -f "$(bindir)/hintcheck" "$(datadir)/man/man1/hintcheck.1" "$(datadir)/bash-completion/completions/hintcheck" \
+		"$(datadir)/zsh/site-functions/_hintcheck" "$(datadir)/fish/vendor_completions.d/hintcheck.fish" \
+		"$(includedir)/hintcheck.h" "$(libdir)/libhintcheck.a" "$(libdir)/pkgconfig/hintcheck.pc"

@@ -52,10 +52,11 @@ void *realloc(void *old, size_t size) {
 }
 
 __attribute__((destructor)) static void tell(void) {
+    long told = count; // opening the file allocates too
     const char *name = getenv("COUNTED");
     FILE *file = name ? fopen(name, "w") : NULL;
     if (file) {
-        fprintf(file, "%ld", count);
+        fprintf(file, "%ld", told);
         fclose(file);
     }
 }
@@ -77,7 +78,7 @@ def answer(words: list[str], refuser: pathlib.Path, **settings: str) -> Answer:
     return Answer(done.returncode, done.stdout, done.stderr)
 
 
-def says_want_of_memory(got: Answer) -> bool:
+def says_out_of_memory(got: Answer) -> bool:
     return got.status == 3 and got.out == b"" and got.err == b"fault: 9 out of memory\n"
 
 
@@ -93,7 +94,7 @@ def sweep(words: list[str], folder: pathlib.Path) -> int:
     for number in range(1, count + 1):
         for settings in ({}, {"ONWARD": "1"}):
             got = answer(words, refuser, REFUSED=str(number), **settings)
-            if says_want_of_memory(got):
+            if says_out_of_memory(got):
                 refusals += 1
             elif got != ample:
                 wrong += 1

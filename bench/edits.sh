@@ -1,9 +1,11 @@
 #!/bin/sh
 # edits.sh [CRATE..]: tries the edits of bench/edits/CRATE that the prover must refuse, as `rt ci` tries those of crates/CRATE/must-fail.
 # Without a name it takes each crate that has some. It works on a copy of the repository, as it is in the work tree.
-top=$(cd "$(dirname -- "$0")/.." && pwd) || exit 2
+top=$(CDPATH='' cd -- "$(dirname -- "$0")/.." && pwd) || exit 2
 room=$(mktemp -d) || exit 2
 trap 'rm -rf "$room"' EXIT
+# Some shells leave that trap out where a signal ends them.
+trap 'exit 2' HUP INT TERM
 [ $# -gt 0 ] || set -- $(ls "$top/bench/edits")
 cp -a "$top/crates" "$top/crates.txt" "$top/HANDLES" "$room/" || exit 2
 git -C "$room" init -q || exit 2

@@ -23,7 +23,6 @@ import examples
 TOP = pathlib.Path(__file__).resolve().parent.parent
 SOURCES = TOP / "examples/embedding"
 MOST_FONTS = 100
-NUMBERS = {"f": 65536, "p": 65537}
 
 # What the example prints of each font.
 PRINTED = {

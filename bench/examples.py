@@ -57,6 +57,8 @@ def as_it_runs(session: str) -> str:
 
 
 def main() -> int:
+    # So that no session has what a build prints.
+    subprocess.run([TOP / "hintcheck", "--build"], check=True)
     differs = False
     for file in sorted((TOP / "examples").glob("*.txt")):
         session = file.read_text()

@@ -2,9 +2,9 @@
 """Times `hintcheck verdict` on font files, next to the time to read each file alone and that of `ots-sanitize`, with the greatest memory.
 
 Usage: bench/fonts.py FONT..
-Times are in milliseconds of wall clock, of whole processes that take turns: of fifteen runs the least and the median. The last column but
-the memory is the least of hintcheck by that of ots-sanitize. GNU time tells the memory. The sanitizer, and fonts, some of them with many
-hint programs, as Debian packages:
+Times are in milliseconds of wall clock, of whole processes that take turns: of fifteen runs the least and the median. The ratio is the least
+time of hintcheck by that of ots-sanitize. GNU time tells the memory. The sanitizer, and fonts, some of them with many hint programs, as Debian
+packages:
     apt-get install time opentype-sanitizer fonts-dejavu fonts-liberation2 fonts-ipafont-gothic fonts-open-sans ttf-bitstream-vera
 The fonts are then under /usr/share/fonts.
 """

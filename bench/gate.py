@@ -3,10 +3,11 @@
 tests and its edits.
 
 Usage: bench/gate.py [PROCESSORS]
-Nothing is taken from earlier runs (a kit whose `rt ci` keeps its work is told so). With a number, only that many of the machine's processors are
-used: where a proof may take several, it shares its work out among copies of the prover, each of which reads the libraries anew, so that more
-processors take more of their time together. What `rt ci` prints goes to gate.log in the current folder. The figures are user and system time of
-the prover's processes, read once a second while they run, in minutes; the whole is that of all processes. Nothing else should run at the same time.
+Nothing is taken from earlier runs: where a kit's `rt ci` keeps its work, it is told to begin anew. With a number, only that many of the
+machine's processors are used: where a proof may take several, it shares its work out among copies of the prover, each of which reads the
+libraries anew, so that more processors take more of their time together. What `rt ci` prints goes to gate.log in the current folder. The
+figures are user and system time of the prover's processes, read once a second while they run, in minutes; the whole is that of all processes.
+Nothing else should run at the same time.
 """
 
 import collections
@@ -20,13 +21,15 @@ import time
 
 TOP = pathlib.Path(__file__).resolve().parent.parent
 TICKS = os.sysconf("SC_CLK_TCK")
+# As /proc names the folders of processes, without links.
+TEMPORARY = os.path.realpath(tempfile.gettempdir())
 
 
 def name_of(process, room):
     """The crate and the kind of work of a process of the prover, or None for any other process: one of the gate is in the
     room, or in a folder for an edit."""
     folder = os.readlink(process / "cwd")
-    is_edit = folder.startswith(f"{tempfile.gettempdir()}/rt-edit")
+    is_edit = folder.startswith(f"{TEMPORARY}/rt-edit")
     if not is_edit and not folder.startswith(room):
         return None
     words = (process / "cmdline").read_bytes().decode(errors="replace").split("\0")
@@ -55,8 +58,8 @@ def look(seen, room):
 
 
 def gate_command():
-    """`rt ci`, from nothing: some kits keep what earlier runs proved, and these have the word for it in their help."""
-    told = subprocess.run(["rt", "help"], capture_output=True, text=True).stdout
+    """`rt ci`, from nothing: some kits keep what earlier runs proved, and these have the word for it in their help, on standard error."""
+    told = subprocess.run(["rt", "help"], stdout=subprocess.PIPE, stderr=subprocess.STDOUT, text=True).stdout
     return ["rt", "ci", "--anew"] if "--anew" in told else ["rt", "ci"]
 
 
@@ -64,7 +67,7 @@ def main():
     if sys.argv[1:]:
         os.sched_setaffinity(0, sorted(os.sched_getaffinity(0))[: int(sys.argv[1])])
     seen = {}
-    with tempfile.TemporaryDirectory(prefix="gate-") as room, open("gate.log", "wb") as log:
+    with tempfile.TemporaryDirectory(prefix="gate-", dir=TEMPORARY) as room, open("gate.log", "wb") as log:
         subprocess.run(["git", "clone", "-q", TOP, f"{room}/clone"], check=True)
         begun = time.time()
         gate = subprocess.Popen(gate_command(), cwd=f"{room}/clone", stdout=log, stderr=subprocess.STDOUT)

@@ -1,9 +1,10 @@
 #!/usr/bin/env python3
-"""Times hintcheck on font files that are made to take much time or memory, each next to a benign font of the same size.
+"""Times hintcheck on font files that are made to take much time or memory, next to benign fonts of 1 MB and of 10 kB.
 
 Usage: bench/hostile.py [SECONDS]
 The files go to a temporary folder. Each is handed to `hintcheck verdict`, and where it is accepted, to `find` and `check`: processor seconds and
-the greatest memory of each run, and the first line of the verdict. A run that takes more than SECONDS (60) of the processor is ended.
+the greatest memory of `verdict` and of `check`, the size of the certificate, and the first line of the verdict, with that of `find` or `check` where
+it is another one. A run that takes more than SECONDS (60) of the processor is ended.
 """
 
 import pathlib
@@ -134,11 +135,14 @@ def main() -> None:
             spent, memory, line = measured(["verdict", str(path)], seconds)
             row = f"{name:40} {len(data):8} {spent:8.2f} s {memory:5} MB"
             if line.startswith("accepted"):
-                measured(["find", str(path), str(certificate)], seconds)
-                size = certificate.stat().st_size
-                checked, room, _ = measured(["check", str(path), str(certificate)], seconds)
-                row += f" {checked:8.2f} s {room:5} MB {size:12}"
-                certificate.unlink()
+                found = measured(["find", str(path), str(certificate)], seconds)[2]
+                if found == line:
+                    checked, room, told = measured(["check", str(path), str(certificate)], seconds)
+                    row += f" {checked:8.2f} s {room:5} MB {certificate.stat().st_size:12}"
+                    line += "" if told == line else f"; check: {told}"
+                else:
+                    line += f"; find: {found}"
+                certificate.unlink(missing_ok=True)
             print(row, "", line, flush=True)
 
 

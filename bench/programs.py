@@ -15,7 +15,7 @@ PROGRAM = TOP / "crates/hintcheck_cli/out/hintcheck_cli"
 
 
 def font(glyph: bytes, fpgm: bytes = b"", stack: int = 1100) -> bytes:
-    """A font file with a font program, an empty CVT program and one glyph of no points with this program."""
+    """A font file with a font program, an empty CVT program and one glyph of 4 points with this program."""
     head = bytearray(54)
     head[50:52] = b"\0\1"
     glyf = struct.pack(">h8xHH", 1, 3, len(glyph)) + glyph
@@ -49,7 +49,7 @@ def straight() -> bytes:
 
 
 def storing() -> bytes:
-    """A loop back from the end of 30,000 bytes, which makes a storage cell unknown at its second turn."""
+    """A loop back from the end of 28,000 bytes, which makes a storage cell unknown at its second turn."""
     body = b"\xb0\x00\xb0\x00\x43\x60\x21" * 4_000 + b"\xb0\x00\xb0\x00\x43\xb0\x01\x60\x42"
     start = b"\xb1\x00\x07\x42"
     return start + body + jump_to(len(start), len(start) + len(body))
@@ -63,7 +63,7 @@ def rising() -> bytes:
 
 
 def back_to_start() -> bytes:
-    """8,000 conditional jumps back to the start."""
+    """6,400 conditional jumps back to the start."""
     program = b"\x4b\x21"
     while len(program) < 32_000:
         here = len(program)
@@ -94,7 +94,7 @@ CASES = {
     "straight, 60,000 bytes": font(straight()),
     "a loop over 28,000 bytes": font(storing()),
     "1,000 cells rise one by one": font(rising()),
-    "8,000 jumps back to the start": font(back_to_start()),
+    "6,400 jumps back to the start": font(back_to_start()),
     "4,000 jumps into a way, rising": font(into_a_way(1, 8_000, 2)),
     "4,000 jumps into a way, falling": font(into_a_way(7_999, 0, -2)),
     "51,000 cells over a straight way": font(deep(), stack=65_535),

@@ -22,6 +22,12 @@ _hintcheck() {
                 fi
             done
             ;;
+        explain | list | upgrade | bare)
+            if [[ $word == -* ]]; then
+                mapfile -t COMPREPLY < <(compgen -W --help -- "$word")
+                return
+            fi
+            ;;
     esac
     case $command:$at in
         verdict:2 | scan:* | explain:2 | find:[23] | check:[23] | list:2 | upgrade:[23])

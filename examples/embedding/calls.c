@@ -22,6 +22,7 @@ static uint8_t *read_file(const char *name, size_t *length)
     FILE *file = fopen(name, "rb");
     uint8_t *bytes = (uint8_t *)malloc(1 << 20);
     if (!file || !bytes) {
+        perror(name);
         exit(2);
     }
     *length = fread(bytes, 1, 1 << 20, file);
@@ -99,12 +100,13 @@ static void call_within(const uint8_t *font, size_t length, uint32_t status, con
     expect(answer.points > 0 && answer.points <= needed, "a check makes no more points");
 }
 
-/* A font of more than 2^31 bytes, of which all after the first one are 0. */
+/* More than 2^31 bytes: zeros alone, and a font with zeros after it. */
 static void call_with_many_bytes(const uint8_t *accepted, size_t accepted_length)
 {
     hintcheck_answer answer;
     size_t length = ((size_t)1 << 31) + 5;
     uint8_t *bytes = (uint8_t *)calloc(length, 1);
+    expect(bytes != NULL, "memory for many bytes (`short` leaves them out)");
     if (!bytes) {
         return;
     }

@@ -81,9 +81,12 @@ static int load_flags(const unsigned char *font, size_t length, const char *cert
     }
 }
 
-/* Adds a glyph's bitmap to the image. */
+/* Adds a glyph's bitmap to the image, if it has a byte for each pixel: a font without outlines may have one with a bit for each. */
 static void draw(const FT_Bitmap *bitmap, int left, int top)
 {
+    if (bitmap->pixel_mode != FT_PIXEL_MODE_GRAY) {
+        return;
+    }
     for (unsigned y = 0; y < bitmap->rows; y++) {
         for (unsigned x = 0; x < bitmap->width; x++) {
             int row = top + (int)y, column = left + (int)x;
@@ -94,12 +97,12 @@ static void draw(const FT_Bitmap *bitmap, int left, int top)
     }
 }
 
-/* Draws the text, and returns how many glyphs were drawn. */
+/* Draws the text by its outlines, and returns how many glyphs were drawn. */
 static int draw_text(FT_Face face, const char *text, int flags)
 {
     int drawn = 0, at = 4;
     for (const char *c = text; *c; c++) {
-        if (FT_Load_Char(face, (unsigned char)*c, flags | FT_LOAD_RENDER) == 0) {
+        if (FT_Load_Char(face, (unsigned char)*c, flags | FT_LOAD_RENDER | FT_LOAD_NO_BITMAP) == 0) {
             draw(&face->glyph->bitmap, at + face->glyph->bitmap_left, BASELINE - face->glyph->bitmap_top);
             at += (int)(face->glyph->advance.x >> 6);
             drawn++;
@@ -121,7 +124,8 @@ static int write_image(const char *name)
             fputc(255 - image[y][x], file);
         }
     }
-    return fclose(file) == 0 ? 0 : 1;
+    int failed = ferror(file);
+    return fclose(file) == 0 && !failed ? 0 : 1;
 }
 
 int main(int argc, char **argv)
