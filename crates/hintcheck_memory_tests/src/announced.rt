@@ -12,7 +12,7 @@ use tt_cert_file::Form;
 const LEFT: usize = 20_000;
 
 /// Sections of glyph 0 that end too early: what they announce, their parts, and where they end.
-const SECTIONS: [(&str, &[&str], u64); 5] = [
+const SECTIONS: &[(&str, &[&str], u64)] = &[
     (
         "65,534 contexts",
         &["02 0000 FFFE", "0000 00000005 00000009 00000001 00000001"],
@@ -69,7 +69,7 @@ const SECTIONS: [(&str, &[&str], u64); 5] = [
 fn announced_numbers(rt: HostRuntime) -> Result<(), Fail> {
     let mut heap = Heap::new(rt.alloc());
     heap.leave(Some(LEFT));
-    for (announced, parts, end) in &SECTIONS {
+    for (announced, parts, end) in SECTIONS {
         let bytes = bytes_of(rt.alloc(), parts)?;
         heap.take_room();
         let (_, told) = decoded(heap.alloc, steps_of(&bytes, false), 0, Form::Four);

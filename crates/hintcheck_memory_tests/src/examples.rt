@@ -71,7 +71,7 @@ const COMPOSITE_POINTS: Programs<'static> = Programs {
 };
 
 /// The examples.
-pub(crate) const EXAMPLES: [Programs<'static>; 4] = [
+pub(crate) const EXAMPLES: &[Programs<'static>] = &[
     JOIN_UNKNOWN,
     CALL_POPS,
     LOOPCALL,

@@ -81,7 +81,7 @@ fn calls_on_sections(rt: HostRuntime) -> Result<(), Fail> {
     let mut heap = Heap::new(rt.alloc());
     for call in [SectionCall::Decode, SectionCall::Encode] {
         let mut count = 0u32;
-        for programs in &EXAMPLES {
+        for programs in EXAMPLES {
             let files = files_of(rt.alloc(), programs)?;
             let example = example_of(programs, &files).ok_or(programs.name)?;
             let name = format!(in rt.alloc(); "{call:?} on {}", programs.name)?;

@@ -79,7 +79,7 @@ fn asks<'a>(alloc: Global, words: &'a [&'a str], want: (&str, &str, &str)) -> bo
 }
 
 /// Words that the command line takes, and the texts of the task.
-const TAKEN: [(&[&str], (&str, &str, &str)); 11] = [
+const TAKEN: &[(&[&str], (&str, &str, &str))] = &[
     (&["hintcheck", "verdict", "a.ttf"], ("verdict", "a.ttf", "")),
     (&["hintcheck", "scan", "a.ttf"], ("scan", "a.ttf", "")),
     (
@@ -116,7 +116,7 @@ const TAKEN: [(&[&str], (&str, &str, &str)); 11] = [
 
 #[test]
 fn reads_words_of_texts(rt: HostRuntime) {
-    for (words, want) in TAKEN {
+    for &(words, want) in TAKEN {
         assert!(rt; asks(rt.alloc(), words, want), "of {words:?}");
     }
 }
@@ -131,7 +131,7 @@ fn asks_further<'a>(alloc: Global, words: &'a [&'a str], fonts: usize, place: Op
 }
 
 /// Words of `scan` and `explain`, how many fonts they name, and the place.
-const FURTHER: [(&[&str], usize, Option<u32>); 4] = [
+const FURTHER: &[(&[&str], usize, Option<u32>)] = &[
     (&["hintcheck", "scan", "a.ttf"], 1, None),
     (&["hintcheck", "scan", "a", "b", "c", "a"], 4, None),
     (&["hintcheck", "explain", "a.ttf", "g7"], 1, None),
@@ -144,7 +144,7 @@ const FURTHER: [(&[&str], usize, Option<u32>); 4] = [
 
 #[test]
 fn reads_words_of_scans_and_explanations(rt: HostRuntime) {
-    for (words, fonts, place) in FURTHER {
+    for &(words, fonts, place) in FURTHER {
         let is_so = asks_further(rt.alloc(), words, fonts, place);
         assert!(rt; is_so, "of {words:?}");
     }
@@ -175,7 +175,7 @@ fn asks_within<'a>(
 }
 
 /// Words of the subcommands that take `--points`, the texts of the task, and the limit.
-const LIMITED: [(&[&str], (&str, &str, &str), Option<u64>); 19] = [
+const LIMITED: &[(&[&str], (&str, &str, &str), Option<u64>)] = &[
     (&["hintcheck", "verdict", "a"], ("verdict", "a", ""), None),
     (&["hintcheck", "scan", "a", "b"], ("scan", "a", "b"), None),
     (&["hintcheck", "find", "a", "b"], ("find", "a", "b"), None),
@@ -265,7 +265,7 @@ const LIMITED: [(&[&str], (&str, &str, &str), Option<u64>); 19] = [
 
 #[test]
 fn reads_how_many_points_may_be_made(rt: HostRuntime) {
-    for (words, want, most) in LIMITED {
+    for &(words, want, most) in LIMITED {
         let is_so = asks_within(rt.alloc(), words, want, most);
         assert!(rt; is_so, "of {words:?}");
     }
@@ -281,7 +281,7 @@ fn refusal<'a>(alloc: Global, words: &'a [&'a str]) -> Option<ErrorKind> {
 }
 
 /// Words that aren't those of a command line, and the kind of the error.
-const REFUSED: [(&[&str], ErrorKind); 19] = [
+const REFUSED: &[(&[&str], ErrorKind)] = &[
     (&["hintcheck", "scan"], ErrorKind::MissingRequiredArgument),
     (
         &["hintcheck", "explain", "a"],
@@ -350,13 +350,13 @@ const REFUSED: [(&[&str], ErrorKind); 19] = [
 
 #[test]
 fn refuses_other_words(rt: HostRuntime) {
-    for (words, want) in REFUSED {
+    for &(words, want) in REFUSED {
         assert_eq!(rt; refusal(rt.alloc(), words), Some(want), "of {words:?}");
     }
 }
 
 /// Words with a `--points` that isn't one, and the kind of the error.
-const OTHER_LIMITS: [(&[&str], ErrorKind); 14] = [
+const OTHER_LIMITS: &[(&[&str], ErrorKind)] = &[
     (
         &["hintcheck", "verdict", "a", "--points"],
         ErrorKind::InvalidValue,
@@ -432,13 +432,13 @@ const OTHER_LIMITS: [(&[&str], ErrorKind); 14] = [
 
 #[test]
 fn refuses_other_limits(rt: HostRuntime) {
-    for (words, want) in OTHER_LIMITS {
+    for &(words, want) in OTHER_LIMITS {
         assert_eq!(rt; refusal(rt.alloc(), words), Some(want), "of {words:?}");
     }
 }
 
 /// Words that ask for help.
-const HELP: [&[&str]; 4] = [
+const HELP: &[&[&str]] = &[
     &["hintcheck", "--help"],
     &["hintcheck", "help", "bare"],
     &["hintcheck", "list", "-h"],

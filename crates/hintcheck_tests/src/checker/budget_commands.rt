@@ -44,7 +44,7 @@ fn with_a_certificate<'a>(
 
 /// How many points may be made, the status, the output and the error output: of the font, whose
 /// verdict takes 18 points, and of the underflowing one, whose verdict takes 11.
-const VERDICTS: [(&[&str], &str, u8, &str, &str); 7] = [
+const VERDICTS: &[(&[&str], &str, u8, &str, &str)] = &[
     (&FONT, "0", 3, "", BUDGET),
     (&FONT, "17", 3, "", BUDGET),
     (&FONT, "18", 0, ACCEPTED, ""),
@@ -62,7 +62,7 @@ const VERDICTS: [(&[&str], &str, u8, &str, &str); 7] = [
 
 #[test]
 fn verdicts_within_points(rt: HostRuntime) -> Result<(), Fail> {
-    for &(parts, points, status, out, err) in &VERDICTS {
+    for &(parts, points, status, out, err) in VERDICTS {
         let font = file_of(&rt, parts, "verdicts.ttf")?;
         let words = on_a_font("verdict", points, font.as_str());
         assert!(rt;
@@ -78,7 +78,7 @@ fn verdicts_within_points(rt: HostRuntime) -> Result<(), Fail> {
 
 /// The same of the check by the font's certificate, which takes 9 points, and 6 where it is the
 /// underflowing one that is checked by it.
-const CHECKS: [(&[&str], &str, u8, &str, &str); 5] = [
+const CHECKS: &[(&[&str], &str, u8, &str, &str)] = &[
     (&FONT, "0", 3, "", BUDGET),
     (&FONT, "8", 3, "", BUDGET),
     (&FONT, "9", 0, ACCEPTED, ""),
@@ -89,7 +89,7 @@ const CHECKS: [(&[&str], &str, u8, &str, &str); 5] = [
 #[test]
 fn checks_within_points(rt: HostRuntime) -> Result<(), Fail> {
     let cert = file_of(&rt, &FORM_4, "checks.cert")?;
-    for &(parts, points, status, out, err) in &CHECKS {
+    for &(parts, points, status, out, err) in CHECKS {
         let font = file_of(&rt, parts, "checks.ttf")?;
         let words = with_a_certificate("check", points, font.as_str(), cert.as_str());
         assert!(rt;
@@ -105,7 +105,7 @@ fn checks_within_points(rt: HostRuntime) -> Result<(), Fail> {
 /// The same of the search for a certificate, which takes 18 points, and 7 where the font is
 /// refused; and how many bytes of the certificate are written: of the header and of the sections of
 /// the programs that were found once more.
-const SEARCHES: [(&[&str], &str, u8, &str, &str, usize); 8] = [
+const SEARCHES: &[(&[&str], &str, u8, &str, &str, usize)] = &[
     (&FONT, "0", 3, "", BUDGET, 0),
     (&FONT, "8", 3, "", BUDGET, 0),
     (&FONT, "9", 3, "", BUDGET, 10),
@@ -119,7 +119,7 @@ const SEARCHES: [(&[&str], &str, u8, &str, &str, usize); 8] = [
 #[test]
 fn searches_within_points(rt: HostRuntime) -> Result<(), Fail> {
     let form_4 = bytes_of(rt.alloc(), &FORM_4)?;
-    for &(parts, points, status, out, err, length) in &SEARCHES {
+    for &(parts, points, status, out, err, length) in SEARCHES {
         let font = file_of(&rt, parts, "searches.ttf")?;
         let cert = file_of(&rt, &["FF"], "searches.cert")?;
         let words = with_a_certificate("find", points, font.as_str(), cert.as_str());

@@ -79,7 +79,7 @@ const GLYPH: Told = Told::Accepted(Name::Glyph(0));
 
 /// The budgets of the calls, and what these answer. The programs have 3, 1 and 5 points, and after
 /// their sections 205, 155 and 0 bytes are left. The end of the certificate costs nothing.
-const CALLS: [(&[u64], &[Answer]); 5] = [
+const CALLS: &[(&[u64], &[Answer])] = &[
     (
         &[3, 1, 5, 0, 0],
         &[
@@ -129,7 +129,7 @@ const CALLS: [(&[u64], &[Answer]); 5] = [
 
 #[test]
 fn a_budget_for_each_call(rt: HostRuntime) {
-    for (budgets, want) in &CALLS {
+    for (budgets, want) in CALLS {
         let answers = told_each_of(rt.alloc(), &FONT, budgets).expect(&rt, "calls");
         assert!(rt; *answers == **want, "{budgets:?}: {answers:?}");
     }

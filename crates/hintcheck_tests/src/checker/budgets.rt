@@ -20,7 +20,7 @@ type Programs<'a> = (&'a str, &'a str, &'a [&'a str]);
 /// So an empty program costs 1 and 1, except that no verdict looks at a glyph without instructions.
 /// A search for a certificate finds each family twice and checks none: the second time it is to
 /// write them, also that of such a glyph.
-const ACCEPTED: [(Programs<'static>, u64, u64, u64); 8] = [
+const ACCEPTED: &[(Programs<'static>, u64, u64, u64)] = &[
     // The font program and the CVT program: 1 each to find and 1 each to check. The search: 1 and
     // 1, then once more, and 1 for the glyph. The check: 1 for each of the three.
     (("", "", &[""]), 4, 5, 3),
@@ -50,7 +50,7 @@ const ACCEPTED: [(Programs<'static>, u64, u64, u64); 8] = [
 /// Fonts that are refused, and what is told of them; and how many points the verdict makes, and the
 /// search for a certificate. A program that is refused costs the points up to where it is, and
 /// isn't checked; nor is a certificate written then.
-const REFUSED: [(Programs<'static>, Told, u64, u64); 6] = [
+const REFUSED: &[(Programs<'static>, Told, u64, u64)] = &[
     // An EIF without its IF: the program has no point.
     (("59", "", &["B0072E"]), Told::Refused(1, 0, 21), 0, 0),
     // POP in the font program, where all ends: 1.
@@ -139,7 +139,7 @@ fn first_wrong_check(
 #[test]
 fn accepted_fonts_within_each_budget(rt: HostRuntime) {
     let (alloc, want) = (rt.alloc(), Told::Accepted);
-    for (programs, verdict, search, check) in &ACCEPTED {
+    for (programs, verdict, search, check) in ACCEPTED {
         let (fpgm, prep, glyphs) = *programs;
         let font = font_of(alloc, fpgm, prep, glyphs).expect(&rt, "font");
         let (_, bytes) = found(alloc, &font, ALL);
@@ -155,7 +155,7 @@ fn accepted_fonts_within_each_budget(rt: HostRuntime) {
 #[test]
 fn refused_fonts_within_each_budget(rt: HostRuntime) {
     let alloc = rt.alloc();
-    for (programs, want, verdict, search) in &REFUSED {
+    for (programs, want, verdict, search) in REFUSED {
         let (fpgm, prep, glyphs) = *programs;
         let font = font_of(alloc, fpgm, prep, glyphs).expect(&rt, "font");
         let wrong = first_wrong_verdict(alloc, &font, *verdict, *want);
@@ -169,7 +169,7 @@ fn refused_fonts_within_each_budget(rt: HostRuntime) {
 /// How many another font costs by it, whose glyph calls the function with nothing to pop; and the
 /// offset at which that glyph is refused. The font program costs 3 and the CVT program 1. The
 /// glyph's states at 0 and 2 cost 1 each, but the first certificate should list that at 2.
-const CERTIFICATES: [(&[&str], u64, u32); 4] = [
+const CERTIFICATES: &[(&[&str], u64, u32)] = &[
     (&FORM_1, 5, 2),
     (&FORM_2, 6, 3),
     (&FORM_3, 6, 3),
@@ -181,7 +181,7 @@ fn certificates_of_each_form_within_each_budget(rt: HostRuntime) {
     let alloc = rt.alloc();
     let font = font_of(alloc, "B0002C212D", "", &["B107002B"]).expect(&rt, "font");
     let other = font_of(alloc, "B0002C212D", "", &["B0002B"]).expect(&rt, "other font");
-    for (parts, needed, offset) in &CERTIFICATES {
+    for (parts, needed, offset) in CERTIFICATES {
         let bytes = bytes_of(alloc, parts).expect(&rt, "certificate");
         let length = bytes.len();
         let wrong = first_wrong_check(alloc, &font, &bytes, 9, Told::Accepted);
@@ -195,7 +195,7 @@ fn certificates_of_each_form_within_each_budget(rt: HostRuntime) {
 #[test]
 fn points_without_a_bound(rt: HostRuntime) {
     let (alloc, want) = (rt.alloc(), Told::Accepted);
-    for (programs, verdict, search, check) in &ACCEPTED {
+    for (programs, verdict, search, check) in ACCEPTED {
         let (fpgm, prep, glyphs) = *programs;
         let font = font_of(alloc, fpgm, prep, glyphs).expect(&rt, "font");
         let mut budget = Budget::unlimited();

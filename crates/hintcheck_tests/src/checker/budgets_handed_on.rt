@@ -56,7 +56,7 @@ fn no_point_for_what_is_no_font(rt: HostRuntime) {
 /// How many bytes of the certificate are there, whether the read after them fails, the budget, what
 /// is told, and how many points were made. The header has 10 bytes, and the three sections end at
 /// 95, 145 and 300: their programs have 3, 1 and 5 points.
-const CHECKS: [(usize, bool, u64, Told, u64); 10] = [
+const CHECKS: &[(usize, bool, u64, Told, u64)] = &[
     (9, false, 0, Told::Form(9), 0),
     (94, false, 0, Told::Form(94), 0),
     (94, true, 0, Told::Read, 0),
@@ -74,7 +74,7 @@ fn faults_of_a_certificate_before_the_budget(rt: HostRuntime) {
     let alloc = rt.alloc();
     let font = bytes_of(alloc, &FONT).expect(&rt, "font");
     let form_4 = bytes_of(alloc, &FORM_4).expect(&rt, "certificate");
-    for (length, fails, most, want, made) in CHECKS {
+    for &(length, fails, most, want, made) in CHECKS {
         let Some(bytes) = form_4.get(..length) else {
             panic!(rt; "no {length} bytes");
         };
@@ -94,7 +94,7 @@ fn faults_of_a_certificate_before_the_budget(rt: HostRuntime) {
 /// The budget, how many bytes can be written, what is told, how many points were made, and how many
 /// bytes were written. The families are found with 9 points, and once more with 3, 1 and 5: each is
 /// written once it is found, and the header before the first of them.
-const SEARCHES: [(u64, usize, Told, u64, usize); 12] = [
+const SEARCHES: &[(u64, usize, Told, u64, usize)] = &[
     (8, ALL, Told::Budget, 8, 0),
     (8, 0, Told::Budget, 8, 0),
     (9, 0, Told::Write, 9, 0),
@@ -114,7 +114,7 @@ fn what_is_written_within_a_budget(rt: HostRuntime) {
     let alloc = rt.alloc();
     let font = bytes_of(alloc, &FONT).expect(&rt, "font");
     let form_4 = bytes_of(alloc, &FORM_4).expect(&rt, "certificate");
-    for (most, room, want, made, length) in SEARCHES {
+    for &(most, room, want, made, length) in SEARCHES {
         let mut budget = Budget::of(most);
         let taker = Taker::new(alloc, 1, room);
         let (told, bytes) = found_within(alloc, &font, taker, &mut budget);

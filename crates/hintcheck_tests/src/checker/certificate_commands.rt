@@ -20,7 +20,7 @@ pub(crate) const CHECKED: &str = "refused g0 at f:3: 41 missing point\nrefused: 
 pub(crate) const FOUND: &str = "refused g0 at f:3: 26 underflow\nrefused: 1 of 3 programs\n";
 
 /// Certificates of the font that don't fit the underflowing one, and what is printed of it.
-const UNFIT: [(&[&str], &str); 3] = [
+const UNFIT: &[(&[&str], &str)] = &[
     (&FORM_1, CHECKED_WHOLE),
     (&FORM_2, CHECKED),
     (&FORM_4, CHECKED),
@@ -57,7 +57,7 @@ fn commands_on_files(rt: HostRuntime) -> Result<(), Fail> {
         font.as_str(),
         &bytes_of(rt.alloc(), &UNDERFLOWING).expect(&rt, "bytes"),
     )?;
-    for (parts, want) in &UNFIT {
+    for (parts, want) in UNFIT {
         fs::write(
             &rt,
             cert.as_str(),

@@ -9,7 +9,7 @@ use std::alloc::Global;
 
 /// The stored certificates: how many bytes each has, and the offset at which it doesn't fit the
 /// other font.
-const STORED: [(&[&str], usize, u32); 4] = [
+const STORED: &[(&[&str], usize, u32)] = &[
     (&FORM_1, 414, 2),
     (&FORM_2, 288, 3),
     (&FORM_3, 300, 3),
@@ -20,7 +20,7 @@ const STORED: [(&[&str], usize, u32); 4] = [
 fn stored_certificates(rt: HostRuntime) {
     let font = bytes_of(rt.alloc(), &FONT).expect(&rt, "font");
     let other = bytes_of(rt.alloc(), &UNDERFLOWING).expect(&rt, "other font");
-    for (parts, length, offset) in &STORED {
+    for (parts, length, offset) in STORED {
         let bytes = bytes_of(rt.alloc(), parts).expect(&rt, "certificate");
         assert_eq!(rt; bytes.len(), *length);
         assert_eq!(rt;
@@ -106,7 +106,7 @@ pub(crate) fn with_byte(bytes: &[u8], place: usize, byte: u8, alloc: Global) -> 
 
 /// The place of a byte, another byte there, and what is told: the form, the number of sections, and
 /// the 7 on the stack where the function begins.
-const CHANGED: [(usize, u8, Told); 4] = [
+const CHANGED: &[(usize, u8, Told)] = &[
     (5, 9, Told::Form(4)),
     (9, 4, Told::Form(6)),
     (9, 2, Told::Form(6)),
@@ -117,7 +117,7 @@ const CHANGED: [(usize, u8, Told); 4] = [
 fn changed_certificates(rt: HostRuntime) {
     let font = bytes_of(rt.alloc(), &FONT).expect(&rt, "font");
     let bytes = bytes_of(rt.alloc(), &FORM_4).expect(&rt, "certificate");
-    for (place, byte, want) in &CHANGED {
+    for (place, byte, want) in CHANGED {
         let changed = with_byte(&bytes, *place, *byte, rt.alloc()).expect(
             &rt,
             "changed certificate",

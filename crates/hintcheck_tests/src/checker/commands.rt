@@ -5,7 +5,7 @@ use hintcheck_test_fixtures::fonts::MAXP_WORD;
 use std::rt::Files;
 
 /// A `maxp` table, a program or none, and the line of the fault.
-const FAULTS: [(&str, Option<&str>, &str); 9] = [
+const FAULTS: &[(&str, Option<&str>, &str)] = &[
     ("0", Some("00"), "fault: words: MAXP\n"),
     ("0x", Some("00"), "fault: words: MAXP\n"),
     ("0", Some("0"), "fault: words: MAXP\n"),
@@ -19,7 +19,7 @@ const FAULTS: [(&str, Option<&str>, &str); 9] = [
 
 #[test]
 fn tells_faults_of_bare(rt: HostRuntime) {
-    for (maxp, program, line) in &FAULTS {
+    for (maxp, program, line) in FAULTS {
         let is_so = answers_on_bare(&rt, maxp, *program, 2, "", line);
         assert!(rt; is_so, "{maxp}, {program:?}: {line}");
     }
@@ -31,7 +31,7 @@ fn is_refused<R: Files + AllocGlobal>(rt: &R, words: &[&str]) -> bool {
     status == 2 && out.is_empty() && err.starts_with(b"error: ")
 }
 
-const REFUSED: [&[&str]; 13] = [
+const REFUSED: &[&[&str]] = &[
     &["hintcheck"],
     &["hintcheck", "scan"],
     &["hintcheck", "explain"],
@@ -49,7 +49,7 @@ const REFUSED: [&[&str]; 13] = [
 
 #[test]
 fn refuses_other_words(rt: HostRuntime) {
-    for words in &REFUSED {
+    for words in REFUSED {
         assert!(rt; is_refused(&rt, words), "{words:?}");
     }
 }
@@ -60,7 +60,7 @@ fn is_helped<R: Files + AllocGlobal>(rt: &R, words: &[&str]) -> bool {
     status == 0 && !out.is_empty() && err.is_empty()
 }
 
-const HELPED: [&[&str]; 7] = [
+const HELPED: &[&[&str]] = &[
     &["hintcheck", "--version"],
     &["hintcheck", "help", "scan"],
     &["hintcheck", "explain", "--help"],
@@ -72,7 +72,7 @@ const HELPED: [&[&str]; 7] = [
 
 #[test]
 fn helps(rt: HostRuntime) {
-    for words in &HELPED {
+    for words in HELPED {
         assert!(rt; is_helped(&rt, words), "{words:?}");
     }
 }
@@ -106,27 +106,27 @@ fn tells_failed_writes_of<R: Files + AllocGlobal>(rt: &R, words: &[&str]) -> boo
     status < 2 && err.is_empty()
 }
 
-const WRITING: [&[&str]; 2] = [
+const WRITING: &[&[&str]] = &[
     &["hintcheck", "bare", MAXP_WORD, "10", "4", "1"],
     &["hintcheck", "--help"],
 ];
 
 #[test]
 fn tells_failed_writes(rt: HostRuntime) {
-    for words in &WRITING {
+    for words in WRITING {
         assert!(rt; tells_failed_writes_of(&rt, words), "{words:?}");
     }
 }
 
 /// No file has the first name, and the second is that of a folder, which can be opened.
-const UNREADABLE: [&[&str]; 2] = [
+const UNREADABLE: &[&[&str]] = &[
     &["hintcheck", "verdict", "no such file.ttf"],
     &["hintcheck", "verdict", "."],
 ];
 
 #[test]
 fn tells_unreadable_files(rt: HostRuntime) {
-    for words in &UNREADABLE {
+    for words in UNREADABLE {
         assert!(rt; answers(&rt, words, 2, "", "fault: 44 read\n"), "{words:?}");
     }
 }

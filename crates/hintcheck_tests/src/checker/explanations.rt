@@ -85,7 +85,7 @@ const LONG: &str = "181818181818181818181818181818181818181818181818181818181818
 /// except for those of a certificate.
 type Refused<'a> = (Programs<'a>, &'a str, &'a str, &'a str, &'a str);
 
-const REFUSED: [Refused<'static>; 25] = [
+const REFUSED: &[Refused<'static>] = &[
     (
         ("", "", "40030102"),
         "g0",
@@ -281,7 +281,7 @@ fn explains_refused(rt: &HostRuntime, refused: Refused<'_>) -> Option<bool> {
 
 #[test]
 fn explains_reasons(rt: HostRuntime) {
-    for refused in &REFUSED {
+    for refused in REFUSED {
         let is_so = explains_refused(&rt, *refused);
         assert!(rt; is_so == Some(true), "{refused:?}");
     }
@@ -293,7 +293,7 @@ const CALLS: Programs<'static> = (POPPING, "", "B1000020B0002B");
 /// A font's programs, the one that is accepted, the place that is asked for, and what is told.
 type Accepted<'a> = (Programs<'a>, &'a str, Option<&'a str>, &'a [&'a str]);
 
-const ACCEPTED: [Accepted<'static>; 5] = [
+const ACCEPTED: &[Accepted<'static>] = &[
     (
         ("", "", "B100093E"),
         "g0",
@@ -331,7 +331,7 @@ const ACCEPTED: [Accepted<'static>; 5] = [
 
 #[test]
 fn explains_accepted_programs(rt: HostRuntime) {
-    for (programs, program, offset, parts) in &ACCEPTED {
+    for (programs, program, offset, parts) in ACCEPTED {
         let is_so = explains(&rt, *programs, program, *offset, 0, parts);
         assert!(rt; is_so == Some(true), "{programs:?}, {offset:?}");
     }
@@ -350,7 +350,7 @@ fn explains_places_of_refused_programs(rt: HostRuntime) {
 }
 
 /// Programs whose font program or CVT program is refused, and what is told of the glyph program.
-const UNCHECKED: [(Programs<'static>, &str); 2] = [
+const UNCHECKED: &[(Programs<'static>, &str)] = &[
     (
         ("21", "", "21"),
         "not checked: the font program is refused\nrefused f at f:0: 26 underflow\n",
@@ -363,7 +363,7 @@ const UNCHECKED: [(Programs<'static>, &str); 2] = [
 
 #[test]
 fn tells_programs_that_are_not_checked(rt: HostRuntime) {
-    for (programs, text) in &UNCHECKED {
+    for (programs, text) in UNCHECKED {
         let is_so = explains(&rt, *programs, "g0", None, 1, &[*text]);
         assert!(rt; is_so == Some(true), "{text}");
     }
@@ -390,7 +390,7 @@ fn tells_fault(
 
 /// A word for a program and one for a place, and the line of the fault: places inside an
 /// instruction, after the end, and of a program without instructions.
-const FAULTS: [(&str, &str, &str); 9] = [
+const FAULTS: &[(&str, &str, &str)] = &[
     ("g0", "1", "fault: words: OFFSET\n"),
     ("g0", "2", "fault: words: OFFSET\n"),
     ("g0", "4", "fault: words: OFFSET\n"),
@@ -404,7 +404,7 @@ const FAULTS: [(&str, &str, &str); 9] = [
 
 #[test]
 fn tells_faults_of_words(rt: HostRuntime) {
-    for (program, offset, line) in &FAULTS {
+    for (program, offset, line) in FAULTS {
         let is_so = tells_fault(&rt, ("", "", "B100093E"), program, offset, line);
         assert!(rt; is_so == Some(true), "{program} {offset}");
     }
@@ -417,7 +417,7 @@ fn tells_faults_of_words(rt: HostRuntime) {
 type Place<'a> = (Programs<'a>, &'a str, &'a str, &'a str, &'a str);
 
 /// Places of programs that can't be cut or aren't structured, and of those that aren't checked.
-const PLACES: [Place<'static>; 9] = [
+const PLACES: &[Place<'static>] = &[
     (
         ("", "", "B00040030102"),
         "g0",
@@ -485,7 +485,7 @@ const PLACES: [Place<'static>; 9] = [
 
 #[test]
 fn looks_at_places_of_programs_that_are_not_accepted(rt: HostRuntime) {
-    for (programs, program, place, text, other) in &PLACES {
+    for (programs, program, place, text, other) in PLACES {
         let is_so = explains(&rt, *programs, program, Some(*place), 1, &[*text]);
         assert!(rt; is_so == Some(true), "{programs:?} {program} {place}");
         let is_so = tells_fault(&rt, *programs, program, other, "fault: words: OFFSET\n");

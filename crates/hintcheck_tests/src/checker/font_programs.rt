@@ -67,7 +67,7 @@ fn assert_judged(rt: &impl Abort, alloc: Global, fonts: &[Case<'_>]) {
 /// The only glyph's program.
 const G0: Name = Name::Glyph(0);
 
-const CALLS_FUNCTIONS_OF_THE_FONT_PROGRAM: [Case<'static>; 6] = [
+const CALLS_FUNCTIONS_OF_THE_FONT_PROGRAM: &[Case<'static>] = &[
     (TAKES, "", CALLS_WITH_7, &[]),
     (TAKES, "", CALLS, &[(G0, Name::Font, 3, Reason::Underflow)]),
     (TAKES, "", "B401020303002A", &[]),
@@ -88,10 +88,10 @@ const CALLS_FUNCTIONS_OF_THE_FONT_PROGRAM: [Case<'static>; 6] = [
 
 #[test]
 fn calls_functions_of_the_font_program(rt: HostRuntime) {
-    assert_judged(&rt, rt.alloc(), &CALLS_FUNCTIONS_OF_THE_FONT_PROGRAM);
+    assert_judged(&rt, rt.alloc(), CALLS_FUNCTIONS_OF_THE_FONT_PROGRAM);
 }
 
-const CALLS_FUNCTIONS_OF_THE_CVT_PROGRAM: [Case<'static>; 4] = [
+const CALLS_FUNCTIONS_OF_THE_CVT_PROGRAM: &[Case<'static>] = &[
     ("", TAKES, CALLS_WITH_7, &[]),
     ("", TAKES, CALLS, &[(G0, Name::Cvt, 3, Reason::Underflow)]),
     (TAKES, "B0002C2D", CALLS, &[]),
@@ -105,10 +105,10 @@ const CALLS_FUNCTIONS_OF_THE_CVT_PROGRAM: [Case<'static>; 4] = [
 
 #[test]
 fn calls_functions_of_the_cvt_program(rt: HostRuntime) {
-    assert_judged(&rt, rt.alloc(), &CALLS_FUNCTIONS_OF_THE_CVT_PROGRAM);
+    assert_judged(&rt, rt.alloc(), CALLS_FUNCTIONS_OF_THE_CVT_PROGRAM);
 }
 
-const ENDS_AT_A_REFUSED_PROGRAM: [Case<'static>; 4] = [
+const ENDS_AT_A_REFUSED_PROGRAM: &[Case<'static>] = &[
     (
         "",
         ENDLESS,
@@ -137,10 +137,10 @@ const ENDS_AT_A_REFUSED_PROGRAM: [Case<'static>; 4] = [
 
 #[test]
 fn ends_at_a_refused_program(rt: HostRuntime) {
-    assert_judged(&rt, rt.alloc(), &ENDS_AT_A_REFUSED_PROGRAM);
+    assert_judged(&rt, rt.alloc(), ENDS_AT_A_REFUSED_PROGRAM);
 }
 
-const KEEPS_THE_STORAGE_AREA_OF_ONE_PROGRAM: [Case<'static>; 3] = [
+const KEEPS_THE_STORAGE_AREA_OF_ONE_PROGRAM: &[Case<'static>] = &[
     ("", "", "4B58B10102421BB101024259B001432E", &[]),
     (
         "",
@@ -158,11 +158,11 @@ const KEEPS_THE_STORAGE_AREA_OF_ONE_PROGRAM: [Case<'static>; 3] = [
 
 #[test]
 fn keeps_the_storage_area_of_one_program(rt: HostRuntime) {
-    assert_judged(&rt, rt.alloc(), &KEEPS_THE_STORAGE_AREA_OF_ONE_PROGRAM);
+    assert_judged(&rt, rt.alloc(), KEEPS_THE_STORAGE_AREA_OF_ONE_PROGRAM);
 }
 
 /// What is refused in a font with 3 glyphs, of which the second one is accepted.
-const OF_EACH_GLYPH: [Refusal; 2] = [
+const OF_EACH_GLYPH: &[Refusal] = &[
     (G0, Name::Font, 3, Reason::Underflow),
     (Name::Glyph(2), Name::Glyph(2), 0, Reason::Underflow),
 ];
@@ -174,7 +174,7 @@ fn is_each_looked_at(alloc: Global) -> bool {
     };
     match verdict(alloc, &file) {
         Ok(verdict) => {
-            verdict.programs() == 5 && !verdict.accepted() && has_refused(&verdict, &OF_EACH_GLYPH)
+            verdict.programs() == 5 && !verdict.accepted() && has_refused(&verdict, OF_EACH_GLYPH)
         }
         Err(_) => false,
     }

@@ -71,7 +71,7 @@ fn assert_judged(rt: &impl Abort, alloc: Global, programs: &[Case<'_>]) {
     }
 }
 
-const STRUCTURE: [Case<'static>; 11] = [
+const STRUCTURE: &[Case<'static>] = &[
     ("", None),
     ("40030102", Some((0, Reason::CannotCut))),
     ("59", Some((0, Reason::Structure))),
@@ -87,10 +87,10 @@ const STRUCTURE: [Case<'static>; 11] = [
 
 #[test]
 fn structure(rt: HostRuntime) {
-    assert_judged(&rt, rt.alloc(), &STRUCTURE);
+    assert_judged(&rt, rt.alloc(), STRUCTURE);
 }
 
-const STACK: [Case<'static>; 7] = [
+const STACK: &[Case<'static>] = &[
     ("21", Some((0, Reason::Underflow))),
     ("b005202e21", None),
     ("b10000212121", Some((5, Reason::Underflow))),
@@ -103,10 +103,10 @@ const STACK: [Case<'static>; 7] = [
 
 #[test]
 fn stack(rt: HostRuntime) {
-    assert_judged(&rt, rt.alloc(), &STACK);
+    assert_judged(&rt, rt.alloc(), STACK);
 }
 
-const OTHER_LIMITS: [(&str, &str, Refusal); 4] = [
+const OTHER_LIMITS: &[(&str, &str, Refusal)] = &[
     (STACK_OF_2, "b2010203", Some((0, Reason::Overflow))),
     (STACK_OF_2, "b1000020", Some((3, Reason::Overflow))),
     (STACK_OF_3, "b2010203", None),
@@ -115,13 +115,13 @@ const OTHER_LIMITS: [(&str, &str, Refusal); 4] = [
 
 #[test]
 fn other_limits(rt: HostRuntime) {
-    for (maxp, program, refusal) in &OTHER_LIMITS {
+    for (maxp, program, refusal) in OTHER_LIMITS {
         let is_so = is_judged(rt.alloc(), maxp, program, *refusal);
         assert!(rt; is_so, "{program} isn't judged so: {refusal:?}");
     }
 }
 
-const CONTROL_VALUES_AND_STORAGE_AREA: [Case<'static>; 11] = [
+const CONTROL_VALUES_AND_STORAGE_AREA: &[Case<'static>] = &[
     ("b100093e", None),
     ("b1000a3e", Some((3, Reason::Cvt))),
     ("b00a3e", Some((2, Reason::Cvt))),
@@ -141,10 +141,10 @@ const CONTROL_VALUES_AND_STORAGE_AREA: [Case<'static>; 11] = [
 
 #[test]
 fn control_values_and_storage_area(rt: HostRuntime) {
-    assert_judged(&rt, rt.alloc(), &CONTROL_VALUES_AND_STORAGE_AREA);
+    assert_judged(&rt, rt.alloc(), CONTROL_VALUES_AND_STORAGE_AREA);
 }
 
-const POINTS: [Case<'static>; 10] = [
+const POINTS: &[Case<'static>] = &[
     // The last phantom point is 7.
     ("b0072e", None),
     ("b0082e", Some((2, Reason::Point))),
@@ -163,10 +163,10 @@ const POINTS: [Case<'static>; 10] = [
 
 #[test]
 fn points(rt: HostRuntime) {
-    assert_judged(&rt, rt.alloc(), &POINTS);
+    assert_judged(&rt, rt.alloc(), POINTS);
 }
 
-const COUNTS: [Case<'static>; 6] = [
+const COUNTS: &[Case<'static>] = &[
     // The loop variable.
     ("b3000102031733", None),
     ("b300010202173333", None),
@@ -179,10 +179,10 @@ const COUNTS: [Case<'static>; 6] = [
 
 #[test]
 fn counts(rt: HostRuntime) {
-    assert_judged(&rt, rt.alloc(), &COUNTS);
+    assert_judged(&rt, rt.alloc(), COUNTS);
 }
 
-const JUMPS: [Case<'static>; 5] = [
+const JUMPS: &[Case<'static>] = &[
     ("b8fffd1c", None),
     ("b0021c21", None),
     ("b001b00160b8fffa1c", None),
@@ -192,10 +192,10 @@ const JUMPS: [Case<'static>; 5] = [
 
 #[test]
 fn jumps(rt: HostRuntime) {
-    assert_judged(&rt, rt.alloc(), &JUMPS);
+    assert_judged(&rt, rt.alloc(), JUMPS);
 }
 
-const CONDITIONS: [Case<'static>; 9] = [
+const CONDITIONS: &[Case<'static>] = &[
     ("4b58b0011bb0025921", None),
     ("4b58b0011bb002592e", Some((8, Reason::UnknownOperand))),
     ("4b58b0015921", Some((5, Reason::DepthMismatch))),
@@ -225,17 +225,17 @@ const CONDITIONS: [Case<'static>; 9] = [
 
 #[test]
 fn conditions(rt: HostRuntime) {
-    assert_judged(&rt, rt.alloc(), &CONDITIONS);
+    assert_judged(&rt, rt.alloc(), CONDITIONS);
 }
 
-const LENGTH: [Case<'static>; 2] = [
+const LENGTH: &[Case<'static>] = &[
     (LONGEST, None),
     (TOO_LONG, Some((64, Reason::ProgramTooLong))),
 ];
 
 #[test]
 fn length(rt: HostRuntime) {
-    assert_judged(&rt, rt.alloc(), &LENGTH);
+    assert_judged(&rt, rt.alloc(), LENGTH);
 }
 
 /// Whether a `maxp` table, a word of hexadecimal digits, has the fault with this number, or none.
@@ -252,7 +252,7 @@ fn has_fault(alloc: Global, maxp: &str, number: Option<u8>) -> bool {
 /// The limits without their last byte.
 const CUT_SHORT: &str = "00010000000100040001000000000002000400040002000000080040000000";
 
-const TABLES: [(&str, Option<u8>); 5] = [
+const TABLES: &[(&str, Option<u8>)] = &[
     ("000100", Some(4)),
     ("00010000", Some(4)),
     ("000050000001", Some(5)),
@@ -262,7 +262,7 @@ const TABLES: [(&str, Option<u8>); 5] = [
 
 #[test]
 fn faults_of_maxp(rt: HostRuntime) {
-    for (maxp, number) in &TABLES {
+    for (maxp, number) in TABLES {
         assert!(rt; has_fault(rt.alloc(), maxp, *number), "{maxp}");
     }
 }

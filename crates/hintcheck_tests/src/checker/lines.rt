@@ -14,11 +14,11 @@ use tt_code::Reason;
 /// Nine pushes of 0.
 const NINE_PUSHES: &str = "B000B000B000B000B000B000B000B000B000";
 
-const ACCEPTED: [Option<&str>; 3] = [Some("B100093E"), Some(""), None];
+const ACCEPTED: &[Option<&str>] = &[Some("B100093E"), Some(""), None];
 
 #[test]
 fn accepts_glyph_programs(rt: HostRuntime) {
-    for program in &ACCEPTED {
+    for program in ACCEPTED {
         let is_so = answers_on_bare(&rt, MAXP_WORD, *program, 0, "accepted: 1 programs\n", "");
         assert!(rt; is_so, "{program:?}");
     }
@@ -33,7 +33,7 @@ fn is_refused<R: Files + AllocGlobal>(rt: &R, program: &str, line: &str) -> bool
 }
 
 /// A glyph program, and the line by which it is refused.
-const REFUSED: [(&str, &str); 18] = [
+const REFUSED: &[(&str, &str)] = &[
     ("40030102", "refused g0 at g0:0: 20 cannot cut"),
     ("59", "refused g0 at g0:0: 21 structure"),
     (TOO_LONG, "refused g0 at g0:64: 22 program too long"),
@@ -56,7 +56,7 @@ const REFUSED: [(&str, &str); 18] = [
 
 #[test]
 fn refuses_glyph_programs(rt: HostRuntime) {
-    for (program, line) in &REFUSED {
+    for (program, line) in REFUSED {
         assert!(rt; is_refused(&rt, program, line), "{program}: {line}");
     }
 }
@@ -73,7 +73,7 @@ fn is_printed(rt: &HostRuntime, (fpgm, prep, glyphs, status, text): &Case<'_>) -
     }
 }
 
-const SINGLE_GLYPHS: [Case<'static>; 4] = [
+const SINGLE_GLYPHS: &[Case<'static>] = &[
     (
         "B0002C212D",
         "",
@@ -106,14 +106,14 @@ const SINGLE_GLYPHS: [Case<'static>; 4] = [
 
 #[test]
 fn refuses_single_glyphs_of_fonts(rt: HostRuntime) {
-    for case in &SINGLE_GLYPHS {
+    for case in SINGLE_GLYPHS {
         assert!(rt; is_printed(&rt, case), "{case:?}");
     }
 }
 
 /// A font program with an empty function, and glyphs that call it so often that there are 4,097
 /// contexts, and 65,535: as many as there may be.
-const MANY_CONTEXTS: [Case<'static>; 2] = [
+const MANY_CONTEXTS: &[Case<'static>] = &[
     (
         "B0002C2D",
         "",
@@ -132,12 +132,12 @@ const MANY_CONTEXTS: [Case<'static>; 2] = [
 
 #[test]
 fn accepts_many_contexts(rt: HostRuntime) {
-    for case in &MANY_CONTEXTS {
+    for case in MANY_CONTEXTS {
         assert!(rt; is_printed(&rt, case), "{case:?}");
     }
 }
 
-const PROGRAMS: [Case<'static>; 5] = [
+const PROGRAMS: &[Case<'static>] = &[
     ("", "", &["18", "18", "18"], 0, "accepted: 5 programs\n"),
     (
         "",
@@ -173,7 +173,7 @@ const PROGRAMS: [Case<'static>; 5] = [
 
 #[test]
 fn refuses_programs_of_fonts(rt: HostRuntime) {
-    for case in &PROGRAMS {
+    for case in PROGRAMS {
         assert!(rt; is_printed(&rt, case), "{case:?}");
     }
 }
@@ -204,7 +204,7 @@ fn is_small_judged(rt: &HostRuntime, prep: &str, status: u8, text: &str) -> bool
 }
 
 /// A CVT program, and the status and the lines of the verdict.
-const SMALL_FONTS: [(&str, u8, &str); 2] = [
+const SMALL_FONTS: &[(&str, u8, &str)] = &[
     ("B0002100", 0, "accepted: 3 programs\n"),
     (
         "B0002121",
@@ -215,13 +215,13 @@ const SMALL_FONTS: [(&str, u8, &str); 2] = [
 
 #[test]
 fn prints_verdicts_on_small_fonts(rt: HostRuntime) {
-    for (prep, status, text) in &SMALL_FONTS {
+    for (prep, status, text) in SMALL_FONTS {
         assert!(rt; is_small_judged(&rt, prep, *status, text), "{prep}: {text}");
     }
 }
 
 /// Each reason and its number.
-const NUMBERS: [(Reason, u8); 23] = [
+const NUMBERS: &[(Reason, u8)] = &[
     (Reason::CannotCut, 20),
     (Reason::Structure, 21),
     (Reason::ProgramTooLong, 22),
@@ -249,7 +249,7 @@ const NUMBERS: [(Reason, u8); 23] = [
 
 #[test]
 fn numbers_reasons(rt: HostRuntime) {
-    for (reason, number) in &NUMBERS {
+    for (reason, number) in NUMBERS {
         assert_eq!(rt; reason.number(), *number, "{reason}");
     }
 }
@@ -276,7 +276,7 @@ fn is_faulty(rt: &HostRuntime, word: &str, line: &str) -> bool {
 }
 
 /// A file of hexadecimal digits, and the line of its fault.
-const DIRECTORIES: [(&str, &str); 3] = [
+const DIRECTORIES: &[(&str, &str)] = &[
     ("", "fault: 2 directory truncated\n"),
     ("000000000000000000000000", "fault: 1 not an sfnt file\n"),
     (
@@ -287,7 +287,7 @@ const DIRECTORIES: [(&str, &str); 3] = [
 
 #[test]
 fn tells_faults_of_directories(rt: HostRuntime) {
-    for (word, line) in &DIRECTORIES {
+    for (word, line) in DIRECTORIES {
         assert!(rt; is_faulty(&rt, word, line), "{word}: {line}");
     }
 }
@@ -308,7 +308,7 @@ fn has_faulty_glyphs(rt: &HostRuntime, loca: &str, glyf: &str, line: &str) -> bo
 }
 
 /// The tables `loca` and `glyf`, and the line of the fault.
-const GLYPHS: [(&str, &str, &str); 3] = [
+const GLYPHS: &[(&str, &str, &str)] = &[
     // The second glyph has no end.
     ("0000000000000000", "", "fault: 6 loca entry 2\n"),
     // The second glyph's header is cut short.
@@ -327,7 +327,7 @@ const GLYPHS: [(&str, &str, &str); 3] = [
 
 #[test]
 fn tells_faults_of_glyphs(rt: HostRuntime) {
-    for (loca, glyf, line) in &GLYPHS {
+    for (loca, glyf, line) in GLYPHS {
         assert!(rt;
             has_faulty_glyphs(&rt, loca, glyf, line),
             "{loca}, {glyf}: {line}"

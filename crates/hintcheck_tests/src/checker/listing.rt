@@ -23,7 +23,7 @@ fn font(alloc: Global) -> Option<Vec<u8>> {
 }
 
 /// A word for a program of the font, and the list that is printed of it.
-const LISTS: [(&str, &str); 6] = [
+const LISTS: &[(&str, &str)] = &[
     (
         "f",
         "0: b000 PUSHB\n2: 2c FDEF\n3: 21 POP\n4: 2d ENDF\nend: 5\n",
@@ -44,14 +44,14 @@ const LISTS: [(&str, &str); 6] = [
 #[test]
 fn lists_programs(rt: HostRuntime) {
     let font = font(rt.alloc()).expect(&rt, "a font");
-    for (program, text) in &LISTS {
+    for (program, text) in LISTS {
         let is_so = answers_on_file(&rt, &font, Asked::List(program), 0, text, "");
         assert!(rt; is_so, "{program}");
     }
 }
 
 /// A word for a program of the font, and the line by which it is refused.
-const REFUSALS: [(&str, &str); 2] = [
+const REFUSALS: &[(&str, &str)] = &[
     ("g4", "refused g4 at g4:0: 20 cannot cut\n"),
     ("g5", "refused g5 at g5:0: 21 structure\n"),
 ];
@@ -59,7 +59,7 @@ const REFUSALS: [(&str, &str); 2] = [
 #[test]
 fn refuses_programs(rt: HostRuntime) {
     let font = font(rt.alloc()).expect(&rt, "a font");
-    for (program, text) in &REFUSALS {
+    for (program, text) in REFUSALS {
         let is_so = answers_on_file(&rt, &font, Asked::List(program), 1, text, "");
         assert!(rt; is_so, "{program}");
     }

@@ -29,7 +29,7 @@ fn scans(rt: &HostRuntime, programs: Programs<'_>, status: u8, text: &str) -> Op
 }
 
 /// A font's programs, the status, and the line after its name.
-const SCANS: [(Programs<'static>, u8, &str); 7] = [
+const SCANS: &[(Programs<'static>, u8, &str)] = &[
     (("", "", &["B100093E", ""]), 0, "accepted: 4 programs"),
     (
         ("", "", &["21", "4B58B0015921", "60", "B100093E"]),
@@ -61,7 +61,7 @@ const SCANS: [(Programs<'static>, u8, &str); 7] = [
 
 #[test]
 fn scans_fonts(rt: HostRuntime) {
-    for (programs, status, text) in &SCANS {
+    for (programs, status, text) in SCANS {
         let is_so = scans(&rt, *programs, *status, text);
         assert!(rt; is_so == Some(true), "{text}");
     }

@@ -30,7 +30,7 @@ fn upgrades_files(rt: HostRuntime) -> Result<(), Fail> {
     let check = ["hintcheck", "check", font.as_str(), new.as_str()];
     let bytes = bytes_of(rt.alloc(), &FONT).expect(&rt, "font");
     fs::write(&rt, font.as_str(), &bytes)?;
-    for (before, after) in &STORED {
+    for (before, after) in STORED {
         let before = bytes_of(rt.alloc(), before).expect(&rt, "old certificate");
         let after = bytes_of(rt.alloc(), after).expect(&rt, "new certificate");
         fs::write(&rt, old.as_str(), &before)?;

@@ -9,7 +9,7 @@ use hintcheck_test_fixtures::stored_certificates::{
 use std::alloc::Global;
 
 /// The stored certificates, and what they are in the newest form.
-pub(crate) const STORED: [(&[&str], &[&str]); 4] = [
+pub(crate) const STORED: &[(&[&str], &[&str])] = &[
     (&FORM_1, &FORM_1_UPGRADED),
     (&FORM_2, &FORM_4),
     (&FORM_3, &FORM_4),
@@ -29,7 +29,7 @@ fn is_upgraded(alloc: Global, old: &[u8], new: &[u8], sections: u32) -> bool {
 #[test]
 fn stored_certificates(rt: HostRuntime) {
     let font = bytes_of(rt.alloc(), &FONT).expect(&rt, "font");
-    for (old, new) in &STORED {
+    for (old, new) in STORED {
         let old = bytes_of(rt.alloc(), old).expect(&rt, "old certificate");
         let new = bytes_of(rt.alloc(), new).expect(&rt, "new certificate");
         assert!(rt;
@@ -205,7 +205,7 @@ fn numbers_and_names_of_sections(rt: HostRuntime) {
 }
 
 /// Bytes that don't begin a certificate, and the place of what is wrong.
-const NO_HEADER: [(&str, u64); 5] = [
+const NO_HEADER: &[(&str, u64)] = &[
     ("", 0),
     ("4843525500040000000300", 0),
     ("4843525400000000000300", 4),
@@ -215,7 +215,7 @@ const NO_HEADER: [(&str, u64); 5] = [
 
 #[test]
 fn bytes_without_a_header(rt: HostRuntime) {
-    for (digits, place) in NO_HEADER {
+    for &(digits, place) in NO_HEADER {
         let bytes = bytes_of(rt.alloc(), &[digits]).expect(&rt, "bytes");
         let (told, written) = upgraded(rt.alloc(), &bytes, false, ROOM);
         assert_eq!(rt; told, Err(Told::Form(place)), "{digits}");

@@ -87,7 +87,7 @@ fn joins_stacks(alloc: Global, stacks: &Stacks<'_>, want: &Joined) -> bool {
     }
 }
 
-const STACKS_THAT_MEET: [Stacks<'static>; 3] = [
+const STACKS_THAT_MEET: &[Stacks<'static>] = &[
     (
         &[Known(1), Known(2)],
         &[Known(1), Known(3)],
@@ -99,7 +99,7 @@ const STACKS_THAT_MEET: [Stacks<'static>; 3] = [
 
 #[test]
 fn joins_of_stacks(rt: HostRuntime) {
-    for stacks in &STACKS_THAT_MEET {
+    for stacks in STACKS_THAT_MEET {
         let one = stacks.0;
         assert!(rt; joins_stacks(rt.alloc(), stacks, &MET), "of {one:?}");
     }

@@ -37,9 +37,9 @@ struct Made<'a> {
     found: [Option<u32>; 2],
 }
 
-const MADE: [Made<'static>; 2] = [
+const MADE: &[Made<'static>] = &[
     Made {
-        changes: &THREE,
+        changes: THREE,
         entries: &[(1, 10), (3, 20), (5, 40)],
         found: [Some(20), None],
     },
@@ -57,7 +57,7 @@ const MADE: [Made<'static>; 2] = [
 ];
 
 /// Puts three functions with their bodies into a list, out of order.
-const THREE: [Change; 3] = [Change::Put(5, 40), Change::Put(1, 10), Change::Put(3, 20)];
+const THREE: &[Change] = &[Change::Put(5, 40), Change::Put(1, 10), Change::Put(3, 20)];
 
 /// Whether a list holds what it should hold.
 fn holds(functions: &SortedMap<u32>, made: &Made<'_>) -> bool {
@@ -74,7 +74,7 @@ fn is_made(alloc: Global, made: &Made<'_>) -> bool {
 
 #[test]
 fn changes(rt: HostRuntime) {
-    for made in &MADE {
+    for made in MADE {
         let entries = made.entries;
         assert!(rt; is_made(rt.alloc(), made), "{entries:?}");
     }
@@ -82,7 +82,7 @@ fn changes(rt: HostRuntime) {
 
 /// Whether a copy of three functions keeps one that the list loses; nothing where memory ran out.
 fn is_kept_by_a_copy(alloc: Global) -> Option<bool> {
-    let mut functions = list_after(alloc, &THREE)?;
+    let mut functions = list_after(alloc, THREE)?;
     let copy = functions.copied(alloc).ok()?;
     functions.remove(3);
     Some(functions.as_slice() == [(1, 10), (5, 40)].as_slice() && copy.get(3) == Some(20))

@@ -123,7 +123,7 @@ const NINETEEN: [Cell; 19] = [
     Known(19),
 ];
 
-const STEPS: [Step<'static>; 4] = [
+const STEPS: &[Step<'static>] = &[
     (Change::Push(&TWENTY), &TWENTY),
     (Change::Remove(2), &NINETEEN),
     (Change::Cut(17), &[Known(0), Known(1)]),
@@ -132,7 +132,7 @@ const STEPS: [Step<'static>; 4] = [
 
 #[test]
 fn calls_of_stacks(rt: HostRuntime) {
-    assert_steps(&rt, rt.alloc(), &STEPS);
+    assert_steps(&rt, rt.alloc(), STEPS);
 }
 
 /// Cells of which the first five fit in 16 bits.
@@ -147,7 +147,7 @@ const GREAT: [Cell; 8] = [
     Unknown,
 ];
 
-const GREAT_STEPS: [Step<'static>; 11] = [
+const GREAT_STEPS: &[Step<'static>] = &[
     (Change::PushBytes(&[0, 255]), &[Known(0), Known(255)]),
     (
         Change::PushWords(&[0x7f, 0xff, 0x80, 0x00, 0xff, 0xff]),
@@ -219,7 +219,7 @@ const GREAT_STEPS: [Step<'static>; 11] = [
 
 #[test]
 fn stacks_of_small_and_great_numbers(rt: HostRuntime) {
-    assert_steps(&rt, rt.alloc(), &GREAT_STEPS);
+    assert_steps(&rt, rt.alloc(), GREAT_STEPS);
 }
 
 /// Makes a stack of these cells, the bottom first.

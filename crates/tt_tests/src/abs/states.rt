@@ -19,7 +19,7 @@ fn graphics_after(alloc: Global, changes: &[Change<'_>]) -> Option<Graphics<Cell
     Some(graphics_of(&state))
 }
 
-const GRAPHICS_CHANGES: [Change<'static>; 3] = [
+const GRAPHICS_CHANGES: &[Change<'static>] = &[
     Change::Reference(Reference::Rp2, Known(9)),
     Change::Zone(Pointer::Zp1, ZoneCell::Zero),
     Change::Loop(Unknown),
@@ -34,7 +34,7 @@ fn calls_of_graphics(rt: HostRuntime) {
         loop_number: Unknown,
         ..GRAPHICS
     };
-    assert!(rt; graphics_after(rt.alloc(), &GRAPHICS_CHANGES) == Some(want));
+    assert!(rt; graphics_after(rt.alloc(), GRAPHICS_CHANGES) == Some(want));
 }
 
 /// Returns what a state tells of the storage cells 1 and 2 after these changes.
@@ -44,7 +44,7 @@ fn storage_after(alloc: Global, changes: &[Change<'_>]) -> Option<[Cell; 2]> {
 }
 
 /// Two storage cells become known, and the first is forgotten.
-const FORGETS: [Change<'static>; 3] = [
+const FORGETS: &[Change<'static>] = &[
     Change::Store(1, Known(7)),
     Change::Store(2, Known(5)),
     Change::Store(1, Unknown),
@@ -54,7 +54,7 @@ const FORGETS: [Change<'static>; 3] = [
 fn forgets_storage(rt: HostRuntime) {
     let known = storage_after(rt.alloc(), &FORGETS[..2]);
     assert!(rt; known == Some([Known(7), Known(5)]));
-    let forgotten = storage_after(rt.alloc(), &FORGETS);
+    let forgotten = storage_after(rt.alloc(), FORGETS);
     assert!(rt; forgotten == Some([Unknown, Known(5)]));
 }
 
@@ -98,7 +98,7 @@ const OVER_A_LONGER_ONE: Copying<'static> = Copying {
     stack: &[Known(1), Unknown],
 };
 
-const COPYINGS: [Copying<'static>; 3] = [
+const COPYINGS: &[Copying<'static>] = &[
     OVER_A_LONGER_ONE,
     Copying {
         name: "a state of 40 elements over a start",
@@ -157,7 +157,7 @@ fn is_copied(alloc: Global, copying: &Copying<'_>) -> bool {
 
 #[test]
 fn copies(rt: HostRuntime) {
-    for copying in &COPYINGS {
+    for copying in COPYINGS {
         let name = copying.name;
         assert!(rt; is_copied(rt.alloc(), copying), "{name}");
     }
@@ -203,14 +203,14 @@ fn same_functions(alloc: Global, one: &[Change<'_>], other: &[Change<'_>]) -> Op
 
 #[test]
 fn functions_of_two_states(rt: HostRuntime) {
-    let same = same_functions(rt.alloc(), &WITH_A_FUNCTION, &[Change::Define(1, 10)]);
+    let same = same_functions(rt.alloc(), WITH_A_FUNCTION, &[Change::Define(1, 10)]);
     assert!(rt; same == Some(true));
-    let other = same_functions(rt.alloc(), &WITH_A_FUNCTION, &[Change::Define(1, 20)]);
+    let other = same_functions(rt.alloc(), WITH_A_FUNCTION, &[Change::Define(1, 20)]);
     assert!(rt; other == Some(false));
 }
 
 /// The changes that make a state of two elements with a function.
-const WITH_A_FUNCTION: [Change<'static>; 2] = [
+const WITH_A_FUNCTION: &[Change<'static>] = &[
     Change::Push(&[Known(1), Unknown]),
     Change::Define(1, 10),
 ];
@@ -224,7 +224,7 @@ struct Parting<'a> {
     want: Relation,
 }
 
-const PARTINGS: [Parting<'static>; 8] = [
+const PARTINGS: &[Parting<'static>] = &[
     Parting {
         name: "no change",
         of_copy: &[],
@@ -294,14 +294,14 @@ fn compare_with_changed(one: &State, state: &State, changes: &[Change<'_>]) -> O
 
 /// Returns how a changed copy compares with its changed state; nothing where memory ran out.
 fn parted(alloc: Global, parting: &Parting<'_>) -> Option<Relation> {
-    let state = state_after(alloc, &WITH_A_FUNCTION).ok()?;
+    let state = state_after(alloc, WITH_A_FUNCTION).ok()?;
     let copy = changed_copy(&state, parting.of_copy).ok()?;
     compare_with_changed(&copy, &state, parting.of_state)
 }
 
 #[test]
 fn changed_copies(rt: HostRuntime) {
-    for parting in &PARTINGS {
+    for parting in PARTINGS {
         let name = parting.name;
         assert!(rt; parted(rt.alloc(), parting) == Some(parting.want), "{name}");
     }

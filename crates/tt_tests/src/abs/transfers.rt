@@ -12,7 +12,7 @@ use tt_abs::{Cell, Move, Moves, ZoneCell};
 use tt_code::kinds::{Pointer, Reference};
 use tt_code::{Frame, Graphics, Reason};
 
-const CALCULATIONS: [Single<'static>; 12] = [
+const CALCULATIONS: &[Single<'static>] = &[
     (
         Code::Add as u8,
         &[Known(i32::MAX - 1), Known(1)],
@@ -79,10 +79,10 @@ const CALCULATIONS: [Single<'static>; 12] = [
 // unknown: a number that isn't 0 decides OR, 0 decides AND, and no number is less than the least.
 #[test]
 fn calculations(rt: HostRuntime) {
-    assert_singles(&rt, rt.alloc(), &USUAL, &CALCULATIONS);
+    assert_singles(&rt, rt.alloc(), &USUAL, CALCULATIONS);
 }
 
-const MOVES: [Single<'static>; 8] = [
+const MOVES: &[Single<'static>] = &[
     (
         Code::Roll as u8,
         &[Known(1), Known(2), Known(3)],
@@ -129,7 +129,7 @@ const MOVES: [Single<'static>; 8] = [
 // from the top, which is 1.
 #[test]
 fn moves_of_the_stack(rt: HostRuntime) {
-    assert_singles(&rt, rt.alloc(), &USUAL, &MOVES);
+    assert_singles(&rt, rt.alloc(), &USUAL, MOVES);
 }
 
 /// The jump is at 1.
@@ -140,7 +140,7 @@ const BY_CONDITION: [u8; 4] = [
     Code::Rtg as u8,
 ];
 
-const JUMPS_BY_CONDITION: [(&[Cell], Want<'static>); 7] = [
+const JUMPS_BY_CONDITION: &[(&[Cell], Want<'static>)] = &[
     (
         &[Unknown, Known(0)],
         Want::Goes(Moves::One(Move::To(2)), &[]),
@@ -166,7 +166,7 @@ const JUMPS_BY_CONDITION: [(&[Cell], Want<'static>); 7] = [
 // unknown, both ways are taken, to one place if they meet.
 #[test]
 fn jumps_by_a_condition(rt: HostRuntime) {
-    assert_at(&rt, rt.alloc(), &BY_CONDITION, 1, &JUMPS_BY_CONDITION);
+    assert_at(&rt, rt.alloc(), &BY_CONDITION, 1, JUMPS_BY_CONDITION);
 }
 
 /// The jump is at 3, and the end is 5.
@@ -178,7 +178,7 @@ const JUMP: [u8; 5] = [
     Code::Rtg as u8,
 ];
 
-const JUMPS: [(&[Cell], Want<'static>); 6] = [
+const JUMPS: &[(&[Cell], Want<'static>)] = &[
     (&[Known(i32::MIN)], Want::Refused(Reason::Target)),
     (&[Known(i32::MAX)], Want::Refused(Reason::Target)),
     (&[Known(-4)], Want::Refused(Reason::Target)),
@@ -190,7 +190,7 @@ const JUMPS: [(&[Cell], Want<'static>); 6] = [
 // A jump may go to the program's start and to its end, and no further.
 #[test]
 fn jumps(rt: HostRuntime) {
-    assert_at(&rt, rt.alloc(), &JUMP, 3, &JUMPS);
+    assert_at(&rt, rt.alloc(), &JUMP, 3, JUMPS);
 }
 
 /// Whether an instruction that takes the point 2, where rp0 is 1, leaves these reference points.
@@ -231,7 +231,7 @@ fn is_touched(alloc: Global, zp0: ZoneCell, point: i32, want: Want<'_>) -> bool 
     is_single_done(alloc, &given, &(Code::Mdap as u8, &[Known(point)], want))
 }
 
-const POINTS: [(ZoneCell, i32, Want<'static>); 5] = [
+const POINTS: &[(ZoneCell, i32, Want<'static>)] = &[
     (ZoneCell::Either, 3, Want::Leaves(&[])),
     (ZoneCell::Either, 4, Want::Refused(Reason::Point)),
     (ZoneCell::Zero, 4, Want::Refused(Reason::Point)),
@@ -243,7 +243,7 @@ const POINTS: [(ZoneCell, i32, Want<'static>); 5] = [
 // both.
 #[test]
 fn points_of_either_zone(rt: HostRuntime) {
-    for (zone, point, want) in &POINTS {
+    for (zone, point, want) in POINTS {
         assert!(rt; is_touched(rt.alloc(), *zone, *point, *want), "{point}");
     }
 }
@@ -263,9 +263,9 @@ fn is_changed_done(alloc: Global, changed: &Changed<'_>) -> bool {
 }
 
 /// The storage cell 1 is known.
-const STORED: [Change<'static>; 1] = [Change::Store(1, Known(7))];
+const STORED: &[Change<'static>] = &[Change::Store(1, Known(7))];
 
-const STORAGE: [Changed<'static>; 6] = [
+const STORAGE: &[Changed<'static>] = &[
     (
         &[],
         Known(7),
@@ -277,22 +277,22 @@ const STORAGE: [Changed<'static>; 6] = [
         (Code::Rs as u8, &[Known(1)], Want::Leaves(&[Unknown])),
     ),
     (
-        &STORED,
+        STORED,
         Known(7),
         (Code::Ws as u8, &[Known(2), Known(9)], Want::Leaves(&[])),
     ),
     (
-        &STORED,
+        STORED,
         Unknown,
         (Code::Ws as u8, &[Known(1), Unknown], Want::Leaves(&[])),
     ),
     (
-        &STORED,
+        STORED,
         Known(7),
         (Code::Rs as u8, &[Known(1)], Want::Leaves(&[Known(7)])),
     ),
     (
-        &STORED,
+        STORED,
         Known(7),
         (
             Code::Rs as u8,
@@ -311,7 +311,7 @@ fn storage(rt: HostRuntime) {
 }
 
 /// Instructions that take an index, and the reason for which they refuse one that is too great.
-const INDICES: [(u8, Reason); 6] = [
+const INDICES: &[(u8, Reason)] = &[
     (Code::Rcvt as u8, Reason::Cvt),
     (Code::Rs as u8, Reason::Storage),
     (Code::Mdap as u8, Reason::Point),
@@ -329,7 +329,7 @@ fn refuses(alloc: Global, code: u8, number: i32, reason: Reason) -> bool {
 // An index is never as great as what it counts, or negative.
 #[test]
 fn great_indices(rt: HostRuntime) {
-    for (code, reason) in &INDICES {
+    for (code, reason) in INDICES {
         for number in [65_535, i32::MAX, -1] {
             let is_refused = refuses(rt.alloc(), *code, number, *reason);
             assert!(rt; is_refused, "{number}: {reason}");
@@ -337,7 +337,7 @@ fn great_indices(rt: HostRuntime) {
     }
 }
 
-const COUNTS: [Changed<'static>; 4] = [
+const COUNTS: &[Changed<'static>] = &[
     (
         &[],
         Unknown,
@@ -385,7 +385,7 @@ fn great_counts(rt: HostRuntime) {
     }
 }
 
-const DEEP: [Single<'static>; 3] = [
+const DEEP: &[Single<'static>] = &[
     (
         Code::Rtg as u8,
         &[Known(5); 9],
@@ -406,11 +406,11 @@ const DEEP: [Single<'static>; 3] = [
 // A stack has 8 elements at most, after each instruction.
 #[test]
 fn too_deep(rt: HostRuntime) {
-    assert_singles(&rt, rt.alloc(), &USUAL, &DEEP);
+    assert_singles(&rt, rt.alloc(), &USUAL, DEEP);
 }
 
 /// Changes after which nothing is known of the graphics state.
-const NOTHING_KNOWN: [Change<'static>; 7] = [
+const NOTHING_KNOWN: &[Change<'static>] = &[
     Change::Reference(Reference::Rp0, Unknown),
     Change::Reference(Reference::Rp1, Unknown),
     Change::Reference(Reference::Rp2, Unknown),
@@ -420,7 +420,7 @@ const NOTHING_KNOWN: [Change<'static>; 7] = [
     Change::Loop(Unknown),
 ];
 
-const UNKNOWN_CELLS: [Changed<'static>; 5] = [
+const UNKNOWN_CELLS: &[Changed<'static>] = &[
     (
         &[],
         Unknown,
@@ -452,7 +452,7 @@ const UNKNOWN_CELLS: [Changed<'static>; 5] = [
         ),
     ),
     (
-        &NOTHING_KNOWN,
+        NOTHING_KNOWN,
         Unknown,
         (
             Code::ShpByRp2 as u8,
@@ -461,7 +461,7 @@ const UNKNOWN_CELLS: [Changed<'static>; 5] = [
         ),
     ),
     (
-        &NOTHING_KNOWN,
+        NOTHING_KNOWN,
         Unknown,
         (
             Code::ShpByRp1 as u8,
@@ -490,7 +490,7 @@ const CALL: Frame = Frame {
 /// The same where it has three turns.
 const THREE_TURNS: Frame = Frame { count: 3, ..CALL };
 
-const CALLS: [Single<'static>; 6] = [
+const CALLS: &[Single<'static>] = &[
     (
         Code::Call as u8,
         &[Unknown, Known(0)],
@@ -527,7 +527,7 @@ const CALLS: [Single<'static>; 6] = [
 // tested, the function first, and a count of 0 or less calls nothing. Function 1 isn't defined.
 #[test]
 fn calls(rt: HostRuntime) {
-    assert_singles(&rt, rt.alloc(), &USUAL, &CALLS);
+    assert_singles(&rt, rt.alloc(), &USUAL, CALLS);
 }
 
 /// Whether ENDF, which is at 4, goes on so in this turn of two.

@@ -44,7 +44,7 @@ struct Puts<'a> {
     stacks: &'a [Seen<'a>],
 }
 
-const PUTS: [Puts<'static>; 2] = [
+const PUTS: &[Puts<'static>] = &[
     Puts {
         name: "states at one point",
         states: &[
@@ -79,7 +79,7 @@ fn joins(alloc: Global, builder: &mut Builder, puts: &Puts<'_>) -> bool {
 
 #[test]
 fn joined_states(rt: HostRuntime) {
-    for puts in &PUTS {
+    for puts in PUTS {
         let name = puts.name;
         let mut builder = Builder::new(rt.alloc());
         assert!(rt; joins(rt.alloc(), &mut builder, puts), "{name}");
@@ -194,7 +194,7 @@ const OUT_OF_ORDER: ListedFamily<'static> = ListedFamily {
     ],
 };
 
-const IN_ORDER: [(u32, u32); 10] = [
+const IN_ORDER: &[(u32, u32)] = &[
     (0, 0),
     (0, 1),
     (0, 7),
@@ -207,7 +207,7 @@ const IN_ORDER: [(u32, u32); 10] = [
     (1, 12),
 ];
 
-const AT_POINTS: [Seen<'static>; 4] = [
+const AT_POINTS: &[Seen<'static>] = &[
     (1, 4, Some(&[Known(1), Known(2)])),
     (1, 10, None),
     (1, 13, None),
@@ -218,8 +218,8 @@ const AT_POINTS: [Seen<'static>; 4] = [
 fn orders(alloc: Global) -> bool {
     let mut builder = Builder::new(alloc);
     fill(alloc, &mut builder, &OUT_OF_ORDER)
-        && has_points(&builder, &IN_ORDER)
-        && has_stacks(&builder, &AT_POINTS)
+        && has_points(&builder, IN_ORDER)
+        && has_stacks(&builder, AT_POINTS)
 }
 
 #[test]
@@ -239,7 +239,7 @@ const BEFORE_A_CLEAR: ListedFamily<'static> = ListedFamily {
 };
 
 /// Points of the same context and of the main program.
-const AFTER_A_CLEAR: [Listed<'static>; 5] = [
+const AFTER_A_CLEAR: &[Listed<'static>] = &[
     (1, 2, &[1, 2]),
     (1, 4, &[1, 2]),
     (1, 3, &[1, 2]),
@@ -255,7 +255,7 @@ fn orders_after_a_clear(alloc: Global) -> bool {
     is_filled
         && add_all(&mut builder, BEFORE_A_CLEAR.contexts)
         && builder.state(1, 3).is_none()
-        && put_all(alloc, &mut builder, &[], &AFTER_A_CLEAR)
+        && put_all(alloc, &mut builder, &[], AFTER_A_CLEAR)
         && has_points(&builder, &[(0, 5), (0, 6), (1, 2), (1, 3), (1, 4)])
 }
 

@@ -34,7 +34,7 @@ const CALLS: ListedFamily<'static> = ListedFamily {
     ],
 };
 
-const FINISHED: [Finished<'static>; 2] = [
+const FINISHED: &[Finished<'static>] = &[
     Finished {
         name: "contexts below each other",
         of: CALLS,
@@ -131,7 +131,7 @@ fn is_finished(alloc: Global, finished: &Finished<'_>) -> Option<bool> {
 
 #[test]
 fn contexts_and_points(rt: HostRuntime) {
-    for finished in &FINISHED {
+    for finished in FINISHED {
         let name = finished.name;
         assert!(rt; is_finished(rt.alloc(), finished) == Some(true), "{name}");
     }

@@ -161,16 +161,16 @@ const TWO_IN_FONT_PROGRAM: Subject<'static> = Subject {
 };
 
 /// All states of two RTG.
-const GOOD: [Family<'static>; 1] = [(&[(0, 0, &[]), (0, 1, &[]), (0, 2, &[])], Ok(()))];
+const GOOD: &[Family<'static>] = &[(&[(0, 0, &[]), (0, 1, &[]), (0, 2, &[])], Ok(()))];
 
 #[test]
 fn good_families(rt: HostRuntime) {
-    assert_families(&rt, rt.alloc(), &TWO, &GOOD);
-    assert_families(&rt, rt.alloc(), &TWO_IN_FONT_PROGRAM, &GOOD);
+    assert_families(&rt, rt.alloc(), &TWO, GOOD);
+    assert_families(&rt, rt.alloc(), &TWO_IN_FONT_PROGRAM, GOOD);
     assert_families(&rt, rt.alloc(), &EMPTY, &[(&[(0, 0, &[])], Ok(()))]);
 }
 
-const BROKEN_OF_TWO: [Family<'static>; 3] = [
+const BROKEN_OF_TWO: &[Family<'static>] = &[
     (
         &[(0, 1, &[]), (0, 2, &[])],
         Err((Spot::Main, 0, Reason::MissingPoint)),
@@ -184,7 +184,7 @@ const BROKEN_OF_TWO: [Family<'static>; 3] = [
 
 #[test]
 fn what_is_broken_first_of_two(rt: HostRuntime) {
-    assert_families(&rt, rt.alloc(), &TWO, &BROKEN_OF_TWO);
+    assert_families(&rt, rt.alloc(), &TWO, BROKEN_OF_TWO);
 }
 
 /// A program, its kind, the states of a family, and where it is refused for which reason.
@@ -201,7 +201,7 @@ fn answer_of_broken(alloc: Global, broken: &Broken<'_>) -> Option<Answer> {
     answer(alloc, &subject, states)
 }
 
-const BROKEN: [Broken<'static>; 6] = [
+const BROKEN: &[Broken<'static>] = &[
     (&[0x18; 10], GLYPH, &[], 9, Reason::ProgramTooLong),
     (&[0x18; 10], Kind::Cvt, &[], 0, Reason::MissingPoint),
     (
@@ -232,7 +232,7 @@ const BROKEN: [Broken<'static>; 6] = [
 
 #[test]
 fn what_is_broken_first(rt: HostRuntime) {
-    for broken in &BROKEN {
+    for broken in BROKEN {
         let (program, _, _, offset, reason) = *broken;
         let want = Err((Spot::Main, offset, reason));
         assert!(rt;
@@ -276,7 +276,7 @@ const CALLING_PREP: Subject<'static> = Subject {
 };
 
 /// All states of such programs, and all but that after the call.
-const CALL_FAMILIES: [Family<'static>; 2] = [
+const CALL_FAMILIES: &[Family<'static>] = &[
     (
         &[
             (0, 0, &[]),
@@ -294,20 +294,20 @@ const CALL_FAMILIES: [Family<'static>; 2] = [
 ];
 
 /// All their states but that where the function begins.
-const NO_ENTRY: [Listed<'static>; 4] = [(0, 0, &[]), (0, 3, &[7, 0]), (0, 4, &[]), (1, 4, &[])];
+const NO_ENTRY: &[Listed<'static>] = &[(0, 0, &[]), (0, 3, &[7, 0]), (0, 4, &[]), (1, 4, &[])];
 
 #[test]
 fn function_of_the_font_program(rt: HostRuntime) {
-    assert_families(&rt, rt.alloc(), &CALLING, &CALL_FAMILIES);
+    assert_families(&rt, rt.alloc(), &CALLING, CALL_FAMILIES);
     let want = Err((Spot::Font, 3, Reason::MissingPoint));
-    assert_families(&rt, rt.alloc(), &CALLING, &[(&NO_ENTRY, want)]);
+    assert_families(&rt, rt.alloc(), &CALLING, &[(NO_ENTRY, want)]);
 }
 
 #[test]
 fn function_of_the_cvt_program(rt: HostRuntime) {
-    assert_families(&rt, rt.alloc(), &CALLING_PREP, &CALL_FAMILIES);
+    assert_families(&rt, rt.alloc(), &CALLING_PREP, CALL_FAMILIES);
     let want = Err((Spot::Prep, 3, Reason::MissingPoint));
-    assert_families(&rt, rt.alloc(), &CALLING_PREP, &[(&NO_ENTRY, want)]);
+    assert_families(&rt, rt.alloc(), &CALLING_PREP, &[(NO_ENTRY, want)]);
 }
 
 /// A program that is said to call function 0 where no offset can be.
@@ -323,14 +323,14 @@ const CALLING_FROM_THE_LAST: Subject<'static> = Subject {
     ..CALLING
 };
 
-const FROM_THE_LAST: [Family<'static>; 1] = [(
+const FROM_THE_LAST: &[Family<'static>] = &[(
     &[(0, 0, &[]), (0, 1, &[]), (1, 4, &[])],
     Err((Spot::Main, 4_294_967_295, Reason::MissingPoint)),
 )];
 
 #[test]
 fn return_above_all_offsets(rt: HostRuntime) {
-    assert_families(&rt, rt.alloc(), &CALLING_FROM_THE_LAST, &FROM_THE_LAST);
+    assert_families(&rt, rt.alloc(), &CALLING_FROM_THE_LAST, FROM_THE_LAST);
 }
 
 /// Adds the first 4,095 of `count` turns of a LOOPCALL at offset 5 of the body at offset 3,
@@ -379,7 +379,7 @@ fn answer_of_turns(alloc: Global, program: &[u8], count: u16) -> Option<Answer> 
 }
 
 /// How often a program calls its function, the program, and what the check tells.
-const TURNS: [(u16, &[u8], Answer); 2] = [
+const TURNS: &[(u16, &[u8], Answer)] = &[
     (4_095, &[0xb8, 0x0f, 0xff, 0xb0, 0x00, 0x2a], Ok(())),
     (
         4_096,
@@ -390,7 +390,7 @@ const TURNS: [(u16, &[u8], Answer); 2] = [
 
 #[test]
 fn turns_of_a_loop(rt: HostRuntime) {
-    for (count, program, want) in &TURNS {
+    for (count, program, want) in TURNS {
         let told = answer_of_turns(rt.alloc(), program, *count);
         assert!(rt; told == Some(*want), "{count} turns");
     }
@@ -452,7 +452,7 @@ fn answer_with_more(alloc: Global, more: &More<'_>) -> Option<Answer> {
 
 // Storage cells are tested before targets, and the reference points at the end of a font program
 // must be those of a start.
-const MORE: [More<'static>; 3] = [
+const MORE: &[More<'static>] = &[
     (GLYPH, &[0, 1], 7, Further::Storage(3), Reason::Target),
     (GLYPH, &[0, 1], 7, Further::Storage(4), Reason::Storage),
     (Kind::Font, &[0], 1, Further::Rp0, Reason::NotCovered),
@@ -460,7 +460,7 @@ const MORE: [More<'static>; 3] = [
 
 #[test]
 fn states_of_which_more_is_known(rt: HostRuntime) {
-    for more in &MORE {
+    for more in MORE {
         let (_, _, offset, _, reason) = *more;
         let want = Err((Spot::Main, offset, reason));
         assert!(rt;

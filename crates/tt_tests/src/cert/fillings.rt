@@ -18,7 +18,7 @@ const BRANCHES: Subject<'static> = Subject {
     ..SPARSE
 };
 
-const FAMILIES_OF_BRANCHES: [Family<'static>; 6] = [
+const FAMILIES_OF_BRANCHES: &[Family<'static>] = &[
     (
         &[
             (0, 0, &[]),
@@ -53,7 +53,7 @@ const FAMILIES_OF_BRANCHES: [Family<'static>; 6] = [
 
 #[test]
 fn states_left_out_of_branches(rt: HostRuntime) {
-    assert_families(&rt, rt.alloc(), &BRANCHES, &FAMILIES_OF_BRANCHES);
+    assert_families(&rt, rt.alloc(), &BRANCHES, FAMILIES_OF_BRANCHES);
 }
 
 /// PUSHB 7, POP.
@@ -62,7 +62,7 @@ const STRAIGHT: Subject<'static> = Subject {
     ..SPARSE
 };
 
-const FAMILIES_OF_STRAIGHT: [Family<'static>; 4] = [
+const FAMILIES_OF_STRAIGHT: &[Family<'static>] = &[
     (&[(0, 0, &[]), (0, 3, &[])], Ok(())),
     // It isn't a fault to list a state that needn't be listed, nor one that covers more.
     (
@@ -82,7 +82,7 @@ const FAMILIES_OF_STRAIGHT: [Family<'static>; 4] = [
 
 #[test]
 fn states_left_out_of_a_straight_program(rt: HostRuntime) {
-    assert_families(&rt, rt.alloc(), &STRAIGHT, &FAMILIES_OF_STRAIGHT);
+    assert_families(&rt, rt.alloc(), &STRAIGHT, FAMILIES_OF_STRAIGHT);
 }
 
 /// PUSHB 1, JMPR, RTG: a jump to the place just after it.
@@ -97,7 +97,7 @@ const JUMPS: Subject<'static> = Subject {
     ..SPARSE
 };
 
-const FAMILIES_OF_JUMPS: [Family<'static>; 3] = [
+const FAMILIES_OF_JUMPS: &[Family<'static>] = &[
     (&[(0, 0, &[]), (0, 4, &[]), (0, 5, &[])], Ok(())),
     // Offset 3 isn't reached.
     (
@@ -112,7 +112,7 @@ const FAMILIES_OF_JUMPS: [Family<'static>; 3] = [
 
 #[test]
 fn states_left_out_of_jumps(rt: HostRuntime) {
-    assert_families(&rt, rt.alloc(), &JUMPS, &FAMILIES_OF_JUMPS);
+    assert_families(&rt, rt.alloc(), &JUMPS, FAMILIES_OF_JUMPS);
     let start_and_end: Family<'_> = (&[(0, 0, &[]), (0, 4, &[])], Ok(()));
     assert_families(&rt, rt.alloc(), &JUMPS_BY_ONE, &[start_and_end]);
 }
@@ -137,7 +137,7 @@ const DEFINES: Subject<'static> = Subject {
     ..SPARSE
 };
 
-const FAMILIES_OF_DEFINES: [Family<'static>; 2] = [
+const FAMILIES_OF_DEFINES: &[Family<'static>] = &[
     (&[(0, 0, &[]), (0, 4, &[]), (0, 5, &[])], Ok(())),
     (
         &[(0, 0, &[]), (0, 5, &[])],
@@ -147,7 +147,7 @@ const FAMILIES_OF_DEFINES: [Family<'static>; 2] = [
 
 #[test]
 fn place_after_a_definition(rt: HostRuntime) {
-    assert_families(&rt, rt.alloc(), &DEFINES, &FAMILIES_OF_DEFINES);
+    assert_families(&rt, rt.alloc(), &DEFINES, FAMILIES_OF_DEFINES);
 }
 
 /// A program that pushes 7 and calls function 0, which pops it.
@@ -156,7 +156,7 @@ const CALLS: Subject<'static> = Subject {
     ..CALLING
 };
 
-const FAMILIES_OF_CALLS: [Family<'static>; 3] = [
+const FAMILIES_OF_CALLS: &[Family<'static>] = &[
     (&[(0, 0, &[]), (0, 4, &[]), (1, 3, &[7])], Ok(())),
     (
         &[(0, 0, &[]), (0, 4, &[])],
@@ -170,5 +170,5 @@ const FAMILIES_OF_CALLS: [Family<'static>; 3] = [
 
 #[test]
 fn places_of_a_call(rt: HostRuntime) {
-    assert_families(&rt, rt.alloc(), &CALLS, &FAMILIES_OF_CALLS);
+    assert_families(&rt, rt.alloc(), &CALLS, FAMILIES_OF_CALLS);
 }

@@ -26,7 +26,7 @@ fn fault_of(alloc: Global, bytes: &[u8]) -> Told
 }
 
 /// Bytes, and the fault that they have.
-const FAULTS: [(&[u8], Told); 11] = [
+const FAULTS: &[(&[u8], Told)] = &[
     (&[0x58, 0x1b, 0x1b, 0x59], Told::Structure(2)),
     (&[0x58, 0x2d], Told::Structure(1)),
     (&[0x2c, 0x58, 0x2d], Told::Structure(2)),
@@ -42,7 +42,7 @@ const FAULTS: [(&[u8], Told); 11] = [
 
 #[test]
 fn faults(rt: HostRuntime) {
-    for (bytes, want) in &FAULTS {
+    for (bytes, want) in FAULTS {
         assert_eq!(rt; fault_of(rt.alloc(), bytes), *want, "of {bytes:?}");
     }
 }

@@ -48,7 +48,7 @@ fn places_hold(
 }
 
 /// Offsets in programs, where control goes from there, and to which body they belong.
-const PLACES: [(&[u8], u32, [Option<u32>; 3], Option<Body>); 9] = [
+const PLACES: &[(&[u8], u32, [Option<u32>; 3], Option<Body>)] = &[
     (&FUNCTION, 0, [Some(4), None, None], Some(Body::Main)),
     (&FUNCTION, 1, [None, None, Some(3)], Some(Body::Main)),
     (&FUNCTION, 2, NOWHERE, Some(Body::Function(2))),
@@ -62,7 +62,7 @@ const PLACES: [(&[u8], u32, [Option<u32>; 3], Option<Body>); 9] = [
 
 #[test]
 fn places(rt: HostRuntime) {
-    for (bytes, offset, targets, body) in &PLACES {
+    for (bytes, offset, targets, body) in PLACES {
         let is_so = places_hold(rt.alloc(), bytes, *offset, targets, *body);
         assert!(rt; is_so, "{bytes:?} at {offset}");
     }

@@ -4,7 +4,7 @@ use tt_code::Reason;
 use tt_code::ReasonClass::{self, Certificate, LeftOut, PossibleFault, Undecided};
 
 /// All reasons by their numbers, from 20 on, and their classes.
-const CLASSES: [(Reason, u8, ReasonClass); 23] = [
+const CLASSES: &[(Reason, u8, ReasonClass)] = &[
     (Reason::CannotCut, 20, PossibleFault),
     (Reason::Structure, 21, PossibleFault),
     (Reason::ProgramTooLong, 22, PossibleFault),
@@ -32,7 +32,7 @@ const CLASSES: [(Reason, u8, ReasonClass); 23] = [
 
 #[test]
 fn classes(rt: HostRuntime) {
-    for (reason, number, class) in &CLASSES {
+    for (reason, number, class) in CLASSES {
         assert_eq!(rt; reason.number(), *number);
         assert_eq!(rt; reason.class(), *class, "of {number}");
     }

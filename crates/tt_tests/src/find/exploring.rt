@@ -50,7 +50,7 @@ fn is_explored_so(
 }
 
 /// Programs, the points that are explored, and where the program is refused for which reason.
-const EXPLORED: [(&[u8], &[(u32, u32)], Refused); 4] = [
+const EXPLORED: &[(&[u8], &[(u32, u32)], Refused)] = &[
     (
         &BRANCHES,
         &[
@@ -76,7 +76,7 @@ const EXPLORED: [(&[u8], &[(u32, u32)], Refused); 4] = [
 
 #[test]
 fn keeps_each_point(rt: HostRuntime) {
-    for (program, points, refused) in &EXPLORED {
+    for (program, points, refused) in EXPLORED {
         let is_so = is_explored_so(rt.alloc(), program, points, *refused);
         assert_eq!(rt; is_so, Some(true), "of {program:?}");
     }

@@ -39,7 +39,7 @@ fn assert_calling_families(rt: &impl Abort, alloc: Global, cases: &[CallingFamil
     }
 }
 
-const STRAIGHT_AND_BRANCHES: [Family<'static>; 6] = [
+const STRAIGHT_AND_BRANCHES: &[Family<'static>] = &[
     (&[], (1, 1, 1), &[(0, 0)]),
     (&[0x18; 64], (1, 65, 65), &[(0, 0), (0, 64)]),
     (&MOVES_A_POINT, (1, 3, 3), &[(0, 0), (0, 4)]),
@@ -50,10 +50,10 @@ const STRAIGHT_AND_BRANCHES: [Family<'static>; 6] = [
 
 #[test]
 fn straight_programs_and_branches(rt: HostRuntime) {
-    assert_families(&rt, rt.alloc(), GLYPH, &STRAIGHT_AND_BRANCHES);
+    assert_families(&rt, rt.alloc(), GLYPH, STRAIGHT_AND_BRANCHES);
 }
 
-const FORWARD: [Family<'static>; 4] = [
+const FORWARD: &[Family<'static>] = &[
     (&JUMPS_BY_ONE, (1, 4, 4), &[(0, 0), (0, 4)]),
     (&MAY_JUMP_BY_ONE, (1, 5, 5), &[(0, 0), (0, 5)]),
     (&JUMPS_BY_TWO, (1, 4, 4), &[(0, 0), (0, 4), (0, 5)]),
@@ -63,10 +63,10 @@ const FORWARD: [Family<'static>; 4] = [
 // A jump to the place just after it leads there as any other instruction does.
 #[test]
 fn jumps_forward(rt: HostRuntime) {
-    assert_families(&rt, rt.alloc(), GLYPH, &FORWARD);
+    assert_families(&rt, rt.alloc(), GLYPH, FORWARD);
 }
 
-const BACK: [Family<'static>; 5] = [
+const BACK: &[Family<'static>] = &[
     (&STARTS_AGAIN, (1, 2, 2), &[(0, 0)]),
     (&COUNTS, (1, 5, 9), &[(0, 0), (0, 2)]),
     (&MAY_STOP_COUNTING, (1, 8, 14), &[(0, 0), (0, 2), (0, 11)]),
@@ -86,10 +86,10 @@ const BACK: [Family<'static>; 5] = [
 // place than those before it.
 #[test]
 fn jumps_back(rt: HostRuntime) {
-    assert_families(&rt, rt.alloc(), GLYPH, &BACK);
+    assert_families(&rt, rt.alloc(), GLYPH, BACK);
 }
 
-const TEN_AND_THE_END: [(u32, u32); 12] = [
+const TEN_AND_THE_END: &[(u32, u32)] = &[
     (0, 0),
     (0, 1),
     (0, 2),
@@ -104,14 +104,14 @@ const TEN_AND_THE_END: [(u32, u32); 12] = [
     (0, 61),
 ];
 
-const MANY_BACK: [Family<'static>; 1] = [(&TEN_JUMPS_BACK, (1, 42, 42), &TEN_AND_THE_END)];
+const MANY_BACK: &[Family<'static>] = &[(&TEN_JUMPS_BACK, (1, 42, 42), TEN_AND_THE_END)];
 
 #[test]
 fn many_jumps_back(rt: HostRuntime) {
-    assert_families(&rt, rt.alloc(), GLYPH, &MANY_BACK);
+    assert_families(&rt, rt.alloc(), GLYPH, MANY_BACK);
 }
 
-const FONT_AND_CVT: [Family<'static>; 2] = [
+const FONT_AND_CVT: &[Family<'static>] = &[
     (&DEFINES, (1, 4, 4), &[(0, 0), (0, 4), (0, 5)]),
     (&[0x18; 65], (1, 66, 66), &[(0, 0), (0, 65)]),
 ];
@@ -119,11 +119,11 @@ const FONT_AND_CVT: [Family<'static>; 2] = [
 // A definition leads to just after its ENDF, which isn't just after the definition itself.
 #[test]
 fn font_and_cvt_programs(rt: HostRuntime) {
-    assert_families(&rt, rt.alloc(), Kind::Font, &FONT_AND_CVT);
-    assert_families(&rt, rt.alloc(), Kind::Cvt, &FONT_AND_CVT);
+    assert_families(&rt, rt.alloc(), Kind::Font, FONT_AND_CVT);
+    assert_families(&rt, rt.alloc(), Kind::Cvt, FONT_AND_CVT);
 }
 
-const CALLS_OF_FUNCTIONS: [CallingFamily<'static>; 4] = [
+const CALLS_OF_FUNCTIONS: &[CallingFamily<'static>] = &[
     (
         &POPPING,
         &CALLS_WITH_A_NUMBER,
@@ -152,10 +152,10 @@ const CALLS_OF_FUNCTIONS: [CallingFamily<'static>; 4] = [
 
 #[test]
 fn calls_of_functions(rt: HostRuntime) {
-    assert_calling_families(&rt, rt.alloc(), &CALLS_OF_FUNCTIONS);
+    assert_calling_families(&rt, rt.alloc(), CALLS_OF_FUNCTIONS);
 }
 
-const REPEATED_CALLS: [CallingFamily<'static>; 3] = [
+const REPEATED_CALLS: &[CallingFamily<'static>] = &[
     (
         &POPPING,
         &THREE_TURNS,
@@ -169,7 +169,7 @@ const REPEATED_CALLS: [CallingFamily<'static>; 3] = [
 // A call that is made no time leads to the place just after it.
 #[test]
 fn repeated_calls(rt: HostRuntime) {
-    assert_calling_families(&rt, rt.alloc(), &REPEATED_CALLS);
+    assert_calling_families(&rt, rt.alloc(), REPEATED_CALLS);
 }
 
 /// Returns how many states a program lists, if it has a family of this size.

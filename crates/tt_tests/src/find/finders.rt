@@ -77,7 +77,7 @@ fn is_found_alike(
 
 /// Font programs and glyph programs. Some are refused, two font programs are of one length, and one
 /// program is looked at more often than others.
-const PROGRAMS: [(&[u8], &[u8]); 10] = [
+const PROGRAMS: &[(&[u8], &[u8])] = &[
     (&POPPING, &THREE_TURNS),
     (&POPPING, &BRANCHES_AND_CALLS),
     (&POPPING, &CALLS_AND_ADDS),
@@ -94,7 +94,7 @@ const PROGRAMS: [(&[u8], &[u8]); 10] = [
 /// these programs.
 fn assert_alike(rt: &impl Abort, alloc: Global, gives_back: bool) {
     let mut finder = Finder::new(alloc);
-    for (font, program) in &PROGRAMS {
+    for (font, program) in PROGRAMS {
         let is_alike = is_found_alike(alloc, &mut finder, font, program, gives_back);
         assert!(rt;
             is_alike == Some(true),

@@ -23,7 +23,7 @@ fn is_refused(told: Option<Told>, want: (Spot, u32, Reason)) -> bool {
 /// A program that starts with no function, and where it is refused for which reason.
 type Lone<'a> = (&'a [u8], Kind, u32, Reason);
 
-const LONE: [Lone<'static>; 5] = [
+const LONE: &[Lone<'static>] = &[
     (&PUSHES_ON_ONE_WAY, GLYPH, 5, Reason::DepthMismatch),
     (&PUSHES_WITHOUT_END, GLYPH, 1, Reason::DepthMismatch),
     (&[0x18; 65], GLYPH, 64, Reason::ProgramTooLong),
@@ -42,25 +42,25 @@ fn assert_lone(rt: &impl Abort, alloc: Global, programs: &[Lone<'_>]) {
 
 #[test]
 fn programs_without_functions(rt: HostRuntime) {
-    assert_lone(&rt, rt.alloc(), &LONE);
+    assert_lone(&rt, rt.alloc(), LONE);
 }
 
 /// Programs that are refused in two places. Of two points from which a program goes on, the smaller
 /// one is looked at first.
-const REFUSED_IN_TWO_PLACES: [Lone<'static>; 2] = [
+const REFUSED_IN_TWO_PLACES: &[Lone<'static>] = &[
     (&POPS_ON_BOTH_WAYS, GLYPH, 2, Reason::Underflow),
     (&REFUSED_TWICE, GLYPH, 3, Reason::UnknownOperand),
 ];
 
 #[test]
 fn first_of_two_refusals(rt: HostRuntime) {
-    assert_lone(&rt, rt.alloc(), &REFUSED_IN_TWO_PLACES);
+    assert_lone(&rt, rt.alloc(), REFUSED_IN_TWO_PLACES);
 }
 
 /// A font program, a glyph program, and where it is refused for which reason.
 type Refused<'a> = (&'a [u8], &'a [u8], Spot, u32, Reason);
 
-const CALLING_PROGRAMS: [Refused<'static>; 7] = [
+const CALLING_PROGRAMS: &[Refused<'static>] = &[
     (&POPPING, &CALLS, Spot::Font, 3, Reason::Underflow),
     (&POPPING, &FOUR_TURNS, Spot::Font, 3, Reason::Underflow),
     (&POPPING, &CALLS_AND_ADDS, Spot::Main, 5, Reason::Underflow),
@@ -73,7 +73,7 @@ const CALLING_PROGRAMS: [Refused<'static>; 7] = [
 
 #[test]
 fn programs_that_call(rt: HostRuntime) {
-    for (font, program, spot, offset, reason) in &CALLING_PROGRAMS {
+    for (font, program, spot, offset, reason) in CALLING_PROGRAMS {
         let told = with_function(rt.alloc(), font, program);
         let is_so = is_refused(told, (*spot, *offset, *reason));
         assert!(rt; is_so, "of {font:?} and {program:?}");

@@ -58,7 +58,7 @@ fn prints(alloc: Global, fault: &FontFault, text: &str) -> bool {
 }
 
 /// Each fault, its number and its text.
-const TEXTS: [(FontFault, u8, &str); 9] = [
+const TEXTS: &[(FontFault, u8, &str)] = &[
     (FontFault::NotSfnt, 1, "not an sfnt file"),
     (FontFault::DirectoryTruncated, 2, "directory truncated"),
     (FontFault::MissingTable(Tag::Cvt), 3, "missing table 'cvt '"),
@@ -76,7 +76,7 @@ const TEXTS: [(FontFault, u8, &str); 9] = [
 
 #[test]
 fn prints_faults(rt: HostRuntime) {
-    for (fault, number, text) in &TEXTS {
+    for (fault, number, text) in TEXTS {
         let is_so = fault.number() == *number && prints(rt.alloc(), fault, text);
         assert!(rt; is_so, "{number} {text}");
     }

@@ -13,7 +13,7 @@ fn fault_of(alloc: Global, glyphs: &[&[u8]]) -> Result<Option<FontFault>, Fail> 
 }
 
 /// Glyphs, and why a font with one of them is refused.
-const GLYPHS: [(&[u8], Option<FontFault>); 8] = [
+const GLYPHS: &[(&[u8], Option<FontFault>)] = &[
     (&[0; 10], None),
     (&[0; 11], Some(FontFault::GlyphTruncated(0))),
     (&[0; 9], Some(FontFault::GlyphTruncated(0))),
@@ -32,7 +32,7 @@ const GLYPHS: [(&[u8], Option<FontFault>); 8] = [
 
 #[test]
 fn reads_glyphs(rt: HostRuntime) -> Result<(), Fail> {
-    for (glyph, want) in &GLYPHS {
+    for (glyph, want) in GLYPHS {
         let fault = fault_of(rt.alloc(), &[*glyph])?;
         assert!(rt; fault == *want, "{glyph:?}: {want:?}");
     }
@@ -40,7 +40,7 @@ fn reads_glyphs(rt: HostRuntime) -> Result<(), Fail> {
 }
 
 /// Components with what follows them, and the glyph program that they leave.
-const COMPONENTS: [(&[u8], &[u8]); 2] = [
+const COMPONENTS: &[(&[u8], &[u8])] = &[
     (
         &[
             0, 0x20, 0, 0, 0, 0, 1, 0, 0, 0, 0, 0, 0, 3, 0xB0, 0x0B, 0x2E,
@@ -57,7 +57,7 @@ const COMPONENTS: [(&[u8], &[u8]); 2] = [
 
 #[test]
 fn sums_components(rt: HostRuntime) -> Result<(), Fail> {
-    for (components, program) in &COMPONENTS {
+    for (components, program) in COMPONENTS {
         let file = font_with(rt.alloc(), components)?;
         let glyph = GlyphPart {
             points: 8,
@@ -71,7 +71,7 @@ fn sums_components(rt: HostRuntime) -> Result<(), Fail> {
 }
 
 /// Glyphs in a circle, and which of them is refused.
-const CIRCLES: [(&[&[u8]], u16); 3] = [
+const CIRCLES: &[(&[&[u8]], u16)] = &[
     (&[&OF_FIRST], 0),
     (&[&OF_SECOND, &OF_FIRST], 0),
     (&[&[], &OF_SECOND], 1),
@@ -79,7 +79,7 @@ const CIRCLES: [(&[&[u8]], u16); 3] = [
 
 #[test]
 fn refuses_circles(rt: HostRuntime) -> Result<(), Fail> {
-    for (glyphs, number) in &CIRCLES {
+    for (glyphs, number) in CIRCLES {
         let fault = fault_of(rt.alloc(), glyphs)?;
         assert!(rt;
             fault == Some(FontFault::Composite(*number)),

@@ -89,7 +89,7 @@ const UNKNOWN_HEAD: [u8; 54] = [
 ];
 
 /// Tables that are refused, and why.
-const REFUSED_TABLES: [(Tag, &[u8], FontFault); 10] = [
+const REFUSED_TABLES: &[(Tag, &[u8], FontFault)] = &[
     (Tag::Maxp, &[0, 1, 0], FontFault::TableOutside(Tag::Maxp)),
     (Tag::Maxp, &[0, 0, 0x50, 0, 0, 1], FontFault::MaxpVersion),
     (Tag::Maxp, &[0, 1, 0, 0], FontFault::TableOutside(Tag::Maxp)),
@@ -104,7 +104,7 @@ const REFUSED_TABLES: [(Tag, &[u8], FontFault); 10] = [
 
 #[test]
 fn refuses_tables(rt: HostRuntime) -> Result<(), Fail> {
-    for (tag, bytes, want) in &REFUSED_TABLES {
+    for (tag, bytes, want) in REFUSED_TABLES {
         let fault = fault_with(rt.alloc(), (*tag, *bytes))?;
         assert!(rt; fault == Some(*want), "{tag} {bytes:?}: {want}");
     }
@@ -113,7 +113,7 @@ fn refuses_tables(rt: HostRuntime) -> Result<(), Fail> {
 }
 
 /// Files that end after their directory or in it, and why they are refused.
-const REFUSED_DIRECTORIES: [(&[u8], FontFault); 5] = [
+const REFUSED_DIRECTORIES: &[(&[u8], FontFault)] = &[
     (
         &[0, 1, 0, 0, 0, 0, 0, 0, 0, 0, 0],
         FontFault::DirectoryTruncated,
@@ -132,7 +132,7 @@ const REFUSED_DIRECTORIES: [(&[u8], FontFault); 5] = [
 
 #[test]
 fn refuses_directories(rt: HostRuntime) {
-    for (bytes, want) in &REFUSED_DIRECTORIES {
+    for (bytes, want) in REFUSED_DIRECTORIES {
         let fault = Font::read(rt.alloc(), bytes).err();
         assert!(rt; fault == Some(*want), "{bytes:?}: {want}");
     }
