@@ -2,23 +2,20 @@
 use Rattle.std.specs.Prelude.{ℕ, codes, List, [], ◌∷◌, ◌++◌, length}
 use Rattle.std.specs.Fmt.{decimal}
 use Rattle.std.specs.List.{flat_map}
-use Rattle.tt_code.specs.Refusals.{number_of, reason_text}
-use Rattle.tt_cert_file.specs.Names.{text_of}
 use Rattle.tt_cert_file.specs.declared.name.Name.{Name}
 use Rattle.tt_cert_file.specs.declared.name.Name.TheVariants as name
+use Rattle.hintcheck_explain.specs.Texts as explained
 use Rattle.hintcheck.specs.declared.report.Place.{Place}
 use Rattle.hintcheck.specs.declared.report.Refused.{Refused}
 use Rattle.hintcheck.specs.Verdicts.{Judgement}
 
 -- the program's name and the offset, as `g12:73`
 abbrev pub place_text : Place → List ℕ
-place_text p = text_of p.program ++ (codes ":" ++ decimal p.offset)
+place_text p = explained.place_text p.program p.offset
 
 -- which program is refused, where and why, as `refused g12 at g12:73: 26 underflow`
 abbrev pub refused_text : Refused → List ℕ
-refused_text r =
-    codes "refused " ++ (text_of r.program ++ (codes " at " ++ (place_text r.place ++ (codes ": " ++
-    (decimal (number_of r.reason) ++ (codes " " ++ reason_text r.reason))))))
+refused_text r = explained.refused_text r.program r.place.program r.place.offset r.reason
 
 -- a line for each refused program
 abbrev pub refused_lines : List Refused → List ℕ

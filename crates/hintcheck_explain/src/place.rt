@@ -13,6 +13,11 @@ pub(crate) struct Place {
 }
 
 impl fmt::Display for Place {
+    ghost use Rattle.std.specs.Prelude.{Some};
+    ghost use Rattle.hintcheck_explain.specs.Texts.{place_text};
+
+    ghost output = { λ place. Some (place_text place.program place.offset) };
+
     fn fmt<W: fmt::Write>(&self, f: &mut fmt::Formatter<W>) -> fmt::Result {
         write!(f, "{}:{}", self.program, self.offset)
     }
@@ -36,6 +41,12 @@ pub(crate) struct Refused {
 }
 
 impl fmt::Display for Refused {
+    ghost use Rattle.std.specs.Prelude.{Some};
+    ghost use Rattle.hintcheck_explain.specs.Texts.{refused_text};
+
+    ghost output = { λ refused. Some
+        (refused_text refused.program refused.place.program refused.place.offset refused.reason) };
+
     fn fmt<W: fmt::Write>(&self, f: &mut fmt::Formatter<W>) -> fmt::Result {
         let number = self.reason.number();
         write!(

@@ -1,6 +1,8 @@
 //! Explains a program that can't be cut or isn't structured.
 
+ghost use Rattle.std.specs.Prelude.{◌++◌, codes, OnOk};
 ghost use Rattle.tt_stream.specs.Streams.{CountsPrintFailure};
+ghost use Rattle.hintcheck_explain.specs.Texts.{WritesFirst, refused_text};
 
 use crate::asked::Asked;
 use crate::instruction_text::{length_by_code, name_of};
@@ -56,7 +58,7 @@ fn misplaced(name: &str) -> &'static str {
 }
 
 /// Explains a program that can't be cut (20) or isn't structured (21), refused at this offset of
-/// its own bytes.
+/// its own bytes. The first line is the one with which the verdict refuses it.
 ///
 /// # Errors
 /// `Write` exactly where a write failed.
@@ -67,6 +69,9 @@ pub fn explain_unread<O: Sink>(
     reason: Reason,
     out: &mut O,
 ) -> Result<(), PrintFailed>
+    ensures begins { OnOk result (WritesFirst
+        (refused_text asked.program asked.program offset reason ++ codes "\n")
+        (O.contents out.old) (O.contents out.new)) }
     ensures failures { CountsPrintFailure result (O.failures out.old) (O.failures out.new) }
 {
     let place = Place {
@@ -87,8 +92,8 @@ pub fn explain_unread<O: Sink>(
     let kind = class_text(reason, class);
     let advice = advice_of(reason, class, "");
     let listing = Listing::around(Code::Uncut(bytes), place);
-    writeln!(out, "{refused}\nWhy: {why}")?;
-    writeln!(out, "Class: {kind}\nWhat to do: {advice}")?;
+    writeln!(out, "{refused}")?;
+    writeln!(out, "Why: {why}\nClass: {kind}\nWhat to do: {advice}")?;
     writeln!(out, "{listing}")?;
     Ok(())
 }

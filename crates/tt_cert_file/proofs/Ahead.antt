@@ -128,10 +128,15 @@ ahead_cells_taken old new ahead before now place after count used starts took co
               ∙ t.reads n tail ∙ ap (λ (p : ℕ). cells_at now n (here p (took.left ++ tail))) at_is ∙ ap (λ (l : List ℕ). cells_at now n (here after l)) (sym ys_is),
         )
 
--- cells that are read ahead after others
-pub cells_then : (r : Result ℕ DecodeFault) (old mid new : Option (List ℕ)) (before now next : List Cell) (place at count : ℕ) → ReadsCells (Ok at) old mid before now place count
-    → ReadsMoreCells r mid new now next at count → ReadsCells r old new before next place count
-cells_then (Ok after) old mid new before now next place at count one more = (
+-- all cells that are missing were read ahead
+pub more_all : (old new : Option (List ℕ)) (before now : List Cell) (place at count : ℕ) → ReadsMoreCells (Ok at) old new before now place count → length before < count
+    → length now ≡ count → ReadsCells (Ok at) old new before now place count
+more_all old new before now place at count more some all = (omega (arith, some, all), more.1, more.2)
+
+-- other cells are read after those that are read ahead
+pub more_then : (r : Result ℕ DecodeFault) (old mid new : Option (List ℕ)) (before now next : List Cell) (place at count : ℕ) → ReadsMoreCells (Ok at) old mid before now place count
+    → ReadsCells r mid new now next at count → ReadsCells r old new before next place count
+more_then (Ok after) old mid new before now next place at count one more = (
   omega (arith, one.0, more.0),
   more.1,
   λ e.
@@ -143,7 +148,7 @@ cells_then (Ok after) old mid new before now next place at count one more = (
             ap (λ (k : ℕ). cells_at before k (input_at place old)) all ∙ was.1 ((length next - length now) + n) ∙ is.1 n,
       ),
 )
-cells_then (Err e) old mid new before now next place at count one more = λ known.
+more_then (Err e) old mid new before now next place at count one more = λ known.
     let was = one.2 known in
     let all : (length now - length before) + (count - length now) ≡ count - length before = omega (arith, one.0, one.1) in
     let same : cells_at now (count - length now) (input_at at mid) ≡ cells_at before (count - length before) (input_at place old) =

@@ -14,7 +14,7 @@ use Rattle.tt_stream.proofs.Beginnings.{consumes_then}
 use Rattle.tt_cert_file.specs.declared.fault.DecodeFault.{DecodeFault}
 use Rattle.tt_cert_file.specs.declared.fault.DecodeFault.TheVariants as fault
 use Rattle.tt_cert_file.specs.Answers.{Fails, IsReadFault, StopsAtEnd, input_at}
-use Rattle.tt_cert_file.specs.Representation.Blocks.{AreCellsTaken, FillsOn, FillsRest, IsBegun, IsTakingCells, ReadsCells, ReadsRest, TakesCells, cells_at, input_begun, input_held, input_of}
+use Rattle.tt_cert_file.specs.Representation.Blocks.{AreCellsTaken, FillsOn, FillsRest, IsBegun, IsTakingCells, ReadsCells, ReadsFurther, ReadsMoreCells, ReadsRest, TakesCells, cells_at, input_begun, input_held, input_of}
 use Rattle.tt_cert_file.specs.Readers.{Answer, Input, list_at, place_after}
 use Rattle.tt_cert_file.specs.Reading.{cell_at}
 use Rattle.tt_cert_file.proofs.Codecs.{here}
@@ -30,7 +30,7 @@ cell_unknown : (place : ℕ) (rest tail : List ℕ) → cell_at (input_of place 
 unfolding cell_at
 cell_unknown place rest tail = rw (unit_whole 1 place (0 ∷ rest) tail (omega arith)) refl
 
-cell_known : (place : ℕ) (rest tail : List ℕ) → 4 ≤ length rest
+pub cell_known : (place : ℕ) (rest tail : List ℕ) → 4 ≤ length rest
     → cell_at (input_of place (1 ∷ rest) tail) ≡ Ok (number_of (take 4 rest), input_of (place_after place 5) (drop 4 rest) tail)
 unfolding cell_at
 cell_known place rest tail le =
@@ -479,21 +479,47 @@ pub none_of : (xs : List Cell) (i : Input) → cells_at xs 0 i ≡ Ok (xs, i)
 unfolding list_at
 none_of xs i = refl
 
+-- what is left of a list after more of its cells
+pub further_reached : (xs ys : List Cell) (count place after : ℕ) (old now : Option (List ℕ)) → length xs ≤ length ys → length ys ≤ count → ReadsFurther after old now xs ys place
+    → is_some old ≡ true → Reached place after old now (cells_at xs (count - length xs)) (cells_at ys (count - length ys))
+further_reached xs ys count place after old now least few further known =
+    let is = further known in
+    let more = length ys - length xs in
+    let whole : cells_at xs more (input_at place old) ≡ Ok (ys, input_at after now) =
+    ap (λ (n : ℕ). cells_at xs n (input_at place old)) {y = more + 0} (omega arith) ∙ is.1 0 ∙ none_of ys (input_at after now) in
+    let left_is : (count - length xs) - more ≡ count - length ys = omega (arith, least, few) in
+    subst (λ (n : ℕ). Reached place after old now (cells_at xs (count - length xs)) (cells_at ys n)) left_is
+    (reached_part (λ _. cell_at) xs ys (count - length xs) more place after old now (λ _. cell_steady) (omega (arith, least, few)) known (is.0, whole))
+
+-- a read failed after more of the cells
+pub more_stops : (r : Result ℕ DecodeFault) (old mid new : Option (List ℕ)) (before now : List Cell) (place at count : ℕ) → ReadsMoreCells (Ok at) old mid before now place count
+    → IfErr r (StopsAtEnd at mid new (cells_at now (count - length now))) → IfErr r (StopsAtEnd place old new (cells_at before (count - length before)))
+more_stops (Ok after) old mid new before now place at count more stops = tt
+more_stops (Err e) old mid new before now place at count more stops =
+    stops_there place at old mid new (cells_at before (count - length before)) (cells_at now (count - length now)) e
+    (λ known. further_reached before now count place at old mid more.0 more.1 more.2 known) stops
+
+-- the first cells are read before the loop
+pub cells_begun : (old now : Option (List ℕ)) (start : ℕ) (xs : List Cell) (count place f g : ℕ) → ReadsMoreCells (Ok place) old now [] xs start count → ConsumesBeginning old now → g ≡ f
+    → IsReadingCells old now start xs count place f g
+cells_begun old now start xs count place f g reads some same = record {
+  reached = λ known.
+      let all : count - 0 ≡ count = omega arith in
+      subst (λ (n : ℕ). Reached start place old now (cells_at [] n) (cells_at xs (count - length xs))) all
+      (further_reached [] xs count start place old now reads.0 reads.1 reads.2 known);
+  few = reads.1;
+  beginning = some;
+  failures_are = same;
+}
+
 pub cells_on : (old now next : Option (List ℕ)) (start : ℕ) (xs ys : List Cell) (count place after f g h : ℕ)
     → IsReadingCells old now start xs count place f g → ReadsCells (Ok after) now next xs ys place count
     → ConsumesBeginning now next → h ≡ g → IsReadingCells old next start ys count after f h
 cells_on old now next start xs ys count place after f g h inv reads some same = record {
   reached = λ known.
       let r = inv.reached known in
-      let is = reads.2 r.told in
-      let more = length ys - length xs in
-      let whole : cells_at xs more (input_at place now) ≡ Ok (ys, input_at after next) =
-      ap (λ (n : ℕ). cells_at xs n (input_at place now)) {y = more + 0} (omega arith) ∙ is.1 0 ∙ none_of ys (input_at after next) in
-      let left_is : (count - length xs) - more ≡ count - length ys = omega (arith, reads.0, reads.1) in
-      let part : Reached place after now next (cells_at xs (count - length xs)) (cells_at ys ((count - length xs) - more)) =
-      reached_part (λ _. cell_at) xs ys (count - length xs) more place after now next (λ _. cell_steady) (omega (arith, reads.0, reads.1)) r.told (is.0, whole) in
       reached_then start place after old now next (cells_at [] count) (cells_at xs (count - length xs)) (cells_at ys (count - length ys)) r
-      (subst (λ (n : ℕ). Reached place after now next (cells_at xs (count - length xs)) (cells_at ys n)) left_is part);
+      (further_reached xs ys count place after now next (omega (arith, reads.0)) reads.1 reads.2 r.told);
   few = reads.1;
   beginning = consumes_then _ _ _ inv.beginning some;
   failures_are = same ∙ inv.failures_are;

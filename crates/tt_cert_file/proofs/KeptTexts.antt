@@ -1,15 +1,16 @@
 -- The text of a stack that is kept for the next one: cut, and with one more cell.
-use Rattle.std.proofs.Common.{◌≡◌, ℕ, zero, suc, ◌+◌, ◌≤◌, List, [], ◌∷◌, ◌++◌, length, take, drop, Ok, Err, inl, inr, refl, sym, ap, subst, ◌∙◌, arith, append-nil, take-append-drop, take_all}
+use Rattle.std.proofs.Common.{◌≡◌, ℕ, zero, suc, ◌+◌, ◌-◌, ◌≤◌, List, [], ◌∷◌, ◌++◌, length, take, drop, Ok, Err, inl, inr, refl, sym, ap, subst, ◌∙◌, arith, append-nil, append_assoc, take-append-drop, take_all}
 use Rattle.std.specs.Prelude.{OnOk, Result}
 use Rattle.std.specs.List.{flat_map}
 use Rattle.std.proofs.lemmas.Bool.{cases_lt}
 use Rattle.std.proofs.lemmas.Grind.{flat_map-append}
 use Rattle.std.proofs.lemmas.List.{length-append, length-take, take-append-le, take_at, get_or-take}
 use Rattle.std.proofs.Math.ListN.{get_or-append}
-use Rattle.std.proofs.Math.Seq.{get_or-append_seam}
+use Rattle.std.proofs.Math.Seq.{get_or-append_seam, take-add}
 use Rattle.tt_abs.specs.declared.cells.Cell.{Cell}
-use Rattle.tt_cert_file.specs.Representation.KeptTexts.{AreCellsKept, AreWithin, end_of}
+use Rattle.tt_cert_file.specs.Representation.KeptTexts.{AreCellsKept, AreWithin, KeepsMore, end_of}
 use Rattle.tt_cert_file.specs.Text.{cell_text}
+use Rattle.tt_cert_file.proofs.Blocks.{suffix_fits}
 
 -- no cells have no text
 pub none_kept : (text ends : List ℕ) → text ≡ [] → ends ≡ [] → AreCellsKept text ends []
@@ -97,6 +98,32 @@ kept_more text ends now now_ends end cells x kept now_is ends_is end_is = record
         let place : j ≡ suc (length ends) = omega (arith, j_is, kept.long) in
         let all : take j (cells ++ x ∷ []) ≡ cells ++ x ∷ [] = take_all j (cells ++ x ∷ []) (omega (arith, j_is, length-append cells (x ∷ []))) in
         ap (end_of now_ends) place ∙ here_is ∙ ap length whole ∙ ap (λ (l : List Cell). length (flat_map cell_text l)) (sym all)
+
+-- no cells are kept so far
+pub keeps_none : (width : ℕ) (bytes ends : List ℕ) (cells : List Cell) → bytes ≡ [] → KeepsMore width bytes ends ends cells cells
+keeps_none width bytes ends cells none = λ text below len kept.
+    subst (λ (t : List ℕ). AreCellsKept t ends (below ++ cells)) (sym (append-nil text) ∙ ap (λ (b : List ℕ). text ++ b) (sym none)) kept
+
+-- the text of one more cell begins what is left of the bytes
+pub keeps_next : (width end : ℕ) (bytes left rest ends now_ends next_ends : List ℕ) (cells now next : List Cell) (x : Cell)
+    → KeepsMore width (take (length bytes - length left) bytes) ends now_ends cells now → left ≡ drop (length bytes - length left) bytes → left ≡ cell_text x ++ rest
+    → next_ends ≡ now_ends ++ end ∷ [] → end ≡ width + (length bytes - length rest) → next ≡ now ++ x ∷ []
+    → KeepsMore width (take (length bytes - length rest) bytes) ends next_ends cells next
+keeps_next width end bytes left rest ends now_ends next_ends cells now next x keeps suffix left_is ends_is end_is next_is = λ text below len kept.
+    let n = length bytes - length left in
+    let m = length bytes - length rest in
+    let w = length (cell_text x) in
+    let part : length left ≡ w + length rest = ap length left_is ∙ length-append (cell_text x) rest in
+    let fits : length left ≤ length bytes = suffix_fits bytes left suffix in
+    let m_is : m ≡ n + w = omega (arith, part, fits) in
+    let taken : take m bytes ≡ take n bytes ++ cell_text x =
+    ap (λ (k : ℕ). take k bytes) m_is ∙ take-add n w bytes ∙ ap (λ (l : List ℕ). take n bytes ++ take w l) (sym suffix ∙ left_is)
+    ∙ ap (λ (l : List ℕ). take n bytes ++ l) (take_at (cell_text x) rest w refl) in
+    let now_is : text ++ take m bytes ≡ (text ++ take n bytes) ++ cell_text x = ap (λ (l : List ℕ). text ++ l) taken ∙ sym (append_assoc text (take n bytes) (cell_text x)) in
+    let long : end ≡ length (text ++ take m bytes) = omega (arith, end_is, len, length-append text (take m bytes), length-take m bytes) in
+    let more : AreCellsKept (text ++ take m bytes) next_ends ((below ++ now) ++ x ∷ []) =
+    kept_more (text ++ take n bytes) now_ends (text ++ take m bytes) next_ends end (below ++ now) x (keeps text below len kept) now_is ends_is long in
+    subst (AreCellsKept (text ++ take m bytes) next_ends) (append_assoc below now (x ∷ []) ∙ ap (λ (l : List Cell). below ++ l) (sym next_is)) more
 
 pub on_more : {T E : Type 0} (r : Result T E) (P Q : Type 0) → OnOk r P → (P → Q) → OnOk r Q
 on_more (Ok x) P Q h f = f h

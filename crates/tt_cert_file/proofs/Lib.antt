@@ -17,5 +17,7 @@ pub mod Listed
 pub mod Pushed
 pub mod Fitting
 pub mod Ahead
+pub mod Fronts
 pub mod KeptTexts
+pub mod CutCells
 pub mod SharedCells

@@ -3,7 +3,7 @@ use Rattle.std.proofs.Common.{◌≡◌, ℕ, ℤ, zero, suc, ◌+◌, ◌-◌, 
 use Rattle.std.specs.Prelude.{reverse}
 use Rattle.std.specs.List.{flat_map}
 use Rattle.std.specs.Io.KnownBytes.{Consumes}
-use Rattle.std.proofs.lemmas.List.{length-reverse, length-take, reverse-reverse}
+use Rattle.std.proofs.lemmas.List.{length-append, length-reverse, length-take, reverse-reverse}
 use Rattle.tt_abs.specs.declared.cells.Cell.{Cell}
 use Rattle.tt_abs.specs.declared.state.State.{State}
 use Rattle.tt_abs.specs.Cells.{Cells}
@@ -16,7 +16,7 @@ use Rattle.tt_cert_file.specs.declared.fault.DecodeFault.{DecodeFault}
 use Rattle.tt_cert_file.specs.declared.fault.DecodeFault.TheVariants as fault
 use Rattle.tt_cert_file.specs.declared.form.Form.{Form}
 use Rattle.tt_cert_file.specs.Answers.{Fails, StopsAtEnd, input_at}
-use Rattle.tt_cert_file.specs.Representation.Blocks.{ReadsMoreCells, cells_at}
+use Rattle.tt_cert_file.specs.Representation.Blocks.{ReadsCells, ReadsFurther, ReadsMoreCells, cells_at, cells_up_to}
 use Rattle.tt_cert_file.specs.Readers.{Answer, Input, list_at, place_after, ◌>>=◌}
 use Rattle.tt_cert_file.specs.Reading.{cell_at, functions_at, graphics_at, stack_at, state_at, storage_at}
 use Rattle.tt_cert_file.specs.Rules.{CellFits, EachAfter}
@@ -24,13 +24,11 @@ use Rattle.tt_cert_file.specs.declared.stack_text.StackText.{StackText}
 use Rattle.tt_cert_file.specs.Representation.KeptTexts.{AreCellsKept, IsStackText, end_of}
 use Rattle.tt_cert_file.specs.Representation.SharedCells.{AreAhead, IsStackKept}
 use Rattle.tt_cert_file.specs.Text.{cell_text}
-use Rattle.tt_cert_file.proofs.Cells.{none_of}
 use Rattle.tt_cert_file.proofs.Codecs.{here, list_again}
 use Rattle.tt_cert_file.proofs.Fields.{cell_codec}
 use Rattle.tt_cert_file.proofs.Fitting.{each_cell}
 use Rattle.tt_cert_file.proofs.KeptTexts.{front_text}
-use Rattle.tt_cert_file.proofs.SteadyUnits.{cell_steady}
-use Rattle.tt_cert_file.proofs.Stops.{Reached, list_split, reached_known, reached_part, stops_there}
+use Rattle.tt_cert_file.proofs.Stops.{list_split}
 
 -- cells that are kept are read where their text is
 read_kept : (cells : List Cell) (n place : ℕ) (rest : List ℕ) → EachAfter (λ _ c. CellFits c) [] cells → place < 2 ^ 64
@@ -124,17 +122,6 @@ cells_onto front xs (suc n) i = onto_next front xs n (cell_at i) (λ y j. cells_
 cells_from : (front : List Cell) (n : ℕ) (i : Input) → cells_at front n i ≡ onto front (cells_at [] n i)
 cells_from front n i = ap (λ (l : List Cell). cells_at l n i) (sym (append-nil front)) ∙ cells_onto front [] n i
 
--- after the lowest cells the others are read
-rest_reached : (old mid : Option (List ℕ)) (front : List Cell) (place at count left : ℕ) → ReadsMoreCells (Ok at) old mid [] front place count
-    → left ≡ count - length front → is_some old ≡ true → Reached place at old mid (cells_at [] count) (cells_at front left)
-rest_reached old mid front place at count left reads left_is known =
-    let is = reads.2 known in
-    let all : length front ≡ (length front - 0) + 0 = omega arith in
-    let whole : cells_at [] (length front) (input_at place old) ≡ Ok (front, input_at at mid) =
-    ap (λ (n : ℕ). cells_at [] n (input_at place old)) all ∙ is.1 0 ∙ none_of front (input_at at mid) in
-    subst (λ (n : ℕ). Reached place at old mid (cells_at [] count) (cells_at front n)) (sym left_is)
-    (reached_part (λ _. cell_at) [] front count (length front) place at old mid (λ _. cell_steady) reads.1 known (is.0, whole))
-
 -- the cells of a stack onto which others were pushed
 pub stacked : (below stack cells : List Cell) → stack ≡ cells_on cells below → reverse stack ≡ reverse below ++ cells
 stacked below stack cells e =
@@ -148,27 +135,51 @@ pushed_kept text below now cells kept pushed range = record {
   in_range = range;
 }
 
--- all cells are read: the lowest ones, and the others
-pub stack_read : (old mid new : Option (List ℕ)) (below stack cells : List Cell) (place at after count left : ℕ) → ReadsMoreCells (Ok at) old mid [] (reverse below) place count
-    → left ≡ count - length (reverse below) → (is_some mid ≡ true → (is_some new ≡ true) × (cells_at [] left (input_at at mid) ≡ Ok (cells, input_at after new)))
-    → stack ≡ cells_on cells below → is_some old ≡ true → (is_some new ≡ true) × (cells_at [] count (input_at place old) ≡ Ok (reverse stack, input_at after new))
-stack_read old mid new below stack cells place at after count left reads left_is rest pushed known =
-    let front = reverse below in
-    let r = rest_reached old mid front place at count left reads left_is known in
-    let is = rest r.told in (
+-- cells are read after the lowest ones as they are read after none
+further_onto : (old new : Option (List ℕ)) (front cells : List Cell) (place after : ℕ) → ReadsFurther after old new [] cells place → ReadsFurther after old new front (front ++ cells) place
+further_onto old new front cells place after further = λ known.
+    let is = further known in (
       is.0,
-      reached_known place at old mid (cells_at [] count) (cells_at front left) r known ∙ cells_from front left (input_at at mid) ∙ ap (onto front) is.1
-          ∙ ap (λ (l : List Cell). Ok (l, input_at after new)) (sym (stacked below stack cells pushed)),
+      λ n.
+          let i = input_at place old in
+          let all : (length (front ++ cells) - length front) + n ≡ (length cells - 0) + n = omega (arith, length-append front cells) in
+          ap (λ (k : ℕ). cells_at front k i) all ∙ cells_from front ((length cells - 0) + n) i ∙ ap (onto front) (is.1 n) ∙ sym (cells_onto front cells n (input_at after new)),
     )
 
--- one of the other cells is refused
-pub stack_fails : (e : DecodeFault) (old mid : Option (List ℕ)) (front : List Cell) (place at count left : ℕ) → ReadsMoreCells (Ok at) old mid [] front place count
-    → left ≡ count - length front → (is_some mid ≡ true → Fails e (cells_at [] left (input_at at mid))) → is_some old ≡ true → Fails e (cells_at [] count (input_at place old))
-stack_fails fault.Read old mid front place at count left reads left_is fails known = tt
-stack_fails (fault.OutOfMemory error) old mid front place at count left reads left_is fails known = tt
-stack_fails (fault.Form p) old mid front place at count left reads left_is fails known =
-    let r = rest_reached old mid front place at count left reads left_is known in
-    reached_known place at old mid (cells_at [] count) (cells_at front left) r known ∙ cells_from front left (input_at at mid) ∙ ap (onto front) (fails r.told)
+fails_onto : (e : DecodeFault) (front : List Cell) (r : Answer (List Cell)) → Fails e r → Fails e (onto front r)
+fails_onto (fault.Form p) front r fails = ap (onto front) fails
+fails_onto fault.Read front r fails = tt
+fails_onto (fault.OutOfMemory error) front r fails = tt
+
+-- the cells that were read are pushed onto the lowest ones
+pub more_pushed : (old new : Option (List ℕ)) (below stack cells : List Cell) (place after count missing : ℕ) → ReadsMoreCells (Ok after) old new [] cells place missing
+    → missing ≡ count - length below → length below ≤ count → stack ≡ cells_on cells below → ReadsMoreCells (Ok after) old new (reverse below) (reverse stack) place count
+more_pushed old new below stack cells place after count missing reads missing_is few pushed =
+    let front = reverse below in
+    let long : length (front ++ cells) ≡ length below + length cells = omega (arith, length-append front cells, length-reverse below) in
+    subst (λ (l : List Cell). ReadsMoreCells (Ok after) old new front l place count) (sym (stacked below stack cells pushed))
+    (omega (arith, long, length-reverse below), omega (arith, long, reads.1, missing_is, few), further_onto old new front cells place after reads.2)
+
+pub cells_pushed : (old new : Option (List ℕ)) (below stack cells : List Cell) (place after count missing : ℕ) → ReadsCells (Ok after) old new [] cells place missing
+    → missing ≡ count - length below → length below ≤ count → stack ≡ cells_on cells below → ReadsCells (Ok after) old new (reverse below) (reverse stack) place count
+cells_pushed old new below stack cells place after count missing reads missing_is few pushed =
+    let more = more_pushed old new below stack cells place after count missing (omega (arith, reads.0), reads.1, reads.2) missing_is few pushed in
+    let long : length (reverse stack) ≡ length (reverse below) + length cells = ap length (stacked below stack cells pushed) ∙ length-append (reverse below) cells in
+    (omega (arith, long, reads.0), more.1, more.2)
+
+-- how many cells are missing after the lowest ones
+missing_in : (below : List Cell) (count missing : ℕ) → missing ≡ count - length below → missing - 0 ≡ count - length (reverse below)
+missing_in below count missing missing_is = omega (arith, missing_is, length-reverse below)
+
+-- one of the cells after the lowest ones is refused
+pub missing_fails : (e : DecodeFault) (old : Option (List ℕ)) (below : List Cell) (place count missing : ℕ) → missing ≡ count - length below
+    → (is_some old ≡ true → Fails e (cells_up_to [] missing (input_at place old))) → is_some old ≡ true → Fails e (cells_up_to (reverse below) count (input_at place old))
+missing_fails e old below place count missing missing_is fails known =
+    let front = reverse below in
+    let i = input_at place old in
+    subst (λ (r : Answer (List Cell)). Fails e r)
+    (sym (cells_from front (missing - 0) i) ∙ ap (λ (k : ℕ). cells_at front k i) (missing_in below count missing missing_is))
+    (fails_onto e front (cells_at [] (missing - 0) i) (fails known))
 
 onto_stops : (e : DecodeFault) (mid new : Option (List ℕ)) (front : List Cell) (at n : ℕ) → StopsAtEnd at mid new (cells_at [] n) e → StopsAtEnd at mid new (cells_at front n) e
 onto_stops (fault.Form p) mid new front at n stops = tt
@@ -177,12 +188,12 @@ onto_stops fault.Read mid new front at n stops = λ known.
     let s = stops known in
     record { front = s.front; consumed = s.consumed; refused = cells_from front n (input_at at (Some s.front)) ∙ ap (onto front) s.refused }
 
--- a read of the other cells failed
-pub stack_stops : (e : DecodeFault) (old mid new : Option (List ℕ)) (front : List Cell) (place at count left : ℕ) → ReadsMoreCells (Ok at) old mid [] front place count
-    → left ≡ count - length front → StopsAtEnd at mid new (cells_at [] left) e → StopsAtEnd place old new (cells_at [] count) e
-stack_stops e old mid new front place at count left reads left_is stops =
-    stops_there place at old mid new (cells_at [] count) (cells_at front left) e (rest_reached old mid front place at count left reads left_is)
-    (onto_stops e mid new front at left stops)
+-- a read of the cells after the lowest ones failed
+pub missing_stops : (e : DecodeFault) (old new : Option (List ℕ)) (below : List Cell) (place count missing : ℕ) → missing ≡ count - length below
+    → StopsAtEnd place old new (cells_up_to [] missing) e → StopsAtEnd place old new (cells_up_to (reverse below) count) e
+missing_stops e old new below place count missing missing_is stops =
+    subst (λ (k : ℕ). StopsAtEnd place old new (cells_at (reverse below) k) e) (missing_in below count missing missing_is)
+    (onto_stops e old new (reverse below) place (missing - 0) stops)
 
 -- the state before the first one
 pub first_kept : (text : StackText) (functions : List (ℕ × ℕ)) (s : State) → IsStackText text [] → s ≡ start_of functions → state_order.InRange s → IsStackKept text s

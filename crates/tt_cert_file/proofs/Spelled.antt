@@ -173,7 +173,7 @@ unfolding RegistersFit
 registers_codec =
     cell_first _ _ _ (cell_first _ _ _ (cell_first _ _ _ (zone_first _ _ _ (zone_first _ _ _ (zone_first _ _ _ cell_codec)))))
 
-graphics_codec : IsCodec graphics_at graphics_text GraphicsFits
+pub graphics_codec : IsCodec graphics_at graphics_text GraphicsFits
 unfolding graphics_at RegistersFit
 graphics_codec = made_of_codec graphics_from registers_of registers_at registers_text RegistersFit GraphicsFits
     (λ x h. (refl, record { rp0 = h.0; rp1 = h.1.0; rp2 = h.1.1.0; loop_number = h.1.1.1.1.1.1 }))

@@ -149,6 +149,10 @@ AreCallsInTurn contexts = (number : ℕ) → number < length contexts
 abbrev pub CallFits : Context → Type 0
 CallFits c = (c.1.call < 2 ^ 32) × (c.1.body < 2 ^ 32)
 
+-- the parent's number has 16 bits, too (Representation: no public clause cites it.)
+abbrev pub NumbersFit : Context → Type 0
+NumbersFit c = (c.0 < 2 ^ 16) × CallFits c
+
 -- the text says how many functions there are, and then each of them, and their numbers fit their
 -- fields (Representation: no public clause cites it.)
 pub record IsTextOf (text : List ℕ) (functions : List (ℕ × ℕ)) : Type 0 where

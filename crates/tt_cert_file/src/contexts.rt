@@ -1,6 +1,6 @@
 //! Contexts of a section: read one after the other, each by the rules, and then added to a builder.
 
-ghost use Rattle.std.specs.Prelude.{◌≡◌, ◌<◌, ◌≤◌, ℕ, [], true, length, IfErr, IfOk};
+ghost use Rattle.std.specs.Prelude.{◌≡◌, ◌<◌, ◌≤◌, ℕ, [], true, length, IfErr, IfOk, IfSome};
 ghost use Rattle.std.specs.Option.{option_copied};
 ghost use Rattle.tt_cert.specs.Built.{key_of as key_of_context};
 ghost use Rattle.tt_cert.specs.Contents.{IsFamily, frames_at};
@@ -8,15 +8,16 @@ ghost use Rattle.tt_cert.specs.Ascending.{IsFinished};
 ghost use Rattle.tt_cert.specs.Contexts.{frames_of};
 ghost use Rattle.tt_stream.specs.Reads.{ConsumesBeginning};
 ghost use Rattle.tt_cert_file.specs.Answers.{CountsRead, IsOutOfMemory};
-ghost use Rattle.tt_cert_file.specs.Representation.Clauses.{IsEmptyBuilder, ReadsAs, ReadsBy, StopsWhole};
+ghost use Rattle.tt_cert_file.specs.Representation.Clauses.{BeginsWith, IsEmptyBuilder, ReadsAs, ReadsBy, StopsWhole};
 ghost use Rattle.tt_cert_file.specs.Forms.{most_contexts};
 ghost use Rattle.tt_cert_file.specs.Readers.{list_at};
 ghost use Rattle.tt_cert_file.specs.Reading.{context_at, context_count_at, contexts_at};
-ghost use Rattle.tt_cert_file.specs.Rules.{AreContexts, HaveParents, is_above_context, is_new_body as is_new_body_of, is_turn as is_turn_of, last_of, may_follow as may_follow_after};
+ghost use Rattle.tt_cert_file.specs.Rules.{AreContexts, HaveParents, NumbersFit, is_above_context, is_new_body as is_new_body_of, is_turn as is_turn_of, last_of, may_follow as may_follow_after};
+ghost use Rattle.tt_cert_file.specs.Text.{context_text};
 
 use crate::fault::DecodeFault;
 use crate::form::Form;
-use crate::units::{read_long, read_word};
+use crate::units::{read_long, read_word, take_long, take_word};
 use std::alloc::{AllocError, Global};
 use tt_cert::{Builder, ContextFault};
 use tt_code::Frame;
@@ -78,12 +79,14 @@ fn may_follow(before: &[(u32, Frame)], context: &(u32, Frame)) -> bool
         && is_new_body(before, context.0, context.1.body)
 }
 
-/// Reads a context that comes after these, whose numbers start from 1.
+/// Reads a context that comes after these, number by number.
 ///
 /// # Errors
-/// As `read_word`, and `Form` with the context's place if it may not come after these.
+/// As `read_context`.
+#[cold]
+#[inline(never)]
 #[tactic(auto, unfolding(crate::specs::Reading::context_at))]
-fn read_context<S: Source>(
+fn read_numbers<S: Source>(
     source: &mut S,
     place: u64,
     before: &[(u32, Frame)],
@@ -114,6 +117,56 @@ fn read_context<S: Source>(
         return Err(DecodeFault::Form(place));
     }
     Ok((context, at))
+}
+
+/// Takes a context from the front of these bytes, if all of it is there.
+#[inline]
+fn take_context(bytes: &[u8]) -> Option<((u32, Frame), &[u8])>
+    ensures { IfSome result (λ r. BeginsWith context_text NumbersFit bytes.now r.0 r.1.now) }
+{
+    let (parent, rest) = take_word(bytes)?;
+    let (call, rest) = take_long(rest)?;
+    let (body, rest) = take_long(rest)?;
+    let (turn, rest) = take_long(rest)?;
+    let (count, rest) = take_long(rest)?;
+    let frame = Frame {
+        body,
+        call,
+        turn,
+        count,
+    };
+    Some(((u32::from(parent), frame), rest))
+}
+
+/// Reads a context that comes after these, whose numbers start from 1: at once, where all of it is
+/// read ahead.
+///
+/// # Errors
+/// As `read_word`, and `Form` with the context's place if it may not come after these.
+fn read_context<S: Source>(
+    source: &mut S,
+    place: u64,
+    before: &[(u32, Frame)],
+) -> Result<((u32, Frame), u64), DecodeFault>
+    requires { HaveParents before.now }
+    ensures reads { ReadsBy (context_at before.now) place result
+        (S.remaining source.old) (S.remaining source.new) }
+    ensures follows { IfOk result (λ r. may_follow_after before.now r.0 ≡ true) }
+    ensures beginning { ConsumesBeginning (S.remaining source.old) (S.remaining source.new) }
+    ensures stopped { StopsWhole (context_at before.now) place result
+        (S.remaining source.old) (S.remaining source.new) }
+    ensures failures { CountsRead result (S.failures source.old) (S.failures source.new) }
+    ensures memory { IfErr result (λ fault. ¬ IsOutOfMemory fault) }
+{
+    let ahead = source.ahead();
+    if let Some((context, rest)) = take_context(ahead)
+        && may_follow(before, &context)
+    {
+        let width = ahead.len() - rest.len();
+        source.skip(width);
+        return Ok((context, place.saturating_add(width as u64)));
+    }
+    read_numbers(source, place, before)
 }
 
 /// Reads how many contexts a section has besides the main one.

@@ -1,19 +1,22 @@
 //! Lists of a section's states: cells of stacks, functions and storage cells.
 
-ghost use Rattle.std.specs.Prelude.{◌≡◌, ◌-◌, ◌*◌, ◌<◌, ◌≤◌, [], false, true, length, take, IfErr, IfOk, OnErr, OnOk};
+ghost use Rattle.std.specs.Prelude.{◌≡◌, ◌+◌, ◌-◌, ◌*◌, ◌^◌, ◌<◌, ◌≤◌, List, [], ◌++◌, false, true, length, take, IfErr, IfOk, OnErr, OnOk};
 ghost use Rattle.std.specs.Io.KnownBytes.{Keeps};
+ghost use Rattle.tt_abs.specs.declared.cells.Cell.{Cell as AnyCell};
 ghost use Rattle.tt_abs.specs.Entries.{Ascends};
 ghost use Rattle.tt_stream.specs.Reads.{ConsumesBeginning, ConsumesFewer};
 ghost use Rattle.tt_stream.specs.Streams.{CountsFailure};
 ghost use Rattle.tt_cert_file.specs.Answers.{CountsRead, IsReadFault, IsOutOfMemory};
 ghost use Rattle.tt_cert_file.specs.Representation.Blocks.{AreKept, FillsOn, FillsRest, ReadsBlock, ReadsCells, ReadsMoreCells, ReadsRest, Takes, TakesCells, TakesSomeCells, cells_at, cells_up_to};
-ghost use Rattle.tt_cert_file.specs.Representation.Clauses.{ReadsAs, ReadsBy, StopsWhole};
+ghost use Rattle.tt_cert_file.specs.Representation.Clauses.{ReadsBy, ReadsInto, StopsWhole};
+ghost use Rattle.tt_cert_file.specs.Representation.KeptTexts.{IsStackText, KeepsMore};
 ghost use Rattle.tt_cert_file.specs.Readers.{list_at};
 ghost use Rattle.tt_cert_file.specs.Reading.{function_at, functions_at, storage_at, stored_at};
 ghost use Rattle.tt_cert_file.specs.Rules.{is_above, last_of};
 
 use crate::fault::DecodeFault;
 use crate::form::Form;
+use crate::stack_text::StackText;
 use crate::units::{pair_of, read_cell, read_pair, read_word};
 use std::alloc::Global;
 use tt_abs::Cell;
@@ -88,18 +91,24 @@ fn take_cells(cells: &mut Vec<Cell>, place: u64, bytes: &[u8]) -> Result<usize, 
 }
 
 /// Takes cells from the front of these bytes, after those before them, as far as they are whole,
-/// and until there are `count` in all. Returns how many bytes they have.
-fn take_some_cells(
+/// and until there are `count` in all. Appends where their texts end after a text of `start` bytes,
+/// and returns how many bytes they have.
+fn cut_cells(
     cells: &mut Vec<Cell>,
+    ends: &mut Vec<usize>,
+    start: usize,
     place: u64,
     bytes: &[u8],
     count: usize,
 ) -> Result<usize, DecodeFault>
-    requires { length cells.old.items ≤ count }
-    ensures { TakesSomeCells result cells.old.items cells.new.items place bytes.now count }
+    requires few { length cells.old.items ≤ count }
+    requires room { start + length bytes.now < 2 ^ 64 }
+    ensures takes { TakesSomeCells result
+        cells.old.items cells.new.items place bytes.now count }
+    ensures kept { IfOk result (λ used. KeepsMore start (take used bytes.now)
+        ends.old.items ends.new.items cells.old.items cells.new.items) }
 {
     let mut left = bytes;
-    let mut at = place;
     'cells: while cells.len() < count {
         let Some((tag, rest)) = left.split_first() else {
             return Ok(bytes.len() - left.len());
@@ -107,7 +116,7 @@ fn take_some_cells(
         match *tag {
             0 => {
                 cells.push(Cell::Unknown)?;
-                at = at.saturating_add(1);
+                ends.push(start + (bytes.len() - rest.len()))?;
                 left = rest;
             }
             1 => {
@@ -115,31 +124,59 @@ fn take_some_cells(
                     return Ok(bytes.len() - left.len());
                 };
                 cells.push(Cell::Known(i32::from_be_bytes(*number)))?;
-                at = at.saturating_add(5);
+                ends.push(start + (bytes.len() - after.len()))?;
                 left = after;
             }
-            _ => return Err(DecodeFault::Form(at)),
+            _ => {
+                let broken = bytes.len() - left.len();
+                return Err(DecodeFault::Form(place.saturating_add(broken as u64)));
+            }
         }
     }
     Ok(bytes.len() - left.len())
 }
 
+/// Takes cells from the front of these bytes, after those before them, as far as they are whole,
+/// and until there are `count` in all. Their texts come after the text. Returns how many bytes they
+/// have.
+fn take_some_cells(
+    cells: &mut Vec<Cell>,
+    text: &mut StackText,
+    place: u64,
+    bytes: &[u8],
+    count: usize,
+) -> Result<usize, DecodeFault>
+    requires { length cells.old.items ≤ count }
+    ensures takes { TakesSomeCells result
+        cells.old.items cells.new.items place bytes.now count }
+    ensures kept { (below : List AnyCell) → IsStackText text.old (below ++ cells.old.items)
+        → OnOk result (IsStackText text.new (below ++ cells.new.items)) }
+{
+    let start = text.cells.len();
+    let used = cut_cells(cells, &mut text.ends, start, place, bytes, count)?;
+    text.cells.extend_from_slice(&bytes[..used])?;
+    Ok(used)
+}
+
 /// Takes cells that are read ahead, after those before them, as far as they are whole, and until
-/// there are `count` in all. Returns the place after them.
-fn take_ahead_cells<S: Source>(
+/// there are `count` in all. Their texts come after the text. Returns the place after them.
+pub(crate) fn take_ahead_cells<S: Source>(
     source: &mut S,
     place: u64,
     count: usize,
     cells: &mut Vec<Cell>,
+    text: &mut StackText,
 ) -> Result<u64, DecodeFault>
     requires { length cells.old.items ≤ count }
     ensures reads { ReadsMoreCells result (S.remaining source.old) (S.remaining source.new)
         cells.old.items cells.new.items place count }
+    ensures kept { (below : List AnyCell) → IsStackText text.old (below ++ cells.old.items)
+        → OnOk result (IsStackText text.new (below ++ cells.new.items)) }
     ensures beginning { ConsumesBeginning (S.remaining source.old) (S.remaining source.new) }
     ensures no_read { IfErr result (λ fault. ¬ IsReadFault fault) }
     ensures failures { CountsRead result (S.failures source.old) (S.failures source.new) }
 {
-    let used = take_some_cells(cells, place, source.ahead(), count)?;
+    let used = take_some_cells(cells, text, place, source.ahead(), count)?;
     source.skip(used);
     Ok(place.saturating_add(used as u64))
 }
@@ -232,9 +269,8 @@ fn fetch_cell_block<S: Source>(
 }
 
 /// Reads some cells, after those before them, so that there are at most `count` in all, and returns
-/// the place after them: where bytes are read ahead, one cell and those that are read ahead after
-/// it, and otherwise some at once.
-fn read_cell_block<S: Source>(
+/// the place after them: where bytes are read ahead, one cell, and otherwise some at once.
+pub(crate) fn read_cell_block<S: Source>(
     source: &mut S,
     place: u64,
     count: usize,
@@ -251,32 +287,7 @@ fn read_cell_block<S: Source>(
     if source.ahead().is_empty() {
         return fetch_cell_block(source, place, count, cells);
     }
-    let at = read_one_cell(source, place, count, cells)?;
-    take_ahead_cells(source, at, count, cells)
-}
-
-/// Reads this many cells, in the memory of others.
-pub(crate) fn read_cells<S: Source>(
-    source: &mut S,
-    place: u64,
-    count: usize,
-    others: Vec<Cell>,
-) -> Result<(Vec<Cell>, u64), DecodeFault>
-    ensures reads { ReadsAs (λ v. v.items) (cells_at [] count) place result
-        (S.remaining source.old) (S.remaining source.new) }
-    ensures few { IfOk result (λ r. length r.0.items ≤ count) }
-    ensures beginning { ConsumesBeginning (S.remaining source.old) (S.remaining source.new) }
-    ensures stopped { StopsWhole (cells_at [] count) place result
-        (S.remaining source.old) (S.remaining source.new) }
-    ensures failures { CountsRead result (S.failures source.old) (S.failures source.new) }
-{
-    let mut cells = others;
-    cells.clear();
-    let mut at = place;
-    'blocks: while cells.len() < count {
-        at = read_cell_block(source, at, count, &mut cells)?;
-    }
-    Ok((cells, at))
+    read_one_cell(source, place, count, cells)
 }
 
 /// Whether the function may come after these.
@@ -394,31 +405,30 @@ fn read_function_block<S: Source>(
     fetch_function_block(source, place, count, functions)
 }
 
-/// Reads this many functions, in the memory of others.
+/// Reads this many functions, in place of those in the list.
 fn read_function_list<S: Source>(
     source: &mut S,
     place: u64,
     count: u16,
-    others: Vec<(u16, u32)>,
-) -> Result<(Vec<(u16, u32)>, u64), DecodeFault>
-    ensures reads { ReadsAs (λ v. v.items) (list_at function_at [] count) place result
+    functions: &mut Vec<(u16, u32)>,
+) -> Result<u64, DecodeFault>
+    ensures reads { ReadsInto functions.new.items (list_at function_at [] count) place result
         (S.remaining source.old) (S.remaining source.new) }
-    ensures ascends { IfOk result (λ r. Ascends r.0.items) }
+    ensures ascends { OnOk result (Ascends functions.new.items) }
     ensures beginning { ConsumesBeginning (S.remaining source.old) (S.remaining source.new) }
     ensures stopped { StopsWhole (list_at function_at [] count) place result
         (S.remaining source.old) (S.remaining source.new) }
     ensures failures { CountsRead result (S.failures source.old) (S.failures source.new) }
 {
-    let mut functions = others;
     functions.clear();
     let mut at = place;
     let mut left = usize::from(count);
     'blocks: while left > 0 {
         let block = left.min(BLOCK);
-        at = read_function_block(source, at, block, &mut functions)?;
+        at = read_function_block(source, at, block, functions)?;
         left -= block;
     }
-    Ok((functions, at))
+    Ok(at)
 }
 
 /// Functions that were read, and their text where it was kept. Most lists are the same as the one
@@ -460,106 +470,87 @@ fn is_ahead<S: Source>(source: &S, text: &[u8], width: usize) -> bool
     front == text
 }
 
-/// Takes this many functions that are read ahead, in the memory of others, and keeps their text.
+/// Takes this many functions that are read ahead, in place of the others, and keeps their text.
 fn take_listed<S: Source>(
     source: &mut S,
     place: u64,
     count: u16,
-    others: Functions,
-) -> Result<(Functions, u64), DecodeFault>
+    functions: &mut Functions,
+) -> Result<u64, DecodeFault>
     requires { 6 * count ≤ length (S.read_ahead source.old) }
-    ensures reads { ReadsAs (λ f. f.list.items) (list_at function_at [] count) place result
+    ensures reads { ReadsInto functions.new.list.items (list_at function_at [] count) place result
         (S.remaining source.old) (S.remaining source.new) }
-    ensures kept { IfOk result (λ r. AreKept r.0.text.items r.0.list.items) }
-    ensures fresh { IfOk result (λ r. r.0.is_same ≡ false) }
+    ensures kept { OnOk result (AreKept functions.new.text.items functions.new.list.items) }
+    ensures fresh { OnOk result (functions.new.is_same ≡ false) }
     ensures beginning { ConsumesBeginning (S.remaining source.old) (S.remaining source.new) }
     ensures stopped { StopsWhole (list_at function_at [] count) place result
         (S.remaining source.old) (S.remaining source.new) }
     ensures failures { CountsRead result (S.failures source.old) (S.failures source.new) }
 {
-    let Functions {
-        mut list,
-        mut text,
-        ..
-    } = others;
-    list.clear();
-    text.clear();
+    functions.is_same = false;
+    functions.list.clear();
+    functions.text.clear();
     let width = FUNCTION * usize::from(count);
     let bytes = &source.ahead()[..width];
-    let _over = take_functions(&mut list, place, bytes)?;
-    text.extend_from_slice(bytes)?;
+    let _over = take_functions(&mut functions.list, place, bytes)?;
+    functions.text.extend_from_slice(bytes)?;
     source.skip(width);
-    let functions = Functions {
-        list,
-        text,
-        is_same: false,
-    };
-    Ok((functions, place.saturating_add(width as u64)))
+    Ok(place.saturating_add(width as u64))
 }
 
-/// Reads this many functions. Mostly they are the same as the others, which are then returned;
-/// otherwise they are read in the memory of the others.
+/// Reads this many functions, in place of the others. Mostly they are the same.
 fn read_listed<S: Source>(
     source: &mut S,
     place: u64,
     count: u16,
-    others: Functions,
-) -> Result<(Functions, u64), DecodeFault>
-    requires { AreKept others.text.items others.list.items }
-    ensures reads { ReadsAs (λ f. f.list.items) (list_at function_at [] count) place result
+    functions: &mut Functions,
+) -> Result<u64, DecodeFault>
+    requires { AreKept functions.old.text.items functions.old.list.items }
+    ensures reads { ReadsInto functions.new.list.items (list_at function_at [] count) place result
         (S.remaining source.old) (S.remaining source.new) }
-    ensures kept { IfOk result (λ r. AreKept r.0.text.items r.0.list.items) }
-    ensures same { IfOk result
-        (λ r. r.0.is_same ≡ true → r.0.list.items ≡ others.list.items) }
+    ensures kept { OnOk result (AreKept functions.new.text.items functions.new.list.items) }
+    ensures same { OnOk result (functions.new.is_same ≡ true
+        → functions.new.list.items ≡ functions.old.list.items) }
     ensures beginning { ConsumesBeginning (S.remaining source.old) (S.remaining source.new) }
     ensures stopped { StopsWhole (list_at function_at [] count) place result
         (S.remaining source.old) (S.remaining source.new) }
     ensures failures { CountsRead result (S.failures source.old) (S.failures source.new) }
 {
     let width = FUNCTION * usize::from(count);
-    if is_ahead(source, &others.text, width) {
+    if is_ahead(source, &functions.text, width) {
         source.skip(width);
-        let functions = Functions {
-            is_same: true,
-            ..others
-        };
-        return Ok((functions, place.saturating_add(width as u64)));
+        functions.is_same = true;
+        return Ok(place.saturating_add(width as u64));
     }
     if width <= source.ahead().len() {
-        return take_listed(source, place, count, others);
+        return take_listed(source, place, count, functions);
     }
-    let Functions { list, mut text, .. } = others;
-    text.clear();
-    let (list, after) = read_function_list(source, place, count, list)?;
-    let functions = Functions {
-        list,
-        text,
-        is_same: false,
-    };
-    Ok((functions, after))
+    functions.is_same = false;
+    functions.text.clear();
+    read_function_list(source, place, count, &mut functions.list)
 }
 
-/// Reads the functions that are known, with their bodies. Mostly they are the same as the others,
-/// which are then returned; otherwise they are read in the memory of the others.
+/// Reads the functions that are known, with their bodies, in place of the others. Mostly they are
+/// the same.
 #[tactic(auto, unfolding(crate::specs::Reading::functions_at))]
 pub(crate) fn read_functions<S: Source>(
     source: &mut S,
     place: u64,
-    others: Functions,
-) -> Result<(Functions, u64), DecodeFault>
-    requires { AreKept others.text.items others.list.items }
-    ensures reads { ReadsAs (λ f. f.list.items) functions_at place result
+    functions: &mut Functions,
+) -> Result<u64, DecodeFault>
+    requires { AreKept functions.old.text.items functions.old.list.items }
+    ensures reads { ReadsInto functions.new.list.items functions_at place result
         (S.remaining source.old) (S.remaining source.new) }
-    ensures kept { IfOk result (λ r. AreKept r.0.text.items r.0.list.items) }
-    ensures same { IfOk result
-        (λ r. r.0.is_same ≡ true → r.0.list.items ≡ others.list.items) }
+    ensures kept { OnOk result (AreKept functions.new.text.items functions.new.list.items) }
+    ensures same { OnOk result (functions.new.is_same ≡ true
+        → functions.new.list.items ≡ functions.old.list.items) }
     ensures beginning { ConsumesBeginning (S.remaining source.old) (S.remaining source.new) }
     ensures stopped { StopsWhole functions_at place result
         (S.remaining source.old) (S.remaining source.new) }
     ensures failures { CountsRead result (S.failures source.old) (S.failures source.new) }
 {
     let (count, at) = read_word(source, place)?;
-    read_listed(source, at, count, others)
+    read_listed(source, at, count, functions)
 }
 
 /// Reads a storage cell with its number, after those before it.
@@ -587,44 +578,43 @@ fn read_stored<S: Source>(
     Ok(((index, number.cast_signed()), after))
 }
 
-/// Reads this many storage cells, in the memory of others.
+/// Reads this many storage cells, in place of the others.
 fn read_storage_list<S: Source>(
     source: &mut S,
     place: u64,
     count: u16,
-    others: Vec<(u16, i32)>,
-) -> Result<(Vec<(u16, i32)>, u64), DecodeFault>
-    ensures reads { ReadsAs (λ v. v.items) (list_at stored_at [] count) place result
+    cells: &mut Vec<(u16, i32)>,
+) -> Result<u64, DecodeFault>
+    ensures reads { ReadsInto cells.new.items (list_at stored_at [] count) place result
         (S.remaining source.old) (S.remaining source.new) }
-    ensures ascends { IfOk result (λ r. Ascends r.0.items) }
+    ensures ascends { OnOk result (Ascends cells.new.items) }
     ensures beginning { ConsumesBeginning (S.remaining source.old) (S.remaining source.new) }
     ensures stopped { StopsWhole (list_at stored_at [] count) place result
         (S.remaining source.old) (S.remaining source.new) }
     ensures failures { CountsRead result (S.failures source.old) (S.failures source.new) }
 {
-    let mut cells = others;
     cells.clear();
     let mut at = place;
     'cells: for _ in 0..count {
-        let (cell, after) = read_stored(source, at, &cells)?;
+        let (cell, after) = read_stored(source, at, cells)?;
         cells.push(cell)?;
         at = after;
     }
-    Ok((cells, at))
+    Ok(at)
 }
 
-/// Reads the storage cells that are known, with their numbers, where the form lists them, in the
-/// memory of others.
+/// Reads the storage cells that are known, with their numbers, where the form lists them, in place
+/// of the others.
 #[tactic(auto, unfolding(crate::specs::Reading::storage_at))]
 pub(crate) fn read_storage<S: Source>(
     source: &mut S,
     place: u64,
     form: Form,
-    others: Vec<(u16, i32)>,
-) -> Result<(Vec<(u16, i32)>, u64), DecodeFault>
-    ensures reads { ReadsAs (λ v. v.items) (storage_at form) place result
+    cells: &mut Vec<(u16, i32)>,
+) -> Result<u64, DecodeFault>
+    ensures reads { ReadsInto cells.new.items (storage_at form) place result
         (S.remaining source.old) (S.remaining source.new) }
-    ensures ascends { IfOk result (λ r. Ascends r.0.items) }
+    ensures ascends { OnOk result (Ascends cells.new.items) }
     ensures beginning { ConsumesBeginning (S.remaining source.old) (S.remaining source.new) }
     ensures stopped { StopsWhole (storage_at form) place result
         (S.remaining source.old) (S.remaining source.new) }
@@ -632,13 +622,12 @@ pub(crate) fn read_storage<S: Source>(
 {
     match form {
         Form::One | Form::Two => {
-            let mut cells = others;
             cells.clear();
-            Ok((cells, place))
+            Ok(place)
         }
         Form::Three | Form::Four => {
             let (count, at) = read_word(source, place)?;
-            read_storage_list(source, at, count, others)
+            read_storage_list(source, at, count, cells)
         }
     }
 }

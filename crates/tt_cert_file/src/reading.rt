@@ -1,6 +1,6 @@
 //! Sections read from a source.
 
-ghost use Rattle.std.specs.Prelude.{◌≡◌, ◌++◌, ℕ, List, Some, IfErr, IfOk, MatchResult};
+ghost use Rattle.std.specs.Prelude.{◌≡◌, ◌++◌, ℕ, List, Some, IfErr, IfOk, OnOk, MatchResult};
 ghost use Rattle.tt_stream.specs.Reads.{ConsumesBeginning};
 ghost use Rattle.tt_cert_file.specs.Answers.{AreBytes, CountsRead, GivesSection, IsFormFault, ReadsSection, StopsAtEnd, input_at};
 ghost use Rattle.tt_cert_file.specs.Representation.Clauses.{IsEmptyBuilder, ReadsAs, StopsWhole};
@@ -21,8 +21,8 @@ use std::marker::Model;
 use tt_cert::{Builder, Certificate};
 use tt_stream::Source;
 
-/// Reads a section, reusing an empty builder's memory; `before` is the state before the first.
-/// Returns it with the state that was read last and the place after it.
+/// Reads a section, reusing an empty builder's memory; `state` is the one before the first, and
+/// becomes the last. Returns the section's name and family, and the place after it.
 ///
 /// # Errors
 /// As `decode`.
@@ -33,13 +33,13 @@ fn read_section<S: Source>(
     place: u64,
     form: Form,
     spare: Builder,
-    before: LastState,
-) -> Result<((Name, Certificate, LastState), u64), DecodeFault>
+    state: &mut LastState,
+) -> Result<((Name, Certificate), u64), DecodeFault>
     requires spare { IsEmptyBuilder spare }
-    requires before { IsLast before }
+    requires before { IsLast state.old }
     ensures reads { ReadsAs (λ x. section_of x.0 x.1) (section_at form) place result
         (S.remaining source.old) (S.remaining source.new) }
-    ensures kept { IfOk result (λ r. IsLast r.0.2) }
+    ensures kept { OnOk result (IsLast state.new) }
     ensures beginning { ConsumesBeginning (S.remaining source.old) (S.remaining source.new) }
     ensures stopped { StopsWhole (section_at form) place result
         (S.remaining source.old) (S.remaining source.new) }
@@ -48,8 +48,8 @@ fn read_section<S: Source>(
     let (name, at) = read_name(source, place)?;
     let (contexts, at) = read_contexts(alloc, source, at, form)?;
     let builder = builder_of(spare, &contexts)?;
-    let ((builder, last), at) = read_states(builder, source, at, form, before)?;
-    Ok(((name, Certificate::of(builder), last), at))
+    let (builder, at) = read_states(builder, source, at, form, state)?;
+    Ok(((name, Certificate::of(builder)), at))
 }
 
 /// A reader of sections, one after the other: each is read in the memory of those before it, and
@@ -141,10 +141,10 @@ impl Decoder {
             (StopsAtEnd start (S.remaining source.old) (S.remaining source.new) (section_at form)) }
         ensures failures { CountsRead result (S.failures source.old) (S.failures source.new) }
     {
-        let before = self.take_last(alloc)?;
+        let mut last = self.take_last(alloc)?;
         let spare = self.take_spare(alloc);
-        let ((name, certificate, last), after) = read_section(
-            alloc, source, start, form, spare, before,
+        let ((name, certificate), after) = read_section(
+            alloc, source, start, form, spare, &mut last,
         )?;
         self.last = Some(last);
         Ok((name, certificate, after))

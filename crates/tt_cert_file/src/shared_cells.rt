@@ -1,19 +1,19 @@
 //! Stacks, each read after another one. Mostly the lowest cells are those of the one before: they
 //! are recognized by their text, and stay in the state.
 
-ghost use Rattle.std.specs.Prelude.{◌≡◌, ◌≤◌, ◌++◌, List, [], true, length, reverse, Ok, IfOk, OnOk};
+ghost use Rattle.std.specs.Prelude.{◌≡◌, ◌<◌, ◌≤◌, ◌++◌, List, [], true, length, reverse, Ok, IfErr, OnOk};
 ghost use Rattle.std.specs.Io.{StartsWith};
 ghost use Rattle.tt_abs.specs.declared.cells.Cell.{Cell as AnyCell};
 ghost use Rattle.tt_stream.specs.Reads.{ConsumesBeginning};
-ghost use Rattle.tt_cert_file.specs.Answers.{CountsRead};
-ghost use Rattle.tt_cert_file.specs.Representation.Blocks.{ReadsMoreCells, cells_at};
+ghost use Rattle.tt_cert_file.specs.Answers.{CountsRead, IsReadFault};
+ghost use Rattle.tt_cert_file.specs.Representation.Blocks.{ReadsCells, ReadsMoreCells, cells_at, cells_up_to};
 ghost use Rattle.tt_cert_file.specs.Reading.{stack_at};
-ghost use Rattle.tt_cert_file.specs.Representation.Clauses.{ReadsAs, StopsWhole};
+ghost use Rattle.tt_cert_file.specs.Representation.Clauses.{ReadsInto, StopsWhole};
 ghost use Rattle.tt_cert_file.specs.Representation.KeptTexts.{AreWithin, IsStackText};
 ghost use Rattle.tt_cert_file.specs.Representation.SharedCells.{AreAhead, IsStackKept};
 
 use crate::fault::DecodeFault;
-use crate::lists::read_cells;
+use crate::lists::{read_cell_block, take_ahead_cells};
 use crate::stack_text::StackText;
 use crate::units::read_word;
 use std::alloc::{AllocError, Global};
@@ -28,9 +28,9 @@ const FEWER: usize = 8;
 #[derive(Drop)]
 pub(crate) struct LastStack {
     pub(crate) text: StackText,
-    /// The cells that were read because they aren't those of the stack before. The next ones are
-    /// read in their memory.
-    read: Vec<Cell>,
+    /// Cells that were read because they aren't those of the stack before. The next ones are read
+    /// in their memory.
+    pub(crate) read: Vec<Cell>,
 }
 
 impl LastStack {
@@ -112,53 +112,138 @@ fn keep_cells(text: &mut StackText, cells: &[Cell]) -> Result<(), AllocError>
     Ok(())
 }
 
+/// Takes the cells that come next and are whole in what is read ahead, until the state has `count`,
+/// and puts them on its stack, whose text is kept. Returns the place after them.
+fn take_new<S: Source>(
+    source: &mut S,
+    place: u64,
+    count: usize,
+    state: &mut State,
+    last: &mut LastStack,
+) -> Result<u64, DecodeFault>
+    requires kept { IsStackKept last.old.text state.old }
+    requires few { length state.old.stack ≤ count }
+    requires room { count ≤ 65535 }
+    ensures reads { ReadsMoreCells result (S.remaining source.old) (S.remaining source.new)
+        (reverse state.old.stack) (reverse state.new.stack) place count }
+    ensures others { OnOk result (state.new ≡ record state.old { stack = state.new.stack }) }
+    ensures kept { OnOk result (IsStackKept last.new.text state.new) }
+    ensures beginning { ConsumesBeginning (S.remaining source.old) (S.remaining source.new) }
+    ensures no_read { IfErr result (λ fault. ¬ IsReadFault fault) }
+    ensures failures { CountsRead result (S.failures source.old) (S.failures source.new) }
+{
+    last.read.clear();
+    let missing = count - state.depth();
+    let after = take_ahead_cells(source, place, missing, &mut last.read, &mut last.text)?;
+    state.push_cells(&last.read)?;
+    Ok(after)
+}
+
+/// Reads some of the cells that come next, though they may not be read ahead, so that the state has
+/// at most `count`, and puts them on its stack, whose text is kept. Returns the place after them.
+#[cold]
+#[inline(never)]
+fn fetch_new<S: Source>(
+    source: &mut S,
+    place: u64,
+    count: usize,
+    state: &mut State,
+    last: &mut LastStack,
+) -> Result<u64, DecodeFault>
+    requires kept { IsStackKept last.old.text state.old }
+    requires some { length state.old.stack < count }
+    requires room { count ≤ 65535 }
+    ensures reads { ReadsCells result (S.remaining source.old) (S.remaining source.new)
+        (reverse state.old.stack) (reverse state.new.stack) place count }
+    ensures others { OnOk result (state.new ≡ record state.old { stack = state.new.stack }) }
+    ensures kept { OnOk result (IsStackKept last.new.text state.new) }
+    ensures beginning { ConsumesBeginning (S.remaining source.old) (S.remaining source.new) }
+    ensures stopped { StopsWhole (cells_up_to (reverse state.old.stack) count) place result
+        (S.remaining source.old) (S.remaining source.new) }
+    ensures failures { CountsRead result (S.failures source.old) (S.failures source.new) }
+{
+    last.read.clear();
+    let missing = count - state.depth();
+    let after = read_cell_block(source, place, missing, &mut last.read)?;
+    keep_cells(&mut last.text, &last.read)?;
+    state.push_cells(&last.read)?;
+    Ok(after)
+}
+
+/// Reads some of the cells that come next, so that the state has at most `count`, and puts them on
+/// its stack, whose text is kept. Returns the place after them.
+fn read_new<S: Source>(
+    source: &mut S,
+    place: u64,
+    count: usize,
+    state: &mut State,
+    last: &mut LastStack,
+) -> Result<u64, DecodeFault>
+    requires kept { IsStackKept last.old.text state.old }
+    requires some { length state.old.stack < count }
+    requires room { count ≤ 65535 }
+    ensures reads { ReadsCells result (S.remaining source.old) (S.remaining source.new)
+        (reverse state.old.stack) (reverse state.new.stack) place count }
+    ensures others { OnOk result (state.new ≡ record state.old { stack = state.new.stack }) }
+    ensures kept { OnOk result (IsStackKept last.new.text state.new) }
+    ensures beginning { ConsumesBeginning (S.remaining source.old) (S.remaining source.new) }
+    ensures stopped { StopsWhole (cells_up_to (reverse state.old.stack) count) place result
+        (S.remaining source.old) (S.remaining source.new) }
+    ensures failures { CountsRead result (S.failures source.old) (S.failures source.new) }
+{
+    let at = take_new(source, place, count, state, last)?;
+    if state.depth() == count {
+        return Ok(at);
+    }
+    fetch_new(source, at, count, state, last)
+}
+
 /// Reads the `count` cells of a stack into a state, in place of the stack that the state has, whose
-/// text is kept.
+/// text is kept. Returns the place after them.
 fn read_stack_cells<S: Source>(
     source: &mut S,
     place: u64,
     count: u16,
     state: &mut State,
-    others: LastStack,
-) -> Result<(LastStack, u64), DecodeFault>
-    requires { IsStackKept others.text state.old }
-    ensures reads { ReadsAs (λ _. reverse state.new.stack) (cells_at [] count) place result
+    last: &mut LastStack,
+) -> Result<u64, DecodeFault>
+    requires { IsStackKept last.old.text state.old }
+    ensures reads { ReadsInto (reverse state.new.stack) (cells_at [] count) place result
         (S.remaining source.old) (S.remaining source.new) }
     ensures others { OnOk result (state.new ≡ record state.old { stack = state.new.stack }) }
-    ensures kept { IfOk result (λ r. IsStackKept r.0.text state.new) }
+    ensures kept { OnOk result (IsStackKept last.new.text state.new) }
     ensures beginning { ConsumesBeginning (S.remaining source.old) (S.remaining source.new) }
     ensures stopped { StopsWhole (cells_at [] count) place result
         (S.remaining source.old) (S.remaining source.new) }
     ensures failures { CountsRead result (S.failures source.old) (S.failures source.new) }
 {
-    let LastStack { mut text, read } = others;
     let count = usize::from(count);
-    let at = take_shared(source, place, count, state, &mut text);
-    let (read, after) = read_cells(source, at, count - state.depth(), read)?;
-    keep_cells(&mut text, &read)?;
-    state.push_cells(&read)?;
-    Ok((LastStack { text, read }, after))
+    let mut at = take_shared(source, place, count, state, &mut last.text);
+    'cells: while state.depth() < count {
+        at = read_new(source, at, count, state, last)?;
+    }
+    Ok(at)
 }
 
 /// Reads a stack's cells into a state, from the bottom up, in place of the stack that the state
-/// has, whose text is kept.
+/// has, whose text is kept. Returns the place after them.
 #[tactic(auto, unfolding(crate::specs::Reading::stack_at))]
 pub(crate) fn read_stack<S: Source>(
     source: &mut S,
     place: u64,
     state: &mut State,
-    others: LastStack,
-) -> Result<(LastStack, u64), DecodeFault>
-    requires { IsStackKept others.text state.old }
-    ensures reads { ReadsAs (λ _. reverse state.new.stack) stack_at place result
+    last: &mut LastStack,
+) -> Result<u64, DecodeFault>
+    requires { IsStackKept last.old.text state.old }
+    ensures reads { ReadsInto (reverse state.new.stack) stack_at place result
         (S.remaining source.old) (S.remaining source.new) }
     ensures others { OnOk result (state.new ≡ record state.old { stack = state.new.stack }) }
-    ensures kept { IfOk result (λ r. IsStackKept r.0.text state.new) }
+    ensures kept { OnOk result (IsStackKept last.new.text state.new) }
     ensures beginning { ConsumesBeginning (S.remaining source.old) (S.remaining source.new) }
     ensures stopped { StopsWhole stack_at place result
         (S.remaining source.old) (S.remaining source.new) }
     ensures failures { CountsRead result (S.failures source.old) (S.failures source.new) }
 {
     let (count, at) = read_word(source, place)?;
-    read_stack_cells(source, at, count, state, others)
+    read_stack_cells(source, at, count, state, last)
 }

@@ -7,7 +7,7 @@ ghost use Rattle.tt_stream.specs.Reads.{ConsumesBeginning};
 ghost use Rattle.tt_cert_file.specs.Answers.{CountsRead, IsOutOfMemory};
 ghost use Rattle.tt_cert_file.specs.Reading.{entry_after, point_at, state_at, states_at};
 ghost use Rattle.tt_cert_file.specs.Rules.{is_next_point as is_next_point_after, last_point};
-ghost use Rattle.tt_cert_file.specs.Representation.Clauses.{ReadsAs, ReadsBy, StopsWhole, entries_at};
+ghost use Rattle.tt_cert_file.specs.Representation.Clauses.{ReadsAs, ReadsBy, ReadsInto, StopsWhole, entries_at};
 ghost use Rattle.tt_cert_file.specs.Representation.SharedCells.{IsLast};
 
 use crate::fault::DecodeFault;
@@ -125,7 +125,7 @@ impl LastState {
     }
 }
 
-/// Reads a state, without its point.
+/// Reads a state, without its point, in place of the last one. Returns the place after it.
 ///
 /// # Errors
 /// As `decode`.
@@ -134,35 +134,23 @@ fn read_state<S: Source>(
     source: &mut S,
     place: u64,
     form: Form,
-    last: LastState,
-) -> Result<(LastState, u64), DecodeFault>
-    requires { IsLast last }
-    ensures reads { ReadsAs (λ x. x.state) (state_at form) place result
+    last: &mut LastState,
+) -> Result<u64, DecodeFault>
+    requires { IsLast last.old }
+    ensures reads { ReadsInto last.new.state (state_at form) place result
         (S.remaining source.old) (S.remaining source.new) }
-    ensures kept { IfOk result (λ r. IsLast r.0) }
+    ensures kept { OnOk result (IsLast last.new) }
     ensures beginning { ConsumesBeginning (S.remaining source.old) (S.remaining source.new) }
     ensures stopped { StopsWhole (state_at form) place result
         (S.remaining source.old) (S.remaining source.new) }
     ensures failures { CountsRead result (S.failures source.old) (S.failures source.new) }
 {
-    let LastState {
-        mut state,
-        stack,
-        functions,
-        storage,
-    } = last;
-    let (stack, at) = read_stack(source, place, &mut state, stack)?;
+    let at = read_stack(source, place, &mut last.state, &mut last.stack)?;
     let (graphics, at) = read_graphics(source, at)?;
-    let (functions, at) = read_functions(source, at, functions)?;
-    let (storage, at) = read_storage(source, at, form, storage)?;
-    set_rest(&mut state, &graphics, &functions, &storage)?;
-    let last = LastState {
-        state,
-        stack,
-        functions,
-        storage,
-    };
-    Ok((last, at))
+    let at = read_functions(source, at, &mut last.functions)?;
+    let after = read_storage(source, at, form, &mut last.storage)?;
+    set_rest(&mut last.state, &graphics, &last.functions, &last.storage)?;
+    Ok(after)
 }
 
 /// Whether a state may be at this point: in one of this many contexts, and after the last state's.
@@ -204,7 +192,8 @@ fn read_point<S: Source>(
     Ok((point, after))
 }
 
-/// Reads a state with its point, which comes after the last state's.
+/// Reads a state with its point, which comes after the last state's, in place of the last one.
+/// Returns the point, and the place after the state.
 ///
 /// # Errors
 /// As `decode`.
@@ -214,21 +203,21 @@ fn read_entry<S: Source>(
     form: Form,
     contexts: u32,
     last: Option<(u32, u32)>,
-    last_state: LastState,
-) -> Result<(((u32, u32), LastState), u64), DecodeFault>
-    requires { IsLast last_state }
-    ensures reads { ReadsAs (λ x. (x.0, x.1.state)) (entry_after form contexts last) place result
-        (S.remaining source.old) (S.remaining source.new) }
-    ensures follows { IfOk result (λ r. is_next_point_after contexts last r.0.0 ≡ true) }
-    ensures kept { IfOk result (λ r. IsLast r.0.1) }
+    state: &mut LastState,
+) -> Result<((u32, u32), u64), DecodeFault>
+    requires { IsLast state.old }
+    ensures reads { ReadsAs (λ point. (point, state.new.state)) (entry_after form contexts last)
+        place result (S.remaining source.old) (S.remaining source.new) }
+    ensures follows { IfOk result (λ r. is_next_point_after contexts last r.0 ≡ true) }
+    ensures kept { OnOk result (IsLast state.new) }
     ensures beginning { ConsumesBeginning (S.remaining source.old) (S.remaining source.new) }
     ensures stopped { StopsWhole (entry_after form contexts last) place result
         (S.remaining source.old) (S.remaining source.new) }
     ensures failures { CountsRead result (S.failures source.old) (S.failures source.new) }
 {
     let (point, at) = read_point(source, place, contexts, last)?;
-    let (state, at) = read_state(source, at, form, last_state)?;
-    Ok(((point, state), at))
+    let after = read_state(source, at, form, state)?;
+    Ok((point, after))
 }
 
 /// Puts a state at a point of the builder that comes after all that have states.
@@ -257,8 +246,8 @@ fn add_state(builder: &mut Builder, point: (u32, u32), state: &State) -> Result<
     }
 }
 
-/// Reads this many states into a builder that has their contexts and no state; `before` is the
-/// state before the first.
+/// Reads this many states into a builder that has their contexts and no state; `state` is the one
+/// before the first, and becomes the last.
 ///
 /// # Errors
 /// As `decode`.
@@ -268,14 +257,14 @@ fn read_state_list<S: Source>(
     place: u64,
     form: Form,
     count: u32,
-    before: LastState,
-) -> Result<((Builder, LastState), u64), DecodeFault>
+    state: &mut LastState,
+) -> Result<(Builder, u64), DecodeFault>
     requires empty { builder.states ≡ [] }
-    requires before { IsLast before }
-    ensures reads { ReadsAs (λ x. x.0.states) (entries_at form (length builder.contexts) count)
+    requires before { IsLast state.old }
+    ensures reads { ReadsAs (λ x. x.states) (entries_at form (length builder.contexts) count)
         place result (S.remaining source.old) (S.remaining source.new) }
-    ensures contexts { IfOk result (λ r. r.0.0.contexts ≡ builder.contexts) }
-    ensures kept { IfOk result (λ r. IsLast r.0.1) }
+    ensures contexts { IfOk result (λ r. r.0.contexts ≡ builder.contexts) }
+    ensures kept { OnOk result (IsLast state.new) }
     ensures beginning { ConsumesBeginning (S.remaining source.old) (S.remaining source.new) }
     ensures stopped { StopsWhole (entries_at form (length builder.contexts) count)
         place result (S.remaining source.old) (S.remaining source.new) }
@@ -284,20 +273,18 @@ fn read_state_list<S: Source>(
     let mut builder = builder;
     let contexts = builder.contexts();
     let mut last = None;
-    let mut last_state = before;
     let mut at = place;
     'states: for _ in 0..count {
-        let ((point, read), after) = read_entry(source, at, form, contexts, last, last_state)?;
-        last_state = read;
-        add_state(&mut builder, point, &last_state.state)?;
+        let (point, after) = read_entry(source, at, form, contexts, last, state)?;
+        add_state(&mut builder, point, &state.state)?;
         last = Some(point);
         at = after;
     }
-    Ok(((builder, last_state), at))
+    Ok((builder, at))
 }
 
-/// Reads the states of a section into a builder that has its contexts and no state; `before` is the
-/// state before the first.
+/// Reads the states of a section into a builder that has its contexts and no state; `state` is the
+/// one before the first, and becomes the last.
 ///
 /// # Errors
 /// As `decode`.
@@ -307,19 +294,19 @@ pub(crate) fn read_states<S: Source>(
     source: &mut S,
     place: u64,
     form: Form,
-    before: LastState,
-) -> Result<((Builder, LastState), u64), DecodeFault>
+    state: &mut LastState,
+) -> Result<(Builder, u64), DecodeFault>
     requires empty { builder.states ≡ [] }
-    requires before { IsLast before }
-    ensures reads { ReadsAs (λ x. x.0.states) (states_at form (length builder.contexts))
+    requires before { IsLast state.old }
+    ensures reads { ReadsAs (λ x. x.states) (states_at form (length builder.contexts))
         place result (S.remaining source.old) (S.remaining source.new) }
-    ensures contexts { IfOk result (λ r. r.0.0.contexts ≡ builder.contexts) }
-    ensures kept { IfOk result (λ r. IsLast r.0.1) }
+    ensures contexts { IfOk result (λ r. r.0.contexts ≡ builder.contexts) }
+    ensures kept { OnOk result (IsLast state.new) }
     ensures beginning { ConsumesBeginning (S.remaining source.old) (S.remaining source.new) }
     ensures stopped { StopsWhole (states_at form (length builder.contexts)) place result
         (S.remaining source.old) (S.remaining source.new) }
     ensures failures { CountsRead result (S.failures source.old) (S.failures source.new) }
 {
     let (count, at) = read_long(source, place)?;
-    read_state_list(builder, source, at, form, count, before)
+    read_state_list(builder, source, at, form, count, state)
 }

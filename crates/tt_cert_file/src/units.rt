@@ -1,10 +1,12 @@
 //! Units of a section, each read whole.
 
-ghost use Rattle.std.specs.Prelude.{◌≡◌, ℕ, List, Option, IfErr};
+ghost use Rattle.std.specs.Prelude.{◌≡◌, ◌++◌, ℕ, List, Option, IfErr, IfSome};
 ghost use Rattle.tt_stream.specs.Reads.{ConsumesBeginning};
 ghost use Rattle.tt_cert_file.specs.Answers.{CountsRead, IsOutOfMemory};
-ghost use Rattle.tt_cert_file.specs.Representation.Clauses.{ReadsBy, StopsWhole};
+ghost use Rattle.tt_cert_file.specs.Representation.Clauses.{BeginsWith, ReadsBy, StopsWhole};
 ghost use Rattle.tt_cert_file.specs.Readers.{unit};
+ghost use Rattle.tt_cert_file.specs.Rules.{CellFits, GraphicsFits};
+ghost use Rattle.tt_cert_file.specs.Text.{cell_text, graphics_text, long, word, zone_text};
 ghost use Rattle.tt_cert_file.specs.Reading.{cell_at, graphics_at, long_at, name_at, pair_at, pair_from, word_at, zone_at};
 
 use crate::fault::DecodeFault;
@@ -203,12 +205,14 @@ fn read_zone<S: Source>(source: &mut S, place: u64) -> Result<(ZoneCell, u64), D
     }
 }
 
-/// Reads what is known of the graphics state.
+/// Reads what is known of the graphics state, unit by unit.
 ///
 /// # Errors
 /// As `read_cell` and `read_zone`.
+#[cold]
+#[inline(never)]
 #[tactic(auto, unfolding(crate::specs::Reading::graphics_at))]
-pub(crate) fn read_graphics<S: Source>(
+fn read_registers<S: Source>(
     source: &mut S,
     place: u64,
 ) -> Result<(Graphics<Cell, ZoneCell>, u64), DecodeFault>
@@ -237,4 +241,99 @@ pub(crate) fn read_graphics<S: Source>(
         loop_number,
     };
     Ok((graphics, at))
+}
+
+/// Takes a number of 16 bits from the front of these bytes, if all of it is there.
+#[inline]
+pub(crate) fn take_word(bytes: &[u8]) -> Option<(u16, &[u8])>
+    ensures { IfSome result (λ r. bytes.now ≡ word r.0 ++ r.1.now) }
+{
+    let (unit, rest) = bytes.split_first_chunk::<2>()?;
+    Some((u16::from_be_bytes(*unit), rest))
+}
+
+/// Takes a number of 32 bits from the front of these bytes, if all of it is there.
+#[inline]
+pub(crate) fn take_long(bytes: &[u8]) -> Option<(u32, &[u8])>
+    ensures { IfSome result (λ r. bytes.now ≡ long r.0 ++ r.1.now) }
+{
+    let (unit, rest) = bytes.split_first_chunk::<4>()?;
+    Some((u32::from_be_bytes(*unit), rest))
+}
+
+/// Takes what is known of a number from the front of these bytes, if all of it is there.
+#[inline]
+fn take_cell(bytes: &[u8]) -> Option<(Cell, &[u8])>
+    ensures { IfSome result (λ r. BeginsWith cell_text CellFits bytes.now r.0 r.1.now) }
+{
+    match bytes {
+        [0, rest @ ..] => Some((Cell::Unknown, rest)),
+        [1, b3, b2, b1, b0, rest @ ..] => {
+            let number = i32::from_be_bytes([*b3, *b2, *b1, *b0]);
+            Some((Cell::Known(number), rest))
+        }
+        _ => None,
+    }
+}
+
+/// Takes what is known of a zone pointer from the front of these bytes, if it is there.
+#[inline]
+fn take_zone(bytes: &[u8]) -> Option<(ZoneCell, &[u8])>
+    ensures { IfSome result (λ r. bytes.now ≡ zone_text r.0 ++ r.1.now) }
+{
+    match bytes {
+        [0, rest @ ..] => Some((ZoneCell::Zero, rest)),
+        [1, rest @ ..] => Some((ZoneCell::One, rest)),
+        [2, rest @ ..] => Some((ZoneCell::Either, rest)),
+        _ => None,
+    }
+}
+
+/// Takes what is known of the graphics state from the front of these bytes, if all of it is there.
+#[inline]
+fn take_graphics(bytes: &[u8]) -> Option<(Graphics<Cell, ZoneCell>, &[u8])>
+    ensures { IfSome result (λ r. BeginsWith graphics_text GraphicsFits bytes.now r.0 r.1.now) }
+{
+    let (rp0, rest) = take_cell(bytes)?;
+    let (rp1, rest) = take_cell(rest)?;
+    let (rp2, rest) = take_cell(rest)?;
+    let (zp0, rest) = take_zone(rest)?;
+    let (zp1, rest) = take_zone(rest)?;
+    let (zp2, rest) = take_zone(rest)?;
+    let (loop_number, rest) = take_cell(rest)?;
+    let graphics = Graphics {
+        rp0,
+        rp1,
+        rp2,
+        zp0,
+        zp1,
+        zp2,
+        loop_number,
+    };
+    Some((graphics, rest))
+}
+
+/// Reads what is known of the graphics state: at once, where all of it is read ahead.
+///
+/// # Errors
+/// As `read_cell` and `read_zone`.
+pub(crate) fn read_graphics<S: Source>(
+    source: &mut S,
+    place: u64,
+) -> Result<(Graphics<Cell, ZoneCell>, u64), DecodeFault>
+    ensures reads { ReadsBy graphics_at place result
+        (S.remaining source.old) (S.remaining source.new) }
+    ensures beginning { ConsumesBeginning (S.remaining source.old) (S.remaining source.new) }
+    ensures stopped { StopsWhole graphics_at place result
+        (S.remaining source.old) (S.remaining source.new) }
+    ensures failures { CountsRead result (S.failures source.old) (S.failures source.new) }
+    ensures memory { IfErr result (λ fault. ¬ IsOutOfMemory fault) }
+{
+    let ahead = source.ahead();
+    if let Some((graphics, rest)) = take_graphics(ahead) {
+        let width = ahead.len() - rest.len();
+        source.skip(width);
+        return Ok((graphics, place.saturating_add(width as u64)));
+    }
+    read_registers(source, place)
 }

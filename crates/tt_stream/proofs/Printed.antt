@@ -7,7 +7,7 @@ use Rattle.std.proofs.Math.Seq.{take-add}
 use Rattle.std.proofs.lemmas.Bool.{cases_lt}
 use Rattle.std.proofs.lemmas.List.{take-append-drop, take-take, length-take-le}
 use Rattle.tt_stream.proofs.Windows.{length-take_cut}
-use Rattle.tt_stream.specs.Streams.{AppendsText, AppendsBeginning, AppendsBeginningOfText}
+use Rattle.tt_stream.specs.Streams.{AppendsText, AppendsBeginning, AppendsBeginningOfText, AppendsOnly}
 
 -- the window shows the text after its first skip bytes
 abbrev pub Shows : Option (List ℕ) → ℕ → ℕ → List ℕ → Type 0
@@ -50,3 +50,7 @@ printed_part (Some t) old mid new room skip kept before shows part = record {
   appended = subst (Appends old new) (ap (λ l. take skip t ++ take part.count l) shows ∙ ap (λ l. take skip t ++ l) (take-of_take part.count room (drop skip t)) ∙ sym (take-add skip (min part.count room) t))
       (Appends-trans old mid new (take skip t) (take part.count kept) before part.appended);
 }
+
+-- more bytes are appended after others
+pub kept_then : (a b c : Option (List ℕ)) (bytes : List ℕ) → AppendsOnly a b → Appends b c bytes → AppendsOnly a c
+kept_then a b c bytes before appended = record { bytes = before.bytes ++ bytes; appended = Appends-trans a b c before.bytes bytes before.appended appended }

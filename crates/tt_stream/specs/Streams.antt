@@ -18,6 +18,11 @@ pub record AppendsBeginning (old new : Option (List ℕ)) (bytes : List ℕ) : T
   pub count : ℕ
   pub appended : Appends old new (take count bytes)
 
+-- what was held stays, and bytes, perhaps none, come after it
+pub record AppendsOnly (old new : Option (List ℕ)) : Type 0 where
+  pub bytes : List ℕ
+  pub appended : Appends old new bytes
+
 -- the text, where it is known, was written
 abbrev pub AppendsText : Option (List ℕ) → Option (List ℕ) → Option (List ℕ) → Type 0
 AppendsText text old new = IfSome text (Appends old new)

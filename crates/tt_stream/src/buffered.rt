@@ -11,7 +11,7 @@ use std::alloc::{AllocError, Global};
 use std::marker::Model;
 
 /// How many bytes are read ahead at a time.
-const ROOM: usize = 65_536;
+const ROOM: usize = 262_144;
 
 /// A source that reads many bytes at a time from another one, and keeps them until they are asked
 /// for. That one is called only where bytes are asked for and none are kept, and then once.

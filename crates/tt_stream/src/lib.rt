@@ -4,7 +4,7 @@
 ghost use Rattle.std.specs.Prelude.{◌≡◌, ℕ, ◌+◌, ◌<◌, ◌≤◌, List, [], Option, drop, length, take, IfOk, IfSome, OnErr, OnOk};
 ghost use Rattle.std.specs.Io.{ReadsAtMost, StartsWith, WritesAtMost};
 ghost use Rattle.std.specs.Io.KnownBytes.{Consumes, ReadConsumes, WriteAppends, Appends};
-ghost use Rattle.tt_stream.specs.Streams.{AppendsBeginning, AppendsBeginningOfText, AppendsText, CountsFailure, CountsPrintFailure, Tally};
+ghost use Rattle.tt_stream.specs.Streams.{AppendsBeginning, AppendsBeginningOfText, AppendsOnly, AppendsText, CountsFailure, CountsPrintFailure, Tally};
 
 mod buffered;
 mod bytes;
@@ -98,6 +98,7 @@ pub trait Sink {
             (AppendsText (D.output text) (contents self.old) (contents self.new)) }
         ensures beginning { OnErr result
             (AppendsBeginningOfText (D.output text) (contents self.old) (contents self.new)) }
+        ensures kept { AppendsOnly (contents self.old) (contents self.new) }
         ensures failures { CountsPrintFailure result (failures self.old) (failures self.new) }
     {
         print(self, &text)

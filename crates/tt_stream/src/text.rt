@@ -1,7 +1,7 @@
 //! Printing to a sink without allocating: a text is rendered a window at a time.
 
 ghost use Rattle.std.specs.Prelude.{◌≡◌, ◌≤◌, [], length, take, drop, IfSome, IfErr, OnOk, IfOk, OnErr};
-ghost use Rattle.tt_stream.specs.Streams.{AppendsText, AppendsBeginningOfText, CountsPrintFailure};
+ghost use Rattle.tt_stream.specs.Streams.{AppendsText, AppendsBeginningOfText, AppendsOnly, CountsPrintFailure};
 ghost use Rattle.tt_stream.specs.declared.text.TheConstants.{ROOM};
 ghost use Rattle.tt_stream.specs.Representation.Windows.{Part, TakesPiece};
 
@@ -117,6 +117,7 @@ pub fn print<W: Sink, D: Display>(sink: &mut W, value: &D) -> Result<(), PrintFa
         (AppendsText (D.output value.now) (W.contents sink.old) (W.contents sink.new)) }
     ensures beginning { OnErr result
         (AppendsBeginningOfText (D.output value.now) (W.contents sink.old) (W.contents sink.new)) }
+    ensures kept { AppendsOnly (W.contents sink.old) (W.contents sink.new) }
     ensures failures { CountsPrintFailure result (W.failures sink.old) (W.failures sink.new) }
 {
     let mut skip = 0usize;

@@ -18,8 +18,9 @@ use std::sync::ledger::{Blank, Ledger};
 use tt_stream::{Counted, read_all};
 
 /// How many bytes of a certificate are written at a time: those of many sections, since most are
-/// short. With a write for each section the system takes half as long again.
-pub(super) const ROOM: usize = 65_536;
+/// short. With a write for each section the system takes half as long again, and with writes of an
+/// eighth of this a quarter.
+pub(super) const ROOM: usize = 524_288;
 
 /// Returns the bytes that are left in the file.
 fn read_file<L: Ledger, F: Read + Drop>(

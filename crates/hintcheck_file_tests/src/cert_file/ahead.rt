@@ -88,10 +88,10 @@ fn long_section(alloc: Global, cells: u16, functions: u16) -> Result<Vec<u8>, Al
 
 #[test]
 fn states_longer_than_what_is_ahead(rt: HostRuntime) {
-    for (cells, functions) in [(20_000, 2), (2, 20_000), (20_000, 20_000)] {
+    for (cells, functions) in [(60_000, 2), (2, 60_000), (60_000, 60_000)] {
         let bytes = long_section(rt.alloc(), cells, functions).expect(&rt, "bytes");
         let after = (bytes.len() as u64).saturating_sub(1);
-        for step in [1000, 65_536, ALL] {
+        for step in [1000, 262_144, ALL] {
             let steps = Steps {
                 bytes: &bytes,
                 step,

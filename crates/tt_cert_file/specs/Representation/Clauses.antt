@@ -1,9 +1,9 @@
 -- What clauses of private functions say again and again: how a unit is read, and that a text is
 -- appended.
-use Rattle.std.specs.Prelude.{◌≡◌, ℕ, List, [], ◌∷◌, ◌++◌, Option, Result, IfErr, OnOk}
+use Rattle.std.specs.Prelude.{◌≡◌, ℕ, true, List, [], ◌∷◌, ◌++◌, Option, is_some, Result, Ok, Err, IfErr, OnOk}
 use Rattle.tt_cert.specs.Contents.{Contents, IsFamily}
 use Rattle.tt_cert_file.specs.declared.fault.DecodeFault.{DecodeFault}
-use Rattle.tt_cert_file.specs.Answers.{Gives, StopsAtEnd, input_at}
+use Rattle.tt_cert_file.specs.Answers.{Fails, Gives, StopsAtEnd, input_at}
 use Rattle.tt_cert_file.specs.declared.form.Form.{Form}
 use Rattle.tt_cert_file.specs.Readers.{Answer, Input, list_at}
 use Rattle.tt_cert_file.specs.Reading.{entry_at}
@@ -21,6 +21,20 @@ abbrev pub ReadsBy : {Y : Type 0} → (Input → Answer Y) → ℕ → Result (Y
     → Option (List ℕ) → Option (List ℕ) → Type 0
 ReadsBy read place result old new = ReadsAs (λ y. y) read place result old new
 
+-- where the source tells its bytes, the value and the place in the answer are what reading gives,
+-- except for failed reads and out of memory
+abbrev pub GivesInto : {Y : Type 0} → Y → Option (List ℕ) → Option (List ℕ) → Result ℕ DecodeFault
+    → Answer Y → Type 0
+GivesInto value old new (Ok after) read = is_some old ≡ true
+    → (is_some new ≡ true) × (read ≡ Ok (value, input_at after new))
+GivesInto value old new (Err e) read = is_some old ≡ true → Fails e read
+
+-- the same of reading at the place
+abbrev pub ReadsInto : {Y : Type 0} → Y → (Input → Answer Y) → ℕ → Result ℕ DecodeFault
+    → Option (List ℕ) → Option (List ℕ) → Type 0
+ReadsInto value read place result old new =
+    GivesInto value old new result (read (input_at place old))
+
 -- where a read failed, and the source tells its bytes, no unit that was read whole breaks a rule
 abbrev pub StopsWhole : {X Y : Type 0} → (Input → Answer Y) → ℕ → Result X DecodeFault
     → Option (List ℕ) → Option (List ℕ) → Type 0
@@ -29,6 +43,12 @@ StopsWhole read place result old new = IfErr result (StopsAtEnd place old new re
 -- `count` states with their points, each in one of `contexts` contexts
 abbrev pub entries_at : Form → ℕ → ℕ → Input → Answer (List Entry)
 entries_at form contexts count i = list_at (entry_at form contexts) [] count i
+
+-- the bytes begin with the text of a value that has one, and these are left
+pub record BeginsWith {A : Type 0} (spell : A → List ℕ) (HasText : A → Type 0) (bytes : List ℕ)
+    (x : A) (left : List ℕ) : Type 0 where
+  pub begins : bytes ≡ spell x ++ left
+  pub fits : HasText x
 
 -- the text is appended, unless memory runs out
 abbrev pub Pushes : {X E : Type 0} → List ℕ → Result X E → List ℕ → List ℕ → Type 0

@@ -1,6 +1,6 @@
 -- The text of a stack that is kept for the next one. Only private contracts of reading and of
 -- writing need it.
-use Rattle.std.specs.Prelude.{◌≡◌, ℕ, zero, suc, ◌≤◌, List, length, slice_index, take}
+use Rattle.std.specs.Prelude.{◌≡◌, ℕ, zero, suc, ◌≤◌, List, ◌++◌, length, slice_index, take}
 use Rattle.std.specs.List.{flat_map}
 use Rattle.tt_abs.specs.declared.cells.Cell.{Cell}
 use Rattle.tt_cert_file.specs.Text.{cell_text}
@@ -23,6 +23,12 @@ pub record AreCellsKept (text ends : List ℕ) (cells : List Cell) : Type 0 wher
 -- this is the text of these cells
 abbrev pub IsStackText : StackText → List Cell → Type 0
 IsStackText t cells = AreCellsKept t.cells.items t.ends.items cells
+
+-- more cells come after others, and after a text of `width` bytes these bytes, which are their texts
+abbrev pub KeepsMore : ℕ → List ℕ → List ℕ → List ℕ → List Cell → List Cell → Type 0
+KeepsMore width bytes ends now_ends cells now = (text : List ℕ) (below : List Cell)
+    → length text ≡ width → AreCellsKept text ends (below ++ cells)
+    → AreCellsKept (text ++ bytes) now_ends (below ++ now)
 
 -- no text of a cell ends after this text
 pub record AreWithin (text ends : List ℕ) : Type 0 where

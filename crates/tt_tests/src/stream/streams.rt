@@ -139,8 +139,8 @@ fn read_steps_ahead<L: Ledger>(alloc: Global, steps: Steps<'_>, blank: Blank) ->
 
 #[test]
 fn reads_all_ahead(rt: HostRuntime) -> Result<(), Fail> {
-    let bytes = b"ab".repeat(rt.alloc(), 40_000)?;
-    for step in [1, 65_535, 65_536, 100_000] {
+    let bytes = b"ab".repeat(rt.alloc(), 160_000)?;
+    for step in [1, 262_143, 262_144, 400_000] {
         for fails in [false, true] {
             let steps = Steps {
                 bytes: &bytes,

@@ -37,7 +37,7 @@ returns-in_err-add_state-clause-beginning g c = consumes_then _ _ _ c.states.inv
 pub states-preserved : goal.states-preserved
 states-preserved g c =
     let same = ap (λ (read : Input → Answer Entry). read (input_at c.states.at (g.S.Source.remaining c.states.source))) (entry_same c.args.form c.contexts-contexts.result (length c.args.builder.contexts) c.states.last c.states.builder.states c.contexts-contexts.ensures.value c.states.invariant.2) in
-    let entry : Entry = (c.in_ok-point.point, c.in_ok-point.read.state) in (
+    let entry : Entry = (c.in_ok-point.point, c.read_entry.new.state.state) in (
       reads_on (entry_at c.args.form (length c.args.builder.contexts)) _ _ _ _ c.states.builder.states _ c.args.count c.states.counter c.states.at c.in_ok-point.after _ _ _ entry
           (entry_steady c.args.form (length c.args.builder.contexts) c.states.builder.states)
           c.states.invariant.0 c.states-test.true (λ k. let r = c.in_ok-point.ensures.reads k in (r.0, sym same ∙ r.1)) c.read_entry.ensures.beginning c.in_ok-point.ensures.failures

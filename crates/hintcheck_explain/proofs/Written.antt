@@ -1,0 +1,15 @@
+-- Bytes that are written after a line.
+use Rattle.std.proofs.Common.{List, [], ℕ, ◌++◌, Option, append-nil, append_assoc, subst, sym}
+use Rattle.std.specs.Io.KnownBytes.{Appends}
+use Rattle.std.proofs.KnownBytes.{Appends-trans}
+use Rattle.tt_stream.specs.Streams.{AppendsOnly}
+use Rattle.hintcheck_explain.specs.Texts.{WritesFirst}
+
+pub first_line : (text : List ℕ) (a b : Option (List ℕ)) → Appends a b text → WritesFirst text a b
+first_line text a b written = record { others = []; written = subst (Appends a b) (sym (append-nil text)) written }
+
+pub first_then : (text : List ℕ) (a b c : Option (List ℕ)) → WritesFirst text a b → AppendsOnly b c → WritesFirst text a c
+first_then text a b c first more = record {
+  others = first.others ++ more.bytes;
+  written = subst (Appends a c) (append_assoc text first.others more.bytes) (Appends-trans a b c (text ++ first.others) more.bytes first.written more.appended);
+}
