@@ -128,10 +128,10 @@ ahead_cells_taken old new ahead before now place after count used starts took co
               ∙ t.reads n tail ∙ ap (λ (p : ℕ). cells_at now n (here p (took.left ++ tail))) at_is ∙ ap (λ (l : List ℕ). cells_at now n (here after l)) (sym ys_is),
         )
 
--- all cells that are missing were read ahead
-pub more_all : (old new : Option (List ℕ)) (before now : List Cell) (place at count : ℕ) → ReadsMoreCells (Ok at) old new before now place count → length before < count
-    → length now ≡ count → ReadsCells (Ok at) old new before now place count
-more_all old new before now place at count more some all = (omega (arith, some, all), more.1, more.2)
+-- some cells were read ahead
+pub more_some : (old new : Option (List ℕ)) (before now : List Cell) (place at count : ℕ) → ReadsMoreCells (Ok at) old new before now place count → length before < length now
+    → ReadsCells (Ok at) old new before now place count
+more_some old new before now place at count more some = (some, more.1, more.2)
 
 -- other cells are read after those that are read ahead
 pub more_then : (r : Result ℕ DecodeFault) (old mid new : Option (List ℕ)) (before now next : List Cell) (place at count : ℕ) → ReadsMoreCells (Ok at) old mid before now place count

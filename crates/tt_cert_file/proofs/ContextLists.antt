@@ -188,3 +188,8 @@ parent_there contexts k d v rules lt is =
     let taken : length (take k contexts) ≡ k = length-take-le k contexts (omega arith) in
     let len = ap length is in
     omega arith
+
+-- one value is pushed
+pub pushed_same : {A : Type 0} (xs : List A) (x y : A) → xs ++ x ∷ [] ≡ xs ++ y ∷ [] → x ≡ y
+pushed_same [] x y e = cc
+pushed_same {A} (z ∷ xs) x y e = let rest : xs ++ x ∷ [] ≡ xs ++ y ∷ [] = cc in pushed_same xs x y rest

@@ -1,6 +1,6 @@
 //! Contexts of a section: read one after the other, each by the rules, and then added to a builder.
 
-ghost use Rattle.std.specs.Prelude.{◌≡◌, ◌<◌, ◌≤◌, ℕ, [], true, length, IfErr, IfOk, IfSome};
+ghost use Rattle.std.specs.Prelude.{◌≡◌, ◌<◌, ◌≤◌, ℕ, [], ◌∷◌, ◌++◌, true, length, vec_capacity, vec_len, IfErr, IfOk, IfSome, OnOk};
 ghost use Rattle.std.specs.Option.{option_copied};
 ghost use Rattle.tt_cert.specs.Built.{key_of as key_of_context};
 ghost use Rattle.tt_cert.specs.Contents.{IsFamily, frames_at};
@@ -8,11 +8,12 @@ ghost use Rattle.tt_cert.specs.Ascending.{IsFinished};
 ghost use Rattle.tt_cert.specs.Contexts.{frames_of};
 ghost use Rattle.tt_stream.specs.Reads.{ConsumesBeginning};
 ghost use Rattle.tt_cert_file.specs.Answers.{CountsRead, IsOutOfMemory};
-ghost use Rattle.tt_cert_file.specs.Representation.Clauses.{BeginsWith, IsEmptyBuilder, ReadsAs, ReadsBy, StopsWhole};
+ghost use Rattle.tt_cert_file.specs.Representation.Clauses.{BeginsWith, IsEmptyBuilder, ReadsAs, ReadsBy, ReadsOneMore, StopsWhole};
 ghost use Rattle.tt_cert_file.specs.Forms.{most_contexts};
 ghost use Rattle.tt_cert_file.specs.Readers.{list_at};
 ghost use Rattle.tt_cert_file.specs.Reading.{context_at, context_count_at, contexts_at};
 ghost use Rattle.tt_cert_file.specs.Rules.{AreContexts, HaveParents, NumbersFit, is_above_context, is_new_body as is_new_body_of, is_turn as is_turn_of, last_of, may_follow as may_follow_after};
+ghost use Rattle.tt_cert_file.specs.Sections.{Context};
 ghost use Rattle.tt_cert_file.specs.Text.{context_text};
 
 use crate::fault::DecodeFault;
@@ -138,35 +139,40 @@ fn take_context(bytes: &[u8]) -> Option<((u32, Frame), &[u8])>
     Some(((u32::from(parent), frame), rest))
 }
 
-/// Reads a context that comes after these, whose numbers start from 1: at once, where all of it is
-/// read ahead.
+/// Reads one more context, after those before it, whose numbers start from 1: at once, where all of
+/// it is read ahead. There is room for it. Returns the place after it.
 ///
 /// # Errors
 /// As `read_word`, and `Form` with the context's place if it may not come after these.
 fn read_context<S: Source>(
     source: &mut S,
     place: u64,
-    before: &[(u32, Frame)],
-) -> Result<((u32, Frame), u64), DecodeFault>
-    requires { HaveParents before.now }
-    ensures reads { ReadsBy (context_at before.now) place result
+    contexts: &mut Vec<(u32, Frame)>,
+) -> Result<u64, DecodeFault>
+    requires parents { HaveParents contexts.old.items }
+    requires room { vec_len contexts.old < vec_capacity contexts.old }
+    ensures reads { ReadsOneMore context_at contexts.old.items contexts.new.items place result
         (S.remaining source.old) (S.remaining source.new) }
-    ensures follows { IfOk result (λ r. may_follow_after before.now r.0 ≡ true) }
+    ensures follows { OnOk result ((x : Context) → contexts.new.items ≡ contexts.old.items ++ x ∷ []
+        → may_follow_after contexts.old.items x ≡ true) }
     ensures beginning { ConsumesBeginning (S.remaining source.old) (S.remaining source.new) }
-    ensures stopped { StopsWhole (context_at before.now) place result
+    ensures stopped { StopsWhole (context_at contexts.old.items) place result
         (S.remaining source.old) (S.remaining source.new) }
     ensures failures { CountsRead result (S.failures source.old) (S.failures source.new) }
     ensures memory { IfErr result (λ fault. ¬ IsOutOfMemory fault) }
 {
     let ahead = source.ahead();
     if let Some((context, rest)) = take_context(ahead)
-        && may_follow(before, &context)
+        && may_follow(contexts, &context)
     {
         let width = ahead.len() - rest.len();
+        contexts.push_reserved(context);
         source.skip(width);
-        return Ok((context, place.saturating_add(width as u64)));
+        return Ok(place.saturating_add(width as u64));
     }
-    read_numbers(source, place, before)
+    let (context, after) = read_numbers(source, place, contexts)?;
+    contexts.push_reserved(context);
+    Ok(after)
 }
 
 /// Reads how many contexts a section has besides the main one.
@@ -212,9 +218,8 @@ fn read_context_list<S: Source>(
     let mut contexts = Vec::new(alloc);
     let mut at = place;
     'contexts: for _ in 0..count {
-        let (context, after) = read_context(source, at, &contexts)?;
-        contexts.push(context)?;
-        at = after;
+        contexts.reserve(1)?;
+        at = read_context(source, at, &mut contexts)?;
     }
     Ok((contexts, at))
 }

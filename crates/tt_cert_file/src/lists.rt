@@ -1,6 +1,6 @@
 //! Lists of a section's states: cells of stacks, functions and storage cells.
 
-ghost use Rattle.std.specs.Prelude.{◌≡◌, ◌+◌, ◌-◌, ◌*◌, ◌^◌, ◌<◌, ◌≤◌, List, [], ◌++◌, false, true, length, take, IfErr, IfOk, OnErr, OnOk};
+ghost use Rattle.std.specs.Prelude.{◌≡◌, ◌+◌, ◌-◌, ◌*◌, ◌^◌, ◌<◌, ◌≤◌, List, [], ◌++◌, false, true, length, take, Ok, Err, IfErr, IfOk, OnErr, OnOk};
 ghost use Rattle.std.specs.Io.KnownBytes.{Keeps};
 ghost use Rattle.tt_abs.specs.declared.cells.Cell.{Cell as AnyCell};
 ghost use Rattle.tt_abs.specs.Entries.{Ascends};
@@ -9,7 +9,7 @@ ghost use Rattle.tt_stream.specs.Streams.{CountsFailure};
 ghost use Rattle.tt_cert_file.specs.Answers.{CountsRead, IsReadFault, IsOutOfMemory};
 ghost use Rattle.tt_cert_file.specs.Representation.Blocks.{AreKept, FillsOn, FillsRest, ReadsBlock, ReadsCells, ReadsMoreCells, ReadsRest, Takes, TakesCells, TakesSomeCells, cells_at, cells_up_to};
 ghost use Rattle.tt_cert_file.specs.Representation.Clauses.{ReadsBy, ReadsInto, StopsWhole};
-ghost use Rattle.tt_cert_file.specs.Representation.KeptTexts.{IsStackText, KeepsMore};
+ghost use Rattle.tt_cert_file.specs.Representation.KeptTexts.{IsStackText, KeepsCut};
 ghost use Rattle.tt_cert_file.specs.Readers.{list_at};
 ghost use Rattle.tt_cert_file.specs.Reading.{function_at, functions_at, storage_at, stored_at};
 ghost use Rattle.tt_cert_file.specs.Rules.{is_above, last_of};
@@ -27,7 +27,7 @@ const FUNCTION: usize = 6;
 
 /// How many functions, or bytes of cells, are read at a time. A state may list hundreds of each,
 /// and they are most of a certificate's bytes.
-const BLOCK: usize = 64;
+pub(crate) const BLOCK: usize = 64;
 
 /// Reads some more of the wanted bytes into the buffer in one call, after the `held` bytes that it
 /// already holds, and returns how many were read.
@@ -90,41 +90,46 @@ fn take_cells(cells: &mut Vec<Cell>, place: u64, bytes: &[u8]) -> Result<usize, 
     Ok(0)
 }
 
-/// Takes cells from the front of these bytes, after those before them, as far as they are whole,
-/// and until there are `count` in all. Appends where their texts end after a text of `start` bytes,
-/// and returns how many bytes they have.
+/// Cuts cells from the front of these bytes, as far as they are whole, at most `count` and as many
+/// as there is room for. Tells them, and where their texts end after a text of `start` bytes.
+/// Returns how many cells there are, and how many bytes they have.
 fn cut_cells(
-    cells: &mut Vec<Cell>,
-    ends: &mut Vec<usize>,
+    cells: &mut [Cell; BLOCK],
+    ends: &mut [usize; BLOCK],
     start: usize,
     place: u64,
     bytes: &[u8],
     count: usize,
-) -> Result<usize, DecodeFault>
-    requires few { length cells.old.items ≤ count }
+) -> Result<(usize, usize), DecodeFault>
     requires room { start + length bytes.now < 2 ^ 64 }
-    ensures takes { TakesSomeCells result
-        cells.old.items cells.new.items place bytes.now count }
-    ensures kept { IfOk result (λ used. KeepsMore start (take used bytes.now)
-        ends.old.items ends.new.items cells.old.items cells.new.items) }
+    ensures few { IfOk result (λ r. r.0 ≤ 64) }
+    ensures used { IfOk result (λ r. r.1 ≤ length bytes.now) }
+    ensures takes { IfOk result (λ r.
+        TakesSomeCells (Ok r.1) [] (take r.0 cells.new) place bytes.now count) }
+    ensures broken { IfErr result (λ fault.
+        TakesSomeCells (Err fault) [] [] place bytes.now count) }
+    ensures kept { IfOk result (λ r. KeepsCut start (take r.1 bytes.now)
+        (take r.0 ends.new) (take r.0 cells.new)) }
 {
+    let most = count.min(BLOCK);
     let mut left = bytes;
-    'cells: while cells.len() < count {
+    let mut taken = 0;
+    'cells: while taken < most {
         let Some((tag, rest)) = left.split_first() else {
-            return Ok(bytes.len() - left.len());
+            return Ok((taken, bytes.len() - left.len()));
         };
         match *tag {
             0 => {
-                cells.push(Cell::Unknown)?;
-                ends.push(start + (bytes.len() - rest.len()))?;
+                cells[taken] = Cell::Unknown;
+                ends[taken] = start + (bytes.len() - rest.len());
                 left = rest;
             }
             1 => {
                 let Some((number, after)) = rest.split_first_chunk::<4>() else {
-                    return Ok(bytes.len() - left.len());
+                    return Ok((taken, bytes.len() - left.len()));
                 };
-                cells.push(Cell::Known(i32::from_be_bytes(*number)))?;
-                ends.push(start + (bytes.len() - after.len()))?;
+                cells[taken] = Cell::Known(i32::from_be_bytes(*number));
+                ends[taken] = start + (bytes.len() - after.len());
                 left = after;
             }
             _ => {
@@ -132,53 +137,39 @@ fn cut_cells(
                 return Err(DecodeFault::Form(place.saturating_add(broken as u64)));
             }
         }
+        taken += 1;
     }
-    Ok(bytes.len() - left.len())
+    Ok((taken, bytes.len() - left.len()))
 }
 
-/// Takes cells from the front of these bytes, after those before them, as far as they are whole,
-/// and until there are `count` in all. Their texts come after the text. Returns how many bytes they
-/// have.
-fn take_some_cells(
-    cells: &mut Vec<Cell>,
-    text: &mut StackText,
-    place: u64,
-    bytes: &[u8],
-    count: usize,
-) -> Result<usize, DecodeFault>
-    requires { length cells.old.items ≤ count }
-    ensures takes { TakesSomeCells result
-        cells.old.items cells.new.items place bytes.now count }
-    ensures kept { (below : List AnyCell) → IsStackText text.old (below ++ cells.old.items)
-        → OnOk result (IsStackText text.new (below ++ cells.new.items)) }
-{
-    let start = text.cells.len();
-    let used = cut_cells(cells, &mut text.ends, start, place, bytes, count)?;
-    text.cells.extend_from_slice(&bytes[..used])?;
-    Ok(used)
-}
-
-/// Takes cells that are read ahead, after those before them, as far as they are whole, and until
-/// there are `count` in all. Their texts come after the text. Returns the place after them.
+/// Takes cells that are read ahead, as far as they are whole, at most `count` and as many as there
+/// is room for. Their texts come after the text. Returns how many there are, and the place after
+/// them.
 pub(crate) fn take_ahead_cells<S: Source>(
     source: &mut S,
     place: u64,
     count: usize,
-    cells: &mut Vec<Cell>,
+    cells: &mut [Cell; BLOCK],
     text: &mut StackText,
-) -> Result<u64, DecodeFault>
-    requires { length cells.old.items ≤ count }
-    ensures reads { ReadsMoreCells result (S.remaining source.old) (S.remaining source.new)
-        cells.old.items cells.new.items place count }
-    ensures kept { (below : List AnyCell) → IsStackText text.old (below ++ cells.old.items)
-        → OnOk result (IsStackText text.new (below ++ cells.new.items)) }
+) -> Result<(usize, u64), DecodeFault>
+    ensures few { IfOk result (λ r. r.0 ≤ 64) }
+    ensures reads { IfOk result (λ r. ReadsMoreCells (Ok r.1)
+        (S.remaining source.old) (S.remaining source.new) [] (take r.0 cells.new) place count) }
+    ensures broken { IfErr result (λ fault. ReadsMoreCells (Err fault)
+        (S.remaining source.old) (S.remaining source.new) [] [] place count) }
+    ensures kept { (below : List AnyCell) → IsStackText text.old below
+        → IfOk result (λ r. IsStackText text.new (below ++ take r.0 cells.new)) }
     ensures beginning { ConsumesBeginning (S.remaining source.old) (S.remaining source.new) }
     ensures no_read { IfErr result (λ fault. ¬ IsReadFault fault) }
     ensures failures { CountsRead result (S.failures source.old) (S.failures source.new) }
 {
-    let used = take_some_cells(cells, text, place, source.ahead(), count)?;
+    let mut ends = [0; BLOCK];
+    let ahead = source.ahead();
+    let (taken, used) = cut_cells(cells, &mut ends, text.cells.len(), place, ahead, count)?;
+    text.cells.extend_from_slice(&ahead[..used])?;
+    text.ends.extend_from_slice(&ends[..taken])?;
     source.skip(used);
-    Ok(place.saturating_add(used as u64))
+    Ok((taken, place.saturating_add(used as u64)))
 }
 
 /// Reads the rest of a known cell, of which the tag and the first bytes of the number, `begun`,

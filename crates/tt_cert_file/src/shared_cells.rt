@@ -13,7 +13,7 @@ ghost use Rattle.tt_cert_file.specs.Representation.KeptTexts.{AreWithin, IsStack
 ghost use Rattle.tt_cert_file.specs.Representation.SharedCells.{AreAhead, IsStackKept};
 
 use crate::fault::DecodeFault;
-use crate::lists::{read_cell_block, take_ahead_cells};
+use crate::lists::{BLOCK, read_cell_block, take_ahead_cells};
 use crate::stack_text::StackText;
 use crate::units::read_word;
 use std::alloc::{AllocError, Global};
@@ -28,9 +28,9 @@ const FEWER: usize = 8;
 #[derive(Drop)]
 pub(crate) struct LastStack {
     pub(crate) text: StackText,
-    /// Cells that were read because they aren't those of the stack before. The next ones are read
-    /// in their memory.
-    pub(crate) read: Vec<Cell>,
+    /// Cells that were read because they aren't those of the stack before, and weren't read ahead.
+    /// The next ones are read in their memory.
+    read: Vec<Cell>,
 }
 
 impl LastStack {
@@ -112,30 +112,30 @@ fn keep_cells(text: &mut StackText, cells: &[Cell]) -> Result<(), AllocError>
     Ok(())
 }
 
-/// Takes the cells that come next and are whole in what is read ahead, until the state has `count`,
-/// and puts them on its stack, whose text is kept. Returns the place after them.
+/// Takes cells that come next and are whole in what is read ahead, so that the state has at most
+/// `count`, and puts them on its stack, whose text is kept. Returns the place after them.
 fn take_new<S: Source>(
     source: &mut S,
     place: u64,
     count: usize,
     state: &mut State,
-    last: &mut LastStack,
+    text: &mut StackText,
 ) -> Result<u64, DecodeFault>
-    requires kept { IsStackKept last.old.text state.old }
+    requires kept { IsStackKept text.old state.old }
     requires few { length state.old.stack ≤ count }
     requires room { count ≤ 65535 }
     ensures reads { ReadsMoreCells result (S.remaining source.old) (S.remaining source.new)
         (reverse state.old.stack) (reverse state.new.stack) place count }
     ensures others { OnOk result (state.new ≡ record state.old { stack = state.new.stack }) }
-    ensures kept { OnOk result (IsStackKept last.new.text state.new) }
+    ensures kept { OnOk result (IsStackKept text.new state.new) }
     ensures beginning { ConsumesBeginning (S.remaining source.old) (S.remaining source.new) }
     ensures no_read { IfErr result (λ fault. ¬ IsReadFault fault) }
     ensures failures { CountsRead result (S.failures source.old) (S.failures source.new) }
 {
-    last.read.clear();
+    let mut cells = [Cell::Unknown; BLOCK];
     let missing = count - state.depth();
-    let after = take_ahead_cells(source, place, missing, &mut last.read, &mut last.text)?;
-    state.push_cells(&last.read)?;
+    let (taken, after) = take_ahead_cells(source, place, missing, &mut cells, text)?;
+    state.push_cells(&cells[..taken])?;
     Ok(after)
 }
 
@@ -191,8 +191,9 @@ fn read_new<S: Source>(
         (S.remaining source.old) (S.remaining source.new) }
     ensures failures { CountsRead result (S.failures source.old) (S.failures source.new) }
 {
-    let at = take_new(source, place, count, state, last)?;
-    if state.depth() == count {
+    let before = state.depth();
+    let at = take_new(source, place, count, state, &mut last.text)?;
+    if before < state.depth() {
         return Ok(at);
     }
     fetch_new(source, at, count, state, last)

@@ -35,6 +35,21 @@ abbrev pub ReadsInto : {Y : Type 0} → Y → (Input → Answer Y) → ℕ → R
 ReadsInto value read place result old new =
     GivesInto value old new result (read (input_at place old))
 
+-- one more value was read, and comes after those before it
+pub record IsOneMore {A : Type 0} (one : List A → Input → Answer A) (before now : List A)
+    (place after : ℕ) (old new : Option (List ℕ)) : Type 0 where
+  pub value : A
+  pub pushed : now ≡ before ++ value ∷ []
+  pub gives : is_some old ≡ true → (is_some new ≡ true)
+      × (one before (input_at place old) ≡ Ok (value, input_at after new))
+
+-- the same of an answer with the place after it, except for failed reads and out of memory
+abbrev pub ReadsOneMore : {A : Type 0} → (List A → Input → Answer A) → List A → List A → ℕ
+    → Result ℕ DecodeFault → Option (List ℕ) → Option (List ℕ) → Type 0
+ReadsOneMore one before now place (Ok after) old new = IsOneMore one before now place after old new
+ReadsOneMore one before now place (Err e) old new =
+    is_some old ≡ true → Fails e (one before (input_at place old))
+
 -- where a read failed, and the source tells its bytes, no unit that was read whole breaks a rule
 abbrev pub StopsWhole : {X Y : Type 0} → (Input → Answer Y) → ℕ → Result X DecodeFault
     → Option (List ℕ) → Option (List ℕ) → Type 0

@@ -1,6 +1,6 @@
 -- The text of a stack that is kept for the next one. Only private contracts of reading and of
 -- writing need it.
-use Rattle.std.specs.Prelude.{◌≡◌, ℕ, zero, suc, ◌≤◌, List, ◌++◌, length, slice_index, take}
+use Rattle.std.specs.Prelude.{◌≡◌, ℕ, zero, suc, ◌≤◌, List, [], ◌++◌, length, slice_index, take}
 use Rattle.std.specs.List.{flat_map}
 use Rattle.tt_abs.specs.declared.cells.Cell.{Cell}
 use Rattle.tt_cert_file.specs.Text.{cell_text}
@@ -29,6 +29,11 @@ abbrev pub KeepsMore : ℕ → List ℕ → List ℕ → List ℕ → List Cell 
 KeepsMore width bytes ends now_ends cells now = (text : List ℕ) (below : List Cell)
     → length text ≡ width → AreCellsKept text ends (below ++ cells)
     → AreCellsKept (text ++ bytes) now_ends (below ++ now)
+
+-- the same of cells that are cut from the front of bytes, whatever was kept before
+abbrev pub KeepsCut : ℕ → List ℕ → List ℕ → List Cell → Type 0
+KeepsCut width bytes ends cells =
+    (before : List ℕ) → KeepsMore width bytes before (before ++ ends) [] cells
 
 -- no text of a cell ends after this text
 pub record AreWithin (text ends : List ℕ) : Type 0 where

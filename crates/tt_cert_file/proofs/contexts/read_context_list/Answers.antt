@@ -3,39 +3,39 @@ use Rattle.std.proofs.lemmas.Result.{err_from_is_err_and}
 use Rattle.tt_stream.proofs.Beginnings.{consumes_then}
 use Rattle.tt_cert_file.specs.Reading.{context_at}
 use Rattle.tt_cert_file.proofs.Loops.{reads_all, reads_fail, reads_on, reads_stop}
-use Rattle.tt_cert_file.specs.Rules.{AreContexts, HaveParents}
+use Rattle.tt_cert_file.specs.Rules.{AreContexts}
 use Rattle.tt_cert_file.specs.Sections.{Context}
 use Rattle.tt_cert_file.proofs.ContextLists.{AreContexts-push, HaveParents-from}
 use Rattle.tt_cert_file.proofs.SteadyUnits.{context_steady}
 use Rattle.tt_cert_file.proofs.contexts.read_context_list.Goals as goal
 
-pub returns-in_err-context-clause-reads : goal.returns-in_err-context-clause-reads
-returns-in_err-context-clause-reads g c =
-    let p = err_from_is_err_and c.from_residual.result c.from_residual.ensures.1 in
-    rw (p.1, p.2) (λ known. reads_fail (context_at) _ _ _ c.contexts.contexts.items c.args.count c.contexts.counter c.contexts.at _ _ c.in_err-context.field-0.0 c.contexts.invariant.0 c.contexts-test.true (rw c.deref.ensures.value at c.in_err-context.ensures.reads) known)
+pub returns-in_err-at-clause-reads : goal.returns-in_err-at-clause-reads
+returns-in_err-at-clause-reads g c =
+    let p = err_from_is_err_and c.from_residual-in_err-at.result c.from_residual-in_err-at.ensures.1 in
+    rw (p.1, p.2) (λ known. reads_fail (context_at) _ _ _ c.contexts.contexts.items c.args.count c.contexts.counter c.contexts.at _ _ c.in_err-at.field-0.0 c.contexts.invariant.0 c.contexts-test.true (rw c.in_ok-reserve.ensures.items at c.in_err-at.ensures.reads) known)
 
-pub returns-in_err-context-clause-beginning : goal.returns-in_err-context-clause-beginning
-returns-in_err-context-clause-beginning g c = consumes_then _ _ _ c.contexts.invariant.0.beginning c.read_context.ensures.beginning
-
-pub returns-in_err-push-clause-beginning : goal.returns-in_err-push-clause-beginning
-returns-in_err-push-clause-beginning g c = consumes_then _ _ _ c.contexts.invariant.0.beginning c.read_context.ensures.beginning
+pub returns-in_err-at-clause-beginning : goal.returns-in_err-at-clause-beginning
+returns-in_err-at-clause-beginning g c = consumes_then _ _ _ c.contexts.invariant.0.beginning c.read_context.ensures.beginning
 
 pub contexts-preserved : goal.contexts-preserved
-contexts-preserved g c = (
-  reads_on (context_at) _ _ _ _ c.contexts.contexts.items _ c.args.count c.contexts.counter c.contexts.at c.in_ok-context.after _ _ _ c.in_ok-context.context (context_steady c.contexts.contexts.items) c.contexts.invariant.0 c.contexts-test.true (rw c.deref.ensures.value at c.in_ok-context.ensures.reads) c.read_context.ensures.beginning c.in_ok-context.ensures.failures c.in_ok-push.ensures.items,
-  (
-    omega (arith, c.contexts.invariant.1.0, ap length c.in_ok-push.ensures.items, length-append {A = Context}),
-    subst AreContexts (sym c.in_ok-push.ensures.items) (AreContexts-push _ _ c.contexts.invariant.1.1 (rw c.deref.ensures.value at c.in_ok-context.ensures.follows)),
-  ),
-)
+contexts-preserved g c =
+    let one = rw c.in_ok-reserve.ensures.items at c.in_ok-at.ensures.reads in
+    let follows = rw c.in_ok-reserve.ensures.items at c.in_ok-at.ensures.follows in (
+      reads_on (context_at) _ _ _ _ c.contexts.contexts.items _ c.args.count c.contexts.counter c.contexts.at c.in_ok-at.at _ _ _ one.value (context_steady c.contexts.contexts.items)
+          c.contexts.invariant.0 c.contexts-test.true one.gives c.read_context.ensures.beginning c.in_ok-at.ensures.failures one.pushed,
+      (
+        omega (arith, c.contexts.invariant.1.0, ap length one.pushed, length-append {A = Context}),
+        subst AreContexts (sym one.pushed) (AreContexts-push _ _ c.contexts.invariant.1.1 (follows one.value one.pushed)),
+      ),
+    )
 
 pub returns-clause-reads : goal.returns-clause-reads
 returns-clause-reads g c = reads_all (context_at) _ _ _ c.contexts.contexts.items c.args.count c.contexts.counter c.contexts.at _ _ c.contexts.invariant.0 c.contexts-test.false
 
-pub read_context-requires : goal.read_context-requires
-read_context-requires g c = subst HaveParents (sym c.deref.ensures.value) (HaveParents-from c.contexts.contexts.items c.contexts.invariant.1.1)
+pub read_context-requires-clause-parents : goal.read_context-requires-clause-parents
+read_context-requires-clause-parents g c = rw c.in_ok-reserve.ensures.items (HaveParents-from c.contexts.contexts.items c.contexts.invariant.1.1)
 
-pub returns-in_err-context-clause-stopped : goal.returns-in_err-context-clause-stopped
-returns-in_err-context-clause-stopped g c =
-    let p = err_from_is_err_and c.from_residual.result c.from_residual.ensures.1 in
-    rw (p.1, p.2) (reads_stop (context_at) _ _ _ _ c.contexts.contexts.items c.args.count c.contexts.counter c.contexts.at _ _ c.in_err-context.field-0.0 c.contexts.invariant.0 c.contexts-test.true (rw c.deref.ensures.value at c.in_err-context.ensures.stopped))
+pub returns-in_err-at-clause-stopped : goal.returns-in_err-at-clause-stopped
+returns-in_err-at-clause-stopped g c =
+    let p = err_from_is_err_and c.from_residual-in_err-at.result c.from_residual-in_err-at.ensures.1 in
+    rw (p.1, p.2) (reads_stop (context_at) _ _ _ _ c.contexts.contexts.items c.args.count c.contexts.counter c.contexts.at _ _ c.in_err-at.field-0.0 c.contexts.invariant.0 c.contexts-test.true (rw c.in_ok-reserve.ensures.items at c.in_err-at.ensures.stopped))

@@ -1,19 +1,20 @@
 use Rattle.std.proofs.Common.{arith, reverse}
 use Rattle.std.proofs.lemmas.List.{length-reverse}
 use Rattle.tt_stream.proofs.Beginnings.{consumes_then}
-use Rattle.tt_cert_file.proofs.Ahead.{more_all, more_then}
+use Rattle.tt_cert_file.proofs.Ahead.{more_some, more_then}
 use Rattle.tt_cert_file.proofs.Cells.{more_stops}
 use Rattle.tt_cert_file.proofs.shared_cells.read_new.Goals as goal
 
-pub returns-then-depth-count-clause-reads : goal.returns-then-depth-count-clause-reads
-returns-then-depth-count-clause-reads g c =
+pub returns-then-before-depth-clause-reads : goal.returns-then-before-depth-clause-reads
+returns-then-before-depth-clause-reads g c =
     let was = c.args.state.now.stack in
     let now = c.take_new.new.state.stack in
-    more_all _ _ (reverse was) (reverse now) c.args.place _ c.args.count c.in_ok-at.ensures.reads (omega (arith, c.requires.some, length-reverse was))
-    (omega (arith, c.if-depth-count.true, c.depth.ensures, length-reverse now))
+    more_some _ _ (reverse was) (reverse now) c.args.place _ c.args.count c.in_ok-at.ensures.reads
+    (omega (arith, c.if-before-depth.true, c.depth-before.ensures, c.depth.ensures, length-reverse was, length-reverse now))
 
 pub fetch_new-requires-clause-some : goal.fetch_new-requires-clause-some
-fetch_new-requires-clause-some g c = omega (arith, c.if-depth-count.false, c.depth.ensures, c.in_ok-at.ensures.reads.1, length-reverse c.take_new.new.state.stack)
+fetch_new-requires-clause-some g c =
+    omega (arith, c.if-before-depth.false, c.depth-before.ensures, c.depth.ensures, c.requires.some)
 
 pub returns-clause-reads : goal.returns-clause-reads
 returns-clause-reads g c =
