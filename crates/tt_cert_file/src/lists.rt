@@ -91,8 +91,8 @@ fn take_cells(cells: &mut Vec<Cell>, place: u64, bytes: &[u8]) -> Result<usize, 
 }
 
 /// Cuts cells from the front of these bytes, as far as they are whole, at most `count` and as many
-/// as there is room for. Tells them, and where their texts end after a text of `start` bytes.
-/// Returns how many cells there are, and how many bytes they have.
+/// as there is room for: into `cells`, and where the text of each ends, after a text of `start`
+/// bytes, into `ends`. Returns how many cells there are, and how many bytes they have.
 fn cut_cells(
     cells: &mut [Cell; BLOCK],
     ends: &mut [usize; BLOCK],
@@ -143,8 +143,8 @@ fn cut_cells(
 }
 
 /// Takes cells that are read ahead, as far as they are whole, at most `count` and as many as there
-/// is room for. Their texts come after the text. Returns how many there are, and the place after
-/// them.
+/// is room for, and appends their texts to the text. Returns how many there are, and the place
+/// after them.
 pub(crate) fn take_ahead_cells<S: Source>(
     source: &mut S,
     place: u64,
