@@ -1,6 +1,6 @@
 -- Cells of which those on top are kept as codes, the bottom first.
 use Rattle.std.specs.Prelude.{reverse, remove}
-use Rattle.std.proofs.Common.{◌≡◌, ◌≢◌, ℕ, zero, suc, ◌+◌, ◌-◌, ◌<◌, ◌≤◌, List, [], ◌∷◌, ◌++◌, get_or, refl, sym, ◌∙◌, ap, subst, arith, inl, inr, length, take, drop, set, length-append, append_assoc}
+use Rattle.std.proofs.Common.{◌≡◌, ◌≢◌, ℕ, zero, suc, ◌+◌, ◌-◌, ◌<◌, ◌≤◌, List, [], ◌∷◌, ◌++◌, get_or, refl, sym, ◌∙◌, ap, subst, arith, inl, inr, length, take, drop, set, length-append, append_assoc, get_or-drop, take-add}
 use Rattle.std.specs.List.{refill}
 use Rattle.std.proofs.Math.ListN.{length-take}
 use Rattle.std.proofs.Math.Seq.{drop-append_seam, take-append-add, take-append_seam}
@@ -234,3 +234,25 @@ share_all a b n long same = record {
   enough_there = omega (arith, long, ap length same);
   same = ap (λ (l : List Cell). take n (reverse l)) same;
 }
+
+-- one more block of codes
+pub more_codes : (old now new block : List ℕ) (cells rest : List Cell) (done count : ℕ) → new ≡ now ++ block → cells_of now ≡ cells_of old ++ take done cells
+    → cells_of block ≡ take count rest → rest ≡ drop done cells → cells_of new ≡ cells_of old ++ take (done + count) cells
+more_codes old now new block cells rest done count new_is before one rest_is =
+    ap cells_of new_is ∙ map-append cell_of_code now block ∙ ap (λ (l : List Cell). l ++ cells_of block) before
+    ∙ ap (λ (l : List Cell). (cells_of old ++ take done cells) ++ l) (one ∙ ap (take count) rest_is) ∙ append_assoc (cells_of old) (take done cells) (take count (drop done cells))
+    ∙ ap (λ (l : List Cell). cells_of old ++ l) (sym (take-add done count cells))
+
+pub more_in_range : (cells rest : List Cell) (done count : ℕ) → ((k : ℕ) → k < done → CellInRange (cell_at cells k)) → ((k : ℕ) → k < count → CellInRange (cell_at rest k))
+    → rest ≡ drop done cells → (k : ℕ) → k < done + count → CellInRange (cell_at cells k)
+more_in_range cells rest done count before more rest_is k lt = elim (cases_lt k done) [
+  | inl less ↦ before k less
+  | inr past ↦
+      let there : k ≡ done + (k - done) = omega arith in
+      let same : cell_at rest (k - done) ≡ cell_at cells k = ap (λ (l : List Cell). cell_at l (k - done)) rest_is ∙ rw get_or-drop (ap (cell_at cells) (sym there)) in
+      subst CellInRange same (more (k - done) (omega (arith, lt)))
+]
+
+-- all that come after some
+pub all_after : (cells : List Cell) (done : ℕ) → take (length cells - done) (drop done cells) ≡ drop done cells
+all_after cells done = take_all (length cells - done) (drop done cells) (omega (arith, length-drop done cells))

@@ -14,6 +14,9 @@ use smallvec::SmallVec;
 /// How many codes need no allocation.
 pub const INLINE_CELLS: usize = 32;
 
+/// How many codes are made at a time.
+const BLOCK: usize = 64;
+
 /// The codes of cells, the bottom first.
 pub type Codes = SmallVec<u16, INLINE_CELLS>;
 
@@ -129,18 +132,41 @@ pub fn append_bytes(codes: &mut Codes, bytes: &[u8])
     }
 }
 
-/// Appends a code, for which there is room.
-fn append_code(codes: &mut Codes, code: u16)
-    requires { HasRoomFor codes.old 1 }
-    ensures cells { cells_of codes.new.items ≡ cells_of codes.old.items ++ cell_of_code code ∷ [] }
-    ensures len { small_vec_len codes.new ≡ small_vec_len codes.old + 1 }
-    ensures capacity { codes.new.capacity ≡ codes.old.capacity }
+/// Sets the first places to the codes of the first cells, as many as there is room for, up to the
+/// first cell that has none, and returns how many there are.
+fn code_cells(codes: &mut [u16; BLOCK], cells: &[Cell]) -> usize
+    ensures count { result ≤ length cells.now }
+    ensures few { result ≤ 64 }
+    ensures stop { result < length cells.now → result < 64
+        → HasNoCode (cell_at cells.now result) }
+    ensures cells { cells_of (take result codes.new) ≡ take result cells.now }
+    ensures in_range { (k : ℕ) → k < result → CellInRange (cell_at cells.now k) }
 {
-    codes.push_reserved(code);
+    let most = cells.len().min(BLOCK);
+    for i in 0..most {
+        let Some(code) = code_of(cells[i]) else {
+            return i;
+        };
+        codes[i] = code;
+    }
+    most
+}
+
+/// Appends codes, for which there is room.
+fn append_block(codes: &mut Codes, block: &[u16])
+    requires { HasRoomFor codes.old (length block.now) }
+    ensures items { codes.new.items ≡ codes.old.items ++ block.now }
+    ensures capacity { codes.old.capacity ≤ codes.new.capacity }
+{
+    match codes.extend_from_slice(block) {
+        Ok(()) => {}
+        // There is room for them.
+        Err(_) => unreachable!(),
+    }
 }
 
 /// Appends the codes of cells, for which there is room, up to the first cell that has none, and
-/// returns how many codes were appended.
+/// returns how many codes were appended. They are made many at a time, and then copied at once.
 pub fn append_codes(codes: &mut Codes, cells: &[Cell]) -> usize
     requires { HasRoomFor codes.old (length cells.now) }
     ensures count { result ≤ length cells.now }
@@ -149,14 +175,17 @@ pub fn append_codes(codes: &mut Codes, cells: &[Cell]) -> usize
     ensures len { small_vec_len codes.new ≡ small_vec_len codes.old + result }
     ensures in_range { (k : ℕ) → k < result → CellInRange (cell_at cells.now k) }
 {
-    for i in 0..cells.len() {
-        let cell = cells[i];
-        let Some(code) = code_of(cell) else {
-            return i;
-        };
-        append_code(codes, code);
+    let mut block = [0; BLOCK];
+    let mut done = 0;
+    'blocks: while done < cells.len() {
+        let count = code_cells(&mut block, &cells[done..]);
+        append_block(codes, &block[..count]);
+        done += count;
+        if count < BLOCK {
+            return done;
+        }
     }
-    cells.len()
+    done
 }
 
 /// Appends the codes' cells, for which there is room.
