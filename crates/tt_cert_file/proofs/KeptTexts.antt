@@ -1,14 +1,14 @@
 -- The text of a stack that is kept for the next one: cut, and with one more cell.
-use Rattle.std.proofs.Common.{◌≡◌, ℕ, zero, suc, ◌+◌, ◌-◌, ◌≤◌, List, [], ◌∷◌, ◌++◌, length, take, drop, Ok, Err, inl, inr, refl, sym, ap, subst, ◌∙◌, arith, append-nil, append_assoc, take-append-drop, take_all}
-use Rattle.std.specs.Prelude.{OnOk, Result}
+use Rattle.std.proofs.Common.{◌≡◌, ℕ, zero, suc, ◌+◌, ◌-◌, ◌≤◌, List, [], ◌∷◌, ◌++◌, length, take, drop, set, Ok, Err, inl, inr, refl, sym, ap, subst, ◌∙◌, arith, append-nil, append_assoc, take-append-drop, take_all}
+use Rattle.std.specs.Prelude.{OnOk, Result, Some, slice_get}
 use Rattle.std.specs.List.{flat_map}
 use Rattle.std.proofs.lemmas.Bool.{cases_lt}
-use Rattle.std.proofs.lemmas.Grind.{flat_map-append}
-use Rattle.std.proofs.lemmas.List.{length-append, length-take, take-append-le, take_at, get_or-take}
+use Rattle.std.proofs.lemmas.Grind.{flat_map-append, take-set_at}
+use Rattle.std.proofs.lemmas.List.{length-append, length-set, length-take, take-append-le, take_at, get_or-take}
 use Rattle.std.proofs.Math.ListN.{get_or-append}
 use Rattle.std.proofs.Math.Seq.{get_or-append_seam, take-add}
 use Rattle.tt_abs.specs.declared.cells.Cell.{Cell}
-use Rattle.tt_cert_file.specs.Representation.KeptTexts.{AreCellsKept, AreWithin, KeepsMore, end_of}
+use Rattle.tt_cert_file.specs.Representation.KeptTexts.{AreCellsKept, AreWithin, KeepsCut, KeepsMore, end_of}
 use Rattle.tt_cert_file.specs.Text.{cell_text}
 use Rattle.tt_cert_file.proofs.Blocks.{suffix_fits}
 
@@ -124,6 +124,53 @@ keeps_next width end bytes left rest ends now_ends next_ends cells now next x ke
     let more : AreCellsKept (text ++ take m bytes) next_ends ((below ++ now) ++ x ∷ []) =
     kept_more (text ++ take n bytes) now_ends (text ++ take m bytes) next_ends end (below ++ now) x (keeps text below len kept) now_is ends_is long in
     subst (AreCellsKept (text ++ take m bytes) next_ends) (append_assoc below now (x ∷ []) ∙ ap (λ (l : List Cell). below ++ l) (sym next_is)) more
+
+-- what is after the lowest cells
+pub got_after : (cells : List Cell) (from i : ℕ) (x : Cell) → slice_get cells (from + i) ≡ Some x → slice_get (drop from cells) i ≡ Some x
+got_after cells zero i x at = let n : i ≡ 0 + i = omega arith in ap (slice_get cells) n ∙ at
+got_after [] (suc from) i x at = cc
+got_after (c ∷ cells) (suc from) i x at = let n : suc (from + i) ≡ suc from + i = omega arith in got_after cells from i x (ap (slice_get (c ∷ cells)) n ∙ at)
+
+-- one more cell is spelled
+pub keeps_spelled : (start end : ℕ) (bytes ends : List ℕ) (cells : List Cell) (x : Cell) → KeepsCut start bytes ends cells → end ≡ start + length bytes + length (cell_text x)
+    → KeepsCut start (bytes ++ cell_text x) (ends ++ end ∷ []) (cells ++ x ∷ [])
+keeps_spelled start end bytes ends cells x keeps end_is = λ before text below len kept.
+    let long : end ≡ length ((text ++ bytes) ++ cell_text x) = omega (arith, end_is, len, length-append (text ++ bytes) (cell_text x), length-append text bytes) in
+    let more : AreCellsKept ((text ++ bytes) ++ cell_text x) ((before ++ ends) ++ end ∷ []) ((below ++ cells) ++ x ∷ []) =
+    kept_more (text ++ bytes) (before ++ ends) ((text ++ bytes) ++ cell_text x) ((before ++ ends) ++ end ∷ []) end (below ++ cells) x (keeps before text below len kept) refl refl long in
+    subst (λ (t : List ℕ). AreCellsKept t (before ++ (ends ++ end ∷ [])) (below ++ (cells ++ x ∷ []))) (append_assoc text bytes (cell_text x))
+    (subst (λ (e : List ℕ). AreCellsKept ((text ++ bytes) ++ cell_text x) e (below ++ (cells ++ x ∷ []))) (append_assoc before ends (end ∷ []))
+    (subst (AreCellsKept ((text ++ bytes) ++ cell_text x) ((before ++ ends) ++ end ∷ [])) (append_assoc below cells (x ∷ [])) more))
+
+-- the same of lists that were made so
+pub keeps_to : (start end : ℕ) (bytes bytes' ends ends' : List ℕ) (cells cells' : List Cell) (x : Cell) → KeepsCut start bytes ends cells → end ≡ start + length bytes'
+    → bytes' ≡ bytes ++ cell_text x → ends' ≡ ends ++ end ∷ [] → cells' ≡ cells ++ x ∷ [] → KeepsCut start bytes' ends' cells'
+keeps_to start end bytes bytes' ends ends' cells cells' x keeps end_is bytes_is ends_is cells_is =
+    let long : end ≡ start + length bytes + length (cell_text x) = omega (arith, end_is, ap length bytes_is, length-append bytes (cell_text x)) in
+    subst (λ (b : List ℕ). KeepsCut start b ends' cells') (sym bytes_is) (subst (λ (e : List ℕ). KeepsCut start (bytes ++ cell_text x) e cells') (sym ends_is)
+    (subst (KeepsCut start (bytes ++ cell_text x) (ends ++ end ∷ [])) (sym cells_is) (keeps_spelled start end bytes ends cells x keeps long)))
+
+-- five bytes are set, one after the other
+pub take_five : (l : List ℕ) (u x0 x1 x2 x3 x4 : ℕ) → u + 5 ≤ length l
+    → take (u + 5) (set (set (set (set (set l u x0) (u + 1) x1) (u + 2) x2) (u + 3) x3) (u + 4) x4) ≡ take u l ++ (x0 ∷ x1 ∷ x2 ∷ x3 ∷ x4 ∷ [])
+take_five l u x0 x1 x2 x3 x4 le =
+    let l0 = set l u x0 in
+    let l1 = set l0 (u + 1) x1 in
+    let l2 = set l1 (u + 2) x2 in
+    let l3 = set l2 (u + 3) x3 in
+    let n0 : length l0 ≡ length l = length-set l u x0 in
+    let n1 : length l1 ≡ length l0 = length-set l0 (u + 1) x1 in
+    let n2 : length l2 ≡ length l1 = length-set l1 (u + 2) x2 in
+    let n3 : length l3 ≡ length l2 = length-set l2 (u + 3) x3 in
+    let t0 : take (u + 1) l0 ≡ take u l ++ x0 ∷ [] = take-set_at l u (u + 1) x0 (omega arith) (omega (arith, le)) in
+    let t1 : take (u + 2) l1 ≡ take u l ++ (x0 ∷ x1 ∷ []) =
+    take-set_at l0 (u + 1) (u + 2) x1 (omega arith) (omega (arith, le, n0)) ∙ ap (λ (t : List ℕ). t ++ x1 ∷ []) t0 ∙ append_assoc (take u l) (x0 ∷ []) (x1 ∷ []) in
+    let t2 : take (u + 3) l2 ≡ take u l ++ (x0 ∷ x1 ∷ x2 ∷ []) =
+    take-set_at l1 (u + 2) (u + 3) x2 (omega arith) (omega (arith, le, n0, n1)) ∙ ap (λ (t : List ℕ). t ++ x2 ∷ []) t1 ∙ append_assoc (take u l) (x0 ∷ x1 ∷ []) (x2 ∷ []) in
+    let t3 : take (u + 4) l3 ≡ take u l ++ (x0 ∷ x1 ∷ x2 ∷ x3 ∷ []) =
+    take-set_at l2 (u + 3) (u + 4) x3 (omega arith) (omega (arith, le, n0, n1, n2)) ∙ ap (λ (t : List ℕ). t ++ x3 ∷ []) t2 ∙ append_assoc (take u l) (x0 ∷ x1 ∷ x2 ∷ []) (x3 ∷ []) in
+    take-set_at l3 (u + 4) (u + 5) x4 (omega arith) (omega (arith, le, n0, n1, n2, n3)) ∙ ap (λ (t : List ℕ). t ++ x4 ∷ []) t3
+    ∙ append_assoc (take u l) (x0 ∷ x1 ∷ x2 ∷ x3 ∷ []) (x4 ∷ [])
 
 pub on_more : {T E : Type 0} (r : Result T E) (P Q : Type 0) → OnOk r P → (P → Q) → OnOk r Q
 on_more (Ok x) P Q h f = f h

@@ -1,6 +1,6 @@
 //! Sections written to a sink, in form 4.
 
-ghost use Rattle.std.specs.Prelude.{◌≡◌, ◌++◌, ◌<◌, ◌^◌, FitsSigned, length, reverse, take, true, IfOk, IfSome, IsSomeAnd, OnErr, OnOk};
+ghost use Rattle.std.specs.Prelude.{◌≡◌, ◌+◌, ◌*◌, ◌++◌, ◌<◌, ◌≤◌, ◌^◌, FitsSigned, drop, length, reverse, take, true, IfOk, IfSome, IsSomeAnd, OnErr, OnOk};
 ghost use Rattle.std.specs.Int.{w32};
 ghost use Rattle.std.specs.Io.KnownBytes.{Appends};
 ghost use Rattle.std.specs.List.{AllByRecursion, flat_map};
@@ -12,13 +12,14 @@ ghost use Rattle.tt_cert.specs.Ascending.{IsFinished};
 ghost use Rattle.tt_stream.specs.Streams.{AppendsBeginning};
 ghost use Rattle.tt_cert_file.specs.Answers.{CountsWrite};
 ghost use Rattle.tt_cert_file.specs.Representation.Clauses.{Pushes};
-ghost use Rattle.tt_cert_file.specs.Representation.KeptTexts.{IsStackText};
+ghost use Rattle.tt_cert_file.specs.Representation.KeptTexts.{IsStackText, KeepsCut};
 ghost use Rattle.tt_cert_file.specs.Rules.{AreCallsInTurn, CallFits, Fits, HasRoom, IsTextOf, NameFits, StateFits};
 ghost use Rattle.tt_cert_file.specs.Sections.{contexts_in, section_of};
 ghost use Rattle.tt_cert_file.specs.Text.{cell_text, context_text, counted, graphics_text, long, name_text, pair_text, section_text, state_text, stored_text, word, zone_text};
 
 use crate::fault::EncodeFault;
 use crate::form::Form;
+use crate::lists::BLOCK;
 use crate::name::Name;
 use crate::stack_text::{StackText, push_cell};
 use std::alloc::{AllocError, Global};
@@ -124,14 +125,77 @@ fn keep_shared(text: &mut StackText, before: Option<&State>, state: &State) -> u
     shared
 }
 
+/// Spells `count` cells of a stack, after the `from` lowest ones: sets the first bytes to their
+/// texts, and the first ends to where these end after a text of `start` bytes. Returns how many
+/// bytes they have.
+fn spell_cells(
+    bytes: &mut [u8; 5 * BLOCK],
+    ends: &mut [usize; BLOCK],
+    start: usize,
+    state: &State,
+    from: usize,
+    count: usize,
+) -> usize
+    requires there { from + count ≤ length state.now.stack }
+    requires small { length state.now.stack < 2 ^ 16 }
+    requires few { count ≤ 64 }
+    requires room { start + 320 < 2 ^ 64 }
+    ensures few { result ≤ 5 * count }
+    ensures spelled { KeepsCut start (take result bytes.new) (take count ends.new)
+        (take count (drop from (reverse state.now.stack))) }
+{
+    let mut used = 0;
+    for i in 0..count {
+        let cell = state.cell(from + i).unwrap();
+        match cell {
+            Cell::Unknown => {
+                bytes[used] = 0;
+                used += 1;
+            }
+            Cell::Known(number) => {
+                let [b3, b2, b1, b0] = number.to_be_bytes();
+                bytes[used] = 1;
+                bytes[used + 1] = b3;
+                bytes[used + 2] = b2;
+                bytes[used + 3] = b1;
+                bytes[used + 4] = b0;
+                used += 5;
+            }
+        }
+        ends[i] = start + used;
+    }
+    used
+}
+
+/// Appends the texts of some of a stack's cells after the `place` lowest ones, whose text is there.
+/// Returns of how many cells the text is there then.
+fn push_some(text: &mut StackText, state: &State, place: usize) -> Result<usize, AllocError>
+    requires some { place < length state.now.stack }
+    requires small { length state.now.stack < 2 ^ 16 }
+    requires text { IsStackText text.old (take place (reverse state.now.stack)) }
+    ensures more { IfOk result (λ now. place < now) }
+    ensures few { IfOk result (λ now. now ≤ length state.now.stack) }
+    ensures text { IfOk result (λ now.
+        IsStackText text.new (take now (reverse state.now.stack))) }
+{
+    let mut bytes = [0; 5 * BLOCK];
+    let mut ends = [0; BLOCK];
+    let count = (state.depth() - place).min(BLOCK);
+    let used = spell_cells(&mut bytes, &mut ends, text.cells.len(), state, place, count);
+    text.cells.extend_from_slice(&bytes[..used])?;
+    text.ends.extend_from_slice(&ends[..count])?;
+    Ok(place + count)
+}
+
 /// Appends the text of a stack's cells after the `shared` lowest ones, whose text is there.
 fn push_others(text: &mut StackText, state: &State, shared: usize) -> Result<(), AllocError>
-    requires { IsStackText text.old (take shared (reverse state.now.stack)) }
+    requires text { IsStackText text.old (take shared (reverse state.now.stack)) }
+    requires small { length state.now.stack < 2 ^ 16 }
     ensures { OnOk result (IsStackText text.new (reverse state.now.stack)) }
 {
-    for place in shared..state.depth() {
-        let cell = state.cell(place).unwrap();
-        text.push(cell)?;
+    let mut place = shared;
+    'cells: while place < state.depth() {
+        place = push_some(text, state, place)?;
     }
     Ok(())
 }

@@ -1,6 +1,9 @@
-use Rattle.std.proofs.Common.{reverse, take}
+use Rattle.std.proofs.Common.{◌-◌, length, reverse, take}
 use Rattle.tt_cert_file.specs.Representation.KeptTexts.{IsStackText}
 use Rattle.tt_cert_file.proofs.writing.push_others.Given as goal
 
-abbrev pub invariant-loop-place : goal.invariant-loop-place
-invariant-loop-place l = IsStackText l.text (take l.place (reverse l.state.stack))
+abbrev pub invariant-cells : goal.invariant-cells
+invariant-cells l = IsStackText l.text (take l.place (reverse l.state.stack))
+
+abbrev pub decreases-cells : goal.decreases-cells
+decreases-cells l = length l.state.stack - l.place
