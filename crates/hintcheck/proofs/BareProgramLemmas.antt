@@ -5,8 +5,8 @@ use Rattle.tt_code.specs.Fonts.{Font}
 use Rattle.tt_code.specs.declared.limits.Limits.{Limits}
 use Rattle.tt_abs.specs.Settings.{programs_of}
 use Rattle.tt_abs.specs.declared.setting.Setting.{Setting}
-use Rattle.tt_cert.specs.declared.fault.ProgramFault.{ProgramFault}
-use Rattle.tt_cert.specs.declared.fault.ProgramFault.TheVariants as fault
+use Rattle.tt_family.specs.declared.fault.ProgramFault.{ProgramFault}
+use Rattle.tt_family.specs.declared.fault.ProgramFault.TheVariants as fault
 use Rattle.hintcheck.specs.BarePrograms.{IsJudged, font_around}
 use Rattle.hintcheck.specs.ProgramVerdicts.{IfRefused, IsAppendedRefusal}
 use Rattle.hintcheck.specs.Programs.{HasGoodFamily, HasLeastFamily, IsRefusal, Subject}

@@ -4,16 +4,16 @@ use Rattle.std.specs.Prelude.{◌==◌, Err}
 use Rattle.std.specs.Io.KnownBytes.{Appends}
 use Rattle.std.proofs.lemmas.Option.{slice_get_within}
 use Rattle.tt_code.specs.Cut.{Instruction}
-use Rattle.tt_cert.specs.Contents.{Contents}
-use Rattle.tt_cert.specs.Ascending.{IsFinished}
-use Rattle.tt_cert_file.specs.declared.form.Form.TheVariants.{Four}
-use Rattle.tt_cert_file.specs.declared.fault.EncodeFault.{EncodeFault}
-use Rattle.tt_cert_file.specs.declared.fault.EncodeFault.TheVariants as encode
-use Rattle.tt_cert_file.specs.declared.name.Name.{Name}
-use Rattle.tt_cert_file.specs.Answers.{CountsWrite}
-use Rattle.tt_cert_file.specs.Rules.{AreCallsInTurn, Fits}
-use Rattle.tt_cert_file.specs.Sections.{section_of}
-use Rattle.tt_cert_file.specs.Text.{header_text, section_text}
+use Rattle.tt_family.specs.Contents.{Contents}
+use Rattle.tt_family.specs.Ascending.{IsFinished}
+use Rattle.tt_cert.specs.declared.form.Form.TheVariants.{Four}
+use Rattle.tt_cert.specs.declared.fault.EncodeFault.{EncodeFault}
+use Rattle.tt_cert.specs.declared.fault.EncodeFault.TheVariants as encode
+use Rattle.tt_cert.specs.declared.name.Name.{Name}
+use Rattle.tt_cert.specs.Answers.{CountsWrite}
+use Rattle.tt_cert.specs.Rules.{AreCallsInTurn, Fits}
+use Rattle.tt_cert.specs.Sections.{section_of}
+use Rattle.tt_cert.specs.Text.{header_text, section_text}
 use Rattle.tt_find.specs.declared.finder.Found.{Found}
 use Rattle.tt_font.specs.Reading.{FontData, GlyphData}
 use Rattle.tt_stream.specs.Streams.{AppendsBeginning}

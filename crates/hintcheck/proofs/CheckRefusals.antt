@@ -10,14 +10,14 @@ use Rattle.tt_code.proofs.ProgramLemmas.{no_fault}
 use Rattle.tt_abs.specs.declared.setting.Setting.{Setting}
 use Rattle.tt_abs.specs.Settings.{setting_of}
 use Rattle.tt_abs.specs.StateFlow.{Place}
-use Rattle.tt_cert.specs.Checks.{IsOutOfMemory, Names}
-use Rattle.tt_cert.specs.Contents.{Contents, family_of}
-use Rattle.tt_cert.specs.Spots.{spot_of}
-use Rattle.tt_cert.specs.declared.fault.ProgramFault.{ProgramFault}
-use Rattle.tt_cert.specs.declared.fault.ProgramFault.TheVariants as fault
-use Rattle.tt_cert.specs.declared.spot.Spot.{Spot}
-use Rattle.tt_cert_file.specs.declared.form.Form.{Form}
-use Rattle.tt_cert_file.specs.declared.form.Form.TheVariants.{Two, Three, Four}
+use Rattle.tt_family.specs.Checks.{IsOutOfMemory, Names}
+use Rattle.tt_family.specs.Contents.{Contents, family_of}
+use Rattle.tt_family.specs.Spots.{spot_of}
+use Rattle.tt_family.specs.declared.fault.ProgramFault.{ProgramFault}
+use Rattle.tt_family.specs.declared.fault.ProgramFault.TheVariants as fault
+use Rattle.tt_family.specs.declared.spot.Spot.{Spot}
+use Rattle.tt_cert.specs.declared.form.Form.{Form}
+use Rattle.tt_cert.specs.declared.form.Form.TheVariants.{Two, Three, Four}
 use Rattle.hintcheck.specs.Certificates.{IsBreak, IsCheckRefusal, IsGoodListing, IsListingBrokenFirst, Passes, PassesToEnd, not_good}
 use Rattle.hintcheck.specs.CheckedFonts.{IsRefusedBy}
 use Rattle.hintcheck.specs.ProgramVerdicts.{IsSubjectOf, reported_at}

@@ -2,15 +2,15 @@
 use Rattle.std.proofs.Common.{◌≡◌, ◌≢◌, ℕ, zero, suc, ◌+◌, ◌<◌, List, [], ◌∷◌, ◌++◌, length, drop, Option, Some, Ok, Err, refl, sym, ◌∙◌, ap, subst, arith, append_assoc}
 use Rattle.std.specs.Prelude.{slice_get}
 use Rattle.std.proofs.lemmas.List.{drop_all}
-use Rattle.tt_cert.specs.Contents.{Contents}
-use Rattle.tt_cert.specs.Ascending.{IsFinished}
-use Rattle.tt_cert_file.specs.Answers.{CountsRead, GivesSection, input_at}
-use Rattle.tt_cert_file.specs.declared.fault.DecodeFault.{DecodeFault}
-use Rattle.tt_cert_file.specs.declared.fault.DecodeFault.TheVariants as decode
-use Rattle.tt_cert_file.specs.declared.form.Form.{Form}
-use Rattle.tt_cert_file.specs.declared.name.Name.{Name}
-use Rattle.tt_cert_file.specs.Reading.{section_at}
-use Rattle.tt_cert_file.specs.Sections.{section_of}
+use Rattle.tt_family.specs.Contents.{Contents}
+use Rattle.tt_family.specs.Ascending.{IsFinished}
+use Rattle.tt_cert.specs.Answers.{CountsRead, GivesSection, input_at}
+use Rattle.tt_cert.specs.declared.fault.DecodeFault.{DecodeFault}
+use Rattle.tt_cert.specs.declared.fault.DecodeFault.TheVariants as decode
+use Rattle.tt_cert.specs.declared.form.Form.{Form}
+use Rattle.tt_cert.specs.declared.name.Name.{Name}
+use Rattle.tt_cert.specs.Reading.{section_at}
+use Rattle.tt_cert.specs.Sections.{section_of}
 use Rattle.tt_font.specs.Reading.{GlyphData}
 use Rattle.hintcheck.specs.CertificateFaults.{CountsCheck, Decodes, IsCheckFaultOutsideFontAndBudget, fault_of_decoding}
 use Rattle.hintcheck.specs.Certificates.{Finding, HasNoSection, IsSectionOf, not_read, of_another, refused_before}

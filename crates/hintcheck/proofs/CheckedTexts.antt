@@ -2,17 +2,17 @@
 use Rattle.std.proofs.Common.{◌≡◌, ℕ, ◌+◌, ◌^◌, ◌<◌, List, [], ◌++◌, length, Ok, refl, sym, subst, arith}
 use Rattle.tt_code.specs.Cut.{Instruction}
 use Rattle.tt_code.specs.Fonts.{Font}
-use Rattle.tt_cert.specs.Contents.{Contents}
-use Rattle.tt_cert_file.specs.declared.form.Form.TheVariants.{Four}
-use Rattle.tt_cert_file.specs.declared.name.Name.{Name}
-use Rattle.tt_cert_file.specs.declared.name.Name.TheVariants as name
-use Rattle.tt_cert_file.specs.Readers.{place_after}
-use Rattle.tt_cert_file.specs.Reading.{header_at, section_at}
-use Rattle.tt_cert_file.specs.Rules.{Fits}
-use Rattle.tt_cert_file.specs.Sections.{section_of}
-use Rattle.tt_cert_file.specs.Text.{header_text}
-use Rattle.tt_cert_file.proofs.Codecs.{here}
-use Rattle.tt_cert_file.proofs.Spelled.{header_codec, section_codec}
+use Rattle.tt_family.specs.Contents.{Contents}
+use Rattle.tt_cert.specs.declared.form.Form.TheVariants.{Four}
+use Rattle.tt_cert.specs.declared.name.Name.{Name}
+use Rattle.tt_cert.specs.declared.name.Name.TheVariants as name
+use Rattle.tt_cert.specs.Readers.{place_after}
+use Rattle.tt_cert.specs.Reading.{header_at, section_at}
+use Rattle.tt_cert.specs.Rules.{Fits}
+use Rattle.tt_cert.specs.Sections.{section_of}
+use Rattle.tt_cert.specs.Text.{header_text}
+use Rattle.tt_cert.proofs.Codecs.{here}
+use Rattle.tt_cert.proofs.Spelled.{header_codec, section_codec}
 use Rattle.tt_font.specs.Reading.{FontData, GlyphData}
 use Rattle.hintcheck.specs.Certificates.{AreChecked, AreSectionsChecked, IsChecked, IsSectionOf, Passes, PassesToEnd, after_header, at_end, both_passed, passed, sections_checked}
 use Rattle.hintcheck.specs.CertificateTexts.{AreGlyphTexts, IsCertificate, IsEndedText, IsLeastListing, IsPassingCertificate, IsReadableListing, IsTextOf, no_glyphs, one_more}

@@ -8,8 +8,8 @@ use Rattle.tt_abs.specs.Families.{CoversAt, started}
 use Rattle.tt_abs.specs.StateFlow.{GivesState, Place, RefusesState}
 use Rattle.tt_abs.specs.States.{start_of, state_laws, state_order}
 use Rattle.tt_abs.proofs.FlowOfStates.{start_range}
-use Rattle.tt_cert.specs.Contents.{HasContext}
-use Rattle.tt_cert.specs.GoodFamilies.{IsGoodFamily, IsStoredWithin}
+use Rattle.tt_family.specs.Contents.{HasContext}
+use Rattle.tt_family.specs.GoodFamilies.{IsGoodFamily, IsStoredWithin}
 use Rattle.tt_find.specs.Found.{IsDerived, IsLeast}
 use Rattle.tt_font.specs.Reading.{GlyphData}
 use Rattle.hintcheck.specs.FontPrograms.{glyph_subject}

@@ -3,10 +3,10 @@ use Rattle.std.proofs.Common.{◌≡◌, ◌≢◌, ℕ, Bool, true, false, IfEr
 use Rattle.std.specs.Prelude.{slice_get}
 use Rattle.tt_code.specs.Cut.{Instruction}
 use Rattle.tt_font.specs.Reading.{FontData, GlyphData}
-use Rattle.tt_cert_file.specs.declared.name.Name.{Name}
-use Rattle.tt_cert_file.specs.declared.name.Name.TheVariants as name
-use Rattle.tt_cert.specs.declared.fault.ProgramFault.{ProgramFault}
-use Rattle.tt_cert.specs.declared.fault.ProgramFault.TheVariants.{OutOfMemory as NoMemory, Refused as RefusedAt}
+use Rattle.tt_cert.specs.declared.name.Name.{Name}
+use Rattle.tt_cert.specs.declared.name.Name.TheVariants as name
+use Rattle.tt_family.specs.declared.fault.ProgramFault.{ProgramFault}
+use Rattle.tt_family.specs.declared.fault.ProgramFault.TheVariants.{OutOfMemory as NoMemory, Refused as RefusedAt}
 use Rattle.hintcheck_explain.specs.Faults.{TellsFailure as TellsExplained}
 use Rattle.hintcheck_explain.specs.declared.asked.ExplainFault.{ExplainFault}
 use Rattle.hintcheck_explain.specs.declared.asked.ExplainFault.TheVariants as explaining

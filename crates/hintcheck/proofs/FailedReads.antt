@@ -5,21 +5,21 @@ use Rattle.std.specs.Int.{w16, w32, from_be_bytes}
 use Rattle.std.specs.Io.KnownBytes.{Consumes, Keeps}
 use Rattle.std.proofs.KnownBytes.{Consumes-trans}
 use Rattle.std.proofs.lemmas.List.{length-append}
-use Rattle.tt_cert.specs.Contents.{Contents}
-use Rattle.tt_cert.specs.declared.fault.ProgramFault.{ProgramFault}
-use Rattle.tt_cert.specs.declared.fault.ProgramFault.TheVariants as program
-use Rattle.tt_cert_file.specs.Answers.{StopsAtEnd, input_at}
-use Rattle.tt_cert_file.specs.declared.fault.DecodeFault.{DecodeFault}
-use Rattle.tt_cert_file.specs.declared.fault.DecodeFault.TheVariants as decode
-use Rattle.tt_cert_file.specs.declared.form.Form.{Form}
-use Rattle.tt_cert_file.specs.declared.name.Name.{Name}
-use Rattle.tt_cert_file.specs.Forms.{form_of}
-use Rattle.tt_cert_file.specs.Readers.{Answer, Input, and_then, given, list_at, place_after, unit}
-use Rattle.tt_cert_file.specs.Reading.{contexts_at, entry_at, fields_at, form_at, header_at, header_from, is_magic, long_at, magic_at, name_at, section_at, section_from, states_at, word_at}
-use Rattle.tt_cert_file.specs.Sections.{section_of}
-use Rattle.tt_cert_file.proofs.Codecs.{bind_ok, here, ok_is, unit_takes}
-use Rattle.tt_cert_file.proofs.Steady.{IsSteady, and_then_steady, list_steady, made_of_steady, step, step_steady}
-use Rattle.tt_cert_file.proofs.SteadyUnits.{contexts_steady, entry_steady, form_steady, long_steady, magic_steady, name_steady}
+use Rattle.tt_family.specs.Contents.{Contents}
+use Rattle.tt_family.specs.declared.fault.ProgramFault.{ProgramFault}
+use Rattle.tt_family.specs.declared.fault.ProgramFault.TheVariants as program
+use Rattle.tt_cert.specs.Answers.{StopsAtEnd, input_at}
+use Rattle.tt_cert.specs.declared.fault.DecodeFault.{DecodeFault}
+use Rattle.tt_cert.specs.declared.fault.DecodeFault.TheVariants as decode
+use Rattle.tt_cert.specs.declared.form.Form.{Form}
+use Rattle.tt_cert.specs.declared.name.Name.{Name}
+use Rattle.tt_cert.specs.Forms.{form_of}
+use Rattle.tt_cert.specs.Readers.{Answer, Input, and_then, given, list_at, place_after, unit}
+use Rattle.tt_cert.specs.Reading.{contexts_at, entry_at, fields_at, form_at, header_at, header_from, is_magic, long_at, magic_at, name_at, section_at, section_from, states_at, word_at}
+use Rattle.tt_cert.specs.Sections.{section_of}
+use Rattle.tt_cert.proofs.Codecs.{bind_ok, here, ok_is, unit_takes}
+use Rattle.tt_cert.proofs.Steady.{IsSteady, and_then_steady, list_steady, made_of_steady, step, step_steady}
+use Rattle.tt_cert.proofs.SteadyUnits.{contexts_steady, entry_steady, form_steady, long_steady, magic_steady, name_steady}
 use Rattle.tt_font.specs.Reading.{FontData}
 use Rattle.hintcheck.specs.CertificateFaults.{fault_of_decoding}
 use Rattle.hintcheck.specs.Certificates.{HasNoSection, IsSectionOf, not_read}

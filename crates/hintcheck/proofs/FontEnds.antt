@@ -10,13 +10,13 @@ use Rattle.tt_abs.specs.declared.state.State.{State}
 use Rattle.tt_abs.specs.Entries.{Ascends}
 use Rattle.tt_abs.specs.Settings.{programs_of, setting_of}
 use Rattle.tt_abs.specs.StateFlow.{FunctionsFit, Place}
-use Rattle.tt_cert.specs.Fillings.{HasGoodFilling, IsFilling}
-use Rattle.tt_cert.specs.GoodFamilies.{EndsWell, HasEnd, IsGoodFamily}
-use Rattle.tt_cert.specs.declared.fault.ProgramFault.{ProgramFault}
-use Rattle.tt_cert.specs.declared.fault.ProgramFault.TheVariants.{Refused, OutOfMemory}
-use Rattle.tt_cert.proofs.FillingLaws.{ends_listed}
+use Rattle.tt_family.specs.Fillings.{HasGoodFilling, IsFilling}
+use Rattle.tt_family.specs.GoodFamilies.{EndsWell, HasEnd, IsGoodFamily}
+use Rattle.tt_family.specs.declared.fault.ProgramFault.{ProgramFault}
+use Rattle.tt_family.specs.declared.fault.ProgramFault.TheVariants.{Refused, OutOfMemory}
+use Rattle.tt_family.proofs.FillingLaws.{ends_listed}
 use Rattle.tt_font.specs.Reading.{FontData}
-use Rattle.tt_cert.specs.Contents.{family_of}
+use Rattle.tt_family.specs.Contents.{family_of}
 use Rattle.tt_find.specs.declared.finder.Found.{Found}
 use Rattle.hintcheck.specs.FindingSessions.{IsFoundFor, IsFoundToEnd}
 use Rattle.hintcheck.specs.Representation.FontVerdicts.{AreAllRefused, ComesToEnd, IsKnownAtEnd}
@@ -25,7 +25,7 @@ use Rattle.hintcheck.specs.ProgramVerdicts.{IfRefused, IsAccepted, IsAppendedRef
 use Rattle.hintcheck.specs.CheckedFonts.{IsGoodAtEnd}
 use Rattle.hintcheck.specs.Programs.{EndsWith, HasGoodFamily, HasLeastFamily, IsCutInto, IsRefusal, Subject}
 use Rattle.hintcheck.proofs.ProgramVerdictLemmas.{is_subject, of_subject}
-use Rattle.tt_cert_file.specs.declared.name.Name.TheVariants as name
+use Rattle.tt_cert.specs.declared.name.Name.TheVariants as name
 use Rattle.hintcheck.specs.declared.report.Refused.{Refused as AnyRefused}
 
 -- the functions of a good family's states ascend by number

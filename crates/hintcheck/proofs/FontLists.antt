@@ -11,10 +11,10 @@ use Rattle.hintcheck.specs.Representation.FontVerdicts.{AreRefusedBelow}
 use Rattle.hintcheck.specs.FontPrograms.{AreRefused, accepted, no_glyph_left, glyph_subject, refused}
 use Rattle.hintcheck.specs.Programs.{HasLeastFamily, IsRefusal}
 use Rattle.hintcheck.specs.ProgramVerdicts.{IfRefused, IsAppendedRefusal, reported_at}
-use Rattle.tt_cert_file.specs.declared.name.Name.TheVariants as name
+use Rattle.tt_cert.specs.declared.name.Name.TheVariants as name
 use Rattle.hintcheck.specs.declared.report.Refused.{Refused}
-use Rattle.tt_cert.specs.declared.fault.ProgramFault.{ProgramFault}
-use Rattle.tt_cert.specs.declared.fault.ProgramFault.TheVariants as fault
+use Rattle.tt_family.specs.declared.fault.ProgramFault.{ProgramFault}
+use Rattle.tt_family.specs.declared.fault.ProgramFault.TheVariants as fault
 
 -- a number below that of the glyphs has its glyph
 pub glyph_there : (part : Option GlyphPart) (gs : List GlyphData) (id : ℕ) → option_map glyph_data part ≡ slice_get gs id → id < length gs → IsSome part

@@ -8,7 +8,7 @@ use Rattle.tt_code.specs.States.{Machine}
 use Rattle.tt_abs.specs.declared.state.State.{State}
 use Rattle.tt_abs.specs.Soundness.{IsSafe}
 use Rattle.tt_abs.specs.StateFlow.{Place}
-use Rattle.tt_cert.proofs.EndFunctions.{AllStartWith, end_functions_hold}
+use Rattle.tt_family.proofs.EndFunctions.{AllStartWith, end_functions_hold}
 
 -- where a safe family covers all starts, no run faults
 pub never_faults_from : (s : Setting) (functions : List (ℕ × ℕ)) (family : Place → Option State) (Starts : Machine → Type 0)

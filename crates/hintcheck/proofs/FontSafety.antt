@@ -12,7 +12,7 @@ use Rattle.tt_abs.specs.Ranges.{AreBytes}
 use Rattle.tt_abs.specs.Soundness.{IsSafe}
 use Rattle.tt_abs.specs.StateFlow.{Place}
 use Rattle.tt_abs.proofs.Soundness.{good_is_safe}
-use Rattle.tt_cert.specs.GoodFamilies.{IsGoodFamily}
+use Rattle.tt_family.specs.GoodFamilies.{IsGoodFamily}
 use Rattle.tt_font.specs.Reading.{FontData, GlyphData}
 use Rattle.hintcheck.specs.FontPrograms.{AreFewBytes, AreRefused, IsFontInRange, IsSafeFont, IsSafeGlyph, IsVerdict, accepted, no_glyph_left, cvt_refused, cvt_subject, font_of, font_refused, font_subject, glyph_subject, none_ended, one_glyph_font, refused}
 use Rattle.hintcheck.specs.CheckedFonts.{EndsGood, HasGoodFamilies}
@@ -21,7 +21,7 @@ use Rattle.hintcheck.specs.Verdicts.{Judgement}
 use Rattle.hintcheck.specs.declared.report.Refused.{Refused}
 use Rattle.hintcheck.proofs.FontBytes.{small_number}
 use Rattle.hintcheck.proofs.FontEnds.{functions_rise}
-use Rattle.tt_cert.proofs.EndFunctions.{AllStartWith}
+use Rattle.tt_family.proofs.EndFunctions.{AllStartWith}
 use Rattle.hintcheck.proofs.FontRuns.{cvt_starts, font_starts, glyph_starts, never_faults_from}
 
 -- programs of few bytes, cut

@@ -3,14 +3,14 @@ use Rattle.std.proofs.Common.{◌≡◌, ℕ, ◌+◌, List, [], ◌∷◌, leng
 use Rattle.tt_code.specs.Cut.{Instruction, size}
 use Rattle.tt_code.specs.Fonts.{Font}
 use Rattle.tt_abs.specs.declared.state.State.{State}
-use Rattle.tt_cert.specs.Contents.{Contents, family_of}
-use Rattle.tt_cert.specs.Contexts.{frames_of}
-use Rattle.tt_cert_file.specs.declared.form.Form.{Form}
-use Rattle.tt_cert_file.specs.declared.name.Name.{Name}
-use Rattle.tt_cert_file.specs.declared.name.Name.TheVariants as name
-use Rattle.tt_cert_file.specs.Readers.{Answer, Input}
-use Rattle.tt_cert_file.specs.Sections.{Context, Section, contexts_in, section_of}
-use Rattle.tt_cert_file.proofs.Fitting.{frames_back}
+use Rattle.tt_family.specs.Contents.{Contents, family_of}
+use Rattle.tt_family.specs.Contexts.{frames_of}
+use Rattle.tt_cert.specs.declared.form.Form.{Form}
+use Rattle.tt_cert.specs.declared.name.Name.{Name}
+use Rattle.tt_cert.specs.declared.name.Name.TheVariants as name
+use Rattle.tt_cert.specs.Readers.{Answer, Input}
+use Rattle.tt_cert.specs.Sections.{Context, Section, contexts_in, section_of}
+use Rattle.tt_cert.proofs.Fitting.{frames_back}
 use Rattle.tt_font.specs.Reading.{FontData, GlyphData}
 use Rattle.hintcheck.specs.Certificates.{AreChecked, AreSectionsChecked, Finding, HasNoSection, IsCheckRefusal, IsChecked, IsSectionOf, Passes, PassesToEnd, after_header, refused_before, not_read, of_another, at_end, followed, no_section, passed, refused, no_font_section, font_refused, no_cvt_section, cvt_refused, both_passed, no_header, other_number, sections_checked}
 use Rattle.hintcheck.specs.FontPrograms.{cvt_subject, font_of, font_subject, glyph_subject}

@@ -6,8 +6,8 @@ use Rattle.tt_font.specs.Chains.{Distinct, In, SumsChains, end_of}
 use Rattle.tt_font.specs.Files.{font_glyphs, font_outlines}
 use Rattle.tt_font.specs.Outlines.{Outline, own_contours, own_points}
 use Rattle.tt_font.specs.Reading.{FontData, GlyphData, Reads, ReadsGlyph, glyph_at}
-use Rattle.tt_cert_file.specs.declared.form.Form.{Form}
-use Rattle.tt_cert_file.specs.Readers.{Input}
+use Rattle.tt_cert.specs.declared.form.Form.{Form}
+use Rattle.tt_cert.specs.Readers.{Input}
 use Rattle.hintcheck.specs.Certificates.{AreSectionsChecked, Finding, IsChecked, after_header, no_font_section, font_refused, no_cvt_section, cvt_refused, both_passed, no_header, other_number, sections_checked}
 use Rattle.hintcheck.specs.CheckedFonts.{AnswersFinding, Finds}
 use Rattle.hintcheck.specs.Verdicts.{Judgement}

@@ -7,7 +7,7 @@ use Rattle.tt_code.specs.Cut.{CanBeCut, CannotBeCut, Instruction, IsCut, IsInstr
 use Rattle.tt_code.proofs.CutLemmas.{prefix_of_cut, size_is}
 use Rattle.tt_code.proofs.StructureLaws.{found_iff_stands}
 use Rattle.tt_font.specs.Reading.{FontData}
-use Rattle.tt_cert_file.specs.declared.name.Name.{Name}
+use Rattle.tt_cert.specs.declared.name.Name.{Name}
 use Rattle.hintcheck.specs.Explanations.{BeginsInstruction, HasPlace, HasPlaceIn}
 use Rattle.hintcheck.specs.Listing.{program_in}
 

@@ -23,23 +23,23 @@ use Rattle.tt_abs.specs.StateFlow.{AreProgramsShort, FitsLimits, FunctionsFit, P
 use Rattle.tt_abs.specs.States.{state_laws, state_order}
 use Rattle.tt_abs.proofs.FlowOfStates.{state_flow_laws}
 use Rattle.tt_abs.proofs.Soundness.{good_is_safe}
-use Rattle.tt_cert.specs.Checks.{IsOutOfMemory}
-use Rattle.tt_cert.specs.Contents.{Contents, HasContext, family_of, frames_at}
-use Rattle.tt_cert.specs.Puts.{number_at}
-use Rattle.tt_cert.specs.Ascending.{IsFinished}
-use Rattle.tt_cert.specs.Fillings.{IsFilling}
-use Rattle.tt_cert.specs.GoodFamilies.{EndsWell, IsGoodFamily}
-use Rattle.tt_cert.specs.Spots.{spot_of}
-use Rattle.tt_cert.specs.declared.fault.ProgramFault.{ProgramFault}
-use Rattle.tt_cert.specs.declared.fault.ProgramFault.TheVariants as fault
-use Rattle.tt_cert.specs.declared.spot.Spot.{Spot}
+use Rattle.tt_family.specs.Checks.{IsOutOfMemory}
+use Rattle.tt_family.specs.Contents.{Contents, HasContext, family_of, frames_at}
+use Rattle.tt_family.specs.Puts.{number_at}
+use Rattle.tt_family.specs.Ascending.{IsFinished}
+use Rattle.tt_family.specs.Fillings.{IsFilling}
+use Rattle.tt_family.specs.GoodFamilies.{EndsWell, IsGoodFamily}
+use Rattle.tt_family.specs.Spots.{spot_of}
+use Rattle.tt_family.specs.declared.fault.ProgramFault.{ProgramFault}
+use Rattle.tt_family.specs.declared.fault.ProgramFault.TheVariants as fault
+use Rattle.tt_family.specs.declared.spot.Spot.{Spot}
 use Rattle.tt_find.specs.Found.{AreLeastContexts, HasLeastFilling, IsJustified, IsLeast, IsNeverEnding, LacksEnd, NamesPlace, NeedsAll, NoneIsGood, too_long, refused, apart, too_many, never_ends}
 use Rattle.tt_find.specs.declared.finder.Found.{Found}
 use Rattle.hintcheck.specs.FindingSessions.{IsFoundFor}
 use Rattle.hintcheck.specs.Programs.{HasGoodFamily, HasLeastFamily, IsCause, IsCutInto, IsRefusal, Subject, no_family, program_at}
 use Rattle.hintcheck.specs.ProgramVerdicts.{IfRefused, IsAccepted, IsSubjectOf, reported_at}
-use Rattle.tt_cert_file.specs.Rules.{AreCallsInTurn}
-use Rattle.tt_cert_file.specs.declared.name.Name.{Name}
+use Rattle.tt_cert.specs.Rules.{AreCallsInTurn}
+use Rattle.tt_cert.specs.declared.name.Name.{Name}
 use Rattle.hintcheck.specs.declared.report.Refused.{Refused as AnyRefused}
 
 -- what holds of a setting and its functions holds of a subject that has them

@@ -8,7 +8,7 @@ use Rattle.std.specs.Io.KnownBytes.{Appends}
 use Rattle.std.specs.Prelude.{codes, slice_get}
 use Rattle.tt_code.specs.declared.reason.ReasonClass.TheVariants.{LeftOut, PossibleFault, Undecided}
 use Rattle.tt_stream.specs.Streams.{AppendsText}
-use Rattle.tt_cert_file.specs.declared.name.Name.TheVariants.{Glyph}
+use Rattle.tt_cert.specs.declared.name.Name.TheVariants.{Glyph}
 use Rattle.hintcheck.specs.CommandFaults.{IsFaultOfFontFile}
 use Rattle.hintcheck.specs.FaultTexts.{command_fault_text}
 use Rattle.hintcheck.specs.Scans.{Answer, IsAnswer, PrintsScan, Scanned, counts_text, greatest_status, judged, left_out_text, line_of, number_of_class, status_of_answer, status_of_refused, summary, unread}

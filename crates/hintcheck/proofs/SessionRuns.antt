@@ -7,11 +7,11 @@ use Rattle.std.proofs.lemmas.Bool.{cases_lt}
 use Rattle.std.proofs.lemmas.List.{length-append}
 use Rattle.std.proofs.lemmas.Option.{slice_get_within}
 use Rattle.tt_code.specs.Cut.{Instruction}
-use Rattle.tt_cert.specs.Contents.{Contents}
-use Rattle.tt_cert_file.specs.Answers.{input_at}
-use Rattle.tt_cert_file.specs.declared.form.Form.{Form}
-use Rattle.tt_cert_file.specs.declared.name.Name.TheVariants as name
-use Rattle.tt_cert_file.specs.Readers.{Input, place_after}
+use Rattle.tt_family.specs.Contents.{Contents}
+use Rattle.tt_cert.specs.Answers.{input_at}
+use Rattle.tt_cert.specs.declared.form.Form.{Form}
+use Rattle.tt_cert.specs.declared.name.Name.TheVariants as name
+use Rattle.tt_cert.specs.Readers.{Input, place_after}
 use Rattle.tt_font.specs.Reading.{FontData, GlyphData}
 use Rattle.hintcheck.specs.Certificates.{AreChecked, AreSectionsChecked, Finding, IsChecked, IsSectionOf, PassesToEnd, at_end, both_passed, cvt_refused, followed, font_refused, no_cvt_section, no_font_section, no_section, passed, refused, refused_before, sections_checked, no_header, other_number}
 use Rattle.hintcheck.specs.CheckedFonts.{EndsGood, HasGoodFamilies, IsTold, all_refused, bytes_in}

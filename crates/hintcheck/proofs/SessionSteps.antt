@@ -5,17 +5,17 @@ use Rattle.std.specs.Io.KnownBytes.{IsAtEnd}
 use Rattle.std.proofs.lemmas.Option.{slice_get_within}
 use Rattle.tt_code.specs.Cut.{Instruction}
 use Rattle.tt_code.specs.Fonts.{Font}
-use Rattle.tt_cert.specs.Contents.{Contents}
-use Rattle.tt_cert.specs.declared.fault.ProgramFault.{ProgramFault}
-use Rattle.tt_cert.specs.declared.fault.ProgramFault.TheVariants as program
-use Rattle.tt_cert_file.specs.Answers.{GivesHeader, IsMore, input_at}
-use Rattle.tt_cert_file.specs.declared.fault.DecodeFault.{DecodeFault}
-use Rattle.tt_cert_file.specs.declared.fault.DecodeFault.TheVariants as decode
-use Rattle.tt_cert_file.specs.declared.form.Form.{Form}
-use Rattle.tt_cert_file.specs.declared.name.Name.{Name}
-use Rattle.tt_cert_file.specs.declared.name.Name.TheVariants as name
-use Rattle.tt_cert_file.specs.Readers.{Input}
-use Rattle.tt_cert_file.specs.Reading.{header_at}
+use Rattle.tt_family.specs.Contents.{Contents}
+use Rattle.tt_family.specs.declared.fault.ProgramFault.{ProgramFault}
+use Rattle.tt_family.specs.declared.fault.ProgramFault.TheVariants as program
+use Rattle.tt_cert.specs.Answers.{GivesHeader, IsMore, input_at}
+use Rattle.tt_cert.specs.declared.fault.DecodeFault.{DecodeFault}
+use Rattle.tt_cert.specs.declared.fault.DecodeFault.TheVariants as decode
+use Rattle.tt_cert.specs.declared.form.Form.{Form}
+use Rattle.tt_cert.specs.declared.name.Name.{Name}
+use Rattle.tt_cert.specs.declared.name.Name.TheVariants as name
+use Rattle.tt_cert.specs.Readers.{Input}
+use Rattle.tt_cert.specs.Reading.{header_at}
 use Rattle.tt_font.specs.Reading.{FontData, GlyphData}
 use Rattle.tt_stream.specs.Reads.{ConsumesBeginning}
 use Rattle.hintcheck.specs.CertificateFaults.{fault_of_decoding}

@@ -6,21 +6,21 @@ use Rattle.tt_code.specs.Fonts.{Font}
 use Rattle.tt_code.specs.Settings.{Setting}
 use Rattle.tt_abs.specs.StateFlow.{Place}
 use Rattle.tt_abs.specs.declared.state.State.{State}
-use Rattle.tt_cert.specs.Contents.{Contents, family_of}
-use Rattle.tt_cert.specs.Fillings.{IsFilling}
-use Rattle.tt_cert_file.specs.Answers.{AreBytes}
-use Rattle.tt_cert_file.specs.Forms.{most_contexts}
-use Rattle.tt_cert_file.specs.Readers.{Input, place_after}
-use Rattle.tt_cert_file.specs.Reading.{section_at}
-use Rattle.tt_cert_file.specs.Rules.{EachAfter, EntryFits, Fits, ListFits, StorageFits, StoredFits}
-use Rattle.tt_cert_file.specs.Sections.{Entry, Section, section_of}
-use Rattle.tt_cert_file.specs.Text.{header_text, section_text}
-use Rattle.tt_cert_file.specs.declared.form.Form.{Form}
-use Rattle.tt_cert_file.specs.declared.form.Form.TheVariants.{One, Two, Three, Four}
-use Rattle.tt_cert_file.specs.declared.name.Name.{Name}
-use Rattle.tt_cert_file.specs.declared.name.Name.TheVariants as name
-use Rattle.tt_cert_file.proofs.Codecs.{here}
-use Rattle.tt_cert_file.proofs.Spelled.{header_codec, section_codec}
+use Rattle.tt_family.specs.Contents.{Contents, family_of}
+use Rattle.tt_family.specs.Fillings.{IsFilling}
+use Rattle.tt_cert.specs.Answers.{AreBytes}
+use Rattle.tt_cert.specs.Forms.{most_contexts}
+use Rattle.tt_cert.specs.Readers.{Input, place_after}
+use Rattle.tt_cert.specs.Reading.{section_at}
+use Rattle.tt_cert.specs.Rules.{EachAfter, EntryFits, Fits, ListFits, StorageFits, StoredFits}
+use Rattle.tt_cert.specs.Sections.{Entry, Section, section_of}
+use Rattle.tt_cert.specs.Text.{header_text, section_text}
+use Rattle.tt_cert.specs.declared.form.Form.{Form}
+use Rattle.tt_cert.specs.declared.form.Form.TheVariants.{One, Two, Three, Four}
+use Rattle.tt_cert.specs.declared.name.Name.{Name}
+use Rattle.tt_cert.specs.declared.name.Name.TheVariants as name
+use Rattle.tt_cert.proofs.Codecs.{here}
+use Rattle.tt_cert.proofs.Spelled.{header_codec, section_codec}
 use Rattle.tt_font.specs.Reading.{FontData, GlyphData}
 use Rattle.hintcheck.specs.Certificates.{AreChecked, AreSectionsChecked, Finding, HasNoSection, IsChecked, IsGoodListing, IsSectionOf, Passes, PassesToEnd, after_header, at_end, both_passed, cvt_refused, followed as followed_by, font_refused, no_cvt_section, no_font_section, no_header as no_header_there, no_section as no_section_there, not_read, of_another, other_number, passed, refused, sections_checked}
 use Rattle.hintcheck.specs.FontPrograms.{cvt_subject, font_of, font_subject, glyph_subject}

@@ -3,16 +3,16 @@ use Rattle.std.proofs.Common.{◌≡◌, ℕ, ◌+◌, ◌<◌, List, [], ◌∷
 use Rattle.std.specs.Io.KnownBytes.{Consumes, Keeps}
 use Rattle.std.proofs.KnownBytes.{Consumes-trans}
 use Rattle.std.proofs.lemmas.List.{length-append}
-use Rattle.tt_cert_file.specs.Answers.{GivesHeader, StopsAtEnd, input_at}
-use Rattle.tt_cert_file.specs.Readers.{Input, place_after}
-use Rattle.tt_cert_file.specs.Reading.{header_at, section_at}
-use Rattle.tt_cert_file.specs.Sections.{Section}
-use Rattle.tt_cert_file.specs.declared.fault.DecodeFault.{DecodeFault}
-use Rattle.tt_cert_file.specs.declared.fault.DecodeFault.TheVariants as decode
-use Rattle.tt_cert_file.specs.declared.fault.EncodeFault.{EncodeFault}
-use Rattle.tt_cert_file.specs.declared.fault.EncodeFault.TheVariants as encode
-use Rattle.tt_cert_file.specs.declared.form.Form.{Form}
-use Rattle.tt_cert_file.proofs.Codecs.{here}
+use Rattle.tt_cert.specs.Answers.{GivesHeader, StopsAtEnd, input_at}
+use Rattle.tt_cert.specs.Readers.{Input, place_after}
+use Rattle.tt_cert.specs.Reading.{header_at, section_at}
+use Rattle.tt_cert.specs.Sections.{Section}
+use Rattle.tt_cert.specs.declared.fault.DecodeFault.{DecodeFault}
+use Rattle.tt_cert.specs.declared.fault.DecodeFault.TheVariants as decode
+use Rattle.tt_cert.specs.declared.fault.EncodeFault.{EncodeFault}
+use Rattle.tt_cert.specs.declared.fault.EncodeFault.TheVariants as encode
+use Rattle.tt_cert.specs.declared.form.Form.{Form}
+use Rattle.tt_cert.proofs.Codecs.{here}
 use Rattle.hintcheck.specs.Certificates.{HasNoSection, not_read}
 use Rattle.hintcheck.specs.CheckedFonts.{IsTold}
 use Rattle.hintcheck.specs.FailedReads.{HasReadOld, IsUnbrokenOld}

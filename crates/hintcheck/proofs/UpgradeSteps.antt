@@ -5,17 +5,17 @@ use Rattle.std.proofs.KnownBytes.{Appends-nil, Appends-trans}
 use Rattle.std.proofs.lemmas.List.{length-append}
 use Rattle.std.proofs.lemmas.List.Concat.{flat_map-append}
 use Rattle.tt_stream.specs.Streams.{AppendsBeginning}
-use Rattle.tt_cert.specs.Contents.{Contents}
-use Rattle.tt_cert_file.specs.Answers.{GivesHeader, IsMore, input_at}
-use Rattle.tt_cert_file.specs.Readers.{Input}
-use Rattle.tt_cert_file.specs.Reading.{header_at}
-use Rattle.tt_cert_file.specs.Sections.{Section, section_of}
-use Rattle.tt_cert_file.specs.Text.{header_text, section_text}
-use Rattle.tt_cert_file.specs.declared.fault.DecodeFault.{DecodeFault}
-use Rattle.tt_cert_file.specs.declared.fault.DecodeFault.TheVariants as decode
-use Rattle.tt_cert_file.specs.declared.form.Form.{Form}
-use Rattle.tt_cert_file.specs.declared.form.Form.TheVariants.{Four}
-use Rattle.tt_cert_file.specs.declared.name.Name.{Name}
+use Rattle.tt_family.specs.Contents.{Contents}
+use Rattle.tt_cert.specs.Answers.{GivesHeader, IsMore, input_at}
+use Rattle.tt_cert.specs.Readers.{Input}
+use Rattle.tt_cert.specs.Reading.{header_at}
+use Rattle.tt_cert.specs.Sections.{Section, section_of}
+use Rattle.tt_cert.specs.Text.{header_text, section_text}
+use Rattle.tt_cert.specs.declared.fault.DecodeFault.{DecodeFault}
+use Rattle.tt_cert.specs.declared.fault.DecodeFault.TheVariants as decode
+use Rattle.tt_cert.specs.declared.form.Form.{Form}
+use Rattle.tt_cert.specs.declared.form.Form.TheVariants.{Four}
+use Rattle.tt_cert.specs.declared.name.Name.{Name}
 use Rattle.hintcheck.specs.CertificateFaults.{Decodes}
 use Rattle.hintcheck.specs.Certificates.{HasNoSection, IsSectionOf}
 use Rattle.hintcheck.specs.CertificateTexts.{WritesBeginning, WritesText}

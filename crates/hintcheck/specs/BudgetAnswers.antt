@@ -1,7 +1,7 @@
 -- What an answer within a budget tells of the budget, and of the font's first fault. (own)
 use Rattle.std.specs.Prelude.{◌≡◌, ◌≢◌, Some, None, alloc_error, Result, Ok, Err}
-use Rattle.tt_cert.specs.Budgets.{IsExceeded}
-use Rattle.tt_cert.specs.declared.budget.Budget.{Budget}
+use Rattle.tt_family.specs.Budgets.{IsExceeded}
+use Rattle.tt_family.specs.declared.budget.Budget.{Budget}
 use Rattle.tt_font.specs.Conditions.{Condition}
 use Rattle.tt_font.specs.declared.fault.FontFault.TheVariants.{OutOfMemory}
 use Rattle.hintcheck.specs.declared.certificate.FindFontFault.{FindFontFault}

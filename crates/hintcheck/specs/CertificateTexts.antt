@@ -4,14 +4,14 @@ use Rattle.std.specs.Io.KnownBytes.{Appends}
 use Rattle.tt_code.specs.Cut.{Instruction, size}
 use Rattle.tt_code.specs.Fonts.{Font}
 use Rattle.tt_abs.specs.declared.state.State.{State}
-use Rattle.tt_cert.specs.Contents.{Contents, family_of}
-use Rattle.tt_cert.specs.Ascending.{IsFinished}
-use Rattle.tt_cert_file.specs.declared.form.Form.{Form}
-use Rattle.tt_cert_file.specs.declared.form.Form.TheVariants.{Four}
-use Rattle.tt_cert_file.specs.declared.name.Name.{Name}
-use Rattle.tt_cert_file.specs.Rules.{Fits}
-use Rattle.tt_cert_file.specs.Sections.{section_of}
-use Rattle.tt_cert_file.specs.Text.{header_text, section_text}
+use Rattle.tt_family.specs.Contents.{Contents, family_of}
+use Rattle.tt_family.specs.Ascending.{IsFinished}
+use Rattle.tt_cert.specs.declared.form.Form.{Form}
+use Rattle.tt_cert.specs.declared.form.Form.TheVariants.{Four}
+use Rattle.tt_cert.specs.declared.name.Name.{Name}
+use Rattle.tt_cert.specs.Rules.{Fits}
+use Rattle.tt_cert.specs.Sections.{section_of}
+use Rattle.tt_cert.specs.Text.{header_text, section_text}
 use Rattle.tt_find.specs.Found.{NeedsAll}
 use Rattle.tt_font.specs.Reading.{FontData, GlyphData}
 use Rattle.tt_stream.specs.Streams.{AppendsBeginning}

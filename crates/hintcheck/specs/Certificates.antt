@@ -9,19 +9,19 @@ use Rattle.tt_code.specs.declared.reason.Reason.{Reason}
 use Rattle.tt_code.specs.declared.reason.Reason.TheVariants as reason
 use Rattle.tt_abs.specs.declared.state.State.{State}
 use Rattle.tt_abs.specs.StateFlow.{Place}
-use Rattle.tt_cert.specs.Checks.{IsBrokenFirst, IsFillingBrokenFirst, saturated_offset}
-use Rattle.tt_cert.specs.Contents.{Contents, family_of}
-use Rattle.tt_cert.specs.Fillings.{HasGoodFilling}
-use Rattle.tt_cert.specs.GoodFamilies.{IsGoodFamily}
-use Rattle.tt_cert.specs.Ascending.{IsFinished}
-use Rattle.tt_cert.specs.Spots.{spot_of}
-use Rattle.tt_cert_file.specs.declared.form.Form.{Form}
-use Rattle.tt_cert_file.specs.declared.form.Form.TheVariants.{One, Two, Three, Four}
-use Rattle.tt_cert_file.specs.declared.name.Name.{Name}
-use Rattle.tt_cert_file.specs.declared.name.Name.TheVariants as name
-use Rattle.tt_cert_file.specs.Readers.{Input}
-use Rattle.tt_cert_file.specs.Reading.{header_at, section_at}
-use Rattle.tt_cert_file.specs.Sections.{Section, section_of}
+use Rattle.tt_family.specs.Checks.{IsBrokenFirst, IsFillingBrokenFirst, saturated_offset}
+use Rattle.tt_family.specs.Contents.{Contents, family_of}
+use Rattle.tt_family.specs.Fillings.{HasGoodFilling}
+use Rattle.tt_family.specs.GoodFamilies.{IsGoodFamily}
+use Rattle.tt_family.specs.Ascending.{IsFinished}
+use Rattle.tt_family.specs.Spots.{spot_of}
+use Rattle.tt_cert.specs.declared.form.Form.{Form}
+use Rattle.tt_cert.specs.declared.form.Form.TheVariants.{One, Two, Three, Four}
+use Rattle.tt_cert.specs.declared.name.Name.{Name}
+use Rattle.tt_cert.specs.declared.name.Name.TheVariants as name
+use Rattle.tt_cert.specs.Readers.{Input}
+use Rattle.tt_cert.specs.Reading.{header_at, section_at}
+use Rattle.tt_cert.specs.Sections.{Section, section_of}
 use Rattle.tt_font.specs.Reading.{FontData, GlyphData}
 use Rattle.hintcheck.specs.declared.report.Refused.{Refused}
 use Rattle.hintcheck.specs.FontPrograms.{cvt_subject, font_of, font_subject, glyph_subject}

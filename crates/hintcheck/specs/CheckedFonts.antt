@@ -4,7 +4,7 @@ use Rattle.tt_code.specs.Cut.{Instruction, size}
 use Rattle.tt_abs.specs.declared.state.State.{State}
 use Rattle.tt_abs.specs.Entries.{Ascends}
 use Rattle.tt_abs.specs.StateFlow.{Place}
-use Rattle.tt_cert.specs.GoodFamilies.{IsGoodFamily}
+use Rattle.tt_family.specs.GoodFamilies.{IsGoodFamily}
 use Rattle.tt_font.specs.Reading.{FontData, GlyphData}
 use Rattle.hintcheck.specs.FontPrograms.{cvt_subject, font_of, font_subject, glyph_subject, judgement_on}
 use Rattle.hintcheck.specs.Programs.{HasGoodFamily, IsCutInto, Subject}
@@ -14,9 +14,9 @@ use Rattle.hintcheck.specs.Verdicts.{Judgement}
 use Rattle.hintcheck.specs.declared.font_check.CheckFontFault.{CheckFontFault}
 use Rattle.hintcheck.specs.declared.font_check.CheckFontFault.TheVariants as fault
 use Rattle.hintcheck.specs.declared.report.Refused.{Refused}
-use Rattle.tt_cert.specs.Contents.{Contents}
-use Rattle.tt_cert.specs.declared.fault.ProgramFault.{ProgramFault}
-use Rattle.tt_cert_file.specs.declared.form.Form.{Form}
+use Rattle.tt_family.specs.Contents.{Contents}
+use Rattle.tt_family.specs.declared.fault.ProgramFault.{ProgramFault}
+use Rattle.tt_cert.specs.declared.form.Form.{Form}
 
 -- The program has these instructions, a family of abstract states is good for it, and these
 -- functions are known where it ends.

@@ -1,11 +1,11 @@
 -- One program of a font as it is explained: it is accepted, or it is refused, or one before it is.
 use Rattle.std.specs.Prelude.{◌≡◌, ◌≢◌, ℕ, Bool, true, false, List, [], Option, Some, IfSome, slice_get}
 use Rattle.tt_code.specs.Cut.{BeginsWith, Instruction, size}
-use Rattle.tt_cert.specs.declared.fault.ProgramFault.{ProgramFault}
-use Rattle.tt_cert.specs.declared.fault.ProgramFault.TheVariants.{OutOfMemory as NoMemory, Refused as RefusedAt}
-use Rattle.tt_cert_file.specs.Names.{text_of}
-use Rattle.tt_cert_file.specs.declared.name.Name.{Name}
-use Rattle.tt_cert_file.specs.declared.name.Name.TheVariants as name
+use Rattle.tt_family.specs.declared.fault.ProgramFault.{ProgramFault}
+use Rattle.tt_family.specs.declared.fault.ProgramFault.TheVariants.{OutOfMemory as NoMemory, Refused as RefusedAt}
+use Rattle.tt_cert.specs.Names.{text_of}
+use Rattle.tt_cert.specs.declared.name.Name.{Name}
+use Rattle.tt_cert.specs.declared.name.Name.TheVariants as name
 use Rattle.tt_font.specs.Reading.{FontData, GlyphData, Reads}
 use Rattle.hintcheck.specs.FontPrograms.{cvt_subject, font_of, font_subject, glyph_subject}
 use Rattle.hintcheck.specs.Listing.{Names, program_in}

@@ -1,10 +1,10 @@
 -- What was read of a certificate before a read failed: no unit that was read whole is at fault.
 use Rattle.std.specs.Prelude.{◌≡◌, ℕ, List, [], Option, Some, None, length, Result, Ok, Err}
 use Rattle.std.specs.Io.KnownBytes.{Consumes}
-use Rattle.tt_cert_file.specs.Answers.{input_at}
-use Rattle.tt_cert_file.specs.Readers.{Input, place_after}
-use Rattle.tt_cert_file.specs.Reading.{header_at}
-use Rattle.tt_cert_file.specs.declared.form.Form.{Form}
+use Rattle.tt_cert.specs.Answers.{input_at}
+use Rattle.tt_cert.specs.Readers.{Input, place_after}
+use Rattle.tt_cert.specs.Reading.{header_at}
+use Rattle.tt_cert.specs.declared.form.Form.{Form}
 use Rattle.tt_font.specs.Reading.{FontData, Reads}
 use Rattle.hintcheck.specs.Certificates.{Finding, IsChecked}
 use Rattle.hintcheck.specs.CheckedFonts.{IsTold}

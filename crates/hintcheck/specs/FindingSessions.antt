@@ -2,11 +2,11 @@
 use Rattle.std.specs.Prelude.{◌≡◌, ◌⊎◌, ℕ, ◌+◌, List, [], ◌++◌, Option, Some, None, alloc_error, length, slice_get}
 use Rattle.tt_code.specs.Cut.{Instruction, size}
 use Rattle.tt_abs.specs.declared.state.State.{State}
-use Rattle.tt_cert.specs.Contents.{family_of}
-use Rattle.tt_cert_file.specs.declared.form.Form.TheVariants.{Four}
-use Rattle.tt_cert_file.specs.declared.name.Name.TheVariants as name
-use Rattle.tt_cert_file.specs.Sections.{section_of}
-use Rattle.tt_cert_file.specs.Text.{header_text, section_text}
+use Rattle.tt_family.specs.Contents.{family_of}
+use Rattle.tt_cert.specs.declared.form.Form.TheVariants.{Four}
+use Rattle.tt_cert.specs.declared.name.Name.TheVariants as name
+use Rattle.tt_cert.specs.Sections.{section_of}
+use Rattle.tt_cert.specs.Text.{header_text, section_text}
 use Rattle.tt_find.specs.Found.{AreLeastContexts, HasLeastFilling}
 use Rattle.tt_find.specs.declared.finder.Found.{Found}
 use Rattle.tt_font.specs.Reading.{FontData, GlyphData, Reads}

@@ -9,7 +9,7 @@ use Rattle.tt_font.specs.Maxp.{limits_of}
 use Rattle.tt_font.specs.Reading.{FontData, GlyphData}
 use Rattle.hintcheck.specs.Programs.{Subject, EndsWith, HasLeastFamily, IsRefusal}
 use Rattle.hintcheck.specs.Verdicts.{Judgement}
-use Rattle.tt_cert_file.specs.declared.name.Name.TheVariants as name
+use Rattle.tt_cert.specs.declared.name.Name.TheVariants as name
 use Rattle.hintcheck.specs.declared.report.Refused.{Refused}
 
 -- a font whose font program and CVT program have these instructions

@@ -9,9 +9,9 @@ use Rattle.tt_code.specs.declared.reason.Reason.{Reason}
 use Rattle.tt_code.specs.declared.reason.Reason.TheVariants.{CannotCut, Structure}
 use Rattle.tt_code.specs.Table.{name_of}
 use Rattle.tt_font.specs.Reading.{FontData, Reads}
-use Rattle.tt_cert_file.specs.Names.{text_of}
-use Rattle.tt_cert_file.specs.declared.name.Name.{Name}
-use Rattle.tt_cert_file.specs.declared.name.Name.TheVariants as name
+use Rattle.tt_cert.specs.Names.{text_of}
+use Rattle.tt_cert.specs.declared.name.Name.{Name}
+use Rattle.tt_cert.specs.declared.name.Name.TheVariants as name
 use Rattle.hintcheck.specs.Texts.{refused_text}
 use Rattle.hintcheck.specs.declared.report.Refused.{Refused}
 

@@ -6,8 +6,8 @@ use Rattle.std.specs.List.{count_by}
 use Rattle.tt_code.specs.Refusals.{class_of}
 use Rattle.tt_code.specs.declared.reason.ReasonClass.{ReasonClass}
 use Rattle.tt_code.specs.declared.reason.ReasonClass.TheVariants.{PossibleFault, Undecided, LeftOut, Certificate}
-use Rattle.tt_cert_file.specs.declared.name.Name.{Name}
-use Rattle.tt_cert_file.specs.declared.name.Name.TheVariants as name
+use Rattle.tt_cert.specs.declared.name.Name.{Name}
+use Rattle.tt_cert.specs.declared.name.Name.TheVariants as name
 use Rattle.hintcheck.specs.Commands.{status_of}
 use Rattle.hintcheck.specs.CommandFaults.{IsFaultOfFontFile, IsWithin}
 use Rattle.hintcheck.specs.FaultTexts.{command_fault_text}

@@ -1,13 +1,13 @@
 -- A session takes the programs of a font one by one: where it is, and what its calls return.
 use Rattle.std.specs.Prelude.{◌≡◌, ◌≢◌, ℕ, ◌+◌, ◌<◌, List, [], Option, Some, None, Ok, Err, length, slice_get}
 use Rattle.tt_code.specs.Cut.{Instruction}
-use Rattle.tt_cert.specs.Contents.{Contents}
-use Rattle.tt_cert_file.specs.Answers.{input_at}
-use Rattle.tt_cert_file.specs.declared.form.Form.{Form}
-use Rattle.tt_cert_file.specs.declared.name.Name.{Name}
-use Rattle.tt_cert_file.specs.declared.name.Name.TheVariants as name
-use Rattle.tt_cert_file.specs.Readers.{Input}
-use Rattle.tt_cert_file.specs.Reading.{header_at}
+use Rattle.tt_family.specs.Contents.{Contents}
+use Rattle.tt_cert.specs.Answers.{input_at}
+use Rattle.tt_cert.specs.declared.form.Form.{Form}
+use Rattle.tt_cert.specs.declared.name.Name.{Name}
+use Rattle.tt_cert.specs.declared.name.Name.TheVariants as name
+use Rattle.tt_cert.specs.Readers.{Input}
+use Rattle.tt_cert.specs.Reading.{header_at}
 use Rattle.tt_font.specs.Reading.{FontData, GlyphData}
 use Rattle.hintcheck.specs.Certificates.{HasNoSection, IsCheckRefusal, IsSectionOf, Passes, PassesToEnd, after_header}
 use Rattle.hintcheck.specs.CheckedFonts.{IsGoodAtEnd}

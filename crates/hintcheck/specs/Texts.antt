@@ -2,8 +2,8 @@
 use Rattle.std.specs.Prelude.{ℕ, codes, List, [], ◌∷◌, ◌++◌, length}
 use Rattle.std.specs.Fmt.{decimal}
 use Rattle.std.specs.List.{flat_map}
-use Rattle.tt_cert_file.specs.declared.name.Name.{Name}
-use Rattle.tt_cert_file.specs.declared.name.Name.TheVariants as name
+use Rattle.tt_cert.specs.declared.name.Name.{Name}
+use Rattle.tt_cert.specs.declared.name.Name.TheVariants as name
 use Rattle.hintcheck_explain.specs.Texts as explained
 use Rattle.hintcheck.specs.declared.report.Place.{Place}
 use Rattle.hintcheck.specs.declared.report.Refused.{Refused}

@@ -1,9 +1,9 @@
 -- Why a certificate isn't upgraded, and what that tells of failed reads and writes.
 use Rattle.std.specs.Prelude.{◌≡◌, ◌+◌, ℕ, Result, Ok, Err}
-use Rattle.tt_cert_file.specs.declared.fault.DecodeFault.{DecodeFault}
-use Rattle.tt_cert_file.specs.declared.fault.DecodeFault.TheVariants as decode
-use Rattle.tt_cert_file.specs.declared.fault.EncodeFault.{EncodeFault}
-use Rattle.tt_cert_file.specs.declared.fault.EncodeFault.TheVariants as encode
+use Rattle.tt_cert.specs.declared.fault.DecodeFault.{DecodeFault}
+use Rattle.tt_cert.specs.declared.fault.DecodeFault.TheVariants as decode
+use Rattle.tt_cert.specs.declared.fault.EncodeFault.{EncodeFault}
+use Rattle.tt_cert.specs.declared.fault.EncodeFault.TheVariants as encode
 use Rattle.hintcheck.specs.declared.certificate_upgrade.UpgradeFault.{UpgradeFault}
 use Rattle.hintcheck.specs.declared.certificate_upgrade.UpgradeFault.TheVariants as upgrade
 

@@ -4,14 +4,14 @@ use Rattle.std.specs.Prelude.{◌≡◌, ◌≢◌, ℕ, zero, suc, ◌+◌, ◌
 use Rattle.std.specs.Io.KnownBytes.{Appends}
 use Rattle.std.specs.List.{flat_map}
 use Rattle.tt_stream.specs.Streams.{AppendsBeginning}
-use Rattle.tt_cert_file.specs.declared.form.Form.{Form}
-use Rattle.tt_cert_file.specs.declared.form.Form.TheVariants.{Four}
-use Rattle.tt_cert_file.specs.declared.name.Name.{Name}
-use Rattle.tt_cert_file.specs.declared.name.Name.TheVariants as name
-use Rattle.tt_cert_file.specs.Readers.{Answer, Input}
-use Rattle.tt_cert_file.specs.Reading.{header_at, section_at}
-use Rattle.tt_cert_file.specs.Sections.{Section}
-use Rattle.tt_cert_file.specs.Text.{header_text, section_text}
+use Rattle.tt_cert.specs.declared.form.Form.{Form}
+use Rattle.tt_cert.specs.declared.form.Form.TheVariants.{Four}
+use Rattle.tt_cert.specs.declared.name.Name.{Name}
+use Rattle.tt_cert.specs.declared.name.Name.TheVariants as name
+use Rattle.tt_cert.specs.Readers.{Answer, Input}
+use Rattle.tt_cert.specs.Reading.{header_at, section_at}
+use Rattle.tt_cert.specs.Sections.{Section}
+use Rattle.tt_cert.specs.Text.{header_text, section_text}
 use Rattle.hintcheck.specs.Certificates.{HasNoSection, after_header}
 
 -- the program whose section has this number: `f`, `p`, `g0`, `g1` and so on

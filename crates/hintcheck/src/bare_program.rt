@@ -13,8 +13,8 @@ use crate::program::{Search, list_refused};
 use crate::report::{Name, Refused, Verdict};
 use std::alloc::{AllocError, Global};
 use tt_abs::Setting;
-use tt_cert::Budget;
 use tt_code::{CodeFault, Limits, Program};
+use tt_family::Budget;
 use tt_find::Finder;
 use tt_font::{FontFault, GlyphPart, read_maxp};
 

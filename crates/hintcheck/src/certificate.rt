@@ -1,7 +1,7 @@
 //! The certificate of a font: found, and written where no program is refused.
 
 ghost use Rattle.std.specs.Prelude.{◌≡◌, [], IfErr, IfOk, OnErr, OnOk};
-ghost use Rattle.tt_cert.specs.Budgets.{Spends};
+ghost use Rattle.tt_family.specs.Budgets.{Spends};
 ghost use Rattle.tt_font.specs.FileFaults.{font_fault};
 ghost use Rattle.tt_font.specs.Reading.{FontData, Reads};
 ghost use Rattle.hintcheck.specs.BudgetAnswers.{FindTellsBudget, FindWithinTellsFontFault, IsFindFaultOutsideFont};
@@ -19,8 +19,8 @@ use crate::report::Verdict;
 use crate::session::Session;
 use std::alloc::{AllocError, Global};
 use thiserror::Error;
-use tt_cert::Budget;
-use tt_cert_file::{EncodeFault, Encoder, write_header};
+use tt_cert::{EncodeFault, Encoder, write_header};
+use tt_family::Budget;
 use tt_find::Finder;
 use tt_font::{Font, FontFault};
 use tt_stream::Sink;

@@ -1,8 +1,8 @@
 //! Old certificates, written again in the newest form.
 
 ghost use Rattle.std.specs.Prelude.{◌≡◌, ◌<◌, ◌≤◌, ◌^◌, [], IfErr, IfOk, Ok, Err, OnErr, Some, length};
-ghost use Rattle.tt_cert_file.specs.Answers.{AreBytes};
-ghost use Rattle.tt_cert_file.specs.Readers.{place_after};
+ghost use Rattle.tt_cert.specs.Answers.{AreBytes};
+ghost use Rattle.tt_cert.specs.Readers.{place_after};
 ghost use Rattle.tt_font.specs.Reading.{FontData};
 ghost use Rattle.tt_stream.specs.Reads.{ConsumesBeginning};
 ghost use Rattle.hintcheck.specs.Certificates.{HasNoSection, IsChecked};
@@ -17,9 +17,7 @@ use crate::report::Name;
 use crate::sections::{HEADER, Progress, SECTIONS, next_section};
 use std::alloc::{AllocError, Global};
 use thiserror::Error;
-use tt_cert_file::{
-    DecodeFault, Decoder, EncodeFault, Encoder, read_end, read_header, write_header,
-};
+use tt_cert::{DecodeFault, Decoder, EncodeFault, Encoder, read_end, read_header, write_header};
 use tt_stream::{Sink, Source};
 
 /// How many sections a certificate has at least: those of a font program, a CVT program and no

@@ -4,7 +4,7 @@ ghost use Rattle.std.specs.Prelude.{◌≡◌, ℕ, ◌<◌, ◌^◌, [], IfErr,
 ghost use Rattle.tt_abs.specs.Entries.{Ascends};
 ghost use Rattle.tt_abs.specs.Settings.{programs_of, setting_of};
 ghost use Rattle.tt_abs.specs.StateFlow.{FunctionsFit};
-ghost use Rattle.tt_cert.specs.Budgets.{Spends};
+ghost use Rattle.tt_family.specs.Budgets.{Spends};
 ghost use Rattle.tt_code.specs.Fonts.{cvt_setting as setting_of_cvt_program, font_setting};
 ghost use Rattle.tt_font.specs.Conditions.{TestsWithMemory};
 ghost use Rattle.tt_font.specs.FileFaults.{font_fault};
@@ -22,8 +22,8 @@ use crate::report::{Name, Refused, Verdict};
 use std::alloc::{AllocError, Global};
 use thiserror::Error;
 use tt_abs::Setting;
-use tt_cert::{Budget, ProgramFault};
 use tt_code::Program;
+use tt_family::{Budget, ProgramFault};
 use tt_find::{Finder, Found};
 use tt_font::{Font, FontFault, GlyphPart};
 

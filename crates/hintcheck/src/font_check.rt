@@ -3,8 +3,8 @@
 ghost use Rattle.std.specs.Prelude.{◌≡◌, ℕ, ◌+◌, ◌<◌, ◌^◌, [], IfErr, IfOk, Ok, Err, OnOk, length};
 ghost use Rattle.tt_abs.specs.Entries.{Ascends};
 ghost use Rattle.tt_abs.specs.Settings.{setting_of};
-ghost use Rattle.tt_cert.specs.Budgets.{Spends};
-ghost use Rattle.tt_cert.specs.Checks.{IsOutOfMemory, Names};
+ghost use Rattle.tt_family.specs.Budgets.{Spends};
+ghost use Rattle.tt_family.specs.Checks.{IsOutOfMemory, Names};
 ghost use Rattle.tt_font.specs.FileFaults.{font_fault};
 ghost use Rattle.tt_font.specs.Reading.{FontData, Reads};
 ghost use Rattle.tt_stream.specs.Reads.{ConsumesBeginning};
@@ -29,8 +29,8 @@ use crate::session::{Outcome, Session};
 use std::alloc::{AllocError, Global};
 use thiserror::Error;
 use tt_abs::Setting;
-use tt_cert::{Budget, Certificate, ProgramFault, check_full_within, check_within};
-use tt_cert_file::{DecodeFault, Form, read_header};
+use tt_cert::{DecodeFault, Form, read_header};
+use tt_family::{Budget, Certificate, ProgramFault, check_full_within, check_within};
 use tt_font::{Font, FontFault, GlyphPart};
 use tt_stream::Source;
 

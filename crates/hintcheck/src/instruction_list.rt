@@ -9,15 +9,15 @@ ghost use Rattle.tt_stream.specs.Streams.{CountsPrintFailure};
 ghost use Rattle.hintcheck.specs.CommandFaults.{IsFaultOfLines, IsFaultOfListing};
 ghost use Rattle.hintcheck.specs.Commands.{TellsFailure};
 ghost use Rattle.hintcheck.specs.Listing.{CannotBeListed, HoldListedProgram, HoldNoSuchProgram, HoldToldProgram, HoldUnlistedProgram, IsListed, IsOf16Bits, IsPlain, Names, TellsUnlisted, last_line, line_of, lines_of, program_in, refused_in, shown_name};
-ghost use Rattle.tt_cert_file.specs.Names.{text_of};
+ghost use Rattle.tt_cert.specs.Names.{text_of};
 
 use crate::commands::faults::CommandFault;
 use crate::program::cut;
 use crate::report::{Name, Place, Refused};
 use std::alloc::{AllocError, Global};
 use std::fmt;
-use tt_cert::ProgramFault;
 use tt_code::{Instr, Program, Reason, name};
+use tt_family::ProgramFault;
 use tt_font::Font;
 use tt_stream::{PrintFailed, Sink};
 

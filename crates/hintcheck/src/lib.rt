@@ -26,5 +26,5 @@ pub use font_check::{CheckFontFault, check_font, check_font_within};
 pub use instruction_list::list_program;
 pub use report::{Name, Place, Refused, Verdict};
 pub use session::{Outcome, Session};
-pub use tt_cert::Budget;
+pub use tt_family::Budget;
 pub use tt_font::{FontFault, Tag, read_maxp};

@@ -8,10 +8,10 @@ ghost use Rattle.tt_code.specs.Settings.{GlyphProgram};
 ghost use Rattle.tt_abs.specs.Entries.{Ascends};
 ghost use Rattle.tt_abs.specs.Settings.{setting_of};
 ghost use Rattle.tt_abs.specs.StateFlow.{FunctionsFit};
-ghost use Rattle.tt_cert.specs.Budgets.{Spends};
-ghost use Rattle.tt_cert.specs.Checks.{IsOutOfMemory};
-ghost use Rattle.tt_cert.specs.Contents.{Contents, family_of};
-ghost use Rattle.tt_cert_file.specs.declared.form.Form.{Form};
+ghost use Rattle.tt_family.specs.Budgets.{Spends};
+ghost use Rattle.tt_family.specs.Checks.{IsOutOfMemory};
+ghost use Rattle.tt_family.specs.Contents.{Contents, family_of};
+ghost use Rattle.tt_cert.specs.declared.form.Form.{Form};
 ghost use Rattle.tt_find.specs.Found.{AreLeastContexts, HasLeastFilling, IsJustified, IsNeverEnding, NamesPlace, NeedsAll, NoneIsGood};
 ghost use Rattle.hintcheck.specs.CheckedFonts.{IsRefusedBy};
 ghost use Rattle.hintcheck.specs.FindingSessions.{IsFoundFor};
@@ -21,8 +21,8 @@ ghost use Rattle.hintcheck.specs.ProgramVerdicts.{IsAccepted, IsAppendedRefusal,
 use crate::report::{Name, Place, Refused};
 use std::alloc::{AllocError, Global};
 use tt_abs::Setting;
-use tt_cert::{Budget, ProgramFault, Spot, check_within};
 use tt_code::{CodeFault, Program, Reason};
+use tt_family::{Budget, ProgramFault, Spot, check_within};
 use tt_find::{Finder, Found};
 
 /// Returns which program holds a place of this spot, seen from the program of this name.

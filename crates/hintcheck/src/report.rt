@@ -5,7 +5,7 @@ ghost use Rattle.hintcheck.specs.Verdicts.{Judgement};
 
 use std::fmt;
 use std::marker::Model;
-pub use tt_cert_file::Name;
+pub use tt_cert::Name;
 use tt_code::Reason;
 
 /// An offset in a program.

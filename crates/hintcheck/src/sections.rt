@@ -1,8 +1,8 @@
 //! The sections of a certificate, read one after the other.
 
 ghost use Rattle.std.specs.Prelude.{◌≡◌, ◌↔◌, IfErr, IsTrue};
-ghost use Rattle.tt_cert_file.specs.Answers.{CountsRead, StopsAtEnd};
-ghost use Rattle.tt_cert_file.specs.Reading.{section_at};
+ghost use Rattle.tt_cert.specs.Answers.{CountsRead, StopsAtEnd};
+ghost use Rattle.tt_cert.specs.Reading.{section_at};
 ghost use Rattle.tt_stream.specs.Reads.{ConsumesBeginning};
 ghost use Rattle.hintcheck.specs.CertificateFaults.{Decodes};
 ghost use Rattle.hintcheck.specs.Certificates.{HasNoSection, IsSectionOf};
@@ -11,8 +11,8 @@ ghost use Rattle.hintcheck.specs.Representation.ReadProgress.{input_from};
 
 use crate::report::Name;
 use std::alloc::Global;
-use tt_cert::Certificate;
-use tt_cert_file::{DecodeFault, Decoder, Form};
+use tt_cert::{DecodeFault, Decoder, Form};
+use tt_family::Certificate;
 use tt_stream::Source;
 
 /// How many bytes the header of a certificate file has.

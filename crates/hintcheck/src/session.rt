@@ -3,7 +3,7 @@
 
 ghost use Rattle.std.specs.Prelude.{◌≡◌, ◌≢◌, ◌+◌, ◌<◌, ◌↔◌, IfErr, IfOk, IsTrue, None, Ok, Err, Option, Some, length};
 ghost use Rattle.tt_abs.specs.Entries.{Ascends};
-ghost use Rattle.tt_cert.specs.Budgets.{Spends};
+ghost use Rattle.tt_family.specs.Budgets.{Spends};
 ghost use Rattle.tt_stream.specs.Reads.{ConsumesBeginning};
 ghost use Rattle.hintcheck.specs.BudgetAnswers.{CheckTellsBudget, FindNextTellsBudget, IsCheckFaultOutsideFont};
 ghost use Rattle.hintcheck.specs.CertificateFaults.{CountsCheck, IsCheckFaultOutsideFontAndBudget};
@@ -32,8 +32,8 @@ use crate::session::find::find_from;
 use std::alloc::{AllocError, Global};
 use std::marker::Model;
 use std::mem;
-use tt_cert::{Budget, ProgramFault};
-use tt_cert_file::{Decoder, read_end};
+use tt_cert::{Decoder, read_end};
+use tt_family::{Budget, ProgramFault};
 use tt_find::{Finder, Found};
 use tt_font::Font;
 use tt_stream::Source;

@@ -3,7 +3,7 @@
 #![tactic(auto)]
 
 ghost use Rattle.std.specs.Prelude.{◌≡◌, ◌≢◌, ◌+◌, ◌<◌, ◌≤◌, [], IfErr, IfOk, length};
-ghost use Rattle.tt_cert.specs.Budgets.{IsExceeded, Spends};
+ghost use Rattle.tt_family.specs.Budgets.{IsExceeded, Spends};
 ghost use Rattle.hintcheck.specs.CheckedFonts.{AnswersFinding};
 ghost use Rattle.hintcheck.specs.FontPrograms.{IsSafeFont};
 ghost use Rattle.hintcheck.specs.MeansSafe.{HoldRefusedFont, HoldSafeFont};

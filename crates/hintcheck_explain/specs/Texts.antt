@@ -4,8 +4,8 @@ use Rattle.std.specs.Fmt.{decimal}
 use Rattle.std.specs.Io.KnownBytes.{Appends}
 use Rattle.tt_code.specs.Refusals.{number_of, reason_text}
 use Rattle.tt_code.specs.declared.reason.Reason.{Reason}
-use Rattle.tt_cert_file.specs.Names.{text_of}
-use Rattle.tt_cert_file.specs.declared.name.Name.{Name}
+use Rattle.tt_cert.specs.Names.{text_of}
+use Rattle.tt_cert.specs.declared.name.Name.{Name}
 
 -- a program's name and an offset in it, as `g12:73`
 abbrev pub place_text : Name → ℕ → List ℕ

@@ -3,8 +3,8 @@
 ghost use Rattle.tt_stream.specs.Streams.{CountsPrintFailure};
 
 use crate::subject::Subject;
-use tt_cert::Certificate;
 use tt_code::Program;
+use tt_family::Certificate;
 use tt_stream::{PrintFailed, Sink};
 
 /// Returns how many instructions a program has.

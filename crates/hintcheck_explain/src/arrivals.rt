@@ -7,8 +7,8 @@ use crate::trouble::{Arrival, Trouble};
 use std::alloc::{AllocError, Global};
 use std::fmt;
 use tt_abs::State;
-use tt_cert::PointKey;
 use tt_code::Frame;
+use tt_family::PointKey;
 
 /// How many of the ways that come to a place are printed.
 const SHOWN_WAYS: usize = 8;

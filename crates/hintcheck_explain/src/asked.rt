@@ -2,7 +2,7 @@
 
 use std::alloc::AllocError;
 use thiserror::Error;
-use tt_cert_file::Name;
+use tt_cert::Name;
 use tt_stream::PrintFailed;
 
 /// A program, and the place in it that is asked for.

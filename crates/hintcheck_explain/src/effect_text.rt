@@ -8,9 +8,9 @@ use crate::instruction_text::name_of;
 use crate::subject::Subject;
 use std::fmt;
 use tt_abs::State;
-use tt_cert::PointKey;
 use tt_code::kinds::{Arithmetic, Control, Effect, Operand, Row, StackOp};
 use tt_code::{Instr, entry};
+use tt_family::PointKey;
 use tt_stream::{PrintFailed, Sink};
 
 /// Returns an operand in words.

@@ -15,8 +15,8 @@ use crate::refusal::tell_refusal;
 use crate::subject::Subject;
 use std::alloc::Global;
 use tt_abs::Setting;
-use tt_cert::{ProgramFault, Spot};
 use tt_code::Reason;
+use tt_family::{ProgramFault, Spot};
 use tt_find::explore;
 use tt_stream::Sink;
 

@@ -3,7 +3,7 @@
 use crate::instruction_text::{InstructionText, length_by_code};
 use crate::place::Place;
 use std::fmt;
-use tt_cert_file::Name;
+use tt_cert::Name;
 use tt_code::Program;
 
 /// How many instructions are listed.

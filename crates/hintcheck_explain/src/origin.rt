@@ -7,7 +7,7 @@ use crate::stepping::{Outcome, outcome_at};
 use crate::subject::Subject;
 use std::alloc::{AllocError, Global};
 use tt_abs::Cell;
-use tt_cert::PointKey;
+use tt_family::PointKey;
 
 /// How many numbers at points are looked at, at most.
 const MOST_LOOKS: usize = 1000;

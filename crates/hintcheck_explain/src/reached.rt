@@ -11,7 +11,7 @@ use crate::place::{Place, program_at};
 use crate::subject::Subject;
 use std::alloc::Global;
 use tt_abs::State;
-use tt_cert::PointKey;
+use tt_family::PointKey;
 use tt_stream::Sink;
 
 /// How many contexts of a place are printed.

@@ -22,8 +22,8 @@ use crate::subject::Subject;
 use crate::trouble::Trouble;
 use std::alloc::{AllocError, Global};
 use tt_abs::{Point, State};
-use tt_cert::{PointKey, Spot};
 use tt_code::{Frame, Reason};
+use tt_family::{PointKey, Spot};
 use tt_stream::{PrintFailed, Sink};
 
 /// Where a program is refused, what is known there, and which test fails.

@@ -5,7 +5,7 @@ use crate::subject::Subject;
 use std::alloc::{AllocError, Global};
 use std::collections::BTreeMap;
 use std::fmt;
-use tt_cert::PointKey;
+use tt_family::PointKey;
 
 /// How many branches of a route are printed.
 const SHOWN_BRANCHES: usize = 12;

@@ -2,7 +2,7 @@
 
 use crate::element::Element;
 use crate::place::Place;
-use tt_cert::PointKey;
+use tt_family::PointKey;
 
 /// What an instruction uses a number as: the number of a point, the index of a storage cell, a
 /// count, and so on.

@@ -1,4 +1,4 @@
-//! Tests of `tt_cert_file`: sections and headers of certificate files, whose bytes were worked out
+//! Tests of `tt_cert`: sections and headers of certificate files, whose bytes were worked out
 //! by hand.
 
 mod ahead;

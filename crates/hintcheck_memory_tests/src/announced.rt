@@ -6,7 +6,7 @@ use hintcheck_test_fixtures::section_calls::{AT_START, Told, decoded};
 use hintcheck_test_fixtures::streams::steps_of;
 use std::process::Abort;
 use std::test::Fail;
-use tt_cert_file::Form;
+use tt_cert::Form;
 
 /// How many bytes are left: less than one for each of 65,534.
 const LEFT: usize = 20_000;

@@ -5,8 +5,8 @@ use crate::trials::{Told, Trial, refusals_of};
 use hintcheck_test_fixtures::families::{CALL, add, join, put, state_of};
 use std::alloc::Global;
 use std::test::Fail;
-use tt_cert::{Builder, ContextFault, JoinFault};
 use tt_code::Frame;
+use tt_family::{Builder, ContextFault, JoinFault};
 
 /// A call on a builder.
 #[derive(Clone, Copy, Debug)]

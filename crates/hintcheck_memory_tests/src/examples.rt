@@ -9,7 +9,7 @@ use hintcheck_test_fixtures::stored_certificates::FORM_1;
 use hintcheck_test_fixtures::streams::{ALL, steps_of};
 use std::alloc::Global;
 use std::test::Fail;
-use tt_cert_file::Form;
+use tt_cert::Form;
 
 /// The programs of such a font.
 #[derive(Clone, Copy)]

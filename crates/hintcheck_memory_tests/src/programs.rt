@@ -14,8 +14,8 @@ use std::alloc::{AllocError, Global};
 use std::test::Fail;
 use tt_abs::Cell::Known;
 use tt_abs::{Kind, Point, Refusal, Setting, State, transfer};
-use tt_cert::{ProgramFault, check, check_full};
 use tt_code::{CodeFault, Program};
+use tt_family::{ProgramFault, check, check_full};
 use tt_find::find;
 
 /// A call on the program of the last glyph.

@@ -13,7 +13,7 @@ use std::alloc::Global;
 use std::marker::Brand;
 use std::sync::ledger::{Blank, Ledger};
 use std::test::Fail;
-use tt_cert_file::{EncodeFault, encode};
+use tt_cert::{EncodeFault, encode};
 use tt_stream::Counted;
 
 /// A call on the section of the last glyph.

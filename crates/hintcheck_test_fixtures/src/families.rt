@@ -8,9 +8,9 @@ ghost use Rattle.tt_abs.specs.States.{state_order};
 use std::alloc::{AllocError, Global};
 use tt_abs::Cell::Known;
 use tt_abs::{Cell, State, ZoneCell};
-use tt_cert::{Builder, Certificate, ContextFault, JoinFault, Joined, States};
 use tt_code::kinds::{Pointer, Reference};
 use tt_code::{Frame, Graphics};
+use tt_family::{Builder, Certificate, ContextFault, JoinFault, Joined, States};
 
 /// A listed state: its context, its offset and the numbers on its stack, the bottom first.
 pub type Listed<'a> = (u32, u32, &'a [i32]);

@@ -1,4 +1,4 @@
-//! What the calls of `tt_cert_file` tell of readers and writers that pass little at a time, or
+//! What the calls of `tt_cert` tell of readers and writers that pass little at a time, or
 //! fail.
 
 ghost use Rattle.std.specs.Prelude.{◌≡◌, ◌<◌};
@@ -7,10 +7,10 @@ use crate::streams::{ALL, Steps, Taker};
 use std::alloc::Global;
 use std::marker::Brand;
 use std::sync::ledger::{Blank, Ledger};
-use tt_cert::Certificate;
-use tt_cert_file::{
+use tt_cert::{
     DecodeFault, EncodeFault, Form, Name, decode, encode, read_end, read_header, write_header,
 };
+use tt_family::Certificate;
 use tt_stream::Counted;
 
 /// What is known of the graphics state where a program starts: the reference points are 0, the

@@ -1,57 +1,86 @@
-//! Why a builder refuses a context or a state, and why a program isn't accepted.
+//! Why a header or a section wasn't read or written.
 
-use crate::spot::Spot;
-use std::alloc::AllocError;
+use std::alloc::{AllocError, AllocFailed};
 use thiserror::Error;
-use tt_code::Reason;
+use tt_stream::{ReadFailed, WriteFailed};
 
-/// Why a builder refuses a context; the builder stays as it is.
-#[derive(Clone, Copy, Debug, PartialEq, Eq, Error)]
-pub enum ContextFault {
-    /// There are 65,535 contexts, and this one isn't among them.
-    #[error("too many contexts")]
-    TooManyContexts,
-    /// A growth of memory was refused.
-    #[error("out of memory")]
-    OutOfMemory,
-}
-
-/// Why a builder refuses a state; the builder stays as it is.
-#[derive(Clone, Copy, Debug, PartialEq, Eq, Error)]
-pub enum JoinFault {
-    /// A state of another depth is at the point.
-    #[error("depth mismatch")]
-    DepthMismatch,
-    /// A growth of memory was refused, or there are 4,294,967,295 states.
-    #[error("out of memory")]
-    OutOfMemory,
-}
-
-/// Why a program isn't accepted: it is refused by the finder, since no family is good for it, or by
-/// the check, since its certificate's family isn't; or memory ran out, or the budget is exceeded.
+/// Why a header or a section wasn't read, or a file doesn't end where it should.
 #[derive(Debug, Drop, Error)]
-pub enum ProgramFault {
-    /// What is broken first, and where: in which program, and at which offset there. An offset
-    /// above 4,294,967,295 is given as that number.
-    #[error("{reason}")]
-    Refused {
-        spot: Spot,
-        offset: u32,
-        reason: Reason,
-    },
-    /// A growth of memory was refused, or the budget is exceeded, as `Budget::is_exceeded` tells.
-    /// Neither tells anything of the program.
-    #[error(transparent)]
+pub enum DecodeFault {
+    /// The bytes aren't a header or a section, or follow the last section: the place of the first
+    /// byte of what breaks a rule, or of the input's end where that comes too early.
+    #[error("certificate form at byte {0}")]
+    Form(u64),
+    /// A read failed.
+    #[error("read")]
+    Read,
+    /// Memory ran out.
+    #[error("out of memory")]
     OutOfMemory(AllocError),
 }
 
-impl From<AllocError> for ProgramFault {
+impl From<ReadFailed> for DecodeFault {
     ghost use Rattle.std.specs.Prelude.{◌≡◌};
-    ghost use Rattle.tt_cert.specs.declared.fault.ProgramFault.{ProgramFault};
+    ghost use Rattle.tt_cert.specs.declared.fault.DecodeFault.TheVariants.{Read};
 
-    ghost from_gives = { λ r e. e ≡ ProgramFault.OutOfMemory r };
+    ghost from_gives = { λ _ fault. fault ≡ Read };
 
-    fn from(error: AllocError) -> ProgramFault {
-        ProgramFault::OutOfMemory(error)
+    fn from(_failed: ReadFailed) -> DecodeFault {
+        DecodeFault::Read
+    }
+}
+
+impl From<AllocError> for DecodeFault {
+    ghost use Rattle.std.specs.Prelude.{◌≡◌};
+    ghost use Rattle.tt_cert.specs.declared.fault.DecodeFault.TheVariants.{OutOfMemory};
+
+    ghost from_gives = { λ error fault. fault ≡ OutOfMemory error };
+
+    fn from(error: AllocError) -> DecodeFault {
+        DecodeFault::OutOfMemory(error)
+    }
+}
+
+impl<T: Drop> From<AllocFailed<T>> for DecodeFault {
+    ghost use Rattle.std.specs.Prelude.{◌≡◌, alloc_error};
+    ghost use Rattle.tt_cert.specs.declared.fault.DecodeFault.TheVariants.{OutOfMemory};
+
+    ghost from_gives = { λ _ fault. fault ≡ OutOfMemory alloc_error };
+
+    fn from(_failed: AllocFailed<T>) -> DecodeFault {
+        DecodeFault::OutOfMemory(AllocError)
+    }
+}
+
+/// Why a header or a section wasn't written.
+#[derive(Debug, Drop, Error)]
+pub enum EncodeFault {
+    /// A write failed.
+    #[error("write")]
+    Write,
+    /// Memory ran out.
+    #[error("out of memory")]
+    OutOfMemory(AllocError),
+}
+
+impl From<WriteFailed> for EncodeFault {
+    ghost use Rattle.std.specs.Prelude.{◌≡◌};
+    ghost use Rattle.tt_cert.specs.declared.fault.EncodeFault.TheVariants.{Write};
+
+    ghost from_gives = { λ _ fault. fault ≡ Write };
+
+    fn from(_failed: WriteFailed) -> EncodeFault {
+        EncodeFault::Write
+    }
+}
+
+impl From<AllocError> for EncodeFault {
+    ghost use Rattle.std.specs.Prelude.{◌≡◌};
+    ghost use Rattle.tt_cert.specs.declared.fault.EncodeFault.TheVariants.{OutOfMemory};
+
+    ghost from_gives = { λ error fault. fault ≡ OutOfMemory error };
+
+    fn from(error: AllocError) -> EncodeFault {
+        EncodeFault::OutOfMemory(error)
     }
 }

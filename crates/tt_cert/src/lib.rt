@@ -1,34 +1,24 @@
-//! Families of abstract states by context and offset: their builder, the finished certificate, and
-//! the check of it.
+//! Certificate files: the text of a font's certificate, written to and read from streams.
 #![tactic(auto)]
 
-pub mod budget;
-pub mod builder;
-pub mod certificate;
-pub mod checker;
-mod cursor;
-pub mod fault;
-mod finish;
-pub mod joined;
-mod landing;
-mod listing;
-mod meeting;
-mod offset_list;
-mod slot_index;
-pub mod spot;
-mod state_store;
-pub mod states;
+mod contexts;
+mod fault;
+mod form;
+mod header;
+mod laws;
+mod lists;
+mod name;
+mod reading;
+mod shared_cells;
+mod stack_text;
+mod states;
+mod units;
+mod writing;
 
-pub use budget::Budget;
-pub use builder::Builder;
-pub use certificate::Certificate;
-pub use checker::{
-    check, check_full, check_full_within, check_within, ends_well, is_short, one_good_filling,
-};
-pub use fault::{ContextFault, JoinFault, ProgramFault, ProgramFault as CheckFault};
-pub use joined::Joined;
-pub use landing::{Landing, landing_of};
-pub use listing::added_after;
-pub use slot_index::PointKey;
-pub use spot::Spot;
-pub use states::States;
+pub use fault::{DecodeFault, EncodeFault};
+pub use form::Form;
+pub use header::{read_end, read_header, write_header};
+pub use laws::no_section_begins_another;
+pub use name::Name;
+pub use reading::{Decoder, decode};
+pub use writing::{Encoder, encode};

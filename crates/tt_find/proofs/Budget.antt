@@ -8,9 +8,9 @@ use Rattle.tt_abs.specs.declared.state.State.{State}
 use Rattle.tt_abs.specs.Orders.{Order, OrderLaws}
 use Rattle.tt_abs.specs.Families.{IsFamilyInRange}
 use Rattle.tt_abs.specs.StateFlow.{Place}
-use Rattle.tt_cert.specs.Contents.{Contents, IsFamily, family_of, number_of, total}
-use Rattle.tt_cert.specs.Places.{PutGives, PutsAt, states_of}
-use Rattle.tt_cert.specs.Puts.{Reweighs, place_of, weigh}
+use Rattle.tt_family.specs.Contents.{Contents, IsFamily, family_of, number_of, total}
+use Rattle.tt_family.specs.Places.{PutGives, PutsAt, states_of}
+use Rattle.tt_family.specs.Puts.{Reweighs, place_of, weigh}
 use Rattle.tt_find.specs.Representation.Solvers.{IsWithinBudget}
 
 -- how many states there are, as a sum

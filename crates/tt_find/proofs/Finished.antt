@@ -15,16 +15,16 @@ use Rattle.tt_abs.specs.StateFlow.{FitsLimits, GivesState, Place, flow_of, heigh
 use Rattle.tt_abs.specs.States.{state_laws, state_order}
 use Rattle.tt_abs.proofs.FunctionBodies.{derived_bodies}
 use Rattle.tt_abs.proofs.LineLaws.{precedes_one, precedes_ascends}
-use Rattle.tt_cert.specs.Checks.{IsOutOfMemory, point_key_of}
-use Rattle.tt_cert.specs.Contents.{HasContext, family_of, number_of}
-use Rattle.tt_cert.specs.Fillings.{IsFilling}
-use Rattle.tt_cert.specs.GoodFamilies.{EndsWell, HasEnd, HasFewContexts, IsGoodFamily, IsShortEnough}
-use Rattle.tt_cert.specs.Numbers.{at-number_of}
-use Rattle.tt_cert.specs.Places.{has_point}
-use Rattle.tt_cert.specs.Ascending.{family_without}
-use Rattle.tt_cert.proofs.FillingLaws.{ends_kept, ends_listed, some_or_none}
-use Rattle.tt_cert.specs.declared.fault.ProgramFault.{ProgramFault}
-use Rattle.tt_cert.specs.declared.fault.ProgramFault.TheVariants.{Refused, OutOfMemory}
+use Rattle.tt_family.specs.Checks.{IsOutOfMemory, point_key_of}
+use Rattle.tt_family.specs.Contents.{HasContext, family_of, number_of}
+use Rattle.tt_family.specs.Fillings.{IsFilling}
+use Rattle.tt_family.specs.GoodFamilies.{EndsWell, HasEnd, HasFewContexts, IsGoodFamily, IsShortEnough}
+use Rattle.tt_family.specs.Numbers.{at-number_of}
+use Rattle.tt_family.specs.Places.{has_point}
+use Rattle.tt_family.specs.Ascending.{family_without}
+use Rattle.tt_family.proofs.FillingLaws.{ends_kept, ends_listed, some_or_none}
+use Rattle.tt_family.specs.declared.fault.ProgramFault.{ProgramFault}
+use Rattle.tt_family.specs.declared.fault.ProgramFault.TheVariants.{Refused, OutOfMemory}
 use Rattle.tt_find.specs.declared.solver.Solver.{Solver}
 use Rattle.tt_find.specs.Found.{AreDerivedContexts, AreLeastContexts, HasLeastFilling, KeepsBodies, IsDerived, IsJustified, IsLeast, IsNeverEnding, LacksEnd, NamesPlace, NeedsAll, NoneIsGood, too_long, refused, apart, too_many, never_ends}
 use Rattle.tt_find.specs.Representation.Solvers.{HasLaws, IsAmong, IsListed, IsWhole, MayLead}

@@ -12,17 +12,17 @@ use Rattle.tt_abs.specs.Lines.{Precedes}
 use Rattle.tt_abs.specs.Moves.{frames_after, offset_after, ways_of}
 use Rattle.tt_abs.specs.StateFlow.{Place, flow_of, height_of}
 use Rattle.tt_abs.specs.States.{state_order}
-use Rattle.tt_cert.specs.Contents.{AddsContext, Contents, HasContext, IsFamily, frames_at}
-use Rattle.tt_cert.specs.Places.{states_of}
-use Rattle.tt_cert.specs.Puts.{place_of}
-use Rattle.tt_cert.specs.Spots.{spot_of}
-use Rattle.tt_cert.specs.Checks.{IsOutOfMemory}
-use Rattle.tt_cert.specs.declared.fault.ContextFault.{ContextFault}
-use Rattle.tt_cert.specs.declared.fault.ContextFault.TheVariants.{TooManyContexts as TooMany, OutOfMemory as NoMemory}
-use Rattle.tt_cert.specs.declared.fault.ProgramFault.{ProgramFault}
-use Rattle.tt_cert.specs.declared.fault.ProgramFault.TheVariants.{Refused, OutOfMemory}
+use Rattle.tt_family.specs.Contents.{AddsContext, Contents, HasContext, IsFamily, frames_at}
+use Rattle.tt_family.specs.Places.{states_of}
+use Rattle.tt_family.specs.Puts.{place_of}
+use Rattle.tt_family.specs.Spots.{spot_of}
+use Rattle.tt_family.specs.Checks.{IsOutOfMemory}
+use Rattle.tt_family.specs.declared.fault.ContextFault.{ContextFault}
+use Rattle.tt_family.specs.declared.fault.ContextFault.TheVariants.{TooManyContexts as TooMany, OutOfMemory as NoMemory}
+use Rattle.tt_family.specs.declared.fault.ProgramFault.{ProgramFault}
+use Rattle.tt_family.specs.declared.fault.ProgramFault.TheVariants.{Refused, OutOfMemory}
 use Rattle.tt_find.specs.Found.{IsJustified, NamesPlace}
-use Rattle.tt_cert.specs.Fillings.{IsJustAfter}
+use Rattle.tt_family.specs.Fillings.{IsJustAfter}
 use Rattle.tt_find.specs.Representation.Solvers.{ComesFrom, IsCountable, HasLaws, IsLeading, IsLeadingAt, IsLeadingOn, IsLeadingTo, IsOnWay, IsStored, IsWalk, IsWhole, TellsSource, calls_of, here_of, place_of_way, place_over, places_from}
 use Rattle.tt_find.specs.declared.origin.Origin.{Origin}
 use Rattle.tt_find.specs.declared.origin.Origin.TheVariants.{JustBefore, Elsewhere}

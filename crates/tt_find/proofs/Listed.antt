@@ -6,16 +6,16 @@ use Rattle.tt_code.specs.declared.machine.Frame.{Frame}
 use Rattle.tt_abs.specs.declared.state.State.{State}
 use Rattle.tt_abs.specs.StateFlow.{Place}
 use Rattle.tt_abs.specs.States.{state_order}
-use Rattle.tt_cert.specs.Checks.{point_key_of}
-use Rattle.tt_cert.specs.Contents.{AddsContext, Contents, IsFamily, family_of, frames_at, number_of}
-use Rattle.tt_cert.specs.Joins.{TellsNew}
-use Rattle.tt_cert.specs.Numbers.{at-number_of}
-use Rattle.tt_cert.specs.Places.{PutGives, PutsAt, has_point, place_cmp}
-use Rattle.tt_cert.specs.Puts.{number_at, place_of}
-use Rattle.tt_cert.specs.declared.joined.Joined.{Joined}
-use Rattle.tt_cert.specs.declared.joined.Joined.TheVariants.{New}
-use Rattle.tt_cert.proofs.FillingLaws.{some_or_none}
-use Rattle.tt_cert.proofs.Puts.{places_apart}
+use Rattle.tt_family.specs.Checks.{point_key_of}
+use Rattle.tt_family.specs.Contents.{AddsContext, Contents, IsFamily, family_of, frames_at, number_of}
+use Rattle.tt_family.specs.Joins.{TellsNew}
+use Rattle.tt_family.specs.Numbers.{at-number_of}
+use Rattle.tt_family.specs.Places.{PutGives, PutsAt, has_point, place_cmp}
+use Rattle.tt_family.specs.Puts.{number_at, place_of}
+use Rattle.tt_family.specs.declared.joined.Joined.{Joined}
+use Rattle.tt_family.specs.declared.joined.Joined.TheVariants.{New}
+use Rattle.tt_family.proofs.FillingLaws.{some_or_none}
+use Rattle.tt_family.proofs.Puts.{places_apart}
 use Rattle.tt_find.specs.Representation.Solvers.{IsListed, SparesAt}
 use Rattle.tt_find.specs.declared.origin.Origin.{Origin}
 use Rattle.tt_find.specs.declared.origin.Origin.TheVariants.{JustBefore, Elsewhere}

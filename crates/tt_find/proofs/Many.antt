@@ -9,8 +9,8 @@ use Rattle.std.proofs.lemmas.Map.Keys.{IsDistinct-from_apart}
 use Rattle.std.proofs.lemmas.Map.Steps.{length-le_from_distinct_below}
 use Rattle.std.proofs.lemmas.Map.Views.{Contains-from_any, exact_unsigned_eq}
 use Rattle.tt_code.specs.declared.machine.Frame.{Frame}
-use Rattle.tt_cert.specs.Contents.{HasContext, frames_at, number_of}
-use Rattle.tt_cert.specs.Numbers.{at-number_of}
+use Rattle.tt_family.specs.Contents.{HasContext, frames_at, number_of}
+use Rattle.tt_family.specs.Numbers.{at-number_of}
 
 -- contexts with no two the same, all of which another list has, are at most as many
 pub few_from_all : (xs ys : List (List Frame))

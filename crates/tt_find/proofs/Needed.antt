@@ -12,11 +12,11 @@ use Rattle.tt_abs.specs.Lines.{Precedes}
 use Rattle.tt_abs.specs.StateFlow.{GivesState, Place, RefusesState, flow_of, height_of}
 use Rattle.tt_abs.specs.States.{start_of, state_laws, state_order}
 use Rattle.tt_abs.proofs.LineLaws.{precedes_no_start, precedes_ascends}
-use Rattle.tt_cert.specs.Checks.{BreaksAt, IsFillingBrokenFirst, IsFirstBreakOnTheWay, IsGap, stores, refused, leaves, too_long, no_start, no_end, no_way}
-use Rattle.tt_cert.specs.Contents.{Contents, family_of}
-use Rattle.tt_cert.specs.Fillings.{HasGoodFilling, IsFilling}
-use Rattle.tt_cert.specs.GoodFamilies.{EndsWell, IsGoodFamily}
-use Rattle.tt_cert.proofs.FillingLaws.{ends_listed, some_or_none}
+use Rattle.tt_family.specs.Checks.{BreaksAt, IsFillingBrokenFirst, IsFirstBreakOnTheWay, IsGap, stores, refused, leaves, too_long, no_start, no_end, no_way}
+use Rattle.tt_family.specs.Contents.{Contents, family_of}
+use Rattle.tt_family.specs.Fillings.{HasGoodFilling, IsFilling}
+use Rattle.tt_family.specs.GoodFamilies.{EndsWell, IsGoodFamily}
+use Rattle.tt_family.proofs.FillingLaws.{ends_listed, some_or_none}
 use Rattle.tt_find.specs.Found.{IsDerived, IsNeeded, IsWithout, LacksPoint, NeedsAll}
 use Rattle.tt_find.specs.Representation.Solvers.{HasLaws}
 use Rattle.tt_find.proofs.Points.{same_or_apart}

@@ -4,9 +4,9 @@ use Rattle.std.proofs.Common.{sym, ◌∙◌, ap, arith}
 use Rattle.tt_abs.specs.declared.state.State.{State}
 use Rattle.tt_abs.specs.Orders.{Order}
 use Rattle.tt_abs.specs.StateFlow.{Place}
-use Rattle.tt_cert.specs.Contents.{Contents, IsFamily, family_of, frames_at}
-use Rattle.tt_cert.specs.Places.{PutGives, PutsAt, states_of}
-use Rattle.tt_cert.specs.Puts.{family_at, place_of}
+use Rattle.tt_family.specs.Contents.{Contents, IsFamily, family_of, frames_at}
+use Rattle.tt_family.specs.Places.{PutGives, PutsAt, states_of}
+use Rattle.tt_family.specs.Puts.{family_at, place_of}
 
 module _ (o : Order State) (v v' : Contents) (c off : ℕ) (t : State) (changed : Bool) (lt : c < length v.contexts) (put : PutsAt o (family_of v) (family_of v') (place_of v c off) t changed)
     (same : v'.contexts ≡ v.contexts) (family' : IsFamily v') where

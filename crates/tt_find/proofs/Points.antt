@@ -12,12 +12,12 @@ use Rattle.tt_abs.specs.Orders.{Order, OrderLaws}
 use Rattle.tt_abs.specs.Flows.{Flow}
 use Rattle.tt_abs.specs.Families.{Derived}
 use Rattle.tt_abs.specs.StateFlow.{Place}
-use Rattle.tt_cert.specs.Checks.{point_key_of}
-use Rattle.tt_cert.specs.Contents.{AddsContext, Contents, IsFamily, family_of, frames_at, number_of, same_frames}
-use Rattle.tt_cert.specs.Numbers.{at-number_of, number_of-append, number_of-place, same_frames-decides}
-use Rattle.tt_cert.specs.Places.{PutGives, PutsAt, has_point, states_of}
-use Rattle.tt_cert.specs.Puts.{family_at, number_at, place_of}
-use Rattle.tt_cert.proofs.Puts.{cases_place}
+use Rattle.tt_family.specs.Checks.{point_key_of}
+use Rattle.tt_family.specs.Contents.{AddsContext, Contents, IsFamily, family_of, frames_at, number_of, same_frames}
+use Rattle.tt_family.specs.Numbers.{at-number_of, number_of-append, number_of-place, same_frames-decides}
+use Rattle.tt_family.specs.Places.{PutGives, PutsAt, has_point, states_of}
+use Rattle.tt_family.specs.Puts.{family_at, number_at, place_of}
+use Rattle.tt_family.proofs.Puts.{cases_place}
 use Rattle.tt_find.specs.Representation.Solvers.{IsAmong, IsSoundSoFar, WaitsMore}
 use Rattle.tt_find.proofs.Waits.{point_behind, point_here}
 use Rattle.tt_find.proofs.Sound.{sound_moved, sound_opened, sound_put}

@@ -5,7 +5,7 @@ use Rattle.tt_code.specs.declared.reason.Reason.{Reason}
 use Rattle.tt_abs.specs.Orders.{Order, OrderLaws}
 use Rattle.tt_abs.specs.Flows.{Flow}
 use Rattle.tt_abs.specs.Families.{CoversAt, Derived, moved, joined, IsGood}
-use Rattle.tt_cert.specs.Places.{PutGives, PutsAt}
+use Rattle.tt_family.specs.Places.{PutGives, PutsAt}
 use Rattle.tt_find.specs.Representation.Solvers.{IsSoundFamily}
 
 module _ {S : Type 0} (o : Order S) where

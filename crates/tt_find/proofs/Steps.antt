@@ -16,16 +16,16 @@ use Rattle.tt_abs.specs.Lines.{Precedes}
 use Rattle.tt_abs.specs.StateFlow.{IsPlace, Place, flow_of, height_of}
 use Rattle.tt_abs.specs.States.{state_laws, state_order}
 use Rattle.tt_abs.proofs.LineLaws.{precedes_no_start, precedes_one}
-use Rattle.tt_cert.specs.Checks.{point_key_of}
-use Rattle.tt_cert.specs.Contents.{AddsContext, Contents, HasContext, IsFamily, family_of, frames_at, number_of}
-use Rattle.tt_cert.specs.Numbers.{at-number_of, number_of-place}
-use Rattle.tt_cert.specs.Places.{PutGives, PutsAt, has_point, states_of}
-use Rattle.tt_cert.specs.Puts.{family_at, number_at, place_of}
-use Rattle.tt_cert.specs.Spots.{spot_of}
-use Rattle.tt_cert.specs.declared.spot.Spot.{Spot}
-use Rattle.tt_cert.proofs.Puts.{cases_place}
-use Rattle.tt_cert.specs.declared.fault.ProgramFault.{ProgramFault}
-use Rattle.tt_cert.specs.declared.fault.ProgramFault.TheVariants.{Refused, OutOfMemory}
+use Rattle.tt_family.specs.Checks.{point_key_of}
+use Rattle.tt_family.specs.Contents.{AddsContext, Contents, HasContext, IsFamily, family_of, frames_at, number_of}
+use Rattle.tt_family.specs.Numbers.{at-number_of, number_of-place}
+use Rattle.tt_family.specs.Places.{PutGives, PutsAt, has_point, states_of}
+use Rattle.tt_family.specs.Puts.{family_at, number_at, place_of}
+use Rattle.tt_family.specs.Spots.{spot_of}
+use Rattle.tt_family.specs.declared.spot.Spot.{Spot}
+use Rattle.tt_family.proofs.Puts.{cases_place}
+use Rattle.tt_family.specs.declared.fault.ProgramFault.{ProgramFault}
+use Rattle.tt_family.specs.declared.fault.ProgramFault.TheVariants.{Refused, OutOfMemory}
 use Rattle.tt_find.specs.Representation.OffsetMarks.{SetsMark, mark_of}
 use Rattle.tt_find.specs.declared.marks.Mark.TheVariants.{Kept, Passed}
 use Rattle.tt_find.specs.declared.marks.OffsetMarks.{OffsetMarks}

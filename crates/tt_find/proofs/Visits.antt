@@ -9,8 +9,8 @@ use Rattle.tt_abs.specs.Lines.{Precedes}
 use Rattle.tt_abs.specs.StateFlow.{Place}
 use Rattle.tt_abs.specs.States.{state_laws, state_order}
 use Rattle.tt_abs.proofs.LineLaws.{precedes_one, precedes_ascends}
-use Rattle.tt_cert.specs.Places.{PutGives, PutsAt}
-use Rattle.tt_cert.proofs.FillingLaws.{some_or_none}
+use Rattle.tt_family.specs.Places.{PutGives, PutsAt}
+use Rattle.tt_family.proofs.FillingLaws.{some_or_none}
 use Rattle.tt_find.specs.Found.{HasPlace}
 use Rattle.tt_find.specs.Representation.Solvers.{ArePoints, AreVisits}
 use Rattle.tt_find.proofs.Points.{same_or_apart}

@@ -12,8 +12,8 @@ use Rattle.std.proofs.Common.{refl, sym, ◌∙◌, ap, subst, arith, inl, inr}
 use Rattle.std.proofs.lemmas.Cmp.{tied_itself}
 use Rattle.std.proofs.lemmas.List.Folds.{list_any_none}
 use Rattle.std.proofs.lemmas.Map.Views.{All-insert_key}
-use Rattle.tt_cert.specs.Places.{has_point, place_cmp}
-use Rattle.tt_cert.proofs.Puts.{cases_place, places_apart}
+use Rattle.tt_family.specs.Places.{has_point, place_cmp}
+use Rattle.tt_family.proofs.Puts.{cases_place, places_apart}
 use Rattle.tt_find.specs.Representation.Worklist.{AreInOrder, waiting_of}
 use Rattle.tt_find.specs.Representation.Solvers.{WaitsMore}
 

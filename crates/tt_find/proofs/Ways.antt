@@ -12,8 +12,8 @@ use Rattle.tt_abs.specs.StateFlow.{GivesState, Place, RefusesState}
 use Rattle.tt_abs.specs.States.{abstract_of, state_order}
 use Rattle.tt_abs.specs.Transfers.{Next, outcome_on_cells}
 use Rattle.tt_abs.proofs.StateParts.{one_state}
-use Rattle.tt_cert.specs.Checks.{place_of_next}
-use Rattle.tt_cert.proofs.Checked.{same_states}
+use Rattle.tt_family.specs.Checks.{place_of_next}
+use Rattle.tt_family.proofs.Checked.{same_states}
 use Rattle.tt_find.specs.Representation.Solvers.{Pends, place_of_way, places_from}
 
 pends_at : (fs : List Frame) (ways : List Move) (t : State) (i : ℕ) (n : Next) → slice_get (map (next_by fs (abstract_of t)) ways) i ≡ Some n

@@ -1,6 +1,6 @@
 -- What a finder's solver is before it is filled: it may have memory and marks, but no states.
 use Rattle.std.specs.Prelude.{◌≡◌, [], ◌∷◌}
-use Rattle.tt_cert.specs.Contents.{IsFamily}
+use Rattle.tt_family.specs.Contents.{IsFamily}
 use Rattle.tt_find.specs.declared.solver.Solver.{Solver}
 
 -- nothing is found: there is only the empty context, without a state, no point waits or could be

@@ -13,13 +13,13 @@ use Rattle.tt_abs.specs.Goodness.{HasStateIn}
 use Rattle.tt_abs.specs.Lines.{Precedes}
 use Rattle.tt_abs.specs.StateFlow.{FitsLimits, Place, GivesState, RefusesState, flow_of, height_of}
 use Rattle.tt_abs.specs.States.{state_order}
-use Rattle.tt_cert.specs.Checks.{IsFillingBrokenFirst}
-use Rattle.tt_cert.specs.Contents.{Contents, HasContext, family_of, frames_at}
-use Rattle.tt_cert.specs.Fillings.{HasGoodFilling, IsFilling}
-use Rattle.tt_cert.specs.GoodFamilies.{EndsWell, HasFewContexts, IsGoodFamily, IsShortEnough}
-use Rattle.tt_cert.specs.Spots.{spot_of}
-use Rattle.tt_cert.specs.declared.fault.ProgramFault.{ProgramFault}
-use Rattle.tt_cert.specs.declared.fault.ProgramFault.TheVariants.{Refused, OutOfMemory}
+use Rattle.tt_family.specs.Checks.{IsFillingBrokenFirst}
+use Rattle.tt_family.specs.Contents.{Contents, HasContext, family_of, frames_at}
+use Rattle.tt_family.specs.Fillings.{HasGoodFilling, IsFilling}
+use Rattle.tt_family.specs.GoodFamilies.{EndsWell, HasFewContexts, IsGoodFamily, IsShortEnough}
+use Rattle.tt_family.specs.Spots.{spot_of}
+use Rattle.tt_family.specs.declared.fault.ProgramFault.{ProgramFault}
+use Rattle.tt_family.specs.declared.fault.ProgramFault.TheVariants.{Refused, OutOfMemory}
 use Rattle.tt_find.specs.declared.stop.Stop.{Stop}
 use Rattle.tt_find.specs.declared.stop.Stop.TheVariants.{Fault, Restart}
 

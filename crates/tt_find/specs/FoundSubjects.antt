@@ -5,11 +5,11 @@ use Rattle.tt_abs.specs.declared.setting.Setting.{Setting as Subject}
 use Rattle.tt_abs.specs.declared.state.State.{State}
 use Rattle.tt_abs.specs.Settings.{setting_of}
 use Rattle.tt_abs.specs.StateFlow.{Place}
-use Rattle.tt_cert.specs.Budgets.{counted_from}
-use Rattle.tt_cert.specs.Checks.{IsOutOfMemory}
-use Rattle.tt_cert.specs.declared.budget.Budget.{Budget}
-use Rattle.tt_cert.specs.Contents.{family_of}
-use Rattle.tt_cert.specs.declared.fault.ProgramFault.{ProgramFault}
+use Rattle.tt_family.specs.Budgets.{counted_from}
+use Rattle.tt_family.specs.Checks.{IsOutOfMemory}
+use Rattle.tt_family.specs.declared.budget.Budget.{Budget}
+use Rattle.tt_family.specs.Contents.{family_of}
+use Rattle.tt_family.specs.declared.fault.ProgramFault.{ProgramFault}
 use Rattle.tt_find.specs.Found.{AreLeastContexts, HasLeastFilling, IsJustified, IsNeverEnding, LacksEnd, NamesPlace, NeedsAll, NoneIsGood}
 use Rattle.tt_find.specs.declared.finder.Found.{Found}
 

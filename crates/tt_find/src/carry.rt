@@ -3,8 +3,8 @@
 
 ghost use Rattle.std.specs.Prelude.{◌≡◌, ◌<◌, ◌*◌, IfErr, IfOk, IfSome, IsTrue, OnOk, length};
 ghost use Rattle.tt_abs.specs.States.{state_order};
-ghost use Rattle.tt_cert.specs.Budgets.{Counts, Spends, counted_from};
-ghost use Rattle.tt_cert.specs.Checks.{IsOutOfMemory};
+ghost use Rattle.tt_family.specs.Budgets.{Counts, Spends, counted_from};
+ghost use Rattle.tt_family.specs.Checks.{IsOutOfMemory};
 ghost use Rattle.tt_find.specs.Representation.SolverSubjects.{EndsJustBefore, GoesOnFor, HasLawsFor, IsNextAfter, IsOnWayFor, IsPoppedFor, IsSteppedAt, IsWholeFor, LeadsAlong, LeadsOver, NamesRefusalAt, StopsFor};
 ghost use Rattle.tt_find.specs.Representation.Solvers.{HasRisen, IsStored, IsWalk, KeepsEverywhere, MakesAtMost, StopsApart, TellsSource, refused_in};
 
@@ -15,8 +15,8 @@ use crate::successor::resolve_successor;
 use crate::walk::Walk;
 use std::alloc::AllocError;
 use tt_abs::{Moves, Point, Refusal, Setting, Stepped, step_at};
-use tt_cert::{Budget, Builder, ContextFault, ProgramFault, added_after};
 use tt_code::Reason;
+use tt_family::{Budget, Builder, ContextFault, ProgramFault, added_after};
 
 /// Returns where the state at an offset of the walk's context leads; the walk then holds what it
 /// leads there. None at the main program's end.

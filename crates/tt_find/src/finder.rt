@@ -5,7 +5,7 @@ ghost use Rattle.std.specs.Prelude.{◌≡◌, None, [], ◌∷◌, IfErr, IfOk,
 ghost use Rattle.tt_abs.specs.Entries.{Ascends};
 ghost use Rattle.tt_abs.specs.Settings.{setting_of};
 ghost use Rattle.tt_abs.specs.StateFlow.{FunctionsFit};
-ghost use Rattle.tt_cert.specs.Budgets.{Spends};
+ghost use Rattle.tt_family.specs.Budgets.{Spends};
 ghost use Rattle.tt_find.specs.FoundSubjects.{AreCounted, HasLeastContexts, HasOnlyNeeded, IsJustifiedFor, IsLeastFor, TellsNoEnd, TellsNoneIsGood};
 ghost use Rattle.tt_find.specs.Representation.Solvers.{updates_of};
 ghost use Rattle.tt_find.specs.Representation.SolverSubjects.{HasLawsFor, IsFoundFor, IsWholeFor, StopsFor};
@@ -20,8 +20,8 @@ use std::alloc::{AllocError, Global};
 use std::mem;
 use tt_abs::Setting;
 use tt_abs::laws::flow_laws;
-use tt_cert::{Budget, Builder, Certificate, ProgramFault, Spot, ends_well, is_short};
 use tt_code::Reason;
+use tt_family::{Budget, Builder, Certificate, ProgramFault, Spot, ends_well, is_short};
 
 /// How often the finder starts with the marks that it has found. After that it keeps states
 /// everywhere.

@@ -5,7 +5,7 @@ ghost use Rattle.tt_find.specs.Representation.OffsetMarks.{SetsMark, mark_of};
 
 use std::alloc::{AllocError, Global};
 use tt_abs::Setting;
-use tt_cert::Spot;
+use tt_family::Spot;
 
 /// What is known of an offset of a program.
 #[derive(Clone, Copy)]

@@ -3,8 +3,8 @@
 ghost use Rattle.std.specs.Prelude.{◌≡◌, ◌≢◌, ◌<◌, IfOk, IfErr, IsTrue, OnOk, Option, Some, length};
 ghost use Rattle.tt_abs.specs.States.{state_order};
 ghost use Rattle.tt_abs.specs.declared.state.State.{State as StateValue};
-ghost use Rattle.tt_cert.specs.Contents.{state_at};
-ghost use Rattle.tt_cert.specs.Joins.{TellsNew, TellsNewAt};
+ghost use Rattle.tt_family.specs.Contents.{state_at};
+ghost use Rattle.tt_family.specs.Joins.{TellsNew, TellsNewAt};
 ghost use Rattle.tt_find.specs.Finders.{IsEmptySolver};
 ghost use Rattle.tt_find.specs.Representation.Solvers.{IsPassed, IsPut, KeepsRest, NamesApart, SparesAt, refused_in};
 ghost use Rattle.tt_find.specs.Representation.OffsetMarks.{mark_of};
@@ -15,8 +15,8 @@ use crate::worklist::Worklist;
 use std::alloc::{AllocError, Global};
 use std::collections::BTreeSet;
 use tt_abs::State;
-use tt_cert::{Builder, JoinFault, Joined, PointKey, ProgramFault, Spot};
 use tt_code::Reason;
+use tt_family::{Builder, JoinFault, Joined, PointKey, ProgramFault, Spot};
 
 /// The family so far. Its states are kept at the points where ways meet; those in between are made
 /// again each time that a state is carried on there.

@@ -1,7 +1,7 @@
 //! Why the finder stops.
 
 use std::alloc::AllocError;
-use tt_cert::ProgramFault;
+use tt_family::ProgramFault;
 
 /// Why the finder stops before it is done.
 #[derive(Drop)]
@@ -26,7 +26,7 @@ impl From<ProgramFault> for Stop {
 
 impl From<AllocError> for Stop {
     ghost use Rattle.std.specs.Prelude.{◌≡◌};
-    ghost use Rattle.tt_cert.specs.declared.fault.ProgramFault.{ProgramFault};
+    ghost use Rattle.tt_family.specs.declared.fault.ProgramFault.{ProgramFault};
     ghost use Rattle.tt_find.specs.declared.stop.Stop.{Stop};
 
     ghost from_gives = { λ error stop. stop ≡ Stop.Fault (ProgramFault.OutOfMemory error) };

@@ -1,13 +1,13 @@
 //! The point to which a way leads.
 
 ghost use Rattle.std.specs.Prelude.{◌≡◌, ◌<◌, Err, IfOk, OnErr, length};
-ghost use Rattle.tt_cert.specs.Contents.{AddsContext, HasContext, IsFamily};
-ghost use Rattle.tt_cert.specs.Landings.{place_from};
+ghost use Rattle.tt_family.specs.Contents.{AddsContext, HasContext, IsFamily};
+ghost use Rattle.tt_family.specs.Landings.{place_from};
 ghost use Rattle.tt_find.specs.Representation.Solvers.{IsCountable};
 
 use tt_abs::Move;
 use tt_abs::setting::body_offset;
-use tt_cert::{Builder, ContextFault, Landing, PointKey, landing_of};
+use tt_family::{Builder, ContextFault, Landing, PointKey, landing_of};
 
 /// Returns the context's number and the offset to which a way leads from a context. The context to
 /// which it leads is added if it isn't there.

@@ -3,15 +3,15 @@
 ghost use Rattle.std.specs.Prelude.{◌≡◌, ◌↔◌, ◌<◌, IfErr, IfOk, IsFalse, IsTrue, None, Some, length};
 ghost use Rattle.tt_abs.specs.Entries.{Ascends};
 ghost use Rattle.tt_abs.specs.States.{start_of, state_order};
-ghost use Rattle.tt_cert.specs.Contents.{Contents, IsFamily, state_at};
-ghost use Rattle.tt_cert.specs.Joins.{TellsNewAt};
+ghost use Rattle.tt_family.specs.Contents.{Contents, IsFamily, state_at};
+ghost use Rattle.tt_family.specs.Joins.{TellsNewAt};
 ghost use Rattle.tt_find.specs.Representation.Solvers.{IsPut, IsWalk, KeepsRest, NamesApart};
 
 use crate::solver::Solver;
 use std::alloc::{AllocError, Global};
 use tt_abs::State;
-use tt_cert::{Builder, Joined, PointKey, ProgramFault, Spot};
 use tt_code::Frame;
+use tt_family::{Builder, Joined, PointKey, ProgramFault, Spot};
 
 /// Where the finder is: a context and its calls, the outermost first, and the state that is carried
 /// on, always in the same memory.

@@ -2,13 +2,13 @@
 
 ghost use Rattle.std.specs.Prelude.{◌≡◌, ◌∷◌, [], false, None, IfSome, OnErr, OnOk};
 ghost use Rattle.std.specs.BTreeSet.{insert_key};
-ghost use Rattle.tt_cert.specs.Places.{has_point, place_cmp};
+ghost use Rattle.tt_family.specs.Places.{has_point, place_cmp};
 
 use std::alloc::{AllocError, Global};
 use std::cmp::Ordering;
 use std::collections::BTreeSet;
 use std::marker::Model;
-use tt_cert::PointKey;
+use tt_family::PointKey;
 
 /// The points that wait, in their order, each as its context's number and its offset. The first is
 /// kept apart, so that a single one takes no memory.

@@ -1,4 +1,4 @@
-//! Tests of `tt_cert`: builders, certificates, and the check of a family.
+//! Tests of `tt_family`: builders, certificates, and the check of a family.
 
 mod builders;
 mod certificates;

@@ -1,8 +1,8 @@
 -- The font program and the CVT program with what is known where they end, as the code keeps it.
 -- (Representation: no public clause cites it.)
 use Rattle.std.specs.Prelude.{ℕ}
-use Rattle.tt_cert.specs.Contents.{Contents}
-use Rattle.tt_cert_file.specs.declared.form.Form.{Form}
+use Rattle.tt_family.specs.Contents.{Contents}
+use Rattle.tt_cert.specs.declared.form.Form.{Form}
 use Rattle.tt_find.specs.declared.finder.Found.{Found}
 use Rattle.tt_font.specs.Reading.{FontData}
 use Rattle.hintcheck.specs.Certificates.{PassesToEnd}

@@ -1,7 +1,7 @@
 -- How far a certificate was read. (Representation: no public clause cites it.)
 use Rattle.std.specs.Prelude.{ℕ, List, Option}
-use Rattle.tt_cert_file.specs.Answers.{input_at}
-use Rattle.tt_cert_file.specs.Readers.{Input}
+use Rattle.tt_cert.specs.Answers.{input_at}
+use Rattle.tt_cert.specs.Readers.{Input}
 use Rattle.hintcheck.specs.declared.sections.Progress.{Progress}
 
 -- what is read next, in the bytes that are left in the source

@@ -18,7 +18,7 @@ use std::io::Read;
 use std::marker::Brand;
 use std::rt::Files;
 use std::sync::ledger::{Blank, Ledger};
-use tt_cert::Budget;
+use tt_family::Budget;
 use tt_font::Font;
 use tt_stream::{Buffered, Counted};
 

@@ -21,7 +21,7 @@ use std::io::{BufWriter, Write};
 use std::marker::Brand;
 use std::rt::Files;
 use std::sync::ledger::{Blank, Ledger};
-use tt_cert::Budget;
+use tt_family::Budget;
 use tt_font::Font;
 use tt_stream::{Counted, Sink};
 

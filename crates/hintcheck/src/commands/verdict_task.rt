@@ -14,7 +14,7 @@ use std::io::Read;
 use std::marker::Brand;
 use std::rt::Files;
 use std::sync::ledger::{Blank, Ledger};
-use tt_cert::Budget;
+use tt_family::Budget;
 use tt_stream::{Counted, Source, read_all};
 
 /// Returns the verdict on all programs of the font whose bytes are all that is left in the source,

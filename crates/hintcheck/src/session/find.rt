@@ -3,7 +3,7 @@
 ghost use Rattle.std.specs.Prelude.{◌+◌, ◌<◌, IfOk, Some, length};
 ghost use Rattle.tt_abs.specs.Entries.{Ascends};
 ghost use Rattle.tt_abs.specs.StateFlow.{FunctionsFit};
-ghost use Rattle.tt_cert.specs.Budgets.{Spends};
+ghost use Rattle.tt_family.specs.Budgets.{Spends};
 ghost use Rattle.tt_code.specs.Fonts.{font_setting};
 ghost use Rattle.hintcheck.specs.FindingSessions.{IsFoundAnswer};
 ghost use Rattle.hintcheck.specs.FontPrograms.{IsFontInRange, font_of, font_subject};
@@ -20,7 +20,7 @@ use crate::program::{Search, reported};
 use crate::report::Name;
 use std::alloc::{AllocError, Global};
 use std::mem;
-use tt_cert::{Budget, ProgramFault};
+use tt_family::{Budget, ProgramFault};
 use tt_find::{Finder, Found};
 use tt_font::Font;
 

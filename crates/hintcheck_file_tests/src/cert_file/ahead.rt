@@ -9,7 +9,7 @@ use hintcheck_test_fixtures::streams::{ALL, Steps};
 use std::alloc::{AllocError, Global};
 use std::marker::Brand;
 use std::sync::ledger::{Blank, Ledger};
-use tt_cert_file::{Form, decode};
+use tt_cert::{Form, decode};
 use tt_stream::{Buffered, Counted, read_all};
 
 fn decode_ahead<L: Ledger>(alloc: Global, steps: Steps<'_>, blank: Blank) -> Told

@@ -11,9 +11,9 @@ use hintcheck_test_fixtures::streams::{ALL, Steps};
 use std::alloc::{AllocError, Global};
 use tt_abs::Cell::{Known, Unknown};
 use tt_abs::{Cell, ZoneCell};
-use tt_cert::Certificate;
-use tt_cert_file::{Form, Name};
+use tt_cert::{Form, Name};
 use tt_code::{Frame, Graphics};
+use tt_family::Certificate;
 
 /// The graphics state after the MDAP of point 7.
 const MOVED: Graphics<Cell, ZoneCell> = Graphics {

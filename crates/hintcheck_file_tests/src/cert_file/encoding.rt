@@ -7,7 +7,7 @@ use hintcheck_test_fixtures::hex_bytes::bytes_of;
 use hintcheck_test_fixtures::section_calls::{Section, Told, decoded, encoded};
 use hintcheck_test_fixtures::streams::{ALL, Steps, Taker};
 use std::alloc::Global;
-use tt_cert_file::Form;
+use tt_cert::Form;
 
 /// Returns the section with these parts.
 pub(crate) fn section_of(alloc: Global, parts: &[&str], form: Form) -> Option<Section> {

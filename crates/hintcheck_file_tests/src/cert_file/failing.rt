@@ -6,7 +6,7 @@ use hintcheck_test_fixtures::hex_bytes::{bytes_but, bytes_of};
 use hintcheck_test_fixtures::section_calls::{Told, encoded, told_of_calls};
 use hintcheck_test_fixtures::streams::Taker;
 use std::alloc::Global;
-use tt_cert_file::Form;
+use tt_cert::Form;
 
 /// A change to a part of the full section, or none.
 #[derive(Clone, Copy)]

@@ -4,7 +4,7 @@ use hintcheck_test_fixtures::hex_bytes::bytes_of;
 use hintcheck_test_fixtures::section_calls::{Told, told_of_end, told_of_header, written_header};
 use hintcheck_test_fixtures::streams::{ALL, Steps, Taker};
 use std::alloc::Global;
-use tt_cert_file::Form;
+use tt_cert::Form;
 
 /// Returns what reading a header byte by byte tells, where a call fails after this many.
 fn told_of(alloc: Global, digits: &str, calls: usize) -> Told {

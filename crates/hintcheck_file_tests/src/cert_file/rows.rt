@@ -2,8 +2,8 @@
 
 use hintcheck_test_fixtures::families::graphics_of;
 use tt_abs::{Cell, State, ZoneCell};
-use tt_cert::States;
 use tt_code::Graphics;
+use tt_family::States;
 
 /// A state with its context and its offset.
 #[derive(Clone, Copy)]

@@ -5,7 +5,7 @@ use crate::cert_file::sections::{EMPTY_IN_FORM_1, FULL, FULL_LENGTH};
 use hintcheck_test_fixtures::hex_bytes::{bytes_but, bytes_of};
 use hintcheck_test_fixtures::section_calls::{Told, told_in_steps};
 use std::alloc::Global;
-use tt_cert_file::Form;
+use tt_cert::Form;
 
 /// A change to a part of the full section.
 #[derive(Clone, Copy)]

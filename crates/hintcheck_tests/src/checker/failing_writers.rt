@@ -11,7 +11,7 @@ use hintcheck_test_fixtures::stored_certificates::{FONT, FORM_2, FORM_4, UNDERFL
 use hintcheck_test_fixtures::streams::{ALL, Steps, Taker, steps_of};
 use std::alloc::Global;
 use std::test::Fail;
-use tt_cert_file::Form;
+use tt_cert::Form;
 
 /// Takes one byte a call; the call after this many others fails, or takes nothing.
 fn taker(alloc: Global, calls: usize, takes_nothing: bool) -> Taker {

@@ -10,7 +10,7 @@ use hintcheck_test_fixtures::streams::{ALL, Taker};
 use std::alloc::Global;
 use std::marker::Brand;
 use std::sync::ledger::{Blank, Ledger};
-use tt_cert_file::{encode, write_header};
+use tt_cert::{encode, write_header};
 use tt_find::{Finder, Found};
 use tt_font::Font;
 use tt_stream::{Counted, Sink};

@@ -18,16 +18,16 @@ use Rattle.tt_abs.specs.Orders.{Order}
 use Rattle.tt_abs.specs.StateFlow.{AreProgramsShort, GivesState, Place, RefusesState, flow_of, height_of}
 use Rattle.tt_abs.specs.States.{abstract_of, state_order}
 use Rattle.tt_abs.specs.Transfers.{outcome_on_cells}
-use Rattle.tt_cert.specs.Checks.{point_key_of}
-use Rattle.tt_cert.specs.Contents.{Contents, IsFamily, family_of, frames_at, points_of, total}
-use Rattle.tt_cert.specs.GoodFamilies.{EndsWell, IsShortEnough}
-use Rattle.tt_cert.specs.Places.{PutsAt, has_point, states_of}
-use Rattle.tt_cert.specs.Puts.{Reweighs, place_of}
-use Rattle.tt_cert.specs.Spots.{spot_of}
-use Rattle.tt_cert.specs.declared.spot.Spot.{Spot}
-use Rattle.tt_cert.specs.Fillings.{IsJustAfter}
-use Rattle.tt_cert.specs.declared.fault.ProgramFault.{ProgramFault}
-use Rattle.tt_cert.specs.declared.fault.ProgramFault.TheVariants.{Refused}
+use Rattle.tt_family.specs.Checks.{point_key_of}
+use Rattle.tt_family.specs.Contents.{Contents, IsFamily, family_of, frames_at, points_of, total}
+use Rattle.tt_family.specs.GoodFamilies.{EndsWell, IsShortEnough}
+use Rattle.tt_family.specs.Places.{PutsAt, has_point, states_of}
+use Rattle.tt_family.specs.Puts.{Reweighs, place_of}
+use Rattle.tt_family.specs.Spots.{spot_of}
+use Rattle.tt_family.specs.declared.spot.Spot.{Spot}
+use Rattle.tt_family.specs.Fillings.{IsJustAfter}
+use Rattle.tt_family.specs.declared.fault.ProgramFault.{ProgramFault}
+use Rattle.tt_family.specs.declared.fault.ProgramFault.TheVariants.{Refused}
 use Rattle.tt_find.specs.Found.{ArePointsOf, IsDerived, IsNeeded, NamesPlace, NamesStop}
 use Rattle.tt_find.specs.Representation.OffsetMarks.{SetsMark, mark_at, mark_of}
 use Rattle.tt_find.specs.declared.marks.Mark.TheVariants.{Free, Kept, Passed}

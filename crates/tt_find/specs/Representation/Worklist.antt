@@ -3,7 +3,7 @@ use Rattle.std.specs.Prelude.{◌≡◌, ℕ, Option, Some, None, List, [], ◌�
 use Rattle.std.specs.List.{All}
 use Rattle.std.specs.BTreeMap.Range.{IsLtBy}
 use Rattle.std.specs.BTreeSet.{BTreeSet}
-use Rattle.tt_cert.specs.Places.{place_cmp}
+use Rattle.tt_family.specs.Places.{place_cmp}
 
 -- the first point, and the others after it
 abbrev pub waiting_of : Option (ℕ × ℕ) → BTreeSet (ℕ × ℕ) → List (ℕ × ℕ)

@@ -7,8 +7,8 @@ use hintcheck_test_fixtures::families::{
 use std::alloc::Global;
 use tt_abs::Cell::{Known, Unknown};
 use tt_abs::{Cell, State};
-use tt_cert::{Builder, ContextFault, JoinFault, Joined};
 use tt_code::Frame;
+use tt_family::{Builder, ContextFault, JoinFault, Joined};
 
 /// A context, an offset, and the cells of the stack there, the bottom first, if there is a state.
 type Seen<'a> = (u32, u32, Option<&'a [Cell]>);

@@ -3,8 +3,8 @@
 use hintcheck_test_fixtures::families::{CALL, Context, ListedFamily, certificate, leads_through};
 use std::alloc::Global;
 use tt_abs::State;
-use tt_cert::Certificate;
 use tt_code::Frame;
+use tt_family::Certificate;
 
 /// A listed family, and the contexts and points of its certificate.
 struct Finished<'a> {

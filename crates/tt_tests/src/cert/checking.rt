@@ -11,9 +11,9 @@ use hintcheck_test_fixtures::programs::{CALLS_WITH_A_NUMBER, GLYPH, LIMITS as WI
 use std::alloc::Global;
 use std::process::Abort;
 use tt_abs::{Cell, Kind, Setting, State};
-use tt_cert::{Builder, Certificate, ProgramFault, Spot, check, check_full};
 use tt_code::kinds::Reference;
 use tt_code::{Frame, Limits, Reason};
+use tt_family::{Builder, Certificate, ProgramFault, Spot, check, check_full};
 
 /// What a check tells: that a family is good, or where it is refused and why.
 pub(crate) type Answer = Result<(), (Spot, u32, Reason)>;

@@ -2,8 +2,8 @@
 
 use crate::cert::checking::{Asked, CALLING, EMPTY, Family, Subject, assert_families};
 use tt_abs::Kind;
-use tt_cert::Spot;
 use tt_code::Reason;
+use tt_family::Spot;
 
 /// Programs whose families may leave states out.
 const SPARSE: Subject<'static> = Subject {

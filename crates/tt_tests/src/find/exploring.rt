@@ -5,8 +5,8 @@ use hintcheck_test_fixtures::families::leads_through;
 use hintcheck_test_fixtures::programs::{GLYPH, LIMITS, cut};
 use std::alloc::Global;
 use tt_abs::Setting;
-use tt_cert::{ProgramFault, Spot};
 use tt_code::Reason;
+use tt_family::{ProgramFault, Spot};
 use tt_find::explore;
 
 /// A refusal in the main program, or none.

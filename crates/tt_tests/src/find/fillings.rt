@@ -2,7 +2,7 @@
 
 use std::alloc::Global;
 use tt_abs::{Move, Moves, Point, Setting, State, step_at};
-use tt_cert::Certificate;
+use tt_family::Certificate;
 
 /// Whether one of the moves leads to this offset of the same body.
 fn leads_to(moves: Moves, offset: u32) -> bool {

@@ -8,7 +8,7 @@ use crate::find::programs::{
 use hintcheck_test_fixtures::programs::POPPING;
 use std::alloc::Global;
 use std::process::Abort;
-use tt_cert::Certificate;
+use tt_family::Certificate;
 use tt_find::Finder;
 
 /// Whether a certificate has the contexts of another one, and the states that this one lists.

@@ -7,8 +7,8 @@ use hintcheck_test_fixtures::families::leads_through;
 use hintcheck_test_fixtures::programs::{GLYPH, LIMITS, cut};
 use std::alloc::Global;
 use tt_abs::{Kind, Setting};
-use tt_cert::{Certificate, ProgramFault, Spot, check};
 use tt_code::Reason;
+use tt_family::{Certificate, ProgramFault, Spot, check};
 use tt_find::{Finder, Found, find};
 
 /// How many contexts and points the least family has, filled up, and how many updates made it.

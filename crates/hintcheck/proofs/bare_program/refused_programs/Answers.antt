@@ -6,7 +6,7 @@ use Rattle.hintcheck.specs.FontPrograms.{glyph_subject}
 use Rattle.hintcheck.specs.BarePrograms.{IsJudged, font_around}
 use Rattle.hintcheck.specs.ProgramVerdicts.{IsAppendedRefusal}
 use Rattle.hintcheck.specs.Programs.{HasLeastFamily, Subject}
-use Rattle.tt_cert_file.specs.declared.name.Name.TheVariants as name
+use Rattle.tt_cert.specs.declared.name.Name.TheVariants as name
 use Rattle.hintcheck.specs.declared.report.Refused.{Refused}
 use Rattle.hintcheck.proofs.BareProgramLemmas.{around, judged_refused}
 use Rattle.hintcheck.proofs.bare_program.refused_programs.Goals as goal

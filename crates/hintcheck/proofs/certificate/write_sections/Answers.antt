@@ -1,6 +1,6 @@
 use Rattle.std.proofs.Common.{refl, arith, ◌∙◌}
 use Rattle.std.proofs.lemmas.Result.{err_from_is_err_and}
-use Rattle.tt_cert.proofs.Spending.{spends_on}
+use Rattle.tt_family.proofs.Spending.{spends_on}
 use Rattle.hintcheck.proofs.CertificateWriting.{counts_encoding, encoding_no_font, fewer_after, found_next, nothing_found, sections_written, stopped, stopped_within}
 use Rattle.hintcheck.proofs.SecondFindings.{none_refused_next}
 use Rattle.hintcheck.proofs.certificate.write_sections.Goals as goal

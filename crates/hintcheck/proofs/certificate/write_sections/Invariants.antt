@@ -1,5 +1,5 @@
 use Rattle.std.proofs.Common.{◌≡◌}
-use Rattle.tt_cert.specs.Budgets.{Spends}
+use Rattle.tt_family.specs.Budgets.{Spends}
 use Rattle.hintcheck.proofs.CertificateWriting.{IsWrittenSoFar}
 use Rattle.hintcheck.proofs.SessionRuns.{calls_left}
 use Rattle.hintcheck.proofs.certificate.write_sections.Given as goal

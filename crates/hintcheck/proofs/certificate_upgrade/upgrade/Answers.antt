@@ -1,7 +1,7 @@
 use Rattle.std.proofs.Common.{arith}
 use Rattle.std.proofs.lemmas.Result.{err_from_is_err_and}
 use Rattle.tt_stream.proofs.Beginnings.{consumes_then}
-use Rattle.tt_cert_file.specs.Answers.{input_at}
+use Rattle.tt_cert.specs.Answers.{input_at}
 use Rattle.hintcheck.specs.CheckedFonts.{bytes_in}
 use Rattle.hintcheck.proofs.UpgradeChecks.{accepts_from, upgrade_passes}
 use Rattle.hintcheck.proofs.UpgradeSteps.{all_begun, all_upgraded, all_written, comes_on, followed_by_more, header_begun, header_fails, more_follows, nothing_written, of_no_font, programs_are, section_lacks, sections_begun, too_few, too_many}

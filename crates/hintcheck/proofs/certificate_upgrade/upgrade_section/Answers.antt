@@ -1,5 +1,5 @@
 use Rattle.std.proofs.lemmas.Result.{err_from_is_err_and}
-use Rattle.tt_cert_file.specs.Answers.{input_at}
+use Rattle.tt_cert.specs.Answers.{input_at}
 use Rattle.hintcheck.proofs.UpgradeSteps.{comes_old, none_begun, one_begun, one_upgraded}
 use Rattle.hintcheck.proofs.UpgradeReads.{encode_no_read, old_section_cut_short}
 use Rattle.hintcheck.proofs.certificate_upgrade.upgrade_section.Goals as goal

@@ -1,13 +1,13 @@
 use Rattle.std.proofs.Common.{ℕ, Some, arith, length, refl, subst, ◌∙◌, ◌≡◌}
 use Rattle.std.proofs.KnownBytes.{Consumes-nil}
 use Rattle.std.proofs.lemmas.Result.{err_from_is_err_and}
-use Rattle.tt_cert_file.specs.Answers.{input_at}
-use Rattle.tt_cert_file.specs.declared.form.Form.{Form}
+use Rattle.tt_cert.specs.Answers.{input_at}
+use Rattle.tt_cert.specs.declared.form.Form.{Form}
 use Rattle.tt_stream.proofs.Beginnings.{consumes_beginning, consumes_then}
 use Rattle.hintcheck.specs.Certificates.{HasNoSection}
 use Rattle.hintcheck.specs.Upgrades.{AreBegun, AreUpgraded, name_at}
 use Rattle.hintcheck.proofs.UpgradeSteps.{begun_on, comes_on, lack_next, none_upgraded, reads_on, upgraded_on, writes_on}
-use Rattle.tt_cert_file.specs.Readers.{place_after}
+use Rattle.tt_cert.specs.Readers.{place_after}
 use Rattle.hintcheck.specs.FailedReads.{HasReadOld}
 use Rattle.hintcheck.proofs.UpgradeReads.{lack_after}
 use Rattle.hintcheck.proofs.certificate_upgrade.upgrade_sections.Goals as goal

@@ -1,5 +1,5 @@
 use Rattle.std.proofs.Common.{◌≡◌}
-use Rattle.tt_cert_file.specs.Answers.{input_at}
+use Rattle.tt_cert.specs.Answers.{input_at}
 use Rattle.tt_stream.specs.Reads.{ConsumesBeginning}
 use Rattle.hintcheck.specs.CheckedFonts.{IsTold}
 use Rattle.hintcheck.specs.Upgrades.{AreUpgraded}

@@ -1,4 +1,4 @@
-use Rattle.tt_cert_file.specs.declared.name.Name.TheVariants as name
+use Rattle.tt_cert.specs.declared.name.Name.TheVariants as name
 use Rattle.hintcheck.specs.Explanations.{RefusesProgram, TellsProgram}
 use Rattle.std.proofs.Common.{◌≡◌}
 use Rattle.hintcheck.proofs.ExplanationLemmas.{font_before, told_of}

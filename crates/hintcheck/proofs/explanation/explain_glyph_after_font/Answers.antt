@@ -1,5 +1,5 @@
 use Rattle.std.proofs.Common.{◌≡◌}
-use Rattle.tt_cert_file.specs.declared.name.Name.TheVariants as name
+use Rattle.tt_cert.specs.declared.name.Name.TheVariants as name
 use Rattle.hintcheck.specs.Explanations.{RefusesProgram, TellsProgram}
 use Rattle.hintcheck.proofs.ExplanationLemmas.{cvt_before, told_of}
 use Rattle.hintcheck.proofs.explanation.explain_glyph_after_font.Goals as goal

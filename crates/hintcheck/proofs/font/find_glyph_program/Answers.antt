@@ -1,7 +1,7 @@
 use Rattle.std.proofs.Common.{ap, refl}
 use Rattle.std.proofs.lemmas.Result.{IfOk-weaker}
 use Rattle.tt_code.specs.Settings.{Setting}
-use Rattle.tt_cert.specs.Contents.{family_of}
+use Rattle.tt_family.specs.Contents.{family_of}
 use Rattle.tt_font.specs.Reading.{glyph_data}
 use Rattle.hintcheck.specs.Representation.FontVerdicts.{subject_in}
 use Rattle.hintcheck.specs.ProgramVerdicts.{IfRefused}

@@ -1,5 +1,5 @@
 use Rattle.tt_abs.specs.Settings.{setting_of}
-use Rattle.tt_cert.specs.Contents.{family_of}
+use Rattle.tt_family.specs.Contents.{family_of}
 use Rattle.hintcheck.proofs.FontEnds.{found_at_end, found_to_end, known_of_accepted}
 use Rattle.hintcheck.proofs.font.find_to_end.Goals as goal
 

@@ -3,9 +3,9 @@ use Rattle.std.proofs.Common.{◌≡◌, ◌+◌, List, ℕ, sym, ◌∙◌, ap,
 use Rattle.tt_font.specs.Reading.{glyph_data}
 use Rattle.hintcheck.specs.Representation.FontVerdicts.{AreRefusedBelow, font_in}
 use Rattle.hintcheck.specs.ProgramVerdicts.{IsAppendedRefusal}
-use Rattle.tt_cert_file.specs.declared.name.Name.TheVariants as name
+use Rattle.tt_cert.specs.declared.name.Name.TheVariants as name
 use Rattle.hintcheck.specs.declared.report.Refused.{Refused}
-use Rattle.tt_cert.proofs.Spending.{spends_on}
+use Rattle.tt_family.proofs.Spending.{spends_on}
 use Rattle.hintcheck.proofs.FontLists.{accepted_next, all_below, glyph_there, listed_next}
 use Rattle.hintcheck.proofs.font.refused_glyphs.Goals as goal
 use Rattle.hintcheck.proofs.font.refused_glyphs.Goals.{in-Ok, in-Err+in_ok-list_refused-in-Err}

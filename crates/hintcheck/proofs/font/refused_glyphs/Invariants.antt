@@ -1,4 +1,4 @@
-use Rattle.tt_cert.specs.Budgets.{Spends}
+use Rattle.tt_family.specs.Budgets.{Spends}
 use Rattle.hintcheck.specs.Representation.FontVerdicts.{AreRefusedBelow, font_in}
 use Rattle.hintcheck.proofs.font.refused_glyphs.Given as goal
 

@@ -1,5 +1,5 @@
 use Rattle.tt_abs.specs.Settings.{setting_of}
-use Rattle.tt_cert.specs.Contents.{family_of}
+use Rattle.tt_family.specs.Contents.{family_of}
 use Rattle.hintcheck.specs.CheckedFonts.{IsRefusedBy}
 use Rattle.hintcheck.proofs.CheckRefusals.{broken_listing, passes_to_end}
 use Rattle.hintcheck.proofs.FontEnds.{good_at_end, listed_at_end}

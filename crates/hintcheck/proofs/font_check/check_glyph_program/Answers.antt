@@ -1,6 +1,6 @@
 use Rattle.std.proofs.Common.{refl}
 use Rattle.std.proofs.lemmas.Result.{on_ok_weaker}
-use Rattle.tt_cert.specs.Contents.{family_of}
+use Rattle.tt_family.specs.Contents.{family_of}
 use Rattle.tt_font.specs.Reading.{glyph_data}
 use Rattle.hintcheck.specs.Representation.FontVerdicts.{subject_in}
 use Rattle.hintcheck.proofs.CheckRefusals.{broken_result, passes}

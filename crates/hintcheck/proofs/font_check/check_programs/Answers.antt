@@ -2,7 +2,7 @@ use Rattle.std.proofs.Common.{refl, arith, ◌∙◌}
 use Rattle.std.proofs.KnownBytes.{Consumes-nil}
 use Rattle.std.proofs.lemmas.Result.{err_from_is_err_and}
 use Rattle.tt_stream.proofs.Beginnings.{consumes_beginning, consumes_then}
-use Rattle.tt_cert.proofs.Spending.{spends_on}
+use Rattle.tt_family.proofs.Spending.{spends_on}
 use Rattle.hintcheck.proofs.CheckedSections.{counts_from, finds_fault}
 use Rattle.hintcheck.proofs.SessionRuns.{all_checked_good, checked_all, checked_fault, checked_next, fewer_after, nothing_checked, read_failed}
 use Rattle.hintcheck.proofs.font_check.check_programs.Goals as goal

@@ -1,5 +1,5 @@
 use Rattle.std.proofs.Common.{◌≡◌}
-use Rattle.tt_cert.specs.Budgets.{Spends}
+use Rattle.tt_family.specs.Budgets.{Spends}
 use Rattle.tt_stream.specs.Reads.{ConsumesBeginning}
 use Rattle.hintcheck.proofs.SessionRuns.{IsCheckedSoFar, calls_left}
 use Rattle.hintcheck.proofs.font_check.check_programs.Given as goal

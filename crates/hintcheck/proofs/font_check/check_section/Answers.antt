@@ -1,7 +1,7 @@
 use Rattle.std.specs.Prelude.{IfErr, OnOk}
 use Rattle.tt_abs.specs.Settings.{setting_of}
-use Rattle.tt_cert.specs.Checks.{IsOutOfMemory, Names}
-use Rattle.tt_cert_file.specs.declared.form.Form.{Form}
+use Rattle.tt_family.specs.Checks.{IsOutOfMemory, Names}
+use Rattle.tt_cert.specs.declared.form.Form.{Form}
 use Rattle.hintcheck.specs.Certificates.{IsGoodListing, IsListingBrokenFirst}
 use Rattle.hintcheck.proofs.CheckRefusals.{of_sparse}
 use Rattle.hintcheck.proofs.font_check.check_section.Goals as goal

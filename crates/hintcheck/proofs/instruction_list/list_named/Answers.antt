@@ -5,8 +5,8 @@ use Rattle.std.proofs.Common.{ℕ, List, [], ◌++◌, refl, subst}
 use Rattle.tt_font.specs.Reading.{no_glyph}
 use Rattle.hintcheck.specs.FontPrograms.{font_of, glyph_subject, one_glyph_font}
 use Rattle.hintcheck.specs.Programs.{IsRefusal, Subject}
-use Rattle.tt_cert.specs.Checks.{IsOutOfMemory}
-use Rattle.tt_cert.specs.declared.fault.ProgramFault.{ProgramFault}
+use Rattle.tt_family.specs.Checks.{IsOutOfMemory}
+use Rattle.tt_family.specs.declared.fault.ProgramFault.{ProgramFault}
 use Rattle.hintcheck.specs.ProgramVerdicts.{IfRefused, reported_at}
 use Rattle.hintcheck.specs.Texts.{refused_text}
 use Rattle.hintcheck.specs.declared.report.Refused.{Refused}

@@ -1,5 +1,5 @@
 use Rattle.tt_abs.specs.Settings.{setting_of}
-use Rattle.tt_cert.specs.Contents.{family_of}
+use Rattle.tt_family.specs.Contents.{family_of}
 use Rattle.hintcheck.specs.FindingSessions.{IsFoundFor}
 use Rattle.hintcheck.specs.ProgramVerdicts.{IfRefused, IsAccepted}
 use Rattle.hintcheck.specs.Programs.{HasGoodFamily, IsRefusal}

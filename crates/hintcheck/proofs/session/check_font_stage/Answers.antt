@@ -1,9 +1,9 @@
 use Rattle.std.proofs.lemmas.Result.{err_from_is_err_and}
-use Rattle.tt_cert_file.specs.Answers.{input_at}
+use Rattle.tt_cert.specs.Answers.{input_at}
 use Rattle.hintcheck.specs.Sessions.{no_font}
 use Rattle.hintcheck.proofs.CheckedSections.{counts_decoding, decoding_is_no_font, finds_decoding}
 use Rattle.hintcheck.proofs.SessionSteps.{first_ends, first_fails, first_good, first_passes}
-use Rattle.tt_cert_file.specs.declared.name.Name.TheVariants as name
+use Rattle.tt_cert.specs.declared.name.Name.TheVariants as name
 use Rattle.hintcheck.proofs.FailedReads.{section_cut_short}
 use Rattle.hintcheck.proofs.session.check_font_stage.Goals as goal
 

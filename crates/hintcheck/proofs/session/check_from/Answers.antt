@@ -1,6 +1,6 @@
 use Rattle.std.proofs.Common.{Some, sym, subst}
 use Rattle.std.proofs.lemmas.Result.{err_from_is_err_and}
-use Rattle.tt_cert_file.specs.Answers.{input_at}
+use Rattle.tt_cert.specs.Answers.{input_at}
 use Rattle.tt_stream.proofs.Beginnings.{consumes_then}
 use Rattle.hintcheck.specs.Representation.SessionStages.{KeepsGood, read_of, stage_of}
 use Rattle.hintcheck.specs.Sessions.{IsFaultAt, at_section, standing_at}

@@ -1,13 +1,13 @@
 use Rattle.std.specs.Option.{option_map}
 use Rattle.std.proofs.Common.{sym, ◌∙◌, ap}
 use Rattle.std.proofs.lemmas.Result.{err_from_is_err_and}
-use Rattle.tt_cert_file.specs.Answers.{input_at}
+use Rattle.tt_cert.specs.Answers.{input_at}
 use Rattle.tt_font.specs.Reading.{glyph_data, GlyphData}
 use Rattle.hintcheck.specs.Sessions.{no_glyph}
 use Rattle.hintcheck.proofs.CheckedSections.{counts_decoding, decoding_is_no_font, finds_decoding, slice_there}
 use Rattle.hintcheck.proofs.FontLists.{glyph_there}
 use Rattle.hintcheck.proofs.SessionSteps.{third_answers, third_good, third_passes, third_sound}
-use Rattle.tt_cert_file.specs.declared.name.Name.TheVariants as name
+use Rattle.tt_cert.specs.declared.name.Name.TheVariants as name
 use Rattle.hintcheck.proofs.FailedReads.{section_cut_short, tells_no_read}
 use Rattle.hintcheck.proofs.session.check_glyph.Goals as goal
 

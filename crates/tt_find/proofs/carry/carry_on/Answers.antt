@@ -1,6 +1,6 @@
 use Rattle.std.proofs.Common.{◌∙◌, ℕ, arith, refl, sym, subst}
 use Rattle.tt_abs.specs.Settings.{setting_of}
-use Rattle.tt_cert.specs.Puts.{place_of}
+use Rattle.tt_family.specs.Puts.{place_of}
 use Rattle.tt_find.specs.Representation.Solvers.{IsOnWay}
 use Rattle.tt_find.proofs.Steps.{way_begins}
 use Rattle.tt_find.proofs.carry.carry_on.Goals as goal

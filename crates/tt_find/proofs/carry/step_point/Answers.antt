@@ -2,8 +2,8 @@ use Rattle.std.proofs.Common.{ℕ, sym, subst}
 use Rattle.std.specs.Prelude.{Option}
 use Rattle.tt_abs.specs.Settings.{setting_of}
 use Rattle.tt_abs.specs.declared.instruction.Stepped.{Stepped}
-use Rattle.tt_cert.specs.Contents.{frames_at}
-use Rattle.tt_cert.specs.Puts.{place_of}
+use Rattle.tt_family.specs.Contents.{frames_at}
+use Rattle.tt_family.specs.Puts.{place_of}
 use Rattle.tt_find.specs.Representation.Solvers.{IsCarried, IsLeading, places_from}
 use Rattle.tt_find.proofs.Leads.{ranged_on}
 use Rattle.tt_find.proofs.Steps.{refused_left, way_ends, way_leads}

@@ -1,4 +1,4 @@
-use Rattle.tt_cert.specs.Budgets.{Spends}
+use Rattle.tt_family.specs.Budgets.{Spends}
 use Rattle.tt_find.proofs.finder.restart_to_fixpoint.Given as goal
 
 abbrev pub invariant-loop : goal.invariant-loop

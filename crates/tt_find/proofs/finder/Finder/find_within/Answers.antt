@@ -1,7 +1,7 @@
 use Rattle.std.proofs.Common.{subst}
 use Rattle.tt_abs.specs.Settings.{setting_of}
-use Rattle.tt_cert.specs.Contents.{Contents, family_of}
-use Rattle.tt_cert.specs.Ascending.{SameContents}
+use Rattle.tt_family.specs.Contents.{Contents, family_of}
+use Rattle.tt_family.specs.Ascending.{SameContents}
 use Rattle.tt_find.proofs.Finished.{contexts_left, found_left, keeps_same, lists_same, never_both_left, never_ends_from, none_good_from}
 use Rattle.tt_find.proofs.finder.Finder.find_within.Goals as goal
 

@@ -1,6 +1,6 @@
 use Rattle.std.proofs.Common.{arith, ℕ, Bool, ◌+◌, cond, ◌≡◌, ap, length, sym, ◌∙◌}
 use Rattle.tt_abs.specs.States.{state_order}
-use Rattle.tt_cert.specs.Joins.{is_change}
+use Rattle.tt_family.specs.Joins.{is_change}
 use Rattle.tt_find.proofs.Placed.{put_new}
 use Rattle.tt_find.proofs.Waits.{length-insert_key, waiting_inserted}
 use Rattle.tt_find.proofs.solver.Solver.put.Goals as goal

@@ -1,5 +1,0 @@
-use Rattle.tt_cert.proofs.FillingLaws.{one_filling}
-use Rattle.tt_cert.proofs.checker.one_good_filling.Goals as goal
-
-pub returns : goal.returns
-returns c = one_filling

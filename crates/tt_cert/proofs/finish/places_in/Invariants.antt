@@ -1,7 +1,0 @@
-use Rattle.tt_cert.proofs.Renumbering.{ArePlacesSoFar}
-use Rattle.tt_cert.proofs.finish.places_in.Given as goal
-
-abbrev pub invariant-loop-i : goal.invariant-loop-i
-invariant-loop-i l = record {
-  so_far : ArePlacesSoFar l.old.contexts l.order l.places.items l.i;
-}

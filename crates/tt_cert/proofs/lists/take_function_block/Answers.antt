@@ -1,0 +1,13 @@
+use Rattle.std.proofs.lemmas.Result.{err_from_is_err_and}
+use Rattle.tt_cert.proofs.Ahead.{ahead_refused, ahead_taken}
+use Rattle.tt_cert.proofs.lists.take_function_block.Goals as goal
+
+pub returns-in_err-_over-clause-reads : goal.returns-in_err-_over-clause-reads
+returns-in_err-_over-clause-reads g c =
+    let p = err_from_is_err_and c.from_residual.result c.from_residual.ensures.1 in
+    rw (p.1, p.2) (ahead_refused c.in_err-_over.field-0.0 (g.S.Source.remaining c.args.source.now) c.ahead.result.now _ _ c.args.place c.args.count c.ahead.ensures.front c.in_err-_over.ensures.takes)
+
+pub returns-clause-reads : goal.returns-clause-reads
+returns-clause-reads g c =
+    ahead_taken _ _ (g.S.Source.read_ahead c.args.source.now) _ _ c.args.place _ c.args.count c.in_ok-_over._over c.requires.there
+    (rw c.ahead.ensures.value at c.in_ok-_over.ensures.takes) c.skip.ensures.bytes c.saturating_add.ensures

@@ -1,0 +1,15 @@
+use Rattle.tt_stream.proofs.Beginnings.{consumes_then}
+use Rattle.std.proofs.Common.{[]}
+use Rattle.tt_cert.specs.Representation.Blocks.{cells_at}
+use Rattle.tt_cert.specs.Reading.{stack_at, word_at}
+use Rattle.tt_cert.proofs.Stops.{stops_last}
+use Rattle.tt_cert.proofs.SteadyUnits.{word_steady}
+use Rattle.tt_cert.proofs.shared_cells.read_stack.Goals as goal
+
+pub returns-clause-beginning : goal.returns-clause-beginning
+returns-clause-beginning g c = consumes_then _ _ _ c.read_word.ensures.beginning c.read_stack_cells.ensures.beginning
+
+pub returns-clause-stopped : goal.returns-clause-stopped
+unfolding stack_at
+returns-clause-stopped g c =
+    stops_last c.read_stack_cells.result word_at (λ _ n. cells_at [] n) _ _ _ _ _ c.in_ok-count.count word_steady c.in_ok-count.ensures.reads c.read_stack_cells.ensures.stopped

@@ -1,5 +1,0 @@
-use Rattle.tt_cert.proofs.StateSlots.{AreFirstSlots-empty}
-use Rattle.tt_cert.proofs.state_store.StateStore.clear.Goals as goal
-
-pub invariant_of-self : goal.invariant_of-self
-invariant_of-self c = AreFirstSlots-empty c.self.inside.slots.items c.clear.new.self c.clear.ensures

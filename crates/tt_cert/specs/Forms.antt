@@ -1,0 +1,26 @@
+-- The forms of certificate files.
+use Rattle.std.specs.Prelude.{ℕ, ◌==◌, Option, Some, None, if◌then◌else◌}
+use Rattle.tt_cert.specs.declared.form.Form.{Form}
+use Rattle.tt_cert.specs.declared.form.Form.TheVariants.{One, Two, Three, Four}
+
+-- the number by which a header names the form
+abbrev pub form_number : Form → ℕ
+form_number One = 1
+form_number Two = 2
+form_number Three = 3
+form_number Four = 4
+
+-- the form with this number, if there is one
+abbrev pub form_of : ℕ → Option Form
+form_of n = if n == 1 then Some One
+    else if n == 2 then Some Two
+    else if n == 3 then Some Three
+    else if n == 4 then Some Four
+    else None
+
+-- how many contexts a section may have at most, besides the main one
+abbrev pub most_contexts : Form → ℕ
+most_contexts One = 4095
+most_contexts Two = 4095
+most_contexts Three = 4095
+most_contexts Four = 65534

@@ -1,0 +1,144 @@
+//! The header of a certificate file: its form, and how many sections follow.
+
+ghost use Rattle.std.specs.Prelude.{◌≡◌, ℕ, IfErr, OnErr, OnOk};
+ghost use Rattle.std.specs.Io.KnownBytes.{Appends, IsAtEnd, Keeps};
+ghost use Rattle.tt_stream.specs.Reads.{ConsumesBeginning};
+ghost use Rattle.tt_stream.specs.Streams.{AppendsBeginning};
+ghost use Rattle.tt_cert.specs.Answers.{CountsRead, CountsWrite, GivesHeader, IsMore, IsOutOfMemory, StopsAtEnd, input_at};
+ghost use Rattle.tt_cert.specs.Representation.Clauses.{ReadsBy, StopsWhole};
+ghost use Rattle.tt_cert.specs.Reading.{form_at, header_at, magic_at};
+ghost use Rattle.tt_cert.specs.Text.{header_text};
+
+use crate::fault::{DecodeFault, EncodeFault};
+use crate::form::Form;
+use crate::units::{read_long, read_word};
+use tt_stream::{Sink, Source, read_full, write_all};
+
+/// What a certificate file begins with: `HCRT`.
+const MAGIC: u32 = 0x4843_5254;
+
+/// Reads what a certificate file begins with.
+///
+/// # Errors
+/// As `read_header`.
+#[tactic(auto, unfolding(crate::specs::Reading::magic_at))]
+fn read_magic<S: Source>(source: &mut S, place: u64) -> Result<(u32, u64), DecodeFault>
+    ensures reads { ReadsBy magic_at place result
+        (S.remaining source.old) (S.remaining source.new) }
+    ensures beginning { ConsumesBeginning (S.remaining source.old) (S.remaining source.new) }
+    ensures stopped { StopsWhole magic_at place result
+        (S.remaining source.old) (S.remaining source.new) }
+    ensures failures { CountsRead result (S.failures source.old) (S.failures source.new) }
+    ensures memory { IfErr result (λ fault. ¬ IsOutOfMemory fault) }
+{
+    let (magic, at) = read_long(source, place)?;
+    if magic != MAGIC {
+        return Err(DecodeFault::Form(place));
+    }
+    Ok((magic, at))
+}
+
+/// Reads the number of a form.
+///
+/// # Errors
+/// As `read_header`.
+#[tactic(auto, unfolding(crate::specs::Reading::form_at))]
+fn read_form<S: Source>(source: &mut S, place: u64) -> Result<(Form, u64), DecodeFault>
+    ensures reads { ReadsBy form_at place result (S.remaining source.old) (S.remaining source.new) }
+    ensures beginning { ConsumesBeginning (S.remaining source.old) (S.remaining source.new) }
+    ensures stopped { StopsWhole form_at place result
+        (S.remaining source.old) (S.remaining source.new) }
+    ensures failures { CountsRead result (S.failures source.old) (S.failures source.new) }
+    ensures memory { IfErr result (λ fault. ¬ IsOutOfMemory fault) }
+{
+    let (number, at) = read_word(source, place)?;
+    match Form::with_number(number) {
+        Some(form) => Ok((form, at)),
+        None => Err(DecodeFault::Form(place)),
+    }
+}
+
+/// Reads a header at a place, and returns it with the place after it.
+///
+/// # Errors
+/// As `read_header`.
+#[tactic(auto, unfolding(crate::specs::Reading::header_at))]
+fn read_header_at<S: Source>(source: &mut S, place: u64) -> Result<((Form, u32), u64), DecodeFault>
+    ensures reads { ReadsBy header_at place result
+        (S.remaining source.old) (S.remaining source.new) }
+    ensures beginning { ConsumesBeginning (S.remaining source.old) (S.remaining source.new) }
+    ensures stopped { StopsWhole header_at place result
+        (S.remaining source.old) (S.remaining source.new) }
+    ensures failures { CountsRead result (S.failures source.old) (S.failures source.new) }
+    ensures memory { IfErr result (λ fault. ¬ IsOutOfMemory fault) }
+{
+    let (_magic, at) = read_magic(source, place)?;
+    let (form, at) = read_form(source, at)?;
+    let (sections, at) = read_long(source, at)?;
+    Ok(((form, sections), at))
+}
+
+/// Reads the header of a certificate file: its form, and how many sections follow. It has ten
+/// bytes.
+///
+/// # Errors
+/// `Form` with the place of the field that is wrong, or of the input's end where that comes too
+/// early; `Read` exactly where a read failed. Then some beginning of what is left was read, and at
+/// `Read` no field of it that is whole is wrong.
+pub fn read_header<S: Source>(source: &mut S) -> Result<(Form, u32), DecodeFault>
+    ensures exact { GivesHeader (S.remaining source.old) (S.remaining source.new) result
+        (header_at (input_at 0 (S.remaining source.old))) }
+    ensures beginning { ConsumesBeginning (S.remaining source.old) (S.remaining source.new) }
+    // Where a read failed, no field that was read whole breaks a rule.
+    ensures whole_fields { IfErr result
+        (StopsAtEnd 0 (S.remaining source.old) (S.remaining source.new) header_at) }
+    ensures failures { CountsRead result (S.failures source.old) (S.failures source.new) }
+    ensures memory { IfErr result (λ fault. ¬ IsOutOfMemory fault) }
+{
+    let (header, _after) = read_header_at(source, 0)?;
+    Ok(header)
+}
+
+/// Checks that nothing is left to read, as at the end of a certificate file; `place` is the place
+/// of this end.
+///
+/// # Errors
+/// `Form` with the place of the first byte that follows; `Read` exactly where a read failed, and
+/// then nothing was read.
+pub fn read_end<S: Source>(source: &mut S, place: u64) -> Result<(), DecodeFault>
+    ensures ended { OnOk result
+        (IsAtEnd (S.remaining source.old) × IsAtEnd (S.remaining source.new)) }
+    ensures followed { IfErr result (λ fault. (p : ℕ) → fault ≡ DecodeFault.Form p
+        → (p ≡ place) × IsMore (S.remaining source.old)) }
+    ensures unread { IfErr result (λ fault. fault ≡ DecodeFault.Read
+        → Keeps (S.remaining source.old) (S.remaining source.new)) }
+    ensures beginning { ConsumesBeginning (S.remaining source.old) (S.remaining source.new) }
+    ensures failures { CountsRead result (S.failures source.old) (S.failures source.new) }
+    ensures memory { IfErr result (λ fault. ¬ IsOutOfMemory fault) }
+{
+    let mut byte = [0u8; 1];
+    if read_full(source, &mut byte)? > 0 {
+        return Err(DecodeFault::Form(place));
+    }
+    Ok(())
+}
+
+/// Writes the header of a certificate file of form 4 with this many sections.
+///
+/// # Errors
+/// `Write` exactly where a write failed; then a beginning of the header was written, perhaps an
+/// empty one.
+pub fn write_header<W: Sink>(sections: u32, sink: &mut W) -> Result<(), EncodeFault>
+    ensures written { OnOk result
+        (Appends (W.contents sink.old) (W.contents sink.new) (header_text Form.Four sections)) }
+    ensures beginning { OnErr result (AppendsBeginning (W.contents sink.old) (W.contents sink.new)
+        (header_text Form.Four sections)) }
+    ensures failures { CountsWrite result (W.failures sink.old) (W.failures sink.new) }
+    ensures memory { IfErr result (λ fault. fault ≡ EncodeFault.Write) }
+{
+    let [m3, m2, m1, m0] = MAGIC.to_be_bytes();
+    let [f1, f0] = Form::Four.number().to_be_bytes();
+    let [s3, s2, s1, s0] = sections.to_be_bytes();
+    write_all(sink, &[m3, m2, m1, m0, f1, f0, s3, s2, s1, s0])?;
+    Ok(())
+}

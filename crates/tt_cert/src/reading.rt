@@ -1,0 +1,187 @@
+//! Sections read from a source.
+
+ghost use Rattle.std.specs.Prelude.{◌≡◌, ◌++◌, ℕ, List, Some, IfErr, IfOk, OnOk, MatchResult};
+ghost use Rattle.tt_stream.specs.Reads.{ConsumesBeginning};
+ghost use Rattle.tt_cert.specs.Answers.{AreBytes, CountsRead, GivesSection, IsFormFault, ReadsSection, StopsAtEnd, input_at};
+ghost use Rattle.tt_cert.specs.Representation.Clauses.{IsEmptyBuilder, ReadsAs, StopsWhole};
+ghost use Rattle.tt_cert.specs.Representation.SharedCells.{IsLast};
+ghost use Rattle.tt_cert.specs.Reading.{section_at};
+ghost use Rattle.tt_cert.specs.Rules.{Fits};
+ghost use Rattle.tt_cert.specs.Sections.{Section, section_of};
+ghost use Rattle.tt_cert.specs.Text.{section_text};
+
+use crate::contexts::{builder_of, read_contexts};
+use crate::fault::DecodeFault;
+use crate::form::Form;
+use crate::name::Name;
+use crate::states::{LastState, read_states};
+use crate::units::read_name;
+use std::alloc::{AllocError, Global};
+use std::marker::Model;
+use tt_family::{Builder, Certificate};
+use tt_stream::Source;
+
+/// Reads a section, reusing an empty builder's memory; `state` is the one before the first, and
+/// becomes the last. Returns the section's name and family, and the place after it.
+///
+/// # Errors
+/// As `decode`.
+#[tactic(auto, unfolding(crate::specs::Reading::section_at))]
+fn read_section<S: Source>(
+    alloc: Global,
+    source: &mut S,
+    place: u64,
+    form: Form,
+    spare: Builder,
+    state: &mut LastState,
+) -> Result<((Name, Certificate), u64), DecodeFault>
+    requires spare { IsEmptyBuilder spare }
+    requires before { IsLast state.old }
+    ensures reads { ReadsAs (λ x. section_of x.0 x.1) (section_at form) place result
+        (S.remaining source.old) (S.remaining source.new) }
+    ensures kept { OnOk result (IsLast state.new) }
+    ensures beginning { ConsumesBeginning (S.remaining source.old) (S.remaining source.new) }
+    ensures stopped { StopsWhole (section_at form) place result
+        (S.remaining source.old) (S.remaining source.new) }
+    ensures failures { CountsRead result (S.failures source.old) (S.failures source.new) }
+{
+    let (name, at) = read_name(source, place)?;
+    let (contexts, at) = read_contexts(alloc, source, at, form)?;
+    let builder = builder_of(spare, &contexts)?;
+    let (builder, at) = read_states(builder, source, at, form, state)?;
+    Ok(((name, Certificate::of(builder)), at))
+}
+
+/// A reader of sections, one after the other: each is read in the memory of those before it, and
+/// each state is compared to the state before, which it mostly resembles. What is read doesn't
+/// depend on them.
+#[derive(Drop)]
+pub struct Decoder {
+    /// The state that was read last.
+    last: Option<LastState>,
+    /// A certificate that isn't needed any more, for its memory.
+    spare: Option<Certificate>,
+}
+
+impl Model for Decoder {
+    ghost use Rattle.std.specs.Prelude.{IfSome};
+    ghost use Rattle.tt_cert.specs.Representation.SharedCells.{IsLast};
+
+    ghost Value = { Unit {0} };
+
+    ghost view = { λ _. tt };
+
+    ghost invariant = { λ d. IfSome d.last IsLast };
+}
+
+impl Decoder {
+    /// Makes a reader that has read nothing. It takes no memory.
+    pub fn new() -> Self {
+        Decoder {
+            last: None,
+            spare: None,
+        }
+    }
+
+    /// Takes the state that was read last, or makes one.
+    ///
+    /// # Errors
+    /// If memory runs out.
+    fn take_last(&mut self, alloc: Global) -> Result<LastState, AllocError>
+        ensures { IfOk result (λ last. IsLast last) }
+    {
+        match self.last.take() {
+            Some(last) => Ok(last),
+            None => LastState::new(alloc),
+        }
+    }
+
+    /// Returns an empty builder, which reuses the memory of the certificate that isn't needed any
+    /// more, if there is one.
+    fn take_spare(&mut self, alloc: Global) -> Builder
+        ensures { IsEmptyBuilder result }
+    {
+        match self.spare.take() {
+            Some(certificate) => certificate.into_builder(),
+            None => Builder::new(alloc),
+        }
+    }
+
+    /// Takes back a certificate, whose memory the next one reuses.
+    pub fn take_back(&mut self, certificate: Certificate) {
+        self.spare = Some(certificate);
+    }
+
+    /// Reads the next section, as `decode` does.
+    ///
+    /// # Errors
+    /// As `decode`.
+    pub fn decode<S: Source>(
+        &mut self,
+        alloc: Global,
+        source: &mut S,
+        start: u64,
+        form: Form,
+    ) -> Result<(Name, Certificate, u64), DecodeFault>
+        // What is read was at the beginning of the input, of which no more is read.
+        ensures found { IfOk result (λ r. (input : List ℕ)
+            → S.remaining source.old ≡ Some input → AreBytes input
+            → ReadsSection form input start (section_of r.0 r.1) (S.remaining source.new) r.2) }
+        // A section at the beginning of the input is read, except for failed reads and out of
+        // memory.
+        ensures only { (s : Section) (rest : List ℕ) → Fits form s
+            → S.remaining source.old ≡ Some (section_text form s ++ rest)
+            → MatchResult result (λ r. section_of r.0 r.1 ≡ s) (λ fault. ¬ IsFormFault fault) }
+        // Which place a fault names.
+        ensures exact { GivesSection (S.remaining source.old) (S.remaining source.new) result
+            (section_at form (input_at start (S.remaining source.old))) }
+        ensures beginning { ConsumesBeginning (S.remaining source.old) (S.remaining source.new) }
+        // Where a read failed, no unit that was read whole breaks a rule.
+        ensures whole_units { IfErr result
+            (StopsAtEnd start (S.remaining source.old) (S.remaining source.new) (section_at form)) }
+        ensures failures { CountsRead result (S.failures source.old) (S.failures source.new) }
+    {
+        let mut last = self.take_last(alloc)?;
+        let spare = self.take_spare(alloc);
+        let ((name, certificate), after) = read_section(
+            alloc, source, start, form, spare, &mut last,
+        )?;
+        self.last = Some(last);
+        Ok((name, certificate, after))
+    }
+}
+
+/// Reads a section of a certificate file of this form, which begins at the place `start` of the
+/// file: exactly its bytes. Returns the program's name, its family, and the place after the
+/// section, which stops at the greatest number of 64 bits.
+///
+/// # Errors
+/// `Form` where no section's text begins what is left, with the place of the first byte of what
+/// breaks a rule, or of the input's end where that comes too early; `Read` exactly where a read
+/// failed; `OutOfMemory`. Then some beginning of what is left was read, and at `Read` no unit of it
+/// that is whole breaks a rule.
+pub fn decode<S: Source>(
+    alloc: Global,
+    source: &mut S,
+    start: u64,
+    form: Form,
+) -> Result<(Name, Certificate, u64), DecodeFault>
+    // What is read was at the beginning of the input, of which no more is read.
+    ensures found { IfOk result (λ r. (input : List ℕ)
+        → S.remaining source.old ≡ Some input → AreBytes input
+        → ReadsSection form input start (section_of r.0 r.1) (S.remaining source.new) r.2) }
+    // A section at the beginning of the input is read, except for failed reads and out of memory.
+    ensures only { (s : Section) (rest : List ℕ) → Fits form s
+        → S.remaining source.old ≡ Some (section_text form s ++ rest)
+        → MatchResult result (λ r. section_of r.0 r.1 ≡ s) (λ fault. ¬ IsFormFault fault) }
+    // Which place a fault names.
+    ensures exact { GivesSection (S.remaining source.old) (S.remaining source.new) result
+        (section_at form (input_at start (S.remaining source.old))) }
+    ensures beginning { ConsumesBeginning (S.remaining source.old) (S.remaining source.new) }
+    // Where a read failed, no unit that was read whole breaks a rule.
+    ensures whole_units { IfErr result
+        (StopsAtEnd start (S.remaining source.old) (S.remaining source.new) (section_at form)) }
+    ensures failures { CountsRead result (S.failures source.old) (S.failures source.new) }
+{
+    Decoder::new().decode(alloc, source, start, form)
+}

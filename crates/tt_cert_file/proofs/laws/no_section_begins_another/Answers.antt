@@ -1,5 +1,0 @@
-use Rattle.tt_cert_file.proofs.Decoded.{prefix_free}
-use Rattle.tt_cert_file.proofs.laws.no_section_begins_another.Goals as goal
-
-pub returns : goal.returns
-returns c = prefix_free

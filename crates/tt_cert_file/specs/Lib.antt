@@ -1,9 +1,0 @@
-pub mod Names
-pub mod Forms
-pub mod Sections
-pub mod Text
-pub mod Rules
-pub mod Readers
-pub mod Reading
-pub mod Answers
-pub mod Representation

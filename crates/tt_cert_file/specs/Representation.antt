@@ -1,6 +1,0 @@
--- How the code keeps what the definitions speak of: private contracts cite these, and no public one
--- does.
-pub mod Blocks
-pub mod Clauses
-pub mod KeptTexts
-pub mod SharedCells

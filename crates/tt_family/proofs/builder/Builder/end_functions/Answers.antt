@@ -1,0 +1,13 @@
+use Rattle.std.proofs.Common.{◌≡◌, ◌∙◌, List, Some, subst}
+use Rattle.tt_code.specs.declared.machine.Frame.{Frame}
+use Rattle.tt_family.specs.Contents.{family_of}
+use Rattle.tt_family.specs.Puts.{family_at}
+use Rattle.tt_family.proofs.EndFunctions.{defined_at_end}
+use Rattle.tt_family.proofs.builder.Builder.end_functions.Goals as goal
+
+pub returns-in-Some-clause-defined : goal.returns-in-Some-clause-defined
+returns-in-Some-clause-defined c =
+    let family = c.in-Some.ensures.family in
+    let P : List Frame → Type 0 = λ frames. family_of c.args.self.now (frames, c.args.length) ≡ Some c.in-Some.state.now in
+    defined_at_end (family_of c.args.self.now) c.args.length c.functions.result.now c.in-Some.state.now
+    (subst P family.main (family_at c.args.self.now 0 c.args.length family family.some ∙ c.in-Some.ensures.some)) c.functions.ensures.value

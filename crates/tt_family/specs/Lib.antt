@@ -1,0 +1,17 @@
+pub mod Places
+pub mod Contexts
+pub mod Contents
+pub mod Numbers
+pub mod Built
+pub mod Puts
+pub mod Joins
+pub mod Ascending
+pub mod GoodFamilies
+pub mod Spots
+pub mod Fillings
+pub mod Checks
+pub mod Budgets
+pub mod Landings
+pub mod CheckedSubjects
+pub mod Ends
+pub mod Representation

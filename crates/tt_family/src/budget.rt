@@ -1,0 +1,69 @@
+//! How many points may be made.
+
+ghost use Rattle.std.specs.Prelude.{◌≡◌, ◌↔◌, IsTrue, OnErr, OnOk};
+ghost use Rattle.tt_family.specs.Budgets.{Counts, IsExceeded, Exceeds, made_by, new_budget, unlimited_budget};
+
+use std::alloc::AllocError;
+
+/// A bound on the points that finders and checks make: one is made each time that a state is
+/// carried on. It goes from program to program, and from call to call, as long as it is handed on.
+#[derive(Clone, Copy, Debug)]
+pub struct Budget {
+    /// How many points may be made in all.
+    most: u64,
+    /// How many of them are left.
+    left: u64,
+    /// Whether one more was to be made than may be.
+    is_over: bool,
+}
+
+impl Budget {
+    /// Makes a budget of this many points.
+    pub fn of(points: u64) -> Budget
+        ensures { result ≡ new_budget points }
+    {
+        Budget {
+            most: points,
+            left: points,
+            is_over: false,
+        }
+    }
+
+    /// Makes the greatest budget: at a billion points a second it lasts for 584 years.
+    pub fn unlimited() -> Budget
+        ensures { result ≡ unlimited_budget }
+    {
+        Budget::of(u64::MAX)
+    }
+
+    /// Returns how many points were made.
+    pub fn made(&self) -> u64
+        ensures { result ≡ made_by self.now }
+    {
+        self.most.saturating_sub(self.left)
+    }
+
+    /// Whether all points were made that may be, and one more was to be made.
+    pub fn is_exceeded(&self) -> bool
+        ensures { IsTrue result ↔ IsExceeded self.now }
+    {
+        self.is_over && self.left == 0
+    }
+
+    /// Counts one more point: nothing else does.
+    ///
+    /// # Errors
+    /// If as many points were made as may be, which is answered as if memory had run out. Then the
+    /// budget is exceeded.
+    pub fn spend(&mut self) -> Result<(), AllocError>
+        ensures counted { OnOk result (Counts self.old self.new) }
+        ensures exceeded { OnErr result (Exceeds self.old self.new) }
+    {
+        if self.left == 0 {
+            self.is_over = true;
+            return Err(AllocError);
+        }
+        self.left -= 1;
+        Ok(())
+    }
+}

@@ -1,0 +1,176 @@
+//! Finished families of abstract states.
+
+ghost use Rattle.std.specs.Prelude.{◌≡◌, ◌⊎◌, ◌<◌, ◌≤◌, ℕ, None, Some, [], ◌∷◌, IfOk, IfSome, OnOk, length, reverse};
+ghost use Rattle.std.specs.List.{All};
+ghost use Rattle.std.specs.List.Sorted.{IsStrictlySortedBy};
+ghost use Rattle.std.specs.Map.{keys_of};
+ghost use Rattle.tt_abs.specs.Entries.{Ascends};
+ghost use Rattle.tt_family.specs.Places.{place_cmp, states_of};
+ghost use Rattle.tt_family.specs.Puts.{family_state};
+ghost use Rattle.tt_family.specs.Ends.{AreDefinedAtEnd, AreKnownAtEnd};
+ghost use Rattle.tt_family.specs.Contents.{HasChild, IsChild, IsFamily, family_of, frames_at, points_of, state_at};
+ghost use Rattle.tt_family.specs.Ascending.{IsFinished, IsContextAt};
+ghost use Rattle.tt_family.specs.Spots.{spot_of};
+
+use crate::builder::Builder;
+use crate::spot::Spot;
+use crate::states::States;
+use std::alloc::{AllocError, Global};
+use std::marker::Model;
+use tt_abs::State;
+use tt_code::Frame;
+
+/// A family of states whose contexts have their numbers in order: the empty one is number 0, and
+/// the others ascend by parent, call, body, turn and count.
+#[derive(Drop)]
+pub struct Certificate {
+    builder: Builder,
+}
+
+impl Model for Certificate {
+    ghost use Rattle.tt_family.specs.Contents.{Contents};
+    ghost use Rattle.tt_family.specs.Ascending.{IsFinished as IsFinishedFamily};
+
+    ghost Value = { Contents };
+
+    ghost view = { λ c. c.builder };
+
+    ghost invariant = { λ c. IsFinishedFamily c.builder };
+}
+
+impl Certificate {
+    /// Makes the certificate of a builder's family, whose contexts are in order.
+    pub fn of(builder: Builder) -> Self
+        requires { IsFinished builder }
+        ensures { result ≡ builder }
+    {
+        Certificate { builder }
+    }
+
+    /// Returns the builder that holds the family.
+    pub(crate) fn builder(&self) -> &Builder
+        ensures { result.now ≡ self.now }
+    {
+        &self.builder
+    }
+
+    /// States that the contexts and the states are a family, and that the contexts are in order, as
+    /// they always are.
+    pub fn order_facts(&self)
+        ensures { IsFinished self.now }
+    {
+        self.contexts();
+    }
+
+    /// Returns how many contexts there are, including the empty one.
+    pub fn contexts(&self) -> u32
+        ensures value { result ≡ length self.now.contexts }
+        ensures finished { IsFinished self.now }
+    {
+        self.builder.contexts()
+    }
+
+    /// Returns how many points have a state.
+    pub fn points(&self) -> u32
+        ensures { result ≡ points_of self.now }
+    {
+        self.builder.points()
+    }
+
+    /// Returns a context's parent and last frame: `None` for the empty context, and for a number
+    /// that no context has.
+    pub fn context(&self, number: u32) -> Option<(u32, Frame)>
+        ensures none { result ≡ None → (number ≡ 0) ⊎ (length self.now.contexts ≤ number) }
+        ensures some { IfSome result (IsContextAt self.now.contexts number) }
+    {
+        self.builder.context(number)
+    }
+
+    /// Returns in which program a context is.
+    pub fn spot(&self, context: u32) -> Spot
+        requires { context < length self.now.contexts }
+        ensures { result ≡ spot_of (frames_at self.now.contexts context) }
+    {
+        self.builder.spot(context)
+    }
+
+    /// Returns the number of the context that has the parent's frames and this one more: `None` if
+    /// there is none.
+    pub fn number(&self, parent: u32, frame: Frame) -> Option<u32>
+        ensures none { parent < length self.now.contexts → result ≡ None
+            → HasChild self.now.contexts parent frame → ⊥ }
+        ensures some { IfSome result (IsChild self.now.contexts parent frame) }
+    {
+        self.builder.number(parent, frame)
+    }
+
+    /// Returns a context's frames, the outermost first.
+    ///
+    /// # Errors
+    /// If memory runs out.
+    pub fn frames(&self, alloc: Global, number: u32) -> Result<Vec<Frame>, AllocError>
+        requires { number < length self.now.contexts }
+        ensures { IfOk result (λ frames.
+            frames.items ≡ reverse (frames_at self.now.contexts number)) }
+    {
+        self.builder.frames(alloc, number)
+    }
+
+    /// Replaces what a list holds by a context's frames, the outermost first.
+    ///
+    /// # Errors
+    /// If memory runs out; then the list may hold any of them.
+    pub fn read_frames(&self, number: u32, frames: &mut Vec<Frame>) -> Result<(), AllocError>
+        requires { number < length self.now.contexts }
+        ensures { OnOk result (frames.new.items ≡ reverse (frames_at self.now.contexts number)) }
+    {
+        self.builder.read_frames(number, frames)
+    }
+
+    /// Returns the state at a point.
+    pub fn state(&self, context: u32, offset: u32) -> Option<&State>
+        ensures none { result ≡ None → state_at self.now context offset ≡ None }
+        ensures some { IfSome result (λ state. state_at self.now context offset ≡ Some state.now) }
+        ensures at { context < length self.now.contexts
+            → family_state self.now context offset ≡ state_at self.now context offset }
+    {
+        self.builder.state(context, offset)
+    }
+
+    /// Returns the states with their contexts and offsets, by ascending context, and by ascending
+    /// offset within one: each point that has a state comes once.
+    pub fn states(&self) -> States<'_>
+        ensures rest { result ≡ self.now.states }
+        ensures ascends { IsStrictlySortedBy place_cmp (keys_of self.now.states) }
+        ensures found { All (λ e. states_of self.now.states e.0 ≡ Some e.1) self.now.states }
+        ensures finished { IsFinished self.now }
+    {
+        self.builder.states()
+    }
+
+    /// Makes a builder in the certificate's memory: only the empty context, and no state.
+    pub fn into_builder(self) -> Builder
+        ensures contexts { result.contexts ≡ [] ∷ [] }
+        ensures states { result.states ≡ [] }
+        ensures family { IsFamily result }
+    {
+        let mut builder = self.builder;
+        builder.clear();
+        builder
+    }
+
+    /// Returns the functions that are known at the end of a program of this length, where no call
+    /// is open: by ascending numbers, each with its body. `None` if the end has no state. Where the
+    /// family is good for the program, each run of it that reaches its end has these functions
+    /// there, with these bodies.
+    pub fn end_functions(&self, length: u32) -> Option<&[(u16, u32)]>
+        ensures none { result ≡ None → family_of self.now ([], length) ≡ None }
+        ensures some { IfSome result (λ functions.
+            AreKnownAtEnd (family_of self.now) length functions.now) }
+        ensures ascends { IfSome result (λ functions. Ascends functions.now) }
+        ensures defined { IfSome result (λ functions.
+            AreDefinedAtEnd (family_of self.now) length functions.now) }
+    {
+        self.builder.end_functions(length)
+    }
+}

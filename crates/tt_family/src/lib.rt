@@ -1,0 +1,34 @@
+//! Families of abstract states by context and offset: their builder, the finished certificate, and
+//! the check of it.
+#![tactic(auto)]
+
+pub mod budget;
+pub mod builder;
+pub mod certificate;
+pub mod checker;
+mod cursor;
+pub mod fault;
+mod finish;
+pub mod joined;
+mod landing;
+mod listing;
+mod meeting;
+mod offset_list;
+mod slot_index;
+pub mod spot;
+mod state_store;
+pub mod states;
+
+pub use budget::Budget;
+pub use builder::Builder;
+pub use certificate::Certificate;
+pub use checker::{
+    check, check_full, check_full_within, check_within, ends_well, is_short, one_good_filling,
+};
+pub use fault::{ContextFault, JoinFault, ProgramFault, ProgramFault as CheckFault};
+pub use joined::Joined;
+pub use landing::{Landing, landing_of};
+pub use listing::added_after;
+pub use slot_index::PointKey;
+pub use spot::Spot;
+pub use states::States;
